@@ -1,0 +1,5 @@
+pub mod Graph
+pub mod Steps
+pub mod Drafts
+pub mod History
+pub mod Edit
