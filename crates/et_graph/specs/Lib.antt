@@ -3,3 +3,5 @@ pub mod Steps
 pub mod Drafts
 pub mod History
 pub mod Edit
+pub mod Times
+pub mod Order

@@ -3,3 +3,7 @@
 #![tactic(auto)]
 
 pub mod laws;
+mod pairs;
+mod places;
+mod search;
+mod within;
