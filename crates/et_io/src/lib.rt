@@ -3,10 +3,17 @@
 //! the real ones.
 #![tactic(auto)]
 
+mod calls;
 mod files;
+mod host;
+mod mem_files;
+mod mem_sink;
 mod putting;
 mod sink;
 
 pub use files::{Files, Found};
+pub use host::{HostFiles, HostSink};
+pub use mem_files::MemFiles;
+pub use mem_sink::MemSink;
 pub use putting::{RunFault, put_all};
 pub use sink::{Put, Sink};
