@@ -1,12 +1,11 @@
 -- The calls that are to fail.
-use Rattle.std.proofs.Common.{◌≡◌, ℕ, ◌+◌, ◌<◌, ◌≤◌, ◌^◌, ◌&&◌, true, false, Bool, List, length, slice_index_or, cond, min, refl, sym, subst, ◌∙◌, ◌⊎◌, inl, inr, arith, rules}
+use Rattle.std.proofs.Common.{◌≡◌, ℕ, ◌+◌, ◌<◌, ◌≤◌, ◌^◌, true, false, List, cond, min, refl, sym, subst, ◌∙◌, ◌⊎◌, inl, inr, arith, rules}
 use Rattle.et_io.specs.Calls.{Calls, AreCounted, next_fails}
-use Rattle.std.specs.List.{All, Any, list_any}
+use Rattle.std.specs.List.{All, list_any}
 use Rattle.std.specs.Ordering.{nat_cmp, is_eq}
 use Rattle.std.specs.Cmp.{Equal-is}
 use Rattle.std.specs.FinMap.{nat_cmp-IsAntisymmetric}
 use Rattle.std.proofs.lemmas.List.Folds.{Any-from_list_any}
-use Rattle.std.proofs.lemmas.Grind.{common_steps}
 
 -- numbers that compare `Equal` are equal
 pub same_number : (a b : ℕ) → is_eq (nat_cmp a b) ≡ true → a ≡ b

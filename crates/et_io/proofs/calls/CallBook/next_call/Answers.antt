@@ -1,4 +1,4 @@
-use Rattle.std.proofs.Common.{rules, arith}
+use Rattle.std.proofs.Common.{rules}
 use Rattle.et_io.proofs.Counting.{no_more_faults}
 use Rattle.et_io.proofs.calls.CallBook.next_call.Goals as goal
 
