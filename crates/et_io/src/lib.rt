@@ -17,3 +17,6 @@ pub use mem_files::MemFiles;
 pub use mem_sink::MemSink;
 pub use putting::{RunFault, put_all};
 pub use sink::{Put, Sink};
+
+#[cfg(test)]
+mod tests;
