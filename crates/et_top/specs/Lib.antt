@@ -1,0 +1,4 @@
+pub mod BuiltIn
+pub mod Command
+pub mod FirstForm
+pub mod Steps
