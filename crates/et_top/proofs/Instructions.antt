@@ -2,7 +2,8 @@
 use Rattle.std.proofs.Common.{◌≡◌, ℕ, ◌<◌, List, [], ◌∷◌, Bool, true, false, cond, ◌⊎◌, inl, inr, length, refl, arith}
 use Rattle.std.specs.Prelude.{Some, None}
 use Rattle.et_top.specs.Steps.{where_true}
-use Rattle.et_top.specs.FirstForm.{is_short, is_new, is_code, after_instruction}
+use Rattle.et_top.specs.FirstForm.{is_short, is_new, is_code}
+use Rattle.et_top.specs.Reading.{after_instruction}
 use Rattle.et_top.specs.declared.pool.Entry.{Entry}
 
 -- what a choice gave

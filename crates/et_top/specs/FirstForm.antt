@@ -5,7 +5,6 @@ use Rattle.std.specs.Int.{Width, w8, w16, w32}
 use Rattle.et_items.specs.Numbers.{number_at, bytes_at}
 use Rattle.et_top.specs.BuiltIn.{is_built_in}
 use Rattle.et_top.specs.Steps.{◌>>=◌, where_true}
-use Rattle.et_top.specs.declared.first_form.CodeItems as code
 use Rattle.et_top.specs.declared.first_form.FormFault.{FormFault}
 use Rattle.et_top.specs.declared.first_form.FormFault.TheVariants.{Short, Magic, NotYet, NoMemory}
 use Rattle.et_top.specs.declared.pool.Entry.{Entry}
@@ -132,14 +131,6 @@ is_code pool name (a ∷ b ∷ c ∷ code) =
     if is_short a then is_code pool name (b ∷ c ∷ code)
     else (is_new pool name a b c && is_code pool name code)
 
--- the code behind its first instruction, if it begins with one
-abbrev pub after_instruction : List Entry → List ℕ → List ℕ → Option (List ℕ)
-after_instruction pool name [] = None
-after_instruction pool name (a ∷ []) = where_true (is_short a) (Some [])
-after_instruction pool name (a ∷ b ∷ []) = where_true (is_short a) (Some (b ∷ []))
-after_instruction pool name (a ∷ b ∷ c ∷ code) =
-    if is_short a then Some (b ∷ c ∷ code) else where_true (is_new pool name a b c) (Some code)
-
 -- THE CLASS FILE (JVMS 4.1)
 
 -- magic, minor_version and major_version, which is from 45 to 52
@@ -195,10 +186,6 @@ code_items_at bytes at = do
   count ← number_at w32 bytes locals.1
   code ← where_true (nat_le 1 count.0 && nat_le count.0 65535 && size.0 == count.0 + 12 && nat_le 1 locals.0) (bytes_at bytes count.0 count.1)
   Some (record { max_stack = stack.0; max_locals = locals.0; code = code.0; after = code.1 })
-
--- the same as the code keeps it
-abbrev pub items_of : code.CodeItems → CodeItems
-items_of items = record { max_stack = items.max_stack; max_locals = items.max_locals; code = items.code.now; after = items.after }
 
 -- exception_table_length and attributes_count of the Code and attributes_count of the class, which are 0, with no byte
 -- behind them

@@ -1,6 +1,7 @@
 //! The first form of class files that runs: one class, whose one method `main` makes objects of it and drops them.
 ghost use Rattle.std.specs.Prelude.{◌≡◌, Some, IfOk, IfErr, option_map, option_copied};
-ghost use Rattle.et_top.specs.FirstForm.{version_at, head_at, named_at, main_at, is_text, is_code, after_instruction, items_of, code_items_at, ends_at, may_run, parts_at, form_of, IsRefused};
+ghost use Rattle.et_top.specs.Reading.{after_instruction, items_of};
+ghost use Rattle.et_top.specs.FirstForm.{version_at, head_at, named_at, main_at, is_text, is_code, code_items_at, ends_at, may_run, parts_at, form_of, IsRefused};
 
 use crate::built_in::is_built_in;
 use crate::pool::{Entry, class_of, fixed_u16_at, fixed_u32_at, pool_at, text_of};
