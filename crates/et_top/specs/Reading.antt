@@ -1,5 +1,5 @@
 -- What the parts of the reading of a class file say.
-use Rattle.std.specs.Prelude.{ℕ, ◌+◌, ◌*◌, List, [], ◌∷◌, Option, Some, None, if◌then◌else◌}
+use Rattle.std.specs.Prelude.{ℕ, List, [], ◌∷◌, Option, Some, None, if◌then◌else◌}
 use Rattle.et_top.specs.Steps.{where_true}
 use Rattle.et_top.specs.FirstForm.{CodeItems, is_short, is_new}
 use Rattle.et_top.specs.declared.first_form.CodeItems as code
