@@ -20,7 +20,9 @@ fn files_fail_as_told(rt: HostRuntime) -> Result<(), Fail> {
     files.hold("a", b"old")?;
     files.hold("a", b"new")?;
     files.fail_at(2)?;
-    assert!(rt; matches!(&files.read(rt.alloc(), "a", 3)?, Found::Bytes(bytes) if bytes.as_slice() == b"new".as_slice()));
+    assert!(rt;
+        matches!(&files.read(rt.alloc(), "a", 3)?, Found::Bytes(bytes) if bytes.as_slice() == b"new".as_slice())
+    );
     assert!(rt; matches!(&files.read(rt.alloc(), "a", 3)?, Found::Failed));
     assert!(rt; matches!(&files.read(rt.alloc(), "a", 2)?, Found::TooLong));
     assert!(rt; matches!(&files.read(rt.alloc(), "b", 3)?, Found::Absent));
@@ -32,7 +34,9 @@ fn reads_a_real_file(rt: HostRuntime) -> Result<(), Fail> {
     let path = "et_io_reads_a_real_file.txt";
     fs::write(&rt, path, b"five!")?;
     let mut files = HostFiles::begin(&rt);
-    assert!(rt; matches!(&files.read(rt.alloc(), path, 5)?, Found::Bytes(bytes) if bytes.as_slice() == b"five!".as_slice()));
+    assert!(rt;
+        matches!(&files.read(rt.alloc(), path, 5)?, Found::Bytes(bytes) if bytes.as_slice() == b"five!".as_slice())
+    );
     assert!(rt; matches!(&files.read(rt.alloc(), path, 4)?, Found::TooLong));
     assert!(rt; matches!(&files.read(rt.alloc(), ".", 4)?, Found::Failed));
     fs::remove_file(&rt, path)?;

@@ -1,0 +1,5 @@
+pub mod BuiltIn
+pub mod Command
+pub mod FirstForm
+pub mod Reading
+pub mod Steps
