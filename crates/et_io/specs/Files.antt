@@ -1,5 +1,5 @@
 -- What a read finds.
-use Rattle.std.specs.Prelude.{◌≡◌, ℕ, ◌<◌, ◌≤◌, List, length, Option, Some, None, IfSome}
+use Rattle.std.specs.Prelude.{◌≡◌, ℕ, ◌<◌, ◌≤◌, List, length, Option, Some, None, IsSomeAnd}
 use Rattle.et_io.specs.declared.files.Found.{Found}
 use Rattle.et_io.specs.declared.files.Found.TheVariants.{Bytes, Absent, TooLong, Failed}
 use Rattle.et_io.specs.Faults.{Rose}
@@ -13,7 +13,7 @@ Held = List ℕ → Option (List ℕ)
 abbrev pub Finds : Found → ℕ → Option (List ℕ) → Type 0
 Finds (Bytes bytes) most file = file ≡ Some bytes.items
 Finds Absent most file = file ≡ None
-Finds TooLong most file = IfSome file (λ bytes. most < length bytes)
+Finds TooLong most file = IsSomeAnd file (λ bytes. most < length bytes)
 Finds Failed most file = Unit {0}
 
 -- no more bytes are read than were asked for

@@ -3,3 +3,9 @@ pub mod Command
 pub mod FirstForm
 pub mod Reading
 pub mod Steps
+pub mod Machine
+pub mod Stages
+pub mod Status
+pub mod Refusals
+pub mod Top
+pub mod Loading

@@ -1,5 +1,5 @@
 //! The first form of class files that runs: one class, whose one method `main` makes objects of it and drops them.
-ghost use Rattle.std.specs.Prelude.{◌≡◌, Some, IfOk, IfErr, option_map, option_copied};
+ghost use Rattle.std.specs.Prelude.{◌≡◌, ◌≤◌, Some, IfOk, IfErr, IfSome, length, option_map, option_copied};
 ghost use Rattle.et_top.specs.Reading.{after_instruction, items_of};
 ghost use Rattle.et_top.specs.FirstForm.{version_at, head_at, named_at, main_at, is_text, is_code, code_items_at, ends_at, may_run, parts_at, form_of, IsRefused};
 
@@ -141,11 +141,14 @@ pub struct Form {
 }
 
 impl Model for Form {
+    ghost use Rattle.std.specs.Prelude.{length, ◌≤◌};
     ghost use Rattle.et_top.specs.FirstForm.{FirstForm};
 
     ghost Value = { FirstForm };
 
     ghost view = { λ form. record { name = form.name; max_stack = form.max_stack; max_locals = form.max_locals; code = form.code.items } };
+
+    ghost invariant = { λ form. length form.code.items ≤ 65535 };
 }
 
 impl Form {
@@ -170,9 +173,10 @@ impl Form {
         self.max_locals
     }
 
-    /// The code of `main`.
+    /// The code of `main`, at most 65,535 bytes.
     pub fn code(&self) -> &[u8]
-        ensures { result.now ≡ self.now.code }
+        ensures value { result.now ≡ self.now.code }
+        ensures short { length result.now ≤ 65535 }
     {
         self.code.as_slice()
     }
@@ -189,7 +193,8 @@ struct CodeItems<'a> {
 
 /// The items of a Code attribute behind its name, up to the code.
 fn code_items_at(bytes: &[u8], at: usize) -> Option<CodeItems<'_>>
-    ensures { option_map items_of result ≡ code_items_at bytes.now at }
+    ensures value { option_map items_of result ≡ code_items_at bytes.now at }
+    ensures short { IfSome result (λ items. length items.code.now ≤ 65535) }
 {
     let (size, stack) = u32_at(bytes, at)?;
     let (max_stack, locals) = u16_at(bytes, stack)?;
@@ -227,7 +232,8 @@ fn may_run(pool: &[Entry], name: &[u8], code: &[u8]) -> bool
 
 /// The name of a class of the first form, and what its Code holds, behind its pool.
 fn parts_at<'a>(pool: &'a [Entry], bytes: &'a [u8], at: usize) -> Option<(&'a [u8], CodeItems<'a>)>
-    ensures { option_map (λ x. (x.0.now, items_of x.1)) result ≡ parts_at pool.now bytes.now at }
+    ensures value { option_map (λ x. (x.0.now, items_of x.1)) result ≡ parts_at pool.now bytes.now at }
+    ensures short { IfSome result (λ x. length x.1.code.now ≤ 65535) }
 {
     let (class, main) = head_at(pool, bytes, at)?;
     let name = class_of(pool, class)?;

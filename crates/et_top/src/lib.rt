@@ -1,13 +1,14 @@
-//! The program.
+//! The program: its words, the classes that it runs, and the call that does all of it.
 #![tactic(auto)]
 
 mod built_in;
 mod command;
 mod first_form;
+mod machine;
 mod pool;
+mod refusal;
+mod status;
+mod top;
 
-pub use command::{Command, read_command};
-pub use first_form::{Form, FormFault, read_form};
-
-#[cfg(test)]
-mod tests;
+pub use status::Status;
+pub use top::elephant;

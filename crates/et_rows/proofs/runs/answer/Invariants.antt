@@ -1,0 +1,5 @@
+use Rattle.et_rows.proofs.runs.answer.Given as goal
+
+-- the ledger is the one that the blank names
+abbrev pub ghosts-counted : goal.ghosts-counted
+ghosts-counted a = record { name = a.blank.name; parts = a.blank.parts }

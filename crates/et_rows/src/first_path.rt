@@ -1,0 +1,151 @@
+//! The trace of one class of the first form, and each of its refusals.
+use crate::runs::{answer, is_answered};
+use et_io::{MemFiles, MemSink};
+use et_top::Status;
+use std::alloc::Global;
+use std::test::Fail;
+
+/// The class `Box`, whose `main` is `new Box; pop; return`.
+const BOX: [u8; 125] = *b"\xca\xfe\xba\xbe\x00\x00\x00\x34\x00\x08\
+    \x01\x00\x03Box\x07\x00\x01\x01\x00\x10java/lang/Object\x07\x00\x03\x01\x00\x04main\
+    \x01\x00\x16([Ljava/lang/String;)V\x01\x00\x04Code\
+    \x00\x21\x00\x02\x00\x04\x00\x00\x00\x00\x00\x01\
+    \x00\x09\x00\x05\x00\x06\x00\x01\x00\x07\x00\x00\x00\x11\x00\x01\x00\x01\x00\x00\x00\x05\
+    \xbb\x00\x02\x57\xb1\x00\x00\x00\x00\x00\x00";
+
+const TRACE: &[u8] = b"H 1 0\nC 1 [Ljava/lang/String;\nA 0 0 1 1 24 0\nC 2 Box\n\
+    N 1 2 main ([Ljava/lang/String;)V\nM 1 0 1 0\nA 2 0 2 2 16 0\nE 4 0 1\nF 5 2\nD 1 3\nD 2 2\nZ 5 0\n";
+
+/// `main` pops from an empty stack.
+const ILL_TYPED_TRACE: &[u8] = b"H 1 0\nC 1 [Ljava/lang/String;\nA 0 0 1 1 24 0\nC 2 Box\n\
+    N 1 2 main ([Ljava/lang/String;)V\nM 1 0 1 0\nF 1 0\nZ 1 2\n";
+
+fn files_with(alloc: Global, bytes: &[u8]) -> Result<MemFiles, Fail> {
+    let mut files = MemFiles::begin(alloc);
+    files.hold("Box.class", bytes)?;
+    Ok(files)
+}
+
+#[test]
+fn box_is_traced_byte_by_byte(rt: HostRuntime) -> Result<(), Fail> {
+    let alloc = rt.alloc();
+    let mut files = files_with(alloc, &BOX)?;
+    is_answered(
+        &rt,
+        alloc,
+        &mut files,
+        "trace Box.class",
+        Status::Done,
+        TRACE,
+        b"",
+    )
+}
+
+#[test]
+fn an_empty_stack_is_ill_typed(rt: HostRuntime) -> Result<(), Fail> {
+    let alloc = rt.alloc();
+    let mut bytes = Vec::from_slice(alloc, &BOX[..102])?;
+    bytes.extend_from_slice(b"\x00\x00\x00\x0e\x00\x01\x00\x01\x00\x00\x00\x02\x57\xb1")?;
+    bytes.extend_from_slice(b"\x00\x00\x00\x00\x00\x00")?;
+    let mut files = files_with(alloc, &bytes)?;
+    is_answered(
+        &rt,
+        alloc,
+        &mut files,
+        "trace Box.class",
+        Status::IllTyped,
+        ILL_TYPED_TRACE,
+        b"elephant: ill typed 0 Box main ([Ljava/lang/String;)V 0\n",
+    )
+}
+
+#[test]
+fn classes_are_refused(rt: HostRuntime) -> Result<(), Fail> {
+    let alloc = rt.alloc();
+    let mut adds = BOX;
+    adds[117] = 0x62;
+    let mut wrong = BOX;
+    wrong[0] = 0;
+    let rows: [(&[u8], Status, &[u8]); 3] = [
+        (
+            &BOX[..3],
+            Status::BadClass,
+            b"elephant: bad class Box.class 11 0\n",
+        ),
+        (
+            &wrong,
+            Status::BadClass,
+            b"elephant: bad class Box.class 1 0\n",
+        ),
+        (&adds, Status::NotYet, b"elephant: not yet Box.class\n"),
+    ];
+    for (bytes, status, refusal) in rows {
+        let mut files = files_with(alloc, bytes)?;
+        is_answered(
+            &rt,
+            alloc,
+            &mut files,
+            "trace Box.class",
+            status,
+            b"",
+            refusal,
+        )?;
+    }
+    Ok(())
+}
+
+#[test]
+fn files_are_refused(rt: HostRuntime) -> Result<(), Fail> {
+    let alloc = rt.alloc();
+    let long = vec![in alloc; 0u8; 1_048_577]?;
+    let mut files = files_with(alloc, &long)?;
+    let rows: [(&str, Status, &[u8]); 4] = [
+        (
+            "trace Box.class",
+            Status::TooLong,
+            b"elephant: too long Box.class\n",
+        ),
+        (
+            "trace No.class",
+            Status::Absent,
+            b"elephant: absent No.class\n",
+        ),
+        ("trace --flush", Status::Usage, b"elephant: usage\n"),
+        ("trace", Status::Usage, b"elephant: usage\n"),
+    ];
+    for (line, status, refusal) in rows {
+        is_answered(&rt, alloc, &mut files, line, status, b"", refusal)?;
+    }
+    let mut failing = files_with(alloc, &BOX)?;
+    failing.fail_at(1)?;
+    is_answered(
+        &rt,
+        alloc,
+        &mut failing,
+        "trace Box.class",
+        Status::ReadFault,
+        b"",
+        b"elephant: read fault Box.class\n",
+    )
+}
+
+#[test]
+fn each_write_fails_in_turn(rt: HostRuntime) -> Result<(), Fail> {
+    let alloc = rt.alloc();
+    for call in 1..=6 {
+        let mut files = files_with(alloc, &BOX)?;
+        let mut out = MemSink::begin(alloc, 1000);
+        let mut err = MemSink::begin(alloc, 1000);
+        out.fail_at(call)?;
+        let status = answer(alloc, "trace Box.class", &mut files, &mut out, &mut err)?;
+        assert!(rt; TRACE.starts_with(out.bytes()));
+        // The starting state, the three events that have records, and the end are put.
+        let wanted = if call <= 5 {
+            Status::WriteFault
+        } else {
+            Status::Done
+        };
+        assert_eq!(rt; status, wanted);
+    }
+    Ok(())
+}

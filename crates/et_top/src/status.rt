@@ -1,0 +1,51 @@
+//! How the program ends.
+ghost use Rattle.std.specs.Prelude.{◌≡◌};
+ghost use Rattle.et_top.specs.Status.{number_of};
+
+/// How the program ended.
+#[derive(Clone, Copy, Debug, PartialEq, Eq)]
+pub enum Status {
+    /// The whole output was taken. A trace ended because each thread ended, or at the event limit.
+    Done,
+    /// The words are no command.
+    Usage,
+    /// There is no file at a path.
+    Absent,
+    /// A file is no class file.
+    BadClass,
+    /// A read failed.
+    ReadFault,
+    /// A write failed. What was taken is a front of the output.
+    WriteFault,
+    /// Memory ran out. What was taken is a front of the output.
+    NoMemory,
+    /// The next event had no meaning. The trace up to it was taken whole.
+    IllTyped,
+    /// The next event would have made too many objects. The trace up to it was taken whole.
+    ObjectLimit,
+    /// A file is longer than is read: 1,048,576 bytes of a class file.
+    TooLong,
+    /// A class file can't be run yet.
+    NotYet,
+}
+
+impl Status {
+    /// The number with which the process ends.
+    pub fn number(&self) -> u8
+        ensures { result ≡ number_of self.now }
+    {
+        match self {
+            Status::Done => 0,
+            Status::Usage => 2,
+            Status::Absent => 3,
+            Status::BadClass => 4,
+            Status::ReadFault => 6,
+            Status::WriteFault => 7,
+            Status::NoMemory => 8,
+            Status::IllTyped => 10,
+            Status::ObjectLimit => 11,
+            Status::TooLong => 13,
+            Status::NotYet => 14,
+        }
+    }
+}
