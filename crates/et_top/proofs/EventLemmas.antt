@@ -1,5 +1,5 @@
 -- An event leads from a sound state to a sound one, and its records name what the program has.
-use Rattle.std.proofs.Common.{◌≡◌, ℕ, zero, suc, ◌+◌, ◌<◌, ◌≤◌, ◌==◌, Bool, true, false, nat_lt, if◌then◌else◌, List, [], ◌∷◌, ◌++◌, Option, Some, None, slice_get, length, refl, sym, ap, ◌∙◌, subst, arith, rules, length-append, Result, Ok, Err, OnOk, IfOk}
+use Rattle.std.proofs.Common.{◌≡◌, ℕ, ◌+◌, ◌<◌, ◌≤◌, ◌==◌, Bool, true, false, nat_lt, if◌then◌else◌, List, [], ◌∷◌, ◌++◌, Option, Some, None, slice_get, length, refl, sym, subst, arith, rules, length-append, Result, Ok, Err, OnOk, IfOk}
 use Rattle.std.specs.Prelude.{All}
 use Rattle.std.proofs.lemmas.List.Elements.{All-nil, All-cons, All-head, All-tail, All-append}
 use Rattle.std.proofs.lemmas.Option.{slice_get_within}
@@ -7,13 +7,13 @@ use Rattle.et_base.specs.declared.memory.NoMemory.{NoMemory}
 use Rattle.et_state.specs.declared.records.Record.{Record}
 use Rattle.et_state.specs.declared.records.Record.TheVariants.{Alloc, Enter, Exit}
 use Rattle.et_state.specs.declared.ends.EventEnd.{EventEnd}
-use Rattle.et_state.specs.Naming.{Names, IsNamed, classes_of, methods_of}
+use Rattle.et_state.specs.Naming.{IsNamed}
 use Rattle.et_state.specs.Outcome.{Outcome, state_after, records_of}
 use Rattle.et_state.specs.Outcome as outcome
 use Rattle.et_state.specs.Answers.{Answers}
 use Rattle.et_state.proofs.Answered.{answered_state, answered_records}
 use Rattle.et_top.specs.FirstForm.{FirstForm}
-use Rattle.et_top.specs.Machine.{Frame, Stage, Waits, Runs, Left, Ended, State, names_of, roots_of, enters, pops, returns, makes, instruction, turn, event_of, IsObject, IsPc, IsSound}
+use Rattle.et_top.specs.Machine.{Frame, Stage, Waits, Runs, Left, Ended, State, names_of, roots_of, enters, pops, returns, makes, instruction, turn, event_of, IsObject, IsSound}
 
 -- a record of class 0 or 1, and of method 0, names what the program has
 made_named : (form : FirstForm) (event object : ℕ) → IsNamed (names_of form) (Alloc event 0 object 1 16 0)

@@ -1,5 +1,5 @@
 -- Lemmas on which objects are held.
-use Rattle.std.proofs.Common.{◌≡◌, ℕ, zero, suc, ◌+◌, ◌-◌, ◌<◌, ◌≤◌, ◌==◌, ◌&&◌, ◌||◌, not, Bool, true, false, nat_le, List, [], ◌∷◌, get_or, length, refl, sym, ap, ◌∙◌, subst, arith, rules, replicate, IsTrue, ◌↔◌, Contains}
+use Rattle.std.proofs.Common.{◌≡◌, ℕ, zero, suc, ◌+◌, ◌<◌, ◌≤◌, ◌==◌, not, Bool, true, false, List, [], ◌∷◌, get_or, length, refl, sym, ◌∙◌, subst, arith, rules, replicate, IsTrue, ◌↔◌, Contains}
 use Rattle.std.specs.List.{list_any}
 use Rattle.et_graph.specs.Graph.{IsReached}
 use Rattle.et_graph.proofs.Lists.{has_contains, contains_has, Contains-none}

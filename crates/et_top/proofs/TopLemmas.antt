@@ -1,17 +1,17 @@
 -- Lemmas on the top call's parts.
-use Rattle.std.proofs.Common.{◌≡◌, ℕ, ◌<◌, ◌≤◌, Bool, true, false, nat_lt, List, [], ◌∷◌, ◌++◌, Option, Some, None, IfSome, if◌then◌else◌, Result, Ok, Err, length, refl, sym, ◌∙◌, ap, subst, append-nil, rules, arith, All, Bor}
+use Rattle.std.proofs.Common.{◌≡◌, ℕ, ◌≤◌, Bool, true, false, nat_lt, List, [], Option, Some, None, if◌then◌else◌, Result, Ok, Err, length, refl, sym, ◌∙◌, ap, subst, append-nil, arith, Bor}
 use Rattle.std.proofs.lemmas.Bool.{lt-ltb}
 use Rattle.std.proofs.lemmas.List.Elements.{All-nil, All-cons}
 use Rattle.et_base.specs.declared.value.End.{End}
 use Rattle.et_base.specs.declared.value.End.TheVariants as ends
 use Rattle.et_graph.specs.Graph.{Graph}
 use Rattle.et_state.specs.declared.records.Record.{Record}
-use Rattle.et_io.specs.Sink.{with_more, TakesFront}
+use Rattle.et_io.specs.Sink.{TakesFront}
 use Rattle.et_run.specs.declared.options.Ran.{Ran}
 use Rattle.et_run.specs.Traced.{WritesTrace, WritesFront}
 use Rattle.et_top.specs.FirstForm.{FirstForm, form_of, has_magic}
 use Rattle.et_top.specs.Machine.{State, IsObject, IsSound, start, start_records}
-use Rattle.et_top.specs.Top.{Defined, Usage, Absent, TooLong, BadClass, NotYet, Runs, Traces, refused, class_defined, file_defined, setting_of, ended_as, Gives}
+use Rattle.et_top.specs.Top.{Defined, Usage, Absent, TooLong, BadClass, NotYet, Runs, Traces, class_defined, file_defined, setting_of, ended_as, Gives}
 use Rattle.et_top.specs.declared.status.Status.{Status}
 use Rattle.et_top.specs.declared.status.Status.TheVariants as status
 use Rattle.et_top.specs.declared.refusal.Refusal.{Refusal}

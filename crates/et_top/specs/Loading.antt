@@ -2,7 +2,6 @@
 use Rattle.std.specs.Prelude.{◌≡◌, ℕ, ◌<◌, ◌≤◌, Bool, Option, Some, None, IsSomeAnd, List, length, Vec, Result, Ok, Err}
 use Rattle.std.specs.declared.alloc.Global.{Global}
 use Rattle.et_graph.specs.Graph.{Graph}
-use Rattle.et_top.specs.declared.first_form.Form.{Form}
 use Rattle.et_top.specs.declared.refusal.Refusal.{Refusal}
 use Rattle.et_top.specs.declared.refusal.Refusal.TheVariants as refusal
 use Rattle.et_top.specs.FirstForm.{FirstForm}

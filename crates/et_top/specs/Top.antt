@@ -4,7 +4,6 @@ use Rattle.et_base.specs.declared.value.End.{End}
 use Rattle.et_base.specs.declared.value.End.TheVariants as ends
 use Rattle.et_graph.specs.Graph.{Graph}
 use Rattle.et_state.specs.History.{Setting}
-use Rattle.et_io.specs.Faults.{Rose}
 use Rattle.et_io.specs.Files.{Held}
 use Rattle.et_run.specs.declared.options.Ran.{Ran}
 use Rattle.et_run.specs.Traced.{WritesTrace, WritesFront}

@@ -1,6 +1,5 @@
-use Rattle.std.proofs.Common.{◌≡◌, sym, subst, map, string_bytes, rules}
+use Rattle.std.proofs.Common.{sym, subst, map, string_bytes, rules}
 use Rattle.et_io.specs.Faults.{Rose}
-use Rattle.et_top.specs.Refusals.{status_of}
 use Rattle.et_top.specs.Top.{defined, Runs, Gives}
 use Rattle.et_top.proofs.TopLemmas.{refused_gives, run_gives}
 use Rattle.et_top.proofs.top.elephant.Goals as goal

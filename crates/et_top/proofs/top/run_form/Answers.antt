@@ -1,8 +1,4 @@
-use Rattle.std.proofs.Common.{◌≡◌, ◌∙◌, sym, ap, subst, length, ◌≤◌, rules}
-use Rattle.et_state.specs.declared.records.Record.{Record}
-use Rattle.et_run.specs.Traced.{WritesFront}
-use Rattle.et_top.specs.Top.{setting_of}
-use Rattle.et_top.specs.Machine.{State, start, start_records}
+use Rattle.std.proofs.Common.{subst, length, ◌≤◌, rules}
 use Rattle.et_top.proofs.TopLemmas.{nothing_written, sound_start, run_is, front_is}
 use Rattle.et_top.proofs.top.run_form.Goals as goal
 

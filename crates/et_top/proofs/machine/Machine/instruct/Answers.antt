@@ -1,4 +1,4 @@
-use Rattle.std.proofs.Common.{◌≡◌, ◌+◌, ◌<◌, ◌≤◌, length, subst, ap, arith, rules}
+use Rattle.std.proofs.Common.{◌≡◌, ◌<◌, subst, ap, arith, rules}
 use Rattle.et_top.specs.Machine.{IsPc}
 use Rattle.et_top.specs.Machine as machine
 use Rattle.et_top.proofs.machine.Machine.instruct.Goals as goal

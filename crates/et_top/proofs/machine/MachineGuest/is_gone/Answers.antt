@@ -1,4 +1,4 @@
-use Rattle.std.proofs.Common.{◌≡◌, ◌+◌, ◌-◌, ◌<◌, ◌≤◌, ◌==◌, length, get_or, false, not, sym, ◌∙◌, ap, subst, arith, rules}
+use Rattle.std.proofs.Common.{◌≡◌, ◌+◌, ◌-◌, ◌<◌, ◌==◌, length, get_or, not, sym, ◌∙◌, ap, subst, arith, rules}
 use Rattle.std.specs.List.{list_any}
 use Rattle.et_top.specs.Machine.{gone_from}
 use Rattle.et_top.proofs.HeldLemmas.{gone_below, gone_at, gone_above}
