@@ -11,3 +11,6 @@ pub mod Between
 pub mod Visiting
 pub mod Rounds
 pub mod Sources
+pub mod Listing
+pub mod Books
+pub mod Insides

@@ -8,6 +8,10 @@ abbrev pub set_each : List ℕ → ℕ → List ℕ → List ℕ
 set_each [] t entries = entries
 set_each (o ∷ objects) t entries = set_each objects t (slice_set entries (o - 1) t)
 
+-- each object named has a number from 1 on
+abbrev pub ArePositive : List ℕ → Type 0
+ArePositive objects = (o : ℕ) → Contains objects o → 0 < o
+
 -- each object named is one of the first n
 abbrev pub AreWithin : ℕ → List ℕ → Type 0
 AreWithin n objects = (o : ℕ) → Contains objects o → (0 < o) × (o ≤ n)
