@@ -14,3 +14,4 @@ pub mod Sources
 pub mod Listing
 pub mod Books
 pub mod Insides
+pub mod Legality

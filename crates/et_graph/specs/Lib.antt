@@ -11,3 +11,4 @@ pub mod Book
 pub mod Written
 pub mod Inside
 pub mod Flush
+pub mod Taken

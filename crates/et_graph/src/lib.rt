@@ -12,3 +12,6 @@ mod within;
 
 pub use book::{GraphStep, StampBook};
 pub use objects::Death;
+
+#[cfg(test)]
+mod tests;
