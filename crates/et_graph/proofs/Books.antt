@@ -1,5 +1,5 @@
 -- Books and the histories for which they stand.
-use Rattle.std.proofs.Common.{◌≡◌, ℕ, ◌+◌, ◌-◌, ◌<◌, ◌≤◌, ◌||◌, ◌↔◌, ◌⊎◌, Bool, true, false, nat_lt, List, [], ◌∷◌, ◌++◌, length, get_or, replicate, map, Contains, sym, ap, ◌∙◌, subst, inl, inr, arith}
+use Rattle.std.proofs.Common.{◌≡◌, ℕ, ◌+◌, ◌-◌, ◌<◌, ◌≤◌, ◌||◌, ◌↔◌, ◌⊎◌, Bool, true, false, nat_lt, List, ◌∷◌, ◌++◌, length, get_or, replicate, map, Contains, sym, ap, ◌∙◌, subst, inl, inr, arith}
 use Rattle.std.proofs.lemmas.Bool.{cases_Bool, or_cases, or_left, or_right, ltb-true, lt-ltb, both_ways}
 use Rattle.std.proofs.lemmas.List.{get_or_append_left, get_or-append-add, get_or-replicate}
 use Rattle.et_graph.specs.Graph.{Graph, IsMade, LeadsTo, IsReached, AreDead, IsSoundGraph}
@@ -10,8 +10,9 @@ use Rattle.et_graph.specs.History.Turn.{Took}
 use Rattle.et_graph.specs.Times.{set_each, ArePositive, Carries, AreSettled, AreWithin}
 use Rattle.et_graph.specs.Listing.{listed, flagged}
 use Rattle.et_graph.specs.Book.{Book, StandsFor}
-use Rattle.et_graph.proofs.Lists.{Contains-none, Contains-here, Contains-there, Contains-cons, cases_number}
+use Rattle.et_graph.proofs.Lists.{cases_number}
 use Rattle.et_graph.proofs.Walks.{walk_more}
+use Rattle.et_graph.proofs.Deaths.{deaths_dead}
 use Rattle.et_graph.proofs.Sound.{reached_made, leads_made, made_cases, fresh_range}
 use Rattle.et_graph.proofs.Stamps.{was_before, stamp_fresh, stamp_lost, stamp_kept, IsTold, history_told, stamps_told}
 use Rattle.et_graph.proofs.Carrying.{length-set_each, set_each_in, set_each_out, carried_greatest}
@@ -78,33 +79,6 @@ step_stands old new e turns legal stepped stands =
           ∙ stepped_stamp turns (step_of g e) old.stamps o stands.history here long known (subst (λ (h : Graph). IsMade h o) graph made);
       steps_so_far = stepped.steps_more ∙ ap (λ (n : ℕ). n + 1) stands.steps_so_far;
     }
-
--- The first parts of pairs in a list.
-pub map_first : (ps : List (ℕ × ℕ)) (o e : ℕ) → Contains ps (o, e) → Contains (map (λ (d : ℕ × ℕ). d.0) ps) o
-map_first [] o e c = absurd (Contains-none (o, e) c)
-map_first (p ∷ ps) o e c =
-    elim (Contains-cons p ps (o, e) c) [
-      | inl h ↦ subst (λ (z : ℕ). Contains (p.0 ∷ map (λ (d : ℕ × ℕ). d.0) ps) z) (ap (λ (q : ℕ × ℕ). q.0) h) (Contains-here p.0 (map (λ (d : ℕ × ℕ). d.0) ps))
-      | inr d ↦ Contains-there p.0 (map (λ (d : ℕ × ℕ). d.0) ps) o (map_first ps o e d)
-    ]
-
-pub first_map : (ps : List (ℕ × ℕ)) (o : ℕ) → Contains (map (λ (d : ℕ × ℕ). d.0) ps) o → (e : ℕ) × Contains ps (o, e)
-first_map [] o c = absurd (Contains-none o c)
-first_map (p ∷ ps) o c =
-    elim (Contains-cons p.0 (map (λ (d : ℕ × ℕ). d.0) ps) o c) [
-      | inl h ↦ (p.1, subst (λ (z : ℕ). Contains (p ∷ ps) (z, p.1)) h (Contains-here p ps))
-      | inr d ↦ let r = first_map ps o d in (r.0, Contains-there p ps (o, r.0) r.1)
-    ]
-
--- the objects of the deaths are the dead
-pub deaths_dead : (turns : List Turn) (deaths : List (ℕ × ℕ)) → IsHistory turns → AreDeaths turns deaths → AreDead (graph_after turns) (map (λ (d : ℕ × ℕ). d.0) deaths)
-deaths_dead turns deaths history are = record {
-  rising = are.rising;
-  exact = λ o. (
-    (λ c. let r = first_map deaths o c in ((are.exact o r.0).0 r.1).0),
-    (λ dead. let last = (stamps_told turns (history_told turns history)).last o dead.0 in map_first deaths o last.0 ((are.exact o last.0).1 (dead, last.1))),
-  );
-}
 
 -- A flush: the times are the stamps, with the number of the next step at each root, carried along the pairs.
 module _ (turns : List Turn) (history : IsHistory turns) (stamps times : List ℕ)

@@ -3,6 +3,7 @@ pub mod Walks
 pub mod Sound
 pub mod Stamps
 pub mod Marks
+pub mod Deaths
 pub mod DraftLaws
 pub mod Cuts
 pub mod Carrying

@@ -28,6 +28,12 @@ steps [] = 0
 steps (Took s ∷ turns) = steps turns + 1
 steps (Flushed h reports ∷ turns) = steps turns
 
+-- a flush reported o
+abbrev pub WasReported : List Turn → ℕ → Type 0
+WasReported [] o = ⊥
+WasReported (Took s ∷ turns) o = WasReported turns o
+WasReported (Flushed h reports ∷ turns) o = WasReported turns o ⊎ Contains reports o
+
 -- o is reached in the graph after step e
 abbrev pub WasReached : List Turn → ℕ → ℕ → Type 0
 WasReached [] e o = ⊥
@@ -77,3 +83,9 @@ pub record StampsTell (turns : List Turn) : Type 0 where
 pub record AreDeaths (turns : List Turn) (deaths : List (ℕ × ℕ)) : Type 0 where
   pub rising : IsStrictlyIncreasing (map (λ d. d.0) deaths)
   pub exact : (o e : ℕ) → Contains deaths (o, e) ↔ (IsDead (graph_after turns) o × IsLast turns o e)
+
+-- The same list as the stamps show it: each dead object with the greatest stamp of the objects that lead to it now and
+-- weren't reported.
+pub record AreStamped (turns : List Turn) (deaths : List (ℕ × ℕ)) : Type 0 where
+  pub rising : IsStrictlyIncreasing (map (λ d. d.0) deaths)
+  pub exact : (o e : ℕ) → Contains deaths (o, e) ↔ (IsDead (graph_after turns) o × IsGreatestStamp turns (λ u. ¬ Contains (graph_after turns).gone u) o e)
