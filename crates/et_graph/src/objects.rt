@@ -62,11 +62,11 @@ fn list_deaths(times: &[u64], gone: &[bool], top: u64, deaths: &mut Vec<Death>)
     ensures room { length times.now ≤ vec_capacity deaths.new }
 {
     deaths.clear();
-    for i in 0..times.len() {
-        if times[i] < top && !gone[i] {
+    for (i, time) in times.iter().enumerate() {
+        if *time < top && !gone[i] {
             let death = Death {
                 object: ObjectId::new(i as u32 + 1),
-                time: times[i],
+                time: *time,
             };
             within::push(deaths, death);
         }
@@ -78,8 +78,8 @@ fn mark_gone(times: &[u64], top: u64, gone: &mut [bool])
     requires { length gone.old ≡ length times.now }
     ensures { EachIndex gone.new (λ k. slice_index_or gone.new k false ≡ (slice_index_or gone.old k false || nat_lt (slice_index times.now k) top)) }
 {
-    for i in 0..times.len() {
-        if times[i] < top {
+    for (i, time) in times.iter().enumerate() {
+        if *time < top {
             gone[i] = true;
         }
     }
