@@ -13,4 +13,5 @@ use Rattle.et_graph.specs.contracts.book.StampBook.{the_row}
 abbrev pub EndsFlushed : MutBor Book → List Death → Fml
 EndsFlushed s deaths =
     follows_so the_row the_row s.ghost_name none (λ _ _. ⊤)
-    (λ after. (turns : List Turn) → StandsFor s.now turns → StandsFor after (Flushed after.graph (map (λ d. d.0) (death_pairs deaths)) ∷ turns))
+    (λ after. (turns : List Turn) → StandsFor s.now turns
+    → StandsFor after (Flushed after.graph (map (λ d. d.0) (death_pairs deaths)) ∷ turns))

@@ -8,7 +8,12 @@ use Rattle.et_graph.specs.declared.book.StampBook.TheInside.{Inside}
 
 abbrev pub book_of : Inside → Book
 book_of a = record {
-  graph = record { made = length a.objects.stamps.items; roots = a.roots.items; pairs = a.pairs.items; gone = flagged 1 a.objects.gone.items };
+  graph = record {
+    made = length a.objects.stamps.items;
+    roots = a.roots.items;
+    pairs = a.pairs.items;
+    gone = flagged 1 a.objects.gone.items;
+  };
   stamps = a.objects.stamps.items;
   steps = a.steps;
   deaths = death_pairs a.objects.deaths.items;

@@ -34,5 +34,6 @@ pub record FindsDeaths (pairs : List (ℕ × ℕ)) (roots : List ℕ) (top : ℕ
   pub settled : AreSettled pairs b.times.items
   pub deaths : death_pairs b.deaths.items ≡ listed 1 top b.times.items a.gone.items
   pub gone_long : length b.gone.items ≡ length a.gone.items
-  pub marked : (k : ℕ) → k < length b.gone.items → slice_index_or b.gone.items k false ≡ (slice_index_or a.gone.items k false || nat_lt (slice_index b.times.items k) top)
+  pub marked : (k : ℕ) → k < length b.gone.items
+      → slice_index_or b.gone.items k false ≡ (slice_index_or a.gone.items k false || nat_lt (slice_index b.times.items k) top)
   pub places : HasPlaces (length a.stamps.items) b

@@ -17,4 +17,5 @@ with_steps turns (e ∷ edits) = with_steps (with_step turns e) edits
 -- each is legal when it is taken
 abbrev pub AreLegalSteps : List Turn → List Edit → Type 0
 AreLegalSteps turns [] = ⊤
-AreLegalSteps turns (e ∷ edits) = IsLegalStep (graph_after turns) (step_of (graph_after turns) e) × AreLegalSteps (with_step turns e) edits
+AreLegalSteps turns (e ∷ edits) =
+    IsLegalStep (graph_after turns) (step_of (graph_after turns) e) × AreLegalSteps (with_step turns e) edits

@@ -62,11 +62,12 @@ impl StampBook {
     ghost use Rattle.std.specs.Borrow.{sem};
     ghost use Rattle.et_graph.specs.Steps.{IsLegalStep};
     ghost use Rattle.et_graph.specs.Edit.{step_of};
-    ghost use Rattle.et_graph.specs.History.{Turn, graph_after, AreDeaths};
-    ghost use Rattle.et_graph.specs.History.Turn.{Took, Flushed};
+    ghost use Rattle.et_graph.specs.History.{Turn, AreDeaths};
+    ghost use Rattle.et_graph.specs.History.Turn.{Flushed};
     ghost use Rattle.et_graph.specs.Book.{StandsFor};
     ghost use Rattle.et_graph.specs.Listing.{death_pairs};
     ghost use Rattle.et_graph.specs.Written.{edit_of};
+    ghost use Rattle.et_graph.specs.Taken.{with_step};
     ghost use Rattle.et_graph.specs.Flush.{EndsFlushed};
 
     /// A book with no step.
@@ -92,7 +93,8 @@ impl StampBook {
     pub fn take_step(&mut self, step: GraphStep) -> Result<(), NoMemory>
         requires legal { IsLegalStep self.old.graph (step_of self.old.graph (edit_of step)) }
         requires few { self.old.steps < 2 ^ 41 }
-        ensures ok { OnOk result ((turns : List Turn) → StandsFor self.old turns → StandsFor self.new (Took (step_of (graph_after turns) (edit_of step)) ∷ turns)) }
+        ensures ok { OnOk result ((turns : List Turn) →
+            StandsFor self.old turns → StandsFor self.new (with_step turns (edit_of step))) }
         ensures graph { OnOk result (self.new.graph ≡ (step_of self.old.graph (edit_of step)).after) }
         ensures steps { OnOk result (self.new.steps ≡ self.old.steps + 1) }
         ensures err { OnErr result (self.new ≡ self.old) }
@@ -127,7 +129,8 @@ impl StampBook {
     /// Finds the deaths, and counts them as reported.
     fn report(&mut self)
         ensures deaths { (turns : List Turn) → StandsFor self.old turns → AreDeaths turns self.new.deaths }
-        ensures stands { (turns : List Turn) → StandsFor self.old turns → StandsFor self.new (Flushed self.new.graph (map (λ d. d.0) self.new.deaths) ∷ turns) }
+        ensures stands { (turns : List Turn) → StandsFor self.old turns →
+            StandsFor self.new (Flushed self.new.graph (map (λ d. d.0) self.new.deaths) ∷ turns) }
     {
         pairs::sort(&mut self.pairs);
         self.objects

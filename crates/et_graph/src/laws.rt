@@ -19,17 +19,21 @@ pub fn stamps_tell()
 
 /// The stamp of an object is the greatest of the step that made it and of those that came right before one that lost it.
 pub fn stamps_mark()
-    ensures { (turns : List Turn) → IsHistory turns → (o : ℕ) → IsMade (graph_after turns) o → IsGreatestMark turns o (stamp turns o) }
+    ensures { (turns : List Turn) → IsHistory turns →
+        (o : ℕ) → IsMade (graph_after turns) o → IsGreatestMark turns o (stamp turns o) }
 {}
 
 /// The dead objects with their greatest stamps are the deaths.
 pub fn stamps_show_deaths()
-    ensures { (turns : List Turn) (deaths : List (ℕ × ℕ)) → IsHistory turns → AreStamped turns deaths → AreDeaths turns deaths }
+    ensures { (turns : List Turn) (deaths : List (ℕ × ℕ)) →
+        IsHistory turns → AreStamped turns deaths → AreDeaths turns deaths }
 {}
 
 /// The objects of the deaths are the dead ones, which a flush reports.
 pub fn deaths_are_dead()
-    ensures { (turns : List Turn) (deaths : List (ℕ × ℕ)) → IsHistory turns → AreDeaths turns deaths → AreDead (graph_after turns) (map (λ d. d.0) deaths) }
+    ensures { (turns : List Turn) (deaths : List (ℕ × ℕ)) →
+        IsHistory turns → AreDeaths turns deaths →
+        AreDead (graph_after turns) (map (λ d. d.0) deaths) }
 {}
 
 /// There is at most one list of deaths.
@@ -39,7 +43,8 @@ pub fn deaths_are_one()
 
 /// The objects that are gone are those that the flushes reported.
 pub fn gone_were_reported()
-    ensures { (turns : List Turn) → IsHistory turns → (o : ℕ) → Contains (graph_after turns).gone o ↔ WasReported turns o }
+    ensures { (turns : List Turn) → IsHistory turns →
+        (o : ℕ) → Contains (graph_after turns).gone o ↔ WasReported turns o }
 {}
 
 /// What holds of the graph after every history.
@@ -64,5 +69,6 @@ pub fn drafts_make()
 
 /// A draft whose new objects are all reached is a legal step.
 pub fn drafts_end()
-    ensures { (g : Graph) (s : Step) → IsDraft g s → ((o : ℕ) → Contains s.fresh o → IsReached s.after o) → IsLegalStep g s }
+    ensures { (g : Graph) (s : Step) → IsDraft g s →
+        ((o : ℕ) → Contains s.fresh o → IsReached s.after o) → IsLegalStep g s }
 {}

@@ -76,7 +76,8 @@ fn list_deaths(times: &[u64], gone: &[bool], top: u64, deaths: &mut Vec<Death>)
 /// Sets the flag of each object whose time is below `top`.
 fn mark_gone(times: &[u64], top: u64, gone: &mut [bool])
     requires { length gone.old ≡ length times.now }
-    ensures { EachIndex gone.new (λ k. slice_index_or gone.new k false ≡ (slice_index_or gone.old k false || nat_lt (slice_index times.now k) top)) }
+    ensures { EachIndex gone.new (λ k. slice_index_or gone.new k false ≡
+        (slice_index_or gone.old k false || nat_lt (slice_index times.now k) top)) }
 {
     for (i, time) in times.iter().enumerate() {
         if *time < top {

@@ -2,7 +2,8 @@
 
 ghost use Rattle.std.specs.Prelude.{◌≡◌, ◌^◌, ◌<◌, [], ◌∷◌, map, length, IfOk};
 ghost use Rattle.et_graph.specs.Steps.{IsLegalStep};
-ghost use Rattle.et_graph.specs.Edit.{step_of};
+ghost use Rattle.et_graph.specs.Graph.{Graph};
+ghost use Rattle.et_graph.specs.Edit.{Edit, step_of};
 ghost use Rattle.et_graph.specs.Written.{edit_of};
 ghost use Rattle.et_graph.specs.Taken.{AreLegalSteps};
 
@@ -55,7 +56,13 @@ fn pairs(alloc: Global, numbers: &[(u32, u32)]) -> Result<Vec<(ObjectId, ObjectI
 }
 
 fn step(alloc: Global, row: &Row) -> Result<GraphStep, NoMemory>
-    ensures { IfOk result (λ s. edit_of s ≡ record { fresh = row.now.fresh.now; lost = row.now.lost.now; roots = row.now.roots.now; cut = row.now.cut.now; tied = row.now.tied.now }) }
+    ensures { IfOk result (λ s. edit_of s ≡ record {
+      fresh = row.now.fresh.now;
+      lost = row.now.lost.now;
+      roots = row.now.roots.now;
+      cut = row.now.cut.now;
+      tied = row.now.tied.now;
+    }) }
 {
     Ok(GraphStep {
         fresh: objects(alloc, row.fresh)?,
@@ -68,7 +75,13 @@ fn step(alloc: Global, row: &Row) -> Result<GraphStep, NoMemory>
 
 /// Takes the steps of a table.
 fn play(alloc: Global, rows: &[Row]) -> Result<StampBook, NoMemory>
-    requires legal { AreLegalSteps [] (map (λ r. record { fresh = r.fresh.now; lost = r.lost.now; roots = r.roots.now; cut = r.cut.now; tied = r.tied.now }) rows.now) }
+    requires legal { AreLegalSteps [] (map (λ r. record {
+      fresh = r.fresh.now;
+      lost = r.lost.now;
+      roots = r.roots.now;
+      cut = r.cut.now;
+      tied = r.tied.now;
+    }) rows.now) }
     requires few { length rows.now < 2 ^ 41 }
 {
     let mut book = StampBook::begin(alloc);
@@ -173,7 +186,9 @@ fn what_was_held_weakly_dies_at_its_last_stay(rt: HostRuntime) -> Result<(), Fai
     Ok(())
 }
 
-/// After the flush the step that makes object 2 a root again is not legal.
+/// Once object 2 is reported, a step that makes it a root again is not legal.
 fn reported_is_no_root()
-    ensures { ¬ IsLegalStep (record { made = 2; roots = 1 ∷ []; pairs = []; gone = 2 ∷ [] }) (step_of (record { made = 2; roots = 1 ∷ []; pairs = []; gone = 2 ∷ [] }) (record { fresh = []; lost = []; roots = 1 ∷ 2 ∷ []; cut = []; tied = [] })) }
+    ensures { let g : Graph = record { made = 2; roots = 1 ∷ []; pairs = []; gone = 2 ∷ [] } in
+        let revives : Edit = record { fresh = []; lost = []; roots = 1 ∷ 2 ∷ []; cut = []; tied = [] } in
+        ¬ IsLegalStep g (step_of g revives) }
 {}
