@@ -4,7 +4,7 @@ use Rattle.std.proofs.Math.ListN.{length-set}
 use Rattle.std.proofs.lemmas.Bool.{cases_eq}
 use Rattle.std.proofs.lemmas.List.Elements.{All-set}
 use Rattle.et_graph.specs.Graph.{Leads}
-use Rattle.et_graph.specs.Times.{set_each, Carries, AreSettled}
+use Rattle.et_graph.specs.Times.{set_each, ArePositive, Carries, AreSettled}
 use Rattle.et_graph.proofs.Lists.{Contains-none, Contains-here, Contains-there, Contains-cons, cases_number}
 use Rattle.et_graph.proofs.Walks.{leads_itself, leads_first, leads_on, along}
 
@@ -50,10 +50,6 @@ carried_greatest pairs a b f settled u o l =
 pub length-set_each : (objects : List ℕ) (t : ℕ) (entries : List ℕ) → length (set_each objects t entries) ≡ length entries
 length-set_each [] t entries = refl
 length-set_each (x ∷ objects) t entries = length-set_each objects t (set entries (x - 1) t) ∙ length-set entries (x - 1) t
-
--- the objects are numbered from 1
-abbrev pub ArePositive : List ℕ → Type 0
-ArePositive objects = (o : ℕ) → Contains objects o → 0 < o
 
 pub set_each_out : (objects : List ℕ) (t : ℕ) (entries : List ℕ) (o : ℕ) → ArePositive objects → 0 < o → ¬ Contains objects o → get_or (set_each objects t entries) (o - 1) 0 ≡ get_or entries (o - 1) 0
 set_each_out [] t entries o positive above out = refl

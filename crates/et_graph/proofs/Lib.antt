@@ -3,6 +3,7 @@ pub mod Walks
 pub mod Sound
 pub mod Stamps
 pub mod Marks
+pub mod Deaths
 pub mod DraftLaws
 pub mod Cuts
 pub mod Carrying
@@ -11,3 +12,7 @@ pub mod Between
 pub mod Visiting
 pub mod Rounds
 pub mod Sources
+pub mod Listing
+pub mod Books
+pub mod Insides
+pub mod Legality

@@ -1,10 +1,9 @@
--- A stamp is the greatest mark, and deaths are determined.
-use Rattle.std.proofs.Common.{◌≡◌, ℕ, suc, ◌+◌, ◌<◌, ◌↔◌, List, [], ◌∷◌, get_or, map, Contains, refl, sym, ap, ◌∙◌, subst, inl, inr, arith}
-use Rattle.std.specs.List.Sorted.{IsStrictlyIncreasing}
+-- A stamp is the greatest mark.
+use Rattle.std.proofs.Common.{ℕ, ◌<◌, List, [], ◌∷◌, sym, subst, inl, inr, arith}
 use Rattle.et_graph.specs.Graph.{IsMade}
-use Rattle.et_graph.specs.History.{Turn, graph_after, IsHistory, steps, stamp, IsMark, IsGreatestMark, AreDeaths}
+use Rattle.et_graph.specs.History.{Turn, graph_after, IsHistory, steps, stamp, IsMark, IsGreatestMark}
 use Rattle.et_graph.specs.History.Turn.{Took, Flushed}
-use Rattle.et_graph.proofs.Lists.{cases_number, Contains-none, Contains-here, Contains-there, Contains-cons}
+use Rattle.et_graph.proofs.Lists.{cases_number}
 use Rattle.et_graph.proofs.Sound.{made_cases, flush_made}
 use Rattle.et_graph.proofs.Stamps.{history_told, stamp_fresh, stamp_lost, stamp_kept}
 
@@ -55,56 +54,3 @@ stamps_greatest (Took s ∷ turns) h o made =
         ]
       ]
     ]
-
--- Pairs whose first parts rise.
-abbrev pub firsts : List (ℕ × ℕ) → List ℕ
-firsts ps = map (λ (d : ℕ × ℕ). d.0) ps
-
-rising_tail : (x : ℕ) (xs : List ℕ) → IsStrictlyIncreasing (x ∷ xs) → IsStrictlyIncreasing xs
-rising_tail x xs rise k lt =
-    let e : suc k + 1 ≡ suc (k + 1) = omega arith in
-    let h : get_or (x ∷ xs) (suc k) 0 < get_or (x ∷ xs) (suc k + 1) 0 = rise (suc k) (omega arith) in
-    rw e at h
-
-rising_head : (p : ℕ × ℕ) (ps : List (ℕ × ℕ)) (q : ℕ × ℕ) → IsStrictlyIncreasing (firsts (p ∷ ps)) → Contains ps q → p.0 < q.0
-rising_head p [] q rise c = absurd (Contains-none q c)
-rising_head p (r ∷ ps) q rise c =
-    let first : p.0 < r.0 = rise 0 (omega arith) in
-    elim (Contains-cons r ps q c) [
-      | inl e ↦ omega (arith, first, ap (λ (d : ℕ × ℕ). d.0) e)
-      | inr d ↦ omega (arith, first, rising_head r ps q (rising_tail p.0 (firsts (r ∷ ps)) rise) d)
-    ]
-
-abbrev pub AreSame : List (ℕ × ℕ) → List (ℕ × ℕ) → Type 0
-AreSame a b = (p : ℕ × ℕ) → Contains a p ↔ Contains b p
-
-same_first : (p q : ℕ × ℕ) (ps qs : List (ℕ × ℕ)) → IsStrictlyIncreasing (firsts (p ∷ ps)) → IsStrictlyIncreasing (firsts (q ∷ qs)) → AreSame (p ∷ ps) (q ∷ qs) → p ≡ q
-same_first p q ps qs rp rq same =
-    elim (Contains-cons q qs p ((same p).0 (Contains-here p ps))) [
-      | inl e ↦ sym e
-      | inr c ↦ elim (Contains-cons p ps q ((same q).1 (Contains-here q qs))) [
-        | inl e ↦ e
-        | inr d ↦ absurd (omega (arith, rising_head q qs p rq c, rising_head p ps q rp d))
-      ]
-    ]
-
-same_rest : (p q : ℕ × ℕ) (ps qs : List (ℕ × ℕ)) → p ≡ q → IsStrictlyIncreasing (firsts (p ∷ ps)) → ((r : ℕ × ℕ) → Contains (p ∷ ps) r → Contains (q ∷ qs) r) → (r : ℕ × ℕ) → Contains ps r → Contains qs r
-same_rest p q ps qs e rise into r c =
-    elim (Contains-cons q qs r (into r (Contains-there p ps r c))) [
-      | inr d ↦ d
-      | inl f ↦ absurd (omega (arith, rising_head p ps r rise c, ap (λ (d : ℕ × ℕ). d.0) (e ∙ f)))
-    ]
-
-pub rising_one : (a b : List (ℕ × ℕ)) → IsStrictlyIncreasing (firsts a) → IsStrictlyIncreasing (firsts b) → AreSame a b → a ≡ b
-rising_one [] [] ra rb same = refl
-rising_one [] (q ∷ qs) ra rb same = absurd (Contains-none q ((same q).1 (Contains-here q qs)))
-rising_one (p ∷ ps) [] ra rb same = absurd (Contains-none p ((same p).0 (Contains-here p ps)))
-rising_one (p ∷ ps) (q ∷ qs) ra rb same =
-    let e : p ≡ q = same_first p q ps qs ra rb same in
-    let rest : ps ≡ qs = rising_one ps qs (rising_tail p.0 (firsts ps) ra) (rising_tail q.0 (firsts qs) rb)
-    (λ r. (same_rest p q ps qs e ra (λ s c. (same s).0 c) r, same_rest q p qs ps (sym e) rb (λ s c. (same s).1 c) r)) in
-    ap (λ (r : ℕ × ℕ). r ∷ ps) e ∙ ap (λ (rs : List (ℕ × ℕ)). q ∷ rs) rest
-
-pub deaths_one : (turns : List Turn) (a b : List (ℕ × ℕ)) → AreDeaths turns a → AreDeaths turns b → a ≡ b
-deaths_one turns a b da db =
-    rising_one a b da.rising db.rising (λ p. ((λ c. (db.exact p.0 p.1).1 ((da.exact p.0 p.1).0 c)), (λ c. (da.exact p.0 p.1).1 ((db.exact p.0 p.1).0 c))))

@@ -12,11 +12,15 @@ pub record IsMove (g : Graph) (s t : Step) : Type 0 where
   pub lost_kept : (o : ℕ) → Contains s.lost o → Contains t.lost o
   pub lost_known : (o : ℕ) → Contains t.lost o → Contains s.lost o ⊎ IsKnown g s o
   -- what it takes away of what g has is lost, and it takes a pair from what was reached in g or is new
-  pub roots_off : (r : ℕ) → Contains g.roots r → Contains s.after.roots r → ¬ Contains t.after.roots r → Contains t.lost r
-  pub pairs_off : (u x : ℕ) → Contains g.pairs (u, x) → Contains s.after.pairs (u, x) → ¬ Contains t.after.pairs (u, x) → Contains t.lost x × IsKnown g s u
+  pub roots_off : (r : ℕ) → Contains g.roots r → Contains s.after.roots r → ¬ Contains t.after.roots r
+      → Contains t.lost r
+  pub pairs_off : (u x : ℕ) → Contains g.pairs (u, x) → Contains s.after.pairs (u, x) → ¬ Contains t.after.pairs (u, x)
+      → Contains t.lost x × IsKnown g s u
   -- a root that it puts in was made and isn't gone, and a pair that it puts in joins what was reached in g or is new
-  pub roots_on : (r : ℕ) → Contains t.after.roots r → Contains s.after.roots r ⊎ (IsMade t.after r × ¬ Contains g.gone r)
-  pub pairs_on : (u x : ℕ) → Contains t.after.pairs (u, x) → Contains s.after.pairs (u, x) ⊎ (IsKnown g s u × IsKnown g s x)
+  pub roots_on : (r : ℕ) → Contains t.after.roots r
+      → Contains s.after.roots r ⊎ (IsMade t.after r × ¬ Contains g.gone r)
+  pub pairs_on : (u x : ℕ) → Contains t.after.pairs (u, x)
+      → Contains s.after.pairs (u, x) ⊎ (IsKnown g s u × IsKnown g s x)
 
 -- A call that makes one object and changes nothing else.
 pub record IsMaking (s t : Step) : Type 0 where

@@ -28,6 +28,12 @@ steps [] = 0
 steps (Took s ∷ turns) = steps turns + 1
 steps (Flushed h reports ∷ turns) = steps turns
 
+-- a flush reported o
+abbrev pub WasReported : List Turn → ℕ → Type 0
+WasReported [] o = ⊥
+WasReported (Took s ∷ turns) o = WasReported turns o
+WasReported (Flushed h reports ∷ turns) o = WasReported turns o ⊎ Contains reports o
+
 -- o is reached in the graph after step e
 abbrev pub WasReached : List Turn → ℕ → ℕ → Type 0
 WasReached [] e o = ⊥
@@ -51,7 +57,9 @@ stamp (Flushed h reports ∷ turns) o = stamp turns o
 -- t is the step that made o, or one before a step that lost it
 abbrev pub IsMark : List Turn → ℕ → ℕ → Type 0
 IsMark [] o t = ⊥
-IsMark (Took s ∷ turns) o t = ((Contains s.fresh o × (t ≡ steps turns)) ⊎ (Contains s.lost o × (t + 1 ≡ steps turns))) ⊎ IsMark turns o t
+IsMark (Took s ∷ turns) o t =
+    ((Contains s.fresh o × (t ≡ steps turns)) ⊎ (Contains s.lost o × (t + 1 ≡ steps turns)))
+    ⊎ IsMark turns o t
 IsMark (Flushed h reports ∷ turns) o t = IsMark turns o t
 
 -- t is the greatest of these
@@ -69,11 +77,20 @@ pub record StampsTell (turns : List Turn) : Type 0 where
   -- each object made has a last step after which it was reached, and its stamp is no greater
   pub last : (o : ℕ) → IsMade (graph_after turns) o → (e : ℕ) × IsLast turns o e × (stamp turns o ≤ e)
   -- for one that isn't reached now it is the greatest stamp among those that lead to it
-  pub unreached : (o e : ℕ) → IsMade (graph_after turns) o → ¬ IsReached (graph_after turns) o → IsLast turns o e → IsGreatestStamp turns (λ u. ⊤) o e
+  pub unreached : (o e : ℕ) → IsMade (graph_after turns) o → ¬ IsReached (graph_after turns) o → IsLast turns o e
+      → IsGreatestStamp turns (λ u. ⊤) o e
   -- and where it isn't gone, also among those of them that aren't gone
-  pub held : (o e : ℕ) → IsDead (graph_after turns) o → IsLast turns o e → IsGreatestStamp turns (λ u. ¬ Contains (graph_after turns).gone u) o e
+  pub held : (o e : ℕ) → IsDead (graph_after turns) o → IsLast turns o e
+      → IsGreatestStamp turns (λ u. ¬ Contains (graph_after turns).gone u) o e
 
 -- The deaths of a flush now: each dead object with the last step after which it was reached, in rising order of the objects.
 pub record AreDeaths (turns : List Turn) (deaths : List (ℕ × ℕ)) : Type 0 where
   pub rising : IsStrictlyIncreasing (map (λ d. d.0) deaths)
   pub exact : (o e : ℕ) → Contains deaths (o, e) ↔ (IsDead (graph_after turns) o × IsLast turns o e)
+
+-- The same list as the stamps show it: each dead object with the greatest stamp of the objects that lead to it now and
+-- weren't reported.
+pub record AreStamped (turns : List Turn) (deaths : List (ℕ × ℕ)) : Type 0 where
+  pub rising : IsStrictlyIncreasing (map (λ d. d.0) deaths)
+  pub exact : (o e : ℕ) → Contains deaths (o, e)
+      ↔ (IsDead (graph_after turns) o × IsGreatestStamp turns (λ u. ¬ Contains (graph_after turns).gone u) o e)

@@ -5,3 +5,10 @@ pub mod History
 pub mod Edit
 pub mod Times
 pub mod Order
+pub mod Listing
+pub mod Objects
+pub mod Book
+pub mod Written
+pub mod Inside
+pub mod Flush
+pub mod Taken

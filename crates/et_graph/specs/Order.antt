@@ -11,8 +11,11 @@ sources k top (t ∷ times) = record { age = top - t; object = k } ∷ sources (
 -- each object with a time is there, and none comes after one with a smaller time
 pub record IsOrder (times : List ℕ) (order : List Source) : Type 0 where
   pub each : (s : Source) → Contains order s → (0 < s.object) × (s.object ≤ length times)
-  pub all : (o : ℕ) → 0 < o → o ≤ length times → (k : ℕ) × (k < length order) × ((d : Source) → (slice_index_or order k d).object ≡ o)
-  pub falls : (i j : ℕ) (d : Source) → i ≤ j → j < length order → slice_index times ((slice_index_or order j d).object - 1) ≤ slice_index times ((slice_index_or order i d).object - 1)
+  pub all : (o : ℕ) → 0 < o → o ≤ length times
+      → (k : ℕ) × (k < length order) × ((d : Source) → (slice_index_or order k d).object ≡ o)
+  pub falls : (i j : ℕ) (d : Source) → i ≤ j → j < length order
+      → slice_index times ((slice_index_or order j d).object - 1)
+      ≤ slice_index times ((slice_index_or order i d).object - 1)
 
 -- there is room for n objects
 pub record HasRoom (n : ℕ) (room : Room) : Type 0 where

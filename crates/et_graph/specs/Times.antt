@@ -8,6 +8,10 @@ abbrev pub set_each : List ℕ → ℕ → List ℕ → List ℕ
 set_each [] t entries = entries
 set_each (o ∷ objects) t entries = set_each objects t (slice_set entries (o - 1) t)
 
+-- each object named has a number from 1 on
+abbrev pub ArePositive : List ℕ → Type 0
+ArePositive objects = (o : ℕ) → Contains objects o → 0 < o
+
 -- each object named is one of the first n
 abbrev pub AreWithin : ℕ → List ℕ → Type 0
 AreWithin n objects = (o : ℕ) → Contains objects o → (0 < o) × (o ≤ n)
@@ -19,11 +23,13 @@ ArePairsWithin n pairs = (u x : ℕ) → Contains pairs (u, x) → (0 < u) × (u
 pub record Carries (pairs : List (ℕ × ℕ)) (old new : List ℕ) : Type 0 where
   pub kept_length : length new ≡ length old
   pub raised : (o : ℕ) → slice_index old (o - 1) ≤ slice_index new (o - 1)
-  pub carried : (o : ℕ) → 0 < o → (u : ℕ) × (0 < u) × Leads pairs u o × (slice_index new (o - 1) ≡ slice_index old (u - 1))
+  pub carried : (o : ℕ) → 0 < o
+      → (u : ℕ) × (0 < u) × Leads pairs u o × (slice_index new (o - 1) ≡ slice_index old (u - 1))
 
 -- no pair leads to a smaller entry
 abbrev pub AreSettled : List (ℕ × ℕ) → List ℕ → Type 0
-AreSettled pairs entries = (u x : ℕ) → Contains pairs (u, x) → slice_index entries (u - 1) ≤ slice_index entries (x - 1)
+AreSettled pairs entries =
+    (u x : ℕ) → Contains pairs (u, x) → slice_index entries (u - 1) ≤ slice_index entries (x - 1)
 
 -- the object's flag is set
 abbrev pub IsSet : List Bool → ℕ → Type 0
@@ -41,7 +47,8 @@ pub record IsReady (times : List ℕ) (seen : List Bool) (work : Vec ℕ) : Type
 
 -- A search carries the time t from the objects that are in its work. It began with the times of start, and those that
 -- it has seen before have t or more.
-pub record IsSpread (pairs : List (ℕ × ℕ)) (start : List ℕ) (t : ℕ) (times : List ℕ) (seen : List Bool) (work : List ℕ) : Type 0 where
+pub record IsSpread (pairs : List (ℕ × ℕ)) (start : List ℕ) (t : ℕ)
+    (times : List ℕ) (seen : List Bool) (work : List ℕ) : Type 0 where
   pub carries : Carries pairs start times
   pub kept : (o : ℕ) → 0 < o → ¬ IsSet seen o → slice_index times (o - 1) ≡ slice_index start (o - 1)
   pub above : (o : ℕ) → 0 < o → IsSet seen o → t ≤ slice_index times (o - 1)
@@ -50,10 +57,13 @@ pub record IsSpread (pairs : List (ℕ × ℕ)) (start : List ℕ) (t : ℕ) (ti
 
 -- the pairs of each object that was seen were followed, but for those of which P holds
 abbrev pub AreFollowed : List (ℕ × ℕ) → List ℕ → List Bool → (ℕ → Type 0) → Type 0
-AreFollowed pairs times seen P = (u x : ℕ) → Contains pairs (u, x) → IsSet seen u → P u ⊎ (IsSet seen x × (slice_index times (u - 1) ≤ slice_index times (x - 1)))
+AreFollowed pairs times seen P =
+    (u x : ℕ) → Contains pairs (u, x) → IsSet seen u
+    → P u ⊎ (IsSet seen x × (slice_index times (u - 1) ≤ slice_index times (x - 1)))
 
 -- The pairs of object o, which has the time t, are followed.
-pub record Visits (pairs : List (ℕ × ℕ)) (o t : ℕ) (times : List ℕ) (seen : List Bool) (work : List ℕ) (times' : List ℕ) (seen' : List Bool) (work' : List ℕ) : Type 0 where
+pub record Visits (pairs : List (ℕ × ℕ)) (o t : ℕ) (times : List ℕ) (seen : List Bool) (work : List ℕ)
+    (times' : List ℕ) (seen' : List Bool) (work' : List ℕ) : Type 0 where
   pub grows : (x : ℕ) → IsSet seen x → IsSet seen' x
   pub spent : length work' + unset_count seen' ≡ length work + unset_count seen
   pub fewer : unset_count seen' ≤ unset_count seen
@@ -62,7 +72,8 @@ pub record Visits (pairs : List (ℕ × ℕ)) (o t : ℕ) (times : List ℕ) (se
       → IsSpread pairs start t times' seen' work' × AreFollowed pairs times' seen' (λ v. Contains work' v)
 
 -- The time of object o is carried as far as it goes, where o wasn't seen before.
-pub record Spreads (pairs : List (ℕ × ℕ)) (o : ℕ) (times : List ℕ) (seen : List Bool) (times' : List ℕ) (seen' : List Bool) : Type 0 where
+pub record Spreads (pairs : List (ℕ × ℕ)) (o : ℕ) (times : List ℕ) (seen : List Bool)
+    (times' : List ℕ) (seen' : List Bool) : Type 0 where
   pub source : IsSet seen' o
   pub grows : (x : ℕ) → IsSet seen x → IsSet seen' x
   pub kept : IsSet seen o → (times' ≡ times) × (seen' ≡ seen)

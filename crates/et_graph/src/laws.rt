@@ -1,10 +1,10 @@
 //! Laws about graphs and their histories. Each is a function with an empty body: what it promises is its contract.
 
-ghost use Rattle.std.specs.Prelude.{◌≡◌, ℕ, Bool, List, [], Contains};
-ghost use Rattle.et_graph.specs.Graph.{Graph, IsMade, IsReached, Decides, IsSoundGraph};
+ghost use Rattle.std.specs.Prelude.{◌≡◌, ◌↔◌, ℕ, Bool, List, [], map, Contains};
+ghost use Rattle.et_graph.specs.Graph.{Graph, IsMade, IsReached, Decides, AreDead, IsSoundGraph};
 ghost use Rattle.et_graph.specs.Steps.{Step, IsDraft, IsLegalStep};
 ghost use Rattle.et_graph.specs.Drafts.{IsMove, IsMaking};
-ghost use Rattle.et_graph.specs.History.{Turn, graph_after, IsHistory, StampsTell, stamp, IsGreatestMark, AreDeaths};
+ghost use Rattle.et_graph.specs.History.{Turn, graph_after, IsHistory, StampsTell, stamp, IsGreatestMark, WasReported, AreDeaths, AreStamped};
 
 /// There is a test that says of each object of each graph whether it is reached.
 pub fn reaching_is_decided()
@@ -19,12 +19,32 @@ pub fn stamps_tell()
 
 /// The stamp of an object is the greatest of the step that made it and of those that came right before one that lost it.
 pub fn stamps_mark()
-    ensures { (turns : List Turn) → IsHistory turns → (o : ℕ) → IsMade (graph_after turns) o → IsGreatestMark turns o (stamp turns o) }
+    ensures { (turns : List Turn) → IsHistory turns →
+        (o : ℕ) → IsMade (graph_after turns) o → IsGreatestMark turns o (stamp turns o) }
+{}
+
+/// The dead objects with their greatest stamps are the deaths.
+pub fn stamps_show_deaths()
+    ensures { (turns : List Turn) (deaths : List (ℕ × ℕ)) →
+        IsHistory turns → AreStamped turns deaths → AreDeaths turns deaths }
+{}
+
+/// The objects of the deaths are the dead ones, which a flush reports.
+pub fn deaths_are_dead()
+    ensures { (turns : List Turn) (deaths : List (ℕ × ℕ)) →
+        IsHistory turns → AreDeaths turns deaths →
+        AreDead (graph_after turns) (map (λ d. d.0) deaths) }
 {}
 
 /// There is at most one list of deaths.
 pub fn deaths_are_one()
     ensures { (turns : List Turn) (a b : List (ℕ × ℕ)) → AreDeaths turns a → AreDeaths turns b → a ≡ b }
+{}
+
+/// The objects that are gone are those that the flushes reported.
+pub fn gone_were_reported()
+    ensures { (turns : List Turn) → IsHistory turns →
+        (o : ℕ) → Contains (graph_after turns).gone o ↔ WasReported turns o }
 {}
 
 /// What holds of the graph after every history.
@@ -49,5 +69,6 @@ pub fn drafts_make()
 
 /// A draft whose new objects are all reached is a legal step.
 pub fn drafts_end()
-    ensures { (g : Graph) (s : Step) → IsDraft g s → ((o : ℕ) → Contains s.fresh o → IsReached s.after o) → IsLegalStep g s }
+    ensures { (g : Graph) (s : Step) → IsDraft g s →
+        ((o : ℕ) → Contains s.fresh o → IsReached s.after o) → IsLegalStep g s }
 {}

@@ -2,8 +2,16 @@
 //! reached.
 #![tactic(auto)]
 
+mod book;
 pub mod laws;
+mod objects;
 mod pairs;
 mod places;
 mod search;
 mod within;
+
+pub use book::{GraphStep, StampBook};
+pub use objects::Death;
+
+#[cfg(test)]
+mod tests;
