@@ -1,8 +1,8 @@
 //! A pool, what stands at its indices, and the rules between its entries.
 
-ghost use Rattle.std.specs.Prelude.{◌≡◌, ◌<◌, ◌^◌, Option, option_map, length};
+ghost use Rattle.std.specs.Prelude.{◌≡◌, ◌<◌, ◌^◌, Option, option_map, length, map, IfOk};
 ghost use Rattle.et_pool.specs.Entries.{view, item_bytes, view_slots};
-ghost use Rattle.et_pool.specs.Looks.{slot_at, tag_at, utf8_at, class_name_at, string_at, integer_at, long_at, name_and_type_at, member_at, tag_of, named_by, is_name, is_member_tag, is_fit, is_fit_slot, slot_bytes, Checks};
+ghost use Rattle.et_pool.specs.Looks.{slot_at, tag_at, utf8_at, class_name_at, string_at, integer_at, long_at, name_and_type_at, member_at, tag_of, tag_of_slot, named_by, is_name, is_member_tag, is_fit, is_fit_slot, slot_bytes, Checks};
 
 use crate::descriptor::is_class_name_text;
 use crate::entry::Entry;
@@ -11,6 +11,7 @@ use crate::tags::{
     CLASS, FIELDREF, INTEGER, INTERFACE_METHODREF, INVOKE_DYNAMIC, LONG, METHOD_HANDLE, METHODREF,
     NAME_AND_TYPE, STRING, UTF8,
 };
+use std::alloc::{AllocError, Global};
 use std::marker::Model;
 
 /// A constant pool: what stands at each index (JVMS 4.4). Index 0 and the index behind a Long or
@@ -44,6 +45,25 @@ fn tag_of_entry(entry: &Entry) -> u8
         Entry::Pair(tag, _, _) => *tag,
         Entry::Handle(_, _) => METHOD_HANDLE,
     }
+}
+
+fn tag_of_slot_entry(slot: &Option<Entry>) -> u8
+    ensures { result ≡ tag_of_slot (option_map view slot.now) }
+{
+    match slot {
+        None => 0,
+        Some(entry) => tag_of_entry(entry),
+    }
+}
+
+fn tags_of(alloc: Global, slots: &[Option<Entry>]) -> Result<Vec<u8>, AllocError>
+    ensures { IfOk result (λ tags. tags.items ≡ map tag_of_slot (view_slots slots.now)) }
+{
+    let mut tags = Vec::new(alloc);
+    'entries: for slot in slots {
+        tags.push(tag_of_slot_entry(slot))?;
+    }
+    Ok(tags)
 }
 
 /// How many bytes an entry has, its tag among them.
@@ -85,6 +105,13 @@ impl Pool {
             None => 0,
             Some(entry) => tag_of_entry(entry),
         }
+    }
+
+    /// The tag of the entry at each index (JVMS 4.4), and 0 where there is no entry.
+    pub fn tags(&self, alloc: Global) -> Result<Vec<u8>, AllocError>
+        ensures { IfOk result (λ tags. tags.items ≡ map tag_of_slot self.now.slots) }
+    {
+        tags_of(alloc, &self.slots)
     }
 
     /// The bytes of the Utf8 entry at an index (JVMS 4.4.7), or `None` where it isn't one.
