@@ -1,0 +1,16 @@
+pub mod Counted
+pub mod Along
+pub mod Walked
+pub mod Spelt
+pub mod Inner
+pub mod Joined
+pub mod Found
+pub mod Bounds
+pub mod Coded
+pub mod Keyed
+pub mod Streamed
+pub mod Membered
+pub mod Pooled
+pub mod Kept
+pub mod OneClass
+pub mod Headed

@@ -1,0 +1,63 @@
+-- A CLASS FILE, or its first fault.
+use Rattle.std.specs.Prelude.{◌≡◌, ℕ, List, map, Option, None, Result, Ok, Err}
+use Rattle.et_items.specs.Marks.{MarksAre, IsFirst}
+use Rattle.et_pool.specs.Entries.{Item}
+use Rattle.et_class.specs.declared.fault.ClassFault.{ClassFault}
+use Rattle.et_class.specs.declared.member.Member.{Member}
+use Rattle.et_class.specs.declared.class.ClassFile.{ClassFile}
+use Rattle.et_class.specs.Layout.{ClassOf, members_of, attributes_of}
+use Rattle.et_class.specs.Reading.{IsFault, IsRead, BreaksRead}
+use Rattle.et_class.specs.Fields.{constant_of}
+use Rattle.et_class.specs.Methods.{code_of}
+use Rattle.et_class.specs.Rules.{class_marks}
+
+-- The bytes are the items of the class, in order and whole, and every rule holds.
+pub record IsClassFile (bytes : List ℕ) (c : ClassOf) : Type 0 where
+  pub read : IsRead bytes c
+  pub rules : MarksAre (class_marks c) None
+
+-- The place and the kind of the first fault: the first broken item of the first pass; where there is none, the first
+-- item that breaks a rule of the second.
+pub data HasFault (bytes : List ℕ) (f : ℕ × ℕ) : Type 0 where
+  InFirstPass : BreaksRead bytes f → HasFault bytes f
+  InSecondPass : (c : ClassOf) → IsRead bytes c → IsFirst (class_marks c) f.0 f.1 → HasFault bytes f
+
+-- one of the two
+abbrev pub ClassIs : List ℕ → Result ClassOf (ℕ × ℕ) → Type 0
+ClassIs bytes (Ok c) = IsClassFile bytes c
+ClassIs bytes (Err f) = HasFault bytes f
+
+-- exactly one of the two
+pub record HasOneClass (bytes : List ℕ) : Type 0 where
+  pub answer : Result ClassOf (ℕ × ℕ)
+  pub holds : ClassIs bytes answer
+  pub only : (other : Result ClassOf (ℕ × ℕ)) → ClassIs bytes other → other ≡ answer
+
+-- WHAT THE CODE ANSWERS
+
+-- the class that the record of the code stands for
+abbrev pub class_of : ClassFile → ClassOf
+class_of c = record {
+  minor = c.minor_version;
+  major = c.major_version;
+  slots = c.pool.slots;
+  flags = c.access_flags;
+  this = c.this_class;
+  super = c.super_class;
+  interfaces = c.interfaces.items;
+  fields = members_of c.fields.items;
+  methods = members_of c.methods.items;
+  attributes = attributes_of c.attributes.items;
+}
+
+-- each field has the index of its constant and no code, and each method its code and no constant
+pub record HasParts (slots : List (Option Item)) (fields methods : List Member) : Type 0 where
+  pub constants : map (λ m. m.constant) fields ≡ map (constant_of slots) (members_of fields)
+  pub no_code : map (λ m. m.code) fields ≡ map (λ m. None) fields
+  pub codes : map (λ m. m.code) methods ≡ map (code_of slots) (members_of methods)
+  pub no_constants : map (λ m. m.constant) methods ≡ map (λ m. 0) methods
+
+-- a class file and its parts, or the first fault; want of memory says nothing
+abbrev pub ReadsClass : List ℕ → Result ClassFile ClassFault → Type 0
+ReadsClass bytes (Ok c) = IsClassFile bytes (class_of c) × HasParts c.pool.slots c.fields.items c.methods.items
+ReadsClass bytes (Err e) = IsFault e (HasFault bytes)

@@ -1,0 +1,14 @@
+pub mod Layout
+pub mod Reading
+pub mod Along
+pub mod Names
+pub mod Keys
+pub mod Fields
+pub mod Codes
+pub mod Methods
+pub mod Kept
+pub mod Rules
+pub mod Headers
+pub mod Members
+pub mod Lifted
+pub mod Classes

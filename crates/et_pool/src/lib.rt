@@ -1,0 +1,18 @@
+//! The constant pool of a class file (JVMS 4.4), and descriptors (JVMS 4.3).
+#![tactic(auto)]
+
+pub mod descriptor;
+mod entry;
+mod fault;
+mod items;
+pub mod laws;
+mod look;
+mod reading;
+pub mod tags;
+#[cfg(test)]
+mod tests;
+mod text;
+
+pub use fault::PoolFault;
+pub use look::Pool;
+pub use reading::read_pool;
