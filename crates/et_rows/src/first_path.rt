@@ -1,4 +1,6 @@
 //! The trace of one class of the first form, and each of its refusals.
+ghost use Rattle.std.specs.Prelude.{◌≤◌};
+
 use crate::runs::{answer, is_answered};
 use et_io::{MemFiles, MemSink};
 use et_top::Status;
@@ -59,39 +61,109 @@ fn an_empty_stack_is_ill_typed(rt: HostRuntime) -> Result<(), Fail> {
     )
 }
 
+/// Box with other bytes from a place on.
+fn changed(alloc: Global, place: usize, bytes: &[u8]) -> Result<Vec<u8>, Fail>
+    requires { place ≤ 125 }
+{
+    let mut class = Vec::from_slice(alloc, &BOX[..place])?;
+    class.extend_from_slice(bytes)?;
+    let rest = place.saturating_add(bytes.len()).min(125);
+    class.extend_from_slice(&BOX[rest..])?;
+    Ok(class)
+}
+
 #[test]
-fn classes_are_refused(rt: HostRuntime) -> Result<(), Fail> {
+fn changed_classes_are_refused(rt: HostRuntime) -> Result<(), Fail> {
     let alloc = rt.alloc();
-    let mut adds = BOX;
-    adds[117] = 0x62;
-    let mut wrong = BOX;
-    wrong[0] = 0;
-    let rows: [(&[u8], Status, &[u8]); 3] = [
-        (
-            &BOX[..3],
-            Status::BadClass,
-            b"elephant: bad class Box.class 11 0\n",
-        ),
-        (
-            &wrong,
-            Status::BadClass,
-            b"elephant: bad class Box.class 1 0\n",
-        ),
-        (&adds, Status::NotYet, b"elephant: not yet Box.class\n"),
+    let rows: [(usize, &[u8], &str); 13] = [
+        (0, b"\xca\xfe\xba\xbf", "1 0"),
+        (7, b"\x35", "2 6"),
+        (8, b"\0\0", "3 8"),
+        (10, b"\x02", "3 10"),
+        (13, b"\0", "3 10"),
+        (18, b"\x04", "3 16"),
+        (80, b"\x04\x31", "4 80"),
+        (84, b"\0\0", "3 84"),
+        (102, b"\xff\xff\xff\xff", "11 106"),
+        (114, b"\xba", "9 114"),
+        (116, b"\x01", "8 114"),
+        (117, b"\x62", "9 117"),
+        (118, b"\xa7", "8 118"),
     ];
-    for (bytes, status, refusal) in rows {
-        let mut files = files_with(alloc, bytes)?;
+    for (place, bytes, fault) in rows {
+        let mut files = files_with(alloc, &changed(alloc, place, bytes)?)?;
+        let line = format!(in alloc; "elephant: bad class Box.class {fault}\n")?;
+        let said = line.as_bytes();
         is_answered(
             &rt,
             alloc,
             &mut files,
             "trace Box.class",
-            status,
+            Status::BadClass,
             b"",
-            refusal,
+            said,
         )?;
     }
     Ok(())
+}
+
+#[test]
+fn cut_classes_are_refused(rt: HostRuntime) -> Result<(), Fail> {
+    let alloc = rt.alloc();
+    for place in [0usize, 4, 6, 8, 10, 80, 92, 123] {
+        let mut files = files_with(alloc, &BOX[..place])?;
+        let line = format!(in alloc; "elephant: bad class Box.class 11 {place}\n")?;
+        let said = line.as_bytes();
+        is_answered(
+            &rt,
+            alloc,
+            &mut files,
+            "trace Box.class",
+            Status::BadClass,
+            b"",
+            said,
+        )?;
+    }
+    let mut files = files_with(alloc, &BOX[..3])?;
+    let said = b"elephant: bad class Box.class 11 0\n";
+    is_answered(
+        &rt,
+        alloc,
+        &mut files,
+        "trace Box.class",
+        Status::BadClass,
+        b"",
+        said,
+    )?;
+    let mut longer = Vec::from_slice(alloc, &BOX)?;
+    longer.push(0)?;
+    let mut files = files_with(alloc, &longer)?;
+    let said = b"elephant: bad class Box.class 10 125\n";
+    is_answered(
+        &rt,
+        alloc,
+        &mut files,
+        "trace Box.class",
+        Status::BadClass,
+        b"",
+        said,
+    )
+}
+
+#[test]
+fn a_class_without_main_is_not_run_yet(rt: HostRuntime) -> Result<(), Fail> {
+    let alloc = rt.alloc();
+    let mut files = files_with(alloc, &changed(alloc, 95, b"\x07")?)?;
+    let said = b"elephant: not yet Box.class\n";
+    is_answered(
+        &rt,
+        alloc,
+        &mut files,
+        "trace Box.class",
+        Status::NotYet,
+        b"",
+        said,
+    )
 }
 
 #[test]

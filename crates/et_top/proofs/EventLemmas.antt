@@ -12,38 +12,38 @@ use Rattle.et_state.specs.Outcome.{Outcome, state_after, records_of}
 use Rattle.et_state.specs.Outcome as outcome
 use Rattle.et_state.specs.Answers.{Answers}
 use Rattle.et_state.proofs.Answered.{answered_state, answered_records}
-use Rattle.et_top.specs.FirstForm.{FirstForm}
+use Rattle.et_top.specs.MainClass.{MainClass}
 use Rattle.et_top.specs.Machine.{Frame, Stage, Waits, Runs, Left, Ended, State, names_of, roots_of, enters, pops, returns, makes, instruction, turn, event_of, IsObject, IsSound}
 
 -- a record of class 0 or 1, and of method 0, names what the program has
-made_named : (form : FirstForm) (event object : ℕ) → IsNamed (names_of form) (Alloc event 0 object 1 16 0)
+made_named : (form : MainClass) (event object : ℕ) → IsNamed (names_of form) (Alloc event 0 object 1 16 0)
 made_named form event object = record {
   classes = All-cons (λ c. c < 2) 1 [] (omega arith) (All-nil (λ c. c < 2));
   methods = All-nil (λ m. m < 1);
 }
 
-entered_named : (form : FirstForm) (event : ℕ) → IsNamed (names_of form) (Enter event 0 0 0)
+entered_named : (form : MainClass) (event : ℕ) → IsNamed (names_of form) (Enter event 0 0 0)
 entered_named form event = record {
   classes = All-cons (λ c. c < 2) 1 [] (omega arith) (All-nil (λ c. c < 2));
   methods = All-cons (λ m. m < 1) 0 [] (omega arith) (All-nil (λ m. m < 1));
 }
 
-left_named : (form : FirstForm) (event : ℕ) → IsNamed (names_of form) (Exit event 0 0)
+left_named : (form : MainClass) (event : ℕ) → IsNamed (names_of form) (Exit event 0 0)
 left_named form event = record {
   classes = All-cons (λ c. c < 2) 1 [] (omega arith) (All-nil (λ c. c < 2));
   methods = All-cons (λ m. m < 1) 0 [] (omega arith) (All-nil (λ m. m < 1));
 }
 
 -- the state after it is sound, and its records are named
-pub record IsGood (form : FirstForm) (s : State) (o : Outcome State) : Type 0 where
+pub record IsGood (form : MainClass) (s : State) (o : Outcome State) : Type 0 where
   pub sound : IsSound form (state_after s o)
   pub named : All (IsNamed (names_of form)) (records_of o)
 
-choose : (form : FirstForm) (s : State) (b : Bool) (x y : Outcome State) → (b ≡ true → IsGood form s x) → IsGood form s y → IsGood form s (if b then x else y)
+choose : (form : MainClass) (s : State) (b : Bool) (x y : Outcome State) → (b ≡ true → IsGood form s x) → IsGood form s y → IsGood form s (if b then x else y)
 choose form s true x y g h = g refl
 choose form s false x y g h = h
 
-module _ (form : FirstForm) (s : State) (sound : IsSound form s) where
+module _ (form : MainClass) (s : State) (sound : IsSound form s) where
   stays : (method pc : ℕ) → IsGood form s (outcome.IllTyped method pc)
   stays method pc = record { sound = sound; named = All-nil (IsNamed (names_of form)) }
 
@@ -127,7 +127,7 @@ module _ (form : FirstForm) (s : State) (sound : IsSound form s) where
   good_turn Ended is = stays 0 0
 
 -- AN ANSWER to the event leaves a sound state and named records
-module _ (form : FirstForm) (s s' : State) (out out' : List Record) (sound : IsSound form s) where
+module _ (form : MainClass) (s s' : State) (out out' : List Record) (sound : IsSound form s) where
   pub answered_sound : (r : Result EventEnd NoMemory) → IfOk r (λ end. Answers (event_of form s 0) end s s' out out') → OnOk r (IsSound form s')
   answered_sound (Ok end) h = subst (IsSound form) (sym (answered_state (event_of form s 0) end s s' out out' h)) (good_turn form s sound s.stage refl).sound
   answered_sound (Err e) h = tt

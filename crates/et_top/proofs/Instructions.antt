@@ -1,10 +1,10 @@
 -- Instructions, one after the other.
 use Rattle.std.proofs.Common.{◌≡◌, ℕ, ◌<◌, List, [], ◌∷◌, Bool, true, false, cond, ◌⊎◌, inl, inr, length, refl, arith}
-use Rattle.std.specs.Prelude.{Some, None}
+use Rattle.std.specs.Prelude.{Option, Some, None}
 use Rattle.et_top.specs.Steps.{where_true}
-use Rattle.et_top.specs.FirstForm.{is_short, is_new, is_code}
+use Rattle.et_top.specs.MainClass.{is_short, is_new, is_code}
 use Rattle.et_top.specs.Reading.{after_instruction}
-use Rattle.et_top.specs.declared.pool.Entry.{Entry}
+use Rattle.et_pool.specs.Entries.{Item}
 
 -- what a choice gave
 chosen : {A : Type 0} (b : Bool) (x y z : A) → cond b x y ≡ z → ((b ≡ true) × (x ≡ z)) ⊎ ((b ≡ false) × (y ≡ z))
@@ -25,7 +25,7 @@ where_none true x is = cc
 where_none false x is = refl
 
 -- the code is whole where it is whole behind its first instruction
-pub code_on : (pool : List Entry) (name code rest : List ℕ) → after_instruction pool name code ≡ Some rest → is_code pool name code ≡ is_code pool name rest
+pub code_on : (pool : List (Option Item)) (name code rest : List ℕ) → after_instruction pool name code ≡ Some rest → is_code pool name code ≡ is_code pool name rest
 unfolding is_code
 code_on pool name [] rest is = cc
 code_on pool name (a ∷ []) rest is = let (short, same) = where_some (is_short a) [] rest is in rw (← same, short) refl
@@ -37,7 +37,7 @@ code_on pool name (a ∷ b ∷ c ∷ code) rest is =
     ]
 
 -- .. and shorter
-pub code_less : (pool : List Entry) (name code rest : List ℕ) → after_instruction pool name code ≡ Some rest → length rest < length code
+pub code_less : (pool : List (Option Item)) (name code rest : List ℕ) → after_instruction pool name code ≡ Some rest → length rest < length code
 code_less pool name [] rest is = cc
 code_less pool name (a ∷ []) rest is = let (short, same) = where_some (is_short a) [] rest is in rw (← same) (omega arith)
 code_less pool name (a ∷ b ∷ []) rest is = let (short, same) = where_some (is_short a) (b ∷ []) rest is in rw (← same) (omega arith)
@@ -48,7 +48,7 @@ code_less pool name (a ∷ b ∷ c ∷ code) rest is =
     ]
 
 -- where no instruction is the first, it isn't
-pub code_stop : (pool : List Entry) (name code : List ℕ) → 0 < length code → after_instruction pool name code ≡ None → is_code pool name code ≡ false
+pub code_stop : (pool : List (Option Item)) (name code : List ℕ) → 0 < length code → after_instruction pool name code ≡ None → is_code pool name code ≡ false
 unfolding is_code
 code_stop pool name [] some is = absurd (omega (arith, some))
 code_stop pool name (a ∷ []) some is = where_none (is_short a) [] is
@@ -60,7 +60,7 @@ code_stop pool name (a ∷ b ∷ c ∷ code) some is =
     ]
 
 -- no code is whole
-pub code_end : (pool : List Entry) (name code : List ℕ) → length code ≡ 0 → is_code pool name code ≡ true
+pub code_end : (pool : List (Option Item)) (name code : List ℕ) → length code ≡ 0 → is_code pool name code ≡ true
 unfolding is_code
 code_end pool name [] none = refl
 code_end pool name (a ∷ code) none = absurd (omega (arith, none))

@@ -1,5 +1,5 @@
-pub mod Entries
 pub mod Instructions
 pub mod HeldLemmas
 pub mod EventLemmas
+pub mod MainLemmas
 pub mod TopLemmas

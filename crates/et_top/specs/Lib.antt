@@ -1,8 +1,8 @@
 pub mod BuiltIn
 pub mod Command
-pub mod FirstForm
-pub mod Reading
+pub mod MainClass
 pub mod Steps
+pub mod Reading
 pub mod Machine
 pub mod Stages
 pub mod Status

@@ -4,7 +4,9 @@ use Rattle.std.specs.declared.alloc.Global.{Global}
 use Rattle.et_graph.specs.Graph.{Graph}
 use Rattle.et_top.specs.declared.refusal.Refusal.{Refusal}
 use Rattle.et_top.specs.declared.refusal.Refusal.TheVariants as refusal
-use Rattle.et_top.specs.FirstForm.{FirstForm}
+use Rattle.et_class.specs.declared.fault.ClassFault.{ClassFault}
+use Rattle.et_class.specs.declared.fault.ClassFault.TheVariants as faults
+use Rattle.et_top.specs.MainClass.{MainClass}
 use Rattle.et_base.specs.declared.value.End.{End}
 use Rattle.et_base.specs.declared.value.End.TheVariants as ends
 use Rattle.et_run.specs.Traced.{WritesFront}
@@ -39,11 +41,24 @@ IsReadFault (refusal.ReadFault path) = Unit {0}
 IsReadFault _ = ⊥
 
 -- the class that runs is loaded, or the refusal says why there is none
-abbrev pub Loads : (read : Type 0) → Defined → Result FirstForm Refusal → Type 0
-Loads read d (Ok form) = d ≡ Runs form
+abbrev pub Loads : (read : Type 0) → Defined → Result MainClass Refusal → Type 0
+Loads read d (Ok main) = d ≡ Runs main
 Loads read d (Err r) = Refuses read d r
 
-abbrev pub IsUsage : Result FirstForm Refusal → Type 0
+-- the refusal says the fault of a class file, or that there was no memory
+abbrev pub SaysFault : ClassFault → Refusal → Type 0
+SaysFault (faults.At kind place) (refusal.BadClass path k o) = (k ≡ kind) × (o ≡ place)
+SaysFault faults.NoMemory refusal.NoMemory = Unit {0}
+SaysFault _ _ = ⊥
+
+-- the class that runs, or that there is none yet
+abbrev pub LoadsOf : Option MainClass → Result MainClass Refusal → Type 0
+LoadsOf runs (Ok main) = runs ≡ Some main
+LoadsOf runs (Err (refusal.NotYet path)) = runs ≡ None
+LoadsOf runs (Err refusal.NoMemory) = Unit {0}
+LoadsOf runs (Err _) = ⊥
+
+abbrev pub IsUsage : Result MainClass Refusal → Type 0
 IsUsage (Err refusal.Usage) = Unit {0}
 IsUsage (Err _) = ⊥
 IsUsage (Ok form) = ⊥
@@ -57,7 +72,7 @@ EndsAs ends.ObjectLimit (Err refusal.ObjectLimit) = Unit {0}
 EndsAs _ _ = ⊥
 
 -- a history that was run, or why it was not
-abbrev pub RunsForm : (Graph → ℕ → Bool) → (before after : Option (List ℕ)) → (written : Type 0) → FirstForm → Result (Unit {0}) Refusal → Type 0
+abbrev pub RunsForm : (Graph → ℕ → Bool) → (before after : Option (List ℕ)) → (written : Type 0) → MainClass → Result (Unit {0}) Refusal → Type 0
 RunsForm reached before after written form (Ok done) = Traces reached before after form status.Done
 RunsForm reached before after written form (Err (refusal.IllTyped t c m d p)) = Traces reached before after form status.IllTyped
 RunsForm reached before after written form (Err refusal.ObjectLimit) = Traces reached before after form status.ObjectLimit

@@ -1,12 +1,12 @@
--- A class of the first form as it runs: its one thread, the objects that it makes, and what each event does.
-use Rattle.std.specs.Prelude.{ℕ, ◌+◌, ◌≤◌, ◌==◌, Bool, true, ◌&&◌, nat_lt, codes, if◌then◌else◌, List, [], ◌∷◌, ◌++◌, Option, Some, None, length, slice_get, All}
+-- A class of the form that runs as it runs: its one thread, the objects that it makes, and what each event does.
+use Rattle.std.specs.Prelude.{ℕ, ◌+◌, ◌<◌, ◌≤◌, ◌^◌, ◌==◌, Bool, true, ◌&&◌, nat_lt, codes, if◌then◌else◌, List, [], ◌∷◌, ◌++◌, Option, Some, None, length, slice_get, All}
 use Rattle.et_graph.specs.Graph.{Graph}
 use Rattle.et_state.specs.declared.records.Record.{Record}
 use Rattle.et_state.specs.declared.records.Record.TheVariants.{Alloc, Enter, Exit}
 use Rattle.et_state.specs.Outcome.{Outcome}
 use Rattle.et_state.specs.Outcome as outcome
 use Rattle.et_state.specs.Naming.{Names}
-use Rattle.et_top.specs.FirstForm.{FirstForm}
+use Rattle.et_top.specs.MainClass.{MainClass}
 
 -- The frame of `main` (JVMS 2.6): its pc, the argument array, which stays in local 0, and its operands, which are
 -- references, the topmost first.
@@ -32,10 +32,10 @@ pub record State : Type 0 where
 
 -- THE NAMES: class 0 is that of the argument array and class 1 the one that runs; method 0 is its `main`
 
-abbrev pub class_name_of : FirstForm → ℕ → List ℕ
+abbrev pub class_name_of : MainClass → ℕ → List ℕ
 class_name_of form class = if class == 0 then codes "[Ljava/lang/String;" else form.name
 
-abbrev pub names_of : FirstForm → Names
+abbrev pub names_of : MainClass → Names
 names_of form = record {
   class_count = 2;
   method_count = 1;
@@ -107,7 +107,7 @@ abbrev pub returns : State → Outcome State
 returns s = outcome.Goes (at_stage s Left) (Exit (s.clock + 1) 0 0 ∷ [])
 
 -- `new` of the class itself (JVMS 6.5.new): an object without fields takes 16 bytes, and there may be 2^24 - 1 objects
-abbrev pub makes : FirstForm → State → Frame → Outcome State
+abbrev pub makes : MainClass → State → Frame → Outcome State
 makes form s f =
     if nat_lt (length f.operands) form.max_stack then
     (if nat_lt (length s.held) 16777215 then
@@ -118,7 +118,7 @@ makes form s f =
     else outcome.IllTyped 0 f.pc
 
 -- the instruction of this opcode; none is there behind the end of the code
-abbrev pub instruction : FirstForm → State → Frame → Option ℕ → Outcome State
+abbrev pub instruction : MainClass → State → Frame → Option ℕ → Outcome State
 instruction form s f None = outcome.IllTyped 0 f.pc
 instruction form s f (Some opcode) =
     if opcode == 0x57 then pops s f f.operands
@@ -127,14 +127,14 @@ instruction form s f (Some opcode) =
     else outcome.IllTyped 0 f.pc))
 
 -- the turn of the thread; one that ended has none
-abbrev pub turn : FirstForm → State → Stage → Outcome State
+abbrev pub turn : MainClass → State → Stage → Outcome State
 turn form s (Waits argument) = enters s argument
 turn form s (Runs f) = instruction form s f (slice_get form.code f.pc)
 turn form s Left = outcome.Goes (at_stage s Ended) []
 turn form s Ended = outcome.IllTyped 0 0
 
 -- the event of the one thread
-abbrev pub event_of : FirstForm → State → ℕ → Outcome State
+abbrev pub event_of : MainClass → State → ℕ → Outcome State
 event_of form s thread = turn form s s.stage
 
 -- SOUND STATES
@@ -144,14 +144,14 @@ abbrev pub IsObject : State → ℕ → Type 0
 IsObject s o = (1 ≤ o) × (o ≤ length s.held)
 
 -- the pc of a frame is at most right behind the code
-abbrev pub IsPc : FirstForm → Stage → Type 0
+abbrev pub IsPc : MainClass → Stage → Type 0
 IsPc form (Waits argument) = Unit {0}
 IsPc form (Runs f) = f.pc ≤ length form.code + 2
 IsPc form Left = Unit {0}
 IsPc form Ended = Unit {0}
 
-pub record IsSound (form : FirstForm) (s : State) : Type 0 where
+pub record IsSound (form : MainClass) (s : State) : Type 0 where
   pub roots : All (IsObject s) (roots_of s.stage)
   pub pc : IsPc form s.stage
   pub few : length s.held ≤ 16777215
-  pub short : length form.code ≤ 65535
+  pub short : length form.code < 2 ^ 16

@@ -1,14 +1,16 @@
 -- What the words and the files that are held define, and what the program may answer.
-use Rattle.std.specs.Prelude.{◌≡◌, ℕ, ◌/◌, Bool, nat_lt, if◌then◌else◌, List, Option, Some, None, length}
+use Rattle.std.specs.Prelude.{◌≡◌, ℕ, ◌/◌, ◌⊎◌, Bool, nat_lt, List, Option, Some, None, length, MatchBool}
 use Rattle.et_base.specs.declared.value.End.{End}
 use Rattle.et_base.specs.declared.value.End.TheVariants as ends
 use Rattle.et_graph.specs.Graph.{Graph}
 use Rattle.et_state.specs.History.{Setting}
 use Rattle.et_io.specs.Files.{Held}
+use Rattle.et_class.specs.Layout.{ClassOf}
+use Rattle.et_class.specs.Classes.{IsClassFile, HasFault}
 use Rattle.et_run.specs.declared.options.Ran.{Ran}
 use Rattle.et_run.specs.Traced.{WritesTrace, WritesFront}
 use Rattle.et_top.specs.Command as words
-use Rattle.et_top.specs.FirstForm.{FirstForm, form_of, has_magic}
+use Rattle.et_top.specs.MainClass.{MainClass, main_class}
 use Rattle.et_top.specs.Machine.{State, event_of, unended_of, graph_of, flushed_of, names_of, start, start_records}
 use Rattle.et_top.specs.declared.status.Status.{Status}
 use Rattle.et_top.specs.declared.status.Status.TheVariants as status
@@ -20,34 +22,37 @@ pub data Defined : Type 0 where
   TooLong : Defined
   BadClass : (kind offset : ℕ) → Defined
   NotYet : Defined
-  Runs : (form : FirstForm) → Defined
+  Runs : (main : MainClass) → Defined
 
--- a file that is no class of the first form: it has fewer than four bytes (kind 11), or doesn't begin with the magic
--- (kind 1), or can't be run yet
-abbrev pub refused : List ℕ → Defined
-refused bytes = if nat_lt (length bytes) 4 then BadClass 11 0 else (if has_magic bytes then NotYet else BadClass 1 0)
+-- a class file that has the form that runs, or not yet
+abbrev pub runs : Option MainClass → Defined
+runs None = NotYet
+runs (Some main) = Runs main
 
-abbrev pub class_defined : List ℕ → Option FirstForm → Defined
-class_defined bytes None = refused bytes
-class_defined bytes (Some form) = Runs form
+-- the bytes of a file have a first fault, or they are those of a class file; exactly one of the two
+abbrev pub IsClassDefined : List ℕ → Defined → Type 0
+IsClassDefined bytes d =
+    ((fault : ℕ × ℕ) × HasFault bytes fault × (d ≡ BadClass fault.1 fault.0))
+    ⊎ ((c : ClassOf) × IsClassFile bytes c × (d ≡ runs (main_class c)))
 
 -- a class file of more than 1,048,576 bytes is not read
-abbrev pub file_defined : Option (List ℕ) → Defined
-file_defined None = Absent
-file_defined (Some bytes) = if nat_lt 1048576 (length bytes) then TooLong else class_defined bytes (form_of bytes)
+abbrev pub IsFileDefined : Option (List ℕ) → Defined → Type 0
+IsFileDefined None d = d ≡ Absent
+IsFileDefined (Some bytes) d = MatchBool (nat_lt 1048576 (length bytes)) (d ≡ TooLong) (IsClassDefined bytes d)
 
-abbrev pub asked_defined : Option words.Asked → Held → Defined
-asked_defined None held = Usage
-asked_defined (Some (words.Trace path)) held = file_defined (held path)
+abbrev pub IsAskedDefined : Option words.Asked → Held → Defined → Type 0
+IsAskedDefined None held d = d ≡ Usage
+IsAskedDefined (Some (words.Trace path)) held d = IsFileDefined (held path) d
 
-abbrev pub defined : List (List ℕ) → Held → Defined
-defined line held = asked_defined (words.command line) held
+-- THE ONE THING that the words and the files that are held define
+abbrev pub IsDefined : List (List ℕ) → Held → Defined → Type 0
+IsDefined line held d = IsAskedDefined (words.command line) held d
 
 -- the setting of the history: a quantum of 100 events, no flush but the last, and at most 1,000,000,000 events
-abbrev pub setting_of : FirstForm → Setting State
-setting_of form = record {
-  rule = record { event = event_of form; unended = unended_of; graph = graph_of; flushed = flushed_of };
-  names = names_of form;
+abbrev pub setting_of : MainClass → Setting State
+setting_of main = record {
+  rule = record { event = event_of main; unended = unended_of; graph = graph_of; flushed = flushed_of };
+  names = names_of main;
   pick = λ e. e / 100;
   interval = 0;
   limit = 1000000000;
@@ -62,10 +67,10 @@ ended_as ends.ObjectLimit = status.ObjectLimit
 
 module _ (reached : Graph → ℕ → Bool) (before after : Option (List ℕ)) where
   -- the history of the class ended so, and out took its trace, no more and no less
-  pub record Traces (form : FirstForm) (answer : Status) : Type 0 where
+  pub record Traces (main : MainClass) (answer : Status) : Type 0 where
     pub ran : Ran
     pub ended : answer ≡ ended_as ran.end
-    pub wrote : WritesTrace reached (setting_of form) start start_records ran before after
+    pub wrote : WritesTrace reached (setting_of main) start start_records ran before after
 
   -- out took a front of what is defined, and nothing where nothing is
   abbrev pub TakesFrontOf : Defined → Type 0
@@ -74,7 +79,7 @@ module _ (reached : Graph → ℕ → Bool) (before after : Option (List ℕ)) w
   TakesFrontOf TooLong = after ≡ before
   TakesFrontOf (BadClass kind offset) = after ≡ before
   TakesFrontOf NotYet = after ≡ before
-  TakesFrontOf (Runs form) = WritesFront reached (setting_of form) start start_records before after
+  TakesFrontOf (Runs main) = WritesFront reached (setting_of main) start start_records before after
 
   -- THE ANSWER where the files and out tell what they hold and took. `read` and `written` say that the count of faults
   -- of the files and of out rose in this call. Each answer has what is defined; but a fault of reading or writing comes
@@ -85,10 +90,10 @@ module _ (reached : Graph → ℕ → Bool) (before after : Option (List ℕ)) w
   Gives read written TooLong status.TooLong = after ≡ before
   Gives read written (BadClass kind offset) status.BadClass = after ≡ before
   Gives read written NotYet status.NotYet = after ≡ before
-  Gives read written (Runs form) status.Done = Traces form status.Done
-  Gives read written (Runs form) status.IllTyped = Traces form status.IllTyped
-  Gives read written (Runs form) status.ObjectLimit = Traces form status.ObjectLimit
-  Gives read written (Runs form) status.WriteFault = written × WritesFront reached (setting_of form) start start_records before after
+  Gives read written (Runs main) status.Done = Traces main status.Done
+  Gives read written (Runs main) status.IllTyped = Traces main status.IllTyped
+  Gives read written (Runs main) status.ObjectLimit = Traces main status.ObjectLimit
+  Gives read written (Runs main) status.WriteFault = written × WritesFront reached (setting_of main) start start_records before after
   Gives read written Usage status.ReadFault = ⊥
   Gives read written Usage status.NoMemory = ⊥
   Gives read written d status.ReadFault = read × (after ≡ before)

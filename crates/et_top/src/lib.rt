@@ -3,9 +3,8 @@
 
 mod built_in;
 mod command;
-mod first_form;
 mod machine;
-mod pool;
+mod main_class;
 mod refusal;
 mod status;
 mod top;

@@ -1,4 +1,4 @@
-//! The machine for classes of the first form.
+//! The machine for classes of the form that runs.
 ghost use Rattle.std.specs.Prelude.{◌≡◌, ◌+◌, ◌<◌, ◌≤◌, ◌^◌, ◌∷◌, ◌++◌, [], ℕ, Bool, All, Some, None, length, IfOk, OnOk, IfSome, true, false, slice_get, slice_index_or, ◌==◌, ◌||◌, reverse};
 ghost use Rattle.std.specs.List.{list_any};
 ghost use Rattle.et_state.specs.Naming.{IsNamed};
@@ -7,7 +7,7 @@ ghost use Rattle.et_state.specs.Answers.{Answers};
 ghost use Rattle.et_top.specs.Stages.{decoded, Pops, IsRunning, state_in};
 ghost use Rattle.et_top.specs.Machine.{enters, returns, makes, names_of, start, start_records, roots_of, graph_of, flushed_of, unended_of, event_of, IsObject, IsSound};
 
-use crate::first_form::Form;
+use crate::main_class::MainClass;
 use et_base::{ClassId, MethodId, NoMemory, ObjectId, Steps, ThreadId};
 use et_run::{Guest, Program};
 use et_state::{EventEnd, Lines, Record};
@@ -21,7 +21,7 @@ const ARGUMENTS: u32 = 0;
 /// The class that runs.
 const MAIN_CLASS: u32 = 1;
 
-impl Program for Form {
+impl Program for MainClass {
     ghost names = { names_of };
 
     fn class_name(&self, class: ClassId) -> &[u8] {
@@ -62,7 +62,7 @@ impl Model for Frame {
     ghost view = { λ f. record { pc = f.pc; argument = f.argument; operands = reverse f.operands.items } };
 }
 
-/// What an instruction of the first form does.
+/// What an instruction of the form that runs does.
 #[derive(Clone, Copy, PartialEq, Eq)]
 enum Instruction {
     Pop,
@@ -208,7 +208,7 @@ impl Machine {
     }
 
     /// The instruction at the pc of `main`.
-    fn instruct(&mut self, code: &Form, out: &mut Lines) -> Result<EventEnd, NoMemory>
+    fn instruct(&mut self, code: &MainClass, out: &mut Lines) -> Result<EventEnd, NoMemory>
         requires clock { self.old.clock < 2 ^ 40 }
         requires sound { IsSound code.now self.old }
         requires runs { IsRunning self.old.stage }
@@ -235,7 +235,7 @@ impl Machine {
 
 /// Makes an object and puts it on the operands of the frame.
 fn make(
-    code: &Form,
+    code: &MainClass,
     frame: &mut Frame,
     held: &mut Vec<bool>,
     clock: &mut u64,
@@ -309,7 +309,7 @@ impl Machine {
 impl Guest for Machine {
     ghost use Rattle.et_top.specs.Machine as machine;
 
-    type Code = Form;
+    type Code = MainClass;
 
     ghost State = { machine.State };
 
@@ -350,14 +350,14 @@ impl Guest for Machine {
         !self.held[number - 1]
     }
 
-    fn reached(&self, alloc: Global, _code: &Form) -> Result<Vec<bool>, NoMemory> {
+    fn reached(&self, alloc: Global, _code: &MainClass) -> Result<Vec<bool>, NoMemory> {
         let mut marks = vec![in alloc; false; self.held.len() + 1]?;
         let roots = self.roots(alloc)?;
         mark(&mut marks, &roots);
         Ok(marks)
     }
 
-    fn flush(&mut self, _code: &Form, marks: &[bool]) {
+    fn flush(&mut self, _code: &MainClass, marks: &[bool]) {
         'sweep: for (place, held) in self.held.iter_mut().enumerate() {
             *held = *held && marks[place + 1];
         }
@@ -366,7 +366,7 @@ impl Guest for Machine {
     fn event<L: Ledger>(
         &mut self,
         alloc: Global,
-        code: &Form,
+        code: &MainClass,
         _thread: ThreadId,
         out: &mut Lines,
         _visits: &mut Steps<L>,

@@ -5,17 +5,20 @@ ghost use Rattle.et_io.specs.Files.{Held};
 ghost use Rattle.et_graph.specs.Graph.{Graph, Decides};
 ghost use Rattle.et_top.specs.Command.{command};
 ghost use Rattle.et_top.specs.Refusals.{status_of};
-ghost use Rattle.et_top.specs.FirstForm.{form_of};
+ghost use Rattle.et_class.specs.Classes.{class_of, HasParts};
+ghost use Rattle.et_top.specs.MainClass.{main_class};
 ghost use Rattle.et_top.specs.Machine.{start, start_records};
-ghost use Rattle.et_top.specs.Top.{class_defined, file_defined, defined, Gives};
-ghost use Rattle.et_top.specs.Loading.{Reads, Loads, IsReadFault, IsUsage, EndsAs, RunsForm};
+ghost use Rattle.et_top.specs.Top.{Defined, IsClassDefined, IsFileDefined, IsDefined, Gives};
+ghost use Rattle.et_top.specs.Loading.{Reads, Loads, LoadsOf, SaysFault, IsReadFault, IsUsage, EndsAs, RunsForm};
 
 use crate::command::{Command, read_command};
-use crate::first_form::{Form, FormFault, read_form};
 use crate::machine::{Machine, start_lines};
+use crate::main_class::{MainClass, main_class};
 use crate::refusal::{Escaped, Refusal, say};
 use crate::status::Status;
 use et_base::{End, NoMemory, Steps};
+use et_class::laws::exactly_one;
+use et_class::{ClassFault, ClassFile, read_class};
 use et_io::{Files, Found, RunFault, Sink};
 use et_run::{Options, Schedule, run_guest};
 use et_state::Lines;
@@ -51,36 +54,54 @@ fn read_file<'a, F: Files>(
     }
 }
 
-/// The class of these bytes, which stand at the path.
-fn read_class<'a>(alloc: Global, path: &'a str, bytes: &[u8]) -> Result<Form, Refusal<'a>>
-    ensures loads { Loads ⊥ (class_defined bytes.now (form_of bytes.now)) result }
+/// The class that runs, where this is what was read of the file at the path.
+fn of_class<'a>(alloc: Global, path: &'a str, class: &ClassFile) -> Result<MainClass, Refusal<'a>>
+    requires { HasParts class.now.pool.slots class.now.fields.items class.now.methods.items }
+    ensures loads { LoadsOf (main_class (class_of class.now)) result }
     ensures class { IfErr result (λ refusal. (status_of refusal ≡ Status.Usage → ⊥) × (status_of refusal ≡ Status.WriteFault → ⊥) × (IsReadFault refusal → ⊥)) }
 {
-    match read_form(alloc, bytes) {
-        Ok(form) => Ok(form),
-        Err(FormFault::Short) => Err(Refusal::BadClass {
-            path,
-            kind: 11,
-            offset: 0,
-        }),
-        Err(FormFault::Magic) => Err(Refusal::BadClass {
-            path,
-            kind: 1,
-            offset: 0,
-        }),
-        Err(FormFault::NotYet) => Err(Refusal::NotYet(path)),
-        Err(FormFault::NoMemory) => Err(Refusal::NoMemory),
+    match main_class(alloc, class) {
+        Ok(Some(main)) => Ok(main),
+        Ok(None) => Err(Refusal::NotYet(path)),
+        Err(_) => Err(Refusal::NoMemory),
+    }
+}
+
+/// What the program says of the fault of the class file at the path.
+fn of_fault<'a>(path: &'a str, fault: ClassFault) -> Refusal<'a>
+    ensures says { SaysFault fault result }
+    ensures class { (status_of result ≡ Status.Usage → ⊥) × (status_of result ≡ Status.WriteFault → ⊥) × (IsReadFault result → ⊥) }
+{
+    match fault {
+        ClassFault::At { kind, offset } => Refusal::BadClass { path, kind, offset },
+        ClassFault::NoMemory => Refusal::NoMemory,
+    }
+}
+
+/// The class that runs, where the file at the path has these bytes.
+fn of_bytes<'a>(alloc: Global, path: &'a str, bytes: &[u8]) -> Result<MainClass, Refusal<'a>>
+    ensures loads { (d : Defined) → IsClassDefined bytes.now d → Loads ⊥ d result }
+    ensures class { IfErr result (λ refusal. (status_of refusal ≡ Status.Usage → ⊥) × (status_of refusal ≡ Status.WriteFault → ⊥) × (IsReadFault refusal → ⊥)) }
+{
+    exactly_one();
+    match read_class(alloc, bytes) {
+        Ok(class) => of_class(alloc, path, &class),
+        Err(fault) => Err(of_fault(path, fault)),
     }
 }
 
 /// The class of the file at the path, or why there is none.
-fn load_file<'a, F: Files>(alloc: Global, path: &'a str, files: &mut F) -> Result<Form, Refusal<'a>>
-    ensures loads { (held : Held) → F.holds files.old ≡ Some held → Loads (Rose (F.faults files.old) (F.faults files.new)) (file_defined (held path.now)) result }
+fn load_file<'a, F: Files>(
+    alloc: Global,
+    path: &'a str,
+    files: &mut F,
+) -> Result<MainClass, Refusal<'a>>
+    ensures loads { (held : Held) → F.holds files.old ≡ Some held → (d : Defined) → IsFileDefined (held path.now) d → Loads (Rose (F.faults files.old) (F.faults files.new)) d result }
     ensures fault { IfErr result (λ refusal. (IsReadFault refusal → Rose (F.faults files.old) (F.faults files.new)) × (status_of refusal ≡ Status.Usage → ⊥) × (status_of refusal ≡ Status.WriteFault → ⊥)) }
     ensures never_falls { F.faults files.old ≤ F.faults files.new }
 {
     match read_file(alloc, path, files) {
-        Ok(bytes) => read_class(alloc, path, &bytes),
+        Ok(bytes) => of_bytes(alloc, path, &bytes),
         Err(refusal) => Err(refusal),
     }
 }
@@ -90,8 +111,8 @@ fn load<'a, F: Files>(
     alloc: Global,
     words: &'a [String],
     files: &mut F,
-) -> Result<Form, Refusal<'a>>
-    ensures loads { (held : Held) → F.holds files.old ≡ Some held → Loads (Rose (F.faults files.old) (F.faults files.new)) (defined (map string_bytes words.now) held) result }
+) -> Result<MainClass, Refusal<'a>>
+    ensures loads { (held : Held) → F.holds files.old ≡ Some held → (d : Defined) → IsDefined (map string_bytes words.now) held d → Loads (Rose (F.faults files.old) (F.faults files.new)) d result }
     ensures usage { (command (map string_bytes words.now) ≡ None) ↔ IsUsage result }
     ensures fault { IfErr result (λ refusal. (IsReadFault refusal → Rose (F.faults files.old) (F.faults files.new)) × (status_of refusal ≡ Status.WriteFault → ⊥)) }
     ensures never_falls { F.faults files.old ≤ F.faults files.new }
@@ -110,7 +131,7 @@ fn begin(alloc: Global) -> Result<(Machine, Lines), NoMemory>
 }
 
 /// What the program says of a run that ended so.
-fn ended<'a>(form: &'a Form, end: End) -> Result<(), Refusal<'a>>
+fn ended<'a>(form: &'a MainClass, end: End) -> Result<(), Refusal<'a>>
     ensures { EndsAs end result }
 {
     match end {
@@ -129,7 +150,7 @@ fn ended<'a>(form: &'a Form, end: End) -> Result<(), Refusal<'a>>
 /// The history of the class, whose trace goes to out.
 fn run_form<'a, O: Sink, L: Ledger>(
     alloc: Global,
-    form: &'a Form,
+    form: &'a MainClass,
     out: &mut O,
     visits: &mut Steps<L>,
 ) -> Result<(), Refusal<'a>>
@@ -138,7 +159,7 @@ fn run_form<'a, O: Sink, L: Ledger>(
     ensures never_falls { O.faults out.old ≤ O.faults out.new }
 {
     let code = form.code();
-    prove!(code.len() <= 65_535);
+    prove!(code.len() < 65_536);
     let options = Options {
         interval: 0,
         limit: LIMIT,
@@ -178,8 +199,8 @@ pub fn elephant<F: Files, O: Sink, E: Sink, L: Ledger>(
     err: &mut E,
     visits: &mut Steps<L>,
 ) -> Status
-    ensures answers { (held : Held) → F.holds files.old ≡ Some held → (reached : Graph → ℕ → Bool) → Decides reached →
-        Gives reached (O.taken out.old) (O.taken out.new) (Rose (F.faults files.old) (F.faults files.new)) (Rose (O.faults out.old) (O.faults out.new)) (defined (map string_bytes words.now) held) result }
+    ensures answers { (held : Held) → F.holds files.old ≡ Some held → (d : Defined) → IsDefined (map string_bytes words.now) held d → (reached : Graph → ℕ → Bool) → Decides reached →
+        Gives reached (O.taken out.old) (O.taken out.new) (Rose (F.faults files.old) (F.faults files.new)) (Rose (O.faults out.old) (O.faults out.new)) d result }
     ensures usage { (result ≡ Status.Usage) ↔ (command (map string_bytes words.now) ≡ None) }
     ensures read_fault { result ≡ Status.ReadFault → Rose (F.faults files.old) (F.faults files.new) }
     ensures write_fault { result ≡ Status.WriteFault → Rose (O.faults out.old) (O.faults out.new) }

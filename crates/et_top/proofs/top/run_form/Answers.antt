@@ -1,4 +1,4 @@
-use Rattle.std.proofs.Common.{subst, length, ◌≤◌, rules}
+use Rattle.std.proofs.Common.{subst, length, ◌<◌, ◌^◌, rules}
 use Rattle.et_top.proofs.TopLemmas.{nothing_written, sound_start, run_is, front_is}
 use Rattle.et_top.proofs.top.run_form.Goals as goal
 
@@ -7,7 +7,7 @@ returns-in-Err-clause-runs g c reached decides = nothing_written reached c.args.
 
 pub run_guest-requires-clause-sound : goal.run_guest-requires-clause-sound
 run_guest-requires-clause-sound g c =
-    let short : length c.args.form.now.code ≤ 65535 = subst (λ bytes. length bytes ≤ 65535) c.code-code.ensures.value c.code-code.ensures.short in
+    let short : length c.args.form.now.code < 2 ^ 16 = subst (λ bytes. length bytes < 2 ^ 16) c.code-code.ensures.value c.code-code.ensures.short in
     sound_start c.args.form.now c.in-Ok.begun.0 c.in-Ok.ensures.0 short
 
 pub returns-in-Ok-run_guest-clause-runs : goal.returns-in-Ok-run_guest-clause-runs

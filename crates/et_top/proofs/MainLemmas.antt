@@ -1,0 +1,29 @@
+-- Lemmas on the classes that run.
+use Rattle.std.proofs.Common.{◌≡◌, ℕ, suc, ◌+◌, ◌<◌, ◌≤◌, ◌^◌, ◌&&◌, Bool, true, false, nat_lt, nat_le, List, [], ◌∷◌, Option, Some, None, length, map, refl, sym, ◌∙◌, ap, subst, inl, inr, arith, rules, get_or}
+use Rattle.et_pool.specs.Entries.{Item}
+use Rattle.et_code.specs.Bodies.{Body}
+use Rattle.et_code.specs.Rules.{KeepsRules, is_code_length}
+use Rattle.et_code.specs.declared.body.TheConstants.{CODE}
+use Rattle.et_class.specs.declared.member.Member.{Member}
+use Rattle.et_class.specs.Layout.{ClassOf, MemberOf, member_of, members_of}
+use Rattle.et_class.specs.Methods.{code_of}
+use Rattle.et_top.specs.MainClass.{MainClass, main_with, main_in}
+
+short_if : (n : ℕ) (b : Bool) → is_code_length n ≡ b → (b ≡ false → ⊥) → n < 2 ^ 16
+short_if n true e unbroken = search (rules, e)
+short_if n false e unbroken = absurd (unbroken refl)
+
+-- code that keeps its rules is short
+pub code_is_short : (b : Body) → KeepsRules b → length b.code < 2 ^ 16
+code_is_short b k = short_if (length b.code) (is_code_length (length b.code)) refl (λ broken. k.kept 0 CODE (inl (broken, refl, refl)))
+
+-- a class of none or more than one method is none that runs
+pub not_one : (c : ClassOf) (name : Option (List ℕ)) (methods : List MemberOf) → (length methods ≡ 1 → ⊥) → main_in c name methods ≡ None
+not_one c None methods other = refl
+not_one c (Some name) [] other = refl
+not_one c (Some name) (m ∷ []) other = absurd (other refl)
+not_one c (Some name) (m ∷ n ∷ more) other = refl
+
+pub methods_are : (methods : List Member) → length (members_of methods) ≡ length methods
+methods_are [] = refl
+methods_are (m ∷ more) = ap suc (methods_are more)
