@@ -29,7 +29,7 @@ use Rattle.et_class.proofs.Spelt.{StandsThere, number_u2, counted_read}
 use Rattle.et_class.proofs.OneClass.{built}
 use Rattle.et_class.proofs.Kept.{front_none, back_none}
 
-abbrev header_bytes : HeaderOf → List ℕ
+abbrev pub header_bytes : HeaderOf → List ℕ
 header_bytes h = u2 h.flags ++ (u2 h.this ++ (u2 h.super ++ counted u2 h.interfaces))
 
 index_reads : (bytes : List ℕ) → AreBytes bytes → (at n next : ℕ) → number w16 bytes at ≡ Ok (n, next) → Reads bytes at (u2 n) next
@@ -46,6 +46,9 @@ header_whole bytes at fits =
     (Reads-then bytes flags.1 (u2 this.0) this.1 _ interfaces.1 (index_reads bytes fits flags.1 this.0 this.1 i)
     (Reads-then bytes this.1 (u2 super.0) super.1 (counted u2 interfaces.0) interfaces.1 (index_reads bytes fits this.1 super.0 super.1 j)
     (counted_read (number w16 bytes) u2 bytes (index_reads bytes fits) super.1 interfaces.0 interfaces.1 fits k)))))))
+
+pub header_reads : (bytes : List ℕ) (at : ℕ) (h : HeaderOf) (next : ℕ) → AreBytes bytes → header_at bytes at ≡ Ok (h, next) → Reads bytes at (header_bytes h) next
+header_reads bytes at h next fits e = subst (StandsThere header_bytes bytes at) e (header_whole bytes at fits)
 
 pub after_header : (bytes : List ℕ) (at : ℕ) (h : HeaderOf) (next : ℕ) → AreBytes bytes → header_at bytes at ≡ Ok (h, next) → next ≡ at + 6 + length (counted u2 h.interfaces)
 after_header bytes at h next fits e =

@@ -14,3 +14,6 @@ pub mod Pooled
 pub mod Kept
 pub mod OneClass
 pub mod Headed
+pub mod Valid
+pub mod Back
+pub mod Respelled

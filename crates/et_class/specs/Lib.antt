@@ -7,6 +7,7 @@ pub mod Fields
 pub mod Codes
 pub mod Methods
 pub mod Kept
+pub mod Spelling
 pub mod Rules
 pub mod Headers
 pub mod Members
