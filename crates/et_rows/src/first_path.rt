@@ -15,6 +15,25 @@ const BOX: [u8; 125] = *b"\xca\xfe\xba\xbe\x00\x00\x00\x34\x00\x08\
     \x00\x09\x00\x05\x00\x06\x00\x01\x00\x07\x00\x00\x00\x11\x00\x01\x00\x01\x00\x00\x00\x05\
     \xbb\x00\x02\x57\xb1\x00\x00\x00\x00\x00\x00";
 
+/// Box with a Float entry, LineNumberTable and StackMapTable in its Code and SourceFile on the class, of any bytes.
+const BOX_WITH_ATTRIBUTES: [u8; 205] = *b"\xca\xfe\xba\xbe\x00\x00\x004\x00\x0c\
+    \x01\x00\x03Box\
+    \x07\x00\x01\
+    \x01\x00\x10java/lang/Object\
+    \x07\x00\x03\
+    \x01\x00\x04main\
+    \x01\x00\x16([Ljava/lang/String;)V\
+    \x01\x00\x04Code\
+    \x04?\x80\x00\x00\
+    \x01\x00\x0fLineNumberTable\
+    \x01\x00\x0dStackMapTable\
+    \x01\x00\x0aSourceFile\
+    \x00!\x00\x02\x00\x04\x00\x00\x00\x00\x00\x01\
+    \x00\x09\x00\x05\x00\x06\x00\x01\x00\x07\x00\x00\x00'\x00\x01\
+    \x00\x01\x00\x00\x00\x05\xbb\x00\x02W\xb1\x00\x00\x00\x02\x00\
+    \x09\x00\x00\x00\x03xyz\x00\x0a\x00\x00\x00\x07\
+    \xff\xff\xff\xff\xff\xff\xff\x00\x01\x00\x0b\x00\x00\x00\x00";
+
 const TRACE: &[u8] = b"H 1 0\nC 1 [Ljava/lang/String;\nA 0 0 1 1 24 0\nC 2 Box\n\
     N 1 2 main ([Ljava/lang/String;)V\nM 1 0 1 0\nA 2 0 2 2 16 0\nE 4 0 1\nF 5 2\nD 1 3\nD 2 2\nZ 5 0\n";
 
@@ -32,6 +51,21 @@ fn files_with(alloc: Global, bytes: &[u8]) -> Result<MemFiles, Fail> {
 fn box_is_traced_byte_by_byte(rt: HostRuntime) -> Result<(), Fail> {
     let alloc = rt.alloc();
     let mut files = files_with(alloc, &BOX)?;
+    is_answered(
+        &rt,
+        alloc,
+        &mut files,
+        "trace Box.class",
+        Status::Done,
+        TRACE,
+        b"",
+    )
+}
+
+#[test]
+fn attributes_change_nothing(rt: HostRuntime) -> Result<(), Fail> {
+    let alloc = rt.alloc();
+    let mut files = files_with(alloc, &BOX_WITH_ATTRIBUTES)?;
     is_answered(
         &rt,
         alloc,
