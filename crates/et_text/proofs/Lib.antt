@@ -1,1 +1,6 @@
 pub mod Extending
+pub mod Loop
+pub mod Numbers
+pub mod Names
+pub mod Lines
+pub mod Readers
