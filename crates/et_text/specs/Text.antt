@@ -1,8 +1,8 @@
 -- The text of a trace, and its first fault.
-use Rattle.std.specs.Prelude.{◌≡◌, ℕ, ◌+◌, ◌<◌, ◌⊎◌, true, false, List, [], ◌∷◌, ◌++◌, length, reverse, Some, None, All, ◌≢◌}
+use Rattle.std.specs.Prelude.{◌≡◌, ℕ, ◌+◌, ◌<◌, ◌⊎◌, true, false, List, ◌∷◌, ◌++◌, length, reverse, Some, All, ◌≢◌}
 use Rattle.et_base.specs.declared.line.TraceLine.{TraceLine}
 use Rattle.et_text.specs.Ranges.{IsInRange}
-use Rattle.et_text.specs.Spelling.{line_body, spelling, text}
+use Rattle.et_text.specs.Spelling.{line_body, text}
 use Rattle.et_text.specs.Rules.{form, after, unended, has_ended, next_fault, AreFine, IsGood}
 
 -- these bytes, without an LF, are the line
@@ -10,7 +10,7 @@ pub record IsSpelled (line : TraceLine) (bytes : List ℕ) : Type 0 where
   pub range : IsInRange 1 line
   pub spelled : bytes ≡ line_body line
 
--- no LF is among the bytes
+-- no LF (10) is among the bytes
 abbrev pub IsOneLine : List ℕ → Type 0
 IsOneLine bytes = All (λ b. b ≢ 10) bytes
 
@@ -35,6 +35,10 @@ pub record ShowsFault (bytes : List ℕ) (kind number : ℕ) : Type 0 where
   pub breaks : Breaks past line kind
   pub at : number ≡ length past + 1
 
+-- no whole line breaks a rule
+abbrev pub ShowsNone : List ℕ → Type 0
+ShowsNone bytes = (kind number : ℕ) → ShowsFault bytes kind number → ⊥
+
 -- the bytes end before a Z line, or behind it without an LF
 pub data EndsWrong (past : List TraceLine) (rest : List ℕ) : (kind : ℕ) → Type 0 where
   EndsEarly : has_ended past ≡ false → EndsWrong past rest unended
@@ -56,3 +60,8 @@ IsTraceFault bytes kind number = ShowsFault bytes kind number ⊎ EndsWithFault 
 pub record IsTextOf (lines : List TraceLine) (bytes : List ℕ) : Type 0 where
   pub good : IsGood 1 lines
   pub whole : bytes ≡ text lines
+
+-- THE ANSWER of the bytes: they are the text of a good list, or they have a fault
+pub data HasAnswer (bytes : List ℕ) : Type 0 where
+  IsTrace : (lines : List TraceLine) → IsTextOf lines bytes → HasAnswer bytes
+  IsRefused : (kind number : ℕ) → IsTraceFault bytes kind number → HasAnswer bytes

@@ -4,7 +4,25 @@ ghost use Rattle.et_text.specs.declared.fault.LineError.TheVariants.{Memory};
 ghost use Rattle.et_text.specs.declared.fault.TraceFault.TheVariants.{NoMemory as OutOfMemory};
 
 use et_base::NoMemory;
-use std::alloc::AllocFailed;
+use std::alloc::{AllocError, AllocFailed};
+
+/// The line is spelled as no line is, or one of its fields is out of its range.
+pub const FORM: u8 = 1;
+
+/// The line may not stand where it stands.
+pub const ORDER: u8 = 2;
+
+/// The line mentions a class, method or object that no line before it defines.
+pub const UNKNOWN: u8 = 3;
+
+/// The line names a class or method, or reports an object dead, that a line before it did.
+pub const TWICE: u8 = 4;
+
+/// The text ends before the end of its last line.
+pub const UNENDED: u8 = 5;
+
+/// Something stands behind the last line.
+pub const AFTER: u8 = 6;
 
 /// Why bytes gave no line.
 #[derive(Clone, Copy, Debug, PartialEq, Eq)]
@@ -38,6 +56,14 @@ impl From<NoMemory> for TraceFault {
     ghost from_gives = { λ _ e. e ≡ OutOfMemory };
 
     fn from(_error: NoMemory) -> TraceFault {
+        TraceFault::NoMemory
+    }
+}
+
+impl From<AllocError> for TraceFault {
+    ghost from_gives = { λ _ e. e ≡ OutOfMemory };
+
+    fn from(_error: AllocError) -> TraceFault {
         TraceFault::NoMemory
     }
 }

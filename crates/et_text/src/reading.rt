@@ -418,4 +418,3 @@ pub fn read_line(alloc: Global, bytes: &[u8]) -> Result<TraceLine, LineError>
 {
     line_at(alloc, bytes)
 }
-

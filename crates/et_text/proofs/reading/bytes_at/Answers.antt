@@ -1,6 +1,5 @@
-use Rattle.std.proofs.Common.{◌≡◌, ◌∙◌, sym, length, true, false}
+use Rattle.std.proofs.Common.{sym, length}
 use Rattle.std.proofs.lemmas.Result.{err_from_is_err_and}
-use Rattle.et_text.specs.Reading.{bytes_at, is_break}
 use Rattle.et_text.proofs.Loop.{goes_on, ends, stops, is_done}
 use Rattle.et_text.proofs.reading.bytes_at.Goals as goal
 

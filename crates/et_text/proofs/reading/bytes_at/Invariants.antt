@@ -1,4 +1,4 @@
-use Rattle.std.proofs.Common.{◌≡◌, ◌-◌, length}
+use Rattle.std.proofs.Common.{◌≡◌, ◌-◌}
 use Rattle.et_text.specs.Reading.{bytes_at}
 use Rattle.et_text.proofs.Loop.{with_front}
 use Rattle.et_text.proofs.reading.bytes_at.Given as goal

@@ -1,12 +1,12 @@
 -- A name that is read is the one that was written, and what was written is read again.
-use Rattle.std.proofs.Common.{◌≡◌, ◌≢◌, ℕ, zero, suc, ◌+◌, ◌-◌, ◌*◌, ◌/◌, ◌%◌, ◌^◌, ◌<◌, ◌≤◌, Bool, true, false, cond, not, ◌&&◌, ◌||◌, eqb, leb, ltb, List, [], ◌∷◌, ◌++◌, map, length, get_or, Option, Some, None, refl, sym, ap, subst, ◌∙◌, append_assoc, arith, inl, inr, ◌⊎◌, length-append}
+use Rattle.std.proofs.Common.{◌≡◌, ℕ, zero, suc, ◌+◌, ◌-◌, ◌*◌, ◌/◌, ◌%◌, ◌<◌, ◌≤◌, true, false, cond, ◌&&◌, eqb, leb, ltb, List, [], ◌∷◌, ◌++◌, length, Some, None, refl, sym, ap, subst, ◌∙◌, append_assoc, arith, inl, inr, length-append}
 use Rattle.std.specs.Fmt.{digit_glyph}
-use Rattle.std.specs.List.{flat_map, AllByRecursion}
-use Rattle.std.proofs.lemmas.Bool.{leb-true, le-leb, ltb-false, ltb-true, lt-ltb, le-ltb, leb-false}
+use Rattle.std.specs.List.{AllByRecursion}
+use Rattle.std.proofs.lemmas.Bool.{leb-true, le-leb, ltb-false, ltb-true, lt-ltb, le-ltb}
 use Rattle.std.proofs.lemmas.Bool.Decides.{nat_tests}
 use Rattle.et_text.specs.Spelling.{is_escaped, escape, escapes}
 use Rattle.et_text.specs.Reading.{◌>>=◌, is_digit, hex_value, escaped_at, byte_at, is_break, bytes_at, unless_empty, text_at}
-use Rattle.et_text.proofs.Numbers.{bind_some, chosen, some_is, guard_some, both_true, digit_range, digit_is, eqb-at, eqb-off, eqb-no, eqb-yes}
+use Rattle.et_text.proofs.Numbers.{bind_some, chosen, some_is, guard_some, both_true, digit_range, digit_is, eqb-yes}
 
 pub record IsHex (b v : ℕ) : Type 0 where
   pub small : v < 16

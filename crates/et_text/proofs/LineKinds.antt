@@ -1,5 +1,5 @@
 -- What is read is spelled so, and what is spelled so is read.
-use Rattle.std.proofs.Common.{◌≡◌, ◌≢◌, ℕ, zero, suc, ◌+◌, ◌-◌, ◌^◌, ◌<◌, ◌≤◌, Bool, true, false, cond, ◌&&◌, eqb, leb, List, [], ◌∷◌, ◌++◌, length, get_or, Option, Some, None, refl, sym, ap, subst, ◌∙◌, append_assoc, arith, inl, inr, ◌⊎◌}
+use Rattle.std.proofs.Common.{◌≡◌, ℕ, zero, suc, ◌-◌, ◌^◌, ◌<◌, ◌≤◌, true, cond, eqb, List, [], ◌∷◌, ◌++◌, Some, None, refl, sym, ap, subst, ◌∙◌, arith, inl, inr}
 use Rattle.std.specs.Prelude.{All}
 use Rattle.std.specs.Fmt.{decimal}
 use Rattle.std.specs.List.{flat_map, AllByRecursion}
@@ -9,10 +9,10 @@ use Rattle.et_text.specs.Ranges.{IsInRange}
 use Rattle.et_text.specs.Spelling.{escapes, fields, field_text, letter, line_body}
 use Rattle.et_text.specs.Text.{IsSpelled}
 use Rattle.et_text.specs.Reading.{◌>>=◌, is_break, number_in, text_at, done, turn_at, header_at, class_at, method_at, alloc_at, update_at, enter_at, exit_at, unwind_at, flush_at, death_at, finish_at, line_at}
-use Rattle.et_text.proofs.Numbers.{bind_some, chosen, some_is, eqb-yes, IsWithin, in_takes, in_again}
-use Rattle.et_text.proofs.Names.{AreBytes, IsTextAt, text_takes, text_again}
+use Rattle.et_text.proofs.Numbers.{bind_some, chosen, some_is, eqb-yes, in_takes, in_again}
+use Rattle.et_text.proofs.Escapes.{AreBytes, text_takes, text_again}
 
-to_all : (P : ℕ → Type 0) (xs : List ℕ) → AllByRecursion P xs → All P xs
+pub to_all : (P : ℕ → Type 0) (xs : List ℕ) → AllByRecursion P xs → All P xs
 to_all P [] h k d lt = absurd (omega arith)
 to_all P (x ∷ xs) h zero d lt = h.0
 to_all P (x ∷ xs) h (suc k) d lt = to_all P xs h.1 k d (omega arith)
@@ -299,3 +299,7 @@ pub no_line : (bytes : List ℕ) (line : TraceLine) → line_at bytes ≡ None �
 no_line bytes line e p =
     let x : line_at bytes ≡ Some line = rw p.spelled (line_again line p.range) in
     absurd (let f : None ≡ Some line = sym e ∙ x in cc)
+
+-- what is spelled so is read
+pub line_again_at : (bytes : List ℕ) (line : TraceLine) → IsSpelled line bytes → line_at bytes ≡ Some line
+line_again_at bytes line p = rw p.spelled (line_again line p.range)
