@@ -7,12 +7,14 @@ use crate::fault::{AFTER, ORDER, TWICE, UNKNOWN};
 use crate::standing::Standing;
 use et_base::TraceLine;
 
+/// Whether a flush follows the event whatever comes.
 fn is_flush_point(interval: u64, event: u64) -> bool
     ensures { result ≡ is_flush_point interval event }
 {
     0 < interval && 0 < event && event % interval == 0
 }
 
+/// Whether the newest flush is the last one.
 fn is_final(interval: u64, flushed: Option<u64>) -> bool
     ensures { result ≡ is_final interval flushed }
 {
@@ -31,6 +33,7 @@ fn is_before(flushed: Option<u64>, event: u64) -> bool
     }
 }
 
+/// Whether each flush point below the event has its flush.
 fn misses_no_flush(interval: u64, flushed: Option<u64>, event: u64) -> bool
     ensures { result ≡ misses_no_flush interval flushed event }
 {
@@ -40,12 +43,14 @@ fn misses_no_flush(interval: u64, flushed: Option<u64>, event: u64) -> bool
     event.saturating_sub(1) / interval <= flushed.unwrap_or(0) / interval
 }
 
+/// Whether a line that is no H, D or Z may stand here.
 fn is_open(s: &Standing) -> bool
     ensures { result ≡ is_open_in s.now }
 {
     s.begun && s.awaited == 0 && !is_final(s.interval, s.flushed)
 }
 
+/// .. and one of this event.
 fn is_timely(s: &Standing, event: u64) -> bool
     ensures { result ≡ is_timely_in s.now event }
 {
@@ -55,6 +60,7 @@ fn is_timely(s: &Standing, event: u64) -> bool
         && misses_no_flush(s.interval, s.flushed, event)
 }
 
+/// Whether nothing but its D lines came behind the flush at this event.
 fn stands_at(s: &Standing, event: u64) -> bool
     ensures { result ≡ stands_at (if s.now.stands then s.now.flushed else None) event }
 {
@@ -64,6 +70,7 @@ fn stands_at(s: &Standing, event: u64) -> bool
     }
 }
 
+/// Order, but for the lives of objects.
 fn keeps_order(s: &Standing, line: &TraceLine) -> bool
     ensures { result ≡ order_in s.now line.now }
 {
@@ -75,11 +82,11 @@ fn keeps_order(s: &Standing, line: &TraceLine) -> bool
             && u64::from(*number) == u64::from(s.methods) + 1,
         TraceLine::Alloc { event, object, .. } => is_timely(s, *event)
             && u64::from(*object) == s.births.len() as u64 + 1,
-        TraceLine::Update { event, .. } => is_timely(s, *event),
-        TraceLine::Enter { event, .. } => is_timely(s, *event),
-        TraceLine::Exit { event, .. } => is_timely(s, *event),
-        TraceLine::Unwind { event, .. } => is_timely(s, *event),
-        TraceLine::Flush { event, .. } => is_timely(s, *event),
+        TraceLine::Update { event, .. }
+        | TraceLine::Enter { event, .. }
+        | TraceLine::Exit { event, .. }
+        | TraceLine::Unwind { event, .. }
+        | TraceLine::Flush { event, .. } => is_timely(s, *event),
         TraceLine::Death { object, time } => {
             0 < s.awaited && s.last_dead < *object && *time <= s.flushed.unwrap_or(0)
         }
@@ -93,6 +100,7 @@ fn has_object(s: &Standing, object: u32) -> bool
     object as usize <= s.births.len()
 }
 
+/// Whether what the line mentions was defined.
 fn is_known(s: &Standing, line: &TraceLine) -> bool
     ensures { result ≡ known_in s.now line.now }
 {
@@ -135,6 +143,7 @@ fn is_reported(s: &Standing, object: u32) -> bool
     }
 }
 
+/// The event at which the object was made.
 fn birth(s: &Standing, object: u32) -> u64
     ensures { result ≡ slice_index s.now.births.items (object - 1) }
 {
@@ -146,6 +155,7 @@ fn birth(s: &Standing, object: u32) -> u64
     }
 }
 
+/// Order, as the lives of objects go: no line mentions what was reported dead, and no death is before the birth.
 fn keeps_lives(s: &Standing, line: &TraceLine) -> bool
     ensures { result ≡ lives_in s.now line.now }
 {
@@ -163,6 +173,7 @@ fn keeps_lives(s: &Standing, line: &TraceLine) -> bool
     }
 }
 
+/// Whether the line reports no object that was reported.
 fn dies_once(s: &Standing, line: &TraceLine) -> bool
     ensures { result ≡ dies_once_in s.now line.now }
 {

@@ -33,19 +33,10 @@ fn note(alloc: Global, s: &mut Standing, line: &TraceLine) -> Result<bool, NoMem
             note_object(s, *event)?;
             Ok(true)
         }
-        TraceLine::Update { event, .. } => {
-            note_event(s, *event);
-            Ok(true)
-        }
-        TraceLine::Enter { event, .. } => {
-            note_event(s, *event);
-            Ok(true)
-        }
-        TraceLine::Exit { event, .. } => {
-            note_event(s, *event);
-            Ok(true)
-        }
-        TraceLine::Unwind { event, .. } => {
+        TraceLine::Update { event, .. }
+        | TraceLine::Enter { event, .. }
+        | TraceLine::Exit { event, .. }
+        | TraceLine::Unwind { event, .. } => {
             note_event(s, *event);
             Ok(true)
         }

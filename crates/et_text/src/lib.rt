@@ -23,3 +23,5 @@ pub use writing::write_line;
 
 #[cfg(test)]
 mod tests;
+#[cfg(test)]
+mod tests_of_reading;
