@@ -1,1 +1,14 @@
+pub mod Escapes
 pub mod Extending
+pub mod Faults
+pub mod Following
+pub mod LineKinds
+pub mod Loop
+pub mod Numbers
+pub mod OneAnswer
+pub mod OneReading
+pub mod Pieces
+pub mod Readers
+pub mod SomeAnswer
+pub mod Splitting
+pub mod Standings

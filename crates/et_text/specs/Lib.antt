@@ -1,2 +1,12 @@
+pub mod ByStanding
 pub mod Extends
+pub mod Follows
+pub mod NameSets
+pub mod Ranges
+pub mod Reading
+pub mod Rules
 pub mod Spelling
+pub mod StandsFor
+pub mod Stream
+pub mod Taken
+pub mod Text

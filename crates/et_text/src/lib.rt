@@ -1,9 +1,27 @@
 //! The text of a trace. A line is a letter and its fields, each behind a space, with LF at the end.
 #![tactic(auto, using(crate::proofs::Extending::extends_on))]
 
+mod breaking;
+mod fault;
+mod follow;
+pub mod laws;
+mod lines;
+mod names;
+mod notes;
+mod reader;
+mod reading;
+mod rules;
+mod standing;
+mod trace;
 mod writing;
 
+pub use fault::{LineError, TraceFault};
+pub use reader::TextReader;
+pub use reading::read_line;
+pub use trace::Trace;
 pub use writing::write_line;
 
 #[cfg(test)]
 mod tests;
+#[cfg(test)]
+mod tests_of_reading;

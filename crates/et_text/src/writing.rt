@@ -2,7 +2,7 @@
 ghost use Rattle.std.specs.Prelude.{◌≡◌, ◌<◌, ◌^◌, [], ◌∷◌, ◌++◌, OnOk, OnErr, true};
 ghost use Rattle.std.specs.Fmt.{digit_glyph};
 ghost use Rattle.std.specs.List.{flat_map};
-ghost use Rattle.et_text.specs.Spelling.{escape, escapes, spelling, text_field, number_field, line_body};
+ghost use Rattle.et_text.specs.Spelling.{is_escaped, escape, escapes, spelling, text_field, number_field, line_body};
 ghost use Rattle.et_text.specs.Extends.{Extends};
 
 use et_base::{Name, NoMemory, TraceLine};
@@ -30,11 +30,18 @@ fn hex_digit(digit: u8) -> u8
     }
 }
 
+/// Whether a byte of a name is written as an escape.
+pub fn is_escaped(byte: u8) -> bool
+    ensures { result ≡ is_escaped byte }
+{
+    byte < 33 || byte == b'%' || byte >= 127
+}
+
 fn put_byte(buffer: &mut Vec<u8>, byte: u8) -> Result<(), NoMemory>
     ensures ok { OnOk result (buffer.new.items ≡ buffer.old.items ++ escape byte) }
     ensures err { OnErr result (Extends buffer.old.items buffer.new.items) }
 {
-    if byte < 33 || byte == b'%' || byte >= 127 {
+    if is_escaped(byte) {
         buffer.push(b'%')?;
         buffer.push(hex_digit(byte / 16))?;
         buffer.push(hex_digit(byte % 16))?;

@@ -1,0 +1,52 @@
+-- What is kept is what the lines so far say.
+use Rattle.std.specs.Prelude.{◌≡◌, ℕ, ◌-◌, ◌≤◌, Bool, true, false, not, bytes_eq, if◌then◌else◌, List, [], ◌∷◌, ◌++◌, length, slice_index_or, slice_set, None}
+use Rattle.et_base.specs.declared.line.TraceLine.{TraceLine}
+use Rattle.et_text.specs.Rules.{has_begun, has_ended, interval, classes, methods, births, latest, flushed, awaited, last_dead, standing_flush, is_reported, has_class, has_method}
+use Rattle.et_text.specs.NameSets.{Bytes, MethodKey, has_name, has_key, same_method}
+use Rattle.et_text.specs.declared.standing.Standing.{Standing}
+
+pub record StandsFor (s : Standing) (past : List TraceLine) : Type 0 where
+  pub begun_is : s.begun ≡ has_begun past
+  pub ended_is : s.ended ≡ has_ended past
+  pub interval_is : s.interval ≡ interval past
+  pub classes_is : s.classes ≡ classes past
+  pub methods_is : s.methods ≡ methods past
+  pub births_is : s.births.items ≡ births past
+  pub latest_is : s.latest ≡ latest past
+  pub flushed_is : s.flushed ≡ flushed past
+  pub stands_is : (if s.stands then s.flushed else None) ≡ standing_flush past
+  pub awaited_is : s.awaited ≡ awaited past
+  pub last_dead_is : s.last_dead ≡ last_dead past
+  pub as_many : length s.reported.items ≡ length s.births.items
+  pub none_dead : is_reported past 0 ≡ false
+  pub class_names_are : (q : Bytes) → has_name s.class_names q ≡ has_class past q.items
+  pub method_names_are : (q : MethodKey) → has_key s.method_names q ≡ has_method past q.0 q.1.items q.2.items
+  pub reported_is : (o : ℕ) → 1 ≤ o → slice_index_or s.reported.items (o - 1) false ≡ is_reported past o
+
+-- an object was made
+pub record NotesObject (old new : Standing) (event : ℕ) : Type 0 where
+  pub births : new.births.items ≡ old.births.items ++ event ∷ []
+  pub reported : new.reported.items ≡ old.reported.items ++ false ∷ []
+  pub others : new ≡ record old { begun = true; latest = event; stands = false; awaited = 0; last_dead = 0; births = new.births; reported = new.reported }
+
+-- an object was reported
+pub record NotesDeath (old new : Standing) (object : ℕ) : Type 0 where
+  pub reported : new.reported.items ≡ slice_set old.reported.items (object - 1) true
+  pub others : new ≡ record old { begun = true; awaited = old.awaited - 1; last_dead = object; reported = new.reported }
+
+-- a class was named; added says whether the name is new
+pub record NotesClass (old new : Standing) (number : ℕ) (name : List ℕ) (added : Bool) : Type 0 where
+  pub key : Bytes
+  pub key_is : key.items ≡ name
+  pub added_is : added ≡ not (has_name old.class_names key)
+  pub names : (q : Bytes) → has_name new.class_names q ≡ (if bytes_eq key.items q.items then true else has_name old.class_names q)
+  pub others : new ≡ record old { begun = true; classes = number; stands = false; awaited = 0; last_dead = 0; class_names = new.class_names }
+
+pub record NotesMethod (old new : Standing) (number class : ℕ) (name descriptor : List ℕ) (added : Bool) : Type 0 where
+  pub key : MethodKey
+  pub class_is : key.0 ≡ class
+  pub name_is : key.1.items ≡ name
+  pub descriptor_is : key.2.items ≡ descriptor
+  pub added_is : added ≡ not (has_key old.method_names key)
+  pub names : (q : MethodKey) → has_key new.method_names q ≡ (if same_method key q then true else has_key old.method_names q)
+  pub others : new ≡ record old { begun = true; methods = number; stands = false; awaited = 0; last_dead = 0; method_names = new.method_names }

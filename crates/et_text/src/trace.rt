@@ -1,0 +1,42 @@
+//! A good trace.
+ghost use Rattle.std.specs.Prelude.{◌≡◌};
+ghost use Rattle.et_text.specs.Rules.{IsGood};
+
+use et_base::TraceLine;
+use std::marker::Model;
+
+/// The lines of a trace that keeps every rule. A contract sees it as their list.
+#[derive(Drop)]
+pub struct Trace {
+    lines: Vec<TraceLine>,
+}
+
+impl Model for Trace {
+    ghost use Rattle.std.specs.Prelude.{List};
+    ghost use Rattle.et_base.specs.declared.line.TraceLine.{TraceLine};
+    ghost use Rattle.et_text.specs.Rules.{IsGood};
+
+    ghost Value = { List TraceLine };
+
+    ghost view = { λ t. t.lines.items };
+
+    ghost invariant = { λ t. IsGood 1 t.lines.items };
+}
+
+impl Trace {
+    /// The trace of these lines.
+    pub fn of(lines: Vec<TraceLine>) -> Trace
+        requires good { IsGood 1 lines.items }
+        ensures { result ≡ lines.items }
+    {
+        Trace { lines }
+    }
+
+    /// The lines, in order.
+    pub fn lines(&self) -> &[TraceLine]
+        ensures value { result.now ≡ self.now }
+        ensures good { IsGood 1 self.now }
+    {
+        self.lines.as_slice()
+    }
+}
