@@ -1,0 +1,13 @@
+pub mod Lists
+pub mod Walks
+pub mod Sound
+pub mod Stamps
+pub mod Marks
+pub mod DraftLaws
+pub mod Cuts
+pub mod Carrying
+pub mod Spreading
+pub mod Between
+pub mod Visiting
+pub mod Rounds
+pub mod Sources

@@ -1,0 +1,53 @@
+//! Laws about graphs and their histories. Each is a function with an empty body: what it promises is its contract.
+
+ghost use Rattle.std.specs.Prelude.{◌≡◌, ℕ, Bool, List, [], Contains};
+ghost use Rattle.et_graph.specs.Graph.{Graph, IsMade, IsReached, Decides, IsSoundGraph};
+ghost use Rattle.et_graph.specs.Steps.{Step, IsDraft, IsLegalStep};
+ghost use Rattle.et_graph.specs.Drafts.{IsMove, IsMaking};
+ghost use Rattle.et_graph.specs.History.{Turn, graph_after, IsHistory, StampsTell, stamp, IsGreatestMark, AreDeaths};
+
+/// There is a test that says of each object of each graph whether it is reached.
+pub fn reaching_is_decided()
+    ensures { (reached : Graph → ℕ → Bool) × Decides reached }
+{}
+
+/// The stamp law. After every list of legal steps and flushes, the last step after which an object was reached is, for
+/// each object that isn't reached now, the greatest stamp of the objects that lead to it now.
+pub fn stamps_tell()
+    ensures { (turns : List Turn) → IsHistory turns → StampsTell turns }
+{}
+
+/// The stamp of an object is the greatest of the step that made it and of those that came right before one that lost it.
+pub fn stamps_mark()
+    ensures { (turns : List Turn) → IsHistory turns → (o : ℕ) → IsMade (graph_after turns) o → IsGreatestMark turns o (stamp turns o) }
+{}
+
+/// There is at most one list of deaths.
+pub fn deaths_are_one()
+    ensures { (turns : List Turn) (a b : List (ℕ × ℕ)) → AreDeaths turns a → AreDeaths turns b → a ≡ b }
+{}
+
+/// What holds of the graph after every history.
+pub fn histories_are_sound()
+    ensures { (turns : List Turn) → IsHistory turns → IsSoundGraph (graph_after turns) }
+{}
+
+/// A step begins as a draft in which nothing is new and nothing is lost.
+pub fn drafts_begin()
+    ensures { (g : Graph) → IsSoundGraph g → IsDraft g (record { after = g; fresh = []; lost = [] }) }
+{}
+
+/// A call that makes no object leads from a draft to a draft.
+pub fn drafts_move()
+    ensures { (g : Graph) (s t : Step) → IsSoundGraph g → IsDraft g s → IsMove g s t → IsDraft g t }
+{}
+
+/// A call that makes an object leads from a draft to a draft.
+pub fn drafts_make()
+    ensures { (g : Graph) (s t : Step) → IsDraft g s → IsMaking s t → IsDraft g t }
+{}
+
+/// A draft whose new objects are all reached is a legal step.
+pub fn drafts_end()
+    ensures { (g : Graph) (s : Step) → IsDraft g s → ((o : ℕ) → Contains s.fresh o → IsReached s.after o) → IsLegalStep g s }
+{}

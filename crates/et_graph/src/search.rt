@@ -1,0 +1,180 @@
+//! The search of a flush: it finds for each object the greatest time that leads to it.
+
+ghost use Rattle.std.specs.Prelude.{◌≡◌, ℕ, ◌+◌, ◌-◌, ◌^◌, ◌<◌, ◌≤◌, ◌++◌, [], ◌∷◌, true, length, slice_index, slice_set, All, OnOk, vec_capacity};
+ghost use Rattle.std.specs.List.Sorted.{IsNonDecreasingBy};
+ghost use Rattle.et_graph.specs.Times.{ArePairsWithin, Carries, AreSettled, IsSet, IsReady, Visits, Spreads};
+ghost use Rattle.et_graph.specs.Order.{sources, IsOrder, HasRoom};
+
+use crate::pairs::pairs_of;
+use crate::places::place_of;
+use crate::within;
+use et_base::ObjectId;
+use std::alloc::AllocError;
+
+/// An object from which a search begins, and how far back its time is.
+#[derive(Clone, Copy, Debug)]
+pub struct Source {
+    pub age: u64,
+    pub object: ObjectId,
+}
+
+/// What a search works in.
+#[derive(Drop)]
+pub struct Room {
+    pub seen: Vec<bool>,
+    pub work: Vec<ObjectId>,
+    pub order: Vec<Source>,
+}
+
+/// Reserves room for a search among `count` objects.
+pub fn reserve(room: &mut Room, count: usize) -> Result<(), AllocError>
+    ensures ok { OnOk result (HasRoom count room.new) }
+    ensures grows { (n : ℕ) → HasRoom n room.old → HasRoom n room.new }
+{
+    within::reserve(&mut room.seen, count)?;
+    within::reserve(&mut room.work, count)?;
+    within::reserve(&mut room.order, count)?;
+    Ok(())
+}
+
+/// Notes that the object was seen at the time, and that its pairs are still to be followed.
+fn mark(object: ObjectId, time: u64, times: &mut [u64], seen: &mut [bool], work: &mut Vec<ObjectId>)
+    requires ready { IsReady times.old seen.old work.old }
+    requires first { 0 < object }
+    requires last { object ≤ length times.old }
+    requires unseen { ¬ IsSet seen.old object }
+    ensures ready { IsReady times.new seen.new work.new }
+    ensures times { times.new ≡ slice_set times.old (object - 1) time }
+    ensures seen { seen.new ≡ slice_set seen.old (object - 1) true }
+    ensures work { work.new.items ≡ work.old.items ++ object ∷ [] }
+{
+    let place = place_of(object);
+    times[place] = time;
+    seen[place] = true;
+    within::push(work, object);
+}
+
+/// Follows the pairs of an object to those that weren't seen yet, which get its time.
+fn visit(
+    pairs: &[(ObjectId, ObjectId)],
+    object: ObjectId,
+    time: u64,
+    times: &mut [u64],
+    seen: &mut [bool],
+    work: &mut Vec<ObjectId>,
+)
+    requires sorted { IsNonDecreasingBy (λ (p : ℕ × ℕ). p.0) pairs.now }
+    requires within { ArePairsWithin (length times.old) pairs.now }
+    requires ready { IsReady times.old seen.old work.old }
+    ensures ready { IsReady times.new seen.new work.new }
+    ensures visits { Visits pairs.now object time times.old seen.old work.old.items times.new seen.new work.new.items }
+{
+    for pair in pairs_of(pairs, object) {
+        if !seen[place_of(pair.1)] {
+            mark(pair.1, time, times, seen, work);
+        }
+    }
+}
+
+/// Carries the time of an object as far as it goes, where the object wasn't seen yet.
+fn spread(
+    pairs: &[(ObjectId, ObjectId)],
+    source: ObjectId,
+    times: &mut [u64],
+    seen: &mut [bool],
+    work: &mut Vec<ObjectId>,
+)
+    requires sorted { IsNonDecreasingBy (λ (p : ℕ × ℕ). p.0) pairs.now }
+    requires within { ArePairsWithin (length times.old) pairs.now }
+    requires first { 0 < source }
+    requires last { source ≤ length times.old }
+    requires ready { IsReady times.old seen.old work.old }
+    requires empty { work.old.items ≡ [] }
+    ensures ready { IsReady times.new seen.new work.new }
+    ensures empty { work.new.items ≡ [] }
+    ensures spreads { Spreads pairs.now source times.old seen.old times.new seen.new }
+{
+    let place = place_of(source);
+    if seen[place] {
+        return;
+    }
+    let time = times[place];
+    mark(source, time, times, seen, work);
+    while let Some(object) = work.pop() {
+        visit(pairs, object, time, times, seen, work);
+    }
+}
+
+/// Carries the times of all objects, the greatest first.
+fn spread_all(
+    pairs: &[(ObjectId, ObjectId)],
+    order: &[Source],
+    times: &mut [u64],
+    seen: &mut [bool],
+    work: &mut Vec<ObjectId>,
+)
+    requires sorted { IsNonDecreasingBy (λ (p : ℕ × ℕ). p.0) pairs.now }
+    requires within { ArePairsWithin (length times.old) pairs.now }
+    requires order { IsOrder times.old order.now }
+    requires ready { IsReady times.old seen.old work.old }
+    requires empty { work.old.items ≡ [] }
+    requires unseen { (o : ℕ) → ¬ IsSet seen.old o }
+    ensures ready { IsReady times.new seen.new work.new }
+    ensures carries { Carries pairs.now times.old times.new }
+    ensures settled { AreSettled pairs.now times.new }
+{
+    for source in order {
+        spread(pairs, source.object, times, seen, work);
+    }
+}
+
+/// Lists the objects.
+fn list_sources(times: &[u64], top: u64, order: &mut Vec<Source>)
+    requires below { All (λ t. t ≤ top) times.now }
+    requires small { length times.now < 2 ^ 32 }
+    requires room { length times.now ≤ vec_capacity order.old }
+    ensures sources { order.new.items ≡ sources 1 top times.now }
+    ensures room { length times.now ≤ vec_capacity order.new }
+{
+    order.clear();
+    let mut object: u32 = 0;
+    for time in times {
+        object += 1;
+        let source = Source {
+            age: top - *time,
+            object: ObjectId::new(object),
+        };
+        within::push(order, source);
+    }
+}
+
+/// Lists the objects, those with the greatest time first.
+fn order_sources(times: &[u64], top: u64, order: &mut Vec<Source>)
+    requires below { All (λ t. t ≤ top) times.now }
+    requires small { length times.now < 2 ^ 32 }
+    requires room { length times.now ≤ vec_capacity order.old }
+    ensures order { IsOrder times.now order.new.items }
+    ensures room { length times.now ≤ vec_capacity order.new }
+{
+    list_sources(times, top, order);
+    order.sort_unstable_by_key(|source| source.age);
+}
+
+/// Raises the time of each object to the greatest that leads to it. It takes no memory, and in all as long as sorting
+/// the objects does, besides looking up the pairs of each.
+pub fn settle(pairs: &[(ObjectId, ObjectId)], top: u64, times: &mut [u64], room: &mut Room)
+    requires sorted { IsNonDecreasingBy (λ (p : ℕ × ℕ). p.0) pairs.now }
+    requires within { ArePairsWithin (length times.old) pairs.now }
+    requires below { All (λ t. t ≤ top) times.old }
+    requires small { length times.old < 2 ^ 32 }
+    requires room { HasRoom (length times.old) room.old }
+    ensures room { HasRoom (length times.old) room.new }
+    ensures carries { Carries pairs.now times.old times.new }
+    ensures settled { AreSettled pairs.now times.new }
+{
+    order_sources(times, top, &mut room.order);
+    room.work.clear();
+    room.seen.clear();
+    within::resize(&mut room.seen, times.len(), false);
+    spread_all(pairs, &room.order, times, &mut room.seen, &mut room.work);
+}

@@ -1,0 +1,29 @@
+-- The calls of files or of a sink in memory, of which some are to fail.
+use Rattle.std.specs.Prelude.{ℕ, ◌+◌, ◌^◌, ◌<◌, ◌≤◌, min, Bool, List, All, if◌then◌else◌}
+use Rattle.std.specs.List.{list_any}
+use Rattle.std.specs.Ordering.{nat_cmp, is_eq}
+
+-- how many calls were made, the numbers of those that are to fail, in order, and how many failed. Calls are numbered
+-- from 1; they are counted up to 2^63, and none from there on can be told to fail.
+pub record Calls : Type 0 where
+  pub made : ℕ
+  pub failing : List ℕ
+  pub faults : ℕ
+
+-- whether the next call is to fail
+abbrev pub next_fails : Calls → Bool
+next_fails calls = list_any (λ number. is_eq (nat_cmp (calls.made + 1) number)) calls.failing
+
+-- one call more
+abbrev pub after_call : Calls → Calls
+after_call calls = record {
+  made = min (calls.made + 1) (2 ^ 63);
+  failing = calls.failing;
+  faults = if next_fails calls then calls.faults + 1 else calls.faults;
+}
+
+-- each number that is to fail is below 2^63, and no more calls failed than were made
+pub record AreCounted (calls : Calls) : Type 0 where
+  pub made_fits : calls.made ≤ 2 ^ 63
+  pub below : All (λ number. number < 2 ^ 63) calls.failing
+  pub no_more : calls.faults ≤ calls.made

@@ -1,0 +1,31 @@
+-- What a sink takes.
+use Rattle.std.specs.Prelude.{◌≡◌, ℕ, ◌<◌, ◌≤◌, List, ◌++◌, length, take, Option, option_map}
+use Rattle.et_io.specs.declared.sink.Put.{Put}
+use Rattle.et_io.specs.declared.sink.Put.TheVariants.{Took, Failed, NoMemory}
+use Rattle.et_io.specs.Faults.{Rose}
+
+-- what a sink tells once it took these bytes more: a sink that tells nothing tells nothing then
+abbrev pub with_more : Option (List ℕ) → List ℕ → Option (List ℕ)
+with_more told bytes = option_map (λ taken. taken ++ bytes) told
+
+-- what an answer to `put` says of what the sink took: n bytes of the piece and at least one, or nothing
+abbrev pub Takes : Put → Option (List ℕ) → Option (List ℕ) → List ℕ → Type 0
+Takes (Took n) old new piece = (0 < length piece → 0 < n) × (n ≤ length piece) × (new ≡ with_more old (take n piece))
+Takes Failed old new piece = new ≡ old
+Takes NoMemory old new piece = new ≡ old
+
+-- a put failed only where the count of faults rose
+abbrev pub CountsFault : Put → ℕ → ℕ → Type 0
+CountsFault (Took n) old new = Unit {0}
+CountsFault Failed old new = Rose old new
+CountsFault NoMemory old new = Unit {0}
+
+-- the sink took the piece up to this rest
+pub record TakesUpTo (old new : Option (List ℕ)) (piece rest : List ℕ) : Type 0 where
+  pub front : List ℕ
+  pub parts : piece ≡ front ++ rest
+  pub taken : new ≡ with_more old front
+
+-- the sink took a front of the piece, and nothing else
+abbrev pub TakesFront : Option (List ℕ) → Option (List ℕ) → List ℕ → Type 0
+TakesFront old new piece = (rest : List ℕ) × TakesUpTo old new piece rest

@@ -1,0 +1,37 @@
+//! Files by their paths.
+ghost use Rattle.std.specs.Prelude.{◌≡◌, ℕ, ◌≤◌, Option, IfOk, IfSome};
+ghost use Rattle.et_io.specs.Files.{Held, Finds, IsWithin, CountsFault};
+
+use et_base::NoMemory;
+use std::alloc::Global;
+
+/// What a read found.
+#[derive(Debug, Drop)]
+pub enum Found {
+    /// The bytes of the file, all of them.
+    Bytes(Vec<u8>),
+    /// There is no file at the path.
+    Absent,
+    /// The file has more bytes than were asked for.
+    TooLong,
+    /// The read failed, and the count of faults rose.
+    Failed,
+}
+
+/// Files, each at a path. They may tell what they hold; each tells how often it failed.
+pub trait Files {
+    /// The bytes at each path, where the files tell them.
+    ghost holds: { Self → Option Held };
+
+    /// How many reads failed.
+    ghost faults: { Self → ℕ };
+
+    /// Reads the file at the path, if it has at most this many bytes. A read changes no file. It fails only where the
+    /// count of faults rises, and that never falls. `NoMemory` says nothing of the file.
+    fn read(&mut self, alloc: Global, path: &str, most: u64) -> Result<Found, NoMemory>
+        ensures found { IfOk result (λ found. IfSome (holds self.old) (λ held. Finds found most (held path.now))) }
+        ensures within { IfOk result (λ found. IsWithin found most) }
+        ensures failed { IfOk result (λ found. CountsFault found (faults self.old) (faults self.new)) }
+        ensures kept { holds self.new ≡ holds self.old }
+        ensures never_falls { faults self.old ≤ faults self.new };
+}

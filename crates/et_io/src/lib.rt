@@ -1,0 +1,22 @@
+//! What the program reads from and writes to: files and sinks, as traits that tell what they hold and took and how
+//! often they failed; such files and sinks in memory, with calls that fail as they are told; and thin adapters over
+//! the real ones.
+#![tactic(auto)]
+
+mod calls;
+mod files;
+mod host;
+mod mem_files;
+mod mem_sink;
+mod putting;
+mod sink;
+
+pub use files::{Files, Found};
+pub use host::{HostFiles, HostSink};
+pub use mem_files::MemFiles;
+pub use mem_sink::MemSink;
+pub use putting::{RunFault, put_all};
+pub use sink::{Put, Sink};
+
+#[cfg(test)]
+mod tests;

@@ -1,0 +1,86 @@
+//! Files in memory.
+use crate::calls::CallBook;
+use crate::files::{Files, Found};
+use et_base::NoMemory;
+use std::alloc::Global;
+use std::collections::HashMap;
+
+/// Files that are held in memory, and fail at the calls that they were told to fail at. They tell all.
+#[derive(Drop)]
+pub struct MemFiles {
+    files: HashMap<String, Vec<u8>>,
+    alloc: Global,
+    calls: CallBook,
+}
+
+impl MemFiles {
+    ghost use Rattle.std.specs.Prelude.{◌≡◌, ◌<◌, ◌^◌, List, ℕ, [], None, OnOk, OnErr};
+    ghost use Rattle.std.specs.Ordering.{nat_cmp};
+    ghost use Rattle.std.specs.BTreeSet.{insert_key};
+    ghost use Rattle.et_io.specs.MemFiles.{held, calls_of, Holds, IsUnchanged};
+
+    /// Nothing held, no call made, none to fail and no faults.
+    pub fn begin(alloc: Global) -> MemFiles
+        ensures nothing { (path : List ℕ) → held result path ≡ None }
+        ensures calls { calls_of result ≡ record { made = 0; failing = []; faults = 0 } }
+    {
+        MemFiles {
+            files: HashMap::new(alloc),
+            alloc,
+            calls: CallBook::begin(alloc),
+        }
+    }
+
+    /// Holds a file of these bytes at this path, in the place of the one that was there. After `NoMemory` all is as
+    /// before.
+    pub fn hold(&mut self, path: &str, bytes: &[u8]) -> Result<(), NoMemory>
+        ensures ok { OnOk result (Holds self.old self.new path.now bytes.now) }
+        ensures err { OnErr result (IsUnchanged self.old self.new) }
+    {
+        let path = String::from_str(self.alloc, path)?;
+        let bytes = Vec::from_slice(self.alloc, bytes)?;
+        self.files.insert(path, bytes)?;
+        Ok(())
+    }
+
+    /// Lets the read of this number fail; the first is 1. After `NoMemory` all is as before.
+    pub fn fail_at(&mut self, call: u64) -> Result<(), NoMemory>
+        requires { call < 2 ^ 63 }
+        ensures ok { OnOk result (calls_of self.new ≡ record (calls_of self.old) { failing = insert_key nat_cmp (calls_of self.old).failing call }) }
+        ensures files { (path : List ℕ) → held self.new path ≡ held self.old path }
+        ensures err { OnErr result (calls_of self.new ≡ calls_of self.old) }
+    {
+        self.calls.fail_at(call)
+    }
+}
+
+impl Files for MemFiles {
+    ghost use Rattle.std.specs.Prelude.{◌≡◌, ◌≤◌, ◌↔◌, ℕ, List, Some, Ok, IfOk, IfSome, IsTrue};
+    ghost use Rattle.et_io.specs.Calls.{next_fails, after_call};
+    ghost use Rattle.et_io.specs.Files.{Finds, IsWithin, CountsFault};
+    ghost use Rattle.et_io.specs.MemFiles.{held, calls_of, FailsAsTold};
+
+    ghost holds = { λ files. Some (held files) };
+
+    ghost faults = { λ files. (calls_of files).faults };
+
+    /// Finds what is held. Fails exactly at the calls that are to fail.
+    fn read(&mut self, alloc: Global, path: &str, most: u64) -> Result<Found, NoMemory>
+        ensures found { IfOk result (λ found. Finds found most (held self.old path.now)) }
+        ensures within { IfOk result (λ found. IsWithin found most) }
+        ensures failed { IfOk result (λ found. CountsFault found (calls_of self.old).faults (calls_of self.new).faults) }
+        ensures kept { Some (held self.new) ≡ Some (held self.old) }
+        ensures never_falls { (calls_of self.old).faults ≤ (calls_of self.new).faults }
+        ensures fails { FailsAsTold result (next_fails (calls_of self.old)) }
+        ensures calls { calls_of self.new ≡ after_call (calls_of self.old) }
+    {
+        if self.calls.next_call() {
+            return Ok(Found::Failed);
+        }
+        match self.files.get(path) {
+            None => Ok(Found::Absent),
+            Some(bytes) if bytes.len() as u64 > most => Ok(Found::TooLong),
+            Some(bytes) => Ok(Found::Bytes(Vec::from_slice(alloc, bytes.as_slice())?)),
+        }
+    }
+}

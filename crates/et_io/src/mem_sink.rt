@@ -1,0 +1,90 @@
+//! A sink in memory.
+ghost use Rattle.std.specs.Prelude.{◌≡◌, ◌<◌, ◌≤◌, ◌^◌, ◌↔◌, [], Some, IsTrue, OnOk, OnErr};
+ghost use Rattle.std.specs.Ordering.{nat_cmp};
+ghost use Rattle.std.specs.BTreeSet.{insert_key};
+ghost use Rattle.et_io.specs.Calls.{next_fails, after_call};
+ghost use Rattle.et_io.specs.MemSink.{TakesMost};
+ghost use Rattle.et_io.specs.Sink.{Takes, CountsFault};
+
+use crate::calls::CallBook;
+use crate::sink::{Put, Sink};
+use et_base::NoMemory;
+use std::alloc::Global;
+use std::marker::Model;
+
+/// A sink that keeps what it takes, takes at most so many bytes in a call, and fails at the calls that it was told to
+/// fail at. It tells all.
+#[derive(Drop)]
+pub struct MemSink {
+    taken: Vec<u8>,
+    most: u64,
+    calls: CallBook,
+}
+
+impl Model for MemSink {
+    ghost use Rattle.std.specs.Prelude.{◌≤◌};
+    ghost use Rattle.et_io.specs.MemSink.{SinkInMemory};
+
+    ghost Value = { SinkInMemory };
+
+    ghost view = { λ s. record { taken = s.taken.items; most = s.most; calls = s.calls } };
+
+    ghost invariant = { λ s. 1 ≤ s.most };
+}
+
+impl MemSink {
+    /// A sink that took nothing and has no call made, none to fail and no faults. It takes at most this many bytes in
+    /// a call.
+    pub fn begin(alloc: Global, most: u64) -> MemSink
+        requires { 1 ≤ most }
+        ensures { result ≡ record { taken = []; most = most; calls = record { made = 0; failing = []; faults = 0 } } }
+    {
+        MemSink {
+            taken: Vec::new(alloc),
+            most,
+            calls: CallBook::begin(alloc),
+        }
+    }
+
+    /// Lets the put of this number fail; the first is 1. After `NoMemory` all is as before.
+    pub fn fail_at(&mut self, call: u64) -> Result<(), NoMemory>
+        requires { call < 2 ^ 63 }
+        ensures ok { OnOk result (self.new ≡ record self.old { calls = record self.old.calls { failing = insert_key nat_cmp self.old.calls.failing call } }) }
+        ensures err { OnErr result (self.new ≡ self.old) }
+    {
+        self.calls.fail_at(call)
+    }
+
+    /// The bytes taken so far.
+    pub fn bytes(&self) -> &[u8]
+        ensures { result.now ≡ self.now.taken }
+    {
+        self.taken.as_slice()
+    }
+}
+
+impl Sink for MemSink {
+    ghost taken = { λ s. Some s.taken };
+
+    ghost faults = { λ s. s.calls.faults };
+
+    /// Takes as many bytes of the piece as a call may. Fails exactly at the calls that are to fail.
+    fn put(&mut self, piece: &[u8]) -> Put
+        ensures takes { Takes result (Some self.old.taken) (Some self.new.taken) piece.now }
+        ensures failed { CountsFault result self.old.calls.faults self.new.calls.faults }
+        ensures never_falls { self.old.calls.faults ≤ self.new.calls.faults }
+        ensures fails { (result ≡ Put.Failed) ↔ IsTrue (next_fails self.old.calls) }
+        ensures takes_most { TakesMost result piece.now self.old.most }
+        ensures calls { self.new.calls ≡ after_call self.old.calls }
+        ensures most { self.new.most ≡ self.old.most }
+    {
+        if self.calls.next_call() {
+            return Put::Failed;
+        }
+        let count = (piece.len() as u64).min(self.most) as usize;
+        match self.taken.extend_from_slice(&piece[..count]) {
+            Ok(()) => Put::Took(count),
+            Err(_) => Put::NoMemory,
+        }
+    }
+}

@@ -1,0 +1,35 @@
+//! Putting a whole piece.
+ghost use Rattle.std.specs.Prelude.{◌≡◌, ◌≤◌, [], OnOk, OnErr, IsErrOf};
+ghost use Rattle.et_io.specs.Faults.{Rose};
+ghost use Rattle.et_io.specs.Sink.{with_more, TakesFront};
+
+use crate::sink::{Put, Sink};
+
+/// Why a piece wasn't put whole.
+#[derive(Clone, Copy, Debug, PartialEq, Eq)]
+pub enum RunFault {
+    /// A put failed.
+    Write,
+    /// Memory ran out.
+    NoMemory,
+}
+
+/// Puts the whole piece, in as many calls as the sink wants, and none where the piece is empty. `Write` comes only
+/// where the sink's count of faults rose. After `Write` and after `NoMemory` the sink took a front of the piece.
+pub fn put_all<S: Sink>(sink: &mut S, piece: &[u8]) -> Result<(), RunFault>
+    ensures ok { OnOk result (S.taken sink.new ≡ with_more (S.taken sink.old) piece.now) }
+    ensures write { IsErrOf result RunFault.Write → Rose (S.faults sink.old) (S.faults sink.new) }
+    ensures err { OnErr result (TakesFront (S.taken sink.old) (S.taken sink.new) piece.now) }
+    ensures never_falls { S.faults sink.old ≤ S.faults sink.new }
+    ensures no_call { piece.now ≡ [] → sink.new ≡ sink.old }
+{
+    let mut rest = piece;
+    while !rest.is_empty() {
+        match sink.put(rest) {
+            Put::Took(n) => rest = &rest[n..],
+            Put::Failed => return Err(RunFault::Write),
+            Put::NoMemory => return Err(RunFault::NoMemory),
+        }
+    }
+    Ok(())
+}

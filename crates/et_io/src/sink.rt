@@ -1,0 +1,31 @@
+//! What bytes are put to.
+ghost use Rattle.std.specs.Prelude.{ℕ, ◌≤◌, List, Option};
+ghost use Rattle.et_io.specs.Sink.{Takes, CountsFault};
+
+/// What a sink answered to one put.
+#[derive(Clone, Copy, Debug, PartialEq, Eq)]
+pub enum Put {
+    /// It took this many bytes from the front of the piece: at least one, unless the piece was empty.
+    Took(usize),
+    /// The put failed, nothing was taken, and the count of faults rose.
+    Failed,
+    /// Memory ran out, and nothing was taken.
+    NoMemory,
+}
+
+/// What bytes are put to. A sink may tell which bytes it took; each tells how often it failed.
+pub trait Sink {
+    /// The bytes taken so far, where the sink tells them.
+    ghost taken: { Self → Option (List ℕ) };
+
+    /// How many puts failed.
+    ghost faults: { Self → ℕ };
+
+    /// Takes bytes from the front of the piece. A put fails only where the count of faults rises, and that never
+    /// falls; a sink that takes nothing of a piece that isn't empty has failed. After `Failed` and after `NoMemory`
+    /// nothing was taken.
+    fn put(&mut self, piece: &[u8]) -> Put
+        ensures takes { Takes result (taken self.old) (taken self.new) piece.now }
+        ensures failed { CountsFault result (faults self.old) (faults self.new) }
+        ensures never_falls { faults self.old ≤ faults self.new };
+}

@@ -1,0 +1,4 @@
+pub mod Mentioning
+pub mod Writing
+pub mod TurnLemmas
+pub mod RunLemmas

@@ -1,0 +1,243 @@
+-- The whole run: what holds between two turns, and what is put.
+use Rattle.std.proofs.Common.{◌≡◌, ℕ, zero, suc, ◌<◌, ◌≤◌, Bool, true, false, List, [], ◌∷◌, ◌++◌, Option, Some, None, refl, sym, ◌∙◌, ap, subst, arith, ◌⊎◌, inl, inr, ⊎_elim, if◌then◌else◌, append_assoc, append-nil, rules, unwrap_or, Result, Ok, Err, OnErr}
+use mathlib.Core.Path.{fun_ext}
+use Rattle.std.proofs.lemmas.Bool.{cases_lt}
+use Rattle.std.proofs.lemmas.Grind.{flat_map-append}
+use Rattle.et_base.specs.declared.line.TraceLine.{TraceLine}
+use Rattle.et_base.specs.declared.line.TraceLine.TheVariants.{Header, Finish}
+use Rattle.et_base.specs.declared.value.End.{End}
+use Rattle.et_graph.specs.Graph.{Graph}
+use Rattle.et_state.specs.declared.records.Record.{Record}
+use Rattle.et_state.specs.Outcome.{state_after, records_of}
+use Rattle.et_state.specs.Naming.{Mentions, nothing_mentioned, mentions_after, lines_of}
+use Rattle.et_state.specs.History.{Setting, is_flush_point, flush_lines, how_of, ending, step_of, settled, left_by, records_at, last_reached, deaths, mentions_to, lines_to, trace_of, IsLast}
+use Rattle.et_text.specs.Spelling.{text, spelling}
+use Rattle.et_io.specs.Sink.{with_more, TakesFront}
+use Rattle.et_run.specs.Run.{noted, flush_of, due_lines, flush_now, Turns, Advances, Concludes}
+use Rattle.et_run.specs.Traced.{WritesTrace, WritesFront}
+
+-- WHAT IS TAKEN
+
+pub more_nothing : (taken : Option (List ℕ)) → taken ≡ with_more taken []
+more_nothing None = refl
+more_nothing (Some xs) = ap (λ ys. Some ys) (sym (append-nil xs))
+
+pub more_twice : (taken : Option (List ℕ)) (a b : List ℕ) → with_more (with_more taken a) b ≡ with_more taken (a ++ b)
+more_twice None a b = refl
+more_twice (Some xs) a b = ap (λ ys. Some ys) (append_assoc xs a b)
+
+-- a front of what comes next, behind what was taken, is a front of the whole
+pub front_on : (taken mid new : Option (List ℕ)) (a p w r : List ℕ) → mid ≡ with_more taken a → w ≡ (a ++ p) ++ r → TakesFront mid new p → TakesFront taken new w
+front_on taken mid new a p w r em ew (rest, h) = (
+  rest ++ r,
+  record {
+    front = a ++ h.front;
+    parts = ew ∙ (ap (λ q. (a ++ q) ++ r) h.parts ∙ (ap (λ q. q ++ r) (sym (append_assoc a h.front rest)) ∙ append_assoc (a ++ h.front) rest r));
+    taken = h.taken ∙ (ap (λ t. with_more t h.front) em ∙ more_twice taken a h.front);
+  },
+)
+
+-- what was taken so far is a front of the whole
+pub front_so_far : (taken new : Option (List ℕ)) (a w r : List ℕ) → new ≡ with_more taken a → w ≡ a ++ r → TakesFront taken new w
+front_so_far taken new a w r en ew = (r, record { front = a; parts = ew; taken = en })
+
+-- HOW THE LINES GROW
+
+-- these lines are the first of those
+pub Extends : List TraceLine → List TraceLine → Type 0
+Extends a b = (rest : List TraceLine) × (b ≡ a ++ rest)
+
+extends_on : (a b c : List TraceLine) → Extends a b → Extends b c → Extends a c
+unfolding Extends
+extends_on a b c (p, e) (q, f) = (p ++ q, f ∙ (ap (λ x. x ++ q) e ∙ append_assoc a p q))
+
+text_front : (a b : List TraceLine) → Extends a b → (r : List ℕ) × (text b ≡ text a ++ r)
+unfolding Extends
+text_front a b (rest, e) = (text rest, ap text e ∙ flat_map-append spelling a rest)
+
+IfNothing : Option End → Type 0
+IfNothing None = Unit {0}
+IfNothing (Some end) = ⊥
+
+none_some : (o : Option End) (end : End) → o ≡ None → o ≡ Some end → ⊥
+unfolding IfNothing
+none_some o end a b = subst IfNothing (sym a ∙ b) tt
+
+due_if : (b : Bool) (ls : List TraceLine) → due_lines b ls ≡ (if b then ls else [])
+due_if true ls = refl
+due_if false ls = refl
+
+below_or_at : (k e : ℕ) → k < suc e → (k < e) ⊎ (k ≡ e)
+below_or_at k e lt = ⊎_elim (λ a. inl a) (λ b. inr (omega arith)) (cases_lt k e)
+
+module _ {S : Type 0} (reached : Graph → ℕ → Bool) (given : Setting S) (start : S) (made : List Record) where
+  -- how the history ends after event e, if it does
+  abbrev ends_at : ℕ → Option End
+  ends_at e = ending given e (settled reached given e (left_by reached given start made e))
+
+  lines_next : (e : ℕ) → Extends (lines_to reached given start made e) (lines_to reached given start made (suc e))
+  unfolding lines_to Extends
+  lines_next e = (_, append_assoc (lines_to reached given start made e) _ _)
+
+  lines_within : (k e : ℕ) → e ≤ k → Extends (lines_to reached given start made e) (lines_to reached given start made k)
+  unfolding Extends
+  lines_within zero e le = subst (λ j. Extends (lines_to reached given start made j) (lines_to reached given start made 0)) (let z : 0 ≡ e = omega arith in z) ([], sym (append-nil (lines_to reached given start made 0)))
+  lines_within (suc k) e le =
+      ⊎_elim (λ above. subst (λ j. Extends (lines_to reached given start made j) (lines_to reached given start made (suc k))) (let z : suc k ≡ e = omega arith in z) ([], sym (append-nil (lines_to reached given start made (suc k)))))
+      (λ below. extends_on _ _ _ (lines_within k e below) (lines_next k)) (cases_lt k e)
+
+  lines_traced : (e n : ℕ) (end : End) → e ≤ n → Extends (lines_to reached given start made e) (trace_of reached given start made n end)
+  unfolding Extends
+  lines_traced e n end le = extends_on _ _ _ (lines_within n e le) (_, append_assoc (lines_to reached given start made n) _ _)
+
+  -- an event before which no end came is at most the last one
+  up_to_last : (e n : ℕ) (end : End) → IsLast reached given start made n end → ((k : ℕ) → k < e → ends_at k ≡ None) → e ≤ n
+  up_to_last e n end last first = ⊎_elim (λ past. absurd (none_some (ends_at n) end (first n past) last.ends)) (λ le. le) (cases_lt n e)
+
+  -- the last event before event e after which an object was reached, as far as it is noted before event e is
+  pub noted_before : ℕ → ℕ → ℕ
+  noted_before o zero = zero
+  noted_before o (suc e) = last_reached reached given start made o e
+
+  noted_is : (o e : ℕ) → noted (reached (given.rule.graph (left_by reached given start made e))) (λ x. noted_before x e) e o ≡ last_reached reached given start made o e
+  unfolding noted_before last_reached
+  noted_is o zero = elim (reached (given.rule.graph (left_by reached given start made 0)) o) as (λ b. (if b then zero else zero) ≡ zero) [ true ↦ refl | false ↦ refl ]
+  noted_is o (suc e) = refl
+
+  -- what holds between two turns of the loop
+  pub record Running (e : ℕ) (s : S) (last : ℕ → ℕ) (m : Mentions) (before now : Option (List ℕ)) : Type 0 where
+    pub state : s ≡ left_by reached given start made e
+    pub first : (k : ℕ) → k < e → ending given k (settled reached given k (left_by reached given start made k)) ≡ None
+    pub noted : (o : ℕ) → last o ≡ noted_before o e
+    pub mentions : m ≡ mentions_to reached given start made e
+    pub lines : now ≡ with_more before (text (lines_to reached given start made e))
+
+  pub running_start : (last : ℕ → ℕ) (m : Mentions) (before now : Option (List ℕ)) (bytes : List ℕ) → ((o : ℕ) → last o ≡ 0) → m ≡ mentions_after given.names nothing_mentioned made → bytes ≡ text (Header 1 given.interval ∷ lines_of given.names nothing_mentioned made) → now ≡ with_more before bytes → Running 0 start last m before now
+  unfolding left_by noted_before mentions_to lines_to
+  running_start last m before now bytes h em eb en = record {
+    state = refl;
+    first = λ k lt. absurd (omega arith);
+    noted = h;
+    mentions = em;
+    lines = en ∙ ap (λ b. with_more before b) eb;
+  }
+
+  -- nothing but a front of the first lines was put
+  pub front_start : (before now : Option (List ℕ)) (bytes : List ℕ) → bytes ≡ text (Header 1 given.interval ∷ lines_of given.names nothing_mentioned made) → TakesFront before now bytes → WritesFront reached given start made before now
+  unfolding lines_to
+  front_start before now bytes eb h n end last =
+      let ext = text_front _ _ (lines_traced 0 n end (search rules)) in
+      front_on before before now [] bytes (text (trace_of reached given start made n end)) ext.0 (more_nothing before) (ext.1 ∙ ap (λ b. b ++ ext.0) (sym eb)) h
+
+  pub front_nothing : (before : Option (List ℕ)) → WritesFront reached given start made before before
+  front_nothing before n end last = front_so_far before before [] (text (trace_of reached given start made n end)) (text (trace_of reached given start made n end)) (more_nothing before) refl
+
+  module _ (e : ℕ) (s : S) (last : ℕ → ℕ) (m : Mentions) (before now : Option (List ℕ)) (r : Running e s last m before now) where
+    -- the lines of a flush that is due are those of the history
+    flush_is : flush_now reached given e s last m s last m [] [] ≡ flush_lines e (deaths reached given start made e)
+    flush_is =
+        ap (λ f. flush_of (reached (given.rule.graph s)) (noted (reached (given.rule.graph s)) f e) e (given.rule.graph s)) (fun_ext r.noted)
+        ∙ (ap (λ x. flush_of (reached (given.rule.graph x)) (noted (reached (given.rule.graph x)) (λ o. noted_before o e) e) e (given.rule.graph x)) r.state
+        ∙ ap (λ f. flush_of (reached (given.rule.graph (left_by reached given start made e))) f e (given.rule.graph (left_by reached given start made e))) (fun_ext (λ o. noted_is o e)))
+
+    -- so far only a front of the trace was put
+    pub front_now : WritesFront reached given start made before now
+    front_now n end last' =
+        let ext = text_front _ _ (lines_traced e n end (up_to_last e n end last' r.first)) in
+        front_so_far before now (text (lines_to reached given start made e)) (text (trace_of reached given start made n end)) ext.0 r.lines ext.1
+
+    -- THE NEXT EVENT WAS DONE
+    module _ (s' : S) (last' : ℕ → ℕ) (m' : Mentions) (out out' : List ℕ) (empty : out ≡ []) (a : Advances reached given e s last m s' last' m' out out') where
+      -- the lines of the history from the records of event e to those of the next
+      more_lines : List TraceLine
+      more_lines = (if is_flush_point given.interval e then flush_lines e (deaths reached given start made e) else []) ++ lines_of given.names (mentions_to reached given start made e) (records_at reached given start made (suc e))
+
+      put_is : out' ≡ text more_lines
+      unfolding more_lines
+      put_is =
+          let due = is_flush_point given.interval e in
+          let records = λ (x : S). records_of (step_of given (suc e) (settled reached given e x)) in
+          a.lines
+          ∙ (ap (λ o. o ++ text (due_lines due (flush_now reached given e s last m s' last' m' out out') ++ lines_of given.names m (records s))) empty
+          ∙ (ap (λ f. text (due_lines due f ++ lines_of given.names m (records s))) flush_is
+          ∙ (ap (λ d. text (d ++ lines_of given.names m (records s))) (due_if due (flush_lines e (deaths reached given start made e)))
+          ∙ (ap (λ x. text ((if due then flush_lines e (deaths reached given start made e) else []) ++ lines_of given.names x (records s))) r.mentions
+          ∙ ap (λ x. text ((if due then flush_lines e (deaths reached given start made e) else []) ++ lines_of given.names (mentions_to reached given start made e) (records x))) r.state))))
+
+      lines_are : text (lines_to reached given start made (suc e)) ≡ text (lines_to reached given start made e) ++ text more_lines
+      unfolding lines_to more_lines
+      lines_are = ap text (append_assoc (lines_to reached given start made e) _ _) ∙ flat_map-append spelling (lines_to reached given start made e) more_lines
+
+      first_next : (k : ℕ) → k < suc e → ending given k (settled reached given k (left_by reached given start made k)) ≡ None
+      first_next k lt = ⊎_elim (λ b. r.first k b) (λ q. subst (λ j. ending given j (settled reached given j (left_by reached given start made j)) ≡ None) (sym q) (subst (λ x. ending given e (settled reached given e x) ≡ None) r.state a.goes)) (below_or_at k e lt)
+
+      running_next : (now' : Option (List ℕ)) → now' ≡ with_more now out' → Running (suc e) s' last' m' before now'
+      unfolding left_by noted_before last_reached mentions_to
+      running_next now' en = record {
+        state = a.state ∙ ap (λ x. state_after (settled reached given e x) (step_of given (suc e) (settled reached given e x))) r.state;
+        first = first_next;
+        noted = λ o. a.notes o ∙ (ap (λ x. noted (reached (given.rule.graph x)) last e o) r.state ∙ (ap (λ f. noted (reached (given.rule.graph (left_by reached given start made e))) f e o) (fun_ext r.noted) ∙ noted_is o e));
+        mentions = a.mentions ∙ (ap (λ x. mentions_after given.names x (records_of (step_of given (suc e) (settled reached given e s)))) r.mentions ∙ ap (λ x. mentions_after given.names (mentions_to reached given start made e) (records_of (step_of given (suc e) (settled reached given e x)))) r.state);
+        lines = en ∙ (ap (λ t. with_more t out') r.lines ∙ (more_twice before (text (lines_to reached given start made e)) out' ∙ (ap (λ o. with_more before (text (lines_to reached given start made e) ++ o)) put_is ∙ ap (λ o. with_more before o) (sym lines_are))));
+      }
+
+      pub running_on : (n : ℕ) (now' : Option (List ℕ)) → n ≡ suc e → now' ≡ with_more now out' → Running n s' last' m' before now'
+      running_on n now' h en = subst (λ j. Running j s' last' m' before now') (sym h) (running_next now' en)
+
+      -- only a front of its lines was put
+      pub front_next : (now' : Option (List ℕ)) → TakesFront now now' out' → WritesFront reached given start made before now'
+      front_next now' h n end last'' =
+          let ext = text_front _ _ (lines_traced (suc e) n end (up_to_last (suc e) n end last'' first_next)) in
+          front_on before now now' (text (lines_to reached given start made e)) out' (text (trace_of reached given start made n end)) ext.0 r.lines
+          (ext.1 ∙ ap (λ b. b ++ ext.0) (lines_are ∙ ap (λ o. text (lines_to reached given start made e) ++ o) (sym put_is))) h
+
+    -- THE HISTORY ENDED
+    module _ (s' : S) (last' : ℕ → ℕ) (m' : Mentions) (end : End) (out out' : List ℕ) (empty : out ≡ []) (a : Concludes reached given e s last m s' last' m' out out' end) where
+      last_put : out' ≡ text (flush_lines e (deaths reached given start made e) ++ Finish e (how_of end) ∷ [])
+      last_put =
+          a.lines
+          ∙ (ap (λ o. o ++ text (flush_now reached given e s last m s' last' m' out out' ++ Finish e (how_of end) ∷ [])) empty
+          ∙ ap (λ f. text (f ++ Finish e (how_of end) ∷ [])) flush_is)
+
+      trace_is : text (trace_of reached given start made e end) ≡ text (lines_to reached given start made e) ++ out'
+      trace_is =
+          ap text (append_assoc (lines_to reached given start made e) (flush_lines e (deaths reached given start made e)) (Finish e (how_of end) ∷ []))
+          ∙ (flat_map-append spelling (lines_to reached given start made e) (flush_lines e (deaths reached given start made e) ++ Finish e (how_of end) ∷ [])
+          ∙ ap (λ o. text (lines_to reached given start made e) ++ o) (sym last_put))
+
+      is_last : IsLast reached given start made e end
+      is_last = record { ends = subst (λ x. ending given e (settled reached given e x) ≡ Some end) r.state a.ends; first = r.first }
+
+      pub running_end : (now' : Option (List ℕ)) → now' ≡ with_more now out' → WritesTrace reached given start made (record { end = end; event = e }) before now'
+      running_end now' en = record {
+        ends = is_last;
+        taken = en ∙ (ap (λ t. with_more t out') r.lines ∙ (more_twice before (text (lines_to reached given start made e)) out' ∙ ap (λ o. with_more before o) (sym trace_is)));
+      }
+
+      -- only a front of its lines was put
+      pub front_end : (now' : Option (List ℕ)) → TakesFront now now' out' → WritesFront reached given start made before now'
+      front_end now' h n other last'' =
+          let up = up_to_last e n other last'' r.first in
+          let down = up_to_last n e end is_last last''.first in
+          let same : e ≡ n = omega arith in
+          let both : Some other ≡ Some end = sym last''.ends ∙ (ap (λ j. ends_at j) (sym same) ∙ is_last.ends) in
+          let one : other ≡ end = ap (λ o. unwrap_or o end) both in
+          let whole : text (trace_of reached given start made n other) ≡ (text (lines_to reached given start made e) ++ out') ++ [] =
+          ap (λ j. text (trace_of reached given start made j other)) (sym same) ∙ (ap (λ x. text (trace_of reached given start made e x)) one ∙ (trace_is ∙ sym (append-nil (text (lines_to reached given start made e) ++ out')))) in
+          front_on before now now' (text (lines_to reached given start made e)) out' (text (trace_of reached given start made n other)) [] r.lines whole h
+
+    -- .. whichever of the two it was
+    pub front_turn : (next : Option End) (s' : S) (last' : ℕ → ℕ) (m' : Mentions) (out out' : List ℕ) → out ≡ [] → Turns reached given e s last m s' last' m' out out' next → (now' : Option (List ℕ)) → TakesFront now now' out' → WritesFront reached given start made before now'
+    front_turn None s' last' m' out out' empty a now' h = front_next s' last' m' out out' empty a now' h
+    front_turn (Some end) s' last' m' out out' empty a now' h = front_end s' last' m' end out out' empty a now' h
+
+    pub turn_on : (next : Option End) (s' : S) (last' : ℕ → ℕ) (m' : Mentions) (out out' : List ℕ) → out ≡ [] → next ≡ None → Turns reached given e s last m s' last' m' out out' next → (n : ℕ) (now' : Option (List ℕ)) → n ≡ suc e → now' ≡ with_more now out' → Running n s' last' m' before now'
+    turn_on next s' last' m' out out' empty is a n now' h en = running_on s' last' m' out out' empty (subst (λ o. Turns reached given e s last m s' last' m' out out' o) is a) n now' h en
+
+    pub turn_end : (next : Option End) (end : End) (s' : S) (last' : ℕ → ℕ) (m' : Mentions) (out out' : List ℕ) → out ≡ [] → next ≡ Some end → Turns reached given e s last m s' last' m' out out' next → (now' : Option (List ℕ)) → now' ≡ with_more now out' → WritesTrace reached given start made (record { end = end; event = e }) before now'
+    turn_end next end s' last' m' out out' empty is a now' en = running_end s' last' m' end out out' empty (subst (λ o. Turns reached given e s last m s' last' m' out out' o) is a) now' en
+
+-- what holds in any case holds where there is an error
+pub on_any : {T E : Type 0} {X : Type 0} (r : Result T E) → X → OnErr r X
+on_any (Ok v) x = tt
+on_any (Err v) x = x

@@ -1,0 +1,69 @@
+-- One turn of the loop.
+use Rattle.std.proofs.Common.{◌≡◌, ℕ, suc, Bool, true, false, List, [], ◌∷◌, ◌++◌, Some, None, refl, sym, ◌∙◌, ap, subst, ◌↔◌, if◌then◌else◌, IsTrue, append_assoc, append-nil}
+use mathlib.Core.Path.{fun_ext}
+use Rattle.std.proofs.lemmas.Grind.{flat_map-append}
+use Rattle.et_base.specs.declared.line.TraceLine.{TraceLine}
+use Rattle.et_base.specs.declared.line.TraceLine.TheVariants.{Finish}
+use Rattle.et_base.specs.declared.value.End.{End}
+use Rattle.et_graph.specs.Graph.{Graph, IsReached, Decides}
+use Rattle.et_state.specs.Outcome.{state_after, records_of}
+use Rattle.et_state.specs.Naming.{Mentions, mentions_after, lines_of}
+use Rattle.et_state.specs.History.{Setting, is_flush_point, how_of, ending, step_of, settled}
+use Rattle.et_text.specs.Spelling.{text, spelling}
+use Rattle.et_run.specs.Run.{marked, noted, flush_of, due_lines, due_state, last_lines, Goes, Turns}
+
+same_tests : (a b : Bool) → (IsTrue a → IsTrue b) → (IsTrue b → IsTrue a) → a ≡ b
+same_tests true b f g = sym (f refl)
+same_tests false true f g = g refl
+same_tests false false f g = refl
+
+-- a mark for each object that is reached is the test itself
+pub here_is : (reached : Graph → ℕ → Bool) → Decides reached → (g : Graph) → (marks : List Bool) → ((o : ℕ) → IsTrue (marked marks o) ↔ IsReached g o) → marked marks ≡ reached g
+here_is reached d g marks h = fun_ext (λ o. same_tests (marked marks o) (reached g o) (λ m. (d g o).1 ((h o).0 m)) (λ m. (h o).1 ((d g o).0 m)))
+
+-- a flush where it is due leads to the settled state
+settled_is : {S : Type 0} (reached : Graph → ℕ → Bool) (given : Setting S) (s : S) (b : Bool) → due_state b (given.rule.flushed (reached (given.rule.graph s)) s) s ≡ (if b then given.rule.flushed (reached (given.rule.graph s)) s else s)
+settled_is reached given s true = refl
+settled_is reached given s false = refl
+
+-- at the end nothing is flushed twice, and nothing was left out
+last_once : {S : Type 0} (b : Bool) (end : End) (e : ℕ) (after s : S) (fl : S → List TraceLine) (out : List ℕ) → (out ++ text (due_lines b (fl s))) ++ text (last_lines b end e (fl (due_state b after s))) ≡ out ++ text (fl s ++ Finish e (how_of end) ∷ [])
+last_once true end e after s fl out = append_assoc out (text (fl s)) (text (Finish e (how_of end) ∷ [])) ∙ ap (λ t. out ++ t) (sym (flat_map-append spelling (fl s) (Finish e (how_of end) ∷ [])))
+last_once false end e after s fl out = rw (append-nil out) refl
+
+module _ {S : Type 0} (reached : Graph → ℕ → Bool) (given : Setting S) (e : ℕ) (s s₁ s₂ : S) (here : ℕ → Bool) (last last' : ℕ → ℕ) (m m' : Mentions) (due : Bool) (out out₁ out₂ : List ℕ) (eh : here ≡ reached (given.rule.graph s)) (ed : due ≡ is_flush_point given.interval e) (en : (o : ℕ) → last' o ≡ noted here last e o) (el : out₁ ≡ out ++ text (due_lines due (flush_of here last' e (given.rule.graph s)))) (es : s₁ ≡ due_state due (given.rule.flushed here s) s) where
+  settled_now : s₁ ≡ settled reached given e s
+  settled_now = es ∙ (ap (λ h. due_state due (given.rule.flushed h s) s) eh ∙ (ap (λ b. due_state b (given.rule.flushed (reached (given.rule.graph s)) s) s) ed ∙ settled_is reached given s (is_flush_point given.interval e)))
+
+  last_now : last' ≡ noted (reached (given.rule.graph s)) last e
+  last_now = fun_ext en ∙ ap (λ h. noted h last e) eh
+
+  flush_is : flush_of here last' e (given.rule.graph s) ≡ flush_of (reached (given.rule.graph s)) (noted (reached (given.rule.graph s)) last e) e (given.rule.graph s)
+  flush_is = ap (λ h. flush_of h last' e (given.rule.graph s)) eh ∙ ap (λ f. flush_of (reached (given.rule.graph s)) f e (given.rule.graph s)) last_now
+
+  pub turned_on : Goes given e s₁ m s₂ m' out₁ out₂ None → Turns reached given e s last m s₂ last' m' out out₂ None
+  turned_on g =
+      let fl = flush_of (reached (given.rule.graph s)) (noted (reached (given.rule.graph s)) last e) e (given.rule.graph s) in
+      let more = λ (x : S). lines_of given.names m (records_of (step_of given (suc e) x)) in
+      record {
+        goes = subst (λ x. ending given e x ≡ None) settled_now g.goes;
+        state = subst (λ x. s₂ ≡ state_after x (step_of given (suc e) x)) settled_now g.state;
+        notes = λ o. en o ∙ ap (λ h. noted h last e o) eh;
+        mentions = subst (λ x. m' ≡ mentions_after given.names m (records_of (step_of given (suc e) x))) settled_now g.mentions;
+        lines =
+            g.lines
+            ∙ (ap (λ x. out₁ ++ text (more x)) settled_now
+            ∙ (ap (λ t. t ++ text (more (settled reached given e s))) (el ∙ (ap (λ b. out ++ text (due_lines b (flush_of here last' e (given.rule.graph s)))) ed ∙ ap (λ f. out ++ text (due_lines (is_flush_point given.interval e) f)) flush_is))
+            ∙ (append_assoc out (text (due_lines (is_flush_point given.interval e) fl)) (text (more (settled reached given e s)))
+            ∙ ap (λ t. out ++ t) (sym (flat_map-append spelling (due_lines (is_flush_point given.interval e) fl) (more (settled reached given e s)))))));
+      }
+
+  pub turned_last : (end : End) (out₃ : List ℕ) → Goes given e s₁ m s₂ m' out₁ out₂ (Some end) → out₃ ≡ out₂ ++ text (last_lines due end e (flush_of here last' e (given.rule.graph s₂))) → Turns reached given e s last m s₂ last' m' out out₃ (Some end)
+  turned_last end out₃ g ec =
+      let fl = λ (x : S). flush_of here last' e (given.rule.graph x) in
+      let a : out₃ ≡ (out ++ text (due_lines due (fl s))) ++ text (last_lines due end e (fl (due_state due (given.rule.flushed here s) s))) =
+      ec ∙ (ap (λ t. t ++ text (last_lines due end e (fl s₂))) (g.lines ∙ el) ∙ ap (λ x. (out ++ text (due_lines due (fl s))) ++ text (last_lines due end e (fl x))) (g.state ∙ es)) in
+      record {
+        ends = subst (λ x. ending given e x ≡ Some end) settled_now g.ends;
+        lines = a ∙ (last_once due end e (given.rule.flushed here s) s fl out ∙ ap (λ f. out ++ text (f ++ Finish e (how_of end) ∷ [])) flush_is);
+      }

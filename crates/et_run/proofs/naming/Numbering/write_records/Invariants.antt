@@ -1,0 +1,15 @@
+use Rattle.std.proofs.Common.{◌≡◌, ◌++◌, drop}
+use Rattle.et_state.specs.Naming.{mentions_after, lines_of}
+use Rattle.et_text.specs.Spelling.{text}
+use Rattle.et_run.proofs.naming.Numbering.write_records.Given as goal
+
+-- what is mentioned and written so far, with what the rest adds, is what all add
+abbrev pub invariant-records : goal.invariant-records
+invariant-records g l =
+    let names = g.P.Program.names l.code in
+    record {
+      mentions : mentions_after names l.self (drop l.entry-index l.records) ≡ mentions_after names l.fn.self l.records;
+      lines :
+          l.buffer.items ++ text (lines_of names l.self (drop l.entry-index l.records))
+          ≡ l.fn.buffer.items ++ text (lines_of names l.fn.self l.records);
+    }

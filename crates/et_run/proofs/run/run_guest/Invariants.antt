@@ -1,0 +1,19 @@
+use Rattle.std.proofs.Common.{ℕ, ◌≤◌, ◌-◌, ◌+◌, ◌≡◌, Bool, get_or}
+use Rattle.et_graph.specs.Graph.{Graph, Decides}
+use Rattle.et_run.specs.Options.{setting_of}
+use Rattle.et_run.proofs.RunLemmas.{Running}
+use Rattle.et_run.proofs.run.run_guest.Given as goal
+
+abbrev pub invariant-events : goal.invariant-events
+invariant-events g l =
+    let G = g.G.Guest in
+    record {
+      runs : (reached : Graph → ℕ → Bool) → Decides reached → Running reached (setting_of (G.event_of l.code) G.unended_of G.graph_of G.flushed_of (g.G.Code.Program.names l.code) l.options) (G.state l.fn.machine) l.made l.e (G.state l.machine) (λ o. get_or l.tracer.last.items o 0) l.tracer.numbering (g.O.Sink.taken l.fn.sink) (g.O.Sink.taken l.sink);
+      limit : l.e ≤ l.options.limit;
+      clock : G.clock_of (G.state l.machine) ≡ l.e;
+      sound : G.is_sound l.code (G.state l.machine);
+      faults : g.O.Sink.faults l.fn.sink ≤ g.O.Sink.faults l.sink;
+    }
+
+abbrev pub decreases-events : goal.decreases-events
+decreases-events g l = l.options.limit + 1 - l.e

@@ -1,0 +1,4 @@
+pub mod Options
+pub mod Naming
+pub mod Run
+pub mod Traced

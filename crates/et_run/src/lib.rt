@@ -1,0 +1,13 @@
+//! The run: events in turn, flushes, and the trace, over any guest and any sink.
+#![tactic(auto)]
+
+mod census;
+mod guest;
+mod naming;
+mod options;
+mod run;
+mod tracer;
+
+pub use guest::{Guest, Program};
+pub use options::{Options, Ran, Schedule};
+pub use run::run_guest;

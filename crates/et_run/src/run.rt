@@ -1,0 +1,61 @@
+//! The whole run.
+ghost use Rattle.std.specs.Prelude.{◌≡◌, ℕ, Bool, ◌≤◌, All, IfOk, OnErr, IsErrOf};
+ghost use Rattle.et_io.specs.Faults.{Rose};
+ghost use Rattle.et_graph.specs.Graph.{Graph, Decides};
+ghost use Rattle.et_state.specs.Naming.{IsNamed};
+ghost use Rattle.et_run.specs.Options.{AreOptions, setting_of};
+ghost use Rattle.et_run.specs.Traced.{WritesTrace, WritesFront};
+
+use crate::guest::Guest;
+use crate::options::{Options, Ran};
+use crate::tracer::Tracer;
+use et_base::Steps;
+use et_io::{RunFault, Sink, put_all};
+use et_state::Lines;
+use std::alloc::Global;
+use std::sync::ledger::Ledger;
+
+/// Runs a guest from its starting state, whose own records are `made`, and writes the trace of its history to the
+/// sink, event by event: one put after each event that has lines.
+///
+/// `Write` comes only where the sink's count of faults rose. After `Write` and after `NoMemory` the sink took a front
+/// of the trace, and the machine may only be dropped.
+pub fn run_guest<G: Guest, O: Sink, L: Ledger>(
+    alloc: Global,
+    code: &G::Code,
+    options: &Options,
+    machine: &mut G,
+    made: &Lines,
+    sink: &mut O,
+    visits: &mut Steps<L>,
+) -> Result<Ran, RunFault>
+    requires options { AreOptions options.now }
+    requires clock { G.clock_of (G.state machine.old) ≡ 0 }
+    requires sound { G.is_sound code.now (G.state machine.old) }
+    requires named { All (IsNamed (G.Code.names code.now)) made.now }
+    ensures trace { (reached : Graph → ℕ → Bool) → Decides reached → IfOk result (λ ran.
+        WritesTrace reached (setting_of (G.event_of code.now) G.unended_of G.graph_of G.flushed_of (G.Code.names code.now) options.now) (G.state machine.old) made.now ran (O.taken sink.old) (O.taken sink.new)) }
+    ensures front { (reached : Graph → ℕ → Bool) → Decides reached → OnErr result (
+        WritesFront reached (setting_of (G.event_of code.now) G.unended_of G.graph_of G.flushed_of (G.Code.names code.now) options.now) (G.state machine.old) made.now (O.taken sink.old) (O.taken sink.new)) }
+    ensures write { IsErrOf result RunFault.Write → Rose (O.faults sink.old) (O.faults sink.new) }
+    ensures never_falls { O.faults sink.old ≤ O.faults sink.new }
+{
+    let mut tracer = match Tracer::begin(alloc, code, options.interval, made) {
+        Ok(tracer) => tracer,
+        Err(_) => return Err(RunFault::NoMemory),
+    };
+    put_all(sink, &tracer.buffer)?;
+    let mut e = 0;
+    'events: loop {
+        tracer.buffer.clear();
+        let next = match tracer.turn(alloc, code, options, e, machine, visits) {
+            Ok(next) => next,
+            Err(_) => return Err(RunFault::NoMemory),
+        };
+        put_all(sink, &tracer.buffer)?;
+        match next {
+            Some(end) => return Ok(Ran { end, event: e }),
+            None => e += 1,
+        }
+    }
+}

@@ -1,0 +1,4 @@
+pub mod Outcome
+pub mod Naming
+pub mod History
+pub mod Answers

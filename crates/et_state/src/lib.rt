@@ -1,0 +1,10 @@
+//! What a run of the guest means: the records of events, and the histories, deaths and traces of any rule of events.
+#![tactic(auto)]
+
+mod ends;
+mod lines;
+mod records;
+
+pub use ends::EventEnd;
+pub use lines::Lines;
+pub use records::Record;

@@ -1,0 +1,209 @@
+//! Writing a line, in a buffer that grows as it must and by nothing else.
+ghost use Rattle.std.specs.Prelude.{◌≡◌, ◌<◌, ◌^◌, [], ◌∷◌, ◌++◌, OnOk, OnErr, true};
+ghost use Rattle.std.specs.Fmt.{digit_glyph};
+ghost use Rattle.std.specs.List.{flat_map};
+ghost use Rattle.et_text.specs.Spelling.{escape, escapes, spelling, text_field, number_field, line_body};
+ghost use Rattle.et_text.specs.Extends.{Extends};
+
+use et_base::{Name, NoMemory, TraceLine};
+use itoa::Buffer;
+
+/// A number behind a space. After an error a front of it may be there.
+fn put_number(buffer: &mut Vec<u8>, n: u64) -> Result<(), NoMemory>
+    ensures ok { OnOk result (buffer.new.items ≡ buffer.old.items ++ number_field n) }
+    ensures err { OnErr result (Extends buffer.old.items buffer.new.items) }
+{
+    buffer.push(b' ')?;
+    let mut digits = Buffer::new();
+    buffer.extend_from_slice(digits.format(n).as_bytes())?;
+    Ok(())
+}
+
+fn hex_digit(digit: u8) -> u8
+    requires { digit < 16 }
+    ensures { result ≡ digit_glyph true digit }
+{
+    if digit < 10 {
+        b'0' + digit
+    } else {
+        b'A' - 10 + digit
+    }
+}
+
+fn put_byte(buffer: &mut Vec<u8>, byte: u8) -> Result<(), NoMemory>
+    ensures ok { OnOk result (buffer.new.items ≡ buffer.old.items ++ escape byte) }
+    ensures err { OnErr result (Extends buffer.old.items buffer.new.items) }
+{
+    if byte < 33 || byte == b'%' || byte >= 127 {
+        buffer.push(b'%')?;
+        buffer.push(hex_digit(byte / 16))?;
+        buffer.push(hex_digit(byte % 16))?;
+    } else {
+        buffer.push(byte)?;
+    }
+    Ok(())
+}
+
+fn put_bytes(buffer: &mut Vec<u8>, name: &[u8]) -> Result<(), NoMemory>
+    ensures ok { OnOk result (buffer.new.items ≡ buffer.old.items ++ escapes name.now) }
+    ensures err { OnErr result (Extends buffer.old.items buffer.new.items) }
+{
+    for byte in name {
+        put_byte(buffer, *byte)?;
+    }
+    Ok(())
+}
+
+fn put_name(buffer: &mut Vec<u8>, name: &Name) -> Result<(), NoMemory>
+    ensures ok { OnOk result (buffer.new.items ≡ buffer.old.items ++ text_field name.now) }
+    ensures err { OnErr result (Extends buffer.old.items buffer.new.items) }
+{
+    buffer.push(b' ')?;
+    put_bytes(buffer, name.as_slice())?;
+    Ok(())
+}
+
+fn put_numbers(buffer: &mut Vec<u8>, letter: u8, numbers: &[u64]) -> Result<(), NoMemory>
+    ensures ok { OnOk result (buffer.new.items ≡ buffer.old.items ++ letter ∷ flat_map number_field numbers.now) }
+    ensures err { OnErr result (Extends buffer.old.items buffer.new.items) }
+{
+    buffer.push(letter)?;
+    for number in numbers {
+        put_number(buffer, *number)?;
+    }
+    Ok(())
+}
+
+fn put_names(buffer: &mut Vec<u8>, name: &Name, descriptor: &Name) -> Result<(), NoMemory>
+    ensures ok { OnOk result (buffer.new.items ≡ buffer.old.items ++ (text_field name.now ++ text_field descriptor.now)) }
+    ensures err { OnErr result (Extends buffer.old.items buffer.new.items) }
+{
+    put_name(buffer, name)?;
+    put_name(buffer, descriptor)?;
+    Ok(())
+}
+
+fn put_line(buffer: &mut Vec<u8>, line: &TraceLine) -> Result<(), NoMemory>
+    ensures ok { OnOk result (buffer.new.items ≡ buffer.old.items ++ line_body line.now) }
+    ensures err { OnErr result (Extends buffer.old.items buffer.new.items) }
+{
+    match line {
+        TraceLine::Header { version, interval } => {
+            put_numbers(buffer, b'H', &[u64::from(*version), *interval])
+        }
+        TraceLine::Class { number, name } => {
+            put_numbers(buffer, b'C', &[u64::from(*number)])?;
+            put_name(buffer, name)?;
+            Ok(())
+        }
+        TraceLine::Method {
+            number,
+            class,
+            name,
+            descriptor,
+        } => {
+            put_numbers(buffer, b'N', &[u64::from(*number), u64::from(*class)])?;
+            put_names(buffer, name, descriptor)?;
+            Ok(())
+        }
+        TraceLine::Alloc {
+            event,
+            thread,
+            object,
+            class,
+            size,
+            length,
+        } => {
+            let (thread, object) = (u64::from(*thread), u64::from(*object));
+            let (class, length) = (u64::from(*class), u64::from(*length));
+            put_numbers(
+                buffer,
+                b'A',
+                &[*event, thread, object, class, *size, length],
+            )
+        }
+        TraceLine::Update {
+            event,
+            thread,
+            object,
+            slot,
+            old,
+            new,
+        } => {
+            let (thread, object) = (u64::from(*thread), u64::from(*object));
+            let (slot, old, new) = (u64::from(*slot), u64::from(*old), u64::from(*new));
+            put_numbers(buffer, b'U', &[*event, thread, object, slot, old, new])
+        }
+        TraceLine::Enter {
+            event,
+            thread,
+            method,
+            receiver,
+        } => {
+            let (thread, method) = (u64::from(*thread), u64::from(*method));
+            put_numbers(
+                buffer,
+                b'M',
+                &[*event, thread, method, u64::from(*receiver)],
+            )
+        }
+        TraceLine::Exit {
+            event,
+            thread,
+            method,
+        } => put_numbers(
+            buffer,
+            b'E',
+            &[*event, u64::from(*thread), u64::from(*method)],
+        ),
+        TraceLine::Unwind {
+            event,
+            thread,
+            method,
+            exception,
+        } => {
+            let (thread, method) = (u64::from(*thread), u64::from(*method));
+            put_numbers(
+                buffer,
+                b'X',
+                &[*event, thread, method, u64::from(*exception)],
+            )
+        }
+        TraceLine::Flush { event, deaths } => {
+            put_numbers(buffer, b'F', &[*event, u64::from(*deaths)])
+        }
+        TraceLine::Death { object, time } => {
+            put_numbers(buffer, b'D', &[u64::from(*object), *time])
+        }
+        TraceLine::Finish { event, how } => {
+            put_numbers(buffer, b'Z', &[*event, u64::from(*how)])
+        }
+    }
+}
+
+fn put_whole(buffer: &mut Vec<u8>, line: &TraceLine) -> Result<(), NoMemory>
+    ensures ok { OnOk result (buffer.new.items ≡ buffer.old.items ++ spelling line.now) }
+    ensures err { OnErr result (Extends buffer.old.items buffer.new.items) }
+{
+    put_line(buffer, line)?;
+    buffer.push(b'\n')?;
+    Ok(())
+}
+
+/// Appends the line to the buffer: its letter, each field behind a space, and LF. Numbers are decimal without leading
+/// zeros. In names and descriptors `%`, the space, the bytes below it and those from 7F on are written as `%` and two
+/// upper-case hexadecimal digits. It takes no memory but for the growth of the buffer; after `NoMemory` the buffer is
+/// as before.
+pub fn write_line(line: &TraceLine, buffer: &mut Vec<u8>) -> Result<(), NoMemory>
+    ensures ok { OnOk result (buffer.new.items ≡ buffer.old.items ++ spelling line.now) }
+    ensures err { OnErr result (buffer.new.items ≡ buffer.old.items) }
+{
+    let before = buffer.len();
+    match put_whole(buffer, line) {
+        Ok(()) => Ok(()),
+        Err(error) => {
+            buffer.truncate(before);
+            Err(error)
+        }
+    }
+}
