@@ -1,0 +1,39 @@
+-- What is true of the whole table.
+use Rattle.std.specs.Prelude.{ℕ, ◌==◌, ◌&&◌, not, Bool, true, false, List, [], ◌∷◌, Option, None, Some, is_some, codes}
+use Rattle.std.specs.List.{list_any, list_all}
+use Rattle.std.specs.Str.{bytes_eq}
+use Rattle.et_boot.specs.Classes.{BootClassOf, public_interface}
+
+abbrev pub is_named : List ℕ → BootClassOf → Bool
+is_named name c = bytes_eq name c.name
+
+-- no class has the name of an earlier one
+abbrev pub are_distinct : List BootClassOf → Bool
+are_distinct [] = true
+are_distinct (c ∷ cs) = not (list_any (is_named c.name) cs) && are_distinct cs
+
+-- the name is that of a class of the list that is an interface, or that is none
+abbrev pub has_kind : List BootClassOf → Bool → List ℕ → Bool
+has_kind cs true name = list_any (λ c. is_named name c && (c.flags == public_interface)) cs
+has_kind cs false name = list_any (λ c. is_named name c && not (c.flags == public_interface)) cs
+
+abbrev pub has_super : List BootClassOf → Option (List ℕ) → Bool
+has_super before None = true
+has_super before (Some name) = has_kind before false name
+
+-- each class stands behind its superclass, which is no interface, and behind its interfaces
+abbrev pub are_in_order : List BootClassOf → List BootClassOf → Bool
+are_in_order before [] = true
+are_in_order before (c ∷ cs) = (has_super before c.super_name && list_all (has_kind before true) c.interfaces) && are_in_order (c ∷ before) cs
+
+-- Thread, Reference or WeakReference
+abbrev pub is_deferring : BootClassOf → Bool
+is_deferring c = list_any (λ name. is_named name c) (codes "java/lang/Thread" ∷ codes "java/lang/ref/Reference" ∷ codes "java/lang/ref/WeakReference" ∷ [])
+
+abbrev pub same : Bool → Bool → Bool
+same true b = b
+same false b = not b
+
+-- deferred is exactly a method without code of one of those three
+abbrev pub defers_exactly : BootClassOf → Bool
+defers_exactly c = list_all (λ m. same m.deferred (is_deferring c && not (is_some m.code))) c.methods

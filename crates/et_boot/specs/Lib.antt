@@ -1,0 +1,3 @@
+pub mod Classes
+pub mod Shown
+pub mod Facts
