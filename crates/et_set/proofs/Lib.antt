@@ -1,0 +1,10 @@
+pub mod Names
+pub mod Maps
+pub mod EntryLemmas
+pub mod Marks
+pub mod LinkLemmas
+pub mod FaultLemmas
+pub mod AddLemmas
+pub mod BelowLemmas
+pub mod Rounds
+pub mod InitLemmas

@@ -1,0 +1,9 @@
+pub mod Outline
+pub mod Links
+pub mod Search
+pub mod Faults
+pub mod Index
+pub mod Answers
+pub mod Ancestry
+pub mod Ready
+pub mod Initialization

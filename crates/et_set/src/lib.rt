@@ -1,0 +1,20 @@
+//! A set of classes as linking reads it: what keeps it from being linked, and the superclasses and superinterfaces of
+//! each class (JVMS 5.3.5).
+#![tactic(auto)]
+
+mod check;
+mod fault;
+mod index;
+pub mod laws;
+mod links;
+mod outlines;
+mod rows;
+mod search;
+mod tables;
+
+pub use check::check_set;
+pub use fault::{FaultKind, SetFault};
+pub use links::Links;
+pub use outlines::ClassOutline;
+pub use rows::Row;
+pub use tables::ancestries;
