@@ -38,10 +38,10 @@ counts_on sizes i sum limit limit' le c = record { fits = c.fits; sum_is = c.sum
 pub counts_all : (sizes : Sizes) (i sum limit : ℕ) → IsNonDecreasingBy (λ (p : ℕ × ℕ). p.0) sizes → (i < length sizes → limit ≤ (at sizes i).0) → CountsTo sizes i sum limit → sum ≡ sum_below limit sizes
 counts_all sizes i sum limit sorted stop c =
     let front : sum_below limit (take i sizes) ≡ sum_by second (take i sizes) =
-        all_below (take i sizes) limit (λ k lt. (let l : k < i = omega (arith, lt, length-take-le i sizes c.fits) in subst (λ (x : ℕ × ℕ). x.0 < limit) (sym (get_or-take i sizes k no_size l)) (c.passed k l))) in
+    all_below (take i sizes) limit (λ k lt. (let l : k < i = omega (arith, lt, length-take-le i sizes c.fits) in subst (λ (x : ℕ × ℕ). x.0 < limit) (sym (get_or-take i sizes k no_size l)) (c.passed k l))) in
     let back : sum_below limit (drop i sizes) ≡ 0 =
-        none_below (drop i sizes) limit (λ k lt. (let l : i + k < length sizes = omega (arith, lt, length-drop i sizes) in let m : i < length sizes = omega (arith, l) in let first = stop m in let later = sorted i (i + k) no_size (omega arith) l in
-          subst (λ (x : ℕ × ℕ). limit ≤ x.0) (sym (get_or-drop i sizes k no_size)) (omega (arith, first, later)))) in
+    none_below (drop i sizes) limit (λ k lt. (let l : i + k < length sizes = omega (arith, lt, length-drop i sizes) in let m : i < length sizes = omega (arith, l) in let first = stop m in let later = sorted i (i + k) no_size (omega arith) l in
+    subst (λ (x : ℕ × ℕ). limit ≤ x.0) (sym (get_or-drop i sizes k no_size)) (omega (arith, first, later)))) in
     let whole : sum_below limit (take i sizes ++ drop i sizes) ≡ sum_below limit sizes = ap (λ (t : Sizes). sum_below limit t) (take-append-drop i sizes) in
     c.sum_is ∙ (sym front ∙ (omega (arith, back, whole, sum_by-append (size_below limit) (take i sizes) (drop i sizes))))
 

@@ -100,8 +100,8 @@ live_is lines e f le =
     let turned = sum_by-IsPermutation (live_size lines e) lines (reverse lines) (IsPermutation-reverse lines) in
     let sizes = size_sum lines e (reverse lines) f in
     let sums = adds (dies_before lines e) e 0 (born_by (reverse lines)) (died_by (reverse lines)) h.as_many
-      (λ i lt. list_any-IsPermutation (tells_before e (0 + i + 1)) lines (reverse lines) (IsPermutation-reverse lines) ∙ (let q : 0 + i + 1 - 1 ≡ i = omega arith in sym (subst (λ (j : ℕ). ltb (at (died_by (reverse lines)) j).0 e ≡ dies_before (reverse lines) e (0 + i + 1)) q (h.times e (0 + i + 1) le (omega arith)))))
-      h.sizes h.after in
+    (λ i lt. list_any-IsPermutation (tells_before e (0 + i + 1)) lines (reverse lines) (IsPermutation-reverse lines) ∙ (let q : 0 + i + 1 - 1 ≡ i = omega arith in sym (subst (λ (j : ℕ). ltb (at (died_by (reverse lines)) j).0 e ≡ dies_before (reverse lines) e (0 + i + 1)) q (h.times e (0 + i + 1) le (omega arith)))))
+    h.sizes h.after in
     omega (arith, turned, sizes, sums)
 
 pub born_small : (lines : List TraceLine) → AreFine 1 (reverse lines) → sum_by (λ (p : ℕ × ℕ). p.1) (born_by (reverse lines)) ≤ 2 ^ 54

@@ -160,10 +160,10 @@ lives_born past event thread object class size len b d next few le fits h =
       many = omega (arith, many, length-push b (event, size), length-append (births past) (event ∷ []));
       as_many = omega (arith, as_many, length-push b (event, size), length-push d (never, size));
       births_are = λ i lt. pair_push (λ (k : ℕ) (x y : ℕ × ℕ). k < length b + 1 → slice_index (births past ++ event ∷ []) k ≡ x.0) b b (event, size) (event, size) i refl
-        (λ l m. (let l' : i < length (births past) = omega (arith, many, l) in get_or-append (births past) (event ∷ []) 0 i l') ∙ h.births_are i l)
-        (λ m. subst (λ (k : ℕ). slice_index (births past ++ event ∷ []) k ≡ event) (sym many) (get_or-append_seam (births past) event [] 0))
-        (λ g m. absurd (omega (arith, g, m)))
-        (omega (arith, lt, length-push b (event, size)));
+          (λ l m. (let l' : i < length (births past) = omega (arith, many, l) in get_or-append (births past) (event ∷ []) 0 i l') ∙ h.births_are i l)
+          (λ m. subst (λ (k : ℕ). slice_index (births past ++ event ∷ []) k ≡ event) (sym many) (get_or-append_seam (births past) event [] 0))
+          (λ g m. absurd (omega (arith, g, m)))
+          (omega (arith, lt, length-push b (event, size)));
       sizes = λ i. pair_push (λ (k : ℕ) (x y : ℕ × ℕ). y.1 ≡ x.1) b d (event, size) (never, size) i as_many (λ l. h.sizes i) refl (λ g. refl);
       after = λ i lt. pair_push (λ (k : ℕ) (x y : ℕ × ℕ). x.0 ≤ y.0) b d (event, size) (never, size) i as_many (λ l. h.after i l) (omega (arith, le)) (λ g. omega arith);
       times = λ e o low ge. ap (λ (t : ℕ). ltb t e) (times_push d size (o - 1)) ∙ h.times e o low ge;

@@ -78,7 +78,7 @@ rise_push : (xs : List ℕ) (most e : ℕ) → most ≤ e → e ≤ 2 ^ 40 → R
 rise_push xs most e le fits r = record {
   sorted = IsSortedBy-push (λ (x y : ℕ). is_lt (nat_cmp x y)) xs e r.sorted (λ d lt. (let l = r.last d lt in let n : ltb e (get_or xs (length xs - 1) d) ≡ false = grind (arith, nat_tests) in not_less e (get_or xs (length xs - 1) d) n));
   last = λ d lt. (let place : length (xs ++ e ∷ []) - 1 ≡ length xs = omega (arith, length-append xs (e ∷ [])) in
-    let is : get_or (xs ++ e ∷ []) (length (xs ++ e ∷ []) - 1) d ≡ e = ap (λ (k : ℕ). get_or (xs ++ e ∷ []) k d) place ∙ get_or-append_seam xs e [] d in omega (arith, is));
+      let is : get_or (xs ++ e ∷ []) (length (xs ++ e ∷ []) - 1) d ≡ e = ap (λ (k : ℕ). get_or (xs ++ e ∷ []) k d) place ∙ get_or-append_seam xs e [] d in omega (arith, is));
   low = All-push (λ (x : ℕ). x ≤ 2 ^ 40) xs e r.low fits;
 }
 

@@ -11,7 +11,7 @@ returns-then-time-limit-clause-sum c =
     let same = ap (λ v. v.items) c.loop-self.invariant.same in
     let sorted = subst (λ (t : Sizes). IsNonDecreasingBy (λ (p : ℕ × ℕ). p.0) t) (sym same) c.requires.sorted in
     let stop : s.at < length s.sizes.items → c.args.limit ≤ (get_or s.sizes.items s.at no_size).0 =
-        λ lt. subst (λ (p : ℕ × ℕ). c.args.limit ≤ p.0) (c.index.ensures ∙ get_or_default s.sizes.items s.at c.index.result.now no_size lt) c.if-time-limit.true in
+    λ lt. subst (λ (p : ℕ × ℕ). c.args.limit ≤ p.0) (c.index.ensures ∙ get_or_default s.sizes.items s.at c.index.result.now no_size lt) c.if-time-limit.true in
     counts_all s.sizes.items s.at s.sum c.args.limit sorted stop c.loop-self.invariant.counts ∙ ap (λ (t : Sizes). sum_below c.args.limit t) same
 
 pub returns-clause-sum : goal.returns-clause-sum
