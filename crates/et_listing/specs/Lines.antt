@@ -14,7 +14,7 @@ use Rattle.et_listing.specs.declared.line.Line.TheVariants as line
 use Rattle.et_listing.specs.declared.line.LineFault.{LineFault}
 use Rattle.et_listing.specs.declared.line.LineFault.TheVariants as fault
 use Rattle.et_listing.specs.declared.line.Parsed.{Parsed}
-use Rattle.et_listing.specs.Words.{words, same, is_spelling, is_label, is_label_line, is_numeral, is_flags, flags_of, value, is_natural_in, is_integer_in}
+use Rattle.et_listing.specs.Words.{is_int32, words, same, is_spelling, is_label, is_label_line, is_numeral, is_flags, flags_of, value, is_natural_in, is_integer_in}
 
 infixl 10 ◌>>=◌
 abbrev pub ◌>>=◌ : {A B : Type 0} → Result A LineFault → (A → Result B LineFault) → Result B LineFault
@@ -285,9 +285,6 @@ pairs other = []
 
 abbrev pub is_pair : List ℕ × List ℕ → Bool
 is_pair p = is_numeral p.0 && is_label p.1
-
-abbrev pub is_int32 : List ℕ → Bool
-is_int32 word = is_integer_in (neg_ℤ (pos (2 ^ 31))) (pos (2 ^ 31 - 1)) word
 
 abbrev pub lookup_of : List (List ℕ) → Result Instruction LineFault
 lookup_of words = do

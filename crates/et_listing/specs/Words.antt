@@ -125,6 +125,9 @@ is_natural_in high word = int_le (pos 0) (value word) && int_le (value word) (po
 abbrev pub is_integer_in : ℤ → ℤ → List ℕ → Bool
 is_integer_in low high word = int_le low (value word) && int_le (value word) high
 
+abbrev pub is_int32 : List ℕ → Bool
+is_int32 word = is_integer_in (neg_ℤ (pos (2 ^ 31))) (pos (2 ^ 31 - 1)) word
+
 -- a number of 64 bits, by its sign and its size
 abbrev pub signed : Bool → ℕ → Option ℤ
 signed negative size = if negative then (if nat_le size (2 ^ 63) then Some (neg_ℤ (pos size)) else None) else (if nat_lt size (2 ^ 63) then Some (pos size) else None)

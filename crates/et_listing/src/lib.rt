@@ -7,7 +7,7 @@ mod header;
 pub mod instruction;
 pub mod line;
 mod mnemonic;
-mod operand;
+pub mod operand;
 mod place;
 mod reading;
 mod shape;

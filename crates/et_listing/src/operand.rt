@@ -2,7 +2,7 @@
 
 ghost use Rattle.std.specs.Prelude.{◌≡◌, ℕ, ◌+◌, ◌-◌, ◌*◌, ◌<◌, ◌≤◌, ◌^◌, min, true, length, drop, neg_ℤ, pos, nat_le, if◌then◌else◌, Some, None, unsigned_abs};
 ghost use Rattle.std.specs.List.{list_all};
-ghost use Rattle.et_listing.specs.Words.{is_some_text, is_digit, is_upper_hex, is_lower_hex, hex, is_spelled_out, is_escape, spelled_len, is_spelling, is_letter, is_label_byte, is_label, is_label_line, is_negative, digits, is_numeral, magnitude, is_hex, is_flags, flags_of, value, is_natural_in, is_integer_in, signed};
+ghost use Rattle.et_listing.specs.Words.{is_some_text, is_digit, is_upper_hex, is_lower_hex, hex, is_letter, is_label_byte, is_label, is_label_line, is_negative, digits, is_numeral, magnitude, is_hex, is_flags, flags_of, value, is_natural_in, is_integer_in, is_int32, signed};
 
 pub(crate) fn is_digit(c: u8) -> bool
     ensures { result ≡ is_digit c }
@@ -152,5 +152,15 @@ pub(crate) fn integer(word: &[u8], low: i64, high: i64) -> Option<i64>
     match signed(is_negative(word), magnitude(digits(word))) {
         Some(value) if low <= value && value <= high => Some(value),
         _ => None,
+    }
+}
+
+/// The value of a number of 32 bits.
+pub fn int32_of(word: &[u8]) -> Option<i32>
+    ensures { result ≡ (if is_int32 word.now then Some (value word.now) else None) }
+{
+    match integer(word, i32::MIN as i64, i32::MAX as i64) {
+        Some(value) => Some(value as i32),
+        None => None,
     }
 }

@@ -136,10 +136,10 @@ fn parsed<'a>(names: &IndexSet<Word<'a>>, words: &'a [Word<'a>]) -> Parsed<'a>
 }
 
 /// What each line of a listing says, by its words, and what is wrong with it by itself.
-pub fn parsed_lines<'a>(
+pub fn parsed_lines<'b, 'a: 'b>(
     alloc: Global,
-    lines: &'a [LineWords<'a>],
-) -> Result<Vec<Parsed<'a>>, AllocError>
+    lines: &'b [LineWords<'a>],
+) -> Result<Vec<Parsed<'b>>, AllocError>
     ensures { IfOk result (λ found. found.items ≡ map parsed_of lines.now) }
 {
     let names = mnemonics(alloc)?;

@@ -2,8 +2,8 @@
 
 ghost use Rattle.std.specs.Prelude.{◌≡◌, ◌<◌, ◌≤◌, ◌-◌, length, take, drop};
 ghost use Rattle.std.specs.List.{list_all};
-ghost use Rattle.et_listing.specs.Words.{is_label};
-ghost use Rattle.et_listing.specs.Lines.{word_at, bipush_of, sipush_of, load_of, long_load_of, local_of, increment_of, branch_of, member, field_access_of, virtual_call_of, direct_interface_call_of, direct_call_of, interface_call_of, type_of, base_type, base_array_of, array_of, default_label, ends_default, table_labels, table_fits, table_of, lookup_words, pairs, is_pair, is_int32, lookup_of, shaped};
+ghost use Rattle.et_listing.specs.Words.{is_label, is_int32};
+ghost use Rattle.et_listing.specs.Lines.{word_at, bipush_of, sipush_of, load_of, long_load_of, local_of, increment_of, branch_of, member, field_access_of, virtual_call_of, direct_interface_call_of, direct_call_of, interface_call_of, type_of, base_type, base_array_of, array_of, default_label, ends_default, table_labels, table_fits, table_of, lookup_words, pairs, is_pair, lookup_of, shaped};
 
 use crate::entry::Entry;
 use crate::header::{constant_entry, constant_form};
@@ -279,7 +279,7 @@ fn are_pairs(words: &[Word]) -> bool
 fn is_int32(word: &Word) -> bool
     ensures { result ≡ is_int32 word.now }
 {
-    operand::integer(word.bytes(), i32::MIN as i64, i32::MAX as i64).is_some()
+    operand::int32_of(word.bytes()).is_some()
 }
 
 /// Whether of words two by two the numbers fit 32 bits.

@@ -1,6 +1,7 @@
 use Rattle.std.proofs.Common.{◌≡◌, length}
 use Rattle.std.specs.List.{list_all}
-use Rattle.et_listing.specs.Lines.{pairs, is_int32}
+use Rattle.et_listing.specs.Words.{is_int32}
+use Rattle.et_listing.specs.Lines.{pairs}
 use Rattle.et_listing.proofs.shape.keys_fit.Given as goal
 
 abbrev pub invariant-loop-rest : goal.invariant-loop-rest
