@@ -4,3 +4,4 @@ pub mod Pool
 pub mod Code
 pub mod Listings
 pub mod Symbols
+pub mod Laws
