@@ -13,3 +13,4 @@ pub mod Checked
 pub mod Answered
 pub mod Lengths
 pub mod Sets
+pub mod Slots

@@ -5,3 +5,4 @@ pub mod Code
 pub mod Listings
 pub mod Symbols
 pub mod Laws
+pub mod Spelled

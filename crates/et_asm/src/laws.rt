@@ -1,6 +1,7 @@
 //! What the definitions mean.
 
 ghost use Rattle.et_asm.specs.Laws.{PoolsAreSets, IndicesName, PlacesCount, CodeGoesOn, AnswersAreOne};
+ghost use Rattle.et_asm.specs.Spelled.{PoolsAreSpelled, PoolsFind};
 
 /// The constant pool of any lines has each entry that they use, with its parts, exactly once, and
 /// no other entry.
@@ -24,4 +25,12 @@ pub fn places_are_true()
 /// Each text has exactly one answer: no line is faulty, or one line and kind are the first.
 pub fn exactly_one()
     ensures { AnswersAreOne }
+{}
+
+/// The bytes of a pool are those of what stands at its indices, as the class file format spells
+/// them, and at the index of an entry of the pool stands that entry: a text, or the class or the
+/// string of a text, is found there by its bytes.
+pub fn pools_are_spelled()
+    ensures bytes { PoolsAreSpelled }
+    ensures entries { PoolsFind }
 {}
