@@ -371,3 +371,24 @@ fn makes_others(rt: HostRuntime) -> Result<(), Fail> {
     )?;
     Ok(())
 }
+
+// The example of docs/listings.md.
+#[test]
+fn reads_the_example(rt: HostRuntime) -> Result<(), Fail> {
+    let text = "# two objects that refer to each other, and a third that dies at once\n\
+         class Pair java/lang/Object 0021\nfield next LPair; 0000\n\
+         field count I 0008 int 3\n\nmethod main ([Ljava/lang/String;)V 0009 3 2\n  \
+         new Pair\n  astore 1\n  new Pair\n  dup\n  aload 1\n  \
+         putfield Pair next LPair;\n  aload 1\n  swap\n  putfield Pair next LPair;\n\
+         from:\n  new Pair\nto:\n  ifnonnull done\n  goto from\ndone:\n  return\n\
+         handler:\n  athrow\n  catch from to handler java/lang/RuntimeException\nend\n\
+         method idle ()V 0109\n";
+    let made = assemble(rt.alloc(), text.as_bytes())?;
+    let class = read_class(rt.alloc(), made.as_slice())?;
+    let name = class.pool.class_name(class.this_class);
+    assert_eq!(rt; name, Some("Pair".as_bytes()));
+    assert_eq!(rt; class.access_flags, 0x21);
+    assert_eq!(rt; class.fields.len(), 2);
+    assert_eq!(rt; class.methods.len(), 2);
+    Ok(())
+}
