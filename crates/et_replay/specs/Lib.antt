@@ -1,5 +1,9 @@
 pub mod Curve
+pub mod Feeding
+pub mod Heap
 pub mod Items
+pub mod Lines
 pub mod Lives
 pub mod Parts
+pub mod Tally
 pub mod Timeline

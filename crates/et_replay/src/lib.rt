@@ -5,11 +5,14 @@ mod by_time;
 mod curve;
 mod item;
 mod lives;
+mod model;
+mod report;
 mod sizes;
 
 pub use by_time::timeline;
 pub use curve::curve_lines;
 pub use item::{Item, Timeline};
+pub use model::{Fed, HeapModel, Kind, Policy, Report};
 
 #[cfg(test)]
 mod tests;
