@@ -1,5 +1,5 @@
 -- What the items so far say of the heap. In each list of items here the newest stands first.
-use Rattle.std.specs.Prelude.{ℕ, ◌+◌, Bool, false, not, ◌&&◌, ◌==◌, if◌then◌else◌, List, [], ◌∷◌, Option, Some, None, is_some, unwrap_or}
+use Rattle.std.specs.Prelude.{ℕ, Bool, false, not, ◌&&◌, ◌==◌, if◌then◌else◌, List, [], ◌∷◌, Option, Some, None, is_some, unwrap_or}
 use Rattle.std.specs.List.{list_any, sum_by, filter_map}
 use Rattle.et_replay.specs.declared.item.Item.{Item}
 use Rattle.et_replay.specs.declared.item.Item.TheVariants.{Alloc, Write, Death}

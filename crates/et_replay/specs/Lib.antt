@@ -5,5 +5,7 @@ pub mod Items
 pub mod Lines
 pub mod Lives
 pub mod Parts
+pub mod Replay
+pub mod Seats
 pub mod Tally
 pub mod Timeline

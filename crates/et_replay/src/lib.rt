@@ -6,6 +6,7 @@ mod curve;
 mod item;
 mod lives;
 mod model;
+mod replaying;
 mod report;
 mod sizes;
 
@@ -13,6 +14,7 @@ pub use by_time::timeline;
 pub use curve::curve_lines;
 pub use item::{Item, Timeline};
 pub use model::{Fed, HeapModel, Kind, Policy, Report};
+pub use replaying::replay;
 
 #[cfg(test)]
 mod tests;

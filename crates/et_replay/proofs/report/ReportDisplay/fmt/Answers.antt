@@ -1,5 +1,4 @@
 use Rattle.std.proofs.Common.{rules, append_assoc}
-use Rattle.et_replay.specs.Lines.{report_text}
 use Rattle.et_replay.proofs.report.ReportDisplay.fmt.Goals as goal
 
 pub returns-in-MarkSweep-clause-writes : goal.returns-in-MarkSweep-clause-writes
