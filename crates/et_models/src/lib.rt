@@ -8,3 +8,6 @@ mod tables;
 
 pub use mark_sweep::MarkSweep;
 pub use semi_space::SemiSpace;
+
+#[cfg(test)]
+mod tests;

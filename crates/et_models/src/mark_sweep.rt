@@ -58,12 +58,12 @@ impl HeapModel for MarkSweep {
 
     /// Takes an item, and no memory.
     fn feed(&mut self, item: &Item) -> Fed
-        requires stands { (policy : Policy) × (objects : ℕ) × (past : List Item) × Accounts self.old.policy policy own_kind policy.first self.old.space objects past × HasRoom policy past × MayCome objects past item.now }
+        requires stands { (policy : Policy) × (objects : ℕ) × (past : List Item) × ⟦<MarkSweep as HeapModel>⟧.stands_for self.old policy objects past × HasRoom policy past × MayCome objects past item.now }
         ensures taken { (policy : Policy) (objects : ℕ) (past : List Item) →
-            Accounts self.old.policy policy own_kind policy.first self.old.space objects past → OnTaken result (Accounts self.new.policy policy own_kind policy.first self.new.space objects (item.now ∷ past)) }
+            ⟦<MarkSweep as HeapModel>⟧.stands_for self.old policy objects past → OnTaken result (⟦<MarkSweep as HeapModel>⟧.stands_for self.new policy objects (item.now ∷ past)) }
         ensures exhausted { (reached : Graph → ℕ → Bool) → Decides reached → (policy : Policy) (objects : ℕ) (past : List Item) →
-            Accounts self.old.policy policy own_kind policy.first self.old.space objects past → TellsExhausted result (is_exhausted reached policy (item.now ∷ past)) }
-        ensures kind { own_kind ≡ own_kind }
+            ⟦<MarkSweep as HeapModel>⟧.stands_for self.old policy objects past → TellsExhausted result (is_exhausted reached policy (item.now ∷ past)) }
+        ensures kind { ⟦<MarkSweep as HeapModel>⟧.kind_of self.new ≡ ⟦<MarkSweep as HeapModel>⟧.kind_of self.old }
         ensures no_memory { result ≢ Fed.NoMemory }
     {
         self.space.feed(item);

@@ -1,10 +1,10 @@
 -- The items of a timeline come as they may.
-use Rattle.std.proofs.Common.{◌≡◌, ℕ, suc, ◌+◌, ◌<◌, ◌≤◌, Bool, true, false, cond, eqb, List, [], ◌∷◌, ◌++◌, length, get_or, take, drop, Option, Some, refl, sym, ap, subst, ◌∙◌, arith, inl, inr, length-append}
+use Rattle.std.proofs.Common.{drop_of_length-le, ◌≡◌, ℕ, suc, ◌+◌, ◌<◌, ◌≤◌, Bool, true, false, cond, eqb, List, [], ◌∷◌, ◌++◌, length, get_or, take, drop, Option, Some, refl, sym, ap, subst, ◌∙◌, arith, inl, inr, length-append}
 use Rattle.std.specs.Prelude.{reverse, is_some}
 use Rattle.std.specs.List.{filter_map, All}
 use Rattle.std.proofs.Math.ListN.{get_or-append}
 use Rattle.std.proofs.Math.Seq.{get_or-append_seam}
-use Rattle.std.proofs.lemmas.List.{take-append-drop, take_more, take_all, reverse-append, get_or_default}
+use Rattle.std.proofs.lemmas.List.{take-append-drop, take_more, take_all, reverse-append, get_or_default, drop_more}
 use Rattle.std.proofs.lemmas.List.Elements.{filter_map-append, All-append}
 use Rattle.et_replay.specs.declared.item.Item.{Item}
 use Rattle.et_replay.specs.declared.item.Item.TheVariants.{Alloc, Write, Death}
@@ -109,3 +109,13 @@ comes items i d objects lt m le = by (get_or items i d) refl
     by (Alloc event object size) e = comes_alloc items i d objects event object size lt m le e
     by (Write event object slot new) e = tt
     by (Death object time) e = tt
+
+-- how many objects are left to be made
+pub made_left : (items : List Item) (i : ℕ) (d : Item) → i < length items → length (made (drop i items)) ≡ length (made (get_or items i d ∷ [])) + length (made (drop (i + 1) items))
+made_left items i d lt =
+    let next : drop i items ≡ get_or items i d ∷ drop (i + 1) items = drop_more items i d lt in
+    ap (λ (t : List Item). length (made t)) next
+    ∙ (ap (λ (t : List ℕ). length t) (first_made (get_or items i d) (drop (i + 1) items)) ∙ length-append (made (get_or items i d ∷ [])) (made (drop (i + 1) items)))
+
+pub made_end : (items : List Item) (i : ℕ) → length items ≤ i → length (made (drop i items)) ≡ 0
+made_end items i le = ap (λ (t : List Item). length (made t)) (drop_of_length-le items le)

@@ -1,6 +1,6 @@
 //! What a trace says of the heap, in order of time.
-ghost use Rattle.std.specs.Prelude.{◌≡◌};
-ghost use Rattle.et_replay.specs.Items.{MakesInOrder};
+ghost use Rattle.std.specs.Prelude.{◌≡◌, ◌<◌, ◌≤◌, ◌^◌, ◌∷◌, [], length};
+ghost use Rattle.et_replay.specs.Items.{made, MakesInOrder};
 
 use std::marker::Model;
 
@@ -25,6 +25,26 @@ pub enum Item {
         object: u32,
         time: u64,
     },
+}
+
+fn makes(item: &Item) -> u32
+    ensures { result ≡ length (made (item.now ∷ [])) }
+{
+    match item {
+        Item::Alloc { .. } => 1,
+        _ => 0,
+    }
+}
+
+fn count_objects(items: &[Item]) -> u32
+    requires { length (made items.now) < 2 ^ 24 }
+    ensures { result ≡ length (made items.now) }
+{
+    let mut objects = 0;
+    for item in items {
+        objects += makes(item);
+    }
+    objects
 }
 
 /// The items of a trace. It keeps that there are at most 16,777,215 Alloc items, that these have the objects 1, 2, 3
@@ -53,6 +73,14 @@ impl Timeline {
         ensures { result ≡ items.items }
     {
         Timeline { items }
+    }
+
+    /// How many objects it makes, at most 16,777,215.
+    pub fn objects(&self) -> u32
+        ensures count { result ≡ length (made self.now) }
+        ensures few { result ≤ 16777215 }
+    {
+        count_objects(self.items())
     }
 
     /// The items, in order.
