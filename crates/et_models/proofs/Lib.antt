@@ -1,0 +1,4 @@
+pub mod Boxes
+pub mod Coming
+pub mod Facts
+pub mod Totals
