@@ -20,7 +20,8 @@ use Rattle.et_program.specs.Indexed.{AreApart, AreBelow, IsNumbering, Has, Keeps
 
 -- THE FIRST PLACE THAT PASSES
 
-position_push : {X : Type 0} (t : X → Bool) (xs : List X) (y : X) (i : ℕ) → position_from t i (xs ++ y ∷ []) ≡ option_or (position_from t i xs) (cond (t y) (Some (i + length xs)) None)
+-- the first place in a list with one more element
+pub position_push : {X : Type 0} (t : X → Bool) (xs : List X) (y : X) (i : ℕ) → position_from t i (xs ++ y ∷ []) ≡ option_or (position_from t i xs) (cond (t y) (Some (i + length xs)) None)
 position_push t [] y i = let e : i + 0 ≡ i = omega arith in rw e refl
 position_push {X} t (x ∷ xs) y i =
     let e : i + 1 + length xs ≡ i + suc (length xs) = omega arith in

@@ -9,7 +9,7 @@ use Rattle.et_program.specs.Members.{class_named, method_in, field_in, is_method
 below : (o : Option ℕ) (a b : ℕ) → a ≡ b → IfSome o (λ j. j < a) → IfSome o (λ j. j < b)
 below o a b e h = subst (λ n. IfSome o (λ j. j < n)) e h
 
-position_below : {X : Type 0} (t : X → Bool) (i : ℕ) (xs : List X) → IfSome (position_from t i xs) (λ j. j < i + length xs)
+pub position_below : {X : Type 0} (t : X → Bool) (i : ℕ) (xs : List X) → IfSome (position_from t i xs) (λ j. j < i + length xs)
 position_below t i [] = tt
 position_below t i (x ∷ xs) =
     let here : i < i + suc (length xs) = omega arith in

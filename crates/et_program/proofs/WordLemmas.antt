@@ -7,21 +7,21 @@ use Rattle.et_program.specs.Entries.{Linked, class_at, is_private, is_static, is
 use Rattle.et_program.specs.Members.{method_in, kept, is_open, open_in, is_above, is_overridden, specific_in}
 use Rattle.et_program.specs.Words.{IsOpenMember, AreSpecific}
 
-here : (x : ℕ) (xs : List ℕ) → Contains (x ∷ xs) x
+pub here : (x : ℕ) (xs : List ℕ) → Contains (x ∷ xs) x
 here x xs = (0, omega arith, refl)
 
-there : (y : ℕ) (xs : List ℕ) (x : ℕ) → Contains xs x → Contains (y ∷ xs) x
+pub there : (y : ℕ) (xs : List ℕ) (x : ℕ) → Contains xs x → Contains (y ∷ xs) x
 there y xs x (k, lt, e) = (suc k, omega arith, e)
 
-none_in : (x : ℕ) → Contains [] x → ⊥
+pub none_in : (x : ℕ) → Contains [] x → ⊥
 none_in x c = let h : c.0 < 0 = c.1 in absurd (omega arith)
 
-split : (y : ℕ) (xs : List ℕ) (x : ℕ) → Contains (y ∷ xs) x → (y ≡ x) ⊎ Contains xs x
+pub split : (y : ℕ) (xs : List ℕ) (x : ℕ) → Contains (y ∷ xs) x → (y ≡ x) ⊎ Contains xs x
 split y xs x (zero, lt, e) = inl e
 split y xs x (suc k, lt, e) = inr (k, omega arith, e)
 
 -- a test that passes at some member
-any_some : (t : ℕ → Bool) (xs : List ℕ) → list_any t xs ≡ true → (x : ℕ) × Contains xs x × (t x ≡ true)
+pub any_some : (t : ℕ → Bool) (xs : List ℕ) → list_any t xs ≡ true → (x : ℕ) × Contains xs x × (t x ≡ true)
 any_some t [] h = absurd (cc)
 any_some t (x ∷ xs) h =
     ⊎_elim
@@ -29,7 +29,7 @@ any_some t (x ∷ xs) h =
     (λ n. let r = any_some t xs (sym (ap (λ b. b || list_any t xs) n) ∙ h) in (r.0, there x xs r.0 r.1, r.2))
     (cases_Bool (t x))
 
-any_from : (t : ℕ → Bool) (xs : List ℕ) (x : ℕ) → Contains xs x → t x ≡ true → list_any t xs ≡ true
+pub any_from : (t : ℕ → Bool) (xs : List ℕ) (x : ℕ) → Contains xs x → t x ≡ true → list_any t xs ≡ true
 any_from t [] x c h = absurd (none_in x c)
 any_from t (y ∷ xs) x c h =
     ⊎_elim

@@ -8,3 +8,4 @@ pub mod Tables
 pub mod Counted
 pub mod Indexed
 pub mod Parts
+pub mod Finding
