@@ -13,7 +13,11 @@ mod members;
 mod names;
 mod outlines;
 mod refusal;
+#[cfg(test)]
+mod samples;
 mod slots;
+#[cfg(test)]
+mod tests;
 
 pub use fault::{LinkFault, LinkFaultKind};
 pub use linking::link;
