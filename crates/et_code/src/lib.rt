@@ -20,4 +20,5 @@ pub use body::{CODE, CheckFault, Code, RawCode, TableRow, UNSUPPORTED};
 pub use check::check_code;
 pub use decoding::decode;
 pub use instr::{CodeFault, Instr};
+pub use starts::start_flags;
 pub use switches::switch_target;

@@ -8,7 +8,7 @@ use crate::decoding::decode;
 use std::alloc::{AllocError, Global};
 
 /// A flag for each place of the code: whether an instruction begins there.
-pub(crate) fn start_flags(alloc: Global, code: &[u8]) -> Result<Vec<bool>, AllocError>
+pub fn start_flags(alloc: Global, code: &[u8]) -> Result<Vec<bool>, AllocError>
     ensures { IfOk result (λ flags. (place : ℕ) → flag flags.items place ≡ is_start code.now place) }
 {
     let mut flags = vec![in alloc; false; code.len()]?;

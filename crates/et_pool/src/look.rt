@@ -124,10 +124,10 @@ impl Pool {
         }
     }
 
-    fn named(&self, wanted: u8, i: u16) -> Option<&[u8]>
+    fn named(&self, wanted: u8, i: usize) -> Option<&[u8]>
         ensures { option_map (λ s. s.now) result ≡ named_by self.now.slots wanted (slot_at self.now.slots i) }
     {
-        match self.entry(i as usize) {
+        match self.entry(i) {
             Some(Entry::Name(tag, index)) => {
                 if *tag == wanted {
                     self.utf8(*index)
@@ -144,7 +144,21 @@ impl Pool {
     pub fn class_name(&self, i: u16) -> Option<&[u8]>
         ensures { option_map (λ s. s.now) result ≡ class_name_at self.now.slots i }
     {
-        self.named(CLASS, i)
+        self.named(CLASS, i as usize)
+    }
+
+    /// The same at any place of the pool.
+    pub fn class_name_at(&self, place: usize) -> Option<&[u8]>
+        ensures { option_map (λ s. s.now) result ≡ class_name_at self.now.slots place }
+    {
+        self.named(CLASS, place)
+    }
+
+    /// How many indices the pool has, index 0 among them.
+    pub fn len(&self) -> usize
+        ensures { result ≡ length self.now.slots }
+    {
+        self.slots.len()
     }
 
     /// The bytes that the String entry at an index gives (JVMS 4.4.3), or `None` where it isn't
@@ -152,7 +166,7 @@ impl Pool {
     pub fn string(&self, i: u16) -> Option<&[u8]>
         ensures { option_map (λ s. s.now) result ≡ string_at self.now.slots i }
     {
-        self.named(STRING, i)
+        self.named(STRING, i as usize)
     }
 
     /// The number of the Integer entry at an index (JVMS 4.4.4), or `None` where it isn't one.

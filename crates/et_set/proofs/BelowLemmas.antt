@@ -15,11 +15,11 @@ module _ (n : ℕ) where
   below_added : (seen : List ℕ) (x : ℕ) → All (λ k. k < n) seen → x < n → All (λ k. k < n) (added seen x)
   below_added seen x h lt = pick (list_any (λ y. x == y) seen) seen (seen ++ x ∷ []) h (All-push (λ k. k < n) seen x h lt)
 
-  below_added_all : (seen xs : List ℕ) → All (λ k. k < n) seen → All (λ k. k < n) xs → All (λ k. k < n) (added_all seen xs)
+  pub below_added_all : (seen xs : List ℕ) → All (λ k. k < n) seen → All (λ k. k < n) xs → All (λ k. k < n) (added_all seen xs)
   below_added_all seen [] h g = h
   below_added_all seen (x ∷ xs) h g = below_added_all (added seen x) xs (below_added seen x h (g 0 x (omega arith))) (λ k d lt. g (suc k) d (omega arith))
 
-  below_flat : (f : ℕ → List ℕ) (xs : List ℕ) → All (λ i. All (λ k. k < n) (f i)) xs → All (λ k. k < n) (flat_map f xs)
+  pub below_flat : (f : ℕ → List ℕ) (xs : List ℕ) → All (λ i. All (λ k. k < n) (f i)) xs → All (λ k. k < n) (flat_map f xs)
   below_flat f [] h = All-nil (λ k. k < n)
   below_flat f (x ∷ xs) h = All-append (λ k. k < n) (f x) (flat_map f xs) (h 0 x (omega arith)) (below_flat f xs (λ k d lt. h (suc k) d (omega arith)))
 

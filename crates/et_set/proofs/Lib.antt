@@ -8,3 +8,4 @@ pub mod AddLemmas
 pub mod BelowLemmas
 pub mod Rounds
 pub mod InitLemmas
+pub mod OrderLemmas

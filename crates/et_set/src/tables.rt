@@ -11,7 +11,7 @@ use indexmap::IndexSet;
 use std::alloc::{AllocError, Global};
 
 /// Puts a class behind a list that doesn't have it.
-fn add(list: &mut IndexSet<u32>, class: u32) -> Result<(), AllocError>
+pub(crate) fn add(list: &mut IndexSet<u32>, class: u32) -> Result<(), AllocError>
     ensures { OnOk result (list.new.keys ≡ added list.old.keys class) }
 {
     list.insert(class)?;
@@ -19,7 +19,7 @@ fn add(list: &mut IndexSet<u32>, class: u32) -> Result<(), AllocError>
 }
 
 /// Puts each of these classes behind a list, unless the list has it.
-fn add_all(list: &mut IndexSet<u32>, classes: &[u32]) -> Result<(), AllocError>
+pub(crate) fn add_all(list: &mut IndexSet<u32>, classes: &[u32]) -> Result<(), AllocError>
     ensures { OnOk result (list.new.keys ≡ added_all list.old.keys classes.now) }
 {
     for class in classes {
@@ -83,7 +83,7 @@ fn add_field_order_over(
 
 /// Puts interfaces, each after its superinterfaces, behind a list.
 #[tactic(auto, using(crate::proofs::AddLemmas::add_rules))]
-fn add_interfaces(
+pub(crate) fn add_interfaces(
     list: &mut IndexSet<u32>,
     rows: &[Row],
     interfaces: &[u32],

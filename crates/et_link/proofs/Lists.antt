@@ -1,0 +1,79 @@
+-- Lists that grow by one element after another.
+use Rattle.std.proofs.Common.{◌≡◌, ℕ, ◌+◌, ◌<◌, ◌≤◌, zero, suc, Bool, true, false, cond, List, [], ◌∷◌, ◌++◌, length, take, get_or, map, Option, None, Some, refl, sym, ◌∙◌, ap, subst, arith, append_assoc, append-nil}
+use Rattle.std.specs.List.{filter_map, cons_option}
+use Rattle.std.specs.Option.{option_to_list}
+use Rattle.std.proofs.lemmas.List.{take_more, take_all, length-take-le}
+use Rattle.et_pool.specs.Entries.{Constants}
+use Rattle.et_boot.specs.Classes.{BootClassOf}
+use Rattle.et_link.specs.MembersOf.{numbered, IsBootPool, AreBootPools}
+
+numbered-append : {X Y : Type 0} (f : ℕ → X → List Y) (k : ℕ) (xs : List X) (y : X) → numbered f k (xs ++ y ∷ []) ≡ numbered f k xs ++ f (k + length xs) y
+numbered-append f k [] y = let e : k + 0 ≡ k = omega arith in append-nil (f k y) ∙ ap (λ n. f n y) (sym e)
+numbered-append f k (x ∷ xs) y =
+    let e : k + 1 + length xs ≡ k + suc (length xs) = omega arith in
+    ap (λ r. f k x ++ r) (numbered-append f (k + 1) xs y) ∙ (sym (append_assoc (f k x) (numbered f (k + 1) xs) (f (k + 1 + length xs) y)) ∙ ap (λ n. (f k x ++ numbered f (k + 1) xs) ++ f n y) e)
+
+-- what one more element gives
+pub numbered_more : {X Y : Type 0} (f : ℕ → X → List Y) (k : ℕ) (xs : List X) (i : ℕ) (d x : X) (n : ℕ) → i < length xs → x ≡ get_or xs i d → n ≡ k + i → numbered f k (take (i + 1) xs) ≡ numbered f k (take i xs) ++ f n x
+numbered_more f k xs i d x n lt is at =
+    let m : k + length (take i xs) ≡ n = let l : length (take i xs) ≡ i = length-take-le i xs (omega arith) in omega arith in
+    ap (numbered f k) (take_more xs i d lt) ∙ (numbered-append f k (take i xs) (get_or xs i d) ∙ (ap (λ y. numbered f k (take i xs) ++ f (k + length (take i xs)) y) (sym is) ∙ ap (λ j. numbered f k (take i xs) ++ f j x) m))
+
+-- ELEMENTS TAKEN ONE AFTER ANOTHER
+
+-- one more was taken of what is left
+pub taken_more : {X : Type 0} (before left rest all : List X) (x : X) → before ++ left ≡ all → left ≡ x ∷ rest → (before ++ x ∷ []) ++ rest ≡ all
+taken_more before left rest all x h e = append_assoc before (x ∷ []) rest ∙ (ap (λ l. before ++ l) (sym e) ∙ h)
+
+nothing_left : {X : Type 0} (l : List X) → length l ≡ 0 → l ≡ []
+nothing_left [] h = refl
+nothing_left (x ∷ xs) h = absurd (omega arith)
+
+-- nothing is left
+pub taken_all : {X : Type 0} (before left all : List X) → before ++ left ≡ all → length left ≡ 0 → before ≡ all
+taken_all before left all h n = sym (append-nil before) ∙ (ap (λ l. before ++ l) (sym (nothing_left left n)) ∙ h)
+
+-- each element of a longer list
+pub map_push : {X Y : Type 0} (f : X → Y) (xs : List X) (x : X) → map f (xs ++ x ∷ []) ≡ map f xs ++ f x ∷ []
+map_push f [] x = refl
+map_push f (y ∷ xs) x = ap (λ l. f y ∷ l) (map_push f xs x)
+
+pub numbered_push : {X Y : Type 0} (f : ℕ → X → List Y) (k : ℕ) (xs : List X) (x : X) (n : ℕ) → n ≡ k + length xs → numbered f k (xs ++ x ∷ []) ≡ numbered f k xs ++ f n x
+numbered_push f k xs x n e = numbered-append f k xs x ∙ ap (λ m. numbered f k xs ++ f m x) (sym e)
+
+pub length-push : {X : Type 0} (xs : List X) (x : X) → length (xs ++ x ∷ []) ≡ length xs + 1
+length-push [] x = refl
+length-push (y ∷ xs) x = let e : length (xs ++ x ∷ []) ≡ length xs + 1 = length-push xs x in omega arith
+
+-- POOLS
+
+boot_pools_push : (cs : List BootClassOf) (ps : List Constants) (c : BootClassOf) (p : Constants) → AreBootPools cs ps → IsBootPool c p → AreBootPools (cs ++ c ∷ []) (ps ++ p ∷ [])
+boot_pools_push [] [] c p h one = (one, tt)
+boot_pools_push [] (q ∷ ps) c p h one = absurd h
+boot_pools_push (d ∷ cs) [] c p h one = absurd h
+boot_pools_push (d ∷ cs) (q ∷ ps) c p h one = (h.0, boot_pools_push cs ps c p h.1 one)
+
+pub boot_pools_more : (cs : List BootClassOf) (i : ℕ) (d c : BootClassOf) (ps qs : List Constants) (p : Constants) → i < length cs → c ≡ get_or cs i d → AreBootPools (take i cs) ps → IsBootPool c p → qs ≡ ps ++ p ∷ [] → AreBootPools (take (i + 1) cs) qs
+boot_pools_more cs i d c ps qs p lt is h one e =
+    subst (λ q. AreBootPools (take (i + 1) cs) q) (sym e)
+    (subst (λ l. AreBootPools l (ps ++ p ∷ [])) (sym (take_more cs i d lt)) (subst (λ x. AreBootPools (take i cs ++ x ∷ []) (ps ++ p ∷ [])) is (boot_pools_push (take i cs) ps c p h one)))
+
+-- MORE AND MORE BEHIND A LIST
+
+pub pieces : {Y : Type 0} (init before more after mid now : List Y) → now ≡ mid ++ more → mid ≡ init ++ before → after ≡ before ++ more → now ≡ init ++ after
+pieces init before more after mid now e f g = e ∙ (ap (λ l. l ++ more) f ∙ (append_assoc init before more ∙ ap (λ l. init ++ l) (sym g)))
+
+cons-append : {Y : Type 0} (o : Option Y) (ys zs : List Y) → cons_option o (ys ++ zs) ≡ cons_option o ys ++ zs
+cons-append None ys zs = refl
+cons-append (Some y) ys zs = refl
+
+filter_map-push : {X Y : Type 0} (f : X → Option Y) (xs : List X) (x : X) → filter_map f (xs ++ x ∷ []) ≡ filter_map f xs ++ option_to_list (f x)
+filter_map-push {X} {Y} f [] x = one (f x)
+  where
+    one : (o : Option Y) → cons_option o [] ≡ option_to_list o
+    one None = refl
+    one (Some y) = refl
+filter_map-push f (z ∷ xs) x = ap (cons_option (f z)) (filter_map-push f xs x) ∙ cons-append (f z) (filter_map f xs) (option_to_list (f x))
+
+pub filter_map_more : {X Y : Type 0} (f : X → Option Y) (xs : List X) (i : ℕ) (d : X) → i < length xs → filter_map f (take (i + 1) xs) ≡ filter_map f (take i xs) ++ option_to_list (f (get_or xs i d))
+filter_map_more f xs i d lt = ap (filter_map f) (take_more xs i d lt) ∙ filter_map-push f (take i xs) (get_or xs i d)

@@ -1,0 +1,63 @@
+use Rattle.std.proofs.Common.{◌≡◌, ◌∙◌, ◌+◌, ◌<◌, ◌^◌, ℕ, List, length, Some, refl, ap, sym, subst, arith}
+use Rattle.std.specs.List.{slice_index_or}
+use Rattle.et_pool.specs.Entries.{Constants}
+use Rattle.et_class.specs.declared.class.ClassFile.{ClassFile}
+use Rattle.et_set.specs.Outline.{Outline}
+use Rattle.et_program.specs.Entries.{Linked}
+use Rattle.et_index.specs.Shown.{number_of}
+use Rattle.et_link.specs.declared.reading.Declared.{Declared}
+use Rattle.et_link.specs.declared.classes.Known.{Known}
+use Rattle.et_link.specs.Files.{set_of}
+use Rattle.et_link.specs.MembersOf.{methods_of, fields_of, HasPools}
+use Rattle.et_link.specs.Declaring.{IsDeclared}
+use Rattle.et_link.specs.ProgramOf.{main_of, program_with, names_of}
+use Rattle.et_link.specs.Known.{heads_in}
+use Rattle.et_link.specs.Refusals.{linked_by}
+use Rattle.et_link.proofs.LinkingLemmas.{below_set, own_along, fields_along, tabled_program}
+use Rattle.et_link.proofs.BuildLemmas.{built, built_names}
+use Rattle.et_link.proofs.linking.build.Goals as goal
+
+pub know-requires-clause-below : goal.know-requires-clause-below
+know-requires-clause-below c = below_set c.requires.0 c.as_slice-set.result.now c.args.declared.hierarchy.rows.items c.args.declared.hierarchy.rows.items c.requires.1.rows_are (c.as_slice-set.ensures.value ∙ c.requires.1.set_is) refl
+
+pub know-requires-clause-methods : goal.know-requires-clause-methods
+know-requires-clause-methods c = own_along c.requires.0 _ _ (c.as_slice-set.ensures.value ∙ c.requires.1.set_is) (c.as_slice-methods.ensures.value ∙ c.requires.1.methods_are)
+
+pub know-requires-clause-fields : goal.know-requires-clause-fields
+know-requires-clause-fields c = fields_along c.requires.0 _ _ (c.as_slice-set.ensures.value ∙ c.requires.1.set_is) (c.as_slice-fields.ensures.value ∙ c.requires.1.fields_are)
+
+pub assemble-requires-clause-fields : goal.assemble-requires-clause-fields
+assemble-requires-clause-fields c = fields_along c.requires.0 _ _ (c.as_slice-set.ensures.value ∙ c.requires.1.set_is) c.requires.1.fields_are
+
+pub assemble-requires-clause-tabled : goal.assemble-requires-clause-tabled
+assemble-requires-clause-tabled c =
+    let k = c.in_ok-known.ensures in
+    let d : Declared = c.args.declared in
+    let x : Known = c.in_ok-known.known in
+    let e = built c.requires.0 d x c.args.main c.as_slice-set.result.now c.as_slice-methods.result.now c.as_slice-fields.result.now c.as_slice.result.now c.requires.1 c.requires.2 c.as_slice-set.ensures.value c.as_slice-methods.ensures.value c.as_slice-fields.ensures.value c.as_slice.ensures.value
+        k.table k.rows k.flags k.own k.above k.needs k.clinit k.constants k.place k.names k.index in
+    let names : x.arrays.names.items ≡ names_of c.requires.0 = built_names c.requires.0 d x c.as_slice-set.result.now c.as_slice.result.now c.requires.1 c.as_slice-set.ensures.value c.as_slice.ensures.value k.place k.names in
+    let set : c.as_slice-set.result.now ≡ set_of c.requires.0 = c.as_slice-set.ensures.value ∙ c.requires.1.set_is in
+    let a = ap length names in
+    let b = ap length set in
+    let m = ap length c.requires.1.methods_are in
+    let f = ap length c.requires.1.fields_are in
+    let few_m = c.requires.1.few_methods in
+    let few_f = c.requires.1.few_fields in
+    tabled_program c.requires.0 d.hierarchy.rows.items _ c.args.main c.requires.1.rows_are c.requires.2 e (omega (arith, c.in_ok-check_classes.ensures)) (omega arith) (omega arith)
+
+pub returns : goal.returns
+returns c = λ files declared main.
+    let k = c.in_ok-known.ensures in
+    let d : Declared = c.args.declared in
+    let x : Known = c.in_ok-known.known in
+    let e = built files d x c.args.main c.as_slice-set.result.now c.as_slice-methods.result.now c.as_slice-fields.result.now c.as_slice.result.now declared main c.as_slice-set.ensures.value c.as_slice-methods.ensures.value c.as_slice-fields.ensures.value c.as_slice.ensures.value
+        k.table k.rows k.flags k.own k.above k.needs k.clinit k.constants k.place k.names k.index in
+    let p : Linked = c.in_ok-program.program in
+    let pools : p.pools ≡ d.parts.pools.items = ap (λ (l : Linked). l.pools) c.in_ok-program.ensures in
+    record {
+      rows = d.hierarchy.rows.items;
+      ancestry = declared.ancestry;
+      pools = subst (λ (ps : List Constants). HasPools files ps) (sym pools) declared.pools_are;
+      tables = c.in_ok-program.ensures ∙ (e ∙ ap (λ (ps : List Constants). program_with files d.hierarchy.rows.items ps) (sym pools));
+    }

@@ -1,0 +1,7 @@
+use Rattle.std.proofs.Common.{◌≡◌, ◌++◌, drop}
+use Rattle.et_link.specs.Slots.{places_from}
+use Rattle.et_link.specs.ProgramOf.{is_of_file}
+use Rattle.et_link.proofs.linking.file_methods.Given as goal
+
+abbrev pub invariant-loop-i : goal.invariant-loop-i
+invariant-loop-i l = l.list.items ++ places_from is_of_file l.i (drop l.i l.methods) ≡ places_from is_of_file 0 l.methods

@@ -1,0 +1,7 @@
+use Rattle.std.proofs.Common.{◌≡◌, ◌++◌, map, take}
+use Rattle.et_boot.specs.Shown.{shown_field}
+use Rattle.et_link.specs.MembersOf.{boot_field}
+use Rattle.et_link.proofs.members.add_boot_fields.Given as goal
+
+abbrev pub invariant-loop-field : goal.invariant-loop-field
+invariant-loop-field l = l.list.items ≡ l.initial.list.items ++ map (boot_field l.class) (map shown_field (take l.field-index l.field-items))

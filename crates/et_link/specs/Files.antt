@@ -1,0 +1,48 @@
+-- THE SET OF CLASSES that is linked: the built-in classes, and then those of the files in their order.
+use Rattle.std.specs.Prelude.{ℕ, List, [], ◌++◌, map, Option, None, Some}
+use Rattle.et_pool.specs.Entries.{Item}
+use Rattle.et_pool.specs.Looks.{class_name_at}
+use Rattle.et_class.specs.Names.{has}
+use Rattle.et_class.specs.declared.flags.TheConstants.{INTERFACE, FINAL}
+use Rattle.et_class.specs.declared.class.ClassFile.{ClassFile}
+use Rattle.et_boot.specs.Classes.{BootClassOf, boot_classes}
+use Rattle.et_set.specs.Outline.{Outline}
+
+-- the built-in classes
+unfoldable pub boots : List BootClassOf
+boots = boot_classes
+
+abbrev pub or_empty : Option (List ℕ) → List ℕ
+or_empty None = []
+or_empty (Some bytes) = bytes
+
+-- the name that the Class entry at an index gives; in a class file there is one wherever linking looks for one
+abbrev pub name_of : List (Option Item) → ℕ → List ℕ
+name_of slots i = or_empty (class_name_at slots i)
+
+-- what the set has of a built-in class
+abbrev pub boot_outline : BootClassOf → Outline
+boot_outline c = record {
+  name = c.name;
+  super_name = c.super_name;
+  interfaces = c.interfaces;
+  is_interface = has c.flags INTERFACE;
+  is_final = has c.flags FINAL;
+}
+
+-- what the set has of the class of a file
+abbrev pub file_outline : ClassFile → Outline
+file_outline c = record {
+  name = name_of c.pool.slots c.this_class;
+  super_name = class_name_at c.pool.slots c.super_class;
+  interfaces = map (name_of c.pool.slots) c.interfaces.items;
+  is_interface = has c.access_flags INTERFACE;
+  is_final = has c.access_flags FINAL;
+}
+
+abbrev pub set_of : List ClassFile → List Outline
+set_of files = map boot_outline boots ++ map file_outline files
+
+-- the access flags of each class
+abbrev pub flags_of : List ClassFile → List ℕ
+flags_of files = map (λ (c : BootClassOf). c.flags) boots ++ map (λ (c : ClassFile). c.access_flags) files

@@ -1,0 +1,32 @@
+-- What the record of the code knows of all classes.
+use Rattle.std.specs.Prelude.{◌≡◌, ℕ, ◌+◌, ◌<◌, List, [], length, None, false}
+use Rattle.std.specs.List.{slice_index_or}
+use Rattle.et_set.specs.Links.{AreWithin}
+use Rattle.et_set.specs.Ancestry.{ancestry_at, IsBelow}
+use Rattle.et_index.specs.Shown.{number_of}
+use Rattle.et_link.specs.Classes.{Heads}
+use Rattle.et_link.specs.declared.classes.Known.{Known}
+
+abbrev pub heads_in : Known → Heads
+heads_in x = record {
+  table = x.table.items;
+  rows = x.rows.items;
+  flags = x.flags.items;
+  slots = λ k. slice_index_or x.above.items k 0 + slice_index_or x.own.items k 0;
+  needs = λ k. slice_index_or x.needs.items k false;
+  clinit = λ k. slice_index_or x.initializers.items k None;
+  constants = λ k. slice_index_or x.constants.items k [];
+  place = number_of x.places;
+  array = number_of x.arrays.index;
+}
+
+-- there is one of each for each class, and what they name is among them
+pub record AreSized (x : Known) : Type 0 where
+  pub rows : length x.rows.items ≡ length x.table.items
+  pub flags : length x.flags.items ≡ length x.table.items
+  pub own : length x.own.items ≡ length x.table.items
+  pub above : length x.above.items ≡ length x.table.items
+  pub initializers : length x.initializers.items ≡ length x.table.items
+  pub constants : length x.constants.items ≡ length x.table.items
+  pub within : AreWithin (length x.table.items) x.table.items
+  pub below : (k : ℕ) → k < length x.table.items → IsBelow (length x.table.items) (ancestry_at x.rows.items k)

@@ -1,0 +1,9 @@
+-- How names are found by indices.
+use Rattle.std.specs.Prelude.{◌≡◌, ℕ, List, Option}
+use Rattle.et_index.specs.declared.names.NameIndex.{NameIndex}
+use Rattle.et_index.specs.Shown.{number_of}
+use Rattle.et_link.specs.ArrayTypes.{array_at}
+
+-- the index has the number of each of these names, from the first number on
+abbrev pub IsIndexFrom : ℕ → List (List ℕ) → NameIndex → Type 0
+IsIndexFrom first names index = (name : List ℕ) → number_of index name ≡ array_at first names name

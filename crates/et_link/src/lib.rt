@@ -1,0 +1,23 @@
+//! Linking: class files with the built-in classes make a program, or there is a fault (JVMS 5.3, 5.4).
+#![tactic(auto)]
+
+mod arrays;
+mod boots;
+mod classes;
+mod crossing;
+mod reading;
+mod fault;
+mod heads;
+mod linking;
+mod members;
+mod names;
+mod outlines;
+mod refusal;
+#[cfg(test)]
+mod samples;
+mod slots;
+#[cfg(test)]
+mod tests;
+
+pub use fault::{LinkFault, LinkFaultKind};
+pub use linking::link;

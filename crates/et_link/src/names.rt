@@ -1,0 +1,179 @@
+//! The names of the array classes, each once.
+
+ghost use Rattle.std.specs.Prelude.{◌≡◌, ℕ, ◌<◌, [], List, length, filter, IfOk, OnOk, None};
+ghost use Rattle.std.specs.List.{flat_map, position_from};
+ghost use Rattle.std.specs.Str.{bytes_eq};
+ghost use Rattle.et_index.specs.Shown.{number_of};
+ghost use Rattle.et_set.specs.Outline.{place_of};
+ghost use Rattle.et_link.specs.ArrayTypes.{is_known, with_elements, name_added, names_added, array_names, element_of, kind_of};
+ghost use Rattle.et_link.specs.Naming.{IsIndexFrom};
+
+use crate::arrays::leaf_of;
+use crate::members::class_at_place;
+use et_base::{ClassId, Name, NoMemory};
+use et_index::NameIndex;
+use et_pool::descriptor::{dimensions, is_array_name};
+use et_program::{Element, Kind, Leaf};
+use et_set::ClassOutline;
+use std::alloc::Global;
+
+/// The classes of the set by name.
+pub(crate) fn index_set(alloc: Global, set: &[ClassOutline]) -> Result<NameIndex, NoMemory>
+    ensures { IfOk result (λ x. (name : List ℕ) → number_of x name ≡ place_of set.now name) }
+{
+    let mut places = NameIndex::begin(alloc);
+    for (i, class) in set.iter().enumerate() {
+        let number = class_at_place(i)?;
+        places.put(alloc, class.name(), number.number())?;
+    }
+    Ok(places)
+}
+
+/// Names of array classes, numbered from a number on.
+#[derive(Drop)]
+pub(crate) struct ArrayNames {
+    pub first: usize,
+    pub names: Vec<Name>,
+    pub index: NameIndex,
+}
+
+/// Puts a name behind the names, unless it is among them.
+fn add_name(alloc: Global, names: &mut Vec<Name>, index: &mut NameIndex, first: usize, name: &[u8]) -> Result<(), NoMemory>
+    requires { IsIndexFrom first names.old.items index.old }
+    ensures names { OnOk result (names.new.items ≡ name_added names.old.items name.now) }
+    ensures index { OnOk result (IsIndexFrom first names.new.items index.new) }
+{
+    if index.find(name).is_some() {
+        return Ok(());
+    }
+    let Some(place) = first.checked_add(names.len()) else {
+        return Err(NoMemory);
+    };
+    let number = class_at_place(place)?;
+    let copy = Name::of(alloc, name)?;
+    index.put(alloc, name, number.number())?;
+    names.push(copy)?;
+    Ok(())
+}
+
+/// Puts an array type and the array types of its elements behind the names.
+fn add_with_elements(alloc: Global, names: &mut Vec<Name>, index: &mut NameIndex, first: usize, name: &[u8]) -> Result<(), NoMemory>
+    requires { IsIndexFrom first names.old.items index.old }
+    ensures names { OnOk result (names.new.items ≡ names_added names.old.items (with_elements name.now)) }
+    ensures index { OnOk result (IsIndexFrom first names.new.items index.new) }
+{
+    let mut at = 0;
+    while at < name.len() && name[at] == b'[' {
+        add_name(alloc, names, index, first, &name[at..])?;
+        at += 1;
+    }
+    Ok(())
+}
+
+/// The names of the array classes that a program has, of those that its files name or make.
+pub(crate) fn array_names(
+    alloc: Global,
+    places: &NameIndex,
+    first: usize,
+    met: &[Name],
+) -> Result<ArrayNames, NoMemory>
+    ensures first { IfOk result (λ a. a.first ≡ first) }
+    ensures names { IfOk result (λ a. a.names.items ≡ array_names (number_of places.now) met.now) }
+    ensures index { IfOk result (λ a. IsIndexFrom first a.names.items a.index) }
+{
+    let mut names = Vec::new(alloc);
+    let mut index = NameIndex::begin(alloc);
+    for name in met {
+        add_if_known(alloc, places, &mut names, &mut index, first, name.as_slice())?;
+    }
+    Ok(ArrayNames {
+        first,
+        names,
+        index,
+    })
+}
+
+ghost use Rattle.std.specs.Prelude.{if◌then◌else◌};
+
+/// Puts an array type with those of its elements behind the names, if what is under its dimensions is known.
+fn add_if_known(alloc: Global, places: &NameIndex, names: &mut Vec<Name>, index: &mut NameIndex, first: usize, name: &[u8]) -> Result<(), NoMemory>
+    requires { IsIndexFrom first names.old.items index.old }
+    ensures names { OnOk result (names.new.items ≡ names_added names.old.items (if is_known (number_of places.now) name.now then with_elements name.now else [])) }
+    ensures index { OnOk result (IsIndexFrom first names.new.items index.new) }
+{
+    if leaf_of(places, name).is_some() {
+        add_with_elements(alloc, names, index, first, name)?;
+    }
+    Ok(())
+}
+
+/// The class of this number as what an array has as its elements.
+fn class_element(class: Option<u32>) -> Element
+    ensures { result ≡ class_element class }
+{
+    match class {
+        Some(class) => Element::Class(ClassId::new(class)),
+        None => Element::NoArray,
+    }
+}
+
+/// A type without dimensions as what an array has as its elements.
+fn plain_element(leaf: Leaf) -> Element
+    ensures { result ≡ leaf_element (Some leaf) }
+{
+    match leaf {
+        Leaf::Base(kind) => Element::Base(kind),
+        Leaf::Class(class) => Element::Class(class),
+    }
+}
+
+/// The same where there is such a type.
+fn leaf_element(leaf: Option<Leaf>) -> Element
+    ensures { result ≡ leaf_element leaf }
+{
+    match leaf {
+        Some(leaf) => plain_element(leaf),
+        None => Element::NoArray,
+    }
+}
+
+ghost use Rattle.std.specs.Prelude.{Some};
+ghost use Rattle.et_link.specs.ArrayTypes.{class_element, leaf_element};
+
+/// What stands behind the first byte.
+fn behind_first(name: &[u8]) -> &[u8]
+    ensures { result.now ≡ drop 1 name.now }
+{
+    match name {
+        [_, rest @ ..] => rest,
+        [] => name,
+    }
+}
+
+ghost use Rattle.std.specs.Prelude.{drop};
+
+/// What an array class has as its elements.
+pub(crate) fn element_of(places: &NameIndex, arrays: &NameIndex, name: &[u8]) -> Element
+    ensures { result ≡ element_of (number_of places.now) (number_of arrays.now) name.now }
+{
+    let element = behind_first(name);
+    if is_array_name(element) {
+        class_element(arrays.find(element))
+    } else {
+        leaf_element(leaf_of(places, name))
+    }
+}
+
+/// The dimensions of an array class, and what is under them.
+pub(crate) fn kind_of(places: &NameIndex, name: &[u8]) -> Result<Kind, NoMemory>
+    ensures { IfOk result (λ k. k ≡ kind_of (number_of places.now) name.now) }
+{
+    let Ok(dimensions) = u8::try_from(dimensions(name)) else {
+        return Err(NoMemory);
+    };
+    let leaf = match leaf_of(places, name) {
+        Some(leaf) => leaf,
+        None => Leaf::Base(0),
+    };
+    Ok(Kind { dimensions, leaf })
+}
