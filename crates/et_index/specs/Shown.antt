@@ -1,0 +1,12 @@
+-- What contracts see of the indices: the number that a name has, and the number that a member has.
+use Rattle.std.specs.Prelude.{ℕ, ◌==◌, ◌&&◌, List, Option}
+use Rattle.std.specs.Str.{bytes_eq}
+use Rattle.std.specs.HashMap.{get_by}
+use Rattle.et_index.specs.declared.names.NameIndex.{NameIndex}
+use Rattle.et_index.specs.declared.members.MemberIndex.{MemberIndex}
+
+abbrev pub number_of : NameIndex → List ℕ → Option ℕ
+number_of x name = get_by (λ k. bytes_eq name k.items) x.places
+
+abbrev pub member_of : MemberIndex → ℕ → ℕ → ℕ → Option ℕ
+member_of x class name descriptor = get_by (λ k. ((class == k.0) && (name == k.1)) && (descriptor == k.2)) x.places

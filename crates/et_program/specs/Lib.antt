@@ -1,0 +1,10 @@
+pub mod Entries
+pub mod Members
+pub mod Resolution
+pub mod Types
+pub mod Words
+pub mod Shown
+pub mod Tables
+pub mod Counted
+pub mod Indexed
+pub mod Parts

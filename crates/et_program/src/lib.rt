@@ -1,0 +1,22 @@
+//! The linked program: its classes, methods and fields by number, and what resolution, selection, the type test and
+//! the order of initialization answer (JVMS 5.4, 5.5, 6.5).
+#![tactic(auto)]
+
+mod class;
+mod errors;
+mod indices;
+mod info;
+mod kind;
+pub mod laws;
+mod program;
+mod resolution;
+mod selection;
+mod tables;
+mod types;
+
+pub use class::{Above, Class};
+pub use errors::LinkError;
+pub use info::{ClassInfo, Element, FieldInfo, MethodInfo};
+pub use kind::{Kind, Leaf};
+pub use program::Program;
+pub use tables::Tables;

@@ -1,0 +1,290 @@
+//! The program: its tables, and what stands at each number.
+
+ghost use Rattle.std.specs.Prelude.{◌≡◌, ℕ, ◌<◌, ◌==◌, length, All, IfOk, IfSome, slice_get};
+ghost use Rattle.std.specs.List.{list_any};
+ghost use Rattle.std.specs.Option.{option_copied};
+
+use crate::class::Class;
+use crate::errors::LinkError;
+use crate::indices::{index_base_arrays, index_classes, index_fields, index_methods, number_texts};
+use crate::info::{ClassInfo, FieldInfo, MethodInfo};
+use crate::tables::Tables;
+use et_base::{ClassId, FieldId, MethodId, NoMemory};
+use et_index::{MemberIndex, NameIndex};
+use et_pool::Pool;
+use std::alloc::Global;
+use std::marker::Model;
+
+/// The linked classes with their members. Contracts see it as the tables of the definition. No call of it takes memory,
+/// and each look-up by name goes by a map.
+#[derive(Drop)]
+pub struct Program {
+    classes: Vec<Class>,
+    methods: Vec<MethodInfo>,
+    fields: Vec<FieldInfo>,
+    statics: Vec<FieldId>,
+    file_methods: Vec<MethodId>,
+    main: MethodId,
+    pools: Vec<Pool>,
+    base_arrays: Vec<Option<ClassId>>,
+    places: NameIndex,
+    texts: NameIndex,
+    method_places: MemberIndex,
+    field_places: MemberIndex,
+}
+
+impl Model for Program {
+    ghost use Rattle.et_program.specs.Entries.{Linked};
+    ghost use Rattle.et_program.specs.Tables.{IsTabled, AreIndexed};
+
+    ghost Value = { Linked };
+
+    ghost view = { λ p. record { classes = p.classes.items; methods = p.methods.items; fields = p.fields.items; statics = p.statics.items; file_methods = p.file_methods.items; main = p.main; pools = p.pools.items } };
+
+    ghost invariant = { λ p. let l : Linked = record { classes = p.classes.items; methods = p.methods.items; fields = p.fields.items; statics = p.statics.items; file_methods = p.file_methods.items; main = p.main; pools = p.pools.items } in IsTabled l × AreIndexed l p.base_arrays.items p.places p.texts p.method_places p.field_places };
+}
+
+impl Program {
+    /// The program of these tables. The only error is want of memory.
+    pub fn of(alloc: Global, tables: Tables) -> Result<Program, NoMemory>
+        requires { IsTabled (shown_tables tables) }
+        ensures { IfOk result (λ p. p ≡ shown_tables tables) }
+    {
+        let places = index_classes(alloc, tables.classes.as_slice())?;
+        let base_arrays = index_base_arrays(alloc, tables.classes.as_slice())?;
+        let methods = tables.methods.as_slice();
+        let fields = tables.fields.as_slice();
+        let texts = number_texts(alloc, methods, fields)?;
+        let method_places = index_methods(alloc, &texts, methods)?;
+        let field_places = index_fields(alloc, &texts, fields)?;
+        let Tables {
+            classes,
+            methods,
+            fields,
+            statics,
+            file_methods,
+            main,
+            pools,
+        } = tables;
+        Ok(Program {
+            classes,
+            methods,
+            fields,
+            statics,
+            file_methods,
+            main,
+            pools,
+            base_arrays,
+            places,
+            texts,
+            method_places,
+            field_places,
+        })
+    }
+
+    ghost use Rattle.et_program.specs.Tables.{IsTabled};
+    ghost use Rattle.et_program.specs.Parts.{shown_tables};
+    ghost use Rattle.et_program.specs.Entries.{class_at, method_at, field_at};
+    ghost use Rattle.et_program.specs.Tables.{IsWithin, IsInfoWithin};
+    ghost use Rattle.et_program.specs.Shown.{info_of};
+    ghost use Rattle.et_program.specs.Members.{class_named, method_in, field_in, is_above, is_subclass, base_array};
+    ghost use Rattle.et_program.specs.Resolution.{resolve_class};
+
+    /// The class of this name, or `NoClassDefFound` exactly where the program has none (JVMS 5.4.3.1).
+    pub fn resolve_class(&self, name: &[u8]) -> Result<ClassId, LinkError>
+        ensures value { result ≡ resolve_class self.now name.now }
+        ensures within { IfOk result (λ c. c < length self.now.classes) }
+    {
+        self.class_by_name(name).ok_or(LinkError::NoClassDefFound)
+    }
+
+    /// The class of this name.
+    fn class_by_name(&self, name: &[u8]) -> Option<ClassId>
+        ensures value { result ≡ class_named self.now name.now }
+    {
+        let class = self.places.find(name)?;
+        Some(ClassId::new(class))
+    }
+
+    /// The class of this number.
+    pub fn class(&self, class: ClassId) -> &ClassInfo
+        requires { class < length self.now.classes }
+        ensures value { info_of result.now ≡ (class_at self.now class).info }
+        ensures within { IsInfoWithin (length self.now.classes) (length self.now.methods) (length self.now.fields) (info_of result.now) }
+    {
+        self.entry(class).info()
+    }
+
+    /// What is kept of a class.
+    pub(crate) fn entry(&self, class: ClassId) -> &Class
+        requires { class < length self.now.classes }
+        ensures value { result.now ≡ class_at self.now class }
+        ensures within { IsWithin (length self.now.classes) result.now }
+        ensures info { IsInfoWithin (length self.now.classes) (length self.now.methods) (length self.now.fields) result.now.info }
+    {
+        &self.classes[class.number() as usize]
+    }
+
+    /// The method of this number.
+    pub fn method(&self, method: MethodId) -> &MethodInfo
+        requires { method < length self.now.methods }
+        ensures value { result.now ≡ method_at self.now method }
+        ensures class { result.now.class < length self.now.classes }
+    {
+        &self.methods[method.number() as usize]
+    }
+
+    /// The field of this number.
+    pub fn field(&self, field: FieldId) -> &FieldInfo
+        requires { field < length self.now.fields }
+        ensures value { result.now ≡ field_at self.now field }
+        ensures class { result.now.class < length self.now.classes }
+    {
+        &self.fields[field.number() as usize]
+    }
+
+    /// How many classes there are; their numbers are those below.
+    pub fn class_count(&self) -> u32
+        ensures { result ≡ length self.now.classes }
+    {
+        self.classes.len() as u32
+    }
+
+    /// How many methods there are; their numbers are those below.
+    pub fn method_count(&self) -> u32
+        ensures { result ≡ length self.now.methods }
+    {
+        self.methods.len() as u32
+    }
+
+    /// How many fields there are; their numbers are those below.
+    pub fn field_count(&self) -> u32
+        ensures { result ≡ length self.now.fields }
+    {
+        self.fields.len() as u32
+    }
+
+    /// The static fields, in the order of their slots.
+    pub fn statics(&self) -> &[FieldId]
+        ensures value { result.now ≡ self.now.statics }
+        ensures within { All (λ k. k < length self.now.fields) result.now }
+    {
+        self.statics.as_slice()
+    }
+
+    /// The methods of the files, in their order.
+    pub fn file_methods(&self) -> &[MethodId]
+        ensures value { result.now ≡ self.now.file_methods }
+        ensures within { All (λ k. k < length self.now.methods) result.now }
+    {
+        self.file_methods.as_slice()
+    }
+
+    /// The method `main` of the first file.
+    pub fn main(&self) -> MethodId
+        ensures value { result ≡ self.now.main }
+        ensures within { result < length self.now.methods }
+    {
+        self.main
+    }
+
+    /// The constant pool of a class of the files or of a built-in class; `None` for an array class.
+    pub fn pool(&self, class: ClassId) -> Option<&Pool>
+        requires { class < length self.now.classes }
+        ensures { option_copied result ≡ slice_get self.now.pools class }
+    {
+        self.pools.get(class.number() as usize)
+    }
+
+    /// The class of the arrays of these elements, or `None` where the program has none.
+    pub fn array_over(&self, element: ClassId) -> Option<ClassId>
+        requires { element < length self.now.classes }
+        ensures value { result ≡ (class_at self.now element).array }
+        ensures within { IfSome result (λ c. c < length self.now.classes) }
+    {
+        self.entry(element).array()
+    }
+
+    /// The class of the arrays over a base type, by its code in `newarray` (JVMS 6.5, table newarray), or `None`
+    /// where the program has none.
+    pub fn base_array(&self, kind: u8) -> Option<ClassId>
+        ensures value { result ≡ base_array self.now kind }
+        ensures within { IfSome result (λ c. c < length self.now.classes) }
+    {
+        self.base_array_by_kind(kind)
+    }
+
+    /// What the table of arrays over base types has.
+    fn base_array_by_kind(&self, kind: u8) -> Option<ClassId>
+        ensures { result ≡ base_array self.now kind }
+    {
+        self.base_arrays.get(kind as usize).copied().flatten()
+    }
+
+    /// The classes that are initialized with a class, in order, and the class itself as the last (JVMS 5.5).
+    pub fn init_order(&self, class: ClassId) -> &[ClassId]
+        requires { class < length self.now.classes }
+        ensures value { result.now ≡ (class_at self.now class).init_order }
+        ensures within { All (λ k. k < length self.now.classes) result.now }
+    {
+        self.entry(class).init_order()
+    }
+
+    /// Whether the class `low` is `high`, or has it as a superclass or superinterface.
+    pub fn is_subclass(&self, low: ClassId, high: ClassId) -> bool
+        requires { low < length self.now.classes }
+        ensures { result ≡ is_subclass self.now low high }
+    {
+        let class = self.entry(low);
+        low == high || class.supers().contains(&high) || self.is_above(high, low)
+    }
+
+    /// Whether an interface is a superinterface of the other class.
+    pub(crate) fn is_above(&self, interface: ClassId, class: ClassId) -> bool
+        requires { class < length self.now.classes }
+        ensures { result ≡ is_above self.now interface class }
+    {
+        self.entry(class).superinterfaces().contains(&interface)
+    }
+
+    /// What the maps have of a method of a class.
+    fn method_by_key(&self, name: &[u8], descriptor: &[u8], class: ClassId) -> Option<MethodId>
+        ensures { result ≡ method_in self.now name.now descriptor.now class }
+    {
+        let name = self.texts.find(name)?;
+        let descriptor = self.texts.find(descriptor)?;
+        let method = self.method_places.find(class.number(), name, descriptor)?;
+        Some(MethodId::new(method))
+    }
+
+    /// The method of a class with this name and descriptor.
+    pub(crate) fn method_in(
+        &self,
+        name: &[u8],
+        descriptor: &[u8],
+        class: ClassId,
+    ) -> Option<MethodId>
+        ensures value { result ≡ method_in self.now name.now descriptor.now class }
+        ensures within { IfSome result (λ m. m < length self.now.methods) }
+    {
+        self.method_by_key(name, descriptor, class)
+    }
+
+    /// What the maps have of a field of a class.
+    fn field_by_key(&self, name: &[u8], descriptor: &[u8], class: ClassId) -> Option<FieldId>
+        ensures { result ≡ field_in self.now name.now descriptor.now class }
+    {
+        let name = self.texts.find(name)?;
+        let descriptor = self.texts.find(descriptor)?;
+        let field = self.field_places.find(class.number(), name, descriptor)?;
+        Some(FieldId::new(field))
+    }
+
+    /// The field of a class with this name and descriptor.
+    pub(crate) fn field_in(&self, name: &[u8], descriptor: &[u8], class: ClassId) -> Option<FieldId>
+        ensures value { result ≡ field_in self.now name.now descriptor.now class }
+        ensures within { IfSome result (λ f. f < length self.now.fields) }
+    {
+        self.field_by_key(name, descriptor, class)
+    }
+}
