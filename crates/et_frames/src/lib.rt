@@ -1,0 +1,6 @@
+//! The threads of the guest and their frames.
+#![tactic(auto)]
+
+mod stage;
+
+pub use stage::{Stage, Turn};

@@ -1,0 +1,47 @@
+-- Reported objects, which a state still has, and the flush that reports them.
+use Rattle.std.specs.Prelude.{ℕ, ◌+◌, ◌≤◌, Bool, true, false, if◌then◌else◌, List, [], ◌∷◌, Option, Some, None, length}
+use Rattle.et_graph.specs.Steps.{Step}
+use Rattle.et_heap.specs.Objects.{ObjectState, Objects, IsHeld}
+use Rattle.et_machine.specs.State.{Kept, State}
+use Rattle.et_machine.specs.Roots.{graph}
+
+-- a step over what is kept, as one over all of a state whose reported objects are these
+abbrev pub whole_step : Objects → Kept → List ℕ → List ℕ → Step
+whole_step reported x fresh lost = record { after = graph (record { kept = x; reported = reported }); fresh = fresh; lost = lost }
+
+-- no object is both held and reported
+pub record IsPast (heap reported : Objects) : Type 0 where
+  pub within : length reported ≤ length heap
+  pub apart : (o : ℕ) → IsHeld heap o → ¬ IsHeld reported o
+
+-- a weak reference to what isn't here becomes null
+abbrev pub kept_referent : (ℕ → Bool) → Option ℕ → Option ℕ
+kept_referent here None = None
+kept_referent here (Some o) = if here o then Some o else None
+
+abbrev pub left_place : (ℕ → Bool) → Bool → Option ObjectState → Option ObjectState
+left_place here b None = None
+left_place here false (Some x) = None
+left_place here true (Some x) = Some (record x { referent = kept_referent here x.referent })
+
+-- a flush takes the objects out of the heap that aren't here ..
+abbrev pub remaining : (ℕ → Bool) → ℕ → Objects → Objects
+remaining here k [] = []
+remaining here k (x ∷ xs) = left_place here (here k) x ∷ remaining here (k + 1) xs
+
+-- .. and adds them to the reported ones
+abbrev pub first_of : Option ObjectState → Option ObjectState → Option ObjectState
+first_of None y = y
+first_of (Some x) y = Some x
+
+abbrev pub reporting : (ℕ → Bool) → ℕ → Objects → Objects → Objects
+reporting here k [] rs = []
+reporting here k (x ∷ xs) [] = (if here k then None else x) ∷ reporting here (k + 1) xs []
+reporting here k (x ∷ xs) (r ∷ rs) = first_of r (if here k then None else x) ∷ reporting here (k + 1) xs rs
+
+-- a state after a flush of all that isn't here
+abbrev pub flushed : (ℕ → Bool) → State → State
+flushed here s = record {
+  kept = record { heap = remaining here 0 s.kept.heap; guest = s.kept.guest };
+  reported = reporting here 0 s.kept.heap s.reported;
+}

@@ -1,0 +1,6 @@
+//! The machine of the guest: all that it keeps, the calls that read and change it, and the laws of an event under way.
+#![tactic(auto)]
+
+mod class_state;
+
+pub use class_state::ClassState;
