@@ -2,7 +2,7 @@
 use Rattle.std.specs.Prelude.{ℕ, ◌+◌, ◌-◌, ◌&&◌, Bool, nat_le, List, Option, Some, None, length, replicate, slice_index_or, slice_set}
 use Rattle.std.specs.List.{sum_by}
 use Rattle.et_base.specs.declared.value.Value.{Value}
-use Rattle.et_base.specs.declared.value.Value.TheVariants.{Unset}
+use Rattle.et_base.specs.declared.value.Value.TheVariants.{Unset, Null, Ref}
 use Rattle.et_heap.specs.declared.monitor.Monitor.{Monitor}
 
 -- An object: its class, its length (0 for what is no array), its fields or elements, what it refers to weakly, and its
@@ -102,3 +102,12 @@ most_slots = 67108864
 -- so many objects more, with so many slots in all, may be made
 abbrev pub has_room : Objects → ℕ → ℕ → Bool
 has_room heap objects slots = nat_le (made_count heap + objects) most_objects && nat_le (slot_count heap + slots) most_slots
+
+-- A referent as a value. What is no reference counts as null.
+abbrev pub referent_value : Option ℕ → Value
+referent_value None = Null
+referent_value (Some o) = Ref o
+
+abbrev pub referent_of : Value → Option ℕ
+referent_of (Ref o) = Some o
+referent_of v = None
