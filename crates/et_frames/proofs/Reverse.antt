@@ -1,5 +1,5 @@
 -- Lists seen from their ends.
-use Rattle.std.proofs.Common.{◌≡◌, ℕ, ◌+◌, ◌-◌, ◌<◌, Bool, List, [], ◌∷◌, ◌++◌, length, get_or, set, reverse, refl, sym, ◌∙◌, ap, arith}
+use Rattle.std.proofs.Common.{◌≡◌, ℕ, ◌-◌, ◌<◌, List, [], ◌∷◌, ◌++◌, length, get_or, set, reverse, refl, sym, ◌∙◌, ap, arith}
 use Rattle.std.proofs.lemmas.List.{reverse-append, set_at, get_or_at, length-append, length-reverse}
 use Rattle.et_frames.specs.Threads.{FrameState, ThreadState, rest_of, first_frame, top_of, with_top_of}
 

@@ -1,5 +1,6 @@
 -- The threads of the guest and their frames.
-use Rattle.std.specs.Prelude.{ℕ, ◌+◌, ◌-◌, ◌==◌, Bool, true, false, if◌then◌else◌, List, [], ◌∷◌, ◌++◌, Option, Some, None, length, replicate, drop, slice_index_or, slice_set, position}
+use Rattle.std.specs.Prelude.{ℕ, ◌+◌, ◌-◌, ◌==◌, Bool, true, false, if◌then◌else◌, List, [], ◌∷◌, ◌++◌, Option, Some, None, length, replicate, drop, slice_index_or, slice_set, option_to_list}
+use Rattle.std.specs.List.{position_from}
 use Rattle.std.specs.Option.{is_some, option_map_or}
 use Rattle.et_base.specs.declared.value.Value.{Value}
 use Rattle.et_base.specs.declared.value.Value.TheVariants.{Unset}
@@ -125,6 +126,10 @@ as_entered x = record x { entry = None; entered = true }
 abbrev pub as_ended : ThreadState → ThreadState
 as_ended x = record x { pending = None; entry = None; ended = true }
 
+-- what a thread loses as it ends
+abbrev pub ended_roots : ThreadState → List ℕ
+ended_roots x = option_to_list x.pending ++ (option_to_list x.entry ++ option_to_list x.object)
+
 -- What a thread does next: the first that applies. An exception unwinds a frame or, where there is none, ends the thread.
 -- Without a frame a thread is entered once, and then ends.
 abbrev pub turn_of : ThreadState → Turn
@@ -141,9 +146,13 @@ unended_from k (x ∷ xs) = (if x.ended then [] else k ∷ []) ++ unended_from (
 abbrev pub unended_of : List ThreadState → List ℕ
 unended_of threads = unended_from 0 threads
 
+-- the Thread object of the thread is this one
+abbrev pub is_object_of : ℕ → ThreadState → Bool
+is_object_of o x = option_map_or (λ u. u == o) x.object false
+
 -- the first thread with this Thread object
 abbrev pub thread_with : List ThreadState → ℕ → Option ℕ
-thread_with threads o = position (λ x. option_map_or (λ u. u == o) x.object false) threads
+thread_with threads o = position_from (is_object_of o) 0 threads
 
 -- A thread has at most so many frames, and at most so many threads are ever started.
 abbrev pub most_frames : ℕ

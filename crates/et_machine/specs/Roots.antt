@@ -1,16 +1,17 @@
 -- The roots and the graph of a state.
-use Rattle.std.specs.Prelude.{ℕ, ◌+◌, ◌-◌, zero, suc, List, [], ◌∷◌, ◌++◌, map, length}
+use Rattle.std.specs.Prelude.{ℕ, ◌+◌, ◌-◌, zero, suc, List, [], ◌∷◌, ◌++◌, length}
 use Rattle.std.specs.List.{flat_map}
 use Rattle.et_graph.specs.Graph.{Graph}
 use Rattle.et_graph.specs.Steps.{Step}
 use Rattle.et_heap.specs.Objects.{made_count}
 use Rattle.et_heap.specs.Refs.{refs_of, pairs_of, gone_of}
 use Rattle.et_frames.specs.Roots.{thread_roots}
+use Rattle.et_machine.specs.Interned.{objects_of}
 use Rattle.et_machine.specs.State.{GuestState, Kept, State}
 
 -- the objects in root places: in those of the threads, in static slots, and the interned strings
 abbrev pub roots_of : GuestState → List ℕ
-roots_of g = flat_map thread_roots g.threads ++ (refs_of g.statics ++ map (λ p. p.1) g.interned)
+roots_of g = flat_map thread_roots g.threads ++ (refs_of g.statics ++ objects_of g.interned)
 
 -- the graph of what is kept
 abbrev pub graph_of : Kept → Graph

@@ -1,12 +1,12 @@
 -- Words for the parts of a state, and for a state with one part changed.
-use Rattle.std.specs.Prelude.{ℕ, ◌+◌, ◌<◌, List, [], ◌∷◌, ◌++◌, length, slice_index_or, slice_set}
+use Rattle.std.specs.Prelude.{◌≡◌, ℕ, ◌+◌, ◌<◌, false, List, [], ◌∷◌, ◌++◌, Some, None, length, replicate, slice_index_or, slice_set}
 use Rattle.et_base.specs.declared.value.Value.{Value}
 use Rattle.et_base.specs.declared.value.Value.TheVariants.{Unset}
 use Rattle.et_heap.specs.declared.monitor.Monitor.{Monitor}
 use Rattle.et_machine.specs.declared.class_state.ClassState.{ClassState}
 use Rattle.et_machine.specs.declared.class_state.ClassState.TheVariants.{Untouched}
-use Rattle.et_heap.specs.Objects.{free_monitor}
-use Rattle.et_frames.specs.Threads.{FrameState, ThreadState, no_thread, top_of, with_top_of}
+use Rattle.et_heap.specs.Objects.{ObjectState, free_monitor, new_object, with_object_at}
+use Rattle.et_frames.specs.Threads.{FrameState, ThreadState, no_thread, new_thread, top_of, with_top_of}
 use Rattle.et_machine.specs.State.{GuestState, MachineState}
 
 abbrev pub thread_at : GuestState → ℕ → ThreadState
@@ -31,6 +31,11 @@ pub record HasFrame (g : GuestState) (t : ℕ) : Type 0 where
   pub thread : t < length g.threads
   pub frame : 0 < length (thread_at g t).frames
 
+-- the thread was started and has not ended
+pub record IsUnended (g : GuestState) (t : ℕ) : Type 0 where
+  pub thread : t < length g.threads
+  pub unended : (thread_at g t).ended ≡ false
+
 abbrev pub static_at : GuestState → ℕ → Value
 static_at g i = slice_index_or g.statics i Unset
 
@@ -49,9 +54,29 @@ class_monitor_at g c = slice_index_or g.class_monitors c free_monitor
 abbrev pub with_class_monitor : GuestState → ℕ → Monitor → GuestState
 with_class_monitor g c m = record g { class_monitors = slice_set g.class_monitors c m }
 
+-- one string of a constant more
+abbrev pub with_string : GuestState → List ℕ → ℕ → GuestState
+with_string g text o = record g { interned = g.interned ++ (text, o) ∷ [] }
+
 -- one event later
 abbrev pub ticked : GuestState → GuestState
 ticked g = record g { clock = g.clock + 1 }
+
+-- The first state: object 1 is the array of arguments, of this class and length 0, and thread 0 has it in its entry slot.
+-- Nothing else was made.
+abbrev pub first_state : ℕ → List ClassState → List Value → MachineState
+first_state class classes statics = record {
+  heap = None ∷ Some (new_object class 0 0) ∷ [];
+  guest = record {
+    clock = 0;
+    statics = statics;
+    threads = new_thread (Some 1) None ∷ [];
+    classes = classes;
+    class_monitors = replicate (length classes) free_monitor;
+    interned = [];
+  };
+  lost = [];
+}
 
 -- machines with one part changed
 abbrev pub with_guest : MachineState → GuestState → MachineState
@@ -76,3 +101,7 @@ steps_thread m t x l = steps_guest m (with_thread m.guest t x) l
 -- .. of which the topmost frame of a thread became f, with these objects lost
 abbrev pub steps_top : MachineState → ℕ → FrameState → List ℕ → MachineState
 steps_top m t f l = steps_guest m (with_top m.guest t f) l
+
+-- .. of which an object became x, with these objects lost
+abbrev pub steps_object : MachineState → ℕ → ObjectState → List ℕ → MachineState
+steps_object m o x l = record m { heap = with_object_at m.heap o x; lost = m.lost ++ l }

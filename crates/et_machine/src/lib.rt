@@ -2,5 +2,13 @@
 #![tactic(auto)]
 
 mod class_state;
+mod interned;
+pub mod laws;
+mod machine;
+mod threads;
 
 pub use class_state::ClassState;
+pub use machine::Machine;
+
+#[cfg(test)]
+mod tests;
