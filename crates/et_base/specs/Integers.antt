@@ -1,7 +1,7 @@
 -- The arithmetic of int and long (JVMS 2.3.1, 2.11.3, and the sections of 6.5 that are named here). A number is one of w
 -- bits in two's complement; what doesn't fit wraps.
-use Rattle.std.specs.Prelude.{ℕ, ◌+◌, ◌-◌, ◌/◌, ◌%◌, ◌^◌, ℤ, pos, negsuc, ◌+ℤ◌, ◌-ℤ◌, ◌*ℤ◌, neg_ℤ, int_lt, int_div, int_rem, unsigned_abs, Bool, false, ◌==◌, if◌then◌else◌, Option, Some, None}
-use Rattle.std.specs.Int.{Width, w8, w16, w32, w64, cast_signed, cast_unsigned, int_wrap, int_rem_euclid, int_bit_and, int_bit_or, int_bit_xor, int_shl, int_shr}
+use Rattle.std.specs.Prelude.{ℕ, ◌/◌, ◌%◌, ◌^◌, ℤ, pos, negsuc, ◌+ℤ◌, ◌-ℤ◌, ◌*ℤ◌, neg_ℤ, int_lt, int_rem, Bool, false, ◌==◌, if◌then◌else◌, Option, Some, None}
+use Rattle.std.specs.Int.{Width, w8, w16, w32, w64, cast_signed, cast_unsigned, int_wrap, int_wrapping_div, int_bit_and, int_bit_or, int_bit_xor, int_shl, int_shr}
 use mir.Val.{bits}
 
 -- iadd, ladd; isub, lsub; imul, lmul; ineg, lneg
@@ -47,7 +47,7 @@ is_zero (pos n) = n == 0
 is_zero (negsuc n) = false
 
 abbrev pub divide : Width → ℤ → ℤ → Option ℤ
-divide w a b = if is_zero b then None else Some (int_wrap w (int_div a b))
+divide w a b = if is_zero b then None else Some (int_wrapping_div w a b)
 
 abbrev pub remainder : Width → ℤ → ℤ → Option ℤ
 remainder w a b = if is_zero b then None else Some (int_rem a b)
@@ -56,15 +56,15 @@ remainder w a b = if is_zero b then None else Some (int_rem a b)
 abbrev pub compare : ℤ → ℤ → ℤ
 compare a b = if int_lt b a then pos 1 else (if int_lt a b then negsuc 0 else pos 0)
 
--- i2b; i2c; i2s; l2i
+-- i2b, i2c, i2s; l2i: the low bits of an int, or of a long
 abbrev pub to_byte : ℤ → ℤ
-to_byte a = int_wrap w8 a
+to_byte a = cast_signed w8 (cast_unsigned w32 a % 2 ^ 8)
 
 abbrev pub to_char : ℤ → ℤ
-to_char a = pos (unsigned_abs (int_rem_euclid a (pos (2 ^ 16))))
+to_char a = pos (cast_unsigned w32 a % 2 ^ 16)
 
 abbrev pub to_short : ℤ → ℤ
-to_short a = int_wrap w16 a
+to_short a = cast_signed w16 (cast_unsigned w32 a % 2 ^ 16)
 
 abbrev pub to_int : ℤ → ℤ
-to_int a = int_wrap w32 a
+to_int a = cast_signed w32 (cast_unsigned w64 a % 2 ^ 32)
