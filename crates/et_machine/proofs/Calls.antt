@@ -1,17 +1,15 @@
 -- The law of drafts for each call of the machine and its heap.
-use Rattle.std.proofs.Common.{◌≡◌, ℕ, ◌+◌, ◌<◌, false, List, [], ◌∷◌, ◌++◌, length, take, replicate, Option, Some, None, Contains, refl, sym, ap, ◌∙◌, subst, inl, inr, arith, append-nil, option_to_list}
-use Rattle.std.proofs.lemmas.List.Elements.{Contains-append_left, Contains-append_right, Contains-append_cases}
+use Rattle.std.proofs.Common.{◌≡◌, ℕ, ◌<◌, List, [], ◌∷◌, ◌++◌, length, Option, Some, None, Contains, refl, sym, subst, inl, inr, arith, append-nil, option_to_list}
 use Rattle.et_base.specs.declared.value.Value.{Value}
-use Rattle.et_base.specs.declared.value.Value.TheVariants.{Unset}
 use Rattle.et_graph.proofs.Lists.{Contains-none, Contains-cons}
 use Rattle.et_heap.specs.declared.monitor.Monitor.{Monitor}
-use Rattle.et_heap.specs.Objects.{ObjectState, IsHeld, object_at, new_object, slot_of, with_slot, with_referent, with_monitor}
+use Rattle.et_heap.specs.Objects.{IsHeld, object_at, new_object, slot_of, with_slot, with_referent, with_monitor}
 use Rattle.et_heap.specs.Refs.{refs_of_value, refs_of}
 use Rattle.et_frames.specs.Threads.{FrameState, at_pc, pushed, popped, without_operands, with_local, operand_of, local_of, in_clinit, without_top, entered_by, with_pending, as_entered, as_ended, ended_roots, new_thread}
-use Rattle.et_frames.specs.Roots.{frame_roots, thread_roots}
+use Rattle.et_frames.specs.Roots.{frame_roots}
 use Rattle.et_machine.specs.declared.class_state.ClassState.{ClassState}
 use Rattle.et_machine.specs.State.{GuestState, Kept, MachineState, kept_of}
-use Rattle.et_machine.specs.Words.{thread_at, with_thread, with_new_thread, top, HasFrame, IsUnended, static_at, with_static, with_class_state, with_class_monitor, with_string, with_guest, begun, losing, steps_guest, steps_thread, steps_top, steps_object, with_new_object, with_object}
+use Rattle.et_machine.specs.Words.{thread_at, with_new_thread, top, HasFrame, IsUnended, static_at, with_static, with_class_state, with_class_monitor, with_string, with_guest, begun, losing, steps_guest, steps_thread, steps_top, steps_object, with_new_object, with_object}
 use Rattle.et_machine.specs.Roots.{roots_of}
 use Rattle.et_machine.specs.Sound.{IsSound}
 use Rattle.et_machine.specs.Moves.{Moves, WasThere, MayBeTied, IsUnderWay, IsOnWay, AreHeld, WereThere}

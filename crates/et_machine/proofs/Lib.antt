@@ -5,3 +5,4 @@ pub mod Calls
 pub mod Wholes
 pub mod Pasts
 pub mod Flushes
+pub mod Steps

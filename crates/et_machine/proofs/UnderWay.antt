@@ -4,7 +4,7 @@ use Rattle.std.proofs.lemmas.List.{length-set, length_push}
 use Rattle.std.proofs.lemmas.Bool.{cases_eq}
 use Rattle.std.proofs.lemmas.List.Elements.{Contains-append_left, Contains-append_right, Contains-append_cases}
 use Rattle.et_graph.specs.Graph.{IsMade, IsReached, IsSoundGraph}
-use Rattle.et_graph.specs.Steps.{IsKnown, IsDraft}
+use Rattle.et_graph.specs.Steps.{IsDraft}
 use Rattle.et_graph.specs.Drafts.{IsMove, IsMaking}
 use Rattle.et_graph.proofs.Lists.{Contains-none}
 use Rattle.et_graph.proofs.Walks.{root_reached, reached_on}

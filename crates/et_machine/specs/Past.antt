@@ -1,5 +1,5 @@
 -- Reported objects, which a state still has, and the flush that reports them.
-use Rattle.std.specs.Prelude.{ℕ, ◌+◌, ◌≤◌, Bool, true, false, if◌then◌else◌, List, [], ◌∷◌, Option, Some, None, length}
+use Rattle.std.specs.Prelude.{ℕ, ◌+◌, ◌≤◌, Bool, if◌then◌else◌, List, [], ◌∷◌, Option, Some, None, length}
 use Rattle.et_graph.specs.Steps.{Step}
 use Rattle.et_heap.specs.Objects.{ObjectState, Objects, IsHeld}
 pub use Rattle.et_heap.specs.Remaining.{kept_referent, left_place, remaining}
