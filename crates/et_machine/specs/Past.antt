@@ -1,7 +1,8 @@
 -- Reported objects, which a state still has, and the flush that reports them.
-use Rattle.std.specs.Prelude.{ℕ, ◌+◌, ◌≤◌, Bool, true, false, if◌then◌else◌, List, [], ◌∷◌, Option, Some, None, length}
+use Rattle.std.specs.Prelude.{ℕ, ◌+◌, ◌≤◌, Bool, if◌then◌else◌, List, [], ◌∷◌, Option, Some, None, length}
 use Rattle.et_graph.specs.Steps.{Step}
 use Rattle.et_heap.specs.Objects.{ObjectState, Objects, IsHeld}
+pub use Rattle.et_heap.specs.Remaining.{kept_referent, left_place, remaining}
 use Rattle.et_machine.specs.State.{Kept, State}
 use Rattle.et_machine.specs.Roots.{graph}
 
@@ -14,22 +15,7 @@ pub record IsPast (heap reported : Objects) : Type 0 where
   pub within : length reported ≤ length heap
   pub apart : (o : ℕ) → IsHeld heap o → ¬ IsHeld reported o
 
--- a weak reference to what isn't here becomes null
-abbrev pub kept_referent : (ℕ → Bool) → Option ℕ → Option ℕ
-kept_referent here None = None
-kept_referent here (Some o) = if here o then Some o else None
-
-abbrev pub left_place : (ℕ → Bool) → Bool → Option ObjectState → Option ObjectState
-left_place here b None = None
-left_place here false (Some x) = None
-left_place here true (Some x) = Some (record x { referent = kept_referent here x.referent })
-
--- a flush takes the objects out of the heap that aren't here ..
-abbrev pub remaining : (ℕ → Bool) → ℕ → Objects → Objects
-remaining here k [] = []
-remaining here k (x ∷ xs) = left_place here (here k) x ∷ remaining here (k + 1) xs
-
--- .. and adds them to the reported ones
+-- A flush adds the objects that aren't here to the reported ones.
 abbrev pub first_of : Option ObjectState → Option ObjectState → Option ObjectState
 first_of None y = y
 first_of (Some x) y = Some x

@@ -105,3 +105,11 @@ steps_top m t f l = steps_guest m (with_top m.guest t f) l
 -- .. of which an object became x, with these objects lost
 abbrev pub steps_object : MachineState → ℕ → ObjectState → List ℕ → MachineState
 steps_object m o x l = record m { heap = with_object_at m.heap o x; lost = m.lost ++ l }
+
+-- .. with one object more
+abbrev pub with_new_object : MachineState → ObjectState → MachineState
+with_new_object m x = record m { heap = m.heap ++ Some x ∷ [] }
+
+-- .. of which an object became x, with nothing lost
+abbrev pub with_object : MachineState → ℕ → ObjectState → MachineState
+with_object m o x = record m { heap = with_object_at m.heap o x }
