@@ -18,3 +18,4 @@ pub mod Event
 pub mod Start
 pub mod Allowed
 pub mod Sound
+pub mod Answered
