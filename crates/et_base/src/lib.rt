@@ -3,6 +3,7 @@
 #![tactic(auto)]
 
 mod ids;
+mod integers;
 mod line;
 mod memory;
 mod name;
@@ -11,6 +12,11 @@ mod value;
 mod words;
 
 pub use ids::{ClassId, FieldId, MethodId, ObjectId, ThreadId};
+pub use integers::{
+    add32, add64, and32, and64, cmp64, div32, div64, mul32, mul64, neg32, neg64, or32, or64, rem32,
+    rem64, shl32, shl64, shr32, shr64, sub32, sub64, to_byte, to_char, to_int, to_short, ushr32,
+    ushr64, xor32, xor64,
+};
 pub use line::TraceLine;
 pub use memory::NoMemory;
 pub use name::Name;

@@ -1,0 +1,3 @@
+mod AllRows
+mod Examples
+mod CallExamples

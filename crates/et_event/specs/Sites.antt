@@ -1,0 +1,110 @@
+-- The instruction at which a thread stands, and what it names in the pool of its class.
+use Rattle.std.specs.Prelude.{ℕ, ◌==◌, ℤ, pos, negsuc, ◌+ℤ◌, Bool, List, [], Option, Result, slice_index_or, unwrap_or, option_map, option_and_then}
+use Rattle.std.specs.Option.{option_or}
+use Rattle.et_pool.specs.Entries.{Item, Constants}
+use Rattle.et_pool.specs.Looks.{tag_at, utf8_at, class_name_at, string_at, integer_at, long_at, name_and_type_at, member_at}
+use Rattle.et_pool.specs.declared.tags.TheConstants.{INTERFACE_METHODREF}
+use Rattle.et_code.specs.declared.instr.Instr.{Instr}
+use Rattle.et_code.specs.Bodies.{Body}
+use Rattle.et_code.specs.Decoding.{instruction_at}
+use Rattle.et_code.specs.declared.instr.CodeFault.{CodeFault}
+use Rattle.et_program.specs.Entries.{Linked, method_at}
+use Rattle.et_program.specs.declared.info.MethodInfo.{MethodInfo}
+use Rattle.et_frames.specs.Threads.{FrameState}
+use Rattle.et_event.specs.declared.rows.Local.{Local}
+use Rattle.et_event.specs.declared.rows.Local.TheVariants.{Named, At}
+
+-- an instruction, the pc behind it, the code and the pool in which it stands, and the class of both
+pub record Site : Type 0 where
+  pub instr : Instr
+  pub next : ℕ
+  pub code : List ℕ
+  pub pool : List (Option Item)
+  pub class : ℕ
+
+abbrev pub no_body : Body
+no_body = record { max_stack = 0; max_locals = 0; code = []; table = [] }
+
+abbrev pub no_constants : Constants
+no_constants = record { at = 0; slots = [] }
+
+-- the method of a frame
+abbrev pub method_of : Linked → FrameState → MethodInfo
+method_of p f = method_at p (unwrap_or f.method 0)
+
+abbrev pub body_of : Option Body → Body
+body_of code = unwrap_or code no_body
+
+-- the code of a frame's method
+abbrev pub code_of : Linked → FrameState → Body
+code_of p f = body_of (method_of p f).code
+
+-- the pool of a class
+abbrev pub pool_of : Linked → ℕ → List (Option Item)
+pool_of p class = (slice_index_or p.pools class no_constants).slots
+
+-- what stands at the pc of a frame
+abbrev pub decoded_at : Linked → FrameState → Result (Instr × ℕ) CodeFault
+decoded_at p f = instruction_at (code_of p f).code f.pc
+
+abbrev pub site_of : Linked → FrameState → Instr × ℕ → Site
+site_of p f decoded = record {
+  instr = decoded.0;
+  next = decoded.1;
+  code = (code_of p f).code;
+  pool = pool_of p (method_of p f).class;
+  class = (method_of p f).class;
+}
+
+-- a number that isn't negative
+abbrev pub natural : ℤ → ℕ
+natural (pos n) = n
+natural (negsuc n) = 0
+
+-- the local variable that an instruction names
+abbrev pub local_index : Local → Site → ℕ
+local_index Named at = natural at.instr.first
+local_index (At n) at = n
+
+-- the index into the pool that an instruction has
+abbrev pub pool_index : Site → ℕ
+pool_index at = natural at.instr.first
+
+-- the place so far from pc to which an instruction goes
+abbrev pub target : ℕ → ℤ → ℕ
+target pc offset = natural (pos pc +ℤ offset)
+
+-- CONSTANTS (JVMS 4.4.3 to 4.4.5)
+pub data LoadedConstant : Type 0 where
+  AnInt : (n : ℤ) → LoadedConstant
+  ALong : (n : ℤ) → LoadedConstant
+  AString : (bytes : List ℕ) → LoadedConstant
+
+abbrev pub constant_at : List (Option Item) → ℕ → Option LoadedConstant
+constant_at pool i =
+    option_or (option_map AnInt (integer_at pool i)) (option_or (option_map ALong (long_at pool i)) (option_map AString (string_at pool i)))
+
+-- MEMBERS (JVMS 4.4.2): the class that is named, the name, and the descriptor
+pub record Member : Type 0 where
+  pub owner : List ℕ
+  pub name : List ℕ
+  pub descriptor : List ℕ
+
+abbrev named : List (Option Item) → List ℕ → ℕ × ℕ → Option Member
+named pool owner indices =
+    option_and_then (λ name. option_map (λ descriptor. record { owner = owner; name = name; descriptor = descriptor }) (utf8_at pool indices.1)) (utf8_at pool indices.0)
+
+abbrev described : List (Option Item) → ℕ × ℕ → Option Member
+described pool indices =
+    option_and_then (λ owner. option_and_then (named pool owner) (name_and_type_at pool indices.1)) (class_name_at pool indices.0)
+
+abbrev pub member_of : Site → Option Member
+member_of at = option_and_then (described at.pool) (member_at at.pool (pool_index at))
+
+-- the entry is one of a method of an interface
+abbrev pub names_interface : Site → Bool
+names_interface at = tag_at at.pool (pool_index at) == INTERFACE_METHODREF
+
+-- the name of the class that an instruction has as its operand
+abbrev pub class_operand : Site → Option (List ℕ)
+class_operand at = class_name_at at.pool (pool_index at)

@@ -1,0 +1,14 @@
+//! The one table of events: what each instruction and each other turn of a thread does to the state of the guest. The
+//! definitions are in `specs/`, beginning with `Event.antt`; the code here is the row of each opcode.
+#![tactic(auto)]
+
+mod errors;
+mod rows;
+mod table;
+
+pub use errors::GuestError;
+pub use rows::{
+    Arithmetic, BuiltIn, CallKind, CallRow, Comparison, Condition, Conversion, Division, Elements,
+    FrameRow, HeapRow, Local, MonitorRow, Number, Operand, Rearrangement, Row, Shift,
+};
+pub use table::row_of;

@@ -1,0 +1,5 @@
+pub mod Threads
+pub mod Roots
+pub mod NewFrames
+pub mod FrameInside
+pub mod ThreadInside

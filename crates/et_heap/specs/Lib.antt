@@ -1,0 +1,4 @@
+pub mod Objects
+pub mod Refs
+pub mod Inside
+pub mod Remaining

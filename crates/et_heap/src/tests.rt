@@ -1,0 +1,76 @@
+//! Objects are made, taken out, counted and refused.
+ghost use Rattle.std.specs.Prelude.{◌≡◌, ◌<◌};
+
+use super::*;
+use et_base::{ClassId, ObjectId, Steps, Value};
+use std::marker::Brand;
+use std::process::Abort;
+use std::sync::ledger::{Blank, Ledger};
+use std::test::Fail;
+
+#[test]
+fn numbers_and_counts(rt: HostRuntime) -> Result<(), Fail> {
+    let mut heap = Heap::begin(rt.alloc());
+    assert_eq!(rt; heap.make_object(ClassId::new(3), 1)?.number(), 1);
+    assert_eq!(rt; heap.make_array(ClassId::new(4), 2)?.number(), 2);
+    assert_eq!(rt;
+        heap.make_array(ClassId::new(4), 67_108_862),
+        Err(MakeFault::Full)
+    );
+    assert_eq!(rt; heap.count(), 2);
+    assert_eq!(rt; heap.held(), 2);
+    assert_eq!(rt; heap.slots(), 3);
+    assert!(rt; heap.is_held(ObjectId::new(1)));
+    heap.take_out(ObjectId::new(1));
+    assert_eq!(rt; heap.count(), 2);
+    assert_eq!(rt; heap.held(), 1);
+    assert_eq!(rt; heap.slots(), 2);
+    assert!(rt; !heap.is_held(ObjectId::new(0)));
+    assert!(rt; !heap.is_held(ObjectId::new(1)));
+    assert!(rt; heap.is_held(ObjectId::new(2)));
+    assert!(rt; !heap.is_held(ObjectId::new(3)));
+    assert_eq!(rt; heap.make_object(ClassId::new(3), 0)?.number(), 3);
+    Ok(())
+}
+
+fn parts<L: Ledger>(rt: &impl Abort, heap: &mut Heap, blank: Blank)
+    requires name { blank.name ≡ L.name }
+    requires parts { blank.parts ≡ L.parts }
+    requires counts { 0 < L.parts }
+{
+    let mut visits = Steps::<L>::begin(blank);
+    let o = ObjectId::new(1);
+    assert!(rt; heap.is_held(o));
+    assert_eq!(rt; heap.class_of(o, &mut visits), ClassId::new(4));
+    assert_eq!(rt; heap.length_of(o, &mut visits), 2);
+    assert_eq!(rt; heap.referent(o, &mut visits), Value::Null);
+    assert_eq!(rt;
+        heap.set_referent(o, Value::Ref(o), &mut visits),
+        Value::Null
+    );
+    assert_eq!(rt; heap.refs_of(o, &mut visits).next(), None);
+    let free = heap.monitor(o, &mut visits);
+    assert_eq!(rt; (free.owner, free.count), (None, 0));
+}
+
+#[test]
+fn an_array(rt: HostRuntime) -> Result<(), Fail> {
+    let mut heap = Heap::begin(rt.alloc());
+    heap.make_array(ClassId::new(4), 2)?;
+    parts::<Brand>(&rt, &mut heap, Blank::new(1));
+    Ok(())
+}
+
+#[test]
+fn roots_in_order(rt: HostRuntime) -> Result<(), Fail> {
+    let mut roots = RootList::begin(rt.alloc());
+    roots.push(ObjectId::new(7))?;
+    roots.push(ObjectId::new(5))?;
+    assert_eq!(rt;
+        roots.as_slice(),
+        [ObjectId::new(7), ObjectId::new(5)].as_slice()
+    );
+    roots.clear();
+    assert!(rt; roots.as_slice().is_empty());
+    Ok(())
+}

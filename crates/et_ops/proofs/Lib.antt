@@ -1,0 +1,4 @@
+mod Taking
+mod Groups
+mod Storing
+mod Switching
