@@ -571,7 +571,7 @@ impl Machine {
 
     /// Lists the objects in root places: of each thread in order of start those of its frames, the topmost first, its
     /// pending exception and, where it has not ended, its entry slot and its Thread object; then those in static slots, and
-    /// the strings of constants. What was in the list before is gone.
+    /// the strings of constants. What was in the list before is gone. After `NoMemory` it has some of them.
     pub fn roots(&self, room: &mut RootList) -> Result<(), NoMemory>
         ensures { OnOk result (room.new ≡ roots_of self.now.guest) }
     {
