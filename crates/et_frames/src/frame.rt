@@ -217,7 +217,7 @@ impl Frame {
         lost.add_option(self.lock);
     }
 
-    /// Puts all the objects in the frame at the end of the list.
+    /// Puts all the objects in the frame at the end of the list. After `NoMemory` it has some of them.
     pub fn list_roots(&self, room: &mut RootList) -> Result<(), NoMemory>
         ensures { OnOk result (room.new ≡ room.old ++ frame_roots self.now) }
     {

@@ -1,4 +1,4 @@
-//! The references in values, as a list of roots.
+//! The references in values, as a list of roots. After `NoMemory` the list has some of what was to be put there.
 ghost use Rattle.std.specs.Prelude.{◌≡◌, ◌++◌, OnOk, option_to_list, reverse};
 ghost use Rattle.et_heap.specs.Refs.{refs_of};
 

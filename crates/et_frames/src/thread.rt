@@ -221,7 +221,8 @@ impl Thread {
         Ok(())
     }
 
-    /// Puts all the objects in the root places of the thread at the end of the list.
+    /// Puts all the objects in the root places of the thread at the end of the list. After `NoMemory` it has some of
+    /// them.
     pub fn list_roots(&self, room: &mut RootList) -> Result<(), NoMemory>
         ensures { OnOk result (room.new ≡ room.old ++ thread_roots self.now) }
     {

@@ -182,7 +182,8 @@ impl Heap {
     pub fn set_referent<L: Ledger>(&mut self, o: ObjectId, v: Value, visits: &mut Steps<L>) -> Value
         requires { IsHeld self.old o }
         ensures old { result ≡ referent_value (object_at self.old o).referent }
-        ensures new { self.new ≡ with_object_at self.old o (with_referent (referent_of v) (object_at self.old o)) }
+        ensures new { self.new ≡ with_object_at self.old o
+            (with_referent (referent_of v) (object_at self.old o)) }
         ensures visits { visits.new ≡ visits.old + 1 }
     {
         visits.tick();

@@ -2,8 +2,10 @@
 ghost use Rattle.std.specs.Prelude.{◌≡◌, ◌<◌};
 
 use super::*;
+use crate::object::Object;
 use et_base::{ClassId, ObjectId, Steps, Value};
 use std::marker::Brand;
+use std::mem::size_of;
 use std::process::Abort;
 use std::sync::ledger::{Blank, Ledger};
 use std::test::Fail;
@@ -73,4 +75,10 @@ fn roots_in_order(rt: HostRuntime) -> Result<(), Fail> {
     roots.clear();
     assert!(rt; roots.as_slice().is_empty());
     Ok(())
+}
+
+#[test]
+fn an_object_takes_64_bytes_and_16_a_slot(rt: HostRuntime) {
+    assert!(rt; size_of::<Option<Object>>() <= 64);
+    assert!(rt; size_of::<Value>() <= 16);
 }

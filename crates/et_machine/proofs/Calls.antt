@@ -1,5 +1,6 @@
 -- The law of drafts for each call of the machine and its heap.
 use Rattle.std.proofs.Common.{◌≡◌, ℕ, ◌<◌, List, [], ◌∷◌, ◌++◌, length, Option, Some, None, Contains, refl, sym, subst, inl, inr, arith, append-nil, option_to_list}
+use Rattle.std.proofs.lemmas.List.Elements.{Contains-append_left}
 use Rattle.et_base.specs.declared.value.Value.{Value}
 use Rattle.et_graph.proofs.Lists.{Contains-none, Contains-cons}
 use Rattle.et_heap.specs.declared.monitor.Monitor.{Monitor}
@@ -14,7 +15,7 @@ use Rattle.et_machine.specs.Roots.{roots_of}
 use Rattle.et_machine.specs.Sound.{IsSound}
 use Rattle.et_machine.specs.Moves.{Moves, WasThere, MayBeTied, IsUnderWay, IsOnWay, AreHeld, WereThere}
 use Rattle.et_machine.proofs.Places.{moves_none, frame_push, frame_pop, frame_clear, frame_set_local, frame_in_clinit, guest_top, guest_dropped, guest_entered, guest_pending, guest_started, guest_ended, guest_set_entered, guest_static, guest_interned, moves_place, refs_of-unset}
-use Rattle.et_machine.proofs.UnderWay.{start, law_guest, law_lose, law_object, law_beside, law_make}
+use Rattle.et_machine.proofs.UnderWay.{start, law_guest, law_lose, law_object, law_slots, law_beside, law_make}
 
 only_held : (H : ℕ → Type 0) (o : ℕ) → H o → (p : ℕ) → Contains (o ∷ []) p → H p
 only_held H o h p c = elim (Contains-cons o [] p c) [ inl e ↦ subst H e h | inr d ↦ absurd (Contains-none p d) ]
@@ -104,6 +105,17 @@ pub on_set_slot : (s : Kept) (m : MachineState) (o i : ℕ) (v : Value) → IsOn
 on_set_slot s m o i v w held there lt new known were =
     let moves = moves_place (MayBeTied s (kept_of m)) (WasThere s (kept_of m)) (object_at m.heap o).slots i v lt (λ r c. (new r c, known r c)) were in
     law_object s (kept_of m) m.lost o (with_slot i v (object_at m.heap o)) (refs_of_value (slot_of (object_at m.heap o) i)) w held there moves (λ r e. w.sound.referents o r e)
+
+-- the old target is lost already
+pub on_heap_set_slot : (s : Kept) (m : MachineState) (o i : ℕ) (v : Value) → IsOnWay s m → IsHeld m.heap o → WasThere s (kept_of m) o → i < length (object_at m.heap o).slots
+    → AreHeld m (refs_of_value v) → WereThere s m (refs_of_value v) → ((r : ℕ) → Contains (refs_of_value (slot_of (object_at m.heap o) i)) r → Contains m.lost r)
+    → IsOnWay s (with_object m o (with_slot i v (object_at m.heap o)))
+on_heap_set_slot s m o i v w held there lt new known lost =
+    let old : Value = slot_of (object_at m.heap o) i in
+    let moves = moves_place (λ r. IsHeld m.heap r × WasThere s (kept_of m) r) (λ r. Contains m.lost r) (object_at m.heap o).slots i v lt (λ r c. (new r c, known r c)) lost in
+    lost_same s (kept_of (with_object m o (with_slot i v (object_at m.heap o)))) m.lost
+    (law_slots s (kept_of m) m.lost o (with_slot i v (object_at m.heap o)) [] w held there moves.on
+    (λ r c. elim (moves.off r c) [ inl d ↦ inl d | inr d ↦ inr (Contains-append_left m.lost [] r (lost r d)) ]) (λ r c. absurd (Contains-none r c)) (λ r e. w.sound.referents o r e))
 
 pub on_set_referent : (s : Kept) (m : MachineState) (o : ℕ) (r : Option ℕ) → IsOnWay s m → IsHeld m.heap o → AreHeld m (option_to_list r) → IsOnWay s (with_object m o (with_referent r (object_at m.heap o)))
 on_set_referent s m o r w held new = law_beside s (kept_of m) m.lost o (with_referent r (object_at m.heap o)) w held refl (λ p e. new p (listed r p e))

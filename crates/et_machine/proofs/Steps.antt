@@ -1,5 +1,5 @@
 -- What an event has done to the topmost frame of a thread so far, call by call, and how it ends.
-use Rattle.std.proofs.Common.{◌≡◌, ℕ, zero, suc, ◌+◌, ◌-◌, ◌<◌, ◌≤◌, List, [], ◌∷◌, ◌++◌, length, get_or, set, Some, None, refl, sym, ◌∙◌, ap, subst, arith, Contains, get_or-set_same, set-set, append-nil, append_assoc, inl, inr}
+use Rattle.std.proofs.Common.{◌≡◌, ℕ, zero, suc, ◌+◌, ◌-◌, ◌<◌, ◌≤◌, List, [], ◌∷◌, ◌++◌, length, get_or, set, take, drop, Some, None, refl, sym, ◌∙◌, ap, subst, arith, Contains, get_or-set_same, set-set, append-nil, append_assoc, inl, inr}
 use Rattle.std.specs.List.{flat_map}
 use Rattle.std.proofs.lemmas.List.{length-set, length_push, get_or_at}
 use Rattle.std.proofs.lemmas.List.Elements.{Contains-append_left}
@@ -269,3 +269,36 @@ did_enter m t f new l m₁ m₂ sound has d e h =
     ∙ ap (λ (zs : List ThreadState). record (ticked m.guest) { threads = zs }) (set-set m.guest.threads t (with_top_of (thread_at m.guest t) f) (entered_by new (with_top_of (thread_at m.guest t) f))) in
     led_plain s _ m₂ (subst (λ (n : MachineState). IsOnWay s n) (sym is) next) (ap (λ (n : MachineState). length n.heap) is)
     (ap (λ (n : MachineState). kept_of n) is ∙ ap (λ (k : GuestState). record { heap = m.heap; guest = k }) same)
+
+-- SEVERAL OPERANDS
+
+record PopsMore (n : ℕ) (vs : List Value) : Type 0 where
+  left : drop 1 (drop n vs) ≡ drop (n + 1) vs
+  lost : refs_of (take n vs) ++ refs_of_value (get_or (drop n vs) 0 Unset) ≡ refs_of (take (n + 1) vs)
+  there : 0 < length (drop n vs)
+  first : get_or (drop n vs) 0 Unset ≡ get_or vs n Unset
+
+pops_more : (n : ℕ) (vs : List Value) → n < length vs → PopsMore n vs
+pops_more n [] lt = absurd (omega arith)
+pops_more zero (v ∷ vs) lt = record { left = refl; lost = sym (append-nil (refs_of_value v)); there = omega arith; first = refl }
+pops_more (suc n) (v ∷ vs) lt =
+    let e : suc (n + 1) ≡ suc n + 1 = omega arith in
+    let more : PopsMore n vs = pops_more n vs (omega arith) in
+    record {
+      left = more.left ∙ ap (λ (k : ℕ). drop k (v ∷ vs)) e;
+      lost = append_assoc (refs_of_value v) (refs_of (take n vs)) (refs_of_value (get_or (drop n vs) 0 Unset)) ∙ (ap (λ (os : List ℕ). refs_of_value v ++ os) more.lost ∙ ap (λ (k : ℕ). refs_of (take k (v ∷ vs))) e);
+      there = more.there;
+      first = more.first;
+    }
+
+-- one operand more is popped
+pub did_pop_more : (s : Kept) (b : MachineState) (t : ℕ) (f : FrameState) (n : ℕ) (m₁ m₂ : MachineState) → HasFrame b.guest t → Did s b t (popped n f) (refs_of (take n f.operands)) m₁
+    → m₂ ≡ steps_top m₁ t (popped 1 (top m₁.guest t)) (refs_of_value (operand_of (top m₁.guest t) 0))
+    → n < length f.operands → ((o : ℕ) → Contains (refs_of_value (operand_of f n)) o → MayBeLost s b o)
+    → Did s b t (popped (n + 1) f) (refs_of (take (n + 1) f.operands)) m₂
+did_pop_more s b t f n m₁ m₂ has d e lt r =
+    let more : PopsMore n f.operands = pops_more n f.operands lt in
+    let next : Did s b t (popped 1 (popped n f)) (refs_of (take n f.operands) ++ refs_of_value (operand_of (popped n f) 0)) m₂ =
+    did_pop s b t (popped n f) (refs_of (take n f.operands)) m₁ m₂ has d e more.there (λ o c. r o (subst (λ (v : Value). Contains (refs_of_value v) o) more.first c)) in
+    subst (λ (vs : List Value). Did s b t (record f { operands = vs }) (refs_of (take (n + 1) f.operands)) m₂) more.left
+    (subst (λ (os : List ℕ). Did s b t (popped 1 (popped n f)) os m₂) more.lost next)

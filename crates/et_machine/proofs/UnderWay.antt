@@ -118,42 +118,45 @@ pair_slot xs o z c = subst (λ (os : List ℕ). Contains os z) (targets_found (a
 
 -- a pair after the write was one before, or was put in
 set_pair : (s x : Kept) (lost : List ℕ) (o : ℕ) (y : ObjectState) (l : List ℕ) → IsHeld x.heap o
-    → Moves (MayBeTied s x) (WasThere s x) (refs_of (object_at x.heap o).slots) (refs_of y.slots) l
+    → ((z : ℕ) → Contains (refs_of y.slots) z → Contains (refs_of (object_at x.heap o).slots) z ⊎ MayBeTied s x z)
     → (u z : ℕ) → Contains (pairs_of (with_object_at x.heap o y)) (u, z) → Contains (pairs_of x.heap) (u, z) ⊎ ((u ≡ o) × MayBeTied s x z)
-set_pair s x lost o y l held m u z c =
+set_pair s x lost o y l held on u z c =
     elim (cases_eq u o) [
       | inr ne ↦ inl (set_pair_other x.heap o u y z ne c)
       | inl e ↦
           let d : Contains (pairs_of (with_object_at x.heap o y)) (o, z) = subst (λ (v : ℕ). Contains (pairs_of (with_object_at x.heap o y)) (v, z)) e c in
-          elim (m.on z (set_pair_same x.heap o y z (held_within x.heap o held) d)) [
+          elim (on z (set_pair_same x.heap o y z (held_within x.heap o held) d)) [
             | inl f ↦ inl (subst (λ (v : ℕ). Contains (pairs_of x.heap) (v, z)) (sym e) (slot_pair x.heap o z f))
             | inr h ↦ inr (e, h)
           ]
     ]
 
-pub law_object : (s x : Kept) (lost : List ℕ) (o : ℕ) (y : ObjectState) (l : List ℕ) → IsUnderWay s x lost → IsHeld x.heap o → WasThere s x o
-    → Moves (MayBeTied s x) (WasThere s x) (refs_of (object_at x.heap o).slots) (refs_of y.slots) l
+-- what is taken out of the slots is lost now, or was lost before
+pub law_slots : (s x : Kept) (lost : List ℕ) (o : ℕ) (y : ObjectState) (l : List ℕ) → IsUnderWay s x lost → IsHeld x.heap o → WasThere s x o
+    → ((z : ℕ) → Contains (refs_of y.slots) z → Contains (refs_of (object_at x.heap o).slots) z ⊎ MayBeTied s x z)
+    → ((z : ℕ) → Contains (refs_of (object_at x.heap o).slots) z → Contains (refs_of y.slots) z ⊎ Contains (lost ++ l) z)
+    → ((z : ℕ) → Contains l z → WasThere s x z)
     → ((r : ℕ) → y.referent ≡ Some r → IsHeld x.heap r)
     → IsUnderWay s (record { heap = with_object_at x.heap o y; guest = x.guest }) (lost ++ l)
-law_object s x lost o y l w held known m refers =
+law_slots s x lost o y l w held known on off was refers =
     let lt : o < length x.heap = held_within x.heap o held in
     let len : length (with_object_at x.heap o y) ≡ length x.heap = length-set x.heap o (Some y) in
-    let pairs = set_pair s x lost o y l held m in
+    let pairs = set_pair s x lost o y l held on in
     let move : IsMove (graph_of s) (step_of s x lost) (step_of s (record { heap = with_object_at x.heap o y; guest = x.guest }) (lost ++ l)) = record {
       fresh = ap (λ (n : ℕ). numbers_from (length s.heap) (n - length s.heap)) len;
       made = ap (λ (n : ℕ). n - 1) len;
       gone = gone_set x.heap o y held;
       lost_kept = λ r c. Contains-append_left lost l r c;
-      lost_known = λ r c. elim (Contains-append_cases lost l r c) [ inl d ↦ inl d | inr d ↦ inr (m.was r d) ];
+      lost_known = λ r c. elim (Contains-append_cases lost l r c) [ inl d ↦ inl d | inr d ↦ inr (was r d) ];
       roots_off = λ r c d out. absurd (out d);
       roots_on = λ r c. inl c;
       pairs_off = λ u z c d out. elim (cases_eq u o) [
         | inr ne ↦ absurd (out (pair_set_other x.heap o u y z ne d))
         | inl e ↦
             let f : Contains (pairs_of x.heap) (o, z) = subst (λ (v : ℕ). Contains (pairs_of x.heap) (v, z)) e d in
-            elim (m.off z (pair_slot x.heap o z f)) [
+            elim (off z (pair_slot x.heap o z f)) [
               | inl i ↦ absurd (out (subst (λ (v : ℕ). Contains (pairs_of (with_object_at x.heap o y)) (v, z)) (sym e) (pair_set_same x.heap o y z lt i)))
-              | inr i ↦ (Contains-append_right lost l z i, subst (WasThere s x) (sym e) known)
+              | inr i ↦ (i, subst (WasThere s x) (sym e) known)
             ]
       ];
       pairs_on = λ u z c. elim (pairs u z c) [
@@ -177,6 +180,13 @@ law_object s x lost o y l w held known m refers =
         ]);
       };
     }
+
+pub law_object : (s x : Kept) (lost : List ℕ) (o : ℕ) (y : ObjectState) (l : List ℕ) → IsUnderWay s x lost → IsHeld x.heap o → WasThere s x o
+    → Moves (MayBeTied s x) (WasThere s x) (refs_of (object_at x.heap o).slots) (refs_of y.slots) l
+    → ((r : ℕ) → y.referent ≡ Some r → IsHeld x.heap r)
+    → IsUnderWay s (record { heap = with_object_at x.heap o y; guest = x.guest }) (lost ++ l)
+law_object s x lost o y l w held known m refers =
+    law_slots s x lost o y l w held known m.on (λ z c. elim (m.off z c) [ inl d ↦ inl d | inr d ↦ inr (Contains-append_right lost l z d) ]) m.was refers
 
 pairs_set_from : (k : ℕ) (xs : Objects) (o : ℕ) (y : ObjectState) → IsHeld xs o → y.slots ≡ (object_at xs o).slots → pairs_from k (set xs o (Some y)) ≡ pairs_from k xs
 pairs_set_from k [] o y held e = absurd held

@@ -188,6 +188,15 @@ pub fn set_slot()
         IsOnWay s (steps_object m o (with_slot i v (object_at m.heap o)) (refs_of_value (slot_of (object_at m.heap o) i))) }
 {}
 
+/// `Heap::set_slot`, of such an object and to such a value, where the old target is on the list of the lost ones already.
+pub fn heap_set_slot()
+    ensures { (s : Kept) (m : MachineState) (o i : ℕ) (v : Value) → IsOnWay s m →
+        IsHeld m.heap o → WasThere s (kept_of m) o → i < length (object_at m.heap o).slots →
+        AreHeld m (refs_of_value v) → WereThere s m (refs_of_value v) →
+        ((r : ℕ) → Contains (refs_of_value (slot_of (object_at m.heap o) i)) r → Contains m.lost r) →
+        IsOnWay s (with_object m o (with_slot i v (object_at m.heap o))) }
+{}
+
 /// `Heap::set_referent`, to what is held. A weak reference is no pair of the graph.
 pub fn set_referent()
     ensures { (s : Kept) (m : MachineState) (o : ℕ) (r : Option ℕ) → IsOnWay s m → IsHeld m.heap o →

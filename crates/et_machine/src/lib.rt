@@ -8,6 +8,7 @@ mod machine;
 mod threads;
 
 pub use class_state::ClassState;
+pub use et_frames::{NewFrame, Stage, Turn};
 pub use machine::Machine;
 
 #[cfg(test)]

@@ -178,7 +178,8 @@ impl Machine {
         requires few { length self.old.guest.threads < most_threads }
         requires fresh { thread_with self.old.guest.threads o ≡ None }
         ensures thread { IfOk result (λ thread. thread ≡ length self.old.guest.threads) }
-        ensures ok { OnOk result (self.new ≡ with_guest self.old (with_new_thread self.old.guest (new_thread None (Some o)))) }
+        ensures ok { OnOk result (self.new ≡ with_guest self.old
+            (with_new_thread self.old.guest (new_thread None (Some o)))) }
         ensures err { OnErr result (self.new ≡ self.old) }
     {
         let number = self.threads.len() as u8;
@@ -191,7 +192,9 @@ impl Machine {
     pub fn set_entered(&mut self, thread: ThreadId)
         requires thread { IsUnended self.old.guest thread }
         requires lost { length self.old.lost < lost_room }
-        ensures new { self.new ≡ steps_thread self.old thread (as_entered (thread_at self.old.guest thread)) (option_to_list (thread_at self.old.guest thread).entry) }
+        ensures new { self.new ≡ steps_thread self.old thread
+            (as_entered (thread_at self.old.guest thread))
+            (option_to_list (thread_at self.old.guest thread).entry) }
         ensures few { length self.new.lost ≤ length self.old.lost + 1 }
     {
         let t = &mut self.threads[thread.number() as usize];
@@ -203,7 +206,9 @@ impl Machine {
     pub fn end_thread(&mut self, thread: ThreadId)
         requires thread { IsUnended self.old.guest thread }
         requires lost { length self.old.lost + 3 ≤ lost_room }
-        ensures new { self.new ≡ steps_thread self.old thread (as_ended (thread_at self.old.guest thread)) (ended_roots (thread_at self.old.guest thread)) }
+        ensures new { self.new ≡ steps_thread self.old thread
+            (as_ended (thread_at self.old.guest thread))
+            (ended_roots (thread_at self.old.guest thread)) }
         ensures few { length self.new.lost ≤ length self.old.lost + 3 }
     {
         let t = &mut self.threads[thread.number() as usize];
@@ -307,7 +312,9 @@ impl Machine {
         requires operand { 0 < length (top self.old.guest thread).operands }
         requires lost { length self.old.lost < lost_room }
         ensures value { result ≡ operand_of (top self.old.guest thread) 0 }
-        ensures new { self.new ≡ steps_top self.old thread (popped 1 (top self.old.guest thread)) (refs_of_value (operand_of (top self.old.guest thread) 0)) }
+        ensures new { self.new ≡ steps_top self.old thread
+            (popped 1 (top self.old.guest thread))
+            (refs_of_value (operand_of (top self.old.guest thread) 0)) }
         ensures few { length self.new.lost ≤ length self.old.lost + 1 }
     {
         let t = &mut self.threads[thread.number() as usize];
@@ -322,7 +329,9 @@ impl Machine {
     pub fn clear_operands(&mut self, thread: ThreadId)
         requires frame { HasFrame self.old.guest thread }
         requires lost { length self.old.lost + length (top self.old.guest thread).operands ≤ lost_room }
-        ensures { self.new ≡ steps_top self.old thread (without_operands (top self.old.guest thread)) (refs_of (top self.old.guest thread).operands) }
+        ensures { self.new ≡ steps_top self.old thread
+            (without_operands (top self.old.guest thread))
+            (refs_of (top self.old.guest thread).operands) }
     {
         let t = &mut self.threads[thread.number() as usize];
         t.top().lose_operands(&mut self.lost);
@@ -351,7 +360,9 @@ impl Machine {
         requires frame { HasFrame self.old.guest thread }
         requires local { i < length (top self.old.guest thread).locals }
         requires lost { length self.old.lost < lost_room }
-        ensures new { self.new ≡ steps_top self.old thread (with_local i v (top self.old.guest thread)) (refs_of_value (local_of (top self.old.guest thread) i)) }
+        ensures new { self.new ≡ steps_top self.old thread
+            (with_local i v (top self.old.guest thread))
+            (refs_of_value (local_of (top self.old.guest thread) i)) }
         ensures few { length self.new.lost ≤ length self.old.lost + 1 }
     {
         let t = &mut self.threads[thread.number() as usize];
@@ -364,7 +375,8 @@ impl Machine {
         requires thread { thread < length self.old.guest.threads }
         requires few { length (thread_at self.old.guest thread).frames < most_frames }
         requires arguments { length frame.arguments.items ≤ frame.max_locals }
-        ensures ok { OnOk result (self.new ≡ steps_thread self.old thread (entered_by (frame_of frame) (thread_at self.old.guest thread)) []) }
+        ensures ok { OnOk result (self.new ≡ steps_thread self.old thread
+            (entered_by (frame_of frame) (thread_at self.old.guest thread)) []) }
         ensures err { OnErr result (self.new ≡ self.old) }
     {
         let made = Frame::new(self.alloc, &frame)?;
@@ -386,7 +398,8 @@ impl Machine {
         requires before { IsTrue (is_before (top self.old.guest thread).stage) }
         requires locals { (top self.old.guest thread).locals ≡ [] }
         requires operands { (top self.old.guest thread).operands ≡ [] }
-        ensures ok { OnOk result (self.new ≡ steps_top self.old thread (in_clinit method max_stack max_locals (top self.old.guest thread)) []) }
+        ensures ok { OnOk result (self.new ≡ steps_top self.old thread
+            (in_clinit method max_stack max_locals (top self.old.guest thread)) []) }
         ensures err { OnErr result (self.new ≡ self.old) }
     {
         let alloc = self.alloc;
@@ -398,8 +411,11 @@ impl Machine {
     /// Takes the frame away, and loses the objects in its locals, its operands and its lock slot.
     pub fn drop_frame(&mut self, thread: ThreadId)
         requires frame { HasFrame self.old.guest thread }
-        requires lost { length self.old.lost + (length (top self.old.guest thread).locals + length (top self.old.guest thread).operands) < lost_room }
-        ensures { self.new ≡ steps_thread self.old thread (without_top (thread_at self.old.guest thread)) (frame_roots (top self.old.guest thread)) }
+        requires lost { length self.old.lost
+            + (length (top self.old.guest thread).locals + length (top self.old.guest thread).operands) < lost_room }
+        ensures { self.new ≡ steps_thread self.old thread
+            (without_top (thread_at self.old.guest thread))
+            (frame_roots (top self.old.guest thread)) }
     {
         let t = &mut self.threads[thread.number() as usize];
         t.top().lose_all(&mut self.lost);
@@ -418,7 +434,9 @@ impl Machine {
     pub fn throw(&mut self, thread: ThreadId, o: ObjectId)
         requires thread { thread < length self.old.guest.threads }
         requires lost { length self.old.lost < lost_room }
-        ensures new { self.new ≡ steps_thread self.old thread (with_pending (Some o) (thread_at self.old.guest thread)) (option_to_list (thread_at self.old.guest thread).pending) }
+        ensures new { self.new ≡ steps_thread self.old thread
+            (with_pending (Some o) (thread_at self.old.guest thread))
+            (option_to_list (thread_at self.old.guest thread).pending) }
         ensures few { length self.new.lost ≤ length self.old.lost + 1 }
     {
         let t = &mut self.threads[thread.number() as usize];
@@ -431,7 +449,9 @@ impl Machine {
         requires thread { thread < length self.old.guest.threads }
         requires lost { length self.old.lost < lost_room }
         ensures value { result ≡ (thread_at self.old.guest thread).pending }
-        ensures new { self.new ≡ steps_thread self.old thread (with_pending None (thread_at self.old.guest thread)) (option_to_list (thread_at self.old.guest thread).pending) }
+        ensures new { self.new ≡ steps_thread self.old thread
+            (with_pending None (thread_at self.old.guest thread))
+            (option_to_list (thread_at self.old.guest thread).pending) }
         ensures few { length self.new.lost ≤ length self.old.lost + 1 }
     {
         let t = &mut self.threads[thread.number() as usize];
@@ -454,7 +474,9 @@ impl Machine {
         requires slot { i < length (object_at self.old.heap o).slots }
         requires lost { length self.old.lost < lost_room }
         ensures value { result ≡ slot_of (object_at self.old.heap o) i }
-        ensures new { self.new ≡ steps_object self.old o (with_slot i v (object_at self.old.heap o)) (refs_of_value (slot_of (object_at self.old.heap o) i)) }
+        ensures new { self.new ≡ steps_object self.old o
+            (with_slot i v (object_at self.old.heap o))
+            (refs_of_value (slot_of (object_at self.old.heap o) i)) }
         ensures few { length self.new.lost ≤ length self.old.lost + 1 }
         ensures visits { visits.new ≡ visits.old + 1 }
     {
@@ -477,7 +499,9 @@ impl Machine {
         requires slot { i < length self.old.guest.statics }
         requires lost { length self.old.lost < lost_room }
         ensures value { result ≡ static_at self.old.guest i }
-        ensures new { self.new ≡ steps_guest self.old (with_static self.old.guest i v) (refs_of_value (static_at self.old.guest i)) }
+        ensures new { self.new ≡ steps_guest self.old
+            (with_static self.old.guest i v)
+            (refs_of_value (static_at self.old.guest i)) }
         ensures few { length self.new.lost ≤ length self.old.lost + 1 }
     {
         let old = self.statics[i as usize];
@@ -538,7 +562,8 @@ impl Machine {
     pub fn intern(&mut self, bytes: &[u8], o: ObjectId) -> Result<(), NoMemory>
         requires bytes { object_of self.old.guest.interned bytes.now ≡ None }
         requires object { text_in self.old.guest.interned o ≡ None }
-        ensures ok { OnOk result (self.new ≡ with_guest self.old (with_string self.old.guest bytes.now o)) }
+        ensures ok { OnOk result (self.new ≡ with_guest self.old
+            (with_string self.old.guest bytes.now o)) }
         ensures err { OnErr result (self.new ≡ self.old) }
     {
         self.interned.add(bytes, o)
@@ -546,7 +571,7 @@ impl Machine {
 
     /// Lists the objects in root places: of each thread in order of start those of its frames, the topmost first, its
     /// pending exception and, where it has not ended, its entry slot and its Thread object; then those in static slots, and
-    /// the strings of constants. What was in the list before is gone.
+    /// the strings of constants. What was in the list before is gone. After `NoMemory` it has some of them.
     pub fn roots(&self, room: &mut RootList) -> Result<(), NoMemory>
         ensures { OnOk result (room.new ≡ roots_of self.now.guest) }
     {
