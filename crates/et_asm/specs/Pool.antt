@@ -109,7 +109,7 @@ abbrev pub width : Entry → ℕ
 width (entry.Long value) = 2
 width other = 1
 
--- one more than the number of indices that entries take: the index of the next one
+-- the index of an entry that stands behind entries: one more than the number of indices that they take
 abbrev pub index_behind : List Entry → ℕ
 index_behind entries = 1 + sum_by width entries
 

@@ -21,7 +21,8 @@ pub(crate) fn width(e: &Entry) -> usize
     }
 }
 
-/// The sum of two numbers, where it fits.
+/// The sum of two numbers. One that doesn't fit is taken for want of memory: no listing that memory
+/// holds comes near it.
 pub(crate) fn sum(a: usize, b: usize) -> Result<usize, AllocError>
     ensures { IfOk result (λ n. n ≡ a + b) }
 {
