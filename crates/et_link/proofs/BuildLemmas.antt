@@ -1,17 +1,16 @@
 -- A program of what is known.
-use Rattle.std.proofs.Common.{◌≡◌, ℕ, ◌+◌, ◌<◌, Bool, false, List, [], length, Option, None, Some, refl, sym, ◌∙◌, ap, subst, arith}
+use Rattle.std.proofs.Common.{◌≡◌, ℕ, ◌+◌, ◌<◌, false, List, [], length, None, Some, sym, ◌∙◌, ap, subst}
 use Rattle.std.specs.List.{slice_index_or}
 use Rattle.et_index.specs.Shown.{number_of}
 use Rattle.et_set.specs.Outline.{Outline, place_of}
-use Rattle.et_set.specs.Links.{links}
 use Rattle.et_program.specs.declared.info.MethodInfo.{MethodInfo}
 use Rattle.et_program.specs.declared.info.FieldInfo.{FieldInfo}
 use Rattle.et_class.specs.declared.class.ClassFile.{ClassFile}
 use Rattle.et_link.specs.declared.reading.Declared.{Declared}
 use Rattle.et_link.specs.declared.classes.Known.{Known}
-use Rattle.et_link.specs.Files.{set_of, flags_of}
+use Rattle.et_link.specs.Files.{set_of}
 use Rattle.et_link.specs.MembersOf.{methods_of, fields_of}
-use Rattle.et_link.specs.Slots.{own_slots, slots_above, slots_of}
+use Rattle.et_link.specs.Slots.{own_slots, slots_above}
 use Rattle.et_link.specs.Heads.{has_to_run, initializer_of, constants_of}
 use Rattle.et_link.specs.ArrayTypes.{array_names, array_at}
 use Rattle.et_link.specs.Naming.{IsIndexFrom}

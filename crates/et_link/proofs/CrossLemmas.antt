@@ -1,5 +1,5 @@
 -- Redeclared methods.
-use Rattle.std.proofs.Common.{◌≡◌, ℕ, zero, suc, ◌+◌, ◌<◌, ◌≤◌, Bool, true, false, cond, ◌&&◌, ◌||◌, not, ◌⊎◌, inl, inr, List, [], ◌∷◌, ◌++◌, length, get_or, Option, None, Some, IfSome, refl, sym, ◌∙◌, ap, subst, arith, below_more, true≢false, Contains}
+use Rattle.std.proofs.Common.{◌≡◌, ℕ, zero, suc, ◌+◌, ◌<◌, ◌≤◌, Bool, true, false, cond, ◌&&◌, not, List, ◌++◌, length, get_or, Option, None, Some, IfSome, refl, sym, ◌∙◌, ap, subst, arith, below_more, true≢false, Contains}
 use mathlib.Core.Logic.{⊎_elim}
 use Rattle.std.specs.Prelude.{nat_lt, All}
 use Rattle.std.specs.List.{position_from, list_any, slice_index_or}
@@ -31,7 +31,7 @@ pub hides_found : (set : List Outline) (methods : List MethodInfo) (m : MethodIn
 hides_found set methods m s n d x o num p r finds en ed e at is private apart =
     let lt : num < length methods = found_within methods x n d s o num finds e at in
     let same : same_in methods m s ≡ Some num =
-        sym (ap (λ (a : List ℕ). position_from (is_method a m.descriptor s) 0 methods) en) ∙ (sym (ap (λ (b : List ℕ). position_from (is_method n b s) 0 methods) ed) ∙ (sym (e ∙ finds n d s) ∙ ap (λ (k : ℕ). Some k) (sym at))) in
+    sym (ap (λ (a : List ℕ). position_from (is_method a m.descriptor s) 0 methods) en) ∙ (sym (ap (λ (b : List ℕ). position_from (is_method n b s) 0 methods) ed) ∙ (sym (e ∙ finds n d s) ∙ ap (λ (k : ℕ). Some k) (sym at))) in
     let q : r ≡ is_private_at methods (same_in methods m s) = private ∙ (ap is_package_private (is ∙ get_or_default methods num p no_method lt) ∙ ap (is_private_at methods) (sym same)) in
     q ∙ sym (ap (λ b. not b && is_private_at methods (same_in methods m s)) apart)
 

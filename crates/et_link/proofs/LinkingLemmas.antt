@@ -1,5 +1,5 @@
 -- From what the files declare to the program.
-use Rattle.std.proofs.Common.{◌≡◌, ℕ, zero, suc, ◌+◌, ◌<◌, ◌≤◌, ◌^◌, Bool, true, false, cond, List, [], ◌∷◌, ◌++◌, length, get_or, Option, None, Some, Result, Ok, Err, refl, sym, ◌∙◌, ap, subst, arith}
+use Rattle.std.proofs.Common.{◌≡◌, ℕ, ◌+◌, ◌<◌, ◌≤◌, ◌^◌, Bool, false, cond, List, [], ◌∷◌, ◌++◌, length, Option, None, Some, refl, sym, ◌∙◌, ap, subst, arith}
 use mathlib.Core.Path.{fun_ext}
 use Rattle.std.specs.Prelude.{All, sum_by, count_by, unwrap_or}
 use Rattle.std.specs.List.{slice_index_or}
@@ -8,10 +8,9 @@ use Rattle.std.proofs.lemmas.List.Elements.{All-head, All-tail}
 use Rattle.std.proofs.lemmas.List.Sums.{sum_by-cons}
 use Rattle.et_pool.specs.Entries.{Constants}
 use Rattle.et_class.specs.declared.class.ClassFile.{ClassFile}
-use Rattle.et_index.specs.Shown.{number_of}
 use Rattle.et_set.specs.Outline.{Outline, outline_at, place_of}
 use Rattle.et_set.specs.Links.{LinkEntry, links, links_of, AreWithin, IsAncestor}
-use Rattle.et_set.specs.Faults.{Shows, IsFree, IsFirst, IsLinkFault, IsFaultless, kind_number}
+use Rattle.et_set.specs.Faults.{IsLinkFault, IsFaultless, kind_number}
 use Rattle.et_set.specs.declared.fault.FaultKind.{FaultKind}
 use Rattle.et_set.specs.declared.fault.FaultKind.TheVariants as set
 use Rattle.et_set.specs.Ancestry.{Ancestry, ancestry_at, IsAncestry, IsBelow}
@@ -33,7 +32,7 @@ use Rattle.et_link.specs.Classes.{Heads, set_class, array_class}
 use Rattle.et_link.specs.Crossing.{crosses, AnswersLeast}
 use Rattle.et_link.specs.Declaring.{AreRows}
 use Rattle.et_link.specs.ProgramOf.{heads_of, names_of, classes_by, main_of, is_of_file, program_with}
-use Rattle.et_link.specs.LinkFaults.{LinkShows, link_number, IsLinkFree, IsFaultAt, IsLinkable, RefusesLink, CrossesPackage}
+use Rattle.et_link.specs.LinkFaults.{link_number, IsLinkFree, IsFaultAt, IsLinkable, RefusesLink}
 use Rattle.et_link.specs.Refusals.{Names, link_kind, RefusesSet, IsLate, linked_by}
 use Rattle.et_link.proofs.CrossLemmas.{no_crossing, first_crosses, none_crosses_before}
 use Rattle.et_link.proofs.TabledLemmas.{length-set, methods_within, fields_within, length-classes, tabled}

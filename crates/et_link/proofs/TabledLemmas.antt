@@ -1,17 +1,14 @@
 -- The tables of the linked program name classes, methods and fields of it alone.
-use Rattle.std.proofs.Common.{◌≡◌, ℕ, zero, suc, ◌+◌, ◌<◌, ◌≤◌, ◌^◌, Bool, true, false, cond, ◌==◌, List, [], ◌∷◌, ◌++◌, length, map, take, drop, get_or, reverse, Option, None, Some, IfSome, refl, sym, ◌∙◌, ap, subst, arith, length-append, ◌-◌, option_map}
+use Rattle.std.proofs.Common.{◌≡◌, ℕ, suc, ◌+◌, ◌<◌, ◌≤◌, ◌^◌, Bool, true, false, cond, ◌==◌, List, [], ◌∷◌, ◌++◌, length, map, take, drop, reverse, Option, None, Some, IfSome, refl, sym, ap, subst, arith, length-append, ◌-◌, option_map}
 use Rattle.std.specs.Prelude.{All, filter, unwrap_or}
-use Rattle.std.specs.List.{flat_map, position_from, slice_index_or}
+use Rattle.std.specs.List.{slice_index_or}
 use Rattle.std.specs.Option.{option_to_list}
-use Rattle.std.specs.Str.{bytes_eq}
 use Rattle.std.proofs.lemmas.List.{length-map}
 use Rattle.std.proofs.lemmas.List.Elements.{All-nil, All-cons, All-head, All-tail, All-append, All-push, All-map, All-weaker}
 use Rattle.std.proofs.lemmas.List.Sorted.{All-permutation, IsPermutation-reverse}
-use Rattle.et_pool.specs.Entries.{Item, Constants}
-use Rattle.et_pool.specs.Descriptors.{dimensions, is_array}
-use Rattle.et_class.specs.declared.member.Member.{Member}
+use Rattle.et_pool.specs.Entries.{Constants}
+use Rattle.et_pool.specs.Descriptors.{dimensions}
 use Rattle.et_class.specs.declared.class.ClassFile.{ClassFile}
-use Rattle.et_boot.specs.Classes.{BootClassOf, BootMethodOf, BootFieldOf}
 use Rattle.et_set.specs.Outline.{Outline, place_of}
 use Rattle.et_set.specs.Links.{LinkEntry, links, links_of, no_links, parents_of, AreWithin}
 use Rattle.et_set.specs.Ancestry.{Ancestry, ancestry_at, IsBelow}
@@ -19,18 +16,17 @@ use Rattle.et_set.specs.Initialization.{interfaces_to_run, with_interfaces, init
 use Rattle.et_set.proofs.BelowLemmas.{below_added_all, below_flat}
 use Rattle.et_program.specs.declared.info.MethodInfo.{MethodInfo}
 use Rattle.et_program.specs.declared.info.FieldInfo.{FieldInfo}
-use Rattle.et_program.specs.declared.kind.Leaf.{Leaf}
 use Rattle.et_program.specs.declared.kind.Leaf.TheVariants.{Base, Class}
-use Rattle.et_program.specs.Entries.{ClassEntry, Linked}
+use Rattle.et_program.specs.Entries.{ClassEntry}
 use Rattle.et_program.specs.Tables.{IsWithin, IsInfoWithin, IsLeafBelow, IsTabled}
 use Rattle.et_program.proofs.PlaceLemmas.{position_below, position_within}
 use Rattle.et_link.specs.Files.{boots, set_of, boot_outline, file_outline}
 use Rattle.et_link.specs.MembersOf.{numbered, methods_of, fields_of, boot_method, boot_methods, file_method, file_methods, boot_field, boot_fields, file_field, file_fields}
 use Rattle.et_link.specs.Slots.{placed, placed_behind, places_from, slots_above}
-use Rattle.et_link.specs.ArrayTypes.{leaf_at, leaf_of, leaf_or, base_kind, array_at}
+use Rattle.et_link.specs.ArrayTypes.{leaf_at, leaf_or, base_kind}
 use Rattle.et_link.specs.Classes.{Heads, prerequisites_of, set_class, array_class}
 use Rattle.et_link.specs.Declaring.{AreRows}
-use Rattle.et_link.specs.ProgramOf.{heads_of, names_of, classes_by, main_of, is_of_file, program_with}
+use Rattle.et_link.specs.ProgramOf.{heads_of, names_of, classes_by, main_of, program_with}
 
 -- LISTS
 
@@ -139,9 +135,11 @@ leaf_below set m (a ∷ rest) le = by (a == 76)
     of_class : (o : Option ℕ) → IfSome o (λ j. j < m) → IsLeafBelow m (leaf_or (option_map (λ (k : ℕ). Class k) o))
     of_class None h = tt
     of_class (Some k) h = h
+
     of_base : (o : Option ℕ) → IsLeafBelow m (leaf_or (option_map (λ (k : ℕ). Base k) o))
     of_base None = tt
     of_base (Some k) = tt
+
     by : (b : Bool) → IsLeafBelow m (leaf_or (cond b (option_map (λ (k : ℕ). Class k) (place_of set (take (length rest - 1) rest))) (option_map (λ (k : ℕ). Base k) (base_kind a))))
     by true = of_class _ (some_below (place_of set (take (length rest - 1) rest)) (length set) m le (position_within _ set))
     by false = of_base (base_kind a)
@@ -214,9 +212,9 @@ tabled files rows pools m are main few_c few_m few_f =
     let W = IsWithin (length classes) in
     let I = λ (c : ClassEntry). IsInfoWithin (length classes) (length (methods_of files)) (length (fields_of files)) c.info in
     let infos : All I classes =
-        All-append I (numbered (λ k c. set_class h k c ∷ []) 0 (set_of files)) (numbered (λ k name. array_class h k name ∷ []) n (names_of files))
-        (numbered_all I (λ k c. set_class h k c ∷ []) 0 (set_of files) (λ j c le lt. All-cons I _ [] (set_info_within files rows (length classes) j c are total (omega arith)) (All-nil I)))
-        (numbered_all I (λ k name. array_class h k name ∷ []) n (names_of files) (λ j name le lt. All-cons I _ [] (array_info_within files rows (length classes) (length (methods_of files)) (length (fields_of files)) j name) (All-nil I))) in
+    All-append I (numbered (λ k c. set_class h k c ∷ []) 0 (set_of files)) (numbered (λ k name. array_class h k name ∷ []) n (names_of files))
+    (numbered_all I (λ k c. set_class h k c ∷ []) 0 (set_of files) (λ j c le lt. All-cons I _ [] (set_info_within files rows (length classes) j c are total (omega arith)) (All-nil I)))
+    (numbered_all I (λ k name. array_class h k name ∷ []) n (names_of files) (λ j name le lt. All-cons I _ [] (array_info_within files rows (length classes) (length (methods_of files)) (length (fields_of files)) j name) (All-nil I))) in
     record {
       classes =
           All-append W (numbered (λ k c. set_class h k c ∷ []) 0 (set_of files)) (numbered (λ k name. array_class h k name ∷ []) n (names_of files))

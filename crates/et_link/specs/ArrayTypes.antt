@@ -1,7 +1,7 @@
 -- THE ARRAY CLASSES of a program: `[Ljava/lang/String;`, and the array types over the classes of the set and over base
 -- types that Class entries of the pools name or instructions make, with the types of their elements. Each has its
 -- descriptor as its name (JVMS 4.4.1).
-use Rattle.std.specs.Prelude.{ℕ, ◌+◌, ◌-◌, ◌==◌, ◌&&◌, Bool, if◌then◌else◌, List, [], ◌∷◌, ◌++◌, length, take, drop, filter, map, Option, None, Some, option_map, is_some, codes, Result, Ok, Err}
+use Rattle.std.specs.Prelude.{ℕ, ◌-◌, ◌==◌, Bool, if◌then◌else◌, List, [], ◌∷◌, ◌++◌, length, take, drop, filter, Option, None, Some, option_map, is_some, codes, Result, Ok, Err}
 use Rattle.std.specs.List.{flat_map, filter_map, list_any, position_from, slice_index_or}
 use Rattle.std.specs.Option.{option_to_list}
 use Rattle.std.specs.Str.{bytes_eq}

@@ -1,5 +1,5 @@
 -- THE CLASSES OF A PROGRAM, by what is known of the set and of its array classes.
-use Rattle.std.specs.Prelude.{ℕ, ◌+◌, Bool, if◌then◌else◌, List, [], ◌∷◌, ◌++◌, length, Option, None}
+use Rattle.std.specs.Prelude.{ℕ, Bool, if◌then◌else◌, List, [], ◌∷◌, ◌++◌, Option, None}
 use Rattle.std.specs.List.{slice_index_or}
 use Rattle.std.specs.Option.{option_to_list}
 use Rattle.et_set.specs.Outline.{Outline}

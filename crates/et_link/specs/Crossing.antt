@@ -1,5 +1,5 @@
 -- How redeclared methods are found.
-use Rattle.std.specs.Prelude.{◌≡◌, ℕ, ◌<◌, not, nat_lt, if◌then◌else◌, ◌&&◌, Bool, true, false, List, length, Option, None, Some}
+use Rattle.std.specs.Prelude.{◌≡◌, ℕ, ◌<◌, not, nat_lt, if◌then◌else◌, ◌&&◌, Bool, true, false, List, Option, None, Some}
 use Rattle.std.specs.List.{list_any}
 use Rattle.et_set.specs.Outline.{Outline}
 use Rattle.et_set.specs.Ancestry.{Ancestry, ancestry_at}

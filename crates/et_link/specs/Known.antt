@@ -1,5 +1,5 @@
 -- What the record of the code knows of all classes.
-use Rattle.std.specs.Prelude.{◌≡◌, ℕ, ◌+◌, ◌<◌, List, [], length, None, false}
+use Rattle.std.specs.Prelude.{◌≡◌, ℕ, ◌+◌, ◌<◌, [], length, None, false}
 use Rattle.std.specs.List.{slice_index_or}
 use Rattle.et_set.specs.Links.{AreWithin}
 use Rattle.et_set.specs.Ancestry.{ancestry_at, IsBelow}

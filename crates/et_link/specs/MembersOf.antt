@@ -1,5 +1,5 @@
 -- THE MEMBERS that the classes declare, class by class in the order of the set, each with the number of its class.
-use Rattle.std.specs.Prelude.{◌≡◌, ℕ, ◌+◌, Bool, false, List, [], ◌∷◌, ◌++◌, map, length, Option, None, option_map}
+use Rattle.std.specs.Prelude.{◌≡◌, ℕ, ◌+◌, false, List, [], ◌∷◌, ◌++◌, map, length, Option, option_map}
 use Rattle.et_pool.specs.Entries.{Item, Constants}
 use Rattle.et_pool.specs.Looks.{utf8_at}
 use Rattle.et_pool.specs.Pools.{IsPool}

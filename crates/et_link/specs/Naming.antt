@@ -1,5 +1,5 @@
 -- How names are found by indices.
-use Rattle.std.specs.Prelude.{◌≡◌, ℕ, List, Option}
+use Rattle.std.specs.Prelude.{◌≡◌, ℕ, List}
 use Rattle.et_index.specs.declared.names.NameIndex.{NameIndex}
 use Rattle.et_index.specs.Shown.{number_of}
 use Rattle.et_link.specs.ArrayTypes.{array_at}

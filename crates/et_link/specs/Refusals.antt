@@ -1,6 +1,5 @@
 -- The answers on the way to a program.
-use Rattle.std.specs.Prelude.{◌≡◌, ℕ, ◌+◌, ◌<◌, ◌≤◌, List, [], length, Option, None, Some, Result, Ok, Err}
-use Rattle.std.specs.List.{slice_index_or}
+use Rattle.std.specs.Prelude.{◌≡◌, ℕ, ◌+◌, ◌<◌, ◌≤◌, List, [], length, None, Some, Result, Ok, Err}
 use Rattle.et_pool.specs.Entries.{Constants}
 use Rattle.et_class.specs.declared.class.ClassFile.{ClassFile}
 use Rattle.et_set.specs.Outline.{Outline, outline_at}
@@ -10,7 +9,6 @@ use Rattle.et_set.specs.declared.fault.FaultKind.{FaultKind}
 use Rattle.et_set.specs.declared.fault.FaultKind.TheVariants as set
 use Rattle.et_program.specs.declared.info.MethodInfo.{MethodInfo}
 use Rattle.et_program.specs.declared.info.FieldInfo.{FieldInfo}
-use Rattle.et_program.specs.declared.program.Program.{Program}
 use Rattle.et_program.specs.Entries.{Linked}
 use Rattle.et_link.specs.declared.fault.LinkFaultKind.{LinkFaultKind}
 use Rattle.et_link.specs.declared.fault.LinkFaultKind.TheVariants.{Duplicate, NoSuper, Cycle, FinalSuper, CrossPackage, NoMain, TooMany}

@@ -71,12 +71,7 @@ pub(crate) fn array_over(alloc: Global, name: &[u8]) -> Result<Name, NoMemory>
 }
 
 /// Puts the array type that an instruction makes behind a list, if it makes one.
-fn add_made(
-    alloc: Global,
-    list: &mut Vec<Name>,
-    pool: &Pool,
-    instr: &Instr,
-) -> Result<(), NoMemory>
+fn add_made(alloc: Global, list: &mut Vec<Name>, pool: &Pool, instr: &Instr) -> Result<(), NoMemory>
     ensures { OnOk result (list.new.items ≡ list.old.items ++ made_by pool.now.slots instr.now) }
 {
     let index = pool_index(instr.first);
@@ -158,11 +153,7 @@ fn add_named(alloc: Global, list: &mut Vec<Name>, pool: &Pool) -> Result<(), NoM
 }
 
 /// Puts a name behind a list, if there is one and it is that of an array type.
-fn add_if_array(
-    alloc: Global,
-    list: &mut Vec<Name>,
-    name: Option<&[u8]>,
-) -> Result<(), NoMemory>
+fn add_if_array(alloc: Global, list: &mut Vec<Name>, name: Option<&[u8]>) -> Result<(), NoMemory>
     ensures { OnOk result (list.new.items ≡ list.old.items ++ option_to_list (if_array (option_map (λ s. s.now) name.entry))) }
 {
     let Some(name) = name else {

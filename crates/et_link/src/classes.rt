@@ -172,11 +172,7 @@ fn set_class(
 }
 
 /// The classes of the set.
-fn set_classes(
-    alloc: Global,
-    known: &Known,
-    set: &[ClassOutline],
-) -> Result<Vec<Class>, NoMemory>
+fn set_classes(alloc: Global, known: &Known, set: &[ClassOutline]) -> Result<Vec<Class>, NoMemory>
     requires length { length set.now ≡ length known.now.table.items }
     requires sized { AreSized known.now }
     ensures { IfOk result (λ list. list.items ≡ numbered (λ k c. set_class (heads_in known.now) k c ∷ []) 0 set.now) }
@@ -244,12 +240,7 @@ fn info_of_array(
 }
 
 /// An array class.
-fn array_class(
-    alloc: Global,
-    known: &Known,
-    class: ClassId,
-    name: &[u8],
-) -> Result<Class, NoMemory>
+fn array_class(alloc: Global, known: &Known, class: ClassId, name: &[u8]) -> Result<Class, NoMemory>
     ensures { IfOk result (λ c. c ≡ array_class (heads_in known.now) class name.now) }
 {
     let info = info_of_array(alloc, known, class, name)?;

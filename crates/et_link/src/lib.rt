@@ -5,13 +5,13 @@ mod arrays;
 mod boots;
 mod classes;
 mod crossing;
-mod reading;
 mod fault;
 mod heads;
 mod linking;
 mod members;
 mod names;
 mod outlines;
+mod reading;
 mod refusal;
 #[cfg(test)]
 mod samples;

@@ -198,11 +198,7 @@ fn code_of_boot(alloc: Global, code: BootCode, tags: &[u8]) -> Result<Code, NoMe
 }
 
 /// The code of a built-in method that has some.
-fn code_if_any(
-    alloc: Global,
-    code: Option<BootCode>,
-    tags: &[u8],
-) -> Result<Option<Code>, NoMemory>
+fn code_if_any(alloc: Global, code: Option<BootCode>, tags: &[u8]) -> Result<Option<Code>, NoMemory>
     ensures { IfOk result (λ c. c ≡ option_map boot_body (option_map shown_code code)) }
 {
     match code {

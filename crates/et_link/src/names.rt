@@ -38,7 +38,13 @@ pub(crate) struct ArrayNames {
 }
 
 /// Puts a name behind the names, unless it is among them.
-fn add_name(alloc: Global, names: &mut Vec<Name>, index: &mut NameIndex, first: usize, name: &[u8]) -> Result<(), NoMemory>
+fn add_name(
+    alloc: Global,
+    names: &mut Vec<Name>,
+    index: &mut NameIndex,
+    first: usize,
+    name: &[u8],
+) -> Result<(), NoMemory>
     requires { IsIndexFrom first names.old.items index.old }
     ensures names { OnOk result (names.new.items ≡ name_added names.old.items name.now) }
     ensures index { OnOk result (IsIndexFrom first names.new.items index.new) }
@@ -57,7 +63,13 @@ fn add_name(alloc: Global, names: &mut Vec<Name>, index: &mut NameIndex, first: 
 }
 
 /// Puts an array type and the array types of its elements behind the names.
-fn add_with_elements(alloc: Global, names: &mut Vec<Name>, index: &mut NameIndex, first: usize, name: &[u8]) -> Result<(), NoMemory>
+fn add_with_elements(
+    alloc: Global,
+    names: &mut Vec<Name>,
+    index: &mut NameIndex,
+    first: usize,
+    name: &[u8],
+) -> Result<(), NoMemory>
     requires { IsIndexFrom first names.old.items index.old }
     ensures names { OnOk result (names.new.items ≡ names_added names.old.items (with_elements name.now)) }
     ensures index { OnOk result (IsIndexFrom first names.new.items index.new) }
@@ -84,7 +96,14 @@ pub(crate) fn array_names(
     let mut names = Vec::new(alloc);
     let mut index = NameIndex::begin(alloc);
     for name in met {
-        add_if_known(alloc, places, &mut names, &mut index, first, name.as_slice())?;
+        add_if_known(
+            alloc,
+            places,
+            &mut names,
+            &mut index,
+            first,
+            name.as_slice(),
+        )?;
     }
     Ok(ArrayNames {
         first,
@@ -96,7 +115,14 @@ pub(crate) fn array_names(
 ghost use Rattle.std.specs.Prelude.{if◌then◌else◌};
 
 /// Puts an array type with those of its elements behind the names, if what is under its dimensions is known.
-fn add_if_known(alloc: Global, places: &NameIndex, names: &mut Vec<Name>, index: &mut NameIndex, first: usize, name: &[u8]) -> Result<(), NoMemory>
+fn add_if_known(
+    alloc: Global,
+    places: &NameIndex,
+    names: &mut Vec<Name>,
+    index: &mut NameIndex,
+    first: usize,
+    name: &[u8],
+) -> Result<(), NoMemory>
     requires { IsIndexFrom first names.old.items index.old }
     ensures names { OnOk result (names.new.items ≡ names_added names.old.items (if is_known (number_of places.now) name.now then with_elements name.now else [])) }
     ensures index { OnOk result (IsIndexFrom first names.new.items index.new) }

@@ -39,10 +39,12 @@ fn refuses(
     class: &[u8],
 ) -> Result<(), ClassFault> {
     match link_all(rt, alloc, sources)? {
-        Err(LinkFault::At {
-            kind: found,
-            class: name,
-        }) => {
+        Err(
+            LinkFault::At {
+                kind: found,
+                class: name,
+            },
+        ) => {
             assert_eq!(rt; found, kind);
             assert_eq!(rt; name.as_slice(), class);
         }
@@ -56,7 +58,13 @@ fn refuses(
 fn faults_of_names(rt: HostRuntime) -> Result<(), Fail> {
     let alloc = rt.alloc();
     refuses(&rt, alloc, &[&BOX, &BOX], LinkFaultKind::Duplicate, b"Box")?;
-    refuses(&rt, alloc, &[&BAD, &BOX, &BOX], LinkFaultKind::Duplicate, b"Box")?;
+    refuses(
+        &rt,
+        alloc,
+        &[&BAD, &BOX, &BOX],
+        LinkFaultKind::Duplicate,
+        b"Box",
+    )?;
     refuses(&rt, alloc, &[&SUB], LinkFaultKind::NoSuper, b"Sub")?;
     refuses(&rt, alloc, &[&BAD, &SUB], LinkFaultKind::NoSuper, b"Sub")?;
     refuses(&rt, alloc, &[&LOOP], LinkFaultKind::Cycle, b"Loop")?;
@@ -67,7 +75,13 @@ fn faults_of_names(rt: HostRuntime) -> Result<(), Fail> {
 #[test]
 fn faults_of_methods(rt: HostRuntime) -> Result<(), Fail> {
     let alloc = rt.alloc();
-    refuses(&rt, alloc, &[&UPPER, &LOWER], LinkFaultKind::CrossPackage, b"q/Lower")?;
+    refuses(
+        &rt,
+        alloc,
+        &[&UPPER, &LOWER],
+        LinkFaultKind::CrossPackage,
+        b"q/Lower",
+    )?;
     refuses(&rt, alloc, &[&BAD], LinkFaultKind::NoMain, b"Bad")?;
     refuses(&rt, alloc, &[&BAD, &BOX], LinkFaultKind::NoMain, b"Bad")?;
     Ok(())
@@ -135,11 +149,17 @@ fn diamonds(rt: HostRuntime) -> Result<(), Fail> {
     // several are maximally specific: the first is resolved, and none is selected (5.4.3.3, 6.5)
     let method = program.resolve_method(both, false, b"m", b"()V")?;
     assert_eq!(rt; program.method(method).class, top);
-    assert_eq!(rt; program.select(both, method, false), Err(LinkError::IncompatibleClassChange));
+    assert_eq!(rt;
+        program.select(both, method, false),
+        Err(LinkError::IncompatibleClassChange)
+    );
     // Left is below Top
     let found = program.resolve_method(one, false, b"m", b"()V");
     assert_eq!(rt; class_of(&program, found), Ok(left));
-    assert_eq!(rt; class_of(&program, program.select(one, method, true)), Ok(left));
+    assert_eq!(rt;
+        class_of(&program, program.select(one, method, true)),
+        Ok(left)
+    );
     Ok(())
 }
 
@@ -148,20 +168,41 @@ fn errors(rt: HostRuntime) -> Result<(), Fail> {
     let program = link_all(&rt, rt.alloc(), &[&NONE, &OPEN])??;
     let none = program.resolve_class(b"None")?;
     let open = program.resolve_class(b"Open")?;
-    assert_eq!(rt; program.resolve_class(b"Gone"), Err(LinkError::NoClassDefFound));
-    assert_eq!(rt; program.resolve_field(none, b"f", b"I"), Err(LinkError::NoSuchField));
-    assert_eq!(rt; program.resolve_method(none, false, b"n", b"()V"), Err(LinkError::NoSuchMethod));
-    assert_eq!(rt; program.resolve_method(open, true, b"n", b"()V"), Err(LinkError::NoSuchMethod));
+    assert_eq!(rt;
+        program.resolve_class(b"Gone"),
+        Err(LinkError::NoClassDefFound)
+    );
+    assert_eq!(rt;
+        program.resolve_field(none, b"f", b"I"),
+        Err(LinkError::NoSuchField)
+    );
+    assert_eq!(rt;
+        program.resolve_method(none, false, b"n", b"()V"),
+        Err(LinkError::NoSuchMethod)
+    );
+    assert_eq!(rt;
+        program.resolve_method(open, true, b"n", b"()V"),
+        Err(LinkError::NoSuchMethod)
+    );
     let wrong = Err(LinkError::IncompatibleClassChange);
     assert_eq!(rt; program.resolve_method(open, false, b"m", b"()V"), wrong);
     assert_eq!(rt; program.resolve_method(none, true, b"m", b"()V"), wrong);
     let method = program.resolve_method(open, true, b"m", b"()V")?;
-    assert_eq!(rt; program.select(none, method, true), Err(LinkError::AbstractMethod));
+    assert_eq!(rt;
+        program.select(none, method, true),
+        Err(LinkError::AbstractMethod)
+    );
     let object = program.resolve_class(b"java/lang/Object")?;
     assert_eq!(rt; program.select(object, method, true), wrong);
     // a constructor is that of the class that is named (6.5, invokespecial)
     let constructor = program.resolve_method(none, false, b"<init>", b"()V")?;
-    assert_eq!(rt; program.select_special(none, none, constructor), Err(LinkError::NoSuchMethod));
-    assert_eq!(rt; program.select_special(none, object, constructor), Ok(constructor));
+    assert_eq!(rt;
+        program.select_special(none, none, constructor),
+        Err(LinkError::NoSuchMethod)
+    );
+    assert_eq!(rt;
+        program.select_special(none, object, constructor),
+        Ok(constructor)
+    );
     Ok(())
 }

@@ -144,7 +144,7 @@ by_numbers texts old new class number name descriptor a b apart ha hb puts n d c
     sym (cond-false ((class == c) && (bytes_eq name n && bytes_eq descriptor d)) (Some number) None f)
 by_numbers texts old new class number name descriptor a b apart ha hb puts n d c (Some x) (Some y) hn hd =
     let e : (((class == c) && (a == x)) && (b == y)) ≡ ((class == c) && (bytes_eq name n && bytes_eq descriptor d)) =
-        and_assoc (class == c) (a == x) (b == y) ∙ (ap (λ t. (class == c) && (t && (b == y))) (same_number texts apart name n a x ha hn) ∙ ap (λ t. (class == c) && (bytes_eq name n && t)) (same_number texts apart descriptor d b y hb hd)) in
+    and_assoc (class == c) (a == x) (b == y) ∙ (ap (λ t. (class == c) && (t && (b == y))) (same_number texts apart name n a x ha hn) ∙ ap (λ t. (class == c) && (bytes_eq name n && t)) (same_number texts apart descriptor d b y hb hd)) in
     puts c x y ∙ ap (λ t. option_or (member_of old c x y) (cond t (Some number) None)) e
 
 pub member_put_in : (texts : NameIndex) (old new : MemberIndex) (class number : ℕ) (name descriptor : List ℕ) (a b : ℕ) → AreApart texts → number_of texts name ≡ Some a → number_of texts descriptor ≡ Some b → PutsAt old new class a b number

@@ -59,12 +59,7 @@ ghost use Rattle.std.specs.Prelude.{if◌then◌else◌, Some};
 ghost use Rattle.std.specs.Option.{option_or};
 
 /// Gives a text the next number, unless it has one; answers the number after that.
-fn add_text(
-    alloc: Global,
-    texts: &mut NameIndex,
-    next: u32,
-    text: &[u8],
-) -> Result<u32, NoMemory>
+fn add_text(alloc: Global, texts: &mut NameIndex, next: u32, text: &[u8]) -> Result<u32, NoMemory>
     requires { IsNumbering texts.old next }
     ensures numbering { IfOk result (IsNumbering texts.new) }
     ensures has { OnOk result (Has texts.new text.now) }
@@ -170,7 +165,14 @@ pub(crate) fn index_methods(
     for (i, method) in methods.iter().enumerate() {
         let name = method.name.as_slice();
         let descriptor = method.descriptor.as_slice();
-        put_member(&mut members, texts, method.class, name, descriptor, i as u32)?;
+        put_member(
+            &mut members,
+            texts,
+            method.class,
+            name,
+            descriptor,
+            i as u32,
+        )?;
     }
     Ok(members)
 }

@@ -31,9 +31,9 @@ order_is needs table rows k r s empty up all lt is e none one two =
     let begun : up ≡ added_all [] (flat_map F (reverse (ancestry_at rows k).supers)) = one ∙ (ap (λ l. added_all l (flat_map F (reverse s))) none ∙ ap (λ (l : List ℕ). added_all [] (flat_map F (reverse l))) same) in
     let down : downward rows k ≡ reverse (ancestry_at rows k).supers ++ k ∷ [] = reverse-append (k ∷ []) (ancestry_at rows k).supers in
     let whole : class_order needs table rows k ≡ added_all (added_all [] (flat_map F (reverse (ancestry_at rows k).supers))) (F k) =
-        ap (λ (xs : List ℕ). once (flat_map F xs)) down
-        ∙ (ap once (flat_map-append F (reverse (ancestry_at rows k).supers) (k ∷ []))
-        ∙ (added_all-append [] (flat_map F (reverse (ancestry_at rows k).supers)) (F k ++ []) ∙ ap (added_all (added_all [] (flat_map F (reverse (ancestry_at rows k).supers)))) (append-nil (F k)))) in
+    ap (λ (xs : List ℕ). once (flat_map F xs)) down
+    ∙ (ap once (flat_map-append F (reverse (ancestry_at rows k).supers) (k ∷ []))
+    ∙ (added_all-append [] (flat_map F (reverse (ancestry_at rows k).supers)) (F k ++ []) ∙ ap (added_all (added_all [] (flat_map F (reverse (ancestry_at rows k).supers)))) (append-nil (F k)))) in
     two ∙ (ap (λ l. added_all l (F k)) begun ∙ sym whole)
 
 pub supers_within : (rows : List Ancestry) (k : ℕ) (r : Ancestry) (n : ℕ) (s : List ℕ) → k < length rows → r ≡ get_or rows k r → s ≡ r.supers → IsBelow n (ancestry_at rows k) → All (λ j. j < n) s

@@ -1,4 +1,4 @@
-use Rattle.std.proofs.Common.{◌≡◌, ◌∙◌, ◌++◌, ap, List, None, Option, arith}
+use Rattle.std.proofs.Common.{◌∙◌, ◌++◌, ap, None, Option, arith}
 use Rattle.std.specs.Option.{option_to_list}
 use Rattle.et_pool.specs.Entries.{Item}
 use Rattle.et_pool.specs.Looks.{named_by}

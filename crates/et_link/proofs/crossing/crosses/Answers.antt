@@ -1,4 +1,4 @@
-use Rattle.std.proofs.Common.{◌≡◌, ◌∙◌, ◌<◌, sym, ap, subst, arith, length, get_or}
+use Rattle.std.proofs.Common.{◌<◌, sym, subst, arith, length}
 use Rattle.std.specs.Prelude.{All}
 use Rattle.et_link.proofs.SlotLemmas.{supers_below}
 use Rattle.et_link.proofs.crossing.crosses.Goals as goal

@@ -1,4 +1,4 @@
-use Rattle.std.proofs.Common.{◌≡◌, ◌∙◌, sym, ap, arith}
+use Rattle.std.proofs.Common.{◌∙◌, sym}
 use Rattle.et_link.proofs.CrossLemmas.{found_within, hides_found}
 use Rattle.et_link.proofs.crossing.hides.Goals as goal
 

@@ -1,4 +1,4 @@
-use Rattle.std.proofs.Common.{◌≡◌, ◌∙◌, arith, sym, subst, ap, cond, ◌==◌, ◌&&◌, refl, Some, None}
+use Rattle.std.proofs.Common.{◌≡◌, ◌∙◌, arith, subst, cond, ◌==◌, ◌&&◌, refl, Some, None}
 use Rattle.std.specs.List.{slice_index_or}
 use Rattle.std.specs.Option.{option_or}
 use Rattle.et_program.specs.declared.info.MethodInfo.{MethodInfo}

@@ -1,4 +1,4 @@
-use Rattle.std.proofs.Common.{◌≡◌, ◌∙◌, ap, ℕ, List, []}
+use Rattle.std.proofs.Common.{◌∙◌, ap, ℕ, List, []}
 use Rattle.std.specs.List.{slice_index_or}
 use Rattle.et_program.specs.declared.info.FieldInfo.{FieldInfo}
 use Rattle.et_program.specs.declared.info.MethodInfo.{MethodInfo}

@@ -1,18 +1,11 @@
-use Rattle.std.proofs.Common.{◌≡◌, ◌∙◌, ◌+◌, ◌<◌, ◌^◌, ℕ, List, length, Some, refl, ap, sym, subst, arith}
-use Rattle.std.specs.List.{slice_index_or}
+use Rattle.std.proofs.Common.{◌≡◌, ◌∙◌, List, length, refl, ap, sym, subst, arith}
 use Rattle.et_pool.specs.Entries.{Constants}
-use Rattle.et_class.specs.declared.class.ClassFile.{ClassFile}
-use Rattle.et_set.specs.Outline.{Outline}
 use Rattle.et_program.specs.Entries.{Linked}
-use Rattle.et_index.specs.Shown.{number_of}
 use Rattle.et_link.specs.declared.reading.Declared.{Declared}
 use Rattle.et_link.specs.declared.classes.Known.{Known}
 use Rattle.et_link.specs.Files.{set_of}
-use Rattle.et_link.specs.MembersOf.{methods_of, fields_of, HasPools}
-use Rattle.et_link.specs.Declaring.{IsDeclared}
-use Rattle.et_link.specs.ProgramOf.{main_of, program_with, names_of}
-use Rattle.et_link.specs.Known.{heads_in}
-use Rattle.et_link.specs.Refusals.{linked_by}
+use Rattle.et_link.specs.MembersOf.{HasPools}
+use Rattle.et_link.specs.ProgramOf.{program_with, names_of}
 use Rattle.et_link.proofs.LinkingLemmas.{below_set, own_along, fields_along, tabled_program}
 use Rattle.et_link.proofs.BuildLemmas.{built, built_names}
 use Rattle.et_link.proofs.linking.build.Goals as goal
@@ -35,7 +28,7 @@ assemble-requires-clause-tabled c =
     let d : Declared = c.args.declared in
     let x : Known = c.in_ok-known.known in
     let e = built c.requires.0 d x c.args.main c.as_slice-set.result.now c.as_slice-methods.result.now c.as_slice-fields.result.now c.as_slice.result.now c.requires.1 c.requires.2 c.as_slice-set.ensures.value c.as_slice-methods.ensures.value c.as_slice-fields.ensures.value c.as_slice.ensures.value
-        k.table k.rows k.flags k.own k.above k.needs k.clinit k.constants k.place k.names k.index in
+    k.table k.rows k.flags k.own k.above k.needs k.clinit k.constants k.place k.names k.index in
     let names : x.arrays.names.items ≡ names_of c.requires.0 = built_names c.requires.0 d x c.as_slice-set.result.now c.as_slice.result.now c.requires.1 c.as_slice-set.ensures.value c.as_slice.ensures.value k.place k.names in
     let set : c.as_slice-set.result.now ≡ set_of c.requires.0 = c.as_slice-set.ensures.value ∙ c.requires.1.set_is in
     let a = ap length names in
@@ -52,7 +45,7 @@ returns c = λ files declared main.
     let d : Declared = c.args.declared in
     let x : Known = c.in_ok-known.known in
     let e = built files d x c.args.main c.as_slice-set.result.now c.as_slice-methods.result.now c.as_slice-fields.result.now c.as_slice.result.now declared main c.as_slice-set.ensures.value c.as_slice-methods.ensures.value c.as_slice-fields.ensures.value c.as_slice.ensures.value
-        k.table k.rows k.flags k.own k.above k.needs k.clinit k.constants k.place k.names k.index in
+    k.table k.rows k.flags k.own k.above k.needs k.clinit k.constants k.place k.names k.index in
     let p : Linked = c.in_ok-program.program in
     let pools : p.pools ≡ d.parts.pools.items = ap (λ (l : Linked). l.pools) c.in_ok-program.ensures in
     record {

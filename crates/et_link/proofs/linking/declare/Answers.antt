@@ -1,5 +1,4 @@
-use Rattle.std.proofs.Common.{◌≡◌, ◌∙◌, ◌<◌, ◌^◌, ap, subst, length, List, arith}
-use Rattle.et_set.specs.Outline.{Outline}
+use Rattle.std.proofs.Common.{◌≡◌, ◌∙◌, ap, subst, List, arith}
 use Rattle.et_set.specs.Links.{LinkEntry, links}
 use Rattle.et_set.specs.Faults.{IsFaultless}
 use Rattle.et_set.specs.Ancestry.{IsAncestry}

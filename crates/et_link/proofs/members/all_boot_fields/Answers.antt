@@ -1,4 +1,4 @@
-use Rattle.std.proofs.Common.{◌≡◌, sym, ◌∙◌, ap, ◌++◌, arith}
+use Rattle.std.proofs.Common.{sym, ◌∙◌, ap, ◌++◌, arith}
 use Rattle.et_boot.specs.Classes.{no_boot_class}
 use Rattle.et_boot.specs.Shown.{shown}
 use Rattle.et_link.specs.Files.{boots}

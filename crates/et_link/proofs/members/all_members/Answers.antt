@@ -1,6 +1,5 @@
-use Rattle.std.proofs.Common.{◌≡◌, ◌∷◌, sym, ◌∙◌, ap, ◌++◌, ◌+◌, length, List, append_assoc, arith}
+use Rattle.std.proofs.Common.{◌≡◌, ◌∷◌, sym, ◌∙◌, ap, ◌++◌, ◌+◌, length, append_assoc, arith}
 use Rattle.std.specs.Vec.Iter.{into_iter_items}
-use Rattle.et_class.specs.declared.class.ClassFile.{ClassFile}
 use Rattle.et_link.specs.Files.{boots}
 use Rattle.et_link.specs.MembersOf.{file_methods, file_pool}
 use Rattle.et_link.proofs.Lists.{taken_more, length-push, numbered_push, map_push}

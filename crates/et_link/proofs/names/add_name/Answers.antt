@@ -1,7 +1,4 @@
-use Rattle.std.proofs.Common.{◌≡◌, ◌∙◌, ◌+◌, ◌++◌, ◌∷◌, [], ap, sym, length, arith, List, ℕ, subst, cond, Some, None, is_some, true, false}
-use Rattle.std.specs.Option.{option_or}
-use Rattle.std.specs.Str.{bytes_eq}
-use Rattle.et_index.specs.Shown.{number_of}
+use Rattle.std.proofs.Common.{◌≡◌, ◌∙◌, ◌+◌, ◌++◌, ◌∷◌, [], ap, sym, length, arith, List, ℕ}
 use Rattle.et_link.proofs.NameLemmas.{name_stays, name_goes, index_goes}
 use Rattle.et_link.proofs.names.add_name.Goals as goal
 

@@ -1,4 +1,4 @@
-use Rattle.std.proofs.Common.{◌≡◌, ◌∙◌, ap, sym, arith, List, ℕ, [], cond, take}
+use Rattle.std.proofs.Common.{◌∙◌, ap, sym, arith, List, ℕ, [], cond, take}
 use Rattle.et_index.specs.Shown.{number_of}
 use Rattle.et_link.specs.ArrayTypes.{with_elements, is_known, names_added, array_names}
 use Rattle.et_link.proofs.NameLemmas.{names_more}

@@ -8,7 +8,7 @@ use Rattle.et_program.proofs.indices.index_methods.Goals as goal
 pub loop-i-preserved : goal.loop-i-preserved
 loop-i-preserved c =
     λ n d x. position_step (is_method n d x) c.args.methods.now c.loop-i.i c.index-methods-i.result _ _ _ (omega arith) c.index-methods-i.is
-        (same_method c.index-methods-i.result _ _ n d x c.as_slice-name.ensures c.as_slice-descriptor.ensures) (c.loop-i.invariant n d x) (c.in_ok-put_member.ensures n d x)
+    (same_method c.index-methods-i.result _ _ n d x c.as_slice-name.ensures c.as_slice-descriptor.ensures) (c.loop-i.invariant n d x) (c.in_ok-put_member.ensures n d x)
 
 pub put_member-requires-clause-has : goal.put_member-requires-clause-has
 put_member-requires-clause-has c =

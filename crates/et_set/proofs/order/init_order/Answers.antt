@@ -13,5 +13,5 @@ returns c =
     c.in_ok-order.ensures.items
     ∙ (c.as_slice.ensures.keys
     ∙ (order_is (λ k. slice_index_or c.args.needs.now k false) c.args.table.now c.args.rows.now c.args.class c.index-rows-class.result c.supers.result.now c.new-list-2.result.keys _ _ (omega arith) c.index-rows-class.is c.supers.ensures
-        (no_elements c.new-list-2.result.keys c.new-list-2.ensures.len) c.in_ok-add_downward.ensures c.in_ok-add_with_interfaces.ensures
+    (no_elements c.new-list-2.result.keys c.new-list-2.ensures.len) c.in_ok-add_downward.ensures c.in_ok-add_with_interfaces.ensures
     ∙ ap (λ (b : Bool). init_order b (λ k. slice_index_or c.args.needs.now k false) c.args.table.now c.args.rows.now c.args.class) (sym c.if-is_interface.false)))
