@@ -1,3 +1,4 @@
 mod AllRows
 mod Examples
 mod CallExamples
+mod CheckExamples
