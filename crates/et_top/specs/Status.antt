@@ -12,6 +12,7 @@ number_of status.BadClass = 4
 number_of status.ReadFault = 6
 number_of status.WriteFault = 7
 number_of status.NoMemory = 8
+number_of status.BadTrace = 9
 number_of status.IllTyped = 10
 number_of status.ObjectLimit = 11
 number_of status.TooLong = 13

@@ -1,10 +1,7 @@
-//! The program: its words, the classes that it runs, and the call that does all of it.
+//! The program: its commands, and the call that does all of it.
 #![tactic(auto)]
 
-mod built_in;
-mod command;
-mod machine;
-mod main_class;
+mod load;
 mod refusal;
 mod status;
 mod top;
