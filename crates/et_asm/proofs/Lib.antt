@@ -1,0 +1,13 @@
+pub mod Taken
+pub mod Marked
+pub mod Added
+pub mod Pairs
+pub mod Loops
+pub mod Bodies
+pub mod Alike
+pub mod Indices
+pub mod Stages
+pub mod Once
+pub mod Places
+pub mod Checked
+pub mod Answered

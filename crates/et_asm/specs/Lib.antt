@@ -1,0 +1,6 @@
+pub mod Along
+pub mod Order
+pub mod Pool
+pub mod Code
+pub mod Listings
+pub mod Symbols

@@ -1,0 +1,76 @@
+//! The constant pool of a listing, with its indices.
+
+ghost use Rattle.std.specs.Prelude.{◌≡◌, ◌≤◌, ◌<◌, ◌+◌, ℕ, IfOk, length, take, slice_index};
+ghost use Rattle.et_asm.specs.Symbols.{IsIndexed};
+ghost use Rattle.et_asm.specs.Pool.{pool, width, index_behind, index_of};
+
+use crate::uses::pool;
+use et_listing::entry::Entry;
+use et_listing::line::Parsed;
+use indexmap::IndexSet;
+use std::alloc::{AllocError, Global};
+
+/// How many indices an entry takes.
+pub(crate) fn width(e: &Entry) -> usize
+    ensures value { result ≡ width e.now }
+    ensures small { result ≤ 2 }
+{
+    match e {
+        Entry::Long(_) => 2,
+        _ => 1,
+    }
+}
+
+/// The sum of two numbers, where it fits.
+pub(crate) fn sum(a: usize, b: usize) -> Result<usize, AllocError>
+    ensures { IfOk result (λ n. n ≡ a + b) }
+{
+    a.checked_add(b).ok_or(AllocError)
+}
+
+/// The index of each entry, and the one behind them.
+fn indices(alloc: Global, entries: &[Entry]) -> Result<(Vec<usize>, usize), AllocError>
+    ensures counted { IfOk result (λ x. length x.0.items ≡ length entries.now) }
+    ensures indices { IfOk result (λ x. (i : ℕ) → i < length entries.now → slice_index x.0.items i ≡ index_behind (take i entries.now)) }
+    ensures behind { IfOk result (λ x. x.1 ≡ index_behind entries.now) }
+{
+    let mut indices = Vec::new(alloc);
+    let mut next: usize = 1;
+    for e in entries {
+        indices.push(next)?;
+        next = sum(next, width(e))?;
+    }
+    Ok((indices, next))
+}
+
+/// The constant pool with the index of each entry, and the one behind them.
+#[derive(Drop)]
+pub(crate) struct Symbols<'a> {
+    pub(crate) entries: IndexSet<Entry<'a>>,
+    pub(crate) indices: Vec<usize>,
+    pub(crate) end: usize,
+}
+
+/// The constant pool of lines, with the index of each entry.
+pub(crate) fn symbols_of<'a>(alloc: Global, lines: &[Parsed<'a>]) -> Result<Symbols<'a>, AllocError>
+    ensures { IfOk result (λ s. IsIndexed s (pool lines.now)) }
+{
+    let entries = pool(alloc, lines)?;
+    let (indices, end) = indices(alloc, entries.as_slice())?;
+    Ok(Symbols {
+        entries,
+        indices,
+        end,
+    })
+}
+
+/// The index of an entry, or 0 where the pool lacks it.
+pub(crate) fn index_of<'a>(symbols: &Symbols<'a>, e: &Entry<'a>) -> usize
+    requires { IsIndexed symbols.now symbols.now.entries.keys }
+    ensures { result ≡ index_of symbols.now.entries.keys e.now }
+{
+    match symbols.entries.get_index_of(e) {
+        Some(place) => symbols.indices[place],
+        None => 0,
+    }
+}
