@@ -1,5 +1,10 @@
 pub mod Adding
+pub mod ByKey
+pub mod Comes
 pub mod Counting
+pub mod Dying
 pub mod Living
 pub mod Rising
 pub mod Rows
+pub mod Seating
+pub mod Timing

@@ -36,7 +36,7 @@ pub both_true : (a b : Bool) → (a && b) ≡ true → (a ≡ true) × (b ≡ tr
 both_true true b e = (refl, e)
 both_true false b e = absurd cc
 
-not_true : (b : Bool) → not b ≡ true → b ≡ false
+pub not_true : (b : Bool) → not b ≡ true → b ≡ false
 not_true true e = absurd cc
 not_true false e = refl
 
@@ -81,7 +81,7 @@ pub record AreLives (past : List TraceLine) (b d : Sizes) : Type 0 where
   pub small : (i : ℕ) → (at b i).1 ≤ 2 ^ 30
   pub few : length b < 2 ^ 24
 
-cases_eqb : (a b : ℕ) → ((eqb a b ≡ true) × (a ≡ b)) ⊎ ((eqb a b ≡ false) × (a ≢ b))
+pub cases_eqb : (a b : ℕ) → ((eqb a b ≡ true) × (a ≡ b)) ⊎ ((eqb a b ≡ false) × (a ≢ b))
 cases_eqb a b = grind (arith, nat_tests)
 
 -- one place more
@@ -126,7 +126,7 @@ pair_push P b d p q i same f g h =
     ]
 
 -- what lives for ever dies never
-times_push : (d : Sizes) (size i : ℕ) → (at (d ++ (never, size) ∷ []) i).0 ≡ (at d i).0
+pub times_push : (d : Sizes) (size i : ℕ) → (at (d ++ (never, size) ∷ []) i).0 ≡ (at d i).0
 times_push d size i =
     elim (where_at d i) [
       | Below l ↦ ap (λ (x : ℕ × ℕ). x.0) (at_front d (never, size) i l)
@@ -172,13 +172,13 @@ lives_born past event thread object class size len b d next few le fits h =
     }
 
 -- the place of a death, and another one
-set_here : (d : Sizes) (i time : ℕ) → i < length d → at (with_time d i time) i ≡ (time, (at d i).1)
+pub set_here : (d : Sizes) (i time : ℕ) → i < length d → at (with_time d i time) i ≡ (time, (at d i).1)
 set_here d i time lt = rw get_or-set_same refl
 
-set_there : (d : Sizes) (i j time : ℕ) → j ≢ i → at (with_time d i time) j ≡ at d j
+pub set_there : (d : Sizes) (i j time : ℕ) → j ≢ i → at (with_time d i time) j ≡ at d j
 set_there d i j time ne = rw get_or-set_other refl
 
-not_or : (a b : Bool) → (a || b) ≡ false → (a ≡ false) × (b ≡ false)
+pub not_or : (a b : Bool) → (a || b) ≡ false → (a ≡ false) × (b ≡ false)
 not_or true b e = absurd cc
 not_or false b e = (refl, e)
 

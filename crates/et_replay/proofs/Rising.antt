@@ -40,11 +40,11 @@ timely : (past : List TraceLine) (event : ℕ) → is_timely past event ≡ true
 timely past event e = leb-yes (latest past) event (second_true (is_open past) (leb (latest past) event) (is_before (flushed past) event) (misses_no_flush (interval past) (flushed past) event) e)
 
 -- what a line does to the event of the newest line
-data Moves (past : List TraceLine) (line : TraceLine) : Type 0 where
+pub data Moves (past : List TraceLine) (line : TraceLine) : Type 0 where
   Happens : (e : ℕ) → happens_at line ≡ Some e → latest (line ∷ past) ≡ e → latest past ≤ e → e ≤ 2 ^ 40 → Moves past line
   Rests : happens_at line ≡ None → latest past ≤ latest (line ∷ past) → Moves past line
 
-moves : (past : List TraceLine) (line : TraceLine) → AreFine 1 (line ∷ past) → Moves past line
+pub moves : (past : List TraceLine) (line : TraceLine) → AreFine 1 (line ∷ past) → Moves past line
 moves past (Header v n) f = Rests refl (omega arith)
 moves past (Class number name) f = Rests refl (omega arith)
 moves past (Method number class name descriptor) f = Rests refl (omega arith)

@@ -1,2 +1,11 @@
 pub mod Curve
+pub mod Feeding
+pub mod Heap
+pub mod Items
+pub mod Lines
 pub mod Lives
+pub mod Parts
+pub mod Replay
+pub mod Seats
+pub mod Tally
+pub mod Timeline

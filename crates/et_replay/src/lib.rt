@@ -1,11 +1,22 @@
 //! What a trace says of the heap over time.
 #![tactic(auto)]
 
+mod by_time;
 mod curve;
+mod item;
 mod lives;
+mod model;
+mod replaying;
+mod report;
 mod sizes;
 
+pub use by_time::timeline;
 pub use curve::curve_lines;
+pub use item::{Item, Timeline};
+pub use model::{Fed, HeapModel, Kind, Policy, Report};
+pub use replaying::replay;
 
 #[cfg(test)]
 mod tests;
+#[cfg(test)]
+mod tests_of_timeline;

@@ -6,7 +6,7 @@ use et_base::{NoMemory, TraceLine};
 use std::alloc::Global;
 
 /// The time of the death of what no D line tells of.
-const NEVER: u64 = u64::MAX;
+pub const NEVER: u64 = u64::MAX;
 
 /// The objects of a trace, by number.
 #[derive(Drop)]

@@ -1,0 +1,101 @@
+//! Models of the heap: policies, reports, and what each model keeps to.
+ghost use Rattle.std.specs.Prelude.{◌≡◌, ◌≤◌, ℕ, Bool, List, [], ◌∷◌, OnOk};
+ghost use Rattle.et_graph.specs.Graph.{Graph, Decides};
+ghost use Rattle.et_replay.specs.Feeding.{MayCome, HasRoom, OnTaken, TellsExhausted};
+ghost use Rattle.et_replay.specs.Tally.{tally, is_exhausted};
+ghost use Rattle.et_replay.specs.declared.item.Item.{Item};
+ghost use Rattle.et_replay.specs.declared.model.Kind.{Kind};
+ghost use Rattle.et_replay.specs.declared.model.Policy.{Policy};
+
+use crate::item::Item;
+use et_base::NoMemory;
+
+/// The kinds of models.
+#[derive(Clone, Copy, Debug, PartialEq, Eq)]
+pub enum Kind {
+    /// One space; a collection frees the dead objects where they are.
+    MarkSweep,
+    /// Two halves, of which one is in use; a collection copies the live objects to the other.
+    SemiSpace,
+    /// A nursery for small new objects, and an old space.
+    Generational,
+}
+
+/// What a model is to account for.
+#[derive(Clone, Copy, Debug, PartialEq, Eq)]
+pub struct Policy {
+    pub kind: Kind,
+    /// The capacity in bytes; of a generational heap that of the nursery.
+    pub first: u64,
+    /// The capacity of the old space in bytes, and 0 where there is none.
+    pub second: u64,
+}
+
+/// The account of a policy. Each number is 0 where the policy doesn't count it.
+#[derive(Clone, Copy, Debug, PartialEq, Eq)]
+pub struct Report {
+    pub kind: Kind,
+    pub first: u64,
+    pub second: u64,
+    /// Minor collections.
+    pub minor: u64,
+    /// Collections of the whole space, of a generational heap those of its old space.
+    pub major: u64,
+    /// The bytes that collections kept, added up: what was marked, copied or promoted.
+    pub kept: u128,
+    /// The bytes that collections freed.
+    pub freed: u64,
+    /// The most bytes in the heap after an object was placed.
+    pub peak: u64,
+    /// The event of the object for which there was no room.
+    pub exhausted: Option<u64>,
+}
+
+/// What a model answers to an item.
+#[derive(Clone, Copy, Debug, PartialEq, Eq)]
+pub enum Fed {
+    /// It took the item.
+    Ok,
+    /// It took the item, and there was no room for its object. Nothing more may be fed.
+    Exhausted,
+    /// Memory ran out. The model may only be dropped.
+    NoMemory,
+}
+
+/// A model of the heap: it is fed items and accounts for them as its policy does.
+pub trait HeapModel: Drop {
+    /// What kind of model it is.
+    ghost kind_of: { Self → Kind };
+
+    /// It has no policy yet.
+    ghost is_new: { Self → Type 0 };
+
+    /// It has this policy, was told of so many objects, and was fed these items, of which the newest stands first.
+    ghost stands_for: { Self → Policy → ℕ → List Item → Type 0 };
+
+    /// The kind.
+    fn kind(&self) -> Kind
+        ensures { result ≡ kind_of self.now };
+
+    /// Gives a new model its policy, and the number of the objects that may come, at most 16,777,215.
+    fn set_policy(&mut self, policy: Policy, objects: u32) -> Result<(), NoMemory>
+        requires kind { policy.kind ≡ kind_of self.old }
+        requires new { is_new self.old }
+        requires few { objects ≤ 16777215 }
+        ensures ok { OnOk result (stands_for self.new policy objects []) }
+        ensures kind { kind_of self.new ≡ kind_of self.old };
+
+    /// Takes an item. `Exhausted` is answered exactly where a collection leaves too little room for the item's object.
+    fn feed(&mut self, item: &Item) -> Fed
+        requires stands { (policy : Policy) × (objects : ℕ) × (past : List Item) × stands_for self.old policy objects past × HasRoom policy past × MayCome objects past item.now }
+        ensures taken { (policy : Policy) (objects : ℕ) (past : List Item) →
+            stands_for self.old policy objects past → OnTaken result (stands_for self.new policy objects (item.now ∷ past)) }
+        ensures exhausted { (reached : Graph → ℕ → Bool) → Decides reached → (policy : Policy) (objects : ℕ) (past : List Item) →
+            stands_for self.old policy objects past → TellsExhausted result (is_exhausted reached policy (item.now ∷ past)) }
+        ensures kind { kind_of self.new ≡ kind_of self.old };
+
+    /// The account of what it was fed.
+    fn report(&self) -> Report
+        ensures { (reached : Graph → ℕ → Bool) → Decides reached → (policy : Policy) (objects : ℕ) (past : List Item) →
+            stands_for self.now policy objects past → result ≡ tally reached policy past };
+}

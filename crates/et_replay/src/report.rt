@@ -1,0 +1,55 @@
+//! The line of a report.
+use crate::model::{Kind, Report};
+use std::fmt;
+
+/// The end of the line of a report.
+#[derive(Clone, Copy)]
+struct End(Option<u64>);
+
+impl fmt::Display for End {
+    ghost use Rattle.std.specs.Prelude.{Some};
+    ghost use Rattle.et_replay.specs.Lines.{exhausted_text};
+
+    ghost output = { λ e. Some (exhausted_text e.0) };
+
+    fn fmt<W: fmt::Write>(&self, f: &mut fmt::Formatter<W>) -> fmt::Result {
+        match self.0 {
+            Some(event) => write!(f, " exhausted={event}"),
+            None => Ok(()),
+        }
+    }
+}
+
+impl fmt::Display for Report {
+    ghost use Rattle.std.specs.Prelude.{Some};
+    ghost use Rattle.et_replay.specs.Lines.{report_text};
+
+    ghost output = { λ r. Some (report_text r) };
+
+    fn fmt<W: fmt::Write>(&self, f: &mut fmt::Formatter<W>) -> fmt::Result {
+        let first = self.first;
+        let major = self.major;
+        let kept = self.kept;
+        let freed = self.freed;
+        let peak = self.peak;
+        let end = End(self.exhausted);
+        match self.kind {
+            Kind::MarkSweep => write!(
+                f,
+                "mark-sweep capacity={first} collections={major} marked={kept} swept={freed} peak={peak}{end}"
+            ),
+            Kind::SemiSpace => write!(
+                f,
+                "semispace capacity={first} collections={major} copied={kept} freed={freed} peak={peak}{end}"
+            ),
+            Kind::Generational => {
+                let old = self.second;
+                let minor = self.minor;
+                write!(
+                    f,
+                    "generational nursery={first} old={old} minor={minor} major={major} promoted={kept} swept={freed} peak={peak}{end}"
+                )
+            }
+        }
+    }
+}
