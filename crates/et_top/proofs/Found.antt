@@ -1,13 +1,18 @@
 -- THE ONE CLASS of some bytes or their one fault, and the same of a trace.
-use Rattle.std.proofs.Common.{◌≡◌, ℕ, ◌≤◌, ◌⊎◌, inl, inr, List, [], ◌∷◌, ◌++◌, map, Result, Ok, Err, IfErr, refl, sym, ◌∙◌, ap, subst, append-nil, append_assoc}
-use Rattle.std.specs.Prelude.{Option}
+use Rattle.std.proofs.Common.{◌≡◌, ℕ, ◌+◌, ◌<◌, ◌≤◌, suc, ◌⊎◌, inl, inr, List, [], ◌∷◌, ◌++◌, map, Result, Ok, Err, IfErr, refl, sym, ◌∙◌, ap, subst, append-nil, append_assoc, length, drop, get_or, string_bytes, add-one}
+use Rattle.std.proofs.Math.Seq.{drop-cons}
+use Rattle.std.specs.declared.string.String.{String}
+use Rattle.std.specs.declared.alloc.Global.{Global}
+use Rattle.et_io.specs.Files.{Held}
+use Rattle.std.specs.Prelude.{Option, None, Some}
+use Rattle.et_items.specs.Marks.{Mark, MarksAre, IsFirst, IsTheOne}
+use Rattle.et_asm.specs.Listings.{marks_of, bytes_of}
 use Rattle.et_base.specs.declared.line.TraceLine.{TraceLine}
-use Rattle.et_io.specs.Faults.{Rose}
 use Rattle.et_class.specs.Layout.{ClassOf}
 use Rattle.et_class.specs.Classes.{IsClassFile, HasFault, ClassIs, HasOneClass}
 use Rattle.et_text.specs.Text.{IsTextOf, IsTraceFault}
-use Rattle.et_top.specs.Faults.{Fault, BadClass, BadTrace}
-use Rattle.et_top.specs.Loaded.{IsClassOf, IsTraceOf, AreClassesOf, bytes_of, most_of_class, before}
+use Rattle.et_top.specs.Faults.{Fault, BadClass, BadText, BadTrace}
+use Rattle.et_top.specs.Loaded.{IsClassOf, IsListingOf, IsTraceOf, AreFirstAnd, AreClassesOf, bytes_of as file_bytes, most_of_class, before}
 use Rattle.et_top.specs.Told.{Cause, File, Reading, Memory, Other, Tells, IsCause, IsReading, IsOfBytes, IsFileRefusal, cause_of}
 use Rattle.et_top.specs.declared.refusal.Refusal.{Refusal}
 
@@ -55,6 +60,34 @@ line_found bytes one apart trace kind line has (inl (k, l, had, e)) =
     e ∙ (ap (λ x. Err (BadTrace x l)) same.0 ∙ ap (λ x. Err (BadTrace kind x)) same.1)
 line_found bytes one apart trace kind line has (inr (lines, is, e)) = absurd (apart lines bytes kind line is has)
 
+-- the one answer of a list of rules
+or_place : Option (ℕ × ℕ) → ℕ × ℕ → ℕ × ℕ
+or_place (Some x) y = x
+or_place None y = y
+
+IsBroken : Option (ℕ × ℕ) → Type 0
+IsBroken (Some x) = Unit {0}
+IsBroken None = ⊥
+
+module _ (text : List ℕ) (one : (marks : List Mark) → IsTheOne marks) (class : Result (List ℕ) Fault) where
+  one_answer : (x y : Option (ℕ × ℕ)) → MarksAre (marks_of text) x → MarksAre (marks_of text) y → x ≡ y
+  one_answer x y hx hy = (one (marks_of text)).only x hx ∙ sym ((one (marks_of text)).only y hy)
+
+  not_broken : (x : ℕ × ℕ) → MarksAre (marks_of text) None → MarksAre (marks_of text) (Some x) → ⊥
+  unfolding IsBroken
+  not_broken x kept broken = subst IsBroken (one_answer (Some x) None broken kept) tt
+
+  pub listing_found : (bytes : List ℕ) → MarksAre (marks_of text) None → bytes ≡ bytes_of text → IsListingOf (Ok text) class → class ≡ Ok bytes
+  listing_found bytes kept are (inl (line, kind, first, e)) = absurd (not_broken (line, kind) kept first)
+  listing_found bytes kept are (inr (kept', e)) = e ∙ ap (λ x. Ok x) (sym are)
+
+  pub listing_fault_found : (line kind : ℕ) → IsFirst (marks_of text) line kind → IsListingOf (Ok text) class → class ≡ Err (BadText kind line)
+  unfolding or_place
+  listing_fault_found line kind first (inl (l, k, other, e)) =
+      let same = one_answer (Some (l, k)) (Some (line, kind)) other first in
+      e ∙ ap (λ x. Err (BadText (or_place x (line, kind)).1 (or_place x (line, kind)).0)) same
+  listing_fault_found line kind first (inr (kept, e)) = absurd (not_broken (line, kind) kept first)
+
 -- what is told where no read can fail is told where one can
 cause_more : {A : Type 0} (read : Type 0) (found : Result A Fault) (cause : Cause) → IsCause ⊥ found cause → IsCause read found cause
 cause_more read found (File fault) h = h
@@ -72,6 +105,12 @@ class_not_read read file (File fault) class e is = subst (λ f. IsClassOf f clas
 class_not_read read file Reading class h is = h
 class_not_read read file Memory class h is = tt
 class_not_read read file Other class h is = absurd h
+
+pub listing_not_read : (read : Type 0) (file : Result (List ℕ) Fault) (cause : Cause) (class : Result (List ℕ) Fault) → IsCause read file cause → IsListingOf file class → IsCause read class cause
+listing_not_read read file (File fault) class e is = subst (λ f. IsListingOf f class) e is
+listing_not_read read file Reading class h is = h
+listing_not_read read file Memory class h is = tt
+listing_not_read read file Other class h is = absurd h
 
 pub trace_not_read : (read : Type 0) (file : Result (List ℕ) Fault) (cause : Cause) (trace : Result (List TraceLine) Fault) → IsCause read file cause → IsTraceOf file trace → IsCause read trace cause
 trace_not_read read file (File fault) trace e is = subst (λ f. IsTraceOf f trace) e is
@@ -129,10 +168,10 @@ end_behind some classes b = b.parts ∙ (ap (behind some) b.are ∙ ap (λ xs. O
 
 -- one more class
 pub next_behind : (some : List ClassOf) (file : Option (List ℕ)) (files : List (Option (List ℕ))) (classes : Result (List ClassOf) Fault) (c : ClassOf) → AreBehind some (file ∷ files) classes
-    → ((class : Result ClassOf Fault) → IsClassOf (bytes_of most_of_class file) class → class ≡ Ok c) → AreBehind (some ++ c ∷ []) files classes
-next_behind some file files classes c b found = by b.are.0 (found b.are.0 b.are.1.0) b.are.1.1
+    → ((class : Result ClassOf Fault) → IsClassOf (file_bytes most_of_class file) class → class ≡ Ok c) → AreBehind (some ++ c ∷ []) files classes
+next_behind some file files classes c b found = by b.are.0 (found b.are.0 b.are.1) b.are.2
   where
-  by : (first : Result ClassOf Fault) → first ≡ Ok c → Rattle.et_top.specs.Loaded.AreFirstAnd first (AreClassesOf files) b.rest → AreBehind (some ++ c ∷ []) files classes
+  by : (first : Result ClassOf Fault) → first ≡ Ok c → AreFirstAnd first (AreClassesOf files) b.rest → AreBehind (some ++ c ∷ []) files classes
   by (Ok d) e (rest, are, is) = record {
     rest = rest;
     are = are;
@@ -146,12 +185,20 @@ next_behind some file files classes c b found = by b.are.0 (found b.are.0 b.are.
 
 -- the class that comes next has a cause to be refused, and so have all
 pub behind_refused : (read : Type 0) (some : List ClassOf) (file : Option (List ℕ)) (files : List (Option (List ℕ))) (classes : Result (List ClassOf) Fault) (cause : Cause) → AreBehind some (file ∷ files) classes
-    → ((class : Result ClassOf Fault) → IsClassOf (bytes_of most_of_class file) class → IsCause read class cause) → IsCause read classes cause
-behind_refused read some file files classes (File fault) b found = by b.are.0 (found b.are.0 b.are.1.0) b.are.1.1
+    → ((class : Result ClassOf Fault) → IsClassOf (file_bytes most_of_class file) class → IsCause read class cause) → IsCause read classes cause
+behind_refused read some file files classes (File fault) b found = by b.are.0 (found b.are.0 b.are.1) b.are.2
   where
-  by : (first : Result ClassOf Fault) → first ≡ Err fault → Rattle.et_top.specs.Loaded.AreFirstAnd first (AreClassesOf files) b.rest → classes ≡ Err fault
+  by : (first : Result ClassOf Fault) → first ≡ Err fault → AreFirstAnd first (AreClassesOf files) b.rest → classes ≡ Err fault
   by (Ok d) e h = cc
   by (Err f) e is = b.parts ∙ (ap (behind some) is ∙ cc)
-behind_refused read some file files classes Reading b found = found b.are.0 b.are.1.0
+behind_refused read some file files classes Reading b found = found b.are.0 b.are.1
 behind_refused read some file files classes Memory b found = tt
-behind_refused read some file files classes Other b found = absurd (found b.are.0 b.are.1.0)
+behind_refused read some file files classes Other b found = absurd (found b.are.0 b.are.1)
+
+-- THE NEXT FILE
+
+pub next_path : (held : Held) (paths : List (String Global)) (i : ℕ) (item d : String Global) (path : List ℕ) → i < length paths → item ≡ get_or paths i d → path ≡ string_bytes item
+    → map held (map string_bytes (drop i paths)) ≡ held path ∷ map held (map string_bytes (drop (i + 1) paths))
+next_path held paths i item d path lt is value =
+    rw add-one (ap (λ xs. map held (map string_bytes xs)) (drop-cons paths i d lt)
+    ∙ ap (λ p. held p ∷ map held (map string_bytes (drop (suc i) paths))) (sym (value ∙ ap string_bytes is)))

@@ -10,6 +10,8 @@ pub data Fault : Type 0 where
   TooLong : Fault
   -- it is no class file: the kind and the place of its first fault
   BadClass : (kind offset : ℕ) → Fault
+  -- it is no listing: the kind and the number of its first faulty line
+  BadText : (kind line : ℕ) → Fault
   -- it is no trace: the kind and the number of its first faulty line
   BadTrace : (kind line : ℕ) → Fault
   -- the classes can't be run yet
@@ -19,5 +21,6 @@ abbrev pub status_of_fault : Fault → Status
 status_of_fault Absent = status.Absent
 status_of_fault TooLong = status.TooLong
 status_of_fault (BadClass kind offset) = status.BadClass
+status_of_fault (BadText kind line) = status.BadText
 status_of_fault (BadTrace kind line) = status.BadTrace
 status_of_fault NotYet = status.NotYet

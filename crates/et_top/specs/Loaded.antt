@@ -1,14 +1,16 @@
--- What the files that a command names hold: classes, or a trace. A file is read up to its first fault, and several
+-- What the files that a command names hold: classes, a listing or a trace. A file is read up to its first fault, and several
 -- files in the order of the words.
 use Rattle.std.specs.Prelude.{◌≡◌, ℕ, ◌⊎◌, nat_lt, if◌then◌else◌, List, [], ◌∷◌, length, Option, None, Some, Result, Ok, Err}
 use Rattle.et_base.specs.declared.line.TraceLine.{TraceLine}
 use Rattle.et_class.specs.Layout.{ClassOf}
 use Rattle.et_class.specs.Classes.{IsClassFile, HasFault}
 use Rattle.et_text.specs.Text.{IsTextOf, IsTraceFault}
+use Rattle.et_items.specs.Marks.{MarksAre, IsFirst}
+use Rattle.et_asm.specs.Listings.{marks_of, bytes_of as class_file_of}
 use Rattle.et_single.specs.MainClass.{MainClass, main_class}
-use Rattle.et_top.specs.Faults.{Fault, Absent, TooLong, BadClass, BadTrace, NotYet}
+use Rattle.et_top.specs.Faults.{Fault, Absent, TooLong, BadClass, BadText, BadTrace, NotYet}
 
--- the most bytes that are read of a class file, and of a trace
+-- the most bytes that are read of a class file or a listing, and of a trace
 abbrev pub most_of_class : ℕ
 most_of_class = 1048576
 
@@ -33,6 +35,13 @@ IsTraceOf (Err fault) trace = trace ≡ Err fault
 IsTraceOf (Ok bytes) trace =
     ((kind line : ℕ) × IsTraceFault bytes kind line × (trace ≡ Err (BadTrace kind line)))
     ⊎ ((lines : List TraceLine) × IsTextOf lines bytes × (trace ≡ Ok lines))
+
+-- .. and the same of a listing: the bytes of its class file, or its first faulty line with the least kind
+abbrev pub IsListingOf : Result (List ℕ) Fault → Result (List ℕ) Fault → Type 0
+IsListingOf (Err fault) class = class ≡ Err fault
+IsListingOf (Ok text) class =
+    ((line kind : ℕ) × IsFirst (marks_of text) line kind × (class ≡ Err (BadText kind line)))
+    ⊎ (MarksAre (marks_of text) None × (class ≡ Ok (class_file_of text)))
 
 -- a class before others, where all are there
 abbrev pub before : ClassOf → Result (List ClassOf) Fault → Result (List ClassOf) Fault

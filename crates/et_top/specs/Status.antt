@@ -15,5 +15,6 @@ number_of status.NoMemory = 8
 number_of status.BadTrace = 9
 number_of status.IllTyped = 10
 number_of status.ObjectLimit = 11
+number_of status.BadText = 12
 number_of status.TooLong = 13
 number_of status.NotYet = 14

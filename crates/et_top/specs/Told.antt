@@ -15,7 +15,7 @@ use Rattle.std.specs.declared.alloc.Global.{Global}
 use Rattle.et_top.specs.Refusals.{status_of}
 use Rattle.et_top.specs.declared.status.Status.{Status}
 use Rattle.et_top.specs.declared.status.Status.TheVariants as status
-use Rattle.et_top.specs.Faults.{Fault, Absent, TooLong, BadClass, BadTrace, NotYet}
+use Rattle.et_top.specs.Faults.{Fault, Absent, TooLong, BadClass, BadText, BadTrace, NotYet}
 
 -- why a refusal comes: a file is refused, a read failed, memory ran out, or none of these
 pub data Cause : Type 0 where
@@ -28,6 +28,7 @@ abbrev pub cause_of : Refusal → Cause
 cause_of (refusal.Absent path) = File Absent
 cause_of (refusal.TooLong path) = File TooLong
 cause_of (refusal.BadClass path kind offset) = File (BadClass kind offset)
+cause_of (refusal.BadText path kind line) = File (BadText kind line)
 cause_of (refusal.BadTrace path kind line) = File (BadTrace kind line)
 cause_of (refusal.NotYet path) = File NotYet
 cause_of (refusal.ReadFault path) = Reading

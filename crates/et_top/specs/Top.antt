@@ -1,5 +1,5 @@
 -- What the words and the files that are held define, and what the program may answer.
-use Rattle.std.specs.Prelude.{◌≡◌, ℕ, ◌⊎◌, Bool, List, map, Option, Some, None, Result, Ok, Err}
+use Rattle.std.specs.Prelude.{◌≡◌, ℕ, ◌⊎◌, Bool, List, map, Option, Some, None, option_map, filter_map, Result, Ok, Err}
 use Rattle.et_base.specs.declared.line.TraceLine.{TraceLine}
 use Rattle.et_base.specs.declared.value.End.{End}
 use Rattle.et_base.specs.declared.value.End.TheVariants as ends
@@ -11,42 +11,62 @@ use Rattle.et_state.specs.declared.options.Options.{Options}
 use Rattle.et_run.specs.declared.options.Ran.{Ran}
 use Rattle.et_run.specs.Traced.{WritesTrace, WritesFront}
 use Rattle.et_replay.specs.Curve.{curve_text}
+use Rattle.et_replay.specs.Replay.{replay_text}
+use Rattle.et_replay.specs.Timeline.{timeline_items}
+use Rattle.et_replay.specs.declared.model.Kind.{Kind}
+use Rattle.et_replay.specs.declared.model.Kind.TheVariants as kind
+use Rattle.et_replay.specs.declared.model.Policy.{Policy}
+use Rattle.et_words.specs.declared.command.Models.{Models}
 use Rattle.et_words.specs.Command as words
 use Rattle.et_single.specs.MainClass.{MainClass}
 use Rattle.et_single.specs.Machine.{start, start_records}
 use Rattle.et_single.specs.Runs.{setting_of}
 use Rattle.et_top.specs.Faults.{Fault, status_of_fault}
-use Rattle.et_top.specs.Loaded.{bytes_of, most_of_class, most_of_trace, IsTraceOf, AreClassesOf, program_of}
+use Rattle.et_top.specs.Loaded.{bytes_of, most_of_class, most_of_trace, IsListingOf, IsTraceOf, AreClassesOf, program_of}
 use Rattle.et_top.specs.declared.status.Status.{Status}
 use Rattle.et_top.specs.declared.status.Status.TheVariants as status
 
--- what the words and the files define: no command, a file that is refused, a text, or the trace of a history
+-- what the words and the files define: no command, a file that is refused, a text, or the trace of a history. A text
+-- may tell of what is reached; it takes a test that decides that
 pub data Defined : Type 0 where
   Usage : Defined
   Refused : Fault → Defined
-  Writes : (text : List ℕ) → Defined
+  Writes : (text : (Graph → ℕ → Bool) → List ℕ) → Defined
   Traces : (main : MainClass) → (options : Options) → Defined
 
 abbrev pub traces : Options → Result MainClass Fault → Defined
 traces options (Err fault) = Refused fault
 traces options (Ok main) = Traces main options
 
-abbrev pub writes : {A : Type 0} → (A → List ℕ) → Result A Fault → Defined
+abbrev pub writes : {A : Type 0} → ((Graph → ℕ → Bool) → A → List ℕ) → Result A Fault → Defined
 writes text (Err fault) = Refused fault
-writes text (Ok a) = Writes (text a)
+writes text (Ok a) = Writes (λ reached. text reached a)
 
-abbrev pub IsAskedDefined : Option words.Asked → Held → Defined → Type 0
-IsAskedDefined None held d = d ≡ Usage
-IsAskedDefined (Some (words.Trace options paths)) held d =
+-- the policies of the models of these kinds, of which only those that are asked for are used
+abbrev pub policy_of : Models → Kind → Option Policy
+policy_of asked kind.MarkSweep = option_map (λ first. record { kind = kind.MarkSweep; first = first; second = 0 }) asked.mark_sweep
+policy_of asked kind.SemiSpace = option_map (λ first. record { kind = kind.SemiSpace; first = first; second = 0 }) asked.semispace
+policy_of asked kind.Generational = option_map (λ spaces. record { kind = kind.Generational; first = spaces.nursery; second = spaces.old }) asked.generational
+
+abbrev pub policies_of : Models → List Kind → List Policy
+policies_of asked kinds = filter_map (policy_of asked) kinds
+
+-- what is defined where models of these kinds are handed in
+abbrev pub IsAskedDefined : List Kind → Option words.Asked → Held → Defined → Type 0
+IsAskedDefined kinds None held d = d ≡ Usage
+IsAskedDefined kinds (Some (words.Trace options paths)) held d =
     (classes : Result (List ClassOf) Fault) × AreClassesOf (map held paths) classes × (d ≡ traces options (program_of classes))
-IsAskedDefined (Some (words.Curve path)) held d =
-    (trace : Result (List TraceLine) Fault) × IsTraceOf (bytes_of most_of_trace (held path)) trace × (d ≡ writes curve_text trace)
-IsAskedDefined (Some (words.Assemble path)) held d = d ≡ Usage
-IsAskedDefined (Some (words.Replay models path)) held d = d ≡ Usage
+IsAskedDefined kinds (Some (words.Assemble path)) held d =
+    (class : Result (List ℕ) Fault) × IsListingOf (bytes_of most_of_class (held path)) class × (d ≡ writes (λ reached bytes. bytes) class)
+IsAskedDefined kinds (Some (words.Replay asked path)) held d =
+    (trace : Result (List TraceLine) Fault) × IsTraceOf (bytes_of most_of_trace (held path)) trace
+    × (d ≡ writes (λ reached lines. replay_text reached (timeline_items lines) (policies_of asked kinds)) trace)
+IsAskedDefined kinds (Some (words.Curve path)) held d =
+    (trace : Result (List TraceLine) Fault) × IsTraceOf (bytes_of most_of_trace (held path)) trace × (d ≡ writes (λ reached lines. curve_text lines) trace)
 
 -- THE ONE THING that the words and the files that are held define
-abbrev pub IsDefined : List (List ℕ) → Held → Defined → Type 0
-IsDefined line held d = IsAskedDefined (words.command line) held d
+abbrev pub IsDefined : List Kind → List (List ℕ) → Held → Defined → Type 0
+IsDefined kinds line held d = IsAskedDefined kinds (words.command line) held d
 
 -- the status of a history that was run to its end
 abbrev pub status_of_end : End → Status
@@ -70,10 +90,10 @@ module _ (reached : Graph → ℕ → Bool) (before after : Option (List ℕ)) w
   Gives read written Usage answer = (after ≡ before) × ((answer ≡ status.Usage) ⊎ (answer ≡ status.NoMemory))
   Gives read written (Refused fault) answer =
       (after ≡ before) × ((answer ≡ status_of_fault fault) ⊎ (((answer ≡ status.ReadFault) × read) ⊎ (answer ≡ status.NoMemory)))
-  Gives read written (Writes text) status.Done = after ≡ with_more before text
+  Gives read written (Writes text) status.Done = after ≡ with_more before (text reached)
   Gives read written (Writes text) status.ReadFault = read × (after ≡ before)
-  Gives read written (Writes text) status.WriteFault = written × TakesFront before after text
-  Gives read written (Writes text) status.NoMemory = TakesFront before after text
+  Gives read written (Writes text) status.WriteFault = written × TakesFront before after (text reached)
+  Gives read written (Writes text) status.NoMemory = TakesFront before after (text reached)
   Gives read written (Writes text) answer = ⊥
   Gives read written (Traces main options) status.Done = WritesHistory main options status.Done
   Gives read written (Traces main options) status.IllTyped = WritesHistory main options status.IllTyped

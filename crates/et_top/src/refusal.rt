@@ -41,6 +41,12 @@ pub enum Refusal<'a> {
     WriteFault,
     #[error("elephant: no memory")]
     NoMemory,
+    #[error("elephant: bad text {path} {kind} {line}")]
+    BadText {
+        path: &'a str,
+        kind: u8,
+        line: u64,
+    },
     #[error("elephant: bad trace {path} {kind} {line}")]
     BadTrace {
         path: &'a str,
@@ -78,6 +84,7 @@ impl Refusal<'_> {
             Refusal::ReadFault(_) => Status::ReadFault,
             Refusal::WriteFault => Status::WriteFault,
             Refusal::NoMemory => Status::NoMemory,
+            Refusal::BadText { .. } => Status::BadText,
             Refusal::BadTrace { .. } => Status::BadTrace,
             Refusal::IllTyped { .. } => Status::IllTyped,
             Refusal::ObjectLimit => Status::ObjectLimit,

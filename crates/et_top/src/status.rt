@@ -25,7 +25,9 @@ pub enum Status {
     IllTyped,
     /// The next event would have made too many objects. The trace up to it was taken whole.
     ObjectLimit,
-    /// A file is longer than is read: 1,048,576 bytes of a class file, 268,435,456 of a trace.
+    /// A file is no listing.
+    BadText,
+    /// A file is longer than is read: 1,048,576 bytes of a class file or a listing, 268,435,456 of a trace.
     TooLong,
     /// A class file can't be run yet.
     NotYet,
@@ -47,6 +49,7 @@ impl Status {
             Status::BadTrace => 9,
             Status::IllTyped => 10,
             Status::ObjectLimit => 11,
+            Status::BadText => 12,
             Status::TooLong => 13,
             Status::NotYet => 14,
         }

@@ -11,9 +11,9 @@ asked_by (words.Assemble path) = Assemble path.now
 asked_by (words.Replay models path) = Replay models path.now
 asked_by (words.Curve path) = Curve path.now
 
--- the options of a run are in range
+-- the options of a run are in range, and it has a file
 abbrev pub AreInRange : Command → Type 0
-AreInRange (words.Trace options paths) = AreOptions options
+AreInRange (words.Trace options paths) = AreOptions options × (0 < length paths.now)
 AreInRange (words.Assemble path) = Unit {0}
 AreInRange (words.Replay models path) = Unit {0}
 AreInRange (words.Curve path) = Unit {0}

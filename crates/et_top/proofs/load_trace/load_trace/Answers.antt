@@ -3,7 +3,7 @@ use Rattle.et_io.specs.Faults.{Rose}
 use Rattle.et_top.specs.Loaded.{IsTraceOf}
 use Rattle.et_top.specs.Told.{cause_of}
 use Rattle.et_top.proofs.Found.{tells_more, trace_not_read, no_read_fault, file_refusal}
-use Rattle.et_top.proofs.load.load_trace.Goals as goal
+use Rattle.et_top.proofs.load_trace.load_trace.Goals as goal
 
 pub returns-in-Ok-clause-tells : goal.returns-in-Ok-clause-tells
 returns-in-Ok-clause-tells g c held told found is =

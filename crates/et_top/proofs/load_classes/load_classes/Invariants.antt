@@ -7,7 +7,7 @@ use Rattle.et_top.specs.Faults.{Fault}
 use Rattle.et_top.specs.Loaded.{AreClassesOf}
 use Rattle.et_top.specs.Told.{HasItsParts}
 use Rattle.et_top.proofs.Found.{AreBehind}
-use Rattle.et_top.proofs.load.load_classes.Given as goal
+use Rattle.et_top.proofs.load_classes.load_classes.Given as goal
 
 abbrev pub invariant-paths : goal.invariant-paths
 invariant-paths g l = record {
