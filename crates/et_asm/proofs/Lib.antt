@@ -11,3 +11,6 @@ pub mod Once
 pub mod Places
 pub mod Checked
 pub mod Answered
+pub mod Lengths
+pub mod Sets
+pub mod Slots

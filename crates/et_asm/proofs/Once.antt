@@ -12,7 +12,7 @@ use Rattle.et_asm.specs.Pool.{same_entry, parts, each_once, uses, pool}
 use Rattle.et_asm.specs.Symbols.{added}
 use Rattle.et_asm.proofs.Alike.{alike}
 
-laws : IsEquivalence same_entry
+pub laws : IsEquivalence same_entry
 laws = subst (λ (E : Entry → Entry → Bool). IsEquivalence E) alike laws-law
 
 both_step : (p q r : Entry → Bool) (y : Entry) (ys : List Entry) → r y ≡ (p y && q y) → (b c : Bool) → q y ≡ b → p y ≡ c → filter p (filter q ys) ≡ filter r ys

@@ -4,3 +4,5 @@ pub mod Pool
 pub mod Code
 pub mod Listings
 pub mod Symbols
+pub mod Laws
+pub mod Spelled

@@ -10,6 +10,7 @@ mod emit;
 mod fault;
 mod instruction;
 mod labels;
+pub mod laws;
 mod order;
 mod symbols;
 #[cfg(test)]
