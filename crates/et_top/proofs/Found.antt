@@ -1,5 +1,5 @@
 -- THE ONE CLASS of some bytes or their one fault, and the same of a trace.
-use Rattle.std.proofs.Common.{◌≡◌, ℕ, ◌+◌, ◌<◌, ◌≤◌, suc, ◌⊎◌, inl, inr, List, [], ◌∷◌, ◌++◌, map, Result, Ok, Err, IfErr, refl, sym, ◌∙◌, ap, subst, append-nil, append_assoc, length, drop, get_or, string_bytes, add-one}
+use Rattle.std.proofs.Common.{◌≡◌, ℕ, ◌+◌, ◌<◌, suc, inl, inr, List, [], ◌∷◌, ◌++◌, map, Result, Ok, Err, IfErr, refl, sym, ◌∙◌, ap, subst, append-nil, append_assoc, length, drop, get_or, string_bytes, add-one}
 use Rattle.std.proofs.Math.Seq.{drop-cons}
 use Rattle.std.specs.declared.string.String.{String}
 use Rattle.std.specs.declared.alloc.Global.{Global}

@@ -1,5 +1,5 @@
 -- What the parts of the top call answer.
-use Rattle.std.specs.Prelude.{◌≡◌, ℕ, List, map, Result, Ok, Err}
+use Rattle.std.specs.Prelude.{◌≡◌, ℕ, List, map, Option, Some, None, Result, Ok, Err}
 use Rattle.et_top.specs.declared.refusal.Refusal.{Refusal}
 use Rattle.et_top.specs.declared.refusal.Refusal.TheVariants as refusal
 use Rattle.et_class.specs.declared.class.ClassFile.{ClassFile}
@@ -12,6 +12,7 @@ use Rattle.et_text.specs.declared.fault.TraceFault.{TraceFault}
 use Rattle.et_text.specs.declared.fault.TraceFault.TheVariants as faults
 use Rattle.std.specs.declared.vec.Vec.{Vec}
 use Rattle.std.specs.declared.alloc.Global.{Global}
+use Rattle.et_replay.specs.declared.model.Policy.{Policy}
 use Rattle.et_top.specs.Refusals.{status_of}
 use Rattle.et_top.specs.declared.status.Status.{Status}
 use Rattle.et_top.specs.declared.status.Status.TheVariants as status
@@ -90,3 +91,9 @@ refusal_of write.NoMemory = refusal.NoMemory
 abbrev pub status_of_writing : Result (Unit {0}) RunFault → Status
 status_of_writing (Ok done) = status.Done
 status_of_writing (Err fault) = status_of (refusal_of fault)
+
+-- a model that is asked for has its policy, and another is not there. `Has` says what a model with a policy is
+abbrev pub IsPrepared : {B : Type 0} → (B → Policy → Type 0) → Option Policy → Option B → Type 0
+IsPrepared Has (Some policy) (Some model) = Has model policy
+IsPrepared Has None None = Unit {0}
+IsPrepared Has _ _ = ⊥

@@ -1,5 +1,5 @@
 //! The classes of the files that a command names.
-ghost use Rattle.std.specs.Prelude.{◌≡◌, ◌≤◌, ◌++◌, ◌∷◌, [], List, Result, Ok, Some, All, IfOk, IfErr, OnOk, map, string_bytes};
+ghost use Rattle.std.specs.Prelude.{◌≡◌, ◌≤◌, ◌++◌, ◌∷◌, [], List, Result, Ok, Some, All, IfOk, IfErr, OnOk, length, map, string_bytes};
 ghost use Rattle.et_io.specs.Faults.{Rose};
 ghost use Rattle.et_io.specs.Files.{Held};
 ghost use Rattle.et_class.specs.Layout.{ClassOf};
@@ -59,6 +59,7 @@ pub fn load_classes<'a, F: Files>(
 ) -> Result<Vec<ClassFile>, Refusal<'a>>
     ensures tells { (held : Held) → F.holds files.old ≡ Some held → (classes : Result (List ClassOf) Fault) → AreClassesOf (map held (map string_bytes paths.now)) classes → Tells (Rose (F.faults files.old) (F.faults files.new)) classes_of classes result }
     ensures parts { IfOk result (λ classes. All HasItsParts classes.items) }
+    ensures count { IfOk result (λ classes. length classes.items ≡ length paths.now) }
     ensures fault { IfErr result (λ refusal. IsReading (cause_of refusal) → Rose (F.faults files.old) (F.faults files.new)) }
     ensures file { IfErr result (λ refusal. IsFileRefusal (cause_of refusal)) }
     ensures never_falls { F.faults files.old ≤ F.faults files.new }

@@ -1,5 +1,5 @@
 //! The models of a replay.
-ghost use Rattle.std.specs.Prelude.{◌≡◌, ◌≤◌, ◌<◌, ◌^◌, ℕ, Bool, [], All, length, map, IfOk, IfSome, OnOk, OnErr, IsErrOf};
+ghost use Rattle.std.specs.Prelude.{◌≡◌, ◌≤◌, ◌<◌, ◌^◌, ◌∷◌, ℕ, Bool, [], All, length, map, IfOk, IfSome, OnOk, OnErr, IsErrOf};
 ghost use Rattle.std.specs.List.{AllZip};
 ghost use Rattle.et_graph.specs.Graph.{Graph, Decides};
 ghost use Rattle.et_io.specs.Faults.{Rose};
@@ -7,6 +7,7 @@ ghost use Rattle.et_io.specs.Sink.{with_more, TakesFront};
 ghost use Rattle.et_replay.specs.Replay.{replay_text};
 ghost use Rattle.et_replay.specs.Timeline.{timeline_items};
 ghost use Rattle.et_replay.specs.Items.{made};
+ghost use Rattle.et_top.specs.Told.{IsPrepared};
 ghost use Rattle.et_top.specs.Top.{policy_of, policies_of};
 
 use et_base::NoMemory;
@@ -36,18 +37,45 @@ fn policy_of(asked: &Models, kind: Kind) -> Option<Policy>
     })
 }
 
+/// How many objects the item makes: one, or none.
+fn makes(item: &Item) -> u32
+    ensures { result ≡ length (made (item.now ∷ [])) }
+{
+    match item {
+        Item::Alloc { .. } => 1,
+        _ => 0,
+    }
+}
+
 /// How many objects the items make.
+#[tactic(auto, using(crate::proofs::ModelLemmas::made_next))]
 fn count_made(items: &[Item]) -> u32
     requires { length (made items.now) < 2 ^ 24 }
     ensures { result ≡ length (made items.now) }
 {
     let mut count = 0;
     'items: for item in items {
-        if let Item::Alloc { .. } = item {
-            count += 1;
-        }
+        count += makes(item);
     }
     count
+}
+
+/// Gives a new model its policy and the number of objects, where it is asked for.
+fn prepare(
+    asked: &Models,
+    objects: u32,
+    model: Box<dyn HeapModel>,
+) -> Result<Option<Box<dyn HeapModel>>, NoMemory>
+    requires new { is_new model }
+    requires few { objects ≤ 16777215 }
+    ensures { IfOk result (λ chosen. IsPrepared (λ b policy. stands_for b policy objects []) (policy_of asked.now (kind_of model)) chosen) }
+{
+    let Some(policy) = policy_of(asked, model.kind()) else {
+        return Ok(None);
+    };
+    let mut model = model;
+    model.set_policy(policy, objects)?;
+    Ok(Some(model))
 }
 
 /// Gives each of the new models that is asked for its policy and the number of objects, and drops the others.
@@ -62,10 +90,10 @@ fn choose(
     ensures { IfOk result (λ chosen. AllZip (λ b policy. stands_for b policy objects []) chosen.items (policies_of asked.now (map (λ b. kind_of b) models.items))) }
 {
     let mut chosen = Vec::new(alloc);
-    'models: for mut model in models {
-        if let Some(policy) = policy_of(asked, model.kind()) {
-            model.set_policy(policy, objects)?;
-            chosen.push(model)?;
+    'models: for model in models {
+        match prepare(asked, objects, model)? {
+            Some(model) => chosen.push(model)?,
+            None => {}
         }
     }
     Ok(chosen)
@@ -94,6 +122,8 @@ pub fn replay_trace<O: Sink>(
         Ok(chosen) => chosen,
         Err(_) => return Err(RunFault::NoMemory),
     };
-    replay(alloc, &items, chosen, out)?;
-    Ok(())
+    match replay(alloc, &items, chosen, out) {
+        Ok(_) => Ok(()),
+        Err(fault) => Err(fault),
+    }
 }

@@ -4,7 +4,8 @@ ghost use Rattle.et_io.specs.Faults.{Rose};
 ghost use Rattle.et_io.specs.Files.{Held};
 ghost use Rattle.et_graph.specs.Graph.{Graph, Decides};
 ghost use Rattle.et_words.specs.Command.{command};
-ghost use Rattle.et_top.specs.Top.{Defined, IsDefined, Gives};
+ghost use Rattle.et_words.specs.Asked.{asked_by, AreInRange};
+ghost use Rattle.et_top.specs.Top.{Defined, IsAskedDefined, IsDefined, Gives};
 
 use crate::answers::refuse;
 use crate::commands::{assemble, curve, replay, trace};
@@ -16,6 +17,37 @@ use et_replay::HeapModel;
 use et_words::{Command, read_words};
 use std::alloc::Global;
 use std::sync::ledger::Ledger;
+
+/// The command, where the words are one.
+fn perform<F: Files, O: Sink, E: Sink, L: Ledger>(
+    alloc: Global,
+    command: &Command<'_>,
+    files: &mut F,
+    out: &mut O,
+    err: &mut E,
+    models: Vec<Box<dyn HeapModel>>,
+    visits: &mut Steps<L>,
+) -> Status
+    requires new { All (λ b. is_new b) models.items }
+    requires range { AreInRange command.now }
+    ensures gives { (held : Held) → F.holds files.old ≡ Some held → (d : Defined) → IsAskedDefined (map (λ b. kind_of b) models.items) (Some (asked_by command.now)) held d → (reached : Graph → ℕ → Bool) → Decides reached →
+        Gives reached (O.taken out.old) (O.taken out.new) (Rose (F.faults files.old) (F.faults files.new)) (Rose (O.faults out.old) (O.faults out.new)) d result }
+    ensures usage { result ≡ Status.Usage → ⊥ }
+    ensures read_fault { result ≡ Status.ReadFault → Rose (F.faults files.old) (F.faults files.new) }
+    ensures write_fault { result ≡ Status.WriteFault → Rose (O.faults out.old) (O.faults out.new) }
+{
+    match command {
+        Command::Trace { options, paths } => {
+            trace(alloc, options, *paths, files, out, err, visits)
+        }
+        Command::Assemble(path) => assemble(alloc, *path, files, out, err),
+        Command::Replay {
+            models: asked,
+            path,
+        } => replay(alloc, asked, *path, files, out, err, models),
+        Command::Curve(path) => curve(alloc, *path, files, out, err),
+    }
+}
 
 /// All that the program does. The words are those behind the program's name; the command's output goes to out, and a
 /// line for each refusal to err. The models are new.
@@ -47,17 +79,12 @@ pub fn elephant<F: Files, O: Sink, E: Sink, L: Ledger>(
     ensures read_fault { result ≡ Status.ReadFault → Rose (F.faults files.old) (F.faults files.new) }
     ensures write_fault { result ≡ Status.WriteFault → Rose (O.faults out.old) (O.faults out.new) }
 {
-    match read_words(alloc, words) {
-        Ok(Some(Command::Trace { options, paths })) => {
-            trace(alloc, &options, paths, files, out, err, visits)
-        }
-        Ok(Some(Command::Assemble(path))) => assemble(alloc, path, files, out, err),
-        Ok(Some(Command::Replay {
-            models: asked,
-            path,
-        })) => replay(alloc, &asked, path, files, out, err, models),
-        Ok(Some(Command::Curve(path))) => curve(alloc, path, files, out, err),
-        Ok(None) => refuse(alloc, err, &Refusal::Usage),
-        Err(_) => refuse(alloc, err, &Refusal::NoMemory),
+    let asked = match read_words(alloc, words) {
+        Ok(asked) => asked,
+        Err(_) => return refuse(alloc, err, &Refusal::NoMemory),
+    };
+    match &asked {
+        Some(command) => perform(alloc, command, files, out, err, models, visits),
+        None => refuse(alloc, err, &Refusal::Usage),
     }
 }

@@ -1,5 +1,4 @@
-use Rattle.std.proofs.Common.{List, ℕ, Ok, Err, subst, sym}
-use Rattle.et_io.specs.Faults.{Rose}
+use Rattle.std.proofs.Common.{Ok, subst, sym}
 use Rattle.et_top.specs.Loaded.{IsClassOf}
 use Rattle.et_top.specs.Told.{cause_of}
 use Rattle.et_top.proofs.Found.{tells_more, class_not_read, no_read_fault, file_refusal}

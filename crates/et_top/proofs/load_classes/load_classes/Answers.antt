@@ -1,9 +1,7 @@
-use Rattle.std.proofs.Common.{◌≡◌, ◌+◌, ◌<◌, List, ◌∷◌, ℕ, map, drop, get_or, string_bytes, sym, ◌∙◌, ap, subst, rules, arith}
-use Rattle.std.specs.Prelude.{Option, String}
-use Rattle.et_io.specs.Files.{Held}
+use Rattle.std.proofs.Common.{map, ◌∙◌, subst, rules, arith}
 use Rattle.et_class.specs.Classes.{class_of}
 use Rattle.et_top.specs.Told.{cause_of}
-use Rattle.et_top.proofs.Found.{AreBehind, next_behind, behind_refused, next_path}
+use Rattle.et_top.proofs.Found.{AreBehind, behind_refused, next_path}
 use Rattle.et_top.proofs.load_classes.load_classes.Goals as goal
 
 pub returns-in-Err-clause-tells : goal.returns-in-Err-clause-tells

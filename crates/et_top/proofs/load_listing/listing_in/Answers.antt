@@ -1,4 +1,4 @@
-use Rattle.std.proofs.Common.{List, ℕ, Ok, Err, subst}
+use Rattle.std.proofs.Common.{Err, subst}
 use Rattle.et_asm.specs.Listings.{Assembles}
 use Rattle.et_top.proofs.Found.{listing_found, listing_fault_found}
 use Rattle.et_top.proofs.load_listing.listing_in.Goals as goal

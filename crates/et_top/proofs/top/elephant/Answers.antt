@@ -1,0 +1,19 @@
+use Rattle.std.proofs.Common.{◌∙◌, ap, sym, subst}
+use Rattle.et_io.specs.Faults.{Rose}
+use Rattle.et_top.specs.Top.{Gives}
+use Rattle.std.specs.Prelude.{Option, option_map}
+use Rattle.et_words.specs.Asked.{asked_by}
+use Rattle.et_words.specs.declared.command.Command.{Command}
+use Rattle.et_top.proofs.TopLemmas.{by_command, memory_gives}
+use Rattle.et_top.proofs.top.elephant.Goals as goal
+
+pub returns-in-Some-clause-answers : goal.returns-in-Some-clause-answers
+returns-in-Some-clause-answers g c held told d defined reached decides =
+    c.perform.ensures.gives held told d (by_command _ held d _ _ (sym (ap (λ (o : Option Command). option_map asked_by o) c.in-Some.is) ∙ c.in-Ok.ensures.command) defined) reached decides
+
+pub returns-in-Err-clause-answers : goal.returns-in-Err-clause-answers
+returns-in-Err-clause-answers g c held told d defined reached decides =
+    let taken = g.O.Sink.taken c.args.out.now in
+    let read = Rose (g.F.Files.faults c.args.files.now) (g.F.Files.faults c.args.files.now) in
+    let written = Rose (g.O.Sink.faults c.args.out.now) (g.O.Sink.faults c.args.out.now) in
+    subst (Gives reached taken taken read written d) (sym c.refuse.ensures) (memory_gives reached taken read written d)
