@@ -8,7 +8,7 @@ use std::alloc::Global;
 use std::test::Fail;
 
 /// The class `Box`, whose `main` is `new Box; pop; return`.
-const BOX: [u8; 125] = *b"\xca\xfe\xba\xbe\x00\x00\x00\x34\x00\x08\
+pub const BOX: [u8; 125] = *b"\xca\xfe\xba\xbe\x00\x00\x00\x34\x00\x08\
     \x01\x00\x03Box\x07\x00\x01\x01\x00\x10java/lang/Object\x07\x00\x03\x01\x00\x04main\
     \x01\x00\x16([Ljava/lang/String;)V\x01\x00\x04Code\
     \x00\x21\x00\x02\x00\x04\x00\x00\x00\x00\x00\x01\
@@ -34,7 +34,7 @@ const BOX_WITH_ATTRIBUTES: [u8; 205] = *b"\xca\xfe\xba\xbe\x00\x00\x004\x00\x0c\
     \x09\x00\x00\x00\x03xyz\x00\x0a\x00\x00\x00\x07\
     \xff\xff\xff\xff\xff\xff\xff\x00\x01\x00\x0b\x00\x00\x00\x00";
 
-const TRACE: &[u8] = b"H 1 0\nC 1 [Ljava/lang/String;\nA 0 0 1 1 24 0\nC 2 Box\n\
+pub const TRACE: &[u8] = b"H 1 0\nC 1 [Ljava/lang/String;\nA 0 0 1 1 24 0\nC 2 Box\n\
     N 1 2 main ([Ljava/lang/String;)V\nM 1 0 1 0\nA 2 0 2 2 16 0\nE 4 0 1\nF 5 2\nD 1 3\nD 2 2\nZ 5 0\n";
 
 /// `main` pops from an empty stack.

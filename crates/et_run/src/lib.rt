@@ -9,5 +9,6 @@ mod run;
 mod tracer;
 
 pub use guest::{Guest, Program};
-pub use options::{Options, Ran, Schedule};
+pub use et_state::{Options, Schedule};
+pub use options::Ran;
 pub use run::run_guest;

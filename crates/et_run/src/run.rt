@@ -3,15 +3,16 @@ ghost use Rattle.std.specs.Prelude.{◌≡◌, ℕ, Bool, ◌≤◌, All, IfOk, 
 ghost use Rattle.et_io.specs.Faults.{Rose};
 ghost use Rattle.et_graph.specs.Graph.{Graph, Decides};
 ghost use Rattle.et_state.specs.Naming.{IsNamed};
-ghost use Rattle.et_run.specs.Options.{AreOptions, setting_of};
+ghost use Rattle.et_state.specs.Options.{AreOptions};
+ghost use Rattle.et_run.specs.Options.{setting_of};
 ghost use Rattle.et_run.specs.Traced.{WritesTrace, WritesFront};
 
 use crate::guest::Guest;
-use crate::options::{Options, Ran};
+use crate::options::Ran;
 use crate::tracer::Tracer;
 use et_base::Steps;
 use et_io::{RunFault, Sink, put_all};
-use et_state::Lines;
+use et_state::{Lines, Options};
 use std::alloc::Global;
 use std::sync::ledger::Ledger;
 

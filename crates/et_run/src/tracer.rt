@@ -5,15 +5,15 @@ ghost use Rattle.et_graph.specs.Graph.{Graph, Decides};
 ghost use Rattle.et_state.specs.Naming.{IsNamed, nothing_mentioned, mentions_after, lines_of};
 ghost use Rattle.et_state.specs.History.{is_flush_point, how_of};
 ghost use Rattle.et_text.specs.Spelling.{text};
-ghost use Rattle.et_run.specs.Options.{pick_of, AreOptions, setting_of};
+ghost use Rattle.et_state.specs.Options.{pick_of, AreOptions};
+ghost use Rattle.et_run.specs.Options.{setting_of};
 ghost use Rattle.et_run.specs.Run.{marked, flush_of, due_lines, due_state, last_lines, Goes, Turns};
 
 use crate::census::{Census, note, report};
 use crate::guest::{Guest, Program};
 use crate::naming::Numbering;
-use crate::options::{Options, Schedule};
 use et_base::{End, NoMemory, Steps, TraceLine};
-use et_state::{EventEnd, Lines};
+use et_state::{EventEnd, Lines, Options, Schedule};
 use et_text::write_line;
 use std::alloc::Global;
 use std::sync::ledger::Ledger;

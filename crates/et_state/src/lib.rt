@@ -3,8 +3,10 @@
 
 mod ends;
 mod lines;
+mod options;
 mod records;
 
 pub use ends::EventEnd;
 pub use lines::Lines;
+pub use options::{Options, Schedule};
 pub use records::Record;

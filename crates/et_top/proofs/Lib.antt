@@ -1,5 +1,3 @@
-pub mod Instructions
-pub mod HeldLemmas
-pub mod EventLemmas
-pub mod MainLemmas
-pub mod TopLemmas
+mod Found
+mod ModelLemmas
+mod TopLemmas

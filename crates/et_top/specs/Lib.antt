@@ -1,11 +1,6 @@
-pub mod BuiltIn
-pub mod Command
-pub mod MainClass
-pub mod Steps
-pub mod Reading
-pub mod Machine
-pub mod Stages
+pub mod Faults
+pub mod Loaded
+pub mod Top
 pub mod Status
 pub mod Refusals
-pub mod Top
-pub mod Loading
+pub mod Told

@@ -1,101 +1,104 @@
 -- What the words and the files that are held define, and what the program may answer.
-use Rattle.std.specs.Prelude.{◌≡◌, ℕ, ◌/◌, ◌⊎◌, Bool, nat_lt, List, Option, Some, None, length, MatchBool}
+use Rattle.std.specs.Prelude.{◌≡◌, ℕ, ◌⊎◌, Bool, List, map, Option, Some, None, option_map, filter_map, Result, Ok, Err}
+use Rattle.et_base.specs.declared.line.TraceLine.{TraceLine}
 use Rattle.et_base.specs.declared.value.End.{End}
 use Rattle.et_base.specs.declared.value.End.TheVariants as ends
 use Rattle.et_graph.specs.Graph.{Graph}
-use Rattle.et_state.specs.History.{Setting}
 use Rattle.et_io.specs.Files.{Held}
+use Rattle.et_io.specs.Sink.{with_more, TakesFront}
 use Rattle.et_class.specs.Layout.{ClassOf}
-use Rattle.et_class.specs.Classes.{IsClassFile, HasFault}
+use Rattle.et_state.specs.declared.options.Options.{Options}
 use Rattle.et_run.specs.declared.options.Ran.{Ran}
 use Rattle.et_run.specs.Traced.{WritesTrace, WritesFront}
-use Rattle.et_top.specs.Command as words
-use Rattle.et_top.specs.MainClass.{MainClass, main_class}
-use Rattle.et_top.specs.Machine.{State, event_of, unended_of, graph_of, flushed_of, names_of, start, start_records}
+use Rattle.et_replay.specs.Curve.{curve_text}
+use Rattle.et_replay.specs.Replay.{replay_text}
+use Rattle.et_replay.specs.Timeline.{timeline_items}
+use Rattle.et_replay.specs.declared.model.Kind.{Kind}
+use Rattle.et_replay.specs.declared.model.Kind.TheVariants as kind
+use Rattle.et_replay.specs.declared.model.Policy.{Policy}
+use Rattle.et_words.specs.declared.command.Models.{Models}
+use Rattle.et_words.specs.Command as words
+use Rattle.et_single.specs.MainClass.{MainClass}
+use Rattle.et_single.specs.Machine.{start, start_records}
+use Rattle.et_single.specs.Runs.{setting_of}
+use Rattle.et_top.specs.Faults.{Fault, status_of_fault}
+use Rattle.et_top.specs.Loaded.{bytes_of, most_of_class, most_of_trace, IsListingOf, IsTraceOf, AreClassesOf, program_of}
 use Rattle.et_top.specs.declared.status.Status.{Status}
 use Rattle.et_top.specs.declared.status.Status.TheVariants as status
 
--- what the words and the files define: no command, a file that is refused, or a class that runs
+-- what the words and the files define: no command, a file that is refused, a text, or the trace of a history. A text
+-- may tell of what is reached; it takes a test that decides that
 pub data Defined : Type 0 where
   Usage : Defined
-  Absent : Defined
-  TooLong : Defined
-  BadClass : (kind offset : ℕ) → Defined
-  NotYet : Defined
-  Runs : (main : MainClass) → Defined
+  Refused : Fault → Defined
+  Writes : (text : (Graph → ℕ → Bool) → List ℕ) → Defined
+  Traces : (main : MainClass) → (options : Options) → Defined
 
--- a class file that has the form that runs, or not yet
-abbrev pub runs : Option MainClass → Defined
-runs None = NotYet
-runs (Some main) = Runs main
+abbrev pub traces : Options → Result MainClass Fault → Defined
+traces options (Err fault) = Refused fault
+traces options (Ok main) = Traces main options
 
--- the bytes of a file have a first fault, or they are those of a class file; exactly one of the two
-abbrev pub IsClassDefined : List ℕ → Defined → Type 0
-IsClassDefined bytes d =
-    ((fault : ℕ × ℕ) × HasFault bytes fault × (d ≡ BadClass fault.1 fault.0))
-    ⊎ ((c : ClassOf) × IsClassFile bytes c × (d ≡ runs (main_class c)))
+abbrev pub writes : {A : Type 0} → ((Graph → ℕ → Bool) → A → List ℕ) → Result A Fault → Defined
+writes text (Err fault) = Refused fault
+writes text (Ok a) = Writes (λ reached. text reached a)
 
--- a class file of more than 1,048,576 bytes is not read
-abbrev pub IsFileDefined : Option (List ℕ) → Defined → Type 0
-IsFileDefined None d = d ≡ Absent
-IsFileDefined (Some bytes) d = MatchBool (nat_lt 1048576 (length bytes)) (d ≡ TooLong) (IsClassDefined bytes d)
+-- the policies of the models of these kinds, of which only those that are asked for are used
+abbrev pub policy_of : Models → Kind → Option Policy
+policy_of asked kind.MarkSweep = option_map (λ first. record { kind = kind.MarkSweep; first = first; second = 0 }) asked.mark_sweep
+policy_of asked kind.SemiSpace = option_map (λ first. record { kind = kind.SemiSpace; first = first; second = 0 }) asked.semispace
+policy_of asked kind.Generational = option_map (λ spaces. record { kind = kind.Generational; first = spaces.nursery; second = spaces.old }) asked.generational
 
-abbrev pub IsAskedDefined : Option words.Asked → Held → Defined → Type 0
-IsAskedDefined None held d = d ≡ Usage
-IsAskedDefined (Some (words.Trace path)) held d = IsFileDefined (held path) d
+abbrev pub policies_of : Models → List Kind → List Policy
+policies_of asked kinds = filter_map (policy_of asked) kinds
+
+-- what is defined where models of these kinds are handed in
+abbrev pub IsAskedDefined : List Kind → Option words.Asked → Held → Defined → Type 0
+IsAskedDefined kinds None held d = d ≡ Usage
+IsAskedDefined kinds (Some (words.Trace options paths)) held d =
+    (classes : Result (List ClassOf) Fault) × AreClassesOf (map held paths) classes × (d ≡ traces options (program_of classes))
+IsAskedDefined kinds (Some (words.Assemble path)) held d =
+    (class : Result (List ℕ) Fault) × IsListingOf (bytes_of most_of_class (held path)) class × (d ≡ writes (λ reached bytes. bytes) class)
+IsAskedDefined kinds (Some (words.Replay asked path)) held d =
+    (trace : Result (List TraceLine) Fault) × IsTraceOf (bytes_of most_of_trace (held path)) trace
+    × (d ≡ writes (λ reached lines. replay_text reached (timeline_items lines) (policies_of asked kinds)) trace)
+IsAskedDefined kinds (Some (words.Curve path)) held d =
+    (trace : Result (List TraceLine) Fault) × IsTraceOf (bytes_of most_of_trace (held path)) trace × (d ≡ writes (λ reached lines. curve_text lines) trace)
 
 -- THE ONE THING that the words and the files that are held define
-abbrev pub IsDefined : List (List ℕ) → Held → Defined → Type 0
-IsDefined line held d = IsAskedDefined (words.command line) held d
-
--- the setting of the history: a quantum of 100 events, no flush but the last, and at most 1,000,000,000 events
-abbrev pub setting_of : MainClass → Setting State
-setting_of main = record {
-  rule = record { event = event_of main; unended = unended_of; graph = graph_of; flushed = flushed_of };
-  names = names_of main;
-  pick = λ e. e / 100;
-  interval = 0;
-  limit = 1000000000;
-}
+abbrev pub IsDefined : List Kind → List (List ℕ) → Held → Defined → Type 0
+IsDefined kinds line held d = IsAskedDefined kinds (words.command line) held d
 
 -- the status of a history that was run to its end
-abbrev pub ended_as : End → Status
-ended_as ends.Finished = status.Done
-ended_as ends.EventLimit = status.Done
-ended_as (ends.IllTyped thread method pc) = status.IllTyped
-ended_as ends.ObjectLimit = status.ObjectLimit
+abbrev pub status_of_end : End → Status
+status_of_end ends.Finished = status.Done
+status_of_end ends.EventLimit = status.Done
+status_of_end (ends.IllTyped thread method pc) = status.IllTyped
+status_of_end ends.ObjectLimit = status.ObjectLimit
 
 module _ (reached : Graph → ℕ → Bool) (before after : Option (List ℕ)) where
   -- the history of the class ended so, and out took its trace, no more and no less
-  pub record Traces (main : MainClass) (answer : Status) : Type 0 where
+  pub record WritesHistory (main : MainClass) (options : Options) (answer : Status) : Type 0 where
     pub ran : Ran
-    pub ended : answer ≡ ended_as ran.end
-    pub wrote : WritesTrace reached (setting_of main) start start_records ran before after
-
-  -- out took a front of what is defined, and nothing where nothing is
-  abbrev pub TakesFrontOf : Defined → Type 0
-  TakesFrontOf Usage = after ≡ before
-  TakesFrontOf Absent = after ≡ before
-  TakesFrontOf TooLong = after ≡ before
-  TakesFrontOf (BadClass kind offset) = after ≡ before
-  TakesFrontOf NotYet = after ≡ before
-  TakesFrontOf (Runs main) = WritesFront reached (setting_of main) start start_records before after
+    pub ended : answer ≡ status_of_end ran.end
+    pub wrote : WritesTrace reached (setting_of main options) start start_records ran before after
 
   -- THE ANSWER where the files and out tell what they hold and took. `read` and `written` say that the count of faults
   -- of the files and of out rose in this call. Each answer has what is defined; but a fault of reading or writing comes
-  -- where its count rose, and want of memory wherever a file or the run was begun.
+  -- where its count rose, and want of memory anywhere. Where nothing is defined to be written nothing was taken; after
+  -- a fault of writing and want of memory a front of what is.
   abbrev pub Gives : (read written : Type 0) → Defined → Status → Type 0
-  Gives read written Usage status.Usage = after ≡ before
-  Gives read written Absent status.Absent = after ≡ before
-  Gives read written TooLong status.TooLong = after ≡ before
-  Gives read written (BadClass kind offset) status.BadClass = after ≡ before
-  Gives read written NotYet status.NotYet = after ≡ before
-  Gives read written (Runs main) status.Done = Traces main status.Done
-  Gives read written (Runs main) status.IllTyped = Traces main status.IllTyped
-  Gives read written (Runs main) status.ObjectLimit = Traces main status.ObjectLimit
-  Gives read written (Runs main) status.WriteFault = written × WritesFront reached (setting_of main) start start_records before after
-  Gives read written Usage status.ReadFault = ⊥
-  Gives read written Usage status.NoMemory = ⊥
-  Gives read written d status.ReadFault = read × (after ≡ before)
-  Gives read written d status.NoMemory = TakesFrontOf d
-  Gives read written d answer = ⊥
+  Gives read written Usage answer = (after ≡ before) × ((answer ≡ status.Usage) ⊎ (answer ≡ status.NoMemory))
+  Gives read written (Refused fault) answer =
+      (after ≡ before) × ((answer ≡ status_of_fault fault) ⊎ (((answer ≡ status.ReadFault) × read) ⊎ (answer ≡ status.NoMemory)))
+  Gives read written (Writes text) status.Done = after ≡ with_more before (text reached)
+  Gives read written (Writes text) status.ReadFault = read × (after ≡ before)
+  Gives read written (Writes text) status.WriteFault = written × TakesFront before after (text reached)
+  Gives read written (Writes text) status.NoMemory = TakesFront before after (text reached)
+  Gives read written (Writes text) answer = ⊥
+  Gives read written (Traces main options) status.Done = WritesHistory main options status.Done
+  Gives read written (Traces main options) status.IllTyped = WritesHistory main options status.IllTyped
+  Gives read written (Traces main options) status.ObjectLimit = WritesHistory main options status.ObjectLimit
+  Gives read written (Traces main options) status.ReadFault = read × (after ≡ before)
+  Gives read written (Traces main options) status.WriteFault = written × WritesFront reached (setting_of main options) start start_records before after
+  Gives read written (Traces main options) status.NoMemory = WritesFront reached (setting_of main options) start start_records before after
+  Gives read written (Traces main options) answer = ⊥

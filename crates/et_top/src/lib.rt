@@ -1,10 +1,14 @@
-//! The program: its words, the classes that it runs, and the call that does all of it.
+//! The program: its commands, and the call that does all of it.
 #![tactic(auto)]
 
-mod built_in;
-mod command;
-mod machine;
-mod main_class;
+mod answers;
+mod commands;
+mod files;
+mod load_classes;
+mod load_listing;
+mod load_trace;
+mod models;
+mod programs;
 mod refusal;
 mod status;
 mod top;

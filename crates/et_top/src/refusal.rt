@@ -41,6 +41,18 @@ pub enum Refusal<'a> {
     WriteFault,
     #[error("elephant: no memory")]
     NoMemory,
+    #[error("elephant: bad text {path} {kind} {line}")]
+    BadText {
+        path: &'a str,
+        kind: u8,
+        line: u64,
+    },
+    #[error("elephant: bad trace {path} {kind} {line}")]
+    BadTrace {
+        path: &'a str,
+        kind: u8,
+        line: u64,
+    },
     #[error("elephant: ill typed {thread} {class} {method} {descriptor} {pc}")]
     IllTyped {
         thread: u8,
@@ -72,6 +84,8 @@ impl Refusal<'_> {
             Refusal::ReadFault(_) => Status::ReadFault,
             Refusal::WriteFault => Status::WriteFault,
             Refusal::NoMemory => Status::NoMemory,
+            Refusal::BadText { .. } => Status::BadText,
+            Refusal::BadTrace { .. } => Status::BadTrace,
             Refusal::IllTyped { .. } => Status::IllTyped,
             Refusal::ObjectLimit => Status::ObjectLimit,
             Refusal::TooLong(_) => Status::TooLong,

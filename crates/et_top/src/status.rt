@@ -19,11 +19,15 @@ pub enum Status {
     WriteFault,
     /// Memory ran out. What was taken is a front of the output.
     NoMemory,
+    /// A file is no trace.
+    BadTrace,
     /// The next event had no meaning. The trace up to it was taken whole.
     IllTyped,
     /// The next event would have made too many objects. The trace up to it was taken whole.
     ObjectLimit,
-    /// A file is longer than is read: 1,048,576 bytes of a class file.
+    /// A file is no listing.
+    BadText,
+    /// A file is longer than is read: 1,048,576 bytes of a class file or a listing, 268,435,456 of a trace.
     TooLong,
     /// A class file can't be run yet.
     NotYet,
@@ -42,8 +46,10 @@ impl Status {
             Status::ReadFault => 6,
             Status::WriteFault => 7,
             Status::NoMemory => 8,
+            Status::BadTrace => 9,
             Status::IllTyped => 10,
             Status::ObjectLimit => 11,
+            Status::BadText => 12,
             Status::TooLong => 13,
             Status::NotYet => 14,
         }

@@ -1,0 +1,185 @@
+//! The commands `asm`, `curve` and `replay`, and the options of `trace`.
+ghost use Rattle.std.specs.Prelude.{◌≤◌};
+
+use crate::first_path::{BOX, TRACE};
+use crate::runs::{answer, is_answered};
+use et_io::{MemFiles, MemSink};
+use et_top::Status;
+use std::alloc::Global;
+use std::process::Abort;
+use std::test::Fail;
+
+/// The listing of which `Box.class` is made.
+const LISTING: &[u8] = b"class Box java/lang/Object 0021\nmethod main ([Ljava/lang/String;)V 0009 1 1\n\
+    new Box\npop\nreturn\nend\n";
+
+/// Object 1 refers to object 3 and dies with it at event 5; the others die at the end.
+const FIVE: &[u8] = b"H 1 0\nC 1 P\nA 1 0 1 1 24 0\nA 2 0 2 1 24 0\nA 3 0 3 1 24 0\nU 4 0 1 0 0 3\n\
+    A 6 0 4 1 24 0\nA 7 0 5 1 24 0\nF 8 5\nD 1 5\nD 2 7\nD 3 5\nD 4 7\nD 5 7\nZ 8 0\n";
+
+fn files_with(alloc: Global, path: &str, bytes: &[u8]) -> Result<MemFiles, Fail> {
+    let mut files = MemFiles::begin(alloc);
+    files.hold(path, bytes)?;
+    Ok(files)
+}
+
+#[test]
+fn options_of_trace(rt: HostRuntime) -> Result<(), Fail> {
+    let alloc = rt.alloc();
+    let mut files = files_with(alloc, "Box.class", &BOX)?;
+    let rows: [(&str, &[u8]); 3] = [
+        ("trace --flush=00 -- Box.class", TRACE),
+        (
+            "trace --limit 0 Box.class",
+            b"H 1 0\nC 1 [Ljava/lang/String;\nA 0 0 1 1 24 0\nF 0 0\nZ 0 1\n",
+        ),
+        (
+            "trace --flush 1 --limit 4 Box.class",
+            b"H 1 1\nC 1 [Ljava/lang/String;\nA 0 0 1 1 24 0\nC 2 Box\n\
+              N 1 2 main ([Ljava/lang/String;)V\nM 1 0 1 0\nF 1 0\nA 2 0 2 2 16 0\nF 2 0\nF 3 1\nD 2 2\n\
+              E 4 0 1\nF 4 1\nD 1 3\nZ 4 1\n",
+        ),
+    ];
+    for (line, trace) in rows {
+        is_answered(&rt, alloc, &mut files, line, Status::Done, trace, b"")?;
+    }
+    Ok(())
+}
+
+#[test]
+fn several_files_are_read_in_order(rt: HostRuntime) -> Result<(), Fail> {
+    let alloc = rt.alloc();
+    let mut files = files_with(alloc, "Box.class", &BOX)?;
+    files.hold("Bad.class", &BOX[..10])?;
+    let rows: [(&str, Status, &[u8]); 4] = [
+        (
+            "trace Box.class No.class",
+            Status::Absent,
+            b"elephant: absent No.class\n",
+        ),
+        (
+            "trace No.class Bad.class",
+            Status::Absent,
+            b"elephant: absent No.class\n",
+        ),
+        (
+            "trace Box.class Bad.class No.class",
+            Status::BadClass,
+            b"elephant: bad class Bad.class 11 10\n",
+        ),
+        (
+            "trace Box.class Box.class",
+            Status::NotYet,
+            b"elephant: not yet Box.class\n",
+        ),
+    ];
+    for (line, status, refusal) in rows {
+        is_answered(&rt, alloc, &mut files, line, status, b"", refusal)?;
+    }
+    files.fail_at(9)?;
+    let said = b"elephant: read fault Box.class\n";
+    let line = "trace Box.class Box.class";
+    is_answered(&rt, alloc, &mut files, line, Status::ReadFault, b"", said)
+}
+
+#[test]
+fn a_listing_is_assembled(rt: HostRuntime) -> Result<(), Fail> {
+    let alloc = rt.alloc();
+    let mut files = files_with(alloc, "Box.txt", LISTING)?;
+    let line = "asm Box.txt";
+    is_answered(&rt, alloc, &mut files, line, Status::Done, &BOX, b"")?;
+    let mut wrong = files_with(alloc, "Box.txt", b"class Box java/lang/Object 0021\n\
+        method main ([Ljava/lang/String;)V 0009 1 1\nnew Box\npopp\nreturn\nend\n")?;
+    let said = b"elephant: bad text Box.txt 1 4\n";
+    is_answered(&rt, alloc, &mut wrong, line, Status::BadText, b"", said)?;
+    let mut open = files_with(alloc, "Box.txt", b"class Box java/lang/Object 0021\n\
+        method main ([Ljava/lang/String;)V 0009 1 1\nnew Box\npop\nreturn\n")?;
+    let said = b"elephant: bad text Box.txt 5 6\n";
+    is_answered(&rt, alloc, &mut open, line, Status::BadText, b"", said)
+}
+
+#[test]
+fn the_live_curve_of_a_trace(rt: HostRuntime) -> Result<(), Fail> {
+    let alloc = rt.alloc();
+    let mut files = files_with(alloc, "T", TRACE)?;
+    let curve = b"0 24\n1 24\n2 40\n4 0\n";
+    is_answered(&rt, alloc, &mut files, "curve T", Status::Done, curve, b"")
+}
+
+#[test]
+fn a_trace_is_replayed(rt: HostRuntime) -> Result<(), Fail> {
+    let alloc = rt.alloc();
+    let mut files = files_with(alloc, "T", FIVE)?;
+    let lines = b"mark-sweep capacity=96 collections=1 marked=48 swept=48 peak=96\n\
+        semispace capacity=100 collections=1 copied=48 freed=0 peak=48 exhausted=3\n";
+    let line = "replay --mark-sweep 96 --semispace 100 T";
+    is_answered(&rt, alloc, &mut files, line, Status::Done, lines, b"")?;
+    let lines = b"semispace capacity=100 collections=1 copied=48 freed=0 peak=48 exhausted=3\n";
+    let line = "replay --semispace=100 T";
+    is_answered(&rt, alloc, &mut files, line, Status::Done, lines, b"")
+}
+
+/// The trace of Box with one line in the place of another. Lines count from 1.
+fn with_line(alloc: Global, place: usize, line: &[u8]) -> Result<Vec<u8>, Fail> {
+    let mut changed = Vec::new(alloc);
+    for (i, old) in TRACE.split(|byte| *byte == b'\n').enumerate() {
+        let new = if i + 1 == place { line } else { old };
+        if !new.is_empty() {
+            changed.extend_from_slice(new)?;
+            changed.push(b'\n')?;
+        }
+    }
+    Ok(changed)
+}
+
+#[test]
+fn damaged_traces_are_refused(rt: HostRuntime) -> Result<(), Fail> {
+    let alloc = rt.alloc();
+    let rows: [(usize, &[u8], &[u8]); 5] = [
+        (3, b"A 0 0 1 1 024 0", b"elephant: bad trace T 1 3\n"),
+        (10, b"D 3 3", b"elephant: bad trace T 3 10\n"),
+        (11, b"D 1 3", b"elephant: bad trace T 2 11\n"),
+        (13, b"Z 5 0", b"elephant: bad trace T 6 13\n"),
+        (12, b"", b"elephant: bad trace T 5 12\n"),
+    ];
+    for (place, line, refusal) in rows {
+        let mut files = files_with(alloc, "T", &with_line(alloc, place, line)?)?;
+        for command in ["curve T", "replay --mark-sweep 96 T"] {
+            is_answered(&rt, alloc, &mut files, command, Status::BadTrace, b"", refusal)?;
+        }
+    }
+    Ok(())
+}
+
+#[test]
+fn other_words_are_no_command(rt: HostRuntime) -> Result<(), Fail> {
+    let alloc = rt.alloc();
+    let mut files = files_with(alloc, "T", FIVE)?;
+    for line in [
+        "trace --flush x Box.class",
+        "trace --flush 1 --flush 2 Box.class",
+        "trace --quantum 1 --words 0 Box.class",
+        "trace --quantum 0 Box.class",
+        "replay T",
+        "replay --nursery 48 T",
+        "curve",
+        "asm",
+    ] {
+        let said = b"elephant: usage\n";
+        is_answered(&rt, alloc, &mut files, line, Status::Usage, b"", said)?;
+    }
+    Ok(())
+}
+
+#[test]
+fn a_failing_write_leaves_a_front(rt: HostRuntime) -> Result<(), Fail> {
+    let alloc = rt.alloc();
+    let mut files = files_with(alloc, "Box.txt", LISTING)?;
+    let mut out = MemSink::begin(alloc, 100);
+    let mut err = MemSink::begin(alloc, 1000);
+    out.fail_at(2)?;
+    let status = answer(alloc, "asm Box.txt", &mut files, &mut out, &mut err)?;
+    assert_eq!(rt; status, Status::WriteFault);
+    assert_eq!(rt; out.bytes(), &BOX[..100]);
+    Ok(())
+}

@@ -1,0 +1,5 @@
+mod Instructions
+mod HeldLemmas
+mod EventLemmas
+mod MainLemmas
+mod RunLemmas

@@ -1,0 +1,11 @@
+use Rattle.std.proofs.Common.{subst}
+use Rattle.et_class.specs.Classes.{class_of, HasFault}
+use Rattle.et_class.specs.Reading.{IsFault}
+use Rattle.et_top.proofs.Found.{class_found, fault_found}
+use Rattle.et_top.proofs.load_classes.class_in.Goals as goal
+
+pub returns-in-Ok-clause-tells : goal.returns-in-Ok-clause-tells
+returns-in-Ok-clause-tells c class is = class_found c.args.bytes.now (c.exactly_one.ensures c.args.bytes.now) class (class_of c.in-Ok.class) c.in-Ok.ensures.0 is
+
+pub returns-in-Err-At-clause-tells : goal.returns-in-Err-At-clause-tells
+returns-in-Err-At-clause-tells c class is = fault_found c.args.bytes.now (c.exactly_one.ensures c.args.bytes.now) class (c.in-Err-At.offset, c.in-Err-At.kind) (subst (λ f. IsFault f (HasFault c.args.bytes.now)) c.in-Err-At.field-0-is c.in-Err-At.ensures) is

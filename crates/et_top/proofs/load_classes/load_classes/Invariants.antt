@@ -1,0 +1,19 @@
+use Rattle.std.proofs.Common.{◌≡◌, ◌≤◌, List, Some, Result, length, map, drop, string_bytes}
+use Rattle.std.specs.Prelude.{All}
+use Rattle.et_io.specs.Files.{Held}
+use Rattle.et_class.specs.Layout.{ClassOf}
+use Rattle.et_class.specs.Classes.{class_of}
+use Rattle.et_top.specs.Faults.{Fault}
+use Rattle.et_top.specs.Loaded.{AreClassesOf}
+use Rattle.et_top.specs.Told.{HasItsParts}
+use Rattle.et_top.proofs.Found.{AreBehind}
+use Rattle.et_top.proofs.load_classes.load_classes.Given as goal
+
+abbrev pub invariant-paths : goal.invariant-paths
+invariant-paths g l = record {
+  tells : (held : Held) → g.F.Files.holds l.fn.files ≡ Some held → (classes : Result (List ClassOf) Fault) → AreClassesOf (map held (map string_bytes l.paths)) classes → AreBehind (map class_of l.classes.items) (map held (map string_bytes (drop l.path-index l.paths))) classes;
+  kept : g.F.Files.holds l.files ≡ g.F.Files.holds l.fn.files;
+  never_falls : g.F.Files.faults l.fn.files ≤ g.F.Files.faults l.files;
+  count : length l.classes.items ≡ l.path-index;
+  parts : All HasItsParts l.classes.items;
+}

@@ -1,0 +1,19 @@
+use Rattle.std.proofs.Common.{[]}
+use Rattle.et_top.proofs.TopLemmas.{by_arm}
+use Rattle.et_top.proofs.top.perform.Goals as goal
+
+pub returns-in-Trace-clause-gives : goal.returns-in-Trace-clause-gives
+returns-in-Trace-clause-gives g c held told d defined reached decides =
+    c.trace.ensures.gives held told [] d (by_arm _ held d _ _ c.in-Trace.is defined) reached decides
+
+pub returns-in-Assemble-clause-gives : goal.returns-in-Assemble-clause-gives
+returns-in-Assemble-clause-gives g c held told d defined reached decides =
+    c.assemble.ensures.gives held told [] d (by_arm _ held d _ _ c.in-Assemble.is defined) reached decides
+
+pub returns-in-Replay-clause-gives : goal.returns-in-Replay-clause-gives
+returns-in-Replay-clause-gives g c held told d defined reached decides =
+    c.replay.ensures.gives held told d (by_arm _ held d _ _ c.in-Replay.is defined) reached decides
+
+pub returns-in-Curve-clause-gives : goal.returns-in-Curve-clause-gives
+returns-in-Curve-clause-gives g c held told d defined reached decides =
+    c.curve.ensures.gives held told [] d (by_arm _ held d _ _ c.in-Curve.is defined) reached decides

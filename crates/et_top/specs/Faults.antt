@@ -1,0 +1,26 @@
+-- What a file that a command names is refused for.
+use Rattle.std.specs.Prelude.{ℕ}
+use Rattle.et_top.specs.declared.status.Status.{Status}
+use Rattle.et_top.specs.declared.status.Status.TheVariants as status
+
+pub data Fault : Type 0 where
+  -- there is no such file
+  Absent : Fault
+  -- it is longer than is read
+  TooLong : Fault
+  -- it is no class file: the kind and the place of its first fault
+  BadClass : (kind offset : ℕ) → Fault
+  -- it is no listing: the kind and the number of its first faulty line
+  BadText : (kind line : ℕ) → Fault
+  -- it is no trace: the kind and the number of its first faulty line
+  BadTrace : (kind line : ℕ) → Fault
+  -- the classes can't be run yet
+  NotYet : Fault
+
+abbrev pub status_of_fault : Fault → Status
+status_of_fault Absent = status.Absent
+status_of_fault TooLong = status.TooLong
+status_of_fault (BadClass kind offset) = status.BadClass
+status_of_fault (BadText kind line) = status.BadText
+status_of_fault (BadTrace kind line) = status.BadTrace
+status_of_fault NotYet = status.NotYet

@@ -1,0 +1,70 @@
+-- What the files that a command names hold: classes, a listing or a trace. A file is read up to its first fault, and several
+-- files in the order of the words.
+use Rattle.std.specs.Prelude.{◌≡◌, ℕ, ◌⊎◌, nat_lt, if◌then◌else◌, List, [], ◌∷◌, length, Option, None, Some, Result, Ok, Err}
+use Rattle.et_base.specs.declared.line.TraceLine.{TraceLine}
+use Rattle.et_class.specs.Layout.{ClassOf}
+use Rattle.et_class.specs.Classes.{IsClassFile, HasFault}
+use Rattle.et_text.specs.Text.{IsTextOf, IsTraceFault}
+use Rattle.et_items.specs.Marks.{MarksAre, IsFirst}
+use Rattle.et_asm.specs.Listings.{marks_of, bytes_of as class_file_of}
+use Rattle.et_single.specs.MainClass.{MainClass, main_class}
+use Rattle.et_top.specs.Faults.{Fault, Absent, TooLong, BadClass, BadText, BadTrace, NotYet}
+
+-- the most bytes that are read of a class file or a listing, and of a trace
+abbrev pub most_of_class : ℕ
+most_of_class = 1048576
+
+abbrev pub most_of_trace : ℕ
+most_of_trace = 268435456
+
+-- the bytes of a file, if it is there and not too long
+abbrev pub bytes_of : ℕ → Option (List ℕ) → Result (List ℕ) Fault
+bytes_of most None = Err Absent
+bytes_of most (Some bytes) = if nat_lt most (length bytes) then Err TooLong else Ok bytes
+
+-- the bytes are those of this class file, or they have this first fault; exactly one of the two is the case
+abbrev pub IsClassOf : Result (List ℕ) Fault → Result ClassOf Fault → Type 0
+IsClassOf (Err fault) class = class ≡ Err fault
+IsClassOf (Ok bytes) class =
+    ((fault : ℕ × ℕ) × HasFault bytes fault × (class ≡ Err (BadClass fault.1 fault.0)))
+    ⊎ ((c : ClassOf) × IsClassFile bytes c × (class ≡ Ok c))
+
+-- .. and the same of a trace
+abbrev pub IsTraceOf : Result (List ℕ) Fault → Result (List TraceLine) Fault → Type 0
+IsTraceOf (Err fault) trace = trace ≡ Err fault
+IsTraceOf (Ok bytes) trace =
+    ((kind line : ℕ) × IsTraceFault bytes kind line × (trace ≡ Err (BadTrace kind line)))
+    ⊎ ((lines : List TraceLine) × IsTextOf lines bytes × (trace ≡ Ok lines))
+
+-- .. and the same of a listing: the bytes of its class file, or its first faulty line with the least kind
+abbrev pub IsListingOf : Result (List ℕ) Fault → Result (List ℕ) Fault → Type 0
+IsListingOf (Err fault) class = class ≡ Err fault
+IsListingOf (Ok text) class =
+    ((line kind : ℕ) × IsFirst (marks_of text) line kind × (class ≡ Err (BadText kind line)))
+    ⊎ (MarksAre (marks_of text) None × (class ≡ Ok (class_file_of text)))
+
+-- a class before others, where all are there
+abbrev pub before : ClassOf → Result (List ClassOf) Fault → Result (List ClassOf) Fault
+before c (Ok classes) = Ok (c ∷ classes)
+before c (Err fault) = Err fault
+
+-- the first class with the others, or its fault; `Others` says what the others are
+abbrev pub AreFirstAnd : Result ClassOf Fault → (Result (List ClassOf) Fault → Type 0) → Result (List ClassOf) Fault → Type 0
+AreFirstAnd (Err fault) Others classes = classes ≡ Err fault
+AreFirstAnd (Ok c) Others classes = (rest : Result (List ClassOf) Fault) × Others rest × (classes ≡ before c rest)
+
+-- these are the classes of the files, or this is the fault of the first file that has one
+abbrev pub AreClassesOf : List (Option (List ℕ)) → Result (List ClassOf) Fault → Type 0
+AreClassesOf [] classes = classes ≡ Ok []
+AreClassesOf (file ∷ files) classes =
+    (first : Result ClassOf Fault) × IsClassOf (bytes_of most_of_class file) first × AreFirstAnd first (AreClassesOf files) classes
+
+-- the class that runs, where the classes are one of its form
+abbrev pub form_of : Option MainClass → Result MainClass Fault
+form_of None = Err NotYet
+form_of (Some main) = Ok main
+
+abbrev pub program_of : Result (List ClassOf) Fault → Result MainClass Fault
+program_of (Err fault) = Err fault
+program_of (Ok (c ∷ [])) = form_of (main_class c)
+program_of (Ok _) = Err NotYet

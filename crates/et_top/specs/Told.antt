@@ -1,0 +1,99 @@
+-- What the parts of the top call answer.
+use Rattle.std.specs.Prelude.{◌≡◌, ℕ, List, map, Option, Some, None, Result, Ok, Err}
+use Rattle.et_top.specs.declared.refusal.Refusal.{Refusal}
+use Rattle.et_top.specs.declared.refusal.Refusal.TheVariants as refusal
+use Rattle.et_class.specs.declared.class.ClassFile.{ClassFile}
+use Rattle.et_class.specs.Layout.{ClassOf}
+use Rattle.et_class.specs.Classes.{class_of, HasParts}
+use Rattle.et_io.specs.declared.putting.RunFault.{RunFault}
+use Rattle.et_io.specs.declared.putting.RunFault.TheVariants as write
+use Rattle.et_text.specs.Text.{IsTraceFault}
+use Rattle.et_text.specs.declared.fault.TraceFault.{TraceFault}
+use Rattle.et_text.specs.declared.fault.TraceFault.TheVariants as faults
+use Rattle.std.specs.declared.vec.Vec.{Vec}
+use Rattle.std.specs.declared.alloc.Global.{Global}
+use Rattle.et_replay.specs.declared.model.Policy.{Policy}
+use Rattle.et_top.specs.Refusals.{status_of}
+use Rattle.et_top.specs.declared.status.Status.{Status}
+use Rattle.et_top.specs.declared.status.Status.TheVariants as status
+use Rattle.et_top.specs.Faults.{Fault, Absent, TooLong, BadClass, BadText, BadTrace, NotYet}
+
+-- why a refusal comes: a file is refused, a read failed, memory ran out, or none of these
+pub data Cause : Type 0 where
+  File : Fault → Cause
+  Reading : Cause
+  Memory : Cause
+  Other : Cause
+
+abbrev pub cause_of : Refusal → Cause
+cause_of (refusal.Absent path) = File Absent
+cause_of (refusal.TooLong path) = File TooLong
+cause_of (refusal.BadClass path kind offset) = File (BadClass kind offset)
+cause_of (refusal.BadText path kind line) = File (BadText kind line)
+cause_of (refusal.BadTrace path kind line) = File (BadTrace kind line)
+cause_of (refusal.NotYet path) = File NotYet
+cause_of (refusal.ReadFault path) = Reading
+cause_of refusal.NoMemory = Memory
+cause_of _ = Other
+
+-- it is the fault that a file was found to have; or a read failed, or memory ran out
+abbrev pub IsCause : {A : Type 0} → (read : Type 0) → Result A Fault → Cause → Type 0
+IsCause read found (File fault) = found ≡ Err fault
+IsCause read found Reading = read
+IsCause read found Memory = Unit {0}
+IsCause read found Other = ⊥
+
+-- what was found is what is answered, or the refusal says why not
+abbrev pub Tells : {A B : Type 0} → (read : Type 0) → (A → B) → Result B Fault → Result A Refusal → Type 0
+Tells read view found (Ok a) = found ≡ Ok (view a)
+Tells read view found (Err r) = IsCause read found (cause_of r)
+
+abbrev pub IsReading : Cause → Type 0
+IsReading (File fault) = ⊥
+IsReading Reading = Unit {0}
+IsReading Memory = ⊥
+IsReading Other = ⊥
+
+-- it speaks of a file, or of memory
+abbrev pub IsFileRefusal : Cause → Type 0
+IsFileRefusal (File fault) = Unit {0}
+IsFileRefusal Reading = Unit {0}
+IsFileRefusal Memory = Unit {0}
+IsFileRefusal Other = ⊥
+
+-- it speaks of the bytes of a file, or of memory
+abbrev pub IsOfBytes : Cause → Type 0
+IsOfBytes (File fault) = Unit {0}
+IsOfBytes Reading = ⊥
+IsOfBytes Memory = Unit {0}
+IsOfBytes Other = ⊥
+
+abbrev pub HasItsParts : ClassFile → Type 0
+HasItsParts c = HasParts c.pool.slots c.fields.items c.methods.items
+
+abbrev pub classes_of : Vec ClassFile Global → List ClassOf
+classes_of classes = map class_of classes.items
+
+-- the fault of the bytes; want of memory says nothing
+abbrev pub IsTraceAnswer : List ℕ → TraceFault → Type 0
+IsTraceAnswer bytes (faults.At kind line) = IsTraceFault bytes kind line
+IsTraceAnswer bytes faults.NoMemory = Unit {0}
+
+-- the status of an answer: done, or that of the refusal
+abbrev pub status_of_result : Result (Unit {0}) Refusal → Status
+status_of_result (Ok done) = status.Done
+status_of_result (Err r) = status_of r
+
+abbrev pub refusal_of : RunFault → Refusal
+refusal_of write.Write = refusal.WriteFault
+refusal_of write.NoMemory = refusal.NoMemory
+
+abbrev pub status_of_writing : Result (Unit {0}) RunFault → Status
+status_of_writing (Ok done) = status.Done
+status_of_writing (Err fault) = status_of (refusal_of fault)
+
+-- a model that is asked for has its policy, and another is not there. `Has` says what a model with a policy is
+abbrev pub IsPrepared : {B : Type 0} → (B → Policy → Type 0) → Option Policy → Option B → Type 0
+IsPrepared Has (Some policy) (Some model) = Has model policy
+IsPrepared Has None None = Unit {0}
+IsPrepared Has _ _ = ⊥

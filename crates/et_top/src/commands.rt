@@ -1,0 +1,110 @@
+//! The commands.
+ghost use Rattle.std.specs.Prelude.{◌≡◌, ◌<◌, ℕ, Bool, List, [], Some, All, length, map, string_bytes};
+ghost use Rattle.et_io.specs.Faults.{Rose};
+ghost use Rattle.et_io.specs.Files.{Held};
+ghost use Rattle.et_graph.specs.Graph.{Graph, Decides};
+ghost use Rattle.et_state.specs.Options.{AreOptions};
+ghost use Rattle.et_replay.specs.declared.model.Kind.{Kind};
+ghost use Rattle.et_words.specs.Command as words;
+ghost use Rattle.et_top.specs.Top.{Defined, IsAskedDefined, Gives};
+
+use crate::answers::{refuse, written};
+use crate::load_listing::load_listing;
+use crate::load_trace::load_trace;
+use crate::models::replay_trace;
+use crate::programs::{load_program, run_main};
+use crate::status::Status;
+use et_base::Steps;
+use et_io::{Files, Sink, put_all};
+use et_replay::{HeapModel, curve_lines};
+use et_state::Options;
+use et_words::Models;
+use std::alloc::Global;
+use std::sync::ledger::Ledger;
+
+/// The command `trace`.
+pub fn trace<F: Files, O: Sink, E: Sink, L: Ledger>(
+    alloc: Global,
+    options: &Options,
+    paths: &[String],
+    files: &mut F,
+    out: &mut O,
+    err: &mut E,
+    visits: &mut Steps<L>,
+) -> Status
+    requires options { AreOptions options.now }
+    requires some { 0 < length paths.now }
+    ensures gives { (held : Held) → F.holds files.old ≡ Some held → (kinds : List Kind) (d : Defined) → IsAskedDefined kinds (Some (words.Trace options.now (map string_bytes paths.now))) held d → (reached : Graph → ℕ → Bool) → Decides reached →
+        Gives reached (O.taken out.old) (O.taken out.new) (Rose (F.faults files.old) (F.faults files.new)) (Rose (O.faults out.old) (O.faults out.new)) d result }
+    ensures usage { result ≡ Status.Usage → ⊥ }
+    ensures read_fault { result ≡ Status.ReadFault → Rose (F.faults files.old) (F.faults files.new) }
+    ensures write_fault { result ≡ Status.WriteFault → Rose (O.faults out.old) (O.faults out.new) }
+{
+    match load_program(alloc, paths, files) {
+        Ok(main) => run_main(alloc, &main, options, out, err, visits),
+        Err(refusal) => refuse(alloc, err, &refusal),
+    }
+}
+
+/// The command `asm`.
+pub fn assemble<F: Files, O: Sink, E: Sink>(
+    alloc: Global,
+    path: &str,
+    files: &mut F,
+    out: &mut O,
+    err: &mut E,
+) -> Status
+    ensures gives { (held : Held) → F.holds files.old ≡ Some held → (kinds : List Kind) (d : Defined) → IsAskedDefined kinds (Some (words.Assemble path.now)) held d → (reached : Graph → ℕ → Bool) → Decides reached →
+        Gives reached (O.taken out.old) (O.taken out.new) (Rose (F.faults files.old) (F.faults files.new)) (Rose (O.faults out.old) (O.faults out.new)) d result }
+    ensures usage { result ≡ Status.Usage → ⊥ }
+    ensures read_fault { result ≡ Status.ReadFault → Rose (F.faults files.old) (F.faults files.new) }
+    ensures write_fault { result ≡ Status.WriteFault → Rose (O.faults out.old) (O.faults out.new) }
+{
+    match load_listing(alloc, path, files) {
+        Ok(bytes) => written(alloc, put_all(out, bytes.as_slice()), err),
+        Err(refusal) => refuse(alloc, err, &refusal),
+    }
+}
+
+/// The command `curve`.
+pub fn curve<F: Files, O: Sink, E: Sink>(
+    alloc: Global,
+    path: &str,
+    files: &mut F,
+    out: &mut O,
+    err: &mut E,
+) -> Status
+    ensures gives { (held : Held) → F.holds files.old ≡ Some held → (kinds : List Kind) (d : Defined) → IsAskedDefined kinds (Some (words.Curve path.now)) held d → (reached : Graph → ℕ → Bool) → Decides reached →
+        Gives reached (O.taken out.old) (O.taken out.new) (Rose (F.faults files.old) (F.faults files.new)) (Rose (O.faults out.old) (O.faults out.new)) d result }
+    ensures usage { result ≡ Status.Usage → ⊥ }
+    ensures read_fault { result ≡ Status.ReadFault → Rose (F.faults files.old) (F.faults files.new) }
+    ensures write_fault { result ≡ Status.WriteFault → Rose (O.faults out.old) (O.faults out.new) }
+{
+    match load_trace(alloc, path, files) {
+        Ok(trace) => written(alloc, curve_lines(alloc, &trace, out), err),
+        Err(refusal) => refuse(alloc, err, &refusal),
+    }
+}
+
+/// The command `replay`.
+pub fn replay<F: Files, O: Sink, E: Sink>(
+    alloc: Global,
+    asked: &Models,
+    path: &str,
+    files: &mut F,
+    out: &mut O,
+    err: &mut E,
+    models: Vec<Box<dyn HeapModel>>,
+) -> Status
+    requires new { All (λ b. is_new b) models.items }
+    ensures gives { (held : Held) → F.holds files.old ≡ Some held → (d : Defined) → IsAskedDefined (map (λ b. kind_of b) models.items) (Some (words.Replay asked.now path.now)) held d → (reached : Graph → ℕ → Bool) → Decides reached →
+        Gives reached (O.taken out.old) (O.taken out.new) (Rose (F.faults files.old) (F.faults files.new)) (Rose (O.faults out.old) (O.faults out.new)) d result }
+    ensures usage { result ≡ Status.Usage → ⊥ }
+    ensures read_fault { result ≡ Status.ReadFault → Rose (F.faults files.old) (F.faults files.new) }
+    ensures write_fault { result ≡ Status.WriteFault → Rose (O.faults out.old) (O.faults out.new) }
+{
+    match load_trace(alloc, path, files) {
+        Ok(trace) => written(alloc, replay_trace(alloc, asked, &trace, models, out), err),
+        Err(refusal) => refuse(alloc, err, &refusal),
+    }
+}

@@ -1,0 +1,86 @@
+//! The classes of the files that a command names.
+ghost use Rattle.std.specs.Prelude.{◌≡◌, ◌≤◌, ◌++◌, ◌∷◌, [], List, Result, Ok, Some, All, IfOk, IfErr, OnOk, length, map, string_bytes};
+ghost use Rattle.et_io.specs.Faults.{Rose};
+ghost use Rattle.et_io.specs.Files.{Held};
+ghost use Rattle.et_class.specs.Layout.{ClassOf};
+ghost use Rattle.et_class.specs.Classes.{class_of};
+ghost use Rattle.et_top.specs.Faults.{Fault};
+ghost use Rattle.et_top.specs.Loaded.{bytes_of, most_of_class, IsClassOf, AreClassesOf};
+ghost use Rattle.et_top.specs.Told.{Tells, IsReading, IsFileRefusal, IsOfBytes, cause_of, HasItsParts, classes_of};
+
+use crate::files::read_file;
+use crate::refusal::Refusal;
+use et_class::laws::exactly_one;
+use et_class::{ClassFault, ClassFile, read_class};
+use et_io::Files;
+use std::alloc::Global;
+
+/// The longest class file that is read, in bytes.
+const MOST_CLASS_BYTES: u64 = 1_048_576;
+
+/// The class file of these bytes, which the file at the path holds.
+fn class_in<'a>(alloc: Global, path: &'a str, bytes: &[u8]) -> Result<ClassFile, Refusal<'a>>
+    ensures tells { (class : Result ClassOf Fault) → IsClassOf (Ok bytes.now) class → Tells ⊥ class_of class result }
+    ensures parts { IfOk result HasItsParts }
+    ensures bytes { IfErr result (λ refusal. IsOfBytes (cause_of refusal)) }
+{
+    exactly_one();
+    match read_class(alloc, bytes) {
+        Ok(class) => Ok(class),
+        Err(ClassFault::At { kind, offset }) => Err(Refusal::BadClass { path, kind, offset }),
+        Err(ClassFault::NoMemory) => Err(Refusal::NoMemory),
+    }
+}
+
+/// The class file at the path.
+fn load_class<'a, F: Files>(
+    alloc: Global,
+    path: &'a str,
+    files: &mut F,
+) -> Result<ClassFile, Refusal<'a>>
+    ensures tells { (held : Held) → F.holds files.old ≡ Some held → (class : Result ClassOf Fault) → IsClassOf (bytes_of most_of_class (held path.now)) class → Tells (Rose (F.faults files.old) (F.faults files.new)) class_of class result }
+    ensures parts { IfOk result HasItsParts }
+    ensures fault { IfErr result (λ refusal. IsReading (cause_of refusal) → Rose (F.faults files.old) (F.faults files.new)) }
+    ensures file { IfErr result (λ refusal. IsFileRefusal (cause_of refusal)) }
+    ensures never_falls { F.faults files.old ≤ F.faults files.new }
+    ensures kept { F.holds files.new ≡ F.holds files.old }
+{
+    match read_file(alloc, path, MOST_CLASS_BYTES, files) {
+        Ok(bytes) => class_in(alloc, path, &bytes),
+        Err(refusal) => Err(refusal),
+    }
+}
+
+/// The class files at the paths, in order.
+pub fn load_classes<'a, F: Files>(
+    alloc: Global,
+    paths: &'a [String],
+    files: &mut F,
+) -> Result<Vec<ClassFile>, Refusal<'a>>
+    ensures tells { (held : Held) → F.holds files.old ≡ Some held → (classes : Result (List ClassOf) Fault) → AreClassesOf (map held (map string_bytes paths.now)) classes → Tells (Rose (F.faults files.old) (F.faults files.new)) classes_of classes result }
+    ensures parts { IfOk result (λ classes. All HasItsParts classes.items) }
+    ensures count { IfOk result (λ classes. length classes.items ≡ length paths.now) }
+    ensures fault { IfErr result (λ refusal. IsReading (cause_of refusal) → Rose (F.faults files.old) (F.faults files.new)) }
+    ensures file { IfErr result (λ refusal. IsFileRefusal (cause_of refusal)) }
+    ensures never_falls { F.faults files.old ≤ F.faults files.new }
+{
+    let mut classes = Vec::new(alloc);
+    'paths: for path in paths {
+        match load_class(alloc, path.as_str(), files) {
+            Ok(class) => push(&mut classes, class)?,
+            Err(refusal) => return Err(refusal),
+        }
+    }
+    Ok(classes)
+}
+
+/// Puts a class at the end.
+fn push<'a>(classes: &mut Vec<ClassFile>, class: ClassFile) -> Result<(), Refusal<'a>>
+    ensures ok { OnOk result (classes.new.items ≡ classes.old.items ++ class ∷ []) }
+    ensures err { IfErr result (λ refusal. refusal ≡ Refusal.NoMemory) }
+{
+    match classes.push(class) {
+        Ok(()) => Ok(()),
+        Err(_) => Err(Refusal::NoMemory),
+    }
+}

@@ -1,0 +1,61 @@
+//! The trace of the file that a command names.
+ghost use Rattle.std.specs.Prelude.{◌≡◌, ◌≤◌, List, Result, Ok, Some, IfOk, IfErr};
+ghost use Rattle.et_base.specs.declared.line.TraceLine.{TraceLine};
+ghost use Rattle.et_io.specs.Faults.{Rose};
+ghost use Rattle.et_io.specs.Files.{Held};
+ghost use Rattle.et_text.specs.Text.{IsTextOf};
+ghost use Rattle.et_top.specs.Faults.{Fault};
+ghost use Rattle.et_top.specs.Loaded.{bytes_of, most_of_trace, IsTraceOf};
+ghost use Rattle.et_top.specs.Told.{Tells, IsReading, IsFileRefusal, IsOfBytes, cause_of, IsTraceAnswer};
+
+use crate::files::read_file;
+use crate::refusal::Refusal;
+use et_io::Files;
+use et_text::laws::{faults_are_one, good_lists_differ, good_texts_have_no_fault};
+use et_text::{TextReader, Trace, TraceFault};
+use std::alloc::Global;
+
+/// The longest trace that is read, in bytes.
+const MOST_TRACE_BYTES: u64 = 268_435_456;
+
+/// The trace of these bytes.
+fn trace_of(alloc: Global, bytes: &[u8]) -> Result<Trace, TraceFault>
+    ensures trace { IfOk result (λ trace. IsTextOf trace bytes.now) }
+    ensures fault { IfErr result (IsTraceAnswer bytes.now) }
+{
+    let mut reader = TextReader::begin(alloc);
+    reader.feed(bytes)?;
+    reader.finish()
+}
+
+/// The trace of these bytes, which the file at the path holds.
+fn trace_in<'a>(alloc: Global, path: &'a str, bytes: &[u8]) -> Result<Trace, Refusal<'a>>
+    ensures tells { (trace : Result (List TraceLine) Fault) → IsTraceOf (Ok bytes.now) trace → Tells ⊥ (λ lines. lines) trace result }
+    ensures bytes { IfErr result (λ refusal. IsOfBytes (cause_of refusal)) }
+{
+    faults_are_one();
+    good_lists_differ();
+    good_texts_have_no_fault();
+    match trace_of(alloc, bytes) {
+        Ok(trace) => Ok(trace),
+        Err(TraceFault::At { kind, line }) => Err(Refusal::BadTrace { path, kind, line }),
+        Err(TraceFault::NoMemory) => Err(Refusal::NoMemory),
+    }
+}
+
+/// The trace at the path.
+pub fn load_trace<'a, F: Files>(
+    alloc: Global,
+    path: &'a str,
+    files: &mut F,
+) -> Result<Trace, Refusal<'a>>
+    ensures tells { (held : Held) → F.holds files.old ≡ Some held → (trace : Result (List TraceLine) Fault) → IsTraceOf (bytes_of most_of_trace (held path.now)) trace → Tells (Rose (F.faults files.old) (F.faults files.new)) (λ lines. lines) trace result }
+    ensures fault { IfErr result (λ refusal. IsReading (cause_of refusal) → Rose (F.faults files.old) (F.faults files.new)) }
+    ensures file { IfErr result (λ refusal. IsFileRefusal (cause_of refusal)) }
+    ensures never_falls { F.faults files.old ≤ F.faults files.new }
+{
+    match read_file(alloc, path, MOST_TRACE_BYTES, files) {
+        Ok(bytes) => trace_in(alloc, path, &bytes),
+        Err(refusal) => Err(refusal),
+    }
+}

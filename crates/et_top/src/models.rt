@@ -1,0 +1,129 @@
+//! The models of a replay.
+ghost use Rattle.std.specs.Prelude.{◌≡◌, ◌≤◌, ◌<◌, ◌^◌, ◌∷◌, ℕ, Bool, [], All, length, map, IfOk, IfSome, OnOk, OnErr, IsErrOf};
+ghost use Rattle.std.specs.List.{AllZip};
+ghost use Rattle.et_graph.specs.Graph.{Graph, Decides};
+ghost use Rattle.et_io.specs.Faults.{Rose};
+ghost use Rattle.et_io.specs.Sink.{with_more, TakesFront};
+ghost use Rattle.et_replay.specs.Replay.{replay_text};
+ghost use Rattle.et_replay.specs.Timeline.{timeline_items};
+ghost use Rattle.et_replay.specs.Items.{made};
+ghost use Rattle.et_top.specs.Told.{IsPrepared};
+ghost use Rattle.et_top.specs.Top.{policy_of, policies_of};
+
+use et_base::NoMemory;
+use et_io::{RunFault, Sink};
+use et_replay::{HeapModel, Item, Kind, Policy, replay, timeline};
+use et_text::Trace;
+use et_words::Models;
+use std::alloc::Global;
+
+/// The policy of a model of this kind, if one is asked for.
+fn policy_of(asked: &Models, kind: Kind) -> Option<Policy>
+    ensures policy { result ≡ policy_of asked.now kind }
+    ensures kind { IfSome result (λ policy. policy.kind ≡ kind) }
+{
+    let (first, second) = match kind {
+        Kind::MarkSweep => (asked.mark_sweep?, 0),
+        Kind::SemiSpace => (asked.semispace?, 0),
+        Kind::Generational => {
+            let spaces = asked.generational?;
+            (spaces.nursery, spaces.old)
+        }
+    };
+    Some(Policy {
+        kind,
+        first,
+        second,
+    })
+}
+
+/// How many objects the item makes: one, or none.
+fn makes(item: &Item) -> u32
+    ensures { result ≡ length (made (item.now ∷ [])) }
+{
+    match item {
+        Item::Alloc { .. } => 1,
+        _ => 0,
+    }
+}
+
+/// How many objects the items make.
+#[tactic(auto, using(crate::proofs::ModelLemmas::made_next))]
+fn count_made(items: &[Item]) -> u32
+    requires { length (made items.now) < 2 ^ 24 }
+    ensures { result ≡ length (made items.now) }
+{
+    let mut count = 0;
+    'items: for item in items {
+        count += makes(item);
+    }
+    count
+}
+
+/// Gives a new model its policy and the number of objects, where it is asked for.
+fn prepare(
+    asked: &Models,
+    objects: u32,
+    model: Box<dyn HeapModel>,
+) -> Result<Option<Box<dyn HeapModel>>, NoMemory>
+    requires new { is_new model }
+    requires few { objects ≤ 16777215 }
+    ensures { IfOk result (λ chosen. IsPrepared (λ b policy. stands_for b policy objects []) (policy_of asked.now (kind_of model)) chosen) }
+{
+    let Some(policy) = policy_of(asked, model.kind()) else {
+        return Ok(None);
+    };
+    let mut model = model;
+    model.set_policy(policy, objects)?;
+    Ok(Some(model))
+}
+
+/// Gives each of the new models that is asked for its policy and the number of objects, and drops the others.
+fn choose(
+    alloc: Global,
+    asked: &Models,
+    objects: u32,
+    models: Vec<Box<dyn HeapModel>>,
+) -> Result<Vec<Box<dyn HeapModel>>, NoMemory>
+    requires new { All (λ b. is_new b) models.items }
+    requires few { objects ≤ 16777215 }
+    ensures { IfOk result (λ chosen. AllZip (λ b policy. stands_for b policy objects []) chosen.items (policies_of asked.now (map (λ b. kind_of b) models.items))) }
+{
+    let mut chosen = Vec::new(alloc);
+    'models: for model in models {
+        match prepare(asked, objects, model)? {
+            Some(model) => chosen.push(model)?,
+            None => {}
+        }
+    }
+    Ok(chosen)
+}
+
+/// Writes the line of each of the new models that is asked for, in order: what it reports of the trace. The other
+/// models are dropped.
+pub fn replay_trace<O: Sink>(
+    alloc: Global,
+    asked: &Models,
+    trace: &Trace,
+    models: Vec<Box<dyn HeapModel>>,
+    out: &mut O,
+) -> Result<(), RunFault>
+    requires new { All (λ b. is_new b) models.items }
+    ensures ok { (reached : Graph → ℕ → Bool) → Decides reached → OnOk result (O.taken out.new ≡ with_more (O.taken out.old) (replay_text reached (timeline_items trace.now) (policies_of asked.now (map (λ b. kind_of b) models.items)))) }
+    ensures write { IsErrOf result RunFault.Write → Rose (O.faults out.old) (O.faults out.new) }
+    ensures err { (reached : Graph → ℕ → Bool) → Decides reached → OnErr result (TakesFront (O.taken out.old) (O.taken out.new) (replay_text reached (timeline_items trace.now) (policies_of asked.now (map (λ b. kind_of b) models.items)))) }
+    ensures never_falls { O.faults out.old ≤ O.faults out.new }
+{
+    let items = match timeline(alloc, trace) {
+        Ok(items) => items,
+        Err(_) => return Err(RunFault::NoMemory),
+    };
+    let chosen = match choose(alloc, asked, count_made(items.items()), models) {
+        Ok(chosen) => chosen,
+        Err(_) => return Err(RunFault::NoMemory),
+    };
+    match replay(alloc, &items, chosen, out) {
+        Ok(_) => Ok(()),
+        Err(fault) => Err(fault),
+    }
+}
