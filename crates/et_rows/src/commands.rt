@@ -10,7 +10,8 @@ use std::process::Abort;
 use std::test::Fail;
 
 /// The listing of which `Box.class` is made.
-const LISTING: &[u8] = b"class Box java/lang/Object 0021\nmethod main ([Ljava/lang/String;)V 0009 1 1\n\
+const LISTING: &[u8] =
+    b"class Box java/lang/Object 0021\nmethod main ([Ljava/lang/String;)V 0009 1 1\n\
     new Box\npop\nreturn\nend\n";
 
 /// Object 1 refers to object 3 and dies with it at event 5; the others die at the end.
@@ -88,12 +89,20 @@ fn a_listing_is_assembled(rt: HostRuntime) -> Result<(), Fail> {
     let mut files = files_with(alloc, "Box.txt", LISTING)?;
     let line = "asm Box.txt";
     is_answered(&rt, alloc, &mut files, line, Status::Done, &BOX, b"")?;
-    let mut wrong = files_with(alloc, "Box.txt", b"class Box java/lang/Object 0021\n\
-        method main ([Ljava/lang/String;)V 0009 1 1\nnew Box\npopp\nreturn\nend\n")?;
+    let mut wrong = files_with(
+        alloc,
+        "Box.txt",
+        b"class Box java/lang/Object 0021\n\
+        method main ([Ljava/lang/String;)V 0009 1 1\nnew Box\npopp\nreturn\nend\n",
+    )?;
     let said = b"elephant: bad text Box.txt 1 4\n";
     is_answered(&rt, alloc, &mut wrong, line, Status::BadText, b"", said)?;
-    let mut open = files_with(alloc, "Box.txt", b"class Box java/lang/Object 0021\n\
-        method main ([Ljava/lang/String;)V 0009 1 1\nnew Box\npop\nreturn\n")?;
+    let mut open = files_with(
+        alloc,
+        "Box.txt",
+        b"class Box java/lang/Object 0021\n\
+        method main ([Ljava/lang/String;)V 0009 1 1\nnew Box\npop\nreturn\n",
+    )?;
     let said = b"elephant: bad text Box.txt 5 6\n";
     is_answered(&rt, alloc, &mut open, line, Status::BadText, b"", said)
 }
@@ -145,7 +154,15 @@ fn damaged_traces_are_refused(rt: HostRuntime) -> Result<(), Fail> {
     for (place, line, refusal) in rows {
         let mut files = files_with(alloc, "T", &with_line(alloc, place, line)?)?;
         for command in ["curve T", "replay --mark-sweep 96 T"] {
-            is_answered(&rt, alloc, &mut files, command, Status::BadTrace, b"", refusal)?;
+            is_answered(
+                &rt,
+                alloc,
+                &mut files,
+                command,
+                Status::BadTrace,
+                b"",
+                refusal,
+            )?;
         }
     }
     Ok(())

@@ -53,15 +53,7 @@ pub fn answer(
         words.push(String::from_str(alloc, word)?)?;
     }
     let models = models(alloc)?;
-    Ok(counted::<Brand>(
-        alloc,
-        &words,
-        files,
-        out,
-        err,
-        models,
-        Blank::new(1),
-    ))
+    Ok(counted::<Brand>(alloc, &words, files, out, err, models, Blank::new(1)))
 }
 
 /// The files hold this file; the answer, the output and the line of the refusal are these.

@@ -8,7 +8,7 @@ mod options;
 mod run;
 mod tracer;
 
-pub use guest::{Guest, Program};
 pub use et_state::{Options, Schedule};
+pub use guest::{Guest, Program};
 pub use options::Ran;
 pub use run::run_guest;

@@ -7,8 +7,8 @@ ghost use Rattle.et_run.specs.Traced.{WritesTrace, WritesFront};
 ghost use Rattle.et_single.specs.Machine.{start, start_records};
 ghost use Rattle.et_single.specs.Runs.{setting_of};
 
-use crate::machine::{Machine, start_lines};
 use crate::form::MainClass;
+use crate::machine::{Machine, start_lines};
 use et_base::{NoMemory, Steps};
 use et_io::{RunFault, Sink};
 use et_run::{Ran, run_guest};

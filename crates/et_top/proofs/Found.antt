@@ -159,9 +159,9 @@ pub record AreBehind (some : List ClassOf) (files : List (Option (List ℕ))) (c
 pub begin_behind : (files : List (Option (List ℕ))) (classes : Result (List ClassOf) Fault) → AreClassesOf files classes → AreBehind [] files classes
 begin_behind files classes are = record { rest = classes; are = are; parts = none classes }
   where
-  none : (classes : Result (List ClassOf) Fault) → classes ≡ behind [] classes
-  none (Ok cs) = refl
-  none (Err fault) = refl
+    none : (classes : Result (List ClassOf) Fault) → classes ≡ behind [] classes
+    none (Ok cs) = refl
+    none (Err fault) = refl
 
 pub end_behind : (some : List ClassOf) (classes : Result (List ClassOf) Fault) → AreBehind some [] classes → classes ≡ Ok some
 end_behind some classes b = b.parts ∙ (ap (behind some) b.are ∙ ap (λ xs. Ok xs) (append-nil some))
@@ -171,26 +171,26 @@ pub next_behind : (some : List ClassOf) (file : Option (List ℕ)) (files : List
     → ((class : Result ClassOf Fault) → IsClassOf (file_bytes most_of_class file) class → class ≡ Ok c) → AreBehind (some ++ c ∷ []) files classes
 next_behind some file files classes c b found = by b.are.0 (found b.are.0 b.are.1) b.are.2
   where
-  by : (first : Result ClassOf Fault) → first ≡ Ok c → AreFirstAnd first (AreClassesOf files) b.rest → AreBehind (some ++ c ∷ []) files classes
-  by (Ok d) e (rest, are, is) = record {
-    rest = rest;
-    are = are;
-    parts = b.parts ∙ (ap (behind some) is ∙ (behind_before some d rest ∙ ap (λ (x : Result ClassOf Fault). behind (some ++ or x d ∷ []) rest) e));
-  }
-    where
-    or : Result ClassOf Fault → ClassOf → ClassOf
-    or (Ok x) y = x
-    or (Err f) y = y
-  by (Err f) e h = cc
+    by : (first : Result ClassOf Fault) → first ≡ Ok c → AreFirstAnd first (AreClassesOf files) b.rest → AreBehind (some ++ c ∷ []) files classes
+    by (Ok d) e (rest, are, is) = record {
+      rest = rest;
+      are = are;
+      parts = b.parts ∙ (ap (behind some) is ∙ (behind_before some d rest ∙ ap (λ (x : Result ClassOf Fault). behind (some ++ or x d ∷ []) rest) e));
+    }
+      where
+        or : Result ClassOf Fault → ClassOf → ClassOf
+        or (Ok x) y = x
+        or (Err f) y = y
+    by (Err f) e h = cc
 
 -- the class that comes next has a cause to be refused, and so have all
 pub behind_refused : (read : Type 0) (some : List ClassOf) (file : Option (List ℕ)) (files : List (Option (List ℕ))) (classes : Result (List ClassOf) Fault) (cause : Cause) → AreBehind some (file ∷ files) classes
     → ((class : Result ClassOf Fault) → IsClassOf (file_bytes most_of_class file) class → IsCause read class cause) → IsCause read classes cause
 behind_refused read some file files classes (File fault) b found = by b.are.0 (found b.are.0 b.are.1) b.are.2
   where
-  by : (first : Result ClassOf Fault) → first ≡ Err fault → AreFirstAnd first (AreClassesOf files) b.rest → classes ≡ Err fault
-  by (Ok d) e h = cc
-  by (Err f) e is = b.parts ∙ (ap (behind some) is ∙ cc)
+    by : (first : Result ClassOf Fault) → first ≡ Err fault → AreFirstAnd first (AreClassesOf files) b.rest → classes ≡ Err fault
+    by (Ok d) e h = cc
+    by (Err f) e is = b.parts ∙ (ap (behind some) is ∙ cc)
 behind_refused read some file files classes Reading b found = found b.are.0 b.are.1
 behind_refused read some file files classes Memory b found = tt
 behind_refused read some file files classes Other b found = absurd (found b.are.0 b.are.1)

@@ -37,21 +37,21 @@ one_more kind policy xs x = ap (filter_map policy) (map_append kind xs x) ∙ fi
 pub joins : {A B K : Type 0} (R : B → Policy → Type 0) (kind : A → K) (policy : K → Option Policy) (xs : List A) (x : A) (bs : List B) (b : B) → AllZip R bs (filter_map policy (map kind xs)) → IsPrepared R (policy (kind x)) (Some b) → AllZip R (bs ++ b ∷ []) (filter_map policy (map kind (xs ++ x ∷ [])))
 joins R kind policy xs x bs b z is = subst (AllZip R (bs ++ b ∷ [])) (sym (one_more kind policy xs x)) (by (policy (kind x)) is)
   where
-  one : Option Policy → List Policy
-  one None = []
-  one (Some p) = p ∷ []
+    one : Option Policy → List Policy
+    one None = []
+    one (Some p) = p ∷ []
 
-  by : (o : Option Policy) → IsPrepared R o (Some b) → AllZip R (bs ++ b ∷ []) (filter_map policy (map kind xs) ++ filter_map (λ q. q) (o ∷ []))
-  by (Some p) r = zip_append R bs (filter_map policy (map kind xs)) b p z r
-  by None r = absurd r
+    by : (o : Option Policy) → IsPrepared R o (Some b) → AllZip R (bs ++ b ∷ []) (filter_map policy (map kind xs) ++ filter_map (λ q. q) (o ∷ []))
+    by (Some p) r = zip_append R bs (filter_map policy (map kind xs)) b p z r
+    by None r = absurd r
 
 -- another changes nothing
 pub passes_by : {A B K : Type 0} (R : B → Policy → Type 0) (kind : A → K) (policy : K → Option Policy) (xs : List A) (x : A) (bs : List B) → AllZip R bs (filter_map policy (map kind xs)) → IsPrepared R (policy (kind x)) None → AllZip R bs (filter_map policy (map kind (xs ++ x ∷ [])))
 passes_by R kind policy xs x bs z is = subst (AllZip R bs) (sym (one_more kind policy xs x)) (by (policy (kind x)) is)
   where
-  by : (o : Option Policy) → IsPrepared R o None → AllZip R bs (filter_map policy (map kind xs) ++ filter_map (λ q. q) (o ∷ []))
-  by None r = subst (AllZip R bs) (sym (append_nothing (filter_map policy (map kind xs)))) z
-  by (Some p) r = absurd r
+    by : (o : Option Policy) → IsPrepared R o None → AllZip R bs (filter_map policy (map kind xs) ++ filter_map (λ q. q) (o ∷ []))
+    by None r = subst (AllZip R bs) (sym (append_nothing (filter_map policy (map kind xs)))) z
+    by (Some p) r = absurd r
 
 -- what holds of each pair
 pub zip_weaker : {B : Type 0} (R S : B → Policy → Type 0) (bs : List B) (ps : List Policy) → ((b : B) (p : Policy) → R b p → S b p) → AllZip R bs ps → AllZip S bs ps

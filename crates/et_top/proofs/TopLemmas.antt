@@ -41,11 +41,11 @@ module _ (reached : Graph → ℕ → Bool) (before after : Option (List ℕ)) (
   pub history_gives : (ran : Ran) (answer : Status) → answer ≡ status_of_end ran.end → WritesTrace reached (setting_of main options) start start_records ran before after → Gives reached before after read written (Traces main options) answer
   history_gives ran answer is w = subst (Gives reached before after read written (Traces main options)) (sym is) (by ran.end refl)
     where
-    by : (end : End) → ran.end ≡ end → Gives reached before after read written (Traces main options) (status_of_end end)
-    by ends.Finished e = history ran ends.Finished status.Done e refl w
-    by ends.EventLimit e = history ran ends.EventLimit status.Done e refl w
-    by (ends.IllTyped t m p) e = history ran (ends.IllTyped t m p) status.IllTyped e refl w
-    by ends.ObjectLimit e = history ran ends.ObjectLimit status.ObjectLimit e refl w
+      by : (end : End) → ran.end ≡ end → Gives reached before after read written (Traces main options) (status_of_end end)
+      by ends.Finished e = history ran ends.Finished status.Done e refl w
+      by ends.EventLimit e = history ran ends.EventLimit status.Done e refl w
+      by (ends.IllTyped t m p) e = history ran (ends.IllTyped t m p) status.IllTyped e refl w
+      by ends.ObjectLimit e = history ran ends.ObjectLimit status.ObjectLimit e refl w
 
   -- what is given where no read can fail is given where one can
   pub history_more : (answer : Status) → Gives reached before after ⊥ written (Traces main options) answer → Gives reached before after read written (Traces main options) answer

@@ -69,7 +69,11 @@ fn ended(main: &MainClass, end: End) -> Result<(), Refusal<'_>>
 {
     match end {
         End::Finished | End::EventLimit => Ok(()),
-        End::IllTyped { thread, method: _, pc } => Err(Refusal::IllTyped {
+        End::IllTyped {
+            thread,
+            method: _,
+            pc,
+        } => Err(Refusal::IllTyped {
             thread: thread.number(),
             class: Escaped(main.name().as_slice()),
             method: Escaped(b"main"),
