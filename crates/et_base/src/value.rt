@@ -2,9 +2,10 @@
 use crate::ids::{MethodId, ObjectId, ThreadId};
 
 /// What a local, an operand, a field or an element holds (JVMS 2.3, 2.4, 2.6.1, 2.6.2).
-#[derive(Clone, Copy, Debug, PartialEq, Eq)]
+#[derive(Clone, Copy, Debug, Default, PartialEq, Eq)]
 pub enum Value {
     /// A local that holds nothing yet, or the broken half of a long.
+    #[default]
     Unset,
     /// An int, and each of the types that are ints on the stack.
     Int(i32),
