@@ -1,7 +1,7 @@
 //! Traces the objects of Java programs: see the README.
 #![tactic(auto)]
 
-ghost use Rattle.std.specs.Prelude.{◌≡◌, ◌<◌, All, IfOk};
+ghost use Rattle.std.specs.Prelude.{◌≡◌, ◌<◌};
 
 use et_base::{NoMemory, Steps};
 use et_io::{Files, HostFiles, HostSink, Sink};
@@ -24,33 +24,24 @@ fn words(rt: &(impl Env + AllocGlobal)) -> io::Result<Vec<String>> {
     Ok(words)
 }
 
-/// New models, one of each kind, in the order of their lines.
-fn models(alloc: Global) -> Result<Vec<Box<dyn HeapModel>>, NoMemory>
-    ensures { IfOk result (λ models. All (λ b. is_new b) models.items) }
-{
-    let mut models: Vec<Box<dyn HeapModel>> = Vec::new(alloc);
-    models.push(Box::new(alloc, MarkSweep::begin(alloc))?)?;
-    models.push(Box::new(alloc, SemiSpace::begin(alloc))?)?;
-    Ok(models)
-}
-
-/// The top call, with a counter of visits of its own.
+/// The top call, with new models, one of each kind in the order of their lines, and a counter of visits of its own.
 fn run<F: Files, O: Sink, E: Sink, L: Ledger>(
     alloc: Global,
     words: &[String],
     files: &mut F,
     out: &mut O,
     err: &mut E,
-    models: Vec<Box<dyn HeapModel>>,
     blank: Blank,
-) -> Status
-    requires new { All (λ b. is_new b) models.items }
+) -> Result<Status, NoMemory>
     requires name { blank.name ≡ L.name }
     requires parts { blank.parts ≡ L.parts }
     requires counts { 0 < L.parts }
 {
+    let mut models: Vec<Box<dyn HeapModel>> = Vec::new(alloc);
+    models.push(Box::new(alloc, MarkSweep::begin(alloc))?)?;
+    models.push(Box::new(alloc, SemiSpace::begin(alloc))?)?;
     let mut visits = Steps::<L>::begin(blank);
-    elephant(alloc, words, files, out, err, models, &mut visits)
+    Ok(elephant(alloc, words, files, out, err, models, &mut visits))
 }
 
 fn main(rt: HostRuntime) -> ExitCode {
@@ -61,10 +52,6 @@ fn main(rt: HostRuntime) -> ExitCode {
         }
         Err(_) => return ExitCode::from(Status::Usage.number()),
     };
-    let models = match models(rt.alloc()) {
-        Ok(models) => models,
-        Err(NoMemory) => return ExitCode::from(Status::NoMemory.number()),
-    };
     let mut files = HostFiles::begin(&rt);
     let mut out = HostSink::begin(rt.stdout());
     let mut err = HostSink::begin(rt.stderr());
@@ -74,8 +61,8 @@ fn main(rt: HostRuntime) -> ExitCode {
         &mut files,
         &mut out,
         &mut err,
-        models,
         Blank::new(1),
-    );
+    )
+    .unwrap_or(Status::NoMemory);
     ExitCode::from(status.number())
 }

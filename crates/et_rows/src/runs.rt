@@ -1,5 +1,5 @@
 //! A run of the program in memory.
-ghost use Rattle.std.specs.Prelude.{◌≡◌, ◌<◌, All, IfOk};
+ghost use Rattle.std.specs.Prelude.{◌≡◌, ◌<◌};
 
 use et_base::{NoMemory, Steps};
 use et_io::{MemFiles, MemSink};
@@ -12,32 +12,24 @@ use std::process::Abort;
 use std::sync::ledger::{Blank, Ledger};
 use std::test::Fail;
 
-/// New models, one of each kind.
-fn models(alloc: Global) -> Result<Vec<Box<dyn HeapModel>>, NoMemory>
-    ensures { IfOk result (λ models. All (λ b. is_new b) models.items) }
-{
-    let mut models: Vec<Box<dyn HeapModel>> = Vec::new(alloc);
-    models.push(Box::new(alloc, MarkSweep::begin(alloc))?)?;
-    models.push(Box::new(alloc, SemiSpace::begin(alloc))?)?;
-    Ok(models)
-}
-
+/// The top call, with new models, one of each kind.
 fn counted<L: Ledger>(
     alloc: Global,
     words: &[String],
     files: &mut MemFiles,
     out: &mut MemSink,
     err: &mut MemSink,
-    models: Vec<Box<dyn HeapModel>>,
     blank: Blank,
-) -> Status
-    requires new { All (λ b. is_new b) models.items }
+) -> Result<Status, NoMemory>
     requires name { blank.name ≡ L.name }
     requires parts { blank.parts ≡ L.parts }
     requires counts { 0 < L.parts }
 {
+    let mut models: Vec<Box<dyn HeapModel>> = Vec::new(alloc);
+    models.push(Box::new(alloc, MarkSweep::begin(alloc))?)?;
+    models.push(Box::new(alloc, SemiSpace::begin(alloc))?)?;
     let mut visits = Steps::<L>::begin(blank);
-    elephant(alloc, words, files, out, err, models, &mut visits)
+    Ok(elephant(alloc, words, files, out, err, models, &mut visits))
 }
 
 /// The answer of the program to these words, which stand with a space between.
@@ -52,8 +44,7 @@ pub fn answer(
     for word in line.split(' ') {
         words.push(String::from_str(alloc, word)?)?;
     }
-    let models = models(alloc)?;
-    Ok(counted::<Brand>(alloc, &words, files, out, err, models, Blank::new(1)))
+    Ok(counted::<Brand>(alloc, &words, files, out, err, Blank::new(1))?)
 }
 
 /// The files hold this file; the answer, the output and the line of the refusal are these.
