@@ -2,3 +2,7 @@ mod Taking
 mod Groups
 mod Storing
 mod Switching
+mod Answering
+mod Dividing
+mod Making
+mod Throwing

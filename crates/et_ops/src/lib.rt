@@ -2,15 +2,21 @@
 //! division.
 #![tactic(auto)]
 
+mod answers;
 mod branches;
 mod constants;
+mod divisions;
 mod frames;
 mod locals;
 mod numbers;
+mod objects;
 mod operands;
 mod stack;
 mod stores;
 mod switches;
+mod throws;
 mod tops;
 
+pub use divisions::divide_event;
 pub use frames::frame_event;
+pub use throws::throw_error;

@@ -1,0 +1,65 @@
+//! Objects that an event makes.
+ghost use Rattle.std.specs.Prelude.{◌≡◌, ◌<◌, ◌^◌, IfOk, OnErr};
+ghost use Rattle.et_machine.specs.State.{kept_of};
+ghost use Rattle.et_machine.specs.Sound.{IsSound};
+ghost use Rattle.et_program.specs.Entries.{class_at};
+ghost use Rattle.et_event.specs.Moments.{begins, instance_made};
+ghost use Rattle.et_event.specs.Errors.{class_called as called};
+ghost use Rattle.et_ops.specs.Making.{MakesObject};
+
+use et_base::{ClassId, NoMemory, ObjectId, ThreadId};
+use et_heap::MakeFault;
+use et_machine::Machine;
+use et_program::Program;
+use et_state::{Lines, Record};
+
+/// The built-in class of this name.
+pub(crate) fn class_called(program: &Program, name: &[u8]) -> ClassId
+    ensures { result ≡ called program.now name.now }
+{
+    program.resolve_class(name).unwrap_or(ClassId::new(0))
+}
+
+/// How many slots an instance of a class has.
+fn slots_of(program: &Program, class: ClassId) -> u32
+    ensures { result ≡ (class_at program.now class).info.slots }
+{
+    if class.number() < program.class_count() {
+        program.class(class).slots
+    } else {
+        0
+    }
+}
+
+/// Makes an instance of a class in the event that comes next, and tells of it; `None`, and nothing is done, exactly where
+/// it doesn't fit. After `NoMemory` the machine may have one object more, to which nothing refers.
+#[tactic(auto, using(crate::proofs::Making::fits_made))]
+pub(crate) fn make_instance(
+    machine: &mut Machine,
+    program: &Program,
+    thread: ThreadId,
+    class: ClassId,
+    out: &mut Lines,
+) -> Result<Option<ObjectId>, NoMemory>
+    requires sound { IsSound (kept_of machine.old) }
+    requires clock { machine.old.guest.clock < 2 ^ 40 }
+    ensures err { OnErr result (machine.new.guest ≡ machine.old.guest) }
+    ensures made { IfOk result (λ made. MakesObject (instance_made (record { program = program.now; before = kept_of machine.old; thread = thread }) class (begins (record { program = program.now; before = kept_of machine.old; thread = thread }))) made machine.old machine.new out.old out.new) }
+{
+    let slots = slots_of(program, class);
+    let event = machine.clock() + 1;
+    let object = match machine.heap.make_object(class, slots) {
+        Ok(object) => object,
+        Err(MakeFault::Full) => return Ok(None),
+        Err(MakeFault::NoMemory) => return Err(NoMemory),
+    };
+    out.push(Record::Alloc {
+        event,
+        thread: thread.number(),
+        object: object.number(),
+        class,
+        size: 16 + 8 * slots as u64,
+        length: 0,
+    })?;
+    Ok(Some(object))
+}
