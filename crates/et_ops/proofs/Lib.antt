@@ -6,3 +6,5 @@ mod Answering
 mod Dividing
 mod Making
 mod Throwing
+mod Texts
+mod Loading

@@ -1,15 +1,26 @@
 //! Constants.
-ghost use Rattle.std.specs.Prelude.{◌≡◌, ◌+◌, ◌<◌, ◌^◌, ◌++◌, ◌∷◌, []};
+ghost use Rattle.std.specs.Prelude.{◌≡◌, ℕ, ◌+◌, ◌<◌, ◌^◌, ◌++◌, ◌∷◌, [], true, List, Option, IfOk, OnErr};
 ghost use Rattle.et_base.specs.declared.value.Value.TheVariants.{Int, Long, LongHigh, Null};
+ghost use Rattle.et_pool.specs.Entries.{Item};
+ghost use Rattle.et_code.specs.declared.instr.Instr.{Instr as Decoded};
+ghost use Rattle.et_program.specs.Entries.{Linked};
+ghost use Rattle.et_state.specs.declared.records.Record.{Record};
 ghost use Rattle.et_machine.specs.State.{kept_of};
 ghost use Rattle.et_machine.specs.Words.{HasFrame, top};
 ghost use Rattle.et_machine.specs.Sound.{IsSound};
-ghost use Rattle.et_event.specs.Answered.{StepsFrame};
-ghost use Rattle.et_event.specs.Plain.{put};
+ghost use Rattle.et_event.specs.Answered.{StepsFrame, EventAnswers};
+ghost use Rattle.et_event.specs.Moments.{fits};
+ghost use Rattle.et_event.specs.Plain.{put, on_frame, constant};
+ghost use Rattle.et_event.specs.Sites.{constant_at};
 
+use crate::answers::ill_typed;
 use crate::operands::replace;
-use et_base::{ThreadId, Value};
+use crate::strings::string_event;
+use et_base::{NoMemory, ThreadId, Value};
 use et_machine::Machine;
+use et_pool::Pool;
+use et_program::Program;
+use et_state::{EventEnd, Lines};
 
 /// `aconst_null`.
 pub(crate) fn push_null(machine: &mut Machine, thread: ThreadId, next: u32) -> bool
@@ -39,4 +50,65 @@ pub(crate) fn push_long(machine: &mut Machine, thread: ThreadId, n: i64, next: u
     ensures { StepsFrame (put next (LongHigh ∷ Long n ∷ (top machine.old.guest thread).operands) (top machine.old.guest thread)) result thread machine.old machine.new }
 {
     replace(machine, thread, 0, &[Value::LongHigh, Value::Long(n)], next)
+}
+
+/// The event of an int of the pool.
+#[tactic(auto, using(crate::proofs::Answering::steps_done, crate::proofs::Answering::steps_refused, crate::proofs::Answering::steps_same))]
+fn int_event(machine: &mut Machine, thread: ThreadId, n: i32, next: u32) -> EventEnd
+    requires frame { HasFrame machine.old.guest thread }
+    requires sound { IsSound (kept_of machine.old) }
+    requires clock { machine.old.guest.clock < 2 ^ 40 }
+    ensures { (p : Linked) (out : List Record) → EventAnswers (on_frame (record { program = p; before = kept_of machine.old; thread = thread }) (put next (Int n ∷ (top machine.old.guest thread).operands) (top machine.old.guest thread))) result machine.old machine.new out out }
+{
+    if push_int(machine, thread, n, next) {
+        EventEnd::Done
+    } else {
+        ill_typed(machine, thread)
+    }
+}
+
+/// The event of a long of the pool.
+#[tactic(auto, using(crate::proofs::Answering::steps_done, crate::proofs::Answering::steps_refused, crate::proofs::Answering::steps_same))]
+fn long_event(machine: &mut Machine, thread: ThreadId, n: i64, next: u32) -> EventEnd
+    requires frame { HasFrame machine.old.guest thread }
+    requires sound { IsSound (kept_of machine.old) }
+    requires clock { machine.old.guest.clock < 2 ^ 40 }
+    ensures { (p : Linked) (out : List Record) → EventAnswers (on_frame (record { program = p; before = kept_of machine.old; thread = thread }) (put next (LongHigh ∷ Long n ∷ (top machine.old.guest thread).operands) (top machine.old.guest thread))) result machine.old machine.new out out }
+{
+    if push_long(machine, thread, n, next) {
+        EventEnd::Done
+    } else {
+        ill_typed(machine, thread)
+    }
+}
+
+/// The event of `ldc`, `ldc_w` or `ldc2_w` with this index into the pool, in front of the pc `next`: an int, a long or a
+/// string is pushed. After `NoMemory` the machine may have one object more, to which nothing refers, and there may be its
+/// record; all else is as before.
+pub fn constant_event(
+    machine: &mut Machine,
+    program: &Program,
+    thread: ThreadId,
+    pool: &Pool,
+    index: u16,
+    next: u32,
+    out: &mut Lines,
+) -> Result<EventEnd, NoMemory>
+    requires frame { HasFrame machine.old.guest thread }
+    requires sound { IsSound (kept_of machine.old) }
+    requires clock { machine.old.guest.clock < 2 ^ 40 }
+    requires fits { fits machine.old.heap ≡ true }
+    ensures ok { IfOk result (λ end. (instr : Decoded) (code : List ℕ) (items : List (Option Item)) (class : ℕ) → EventAnswers (constant (record { program = program.now; before = kept_of machine.old; thread = thread }) (record { instr = instr; next = next; code = code; pool = items; class = class }) (constant_at pool.now.slots index)) end machine.old machine.new out.old out.new) }
+    ensures err { OnErr result (machine.new.guest ≡ machine.old.guest) }
+{
+    if let Some(n) = pool.integer(index) {
+        return Ok(int_event(machine, thread, n, next));
+    }
+    if let Some(n) = pool.long(index) {
+        return Ok(long_event(machine, thread, n, next));
+    }
+    match pool.string(index) {
+        Some(bytes) => string_event(machine, program, thread, bytes, next, out),
+        None => Ok(ill_typed(machine, thread)),
+    }
 }

@@ -13,10 +13,12 @@ mod objects;
 mod operands;
 mod stack;
 mod stores;
+mod strings;
 mod switches;
 mod throws;
 mod tops;
 
+pub use constants::constant_event;
 pub use divisions::divide_event;
 pub use frames::frame_event;
 pub use throws::throw_error;

@@ -1,0 +1,94 @@
+//! The strings of constants (JVMS 5.1).
+ghost use Rattle.std.specs.Prelude.{◌≡◌, ℕ, ◌<◌, ◌^◌, ◌∷◌, true, List, Option, None, Some, IfOk, OnErr, length};
+ghost use Rattle.et_base.specs.declared.value.Value.TheVariants.{Ref};
+ghost use Rattle.et_pool.specs.Entries.{Item};
+ghost use Rattle.et_code.specs.declared.instr.Instr.{Instr as Decoded};
+ghost use Rattle.et_heap.specs.Objects.{IsHeld};
+ghost use Rattle.et_machine.specs.State.{kept_of};
+ghost use Rattle.et_machine.specs.Words.{HasFrame, top, with_top, ticked};
+ghost use Rattle.et_machine.specs.Sound.{IsSound};
+ghost use Rattle.et_machine.specs.Moves.{Led};
+ghost use Rattle.et_machine.specs.Interned.{object_of};
+ghost use Rattle.et_event.specs.Answered.{EventAnswers};
+ghost use Rattle.et_event.specs.Moments.{fits};
+ghost use Rattle.et_event.specs.Plain.{constant};
+ghost use Rattle.et_event.specs.Sites.{AString};
+
+use crate::answers::ill_typed;
+use crate::objects::{class_called, make_instance};
+use et_base::{NoMemory, ObjectId, ThreadId, Value};
+use et_machine::Machine;
+use et_program::Program;
+use et_state::{EventEnd, Lines};
+
+/// The event in which the string of a constant that has its object is pushed.
+fn push_string(machine: &mut Machine, thread: ThreadId, object: ObjectId, next: u32)
+    requires frame { HasFrame machine.old.guest thread }
+    requires sound { IsSound (kept_of machine.old) }
+    requires clock { machine.old.guest.clock < 2 ^ 40 }
+    requires room { length (top machine.old.guest thread).operands < (top machine.old.guest thread).room }
+    requires object { IsHeld machine.old.heap object }
+    ensures { Led (kept_of machine.old) (record { heap = machine.old.heap; guest = with_top (ticked machine.old.guest) thread (record (top machine.old.guest thread) { pc = next; operands = Ref object ∷ (top machine.old.guest thread).operands }) }) machine.new }
+{
+    machine.begin_event();
+    machine.push(thread, Value::Ref(object));
+    machine.set_pc(thread, next);
+}
+
+/// The event in which the object of a string of a constant is made and pushed.
+fn make_string(
+    machine: &mut Machine,
+    program: &Program,
+    thread: ThreadId,
+    bytes: &[u8],
+    next: u32,
+    out: &mut Lines,
+) -> Result<EventEnd, NoMemory>
+    requires frame { HasFrame machine.old.guest thread }
+    requires sound { IsSound (kept_of machine.old) }
+    requires clock { machine.old.guest.clock < 2 ^ 40 }
+    requires room { length (top machine.old.guest thread).operands < (top machine.old.guest thread).room }
+    requires first { object_of machine.old.guest.interned bytes.now ≡ None }
+    ensures ok { IfOk result (λ end. (instr : Decoded) (code : List ℕ) (pool : List (Option Item)) (class : ℕ) → EventAnswers (constant (record { program = program.now; before = kept_of machine.old; thread = thread }) (record { instr = instr; next = next; code = code; pool = pool; class = class }) (Some (AString bytes.now))) end machine.old machine.new out.old out.new) }
+    ensures err { OnErr result (machine.new.guest ≡ machine.old.guest) }
+{
+    let class = class_called(program, b"java/lang/String");
+    let Some(object) = make_instance(machine, program, thread, class, out)? else {
+        return Ok(EventEnd::ObjectLimit);
+    };
+    machine.intern(bytes, object)?;
+    machine.begin_event();
+    machine.push(thread, Value::Ref(object));
+    machine.set_pc(thread, next);
+    Ok(EventEnd::Done)
+}
+
+/// The event in which the string of these bytes is pushed, in front of the pc `next`. Its object is made where there is none
+/// yet. After `NoMemory` the machine may have one object more, to which nothing refers, and there may be its record; all
+/// else is as before.
+pub(crate) fn string_event(
+    machine: &mut Machine,
+    program: &Program,
+    thread: ThreadId,
+    bytes: &[u8],
+    next: u32,
+    out: &mut Lines,
+) -> Result<EventEnd, NoMemory>
+    requires frame { HasFrame machine.old.guest thread }
+    requires sound { IsSound (kept_of machine.old) }
+    requires clock { machine.old.guest.clock < 2 ^ 40 }
+    requires fits { fits machine.old.heap ≡ true }
+    ensures ok { IfOk result (λ end. (instr : Decoded) (code : List ℕ) (pool : List (Option Item)) (class : ℕ) → EventAnswers (constant (record { program = program.now; before = kept_of machine.old; thread = thread }) (record { instr = instr; next = next; code = code; pool = pool; class = class }) (Some (AString bytes.now))) end machine.old machine.new out.old out.new) }
+    ensures err { OnErr result (machine.new.guest ≡ machine.old.guest) }
+{
+    if machine.depth(thread) >= machine.room(thread) as u32 {
+        return Ok(ill_typed(machine, thread));
+    }
+    match machine.interned(bytes) {
+        Some(object) => {
+            push_string(machine, thread, object, next);
+            Ok(EventEnd::Done)
+        }
+        None => make_string(machine, program, thread, bytes, next, out),
+    }
+}
