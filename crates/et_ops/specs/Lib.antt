@@ -1,3 +1,4 @@
 pub mod Tops
 pub mod Divisions
 pub mod Making
+pub mod Rows

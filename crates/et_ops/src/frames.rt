@@ -23,7 +23,7 @@ use et_event::{FrameRow, Local};
 use et_machine::Machine;
 
 /// The number, where it isn't negative, and else 0.
-fn natural(n: i32) -> u32
+pub(crate) fn natural(n: i32) -> u32
     ensures value { result ≡ natural_of n }
     ensures small { result + 1 < 2 ^ 32 }
 {

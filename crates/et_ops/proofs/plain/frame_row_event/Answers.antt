@@ -1,0 +1,9 @@
+use Rattle.std.proofs.Common.{[], sym, subst}
+use Rattle.et_machine.specs.State.{MachineState}
+use Rattle.et_machine.specs.Words.{HasFrame}
+use Rattle.et_ops.proofs.Answering.{steps_same}
+use Rattle.et_ops.proofs.plain.frame_row_event.Goals as goal
+
+pub ill_typed-requires : goal.ill_typed-requires
+ill_typed-requires c =
+    subst (λ (m : MachineState). HasFrame m.guest c.args.thread) (sym (steps_same _ c.args.thread c.args.machine.now c.frame_event.new.machine (c.if-frame_event.ensures [] 0))) c.requires.frame

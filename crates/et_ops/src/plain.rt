@@ -1,0 +1,96 @@
+//! The plain instructions, by their rows.
+ghost use Rattle.std.specs.Prelude.{◌≡◌, ℕ, ◌<◌, ◌^◌, true, List, Option, IfOk, OnErr, length};
+ghost use Rattle.et_pool.specs.Entries.{Item};
+ghost use Rattle.et_code.specs.Switches.{IsSwitch};
+ghost use Rattle.et_program.specs.Entries.{Linked};
+ghost use Rattle.et_machine.specs.State.{kept_of};
+ghost use Rattle.et_machine.specs.Words.{HasFrame, top};
+ghost use Rattle.et_machine.specs.Sound.{IsSound};
+ghost use Rattle.et_state.specs.declared.records.Record.{Record};
+ghost use Rattle.et_event.specs.declared.rows.FrameRow.TheVariants as frame_rows;
+ghost use Rattle.et_event.specs.declared.rows.Row.TheVariants as rows;
+ghost use Rattle.et_event.specs.Answered.{EventAnswers};
+ghost use Rattle.et_event.specs.Event.{does};
+ghost use Rattle.et_event.specs.Moments.{fits};
+ghost use Rattle.et_event.specs.Plain.{after, on_frame};
+ghost use Rattle.et_event.specs.Sites.{natural as natural_of};
+ghost use Rattle.et_ops.specs.Rows.{PlainAnswers};
+
+use crate::answers::ill_typed;
+use crate::constants::constant_event;
+use crate::divisions::divide_event;
+use crate::frames::{frame_event, natural};
+use et_base::{NoMemory, ThreadId};
+use et_code::Instr;
+use et_event::{FrameRow, Row};
+use et_machine::Machine;
+use et_pool::Pool;
+use et_program::Program;
+use et_state::{EventEnd, Lines};
+
+/// The event of an instruction that reads and changes nothing but the topmost frame.
+fn frame_row_event(
+    machine: &mut Machine,
+    thread: ThreadId,
+    row: FrameRow,
+    code: &[u8],
+    instr: &Instr,
+    next: u32,
+) -> EventEnd
+    requires frame { HasFrame machine.old.guest thread }
+    requires sound { IsSound (kept_of machine.old) }
+    requires clock { machine.old.guest.clock < 2 ^ 40 }
+    requires locals { length (top machine.old.guest thread).locals < 2 ^ 16 }
+    requires pc { (top machine.old.guest thread).pc < 2 ^ 31 }
+    requires switch { row ≡ frame_rows.Switch → IsSwitch code.now instr.now }
+    ensures { (p : Linked) (pool : List (Option Item)) (class : ℕ) (out : List Record) → EventAnswers (on_frame (record { program = p; before = kept_of machine.old; thread = thread }) (after (record { instr = instr.now; next = next; code = code.now; pool = pool; class = class }) row (top machine.old.guest thread))) result machine.old machine.new out out }
+{
+    if frame_event(machine, thread, row, code, instr, next) {
+        EventEnd::Done
+    } else {
+        ill_typed(machine, thread)
+    }
+}
+
+/// The event of a plain instruction of this row, decoded from this code, in front of the pc `next`, with the pool of its
+/// class; `None`, and nothing is done, exactly where the row is of another instruction. After `NoMemory` the machine may
+/// have one object more, to which nothing refers, and there may be its record; all else is as before.
+pub fn plain_event(
+    machine: &mut Machine,
+    program: &Program,
+    thread: ThreadId,
+    row: Row,
+    code: &[u8],
+    pool: &Pool,
+    instr: &Instr,
+    next: u32,
+    out: &mut Lines,
+) -> Result<Option<EventEnd>, NoMemory>
+    requires frame { HasFrame machine.old.guest thread }
+    requires sound { IsSound (kept_of machine.old) }
+    requires clock { machine.old.guest.clock < 2 ^ 40 }
+    requires fits { fits machine.old.heap ≡ true }
+    requires locals { length (top machine.old.guest thread).locals < 2 ^ 16 }
+    requires pc { (top machine.old.guest thread).pc < 2 ^ 31 }
+    requires switch { row ≡ rows.Frame frame_rows.Switch → IsSwitch code.now instr.now }
+    requires index { row ≡ rows.PoolConstant → natural_of instr.now.first < 2 ^ 16 }
+    ensures ok { IfOk result (λ end. (class : ℕ) → PlainAnswers (does (record { program = program.now; before = kept_of machine.old; thread = thread }) (record { instr = instr.now; next = next; code = code.now; pool = pool.now.slots; class = class }) row) row end machine.old machine.new out.old out.new) }
+    ensures err { OnErr result (machine.new.guest ≡ machine.old.guest) }
+{
+    match row {
+        Row::Frame(row) => {
+            let end = frame_row_event(machine, thread, row, code, instr, next);
+            Ok(Some(end))
+        }
+        Row::PoolConstant => {
+            let index = natural(instr.first) as u16;
+            let end = constant_event(machine, program, thread, pool, index, next, out)?;
+            Ok(Some(end))
+        }
+        Row::Divide(number, division) => {
+            let end = divide_event(machine, program, thread, number, division, next, out)?;
+            Ok(Some(end))
+        }
+        Row::Heap(_) | Row::Call(_) | Row::Throw | Row::Monitor(_) => Ok(None),
+    }
+}
