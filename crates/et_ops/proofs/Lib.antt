@@ -8,3 +8,4 @@ mod Making
 mod Throwing
 mod Texts
 mod Loading
+mod Instructions

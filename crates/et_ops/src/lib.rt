@@ -7,6 +7,7 @@ mod branches;
 mod constants;
 mod divisions;
 mod frames;
+pub mod laws;
 mod locals;
 mod numbers;
 mod objects;
