@@ -9,3 +9,4 @@ mod Throwing
 mod Texts
 mod Loading
 mod Instructions
+mod Rows

@@ -1,15 +1,19 @@
-//! What the table says of a turn in which an instruction is done. The law is a function with an empty body: what it promises
+//! What the table says of a turn in which an instruction is done. Each law is a function with an empty body: what it promises
 //! is its contract.
 
-ghost use Rattle.std.specs.Prelude.{◌≡◌, ℕ, Some, None, Ok, Err};
+ghost use Rattle.std.specs.Prelude.{◌≡◌, ℕ, List, Some, None, Ok, Err};
 ghost use Rattle.et_code.specs.declared.instr.Instr.{Instr as Decoded};
 ghost use Rattle.et_code.specs.declared.instr.CodeFault.{CodeFault};
+ghost use Rattle.et_code.specs.Decoding.{instruction_at};
+ghost use Rattle.et_code.specs.Switches.{IsSwitch};
 ghost use Rattle.et_program.specs.Entries.{Linked};
 ghost use Rattle.et_frames.specs.declared.stage.Turn.TheVariants as turns;
 ghost use Rattle.et_frames.specs.Threads.{turn_of};
 ghost use Rattle.et_machine.specs.State.{Kept};
 ghost use Rattle.et_machine.specs.Words.{thread_at, top};
 ghost use Rattle.et_event.specs.declared.rows.Row.{Row};
+ghost use Rattle.et_event.specs.declared.rows.Row.TheVariants as rows;
+ghost use Rattle.et_event.specs.declared.rows.FrameRow.TheVariants as frame_rows;
 ghost use Rattle.et_event.specs.Event.{event, does};
 ghost use Rattle.et_event.specs.Moments.{ill_typed};
 ghost use Rattle.et_event.specs.Sites.{decoded_at, site_of};
@@ -27,4 +31,10 @@ pub fn instruction()
     ensures end { (p : Linked) (s : Kept) (t : ℕ) (fault : CodeFault) → turn_of (thread_at s.guest t) ≡ turns.Instruction →
         decoded_at p (top s.guest t) ≡ Err fault →
         event p s t ≡ ill_typed (record { program = p; before = s; thread = t }) }
+{}
+
+/// What is decoded from code and has the row of a switch is one.
+pub fn switch()
+    ensures { (code : List ℕ) (pc : ℕ) (x : Decoded × ℕ) → instruction_at code pc ≡ Ok x → row_of x.0.opcode ≡ Some (rows.Frame frame_rows.Switch) →
+        IsSwitch code x.0 }
 {}
