@@ -1,10 +1,12 @@
 //! Whole runs of the program in memory, as tests: each gives the words and the files, and says the answer, the output and
-//! the line of a refusal.
+//! the line of a refusal. And listings of which the class files are known, assembled and read back.
 #![tactic(auto)]
 
 #[cfg(test)]
 mod commands;
 #[cfg(test)]
 mod first_path;
+#[cfg(test)]
+mod round_trip;
 #[cfg(test)]
 mod runs;
