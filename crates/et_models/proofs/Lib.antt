@@ -1,4 +1,11 @@
 pub mod Boxes
 pub mod Coming
 pub mod Facts
+pub mod Standing
+pub mod Stepping
 pub mod Totals
+pub mod Going
+pub mod Marking
+pub mod Promoting
+pub mod Ready
+pub mod Contents

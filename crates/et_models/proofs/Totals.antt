@@ -64,7 +64,7 @@ roomy_is n past v heap most size f h a =
     (elim (has_place size v) as (λ b. IsHeap (cond b v (collected v)) n past (cond b heap (collect past heap))) [ true ↦ h | false ↦ collected_is n past v heap most f h a ])
 
 -- an object comes
-knows_more : (n : ℕ) (past : List Item) (s : List (Option ℕ)) (d : List Bool) (event object size : ℕ) → IsNewObject n past object size → Knows s d n past → Knows (with_size s object size) d n (Alloc event object size ∷ past)
+pub knows_more : (n : ℕ) (past : List Item) (s : List (Option ℕ)) (d : List Bool) (event object size : ℕ) → IsNewObject n past object size → Knows s d n past → Knows (with_size s object size) d n (Alloc event object size ∷ past)
 knows_more n past s d event object size c k = record {
   sizes_long = length-set s object (Some size) ∙ k.sizes_long;
   dead_long = k.dead_long;
@@ -146,7 +146,7 @@ wrote_is n past v event object slot new none h =
     (record { knows = record { sizes_long = h.knows.sizes_long; dead_long = h.knows.dead_long; size_is = h.knows.size_is; dead_is = h.knows.dead_is }; held_is = h.held_is; bytes_is = h.bytes_is; major_is = h.major_is; kept_is = h.kept_is; freed_is = h.freed_is; peak_is = h.peak_is; exhausted_is = h.exhausted_is })
 
 -- a Death item
-knows_death : (n : ℕ) (past : List Item) (s : List (Option ℕ)) (d : List Bool) (object time : ℕ) → Knows s d n past → Knows s (with_flag d object) n (Death object time ∷ past)
+pub knows_death : (n : ℕ) (past : List Item) (s : List (Option ℕ)) (d : List Bool) (object time : ℕ) → Knows s d n past → Knows s (with_flag d object) n (Death object time ∷ past)
 knows_death n past s d object time k = record {
   sizes_long = k.sizes_long;
   dead_long = length-set d object true ∙ k.dead_long;

@@ -1,3 +1,6 @@
 pub mod Fed
+pub mod Generations
+pub mod Marking
+pub mod Places
 pub mod Spaces
 pub mod Tables

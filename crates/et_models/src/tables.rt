@@ -1,5 +1,5 @@
 //! What is kept of all objects, by number, and what is read from it.
-ghost use Rattle.std.specs.Prelude.{◌≡◌, ◌+◌, ◌<◌, ◌≤◌, ◌^◌, ◌∷◌, [], ◌++◌, not, length, filter, vec_len, vec_capacity, IfOk, replicate};
+ghost use Rattle.std.specs.Prelude.{◌≡◌, ◌+◌, ◌<◌, ◌≤◌, ◌^◌, ◌∷◌, [], ◌++◌, not, None, is_some, slice_index_or, length, filter, vec_len, vec_capacity, IfOk, replicate};
 ghost use Rattle.std.specs.List.{sum_by};
 ghost use Rattle.et_models.specs.Tables.{size_at, flag_at, with_size, with_flag};
 
@@ -11,6 +11,13 @@ pub fn size_at(sizes: &[Option<u32>], object: u32) -> u32
     ensures { result ≡ size_at sizes.now object }
 {
     sizes.get(object as usize).copied().flatten().unwrap_or(0)
+}
+
+/// Whether the object is made.
+pub fn is_sized(sizes: &[Option<u32>], object: u32) -> bool
+    ensures { result ≡ is_some (slice_index_or sizes.now object None) }
+{
+    sizes.get(object as usize).copied().flatten().is_some()
 }
 
 /// Whether the object is flagged.

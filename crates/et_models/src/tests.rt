@@ -3,7 +3,7 @@ ghost use Rattle.std.specs.Prelude.{◌≤◌, ℕ, [], length};
 ghost use Rattle.et_replay.specs.Items.{made};
 ghost use Rattle.et_replay.specs.declared.model.Policy.{Policy};
 
-use crate::{MarkSweep, SemiSpace};
+use crate::{Generational, MarkSweep, SemiSpace};
 use et_io::MemSink;
 use et_replay::{HeapModel, Kind, Policy, Timeline, replay, timeline};
 use et_text::TextReader;
@@ -75,6 +75,46 @@ fn one_goes_on_where_another_is_exhausted(rt: HostRuntime) -> Result<(), Fail> {
     assert_eq!(rt; lines, 2);
     let wanted = "mark-sweep capacity=96 collections=1 marked=48 swept=48 peak=96
 semispace capacity=100 collections=1 copied=48 freed=0 peak=48 exhausted=3
+";
+    assert_eq!(rt; sink.bytes(), wanted.as_bytes());
+    Ok(())
+}
+
+fn replay_generations(
+    alloc: Global,
+    items: &Timeline,
+    nursery: u64,
+    old: u64,
+    sink: &mut MemSink,
+) -> Result<u32, Fail> {
+    let mut model = Generational::begin(alloc);
+    model.set_policy(
+        Policy {
+            kind: Kind::Generational,
+            first: nursery,
+            second: old,
+        },
+        items.objects(),
+    )?;
+    let mut models: Vec<Box<dyn HeapModel>> = Vec::new(alloc);
+    models.push(Box::new(alloc, model)?)?;
+    Ok(replay(alloc, items, models, sink)?)
+}
+
+#[test]
+fn the_old_space_keeps_what_a_dead_object_refers_to(rt: HostRuntime) -> Result<(), Fail> {
+    let alloc = rt.alloc();
+    let mut reader = TextReader::begin(alloc);
+    reader.feed(TRACE.as_bytes())?;
+    let trace = reader.finish()?;
+    let items = timeline(alloc, &trace)?;
+    let mut sink = MemSink::begin(alloc, 7);
+    let roomy = replay_generations(alloc, &items, 48, 200, &mut sink)?;
+    let narrow = replay_generations(alloc, &items, 23, 48, &mut sink)?;
+    assert_eq!(rt; roomy, 1);
+    assert_eq!(rt; narrow, 1);
+    let wanted = "generational nursery=48 old=200 minor=2 major=0 promoted=96 swept=0 peak=120
+generational nursery=23 old=48 minor=0 major=1 promoted=0 swept=0 peak=48 exhausted=3
 ";
     assert_eq!(rt; sink.bytes(), wanted.as_bytes());
     Ok(())

@@ -1,0 +1,285 @@
+//! A nursery and an old space.
+ghost use Rattle.std.specs.Prelude.{◌≡◌, ◌+◌, ◌<◌, ◌≤◌, ◌^◌, ℕ, List, OnOk};
+ghost use Rattle.std.specs.List.{sum_by};
+ghost use Rattle.et_replay.specs.Feeding.{MayCome};
+ghost use Rattle.et_replay.specs.declared.item.Item.{Item};
+ghost use Rattle.et_replay.specs.declared.item.Item.TheVariants.{Alloc, Write, Death};
+ghost use Rattle.et_models.specs.Generations.{both_of, new_both, swept, placed_young, placed_old, left_out, Opens, Promotes, Collects, IsStable, Steps, account_of};
+ghost use Rattle.et_models.specs.Tables.{size_at};
+
+use crate::marks::{clear_places, push_kept, search_nursery};
+use crate::places::{Place, set_place};
+use crate::slots::{make_slots, write_slot};
+use crate::tables::{bytes_of, is_sized, keep_unflagged, set_flag, set_size};
+use et_base::NoMemory;
+use et_replay::{Item, Policy, Report};
+use std::alloc::Global;
+use std::collections::BTreeMap;
+
+/// A nursery and an old space, the objects in them, and their running totals.
+#[derive(Drop)]
+pub struct Generations {
+    pub alloc: Global,
+    /// The capacity of the nursery in bytes.
+    pub first: u64,
+    /// The capacity of the old space in bytes.
+    pub second: u64,
+    /// Of each object the bytes, where it is made.
+    pub sizes: Vec<Option<u32>>,
+    /// The objects that ended.
+    pub dead: Vec<bool>,
+    /// Of each object whether it is in the nursery.
+    pub places: Vec<Place>,
+    /// Of each object what stands in its slots.
+    pub slots: Vec<BTreeMap<u32, u32>>,
+    pub nursery: Vec<u32>,
+    pub nursery_bytes: u64,
+    pub space: Vec<u32>,
+    pub space_bytes: u64,
+    pub minor: u64,
+    pub major: u64,
+    /// The bytes that minor collections promoted.
+    pub kept: u128,
+    pub freed: u64,
+    pub peak: u64,
+    pub exhausted: Option<u64>,
+}
+
+impl Generations {
+    /// Two spaces without places.
+    pub fn begin(alloc: Global) -> Generations
+        ensures { both_of result ≡ new_both }
+    {
+        Generations {
+            alloc,
+            first: 0,
+            second: 0,
+            sizes: Vec::new(alloc),
+            dead: Vec::new(alloc),
+            places: Vec::new(alloc),
+            slots: Vec::new(alloc),
+            nursery: Vec::new(alloc),
+            nursery_bytes: 0,
+            space: Vec::new(alloc),
+            space_bytes: 0,
+            minor: 0,
+            major: 0,
+            kept: 0,
+            freed: 0,
+            peak: 0,
+            exhausted: None,
+        }
+    }
+
+    /// Makes places for so many objects, and sets the capacities.
+    pub fn open(&mut self, first: u64, second: u64, objects: u32) -> Result<(), NoMemory>
+        requires new { both_of self.old ≡ new_both }
+        requires few { objects ≤ 16777215 }
+        ensures { OnOk result (Opens first second objects (both_of self.new)) }
+    {
+        let places = objects as usize + 1;
+        self.sizes.resize(places, None)?;
+        self.dead.resize(places, false)?;
+        self.places.resize(places, Place::Nowhere)?;
+        make_slots(self.alloc, &mut self.slots, places)?;
+        self.first = first;
+        self.second = second;
+        Ok(())
+    }
+
+    /// Drops what is dead from the old space.
+    fn sweep(&mut self)
+        requires bytes { sum_by (size_at self.old.sizes.items) self.old.space.items ≤ self.old.space_bytes }
+        requires major { self.old.major + 1 < 2 ^ 64 }
+        requires freed { self.old.freed + self.old.space_bytes < 2 ^ 64 }
+        ensures { both_of self.new ≡ swept (both_of self.old) }
+    {
+        keep_unflagged(&mut self.space, &self.dead);
+        let kept = bytes_of(&self.sizes, &self.space);
+        self.major += 1;
+        self.freed += self.space_bytes - kept;
+        self.space_bytes = kept;
+    }
+
+    /// Promotes what a minor collection finds, and empties the nursery.
+    fn promote(&mut self) -> Result<(), NoMemory>
+        requires bytes { sum_by (size_at self.old.sizes.items) self.old.nursery.items + self.old.space_bytes < 2 ^ 64 }
+        requires minor { self.old.minor + 1 < 2 ^ 64 }
+        requires kept { self.old.kept + sum_by (size_at self.old.sizes.items) self.old.nursery.items < 2 ^ 128 }
+        ensures { OnOk result (Promotes (both_of self.old) (both_of self.new)) }
+    {
+        let mut work = Vec::new(self.alloc);
+        search_nursery(
+            &self.nursery,
+            &self.space,
+            &self.dead,
+            &self.slots,
+            &mut self.places,
+            &mut work,
+        )?;
+        let mut kept = Vec::new(self.alloc);
+        push_kept(&self.nursery, &self.places, &mut kept)?;
+        clear_places(&self.nursery, &mut self.places);
+        let bytes = bytes_of(&self.sizes, &kept);
+        self.space.extend_from_slice(&kept)?;
+        self.nursery.clear();
+        self.nursery_bytes = 0;
+        self.space_bytes += bytes;
+        self.minor += 1;
+        self.kept += u128::from(bytes);
+        Ok(())
+    }
+
+    /// Places an object in the nursery.
+    fn place_young(&mut self, object: u32, size: u32) -> Result<(), NoMemory>
+        requires bytes { self.old.nursery_bytes + size + self.old.space_bytes < 2 ^ 64 }
+        ensures { OnOk result (both_of self.new ≡ placed_young object size (both_of self.old)) }
+    {
+        self.nursery.push(object)?;
+        set_size(&mut self.sizes, object, size);
+        set_place(&mut self.places, object, Place::Nursery);
+        self.nursery_bytes += u64::from(size);
+        self.peak = self.peak.max(self.nursery_bytes + self.space_bytes);
+        Ok(())
+    }
+
+    /// Places an object in the old space.
+    fn place_old(&mut self, object: u32, size: u32) -> Result<(), NoMemory>
+        requires bytes { self.old.nursery_bytes + (self.old.space_bytes + size) < 2 ^ 64 }
+        ensures { OnOk result (both_of self.new ≡ placed_old object size (both_of self.old)) }
+    {
+        self.space.push(object)?;
+        set_size(&mut self.sizes, object, size);
+        self.space_bytes += u64::from(size);
+        self.peak = self.peak.max(self.nursery_bytes + self.space_bytes);
+        Ok(())
+    }
+
+    /// Notes that there was no room.
+    fn leave_out(&mut self, event: u64, object: u32, size: u32)
+        ensures { both_of self.new ≡ left_out event object size (both_of self.old) }
+    {
+        set_size(&mut self.sizes, object, size);
+        self.exhausted = Some(event);
+    }
+
+    /// A minor collection, and a major one where the old space is too full then.
+    fn collect(&mut self) -> Result<(), NoMemory>
+        requires ready { (objects : ℕ) × (past : List Item) × IsStable (both_of self.old) objects past }
+        ensures { OnOk result (Collects (both_of self.old) (both_of self.new)) }
+    {
+        self.promote()?;
+        if self.space_bytes <= self.second {
+            return Ok(());
+        }
+        self.sweep();
+        Ok(())
+    }
+
+    /// An object that fits into an empty nursery comes.
+    fn come_young(&mut self, event: u64, object: u32, size: u32) -> Result<(), NoMemory>
+        requires ready { (objects : ℕ) × (past : List Item) × IsStable (both_of self.old) objects past }
+        requires small { size ≤ 2 ^ 30 }
+        requires fits { size ≤ self.old.first }
+        ensures { OnOk result (Steps (Alloc event object size) (both_of self.old) (both_of self.new)) }
+    {
+        if self.nursery_bytes + u64::from(size) <= self.first {
+            self.place_young(object, size)?;
+            return Ok(());
+        }
+        self.collect()?;
+        if self.space_bytes > self.second {
+            self.leave_out(event, object, size);
+            return Ok(());
+        }
+        self.place_young(object, size)?;
+        Ok(())
+    }
+
+    /// An object that is larger than the nursery comes.
+    fn come_old(&mut self, event: u64, object: u32, size: u32) -> Result<(), NoMemory>
+        requires ready { (objects : ℕ) × (past : List Item) × IsStable (both_of self.old) objects past }
+        requires small { size ≤ 2 ^ 30 }
+        requires large { self.old.first < size }
+        ensures { OnOk result (Steps (Alloc event object size) (both_of self.old) (both_of self.new)) }
+    {
+        let bytes = u64::from(size);
+        if self.space_bytes + bytes <= self.second {
+            self.place_old(object, size)?;
+            return Ok(());
+        }
+        self.sweep();
+        if self.space_bytes + bytes > self.second {
+            self.leave_out(event, object, size);
+            return Ok(());
+        }
+        self.place_old(object, size)?;
+        Ok(())
+    }
+
+    /// An object is written to a slot. What is written to an object that isn't made yet is ignored.
+    fn write(&mut self, object: u32, slot: u32, new: u32) -> Result<(), NoMemory>
+        requires ready { (objects : ℕ) × (past : List Item) × IsStable (both_of self.old) objects past }
+        ensures { OnOk result ((event : ℕ) → Steps (Write event object slot new) (both_of self.old) (both_of self.new)) }
+    {
+        if !is_sized(&self.sizes, object) {
+            return Ok(());
+        }
+        write_slot(&mut self.slots, object, slot, new)?;
+        Ok(())
+    }
+
+    /// An object ends.
+    fn end(&mut self, object: u32)
+        ensures { (time : ℕ) → Steps (Death object time) (both_of self.old) (both_of self.new) }
+    {
+        set_flag(&mut self.dead, object);
+    }
+
+    /// The account of the two spaces by their policy.
+    pub fn report(&self, policy: Policy) -> Report
+        ensures { result ≡ account_of policy (both_of self.now).heap }
+    {
+        Report {
+            kind: policy.kind,
+            first: policy.first,
+            second: policy.second,
+            minor: self.minor,
+            major: self.major,
+            kept: self.kept,
+            freed: self.freed,
+            peak: self.peak,
+            exhausted: self.exhausted,
+        }
+    }
+
+    /// Takes an item. Where there is no room for its object, `exhausted` has the event.
+    pub fn take(&mut self, item: &Item) -> Result<(), NoMemory>
+        requires ready { (objects : ℕ) × (past : List Item) × IsStable (both_of self.old) objects past × MayCome objects past item.now }
+        ensures { OnOk result (Steps item.now (both_of self.old) (both_of self.new)) }
+    {
+        match item {
+            Item::Alloc {
+                event,
+                object,
+                size,
+            } => {
+                if *size > self.first {
+                    self.come_old(*event, *object, *size as u32)
+                } else {
+                    self.come_young(*event, *object, *size as u32)
+                }
+            }
+            Item::Write {
+                object,
+                slot,
+                new,
+                ..
+            } => self.write(*object, *slot, *new),
+            Item::Death { object, .. } => {
+                self.end(*object);
+                Ok(())
+            }
+        }
+    }
+}

@@ -1,0 +1,110 @@
+//! What a minor collection keeps.
+ghost use Rattle.std.specs.Prelude.{◌≡◌, ◌++◌, [], ℕ, List, filter, Contains, OnOk};
+ghost use Rattle.et_models.specs.Marking.{Refers, Marks, AllMarked, Draws, IsGoing, IsSeed, Begins, IsFound};
+ghost use Rattle.et_models.specs.Places.{place_at, is_kept, AreCleared};
+ghost use Rattle.et_models.specs.declared.places.Place.{Place};
+ghost use Rattle.et_graph.specs.Graph.{Graph};
+
+use crate::places::{Place, place_at, set_place};
+use crate::tables::flag_at;
+use et_base::NoMemory;
+use std::collections::BTreeMap;
+
+/// Marks an object of the nursery, and lets it be visited.
+fn mark(object: u32, places: &mut [Place], work: &mut Vec<u32>) -> Result<(), NoMemory>
+    ensures { OnOk result (Marks (λ o. o ≡ object) places.old work.old.items places.new work.new.items × AllMarked (λ o. o ≡ object) places.new) }
+{
+    let Place::Nursery = place_at(places, object) else {
+        return Ok(());
+    };
+    set_place(places, object, Place::Kept);
+    work.push(object)?;
+    Ok(())
+}
+
+/// Marks the live objects of the nursery.
+fn seed(
+    nursery: &[u32],
+    dead: &[bool],
+    places: &mut [Place],
+    work: &mut Vec<u32>,
+) -> Result<(), NoMemory>
+    ensures { OnOk result (Marks (IsSeed nursery.now dead.now) places.old work.old.items places.new work.new.items × AllMarked (IsSeed nursery.now dead.now) places.new) }
+{
+    for object in nursery {
+        if !flag_at(dead, *object) {
+            mark(*object, places, work)?;
+        }
+    }
+    Ok(())
+}
+
+/// Marks what the slots of an object refer to.
+fn visit(
+    slots: &BTreeMap<u32, u32>,
+    places: &mut [Place],
+    work: &mut Vec<u32>,
+) -> Result<(), NoMemory>
+    ensures { OnOk result (Marks (Refers slots.now) places.old work.old.items places.new work.new.items × AllMarked (Refers slots.now) places.new) }
+{
+    for (_slot, target) in slots {
+        mark(*target, places, work)?;
+    }
+    Ok(())
+}
+
+/// Visits what waits, and what is marked meanwhile.
+fn follow(
+    slots: &[BTreeMap<u32, u32>],
+    places: &mut [Place],
+    work: &mut Vec<u32>,
+) -> Result<(), NoMemory>
+    ensures { OnOk result ((g : Graph) (space : List ℕ) (start : List Place) → Draws g slots.now space start →
+        IsGoing g slots.now space start places.old work.old.items → IsGoing g slots.now space start places.new []) }
+{
+    while let Some(object) = work.pop() {
+        if (object as usize) < slots.len() {
+            visit(&slots[object as usize], places, work)?;
+        }
+    }
+    Ok(())
+}
+
+/// Marks the objects of the nursery to which slots lead from its live objects and from the old space.
+pub fn search_nursery(
+    nursery: &[u32],
+    space: &[u32],
+    dead: &[bool],
+    slots: &[BTreeMap<u32, u32>],
+    places: &mut [Place],
+    work: &mut Vec<u32>,
+) -> Result<(), NoMemory>
+    ensures { OnOk result ((g : Graph) → Begins g nursery.now space.now dead.now slots.now places.old → IsFound g places.old places.new) }
+{
+    work.clear();
+    work.extend_from_slice(space)?;
+    seed(nursery, dead, places, work)?;
+    follow(slots, places, work)?;
+    Ok(())
+}
+
+/// Lists the marked objects.
+pub fn push_kept(objects: &[u32], places: &[Place], kept: &mut Vec<u32>) -> Result<(), NoMemory>
+    ensures { OnOk result (kept.new.items ≡ kept.old.items ++ filter (λ o. is_kept (place_at places.now o)) objects.now) }
+{
+    for object in objects {
+        if let Place::Kept = place_at(places, *object) {
+            kept.push(*object)?;
+        }
+    }
+    Ok(())
+}
+
+/// Takes the objects out of the nursery.
+pub fn clear_places(objects: &[u32], places: &mut [Place])
+    ensures { AreCleared objects.now places.old places.new }
+{
+    for object in objects {
+        set_place(places, *object, Place::Nowhere);
+    }
+}
