@@ -1,5 +1,5 @@
 -- What stands in slots.
-use Rattle.std.proofs.Common.{◌≡◌, ◌≢◌, ℕ, Bool, true, false, cond, ◌&&◌, eqb, List, [], ◌∷◌, refl, sym, ap, subst, ◌∙◌, inl, inr, ◌⊎◌}
+use Rattle.std.proofs.Common.{◌≡◌, ◌≢◌, ℕ, zero, suc, ◌<◌, length, get_or, arith, Bool, true, false, cond, ◌&&◌, eqb, List, [], ◌∷◌, refl, sym, ap, subst, ◌∙◌, inl, inr, ◌⊎◌}
 use Rattle.std.specs.Prelude.{Contains}
 use Rattle.std.specs.List.{filter_map}
 use Rattle.et_graph.proofs.Lists.{Contains-none, Contains-here, Contains-there, Contains-cons}
@@ -52,3 +52,9 @@ slots_only whole (Write event other at new ∷ past) o t h = elim (Contains-cons
   | inl e ↦ (let a : other ≡ o = ap (λ (p : ℕ × ℕ). p.0) e in let b : content whole other at ≡ t = ap (λ (p : ℕ × ℕ). p.1) e in (at, ap (λ (k : ℕ). content whole k at) (sym a) ∙ b))
   | inr r ↦ slots_only whole past o t r
 ]
+
+-- an element of a list stands at its place, whatever stands for what is missing
+pub element : {A : Type 0} (xs : List A) (i : ℕ) → i < length xs → (x : A) × (x ≡ get_or xs i x)
+element {A} [] i lt = absurd (omega (arith, lt))
+element {A} (x ∷ xs) zero lt = (x, refl)
+element {A} (x ∷ xs) (suc i) lt = let r = element xs i (omega (arith, lt)) in (r.0, r.1)

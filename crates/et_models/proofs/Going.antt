@@ -1,14 +1,15 @@
 -- A search along slots.
-use Rattle.std.proofs.Common.{◌≡◌, ℕ, ◌<◌, ◌≤◌, Bool, List, [], ◌∷◌, ◌++◌, length, get_or, sym, subst, ◌∙◌, arith, inl, inr, ◌⊎◌}
+use Rattle.std.proofs.Common.{◌≡◌, ℕ, ◌<◌, ◌≤◌, Bool, List, [], ◌∷◌, ◌++◌, length, filter, ap, get_or, sym, subst, ◌∙◌, arith, inl, inr, ◌⊎◌}
 use Rattle.std.specs.Prelude.{Contains}
 use Rattle.std.specs.BTreeMap.{BTreeMap}
 use Rattle.std.proofs.lemmas.List.{get_or_default}
 use Rattle.et_graph.specs.Graph.{Graph, IsReached}
-use Rattle.et_graph.proofs.Lists.{Contains-none}
+use Rattle.et_graph.proofs.Lists.{Contains-none, filter_kept, filter_keeps}
 use Rattle.et_graph.proofs.Walks.{leads_itself, leads_first, reached_on, reached_all}
 use Rattle.et_models.specs.declared.places.Place.{Place}
 use Rattle.et_models.specs.declared.places.Place.TheVariants.{Nursery, Kept}
-use Rattle.et_models.specs.Places.{place_at}
+use Rattle.et_models.specs.Places.{place_at, is_old}
+use Rattle.et_models.proofs.Spots.{old_nursery, old_is, cases_nursery}
 use Rattle.et_models.specs.Marking.{Refers, Marks, AllMarked, Names, Stays, Draws, IsGoing, IsSeed, Begins, IsFound}
 use Rattle.et_models.proofs.Coming.{cases_eqb}
 use Rattle.et_models.proofs.Marking.{in_front, at_end, in_longer, not_back}
@@ -86,10 +87,10 @@ going_skip g slots space start p w o le i = record {
 }
 
 -- a search begins ..
-pub going_first : (g : Graph) (nursery space : List ℕ) (dead : List Bool) (slots : List (BTreeMap ℕ ℕ)) (start p : List Place) (w : List ℕ) → Begins g nursery space dead slots start → Marks (IsSeed nursery dead) start space p w → AllMarked (IsSeed nursery dead) p → IsGoing g slots space start p w
-going_first g nursery space dead slots start p w b m all = record {
+pub going_first : (g : Graph) (nursery space noted : List ℕ) (dead : List Bool) (slots : List (BTreeMap ℕ ℕ)) (start p : List Place) (w : List ℕ) → Begins g nursery space noted dead slots start → Marks (IsSeed nursery dead) start (filter (λ o. is_old (place_at start o)) noted) p w → AllMarked (IsSeed nursery dead) p → IsGoing g slots space start p w
+going_first g nursery space noted dead slots start p w b m all = record {
   each = λ o. elim (m.each o) [ inl e ↦ inl e | inr k ↦ inr (k.was, k.is, b.seeds o k.by) ];
-  waits = λ o h. elim (m.only o h) [ inl f ↦ inr f | inr k ↦ inl k.is ];
+  waits = λ o h. elim (m.only o h) [ inl f ↦ inr (b.only_old o (old_is (place_at start o) (filter_kept (λ x. is_old (place_at start x)) noted o f).1)) | inr k ↦ inl k.is ];
   rooted = λ o h. elim (b.roots o h) [
     | inl s ↦ elim (m.each o) [ inl e ↦ absurd (all o s (e ∙ b.young o s.among)) | inr k ↦ inl k.is ]
     | inr c ↦ inr c
@@ -97,13 +98,19 @@ going_first g nursery space dead slots start p w b m all = record {
   as_long = m.as_long;
   closed = λ u t s n. elim s [
     | inl k ↦ elim (m.each u) [ inl e ↦ absurd (b.draws.fresh u (sym e ∙ k)) | inr y ↦ inl y.waits ]
-    | inr c ↦ inl (m.grows u c)
+    | inr c ↦ elim (cases_nursery (place_at p t)) [
+      | inl y ↦ elim (m.each t) [
+        | inl e ↦ inl (m.grows u (filter_keeps (λ x. is_old (place_at start x)) noted u (b.noted u t c n (sym e ∙ y)) (ap is_old (b.old u c))))
+        | inr k ↦ kept_nursery (place_at p t) k.is y
+      ]
+      | inr ne ↦ inr ne
+    ]
   ];
 }
 
 -- .. and ends
-pub going_last : (g : Graph) (nursery space : List ℕ) (dead : List Bool) (slots : List (BTreeMap ℕ ℕ)) (start p : List Place) → Begins g nursery space dead slots start → IsGoing g slots space start p [] → IsFound g start p
-going_last g nursery space dead slots start p b i = record {
+pub going_last : (g : Graph) (nursery space noted : List ℕ) (dead : List Bool) (slots : List (BTreeMap ℕ ℕ)) (start p : List Place) → Begins g nursery space noted dead slots start → IsGoing g slots space start p [] → IsFound g start p
+going_last g nursery space noted dead slots start p b i = record {
   as_long = i.as_long;
   kept = λ o k. elim (i.each o) [ inl e ↦ absurd (b.draws.fresh o (sym e ∙ k)) | inr r ↦ r.2 ];
   reached = λ o y r. elim (reached_all (λ x. Stays space p x) g i.rooted (λ u x c s. elim (i.closed u x s (b.named u x c).0) [
@@ -111,7 +118,8 @@ going_last g nursery space dead slots start p b i = record {
     | inr ne ↦ elim (i.each x) [ inl e ↦ absurd (ne (e ∙ (b.named u x c).1)) | inr k ↦ inl k.1 ]
   ]) o r) [
     | inl k ↦ k
-    | inr c ↦ absurd (b.apart o c y)
+    | inr c ↦ old_nursery (place_at start o) (b.old o c) y
   ];
   others = λ o ne. elim (i.each o) [ inl e ↦ e | inr r ↦ absurd (ne r.0) ];
+  left = λ o y. elim (i.each o) [ inl e ↦ inl (e ∙ y) | inr r ↦ inr r.1 ];
 }

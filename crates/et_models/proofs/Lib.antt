@@ -6,6 +6,8 @@ pub mod Stepping
 pub mod Totals
 pub mod Going
 pub mod Marking
+pub mod Noted
+pub mod Spots
 pub mod Promoting
 pub mod Ready
 pub mod Contents

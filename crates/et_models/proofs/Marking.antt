@@ -6,7 +6,7 @@ use Rattle.std.proofs.lemmas.List.{get_or_past, get_or_default}
 use Rattle.std.proofs.lemmas.List.Sums.{sum_by-set}
 use Rattle.et_graph.proofs.Lists.{Contains-none, Contains-here, Contains-there, Contains-cons}
 use Rattle.et_models.specs.declared.places.Place.{Place}
-use Rattle.et_models.specs.declared.places.Place.TheVariants.{Nowhere, Nursery, Kept}
+use Rattle.et_models.specs.declared.places.Place.TheVariants.{Nowhere, Nursery, Kept, Old}
 use Rattle.et_models.specs.Tables.{flag_at}
 use Rattle.et_models.specs.Places.{place_at, with_place, is_nursery}
 use Rattle.et_models.specs.Marking.{young, IsMarked, Marks, AllMarked, IsSeed}
@@ -20,6 +20,7 @@ kept_not : (p : Place) → p ≡ Kept → p ≢ Nursery
 kept_not Nowhere e f = absurd cc
 kept_not Nursery e f = absurd cc
 kept_not Kept e f = absurd cc
+kept_not Old e f = absurd cc
 
 -- what is in a list longer at its end
 pub in_front : (xs : List ℕ) (x o : ℕ) → Contains xs o → Contains (xs ++ x ∷ []) o

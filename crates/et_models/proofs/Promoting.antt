@@ -14,14 +14,15 @@ use Rattle.et_replay.specs.declared.item.Item.{Item}
 use Rattle.et_replay.specs.Heap.{is_made, content, slot_of, slots}
 use Rattle.et_replay.specs.Tally.{live_of, nursery_graph}
 use Rattle.et_models.specs.declared.places.Place.{Place}
-use Rattle.et_models.specs.declared.places.Place.TheVariants.{Nowhere, Nursery, Kept}
+use Rattle.et_models.specs.declared.places.Place.TheVariants.{Nursery}
 use Rattle.et_models.specs.Fed.{AreFed}
 use Rattle.et_models.specs.Tables.{size_at, flag_at}
 use Rattle.et_models.specs.Places.{place_at, is_kept}
 use Rattle.et_models.specs.Marking.{Names, Begins, IsFound}
 use Rattle.et_models.specs.Generations.{Both, KnowsSlots, IsReady}
 use Rattle.et_models.proofs.Coming.{in_range}
-use Rattle.et_models.proofs.Contents.{content_made, slots_have, slots_only}
+use Rattle.et_models.proofs.Contents.{content_made, slots_have, slots_only, element}
+use Rattle.et_models.proofs.Spots.{nowhere_nursery, nowhere_kept, nowhere_old, nursery_kept, old_nursery, old_kept, kept_is}
 use Rattle.et_models.proofs.Totals.{unflagged_is}
 
 -- what is filtered is no more than all
@@ -38,11 +39,6 @@ kept_le s s' nursery other none kept kept' t a b c d e =
 pub of_all : (P : ℕ → Type 0) (xs : List ℕ) (o : ℕ) → All P xs → Contains xs o → P o
 of_all P xs o all c = subst P c.2 (all c.0 o c.1)
 
-pub element : {A : Type 0} (xs : List A) (i : ℕ) → i < length xs → (x : A) × (x ≡ get_or xs i x)
-element {A} [] i lt = absurd (omega (arith, lt))
-element {A} (x ∷ xs) zero lt = (x, refl)
-element {A} (x ∷ xs) (suc i) lt = let r = element xs i (omega (arith, lt)) in (r.0, r.1)
-
 some_is : (v : Option ℕ) (t : ℕ) → unwrap_or v 0 ≡ t → t ≢ 0 → v ≡ Some t
 some_is None t e ne = absurd (ne (sym e))
 some_is (Some x) t e ne = ap (λ (k : ℕ). Some k) e
@@ -55,20 +51,6 @@ bool_same false false f g = refl
 not_true : (b : Bool) → not b ≡ true → b ≡ false
 not_true true e = absurd cc
 not_true false e = refl
-
-kept_is : (p : Place) → is_kept p ≡ true → p ≡ Kept
-kept_is Nowhere e = absurd cc
-kept_is Nursery e = absurd cc
-kept_is Kept e = refl
-
-pub nowhere_nursery : {A : Type 0} (p : Place) → p ≡ Nowhere → p ≡ Nursery → A
-nowhere_nursery p a b = absurd cc
-
-nowhere_kept : {A : Type 0} (p : Place) → p ≡ Nowhere → p ≡ Kept → A
-nowhere_kept p a b = absurd cc
-
-nursery_kept : {A : Type 0} (p : Place) → p ≡ Nursery → p ≡ Kept → A
-nursery_kept p a b = absurd cc
 
 -- the slots of the tables are those that the items tell of
 names_pairs : (slots : List (BTreeMap ℕ ℕ)) (n : ℕ) (past : List Item) (u t : ℕ) → KnowsSlots slots n past → Names slots u t → t ≢ 0 → Contains (filter_map (slot_of past) past) (u, t)
@@ -89,19 +71,19 @@ pairs_names slots n past u t f k h ne =
     record { own = e.0; within = lt; stands = e.1; refers = (r.0, some_is (get nat_cmp e.0 r.0) t is ne) }
 
 -- a minor collection may search
-pub begins : (reached : Graph → ℕ → Bool) (v : Both) (n : ℕ) (past : List Item) (a b : ℕ) → IsReady v n past a b → Begins (nursery_graph reached past v.heap) v.heap.nursery v.heap.space v.dead v.slots v.places
+pub begins : (reached : Graph → ℕ → Bool) (v : Both) (n : ℕ) (past : List Item) (a b : ℕ) → IsReady v n past a b → Begins (nursery_graph reached past v.heap) v.heap.nursery v.heap.space (v.remembered ++ v.early) v.dead v.slots v.places
 begins reached v n past a b r =
     let h = v.heap in
     let g = nursery_graph reached past h in
     let test = λ (pair : ℕ × ℕ). list_any (λ object. eqb object pair.1) h.nursery in
     let live = unflagged_is n past v.sizes v.dead h.nursery r.fed r.knows r.young_made in
     let some : (o : ℕ) → Contains h.nursery o → o ≢ 0 = λ o c z. (let first = (in_range n past o r.fed (of_all (λ x. is_made past x ≡ true) h.nursery o r.young_made c)).0 in absurd (omega (arith, first, z))) in
-    let young : (o : ℕ) → place_at v.places o ≡ Nursery → Contains h.nursery o = λ o y. elim (r.places.only o) [ inl e ↦ nowhere_nursery (place_at v.places o) e y | inr c ↦ c ] in
+    let young : (o : ℕ) → place_at v.places o ≡ Nursery → Contains h.nursery o = λ o y. elim (r.places.only o) [ inl e ↦ nowhere_nursery (place_at v.places o) e y | inr x ↦ elim x [ inl c ↦ c | inr c ↦ old_nursery (place_at v.places o) (r.places.old o c) y ] ] in
     record {
       draws = record {
         pairs = λ u t m y. filter_keeps test (slots past) (u, t) (names_pairs v.slots n past u t r.slots m (some t (young t y))) (contains_has h.nursery t (young t y));
         old = λ o c. root_reached g o (Contains-append_right (live_of past h.nursery) h.space o c);
-        fresh = λ o k. elim (r.places.only o) [ inl e ↦ nowhere_kept (place_at v.places o) e k | inr c ↦ nursery_kept (place_at v.places o) (r.places.young o c) k ];
+        fresh = λ o k. elim (r.places.only o) [ inl e ↦ nowhere_kept (place_at v.places o) e k | inr x ↦ elim x [ inl c ↦ nursery_kept (place_at v.places o) (r.places.young o c) k | inr c ↦ old_kept (place_at v.places o) (r.places.old o c) k ] ];
       };
       named = λ u t c. (let k = filter_kept test (slots past) (u, t) c in let y = has_contains h.nursery t k.1 in (pairs_names v.slots n past u t r.fed r.slots k.0 (some t y), r.places.young t y));
       young = r.places.young;
@@ -110,7 +92,9 @@ begins reached v n past a b r =
         | inr y ↦ inr y
       ];
       seeds = λ o s. root_reached g o (Contains-append_left (live_of past h.nursery) h.space o (subst (λ (l : List ℕ). Contains l o) live (filter_keeps (λ p. not (flag_at v.dead p)) h.nursery o s.among (ap not s.lives))));
-      apart = r.places.apart;
+      old = r.places.old;
+      only_old = λ o y. elim (r.places.only o) [ inl e ↦ nowhere_old (place_at v.places o) e y | inr x ↦ elim x [ inl c ↦ old_nursery (place_at v.places o) y (r.places.young o c) | inr c ↦ c ] ];
+      noted = r.noted.young;
     }
 
 -- what was marked is what is reached

@@ -1,5 +1,5 @@
 -- Two spaces account for all items as their policy does.
-use Rattle.std.proofs.Common.{◌≡◌, ℕ, ◌+◌, ◌<◌, ◌≤◌, Bool, true, false, cond, List, [], ◌∷◌, length, get_or, replicate, Option, None, refl, sym, ap, subst, ◌∙◌, arith, inl, inr, ◌⊎◌}
+use Rattle.std.proofs.Common.{◌≡◌, ℕ, ◌+◌, ◌<◌, ◌≤◌, Bool, true, false, cond, List, [], ◌∷◌, length, get_or, replicate, Option, None, Some, refl, sym, ap, subst, ◌∙◌, arith, inl, inr, ◌⊎◌}
 use Rattle.std.specs.Prelude.{is_some, unwrap_or}
 use Rattle.std.specs.BTreeMap.{BTreeMap, get}
 use Rattle.std.specs.Ordering.{nat_cmp}
@@ -29,12 +29,21 @@ all_same {A} n o x = elim (less o n) [ inl lt ↦ get_or-replicate n o x x lt | 
 none_in : (m : BTreeMap ℕ ℕ) (s : ℕ) → m.entries ≡ [] → unwrap_or (get nat_cmp m s) 0 ≡ 0
 none_in m s e = rw e refl
 
+nothing : (m : BTreeMap ℕ ℕ) (s t : ℕ) → m.entries ≡ [] → get nat_cmp m s ≡ Some t → ⊥
+nothing m s t e f = absurd (none_some (sym f ∙ none))
+  where
+    none : get nat_cmp m s ≡ None
+    none = rw e refl
+
+    none_some : Some t ≡ None → ⊥
+    none_some g = cc
+
 pub opened_ready : (v : Both) (first second n : ℕ) → n ≤ 16777215 → Opens first second n v → IsReady v n [] 0 0
 opened_ready v first second n few o =
     let heap = o.heap_is in
     let nowhere : (x : ℕ) → get_or v.places x Nowhere ≡ Nowhere = λ x. ap (λ (p : List Place). get_or p x Nowhere) o.places_is ∙ all_same (n + 1) x Nowhere in
     let long : length v.places ≡ n + 1 = ap (λ (p : List Place). length p) o.places_is ∙ length-replicate (n + 1) Nowhere in
-    let bare : KnowsPlaces v.places n [] [] = record { long = long; young = λ x c. absurd (Contains-none x c); only = λ x. inl (nowhere x); apart = λ x c. absurd (Contains-none x c) } in
+    let bare : KnowsPlaces v.places n [] [] = record { long = long; young = λ x c. absurd (Contains-none x c); only = λ x. inl (nowhere x); old = λ x c. absurd (Contains-none x c) } in
     subst (λ (h : Heap). IsReady (record v { heap = h }) n [] 0 0) (sym heap) (record {
       fed = tt;
       few = few;
@@ -46,6 +55,10 @@ opened_ready v first second n few o =
       };
       slots = record { long = o.slots_long; content_is = λ x s own lt at. none_in own s (subst (λ (m : BTreeMap ℕ ℕ). m.entries ≡ []) (sym at) (o.slots_empty x own lt)) };
       places = bare;
+      noted = record {
+        young = λ u t c m y. absurd (Contains-none u c);
+        early = λ u t m nz un. absurd (nothing m.own m.refers.0 t (subst (λ (k : BTreeMap ℕ ℕ). k.entries ≡ []) (sym m.stands) (o.slots_empty u m.own m.within)) m.refers.1);
+      };
       young_bytes_is = o.young_none;
       old_bytes_is = o.old_none;
       young_made = λ k d lt. absurd (omega (arith, lt));

@@ -12,7 +12,8 @@ use Rattle.et_replay.specs.Heap.{bytes}
 use Rattle.et_replay.specs.Items.{made}
 use Rattle.et_replay.specs.Tally.{Heap, fits, sweep, exhaust, place, place_young, place_with, promote, minor_collection, nursery_on, generations_on}
 use Rattle.et_models.specs.Tables.{size_at}
-use Rattle.et_models.specs.Generations.{Both, IsReady, IsStable, Promotes, Collects, Steps, WritesSlot, swept, placed_young, placed_old, left_out}
+use Rattle.et_models.specs.Generations.{Both, IsReady, IsStable, Promotes, Collects, Steps, WritesSlot, swept, placed_young, placed_old, left_out, noted}
+use Rattle.et_models.proofs.Noted.{noted_is}
 use Rattle.et_models.proofs.Coming.{all_low, few_made}
 use Rattle.et_models.proofs.Totals.{sum_is}
 use Rattle.et_models.proofs.Ready.{swept_ready, promoted_ready, promoted_is, young_ready, old_ready, left_ready, ready_more, wrote_ready}
@@ -251,7 +252,7 @@ old_not v event object size lt full none = record {
 
 -- SOMETHING IS WRITTEN TO A SLOT
 
-some_within : (sizes : List (Option ℕ)) (o : ℕ) → is_some (get_or sizes o None) ≡ true → o < length sizes
+pub some_within : (sizes : List (Option ℕ)) (o : ℕ) → is_some (get_or sizes o None) ≡ true → o < length sizes
 some_within sizes o e = elim (less o (length sizes)) [ inl lt ↦ lt | inr ge ↦ absurd (none_some (get_or sizes o None) (get_or_past sizes o None ge) e) ]
   where
     less : (a b : ℕ) → (a < b) ⊎ (b ≤ a)
@@ -261,13 +262,13 @@ some_within sizes o e = elim (less o (length sizes)) [ inl lt ↦ lt | inr ge �
     none_some None a b = cc
     none_some (Some x) a b = cc
 
-pub wrote_steps : (v : Both) (event object slot new : ℕ) (slots' : List (BTreeMap ℕ ℕ)) → is_some (get_or v.sizes object None) ≡ true → WritesSlot v.slots slots' object slot new → Steps (Write event object slot new) v (record v { slots = slots' })
+pub wrote_steps : (v : Both) (event object slot new : ℕ) (slots' : List (BTreeMap ℕ ℕ)) → is_some (get_or v.sizes object None) ≡ true → WritesSlot v.slots slots' object slot new → Steps (Write event object slot new) v (record (noted object new v) { slots = slots' })
 wrote_steps v event object slot new slots' is w = record {
-  first_is = refl;
-  second_is = refl;
+  first_is = ap (λ (u : Both). u.first) (noted_is object new v);
+  second_is = ap (λ (u : Both). u.second) (noted_is object new v);
   stable = λ n past c r. (let long = r.knows.sizes_long in
       let lt = some_within v.sizes object is in
       let le : object ≤ n = omega (arith, long, lt) in
       wrote_ready v n past (length (made past)) (length (made past)) event object slot new slots' (ap (λ (s : Option ℕ). is_some s) (sym (r.knows.size_is object le)) ∙ is) w r);
-  heap_is = λ n past c r reached d. refl;
+  heap_is = λ n past c r reached d. ap (λ (u : Both). u.heap) (noted_is object new v);
 }

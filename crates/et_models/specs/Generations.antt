@@ -1,8 +1,9 @@
 -- A nursery and an old space with their tables. The contracts of private functions alone speak of it.
-use Rattle.std.specs.Prelude.{◌≡◌, ◌≢◌, ◌⊎◌, ◌==◌, if◌then◌else◌, ℕ, ◌+◌, ◌-◌, ◌*◌, ◌^◌, ◌<◌, ◌≤◌, max, Bool, true, false, replicate, List, [], ◌∷◌, ◌++◌, length, filter, Contains, Option, Some, None, sum, unwrap_or, slice_index_or}
+use Rattle.std.specs.Prelude.{◌≡◌, ◌≢◌, ◌⊎◌, ◌==◌, ◌&&◌, if◌then◌else◌, ℕ, ◌+◌, ◌-◌, ◌*◌, ◌^◌, ◌<◌, ◌≤◌, max, nat_eq, Bool, true, false, is_some, replicate, List, [], ◌∷◌, ◌++◌, length, filter, Contains, Option, Some, None, sum, unwrap_or, slice_index_or}
 use Rattle.std.specs.List.{sum_by, All}
 use Rattle.std.specs.BTreeMap.{BTreeMap, get}
 use Rattle.std.specs.Ordering.{nat_cmp}
+use Rattle.indexmap.specs.IndexSet.{insert_key}
 use Rattle.et_graph.specs.Graph.{Graph, Decides}
 use Rattle.et_replay.specs.declared.item.Item.{Item}
 use Rattle.et_replay.specs.declared.model.Policy.{Policy}
@@ -14,11 +15,11 @@ use Rattle.et_replay.specs.declared.model.Kind.TheVariants as kinds
 use Rattle.et_replay.specs.Tally.{Heap, empty_heap, generations_on, generations_after}
 use Rattle.et_models.specs.Fed.{AreFed}
 use Rattle.et_models.specs.Tables.{size_at, with_size, Knows}
-use Rattle.et_models.specs.Places.{place_at, with_place, is_kept, AreCleared}
-use Rattle.et_models.specs.Marking.{Begins, IsFound}
+use Rattle.et_models.specs.Places.{place_at, with_place, is_nursery, is_kept, is_old, without_dead, AreSettled}
+use Rattle.et_models.specs.Marking.{Names, Begins, IsFound}
 use Rattle.et_models.specs.Spaces.{unflagged}
 use Rattle.et_models.specs.declared.places.Place.{Place}
-use Rattle.et_models.specs.declared.places.Place.TheVariants.{Nowhere, Nursery}
+use Rattle.et_models.specs.declared.places.Place.TheVariants.{Nowhere, Nursery, Old}
 use Rattle.et_models.specs.declared.generations.Generations.{Generations}
 
 -- what is kept, with lists in the place of vectors
@@ -29,6 +30,8 @@ pub record Both : Type 0 where
   pub dead : List Bool
   pub places : List Place
   pub slots : List (BTreeMap ℕ ℕ)
+  pub remembered : List ℕ
+  pub early : List ℕ
   pub young_bytes : ℕ
   pub old_bytes : ℕ
   pub heap : Heap
@@ -41,20 +44,22 @@ both_of g = record {
   dead = g.dead.items;
   places = g.places.items;
   slots = g.slots.items;
+  remembered = g.remembered.keys;
+  early = g.early.keys;
   young_bytes = g.nursery_bytes;
   old_bytes = g.space_bytes;
   heap = record { nursery = g.nursery.items; space = g.space.items; minor = g.minor; major = g.major; kept = g.kept; freed = g.freed; peak = g.peak; exhausted = g.exhausted };
 }
 
 abbrev pub new_both : Both
-new_both = record { first = 0; second = 0; sizes = []; dead = []; places = []; slots = []; young_bytes = 0; old_bytes = 0; heap = empty_heap }
+new_both = record { first = 0; second = 0; sizes = []; dead = []; places = []; slots = []; remembered = []; early = []; young_bytes = 0; old_bytes = 0; heap = empty_heap }
 
 -- after a collection of the old space
 abbrev pub swept : Both → Both
 swept v =
     let live = unflagged v.dead v.heap.space in
     let kept = sum_by (size_at v.sizes) live in
-    record v { old_bytes = kept; heap = record v.heap { space = live; major = v.heap.major + 1; freed = v.heap.freed + (v.old_bytes - kept) } }
+    record v { places = without_dead v.dead v.heap.space v.places; old_bytes = kept; heap = record v.heap { space = live; major = v.heap.major + 1; freed = v.heap.freed + (v.old_bytes - kept) } }
 
 -- after an object came into the nursery
 abbrev pub placed_young : ℕ → ℕ → Both → Both
@@ -69,6 +74,7 @@ placed_young object size v = record v {
 abbrev pub placed_old : ℕ → ℕ → Both → Both
 placed_old object size v = record v {
   sizes = with_size v.sizes object size;
+  places = with_place v.places object Old;
   old_bytes = v.old_bytes + size;
   heap = record v.heap { space = v.heap.space ++ object ∷ []; peak = max v.heap.peak (v.young_bytes + (v.old_bytes + size)) };
 }
@@ -77,6 +83,13 @@ placed_old object size v = record v {
 abbrev pub left_out : ℕ → ℕ → ℕ → Both → Both
 left_out event object size v = record v { sizes = with_size v.sizes object size; heap = record v.heap { exhausted = Some event } }
 
+-- after an object was given another: one that isn't made, or one of the nursery to one of the old space
+abbrev pub noted : ℕ → ℕ → Both → Both
+noted object new v =
+    if new == 0 then v
+    else if is_some (slice_index_or v.sizes new None) then (if is_old (place_at v.places object) && is_nursery (place_at v.places new) then record v { remembered = insert_key nat_eq v.remembered object } else v)
+    else record v { early = insert_key nat_eq v.early object }
+
 -- after the objects that were marked went to the old space
 abbrev pub promoted : List Place → List Place → Both → Both
 promoted marked places v =
@@ -84,6 +97,7 @@ promoted marked places v =
     let more = sum_by (size_at v.sizes) kept in
     record v {
       places = places;
+      remembered = [];
       young_bytes = 0;
       old_bytes = v.old_bytes + more;
       heap = record v.heap { nursery = []; space = v.heap.space ++ kept; minor = v.heap.minor + 1; kept = v.heap.kept + more };
@@ -92,8 +106,8 @@ promoted marked places v =
 -- a minor collection marked what is reached, and promoted it
 pub record Promotes (v v' : Both) : Type 0 where
   pub marked : List Place
-  pub found : (g : Graph) → Begins g v.heap.nursery v.heap.space v.dead v.slots v.places → IsFound g v.places marked
-  pub cleared : AreCleared v.heap.nursery marked v'.places
+  pub found : (g : Graph) (space : List ℕ) → Begins g v.heap.nursery space (v.remembered ++ v.early) v.dead v.slots v.places → IsFound g v.places marked
+  pub cleared : AreSettled v.heap.nursery marked v'.places
   pub is : v' ≡ promoted marked v'.places v
 
 -- each slot has what the items say
@@ -101,12 +115,17 @@ pub record KnowsSlots (slots : List (BTreeMap ℕ ℕ)) (objects : ℕ) (past : 
   pub long : length slots ≡ objects + 1
   pub content_is : (o s : ℕ) (own : BTreeMap ℕ ℕ) → o < length slots → own ≡ slice_index_or slots o own → unwrap_or (get nat_cmp own s) 0 ≡ content past o s
 
--- the table tells which objects are in the nursery
+-- the table tells which objects are in the nursery and in the old space
 pub record KnowsPlaces (places : List Place) (objects : ℕ) (nursery space : List ℕ) : Type 0 where
   pub long : length places ≡ objects + 1
   pub young : (o : ℕ) → Contains nursery o → place_at places o ≡ Nursery
-  pub only : (o : ℕ) → (place_at places o ≡ Nowhere) ⊎ Contains nursery o
-  pub apart : (o : ℕ) → Contains space o → place_at places o ≢ Nursery
+  pub old : (o : ℕ) → Contains space o → place_at places o ≡ Old
+  pub only : (o : ℕ) → (place_at places o ≡ Nowhere) ⊎ (Contains nursery o ⊎ Contains space o)
+
+-- an object of the old space that refers to the nursery is noted, and so is each that refers to an object that isn't made
+pub record AreNoted (v : Both) (past : List Item) : Type 0 where
+  pub young : (u t : ℕ) → Contains v.heap.space u → Names v.slots u t → place_at v.places t ≡ Nursery → Contains (v.remembered ++ v.early) u
+  pub early : (u t : ℕ) → Names v.slots u t → t ≢ 0 → is_made past t ≡ false → Contains v.early u
 
 -- the tables tell what the items so far say, and the numbers are low: at most so many minor and major collections
 pub record IsReady (v : Both) (objects : ℕ) (past : List Item) (minor major : ℕ) : Type 0 where
@@ -115,6 +134,7 @@ pub record IsReady (v : Both) (objects : ℕ) (past : List Item) (minor major : 
   pub knows : Knows v.sizes v.dead objects past
   pub slots : KnowsSlots v.slots objects past
   pub places : KnowsPlaces v.places objects v.heap.nursery v.heap.space
+  pub noted : AreNoted v past
   pub young_bytes_is : v.young_bytes ≡ bytes past v.heap.nursery
   pub old_bytes_is : v.old_bytes ≡ bytes past v.heap.space
   pub young_made : All (λ o. is_made past o ≡ true) v.heap.nursery
@@ -174,6 +194,8 @@ pub record Opens (first second objects : ℕ) (v : Both) : Type 0 where
   pub places_is : v.places ≡ replicate (objects + 1) Nowhere
   pub slots_long : length v.slots ≡ objects + 1
   pub slots_empty : AreEmpty v.slots
+  pub remembered_none : v.remembered ≡ []
+  pub early_none : v.early ≡ []
   pub young_none : v.young_bytes ≡ 0
   pub old_none : v.old_bytes ≡ 0
   pub heap_is : v.heap ≡ empty_heap

@@ -5,7 +5,7 @@ use Rattle.std.specs.BTreeMap.{BTreeMap, get}
 use Rattle.std.specs.Ordering.{nat_cmp}
 use Rattle.et_graph.specs.Graph.{Graph, IsReached}
 use Rattle.et_models.specs.declared.places.Place.{Place}
-use Rattle.et_models.specs.declared.places.Place.TheVariants.{Nursery, Kept}
+use Rattle.et_models.specs.declared.places.Place.TheVariants.{Nursery, Kept, Old}
 use Rattle.et_models.specs.Tables.{flag_at}
 use Rattle.et_models.specs.Places.{place_at, is_nursery}
 
@@ -68,14 +68,17 @@ pub record IsGoing (g : Graph) (slots : List (BTreeMap ℕ ℕ)) (space : List �
   pub as_long : length places ≡ length start
   pub closed : (u t : ℕ) → Stays space places u → Names slots u t → Contains work u ⊎ (place_at places t ≢ Nursery)
 
--- a search may begin: the graph's roots are the live objects of the nursery and the old space
-pub record Begins (g : Graph) (nursery space : List ℕ) (dead : List Bool) (slots : List (BTreeMap ℕ ℕ)) (start : List Place) : Type 0 where
+-- a search may begin: the graph's roots are the live objects of the nursery and the old space, and each object of that
+-- with a slot that refers to the nursery is noted
+pub record Begins (g : Graph) (nursery space notes : List ℕ) (dead : List Bool) (slots : List (BTreeMap ℕ ℕ)) (start : List Place) : Type 0 where
   pub draws : Draws g slots space start
   pub named : (u t : ℕ) → Contains g.pairs (u, t) → Names slots u t × (place_at start t ≡ Nursery)
   pub young : (o : ℕ) → Contains nursery o → place_at start o ≡ Nursery
   pub roots : (o : ℕ) → Contains g.roots o → IsSeed nursery dead o ⊎ Contains space o
   pub seeds : (o : ℕ) → IsSeed nursery dead o → IsReached g o
-  pub apart : (o : ℕ) → Contains space o → place_at start o ≢ Nursery
+  pub old : (o : ℕ) → Contains space o → place_at start o ≡ Old
+  pub only_old : (o : ℕ) → place_at start o ≡ Old → Contains space o
+  pub noted : (u t : ℕ) → Contains space u → Names slots u t → place_at start t ≡ Nursery → Contains notes u
 
 -- what is of the nursery is kept where it is reached, and stays there where not
 pub record IsFound (g : Graph) (start places : List Place) : Type 0 where
@@ -83,3 +86,4 @@ pub record IsFound (g : Graph) (start places : List Place) : Type 0 where
   pub kept : (o : ℕ) → place_at places o ≡ Kept → IsReached g o
   pub reached : (o : ℕ) → place_at start o ≡ Nursery → IsReached g o → place_at places o ≡ Kept
   pub others : (o : ℕ) → place_at start o ≢ Nursery → place_at places o ≡ place_at start o
+  pub left : (o : ℕ) → place_at start o ≡ Nursery → (place_at places o ≡ Nursery) ⊎ (place_at places o ≡ Kept)

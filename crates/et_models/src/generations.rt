@@ -4,15 +4,17 @@ ghost use Rattle.std.specs.List.{sum_by};
 ghost use Rattle.et_replay.specs.Feeding.{MayCome};
 ghost use Rattle.et_replay.specs.declared.item.Item.{Item};
 ghost use Rattle.et_replay.specs.declared.item.Item.TheVariants.{Alloc, Write, Death};
-ghost use Rattle.et_models.specs.Generations.{both_of, new_both, swept, placed_young, placed_old, left_out, Opens, Promotes, Collects, IsStable, Steps, account_of};
+ghost use Rattle.et_models.specs.Generations.{both_of, new_both, swept, placed_young, placed_old, left_out, noted, Opens, Promotes, Collects, IsStable, Steps, account_of};
 ghost use Rattle.et_models.specs.Tables.{size_at};
 
-use crate::marks::{clear_places, push_kept, search_nursery};
-use crate::places::{Place, set_place};
+use crate::marks::{push_kept, search_nursery, settle, take_dead};
+use crate::places::{Place, place_at, set_place};
+use crate::remembered::remember;
 use crate::slots::{make_slots, write_slot};
 use crate::tables::{bytes_of, is_sized, keep_unflagged, set_flag, set_size};
 use et_base::NoMemory;
 use et_replay::{Item, Policy, Report};
+use indexmap::IndexSet;
 use std::alloc::Global;
 use std::collections::BTreeMap;
 
@@ -28,10 +30,14 @@ pub struct Generations {
     pub sizes: Vec<Option<u32>>,
     /// The objects that ended.
     pub dead: Vec<bool>,
-    /// Of each object whether it is in the nursery.
+    /// Of each object where it is.
     pub places: Vec<Place>,
     /// Of each object what stands in its slots.
     pub slots: Vec<BTreeMap<u32, u32>>,
+    /// The objects of the old space that were given one of the nursery since the last minor collection.
+    pub remembered: IndexSet<u32>,
+    /// The objects that were given one before it was made.
+    pub early: IndexSet<u32>,
     pub nursery: Vec<u32>,
     pub nursery_bytes: u64,
     pub space: Vec<u32>,
@@ -58,6 +64,8 @@ impl Generations {
             dead: Vec::new(alloc),
             places: Vec::new(alloc),
             slots: Vec::new(alloc),
+            remembered: IndexSet::new(alloc),
+            early: IndexSet::new(alloc),
             nursery: Vec::new(alloc),
             nursery_bytes: 0,
             space: Vec::new(alloc),
@@ -94,6 +102,7 @@ impl Generations {
         requires freed { self.old.freed + self.old.space_bytes < 2 ^ 64 }
         ensures { both_of self.new ≡ swept (both_of self.old) }
     {
+        take_dead(&self.space, &self.dead, &mut self.places);
         keep_unflagged(&mut self.space, &self.dead);
         let kept = bytes_of(&self.sizes, &self.space);
         self.major += 1;
@@ -111,7 +120,8 @@ impl Generations {
         let mut work = Vec::new(self.alloc);
         search_nursery(
             &self.nursery,
-            &self.space,
+            self.remembered.as_slice(),
+            self.early.as_slice(),
             &self.dead,
             &self.slots,
             &mut self.places,
@@ -119,9 +129,10 @@ impl Generations {
         )?;
         let mut kept = Vec::new(self.alloc);
         push_kept(&self.nursery, &self.places, &mut kept)?;
-        clear_places(&self.nursery, &mut self.places);
+        settle(&self.nursery, &mut self.places);
         let bytes = bytes_of(&self.sizes, &kept);
         self.space.extend_from_slice(&kept)?;
+        self.remembered.clear();
         self.nursery.clear();
         self.nursery_bytes = 0;
         self.space_bytes += bytes;
@@ -150,6 +161,7 @@ impl Generations {
     {
         self.space.push(object)?;
         set_size(&mut self.sizes, object, size);
+        set_place(&mut self.places, object, Place::Old);
         self.space_bytes += u64::from(size);
         self.peak = self.peak.max(self.nursery_bytes + self.space_bytes);
         Ok(())
@@ -217,6 +229,22 @@ impl Generations {
         Ok(())
     }
 
+    /// Remembers the object, if it is given one that a minor collection has to find through it.
+    fn note(&mut self, object: u32, new: u32) -> Result<(), NoMemory>
+        ensures { OnOk result (both_of self.new ≡ noted object new (both_of self.old)) }
+    {
+        if new == 0 {
+            return Ok(());
+        }
+        if !is_sized(&self.sizes, new) {
+            return remember(&mut self.early, object);
+        }
+        match (place_at(&self.places, object), place_at(&self.places, new)) {
+            (Place::Old, Place::Nursery) => remember(&mut self.remembered, object),
+            _ => Ok(()),
+        }
+    }
+
     /// An object is written to a slot. What is written to an object that isn't made yet is ignored.
     fn write(&mut self, object: u32, slot: u32, new: u32) -> Result<(), NoMemory>
         requires ready { (objects : ℕ) × (past : List Item) × IsStable (both_of self.old) objects past }
@@ -225,6 +253,7 @@ impl Generations {
         if !is_sized(&self.sizes, object) {
             return Ok(());
         }
+        self.note(object, new)?;
         write_slot(&mut self.slots, object, slot, new)?;
         Ok(())
     }

@@ -6,6 +6,7 @@ mod generations;
 mod mark_sweep;
 mod marks;
 mod places;
+mod remembered;
 mod semi_space;
 mod slots;
 mod space;

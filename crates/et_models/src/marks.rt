@@ -1,7 +1,7 @@
 //! What a minor collection keeps.
 ghost use Rattle.std.specs.Prelude.{◌≡◌, ◌++◌, [], ℕ, List, filter, Contains, OnOk};
 ghost use Rattle.et_models.specs.Marking.{Refers, Marks, AllMarked, Draws, IsGoing, IsSeed, Begins, IsFound};
-ghost use Rattle.et_models.specs.Places.{place_at, is_kept, AreCleared};
+ghost use Rattle.et_models.specs.Places.{place_at, is_kept, is_old, without_dead, AreSettled};
 ghost use Rattle.et_models.specs.declared.places.Place.{Place};
 ghost use Rattle.et_graph.specs.Graph.{Graph};
 
@@ -70,19 +70,34 @@ fn follow(
     Ok(())
 }
 
-/// Marks the objects of the nursery to which slots lead from its live objects and from the old space.
+/// Lists those of the objects that are in the old space.
+fn push_old(objects: &[u32], places: &[Place], list: &mut Vec<u32>) -> Result<(), NoMemory>
+    ensures { OnOk result (list.new.items ≡ list.old.items ++ filter (λ o. is_old (place_at places.now o)) objects.now) }
+{
+    for object in objects {
+        if let Place::Old = place_at(places, *object) {
+            list.push(*object)?;
+        }
+    }
+    Ok(())
+}
+
+/// Marks the objects of the nursery to which slots lead from its live objects and from the old space. Each object of the
+/// old space with a slot that refers to the nursery is among the remembered or the early ones.
 pub fn search_nursery(
     nursery: &[u32],
-    space: &[u32],
+    remembered: &[u32],
+    early: &[u32],
     dead: &[bool],
     slots: &[BTreeMap<u32, u32>],
     places: &mut [Place],
     work: &mut Vec<u32>,
 ) -> Result<(), NoMemory>
-    ensures { OnOk result ((g : Graph) → Begins g nursery.now space.now dead.now slots.now places.old → IsFound g places.old places.new) }
+    ensures { OnOk result ((g : Graph) (space : List ℕ) → Begins g nursery.now space (remembered.now ++ early.now) dead.now slots.now places.old → IsFound g places.old places.new) }
 {
     work.clear();
-    work.extend_from_slice(space)?;
+    push_old(remembered, places, work)?;
+    push_old(early, places, work)?;
     seed(nursery, dead, places, work)?;
     follow(slots, places, work)?;
     Ok(())
@@ -100,11 +115,23 @@ pub fn push_kept(objects: &[u32], places: &[Place], kept: &mut Vec<u32>) -> Resu
     Ok(())
 }
 
-/// Takes the objects out of the nursery.
-pub fn clear_places(objects: &[u32], places: &mut [Place])
-    ensures { AreCleared objects.now places.old places.new }
+/// Takes the objects out of the nursery: what was marked goes to the old space.
+pub fn settle(objects: &[u32], places: &mut [Place])
+    ensures { AreSettled objects.now places.old places.new }
 {
     for object in objects {
-        set_place(places, *object, Place::Nowhere);
+        let place = place_at(places, *object).settled();
+        set_place(places, *object, place);
+    }
+}
+
+/// Takes the dead ones of the objects out of the old space.
+pub fn take_dead(objects: &[u32], dead: &[bool], places: &mut [Place])
+    ensures { places.new ≡ without_dead dead.now objects.now places.old }
+{
+    for object in objects {
+        if flag_at(dead, *object) {
+            set_place(places, *object, Place::Nowhere);
+        }
     }
 }

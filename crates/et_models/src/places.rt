@@ -5,12 +5,29 @@ ghost use Rattle.et_models.specs.Places.{place_at, with_place};
 /// Where an object is.
 #[derive(Clone, Copy, Debug, PartialEq, Eq)]
 pub enum Place {
-    /// Not in the nursery.
+    /// In no space.
     Nowhere,
     /// In the nursery.
     Nursery,
     /// In the nursery, and a minor collection found that it stays.
     Kept,
+    /// In the old space.
+    Old,
+}
+
+impl Place {
+    ghost use Rattle.std.specs.Prelude.{◌≡◌};
+    ghost use Rattle.et_models.specs.Places.{settled};
+
+    /// Where an object is after a minor collection.
+    pub fn settled(self) -> Place
+        ensures { result ≡ settled self }
+    {
+        match self {
+            Place::Kept | Place::Old => Place::Old,
+            Place::Nowhere | Place::Nursery => Place::Nowhere,
+        }
+    }
 }
 
 /// The place of the object.

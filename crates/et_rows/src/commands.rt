@@ -119,13 +119,30 @@ fn the_live_curve_of_a_trace(rt: HostRuntime) -> Result<(), Fail> {
 fn a_trace_is_replayed(rt: HostRuntime) -> Result<(), Fail> {
     let alloc = rt.alloc();
     let mut files = files_with(alloc, "T", FIVE)?;
-    let lines = b"mark-sweep capacity=96 collections=1 marked=48 swept=48 peak=96\n\
-        semispace capacity=100 collections=1 copied=48 freed=0 peak=48 exhausted=3\n";
-    let line = "replay --mark-sweep 96 --semispace 100 T";
-    is_answered(&rt, alloc, &mut files, line, Status::Done, lines, b"")?;
-    let lines = b"semispace capacity=100 collections=1 copied=48 freed=0 peak=48 exhausted=3\n";
-    let line = "replay --semispace=100 T";
-    is_answered(&rt, alloc, &mut files, line, Status::Done, lines, b"")
+    let rows: [(&str, &[u8]); 4] = [
+        (
+            "replay --mark-sweep 96 --semispace 100 --nursery 48 --old 200 T",
+            b"mark-sweep capacity=96 collections=1 marked=48 swept=48 peak=96\n\
+            semispace capacity=100 collections=1 copied=48 freed=0 peak=48 exhausted=3\n\
+            generational nursery=48 old=200 minor=2 major=0 promoted=96 swept=0 peak=120\n",
+        ),
+        (
+            "replay --nursery 48 --old 200 T",
+            b"generational nursery=48 old=200 minor=2 major=0 promoted=96 swept=0 peak=120\n",
+        ),
+        (
+            "replay --nursery 23 --old 48 T",
+            b"generational nursery=23 old=48 minor=0 major=1 promoted=0 swept=0 peak=48 exhausted=3\n",
+        ),
+        (
+            "replay --semispace=100 T",
+            b"semispace capacity=100 collections=1 copied=48 freed=0 peak=48 exhausted=3\n",
+        ),
+    ];
+    for (line, lines) in rows {
+        is_answered(&rt, alloc, &mut files, line, Status::Done, lines, b"")?;
+    }
+    Ok(())
 }
 
 /// The trace of Box with one line in the place of another. Lines count from 1.

@@ -3,7 +3,7 @@ ghost use Rattle.std.specs.Prelude.{◌≡◌, ◌<◌};
 
 use et_base::{NoMemory, Steps};
 use et_io::{MemFiles, MemSink};
-use et_models::{MarkSweep, SemiSpace};
+use et_models::{Generational, MarkSweep, SemiSpace};
 use et_replay::HeapModel;
 use et_top::{Status, elephant};
 use std::alloc::Global;
@@ -28,6 +28,7 @@ fn counted<L: Ledger>(
     let mut models: Vec<Box<dyn HeapModel>> = Vec::new(alloc);
     models.push(Box::new(alloc, MarkSweep::begin(alloc))?)?;
     models.push(Box::new(alloc, SemiSpace::begin(alloc))?)?;
+    models.push(Box::new(alloc, Generational::begin(alloc))?)?;
     let mut visits = Steps::<L>::begin(blank);
     Ok(elephant(alloc, words, files, out, err, models, &mut visits))
 }
