@@ -4,7 +4,7 @@ use Rattle.et_top.specs.declared.refusal.Refusal.{Refusal}
 use Rattle.et_top.specs.declared.refusal.Refusal.TheVariants as refusal
 use Rattle.et_class.specs.declared.class.ClassFile.{ClassFile}
 use Rattle.et_class.specs.Layout.{ClassOf}
-use Rattle.et_class.specs.Classes.{class_of, HasParts}
+use Rattle.et_class.specs.Classes.{class_of}
 use Rattle.et_io.specs.declared.putting.RunFault.{RunFault}
 use Rattle.et_io.specs.declared.putting.RunFault.TheVariants as write
 use Rattle.et_text.specs.Text.{IsTraceFault}
@@ -67,9 +67,6 @@ IsOfBytes (File fault) = Unit {0}
 IsOfBytes Reading = ⊥
 IsOfBytes Memory = Unit {0}
 IsOfBytes Other = ⊥
-
-abbrev pub HasItsParts : ClassFile → Type 0
-HasItsParts c = HasParts c.pool.slots c.fields.items c.methods.items
 
 abbrev pub classes_of : Vec ClassFile Global → List ClassOf
 classes_of classes = map class_of classes.items

@@ -5,10 +5,10 @@ ghost use Rattle.et_io.specs.Files.{Held};
 ghost use Rattle.et_graph.specs.Graph.{Graph, Decides};
 ghost use Rattle.et_state.specs.Options.{AreOptions};
 ghost use Rattle.et_class.specs.Layout.{ClassOf};
-ghost use Rattle.et_class.specs.Classes.{class_of};
+ghost use Rattle.et_class.specs.Classes.{class_of, HasItsParts};
 ghost use Rattle.et_top.specs.Faults.{Fault};
 ghost use Rattle.et_top.specs.Loaded.{AreClassesOf, program_of};
-ghost use Rattle.et_top.specs.Told.{Tells, IsReading, IsFileRefusal, HasItsParts, cause_of, status_of_result};
+ghost use Rattle.et_top.specs.Told.{Tells, IsReading, IsFileRefusal, cause_of, status_of_result};
 ghost use Rattle.et_top.specs.Top.{Traces, Gives, status_of_end};
 
 use crate::answers::{of_fault, refuse};
