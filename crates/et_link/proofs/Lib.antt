@@ -8,3 +8,5 @@ pub mod CrossLemmas
 pub mod LinkingLemmas
 pub mod BuildLemmas
 pub mod Unique
+pub mod DecidingLemmas
+pub mod AnswerLemmas
