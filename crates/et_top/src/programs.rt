@@ -18,7 +18,7 @@ use crate::status::Status;
 use et_base::{End, NoMemory, Steps};
 use et_class::ClassFile;
 use et_io::{Files, Sink};
-use et_link::laws::files_are_classes;
+use et_link::laws::{answers_are_one, files_are_classes};
 use et_link::{LinkFault, link};
 use et_single::{MainClass, main_class, run_single};
 use et_state::Options;
@@ -50,6 +50,7 @@ fn program<'a>(
     ensures bytes { IfErr result (λ refusal. IsOfBytes (cause_of refusal)) }
 {
     files_are_classes();
+    answers_are_one();
     let main = match class_that_runs(alloc, &classes) {
         Ok(main) => main,
         Err(_) => return Err(Refusal::NoMemory),
