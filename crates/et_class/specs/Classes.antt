@@ -1,7 +1,7 @@
 -- A CLASS FILE, or its first fault.
 use Rattle.std.specs.Prelude.{◌≡◌, ℕ, List, map, Option, None, Result, Ok, Err}
 use Rattle.et_items.specs.Marks.{MarksAre, IsFirst}
-use Rattle.et_pool.specs.Entries.{Item}
+use Rattle.et_pool.specs.Entries.{Item, Constants}
 use Rattle.et_class.specs.declared.fault.ClassFault.{ClassFault}
 use Rattle.et_class.specs.declared.member.Member.{Member}
 use Rattle.et_class.specs.declared.class.ClassFile.{ClassFile}
@@ -57,7 +57,16 @@ pub record HasParts (slots : List (Option Item)) (fields methods : List Member) 
   pub codes : map (λ m. m.code) methods ≡ map (code_of slots) (members_of methods)
   pub no_constants : map (λ m. m.constant) methods ≡ map (λ m. 0) methods
 
+-- the pool of a class: its count stands behind the magic number and the two versions
+abbrev pub pool_of : ClassOf → Constants
+pool_of c = record { at = 8; slots = c.slots }
+
+-- the record of the code has the pool of the class that it stands for, and the parts of its members
+pub record HasItsParts (c : ClassFile) : Type 0 where
+  pub pool : c.pool ≡ pool_of (class_of c)
+  pub members : HasParts c.pool.slots c.fields.items c.methods.items
+
 -- a class file and its parts, or the first fault; want of memory says nothing
 abbrev pub ReadsClass : List ℕ → Result ClassFile ClassFault → Type 0
-ReadsClass bytes (Ok c) = IsClassFile bytes (class_of c) × HasParts c.pool.slots c.fields.items c.methods.items
+ReadsClass bytes (Ok c) = IsClassFile bytes (class_of c) × HasItsParts c
 ReadsClass bytes (Err e) = IsFault e (HasFault bytes)

@@ -5,7 +5,7 @@ use Rattle.et_index.specs.Shown.{number_of}
 use Rattle.et_set.specs.Outline.{Outline, place_of}
 use Rattle.et_program.specs.declared.info.MethodInfo.{MethodInfo}
 use Rattle.et_program.specs.declared.info.FieldInfo.{FieldInfo}
-use Rattle.et_class.specs.declared.class.ClassFile.{ClassFile}
+use Rattle.et_link.specs.Loaded.{LoadedClass}
 use Rattle.et_link.specs.declared.reading.Declared.{Declared}
 use Rattle.et_link.specs.declared.classes.Known.{Known}
 use Rattle.et_link.specs.Files.{set_of}
@@ -20,10 +20,10 @@ use Rattle.et_link.specs.Known.{heads_in}
 use Rattle.et_link.specs.Refusals.{linked_by}
 use Rattle.et_link.proofs.LinkingLemmas.{IsKnown, names_known, same_linked}
 
-pub built_names : (files : List ClassFile) (d : Declared) (x : Known) (set : List Outline) (met : List (List ℕ)) → IsDeclared files d → set ≡ d.set.items → met ≡ d.met.items → ((name : List ℕ) → number_of x.places name ≡ place_of set name) → x.arrays.names.items ≡ array_names (number_of x.places) met → x.arrays.names.items ≡ names_of files
+pub built_names : (files : List LoadedClass) (d : Declared) (x : Known) (set : List Outline) (met : List (List ℕ)) → IsDeclared files d → set ≡ d.set.items → met ≡ d.met.items → ((name : List ℕ) → number_of x.places name ≡ place_of set name) → x.arrays.names.items ≡ array_names (number_of x.places) met → x.arrays.names.items ≡ names_of files
 built_names files d x set met declared es em place names = names_known files set (number_of x.places) x.arrays.names.items met (es ∙ declared.set_is) place names (em ∙ declared.met_are)
 
-pub built : (files : List ClassFile) (d : Declared) (x : Known) (main : ℕ) (set : List Outline) (methods : List MethodInfo) (fields : List FieldInfo) (met : List (List ℕ)) → IsDeclared files d → main_of (methods_of files) ≡ Some main
+pub built : (files : List LoadedClass) (d : Declared) (x : Known) (main : ℕ) (set : List Outline) (methods : List MethodInfo) (fields : List FieldInfo) (met : List (List ℕ)) → IsDeclared files d → main_of (methods_of files) ≡ Some main
     → set ≡ d.set.items → methods ≡ d.parts.methods.items → fields ≡ d.parts.fields.items → met ≡ d.met.items
     → x.table.items ≡ d.hierarchy.table.items → x.rows.items ≡ d.hierarchy.rows.items → x.flags.items ≡ d.hierarchy.flags.items
     → ((k : ℕ) → k < length set → slice_index_or x.own.items k 0 ≡ own_slots fields k)

@@ -1,4 +1,5 @@
 pub mod Lists
+pub mod LoadedLemmas
 pub mod SlotLemmas
 pub mod NameLemmas
 pub mod KnownLemmas
@@ -6,3 +7,6 @@ pub mod TabledLemmas
 pub mod CrossLemmas
 pub mod LinkingLemmas
 pub mod BuildLemmas
+pub mod Unique
+pub mod DecidingLemmas
+pub mod AnswerLemmas

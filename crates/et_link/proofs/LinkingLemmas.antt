@@ -7,7 +7,7 @@ use Rattle.std.proofs.lemmas.List.{length-map}
 use Rattle.std.proofs.lemmas.List.Elements.{All-head, All-tail}
 use Rattle.std.proofs.lemmas.List.Sums.{sum_by-cons}
 use Rattle.et_pool.specs.Entries.{Constants}
-use Rattle.et_class.specs.declared.class.ClassFile.{ClassFile}
+use Rattle.et_link.specs.Loaded.{LoadedClass}
 use Rattle.et_set.specs.Outline.{Outline, outline_at, place_of}
 use Rattle.et_set.specs.Links.{LinkEntry, links, links_of, AreWithin, IsAncestor}
 use Rattle.et_set.specs.Faults.{IsLinkFault, IsFaultless, kind_number}
@@ -39,7 +39,7 @@ use Rattle.et_link.proofs.TabledLemmas.{length-set, methods_within, fields_withi
 
 -- FAULTS
 
-free_below : (files : List ClassFile) (kind : FaultKind) (k : ℕ) → IsLinkFault (set_of files) kind k → (other : LinkFaultKind) → link_number other < kind_number kind → IsLinkFree files other
+free_below : (files : List LoadedClass) (kind : FaultKind) (k : ℕ) → IsLinkFault (set_of files) kind k → (other : LinkFaultKind) → link_number other < kind_number kind → IsLinkFree files other
 free_below files kind k h Duplicate lt = h.least set.Duplicate lt
 free_below files kind k h NoSuper lt = h.least set.NoSuper lt
 free_below files kind k h Cycle lt = h.least set.Cycle lt
@@ -66,13 +66,13 @@ free_below files kind k h TooMany lt = absurd (high kind lt)
     high set.Cycle l = omega arith
     high set.FinalSuper l = omega arith
 
-set_fault : (files : List ClassFile) (kind : FaultKind) (k : ℕ) → IsLinkFault (set_of files) kind k → IsFaultAt files (link_kind kind) k
+set_fault : (files : List LoadedClass) (kind : FaultKind) (k : ℕ) → IsLinkFault (set_of files) kind k → IsFaultAt files (link_kind kind) k
 set_fault files set.Duplicate k h = record { inside = h.found.inside; shows = h.found.shows; first = h.found.first; least = free_below files set.Duplicate k h }
 set_fault files set.NoSuper k h = record { inside = h.found.inside; shows = h.found.shows; first = h.found.first; least = free_below files set.NoSuper k h }
 set_fault files set.Cycle k h = record { inside = h.found.inside; shows = h.found.shows; first = h.found.first; least = free_below files set.Cycle k h }
 set_fault files set.FinalSuper k h = record { inside = h.found.inside; shows = h.found.shows; first = h.found.first; least = free_below files set.FinalSuper k h }
 
-pub set_refused : (files : List ClassFile) (set : List Outline) (e : LinkFault) → set ≡ set_of files → RefusesSet set e → RefusesLink files e
+pub set_refused : (files : List LoadedClass) (set : List Outline) (e : LinkFault) → set ≡ set_of files → RefusesSet set e → RefusesLink files e
 set_refused files set (fault.At kind name) is (sort, (k, h, e, n)) = (
   k,
   subst (λ (x : LinkFaultKind). IsFaultAt files x k) (sym e) (set_fault files sort k (subst (λ (s : List Outline). IsLinkFault s sort k) is h)),
@@ -81,7 +81,7 @@ set_refused files set (fault.At kind name) is (sort, (k, h, e, n)) = (
 set_refused files set fault.NoMemory is h = tt
 
 -- what is free of the faults of names
-early : (files : List ClassFile) → IsFaultless (set_of files) → (other : LinkFaultKind) → link_number other < 5 → IsLinkFree files other
+early : (files : List LoadedClass) → IsFaultless (set_of files) → (other : LinkFaultKind) → link_number other < 5 → IsLinkFree files other
 early files h Duplicate lt = h set.Duplicate
 early files h NoSuper lt = h set.NoSuper
 early files h Cycle lt = h set.Cycle
@@ -90,7 +90,7 @@ early files h CrossPackage lt = absurd (omega arith)
 early files h NoMain lt = absurd (omega arith)
 early files h TooMany lt = absurd (omega arith)
 
-module _ (files : List ClassFile) (rows : List Ancestry) (ancestry : IsAncestry (links (set_of files)) rows) (faultless : IsFaultless (set_of files)) where
+module _ (files : List LoadedClass) (rows : List Ancestry) (ancestry : IsAncestry (links (set_of files)) rows) (faultless : IsFaultless (set_of files)) where
   size : length (links (set_of files)) ≡ length (set_of files)
   size = length-map (set_of files) (links_of (set_of files))
 
@@ -220,32 +220,32 @@ acyclic_along classes table e faultless k lt h =
     let size : length table ≡ length classes = ap length e ∙ length-map classes (links_of classes) in
     faultless set.Cycle k (omega arith) (subst (λ (t : List LinkEntry). IsAncestor t k k) e h)
 
-pub rows_within : (files : List ClassFile) (table : List LinkEntry) (rows : List Ancestry) → table ≡ links (set_of files) → ((k : ℕ) → k < length table → IsBelow (length table) (ancestry_at rows k)) → AreRows files rows
+pub rows_within : (files : List LoadedClass) (table : List LinkEntry) (rows : List Ancestry) → table ≡ links (set_of files) → ((k : ℕ) → k < length table → IsBelow (length table) (ancestry_at rows k)) → AreRows files rows
 rows_within files table rows e h =
     let n : length table ≡ length (set_of files) = ap length e ∙ length-map (set_of files) (links_of (set_of files)) in
     record { within = are_within (set_of files); below = subst (λ m. (k : ℕ) → k < m → IsBelow m (ancestry_at rows k)) n h }
 
-pub own_along : (files : List ClassFile) (set : List Outline) (methods : List MethodInfo) → set ≡ set_of files → methods ≡ methods_of files → All (λ (m : MethodInfo). m.class < length set) methods
+pub own_along : (files : List LoadedClass) (set : List Outline) (methods : List MethodInfo) → set ≡ set_of files → methods ≡ methods_of files → All (λ (m : MethodInfo). m.class < length set) methods
 own_along files set methods e f =
     subst (λ (s : List Outline). All (λ (m : MethodInfo). m.class < length s) methods) (sym e) (subst (λ (ms : List MethodInfo). All (λ (m : MethodInfo). m.class < length (set_of files)) ms) (sym f) (methods_within files))
 
-pub fields_along : (files : List ClassFile) (set : List Outline) (fields : List FieldInfo) → set ≡ set_of files → fields ≡ fields_of files → All (λ (x : FieldInfo). x.class < length set) fields
+pub fields_along : (files : List LoadedClass) (set : List Outline) (fields : List FieldInfo) → set ≡ set_of files → fields ≡ fields_of files → All (λ (x : FieldInfo). x.class < length set) fields
 fields_along files set fields e f =
     subst (λ (s : List Outline). All (λ (x : FieldInfo). x.class < length s) fields) (sym e) (subst (λ (xs : List FieldInfo). All (λ (x : FieldInfo). x.class < length (set_of files)) xs) (sym f) (fields_within files))
 
-pub below_set : (files : List ClassFile) (set : List Outline) (rows rows' : List Ancestry) → AreRows files rows → set ≡ set_of files → rows' ≡ rows → (k : ℕ) → k < length set → IsBelow (length set) (ancestry_at rows' k)
+pub below_set : (files : List LoadedClass) (set : List Outline) (rows rows' : List Ancestry) → AreRows files rows → set ≡ set_of files → rows' ≡ rows → (k : ℕ) → k < length set → IsBelow (length set) (ancestry_at rows' k)
 below_set files set rows rows' are e f =
     subst (λ (s : List Outline). (k : ℕ) → k < length s → IsBelow (length s) (ancestry_at rows' k)) (sym e)
     (subst (λ (r : List Ancestry). (k : ℕ) → k < length (set_of files) → IsBelow (length (set_of files)) (ancestry_at r k)) (sym f) are.below)
 
-pub late_along : (files : List ClassFile) (set : List Outline) (rows rows' : List Ancestry) (methods : List MethodInfo) (n : ℕ) (kind : LinkFaultKind) (k : ℕ) → set ≡ set_of files → rows' ≡ rows → methods ≡ methods_of files → n ≡ length files
+pub late_along : (files : List LoadedClass) (set : List Outline) (rows rows' : List Ancestry) (methods : List MethodInfo) (n : ℕ) (kind : LinkFaultKind) (k : ℕ) → set ≡ set_of files → rows' ≡ rows → methods ≡ methods_of files → n ≡ length files
     → IsLate set rows' methods n kind k → IsLate (set_of files) rows (methods_of files) (length files) kind k
 late_along files set rows rows' methods n kind k a b c d h =
     subst (λ m. IsLate (set_of files) rows (methods_of files) m kind k) d
     (subst (λ (ms : List MethodInfo). IsLate (set_of files) rows ms n kind k) c
     (subst (λ (r : List Ancestry). IsLate (set_of files) r methods n kind k) b (subst (λ (s : List Outline). IsLate s rows' methods n kind k) a h)))
 
-pub none_along : (files : List ClassFile) (set : List Outline) (rows rows' : List Ancestry) (methods : List MethodInfo) → set ≡ set_of files → rows' ≡ rows → methods ≡ methods_of files
+pub none_along : (files : List LoadedClass) (set : List Outline) (rows rows' : List Ancestry) (methods : List MethodInfo) → set ≡ set_of files → rows' ≡ rows → methods ≡ methods_of files
     → AnswersLeast (crosses set rows' methods) methods (length methods) None → AnswersLeast (crosses (set_of files) rows (methods_of files)) (methods_of files) (length (methods_of files)) None
 none_along files set rows rows' methods a b c h =
     subst (λ (ms : List MethodInfo). AnswersLeast (crosses (set_of files) rows ms) ms (length ms) None) c
@@ -268,7 +268,7 @@ abbrev heads_with : List LinkEntry → List Ancestry → List ℕ → ℕ → (�
 heads_with t r fl s nd ci co pl ar = record { table = t; rows = r; flags = fl; slots = λ k. s; needs = nd; clinit = λ k. ci; constants = λ k. co; place = pl; array = ar }
 
 -- what is known is what the files say
-pub record IsKnown (files : List ClassFile) (rows : List Ancestry) (h : Heads) : Type 0 where
+pub record IsKnown (files : List LoadedClass) (rows : List Ancestry) (h : Heads) : Type 0 where
   pub table : h.table ≡ links (set_of files)
   pub rows_are : h.rows ≡ rows
   pub flags : h.flags ≡ flags_of files
@@ -279,7 +279,7 @@ pub record IsKnown (files : List ClassFile) (rows : List Ancestry) (h : Heads) :
   pub place : (name : List ℕ) → h.place name ≡ place_of (set_of files) name
   pub array : (name : List ℕ) → h.array name ≡ array_at (length (set_of files)) (names_of files) name
 
-module _ (files : List ClassFile) (rows : List Ancestry) (h : Heads) (is : IsKnown files rows h) where
+module _ (files : List LoadedClass) (rows : List Ancestry) (h : Heads) (is : IsKnown files rows h) where
   same_set_class : (k : ℕ) (c : Outline) → k < length (set_of files) → set_class h k c ≡ set_class (heads_of files rows) k c
   same_set_class k c lt =
       let g : Heads = heads_of files rows in
@@ -320,12 +320,12 @@ module _ (files : List ClassFile) (rows : List Ancestry) (h : Heads) (is : IsKno
       ∙ ap (λ (x : List FieldInfo). record { classes = classes_by (heads_of files rows) (set_of files) (names_of files); methods = methods_of files; fields = x; statics = places_from is_static_field 0 (fields_of files); file_methods = places_from is_of_file 0 (methods_of files); main = unwrap_or (main_of (methods_of files)) 0; pools = pools }) (placed_same (length (set_of files)) base (slots_above (fields_of files) rows) [] (fields_of files) e (fields_within files)))))))
 
 -- what was known of the set, in the words of the files
-pub names_known : (files : List ClassFile) (set : List Outline) (place : List ℕ → Option ℕ) (names met : List (List ℕ)) → set ≡ set_of files → ((name : List ℕ) → place name ≡ place_of set name) → names ≡ array_names place met → met ≡ arrays_met files → names ≡ names_of files
+pub names_known : (files : List LoadedClass) (set : List Outline) (place : List ℕ → Option ℕ) (names met : List (List ℕ)) → set ≡ set_of files → ((name : List ℕ) → place name ≡ place_of set name) → names ≡ array_names place met → met ≡ arrays_met files → names ≡ names_of files
 names_known files set place names met e known is read =
     let p : place ≡ place_of (set_of files) = fun_ext known ∙ ap place_of e in
     is ∙ (ap (λ (q : List ℕ → Option ℕ). array_names q met) p ∙ ap (array_names (place_of (set_of files))) read)
 
-pub tabled_program : (files : List ClassFile) (rows : List Ancestry) (p : Linked) (main : ℕ) → AreRows files rows → main_of (methods_of files) ≡ Some main → p ≡ program_with files rows p.pools → length (set_of files) + length (names_of files) < 2 ^ 32 → length (methods_of files) < 2 ^ 32 → length (fields_of files) < 2 ^ 32 → IsTabled p
+pub tabled_program : (files : List LoadedClass) (rows : List Ancestry) (p : Linked) (main : ℕ) → AreRows files rows → main_of (methods_of files) ≡ Some main → p ≡ program_with files rows p.pools → length (set_of files) + length (names_of files) < 2 ^ 32 → length (methods_of files) < 2 ^ 32 → length (fields_of files) < 2 ^ 32 → IsTabled p
 tabled_program files rows p main are m e few_c few_m few_f =
     let n = length-classes (heads_of files rows) (set_of files) (names_of files) in
     subst IsTabled (sym e) (tabled files rows p.pools main are m (omega arith) few_m few_f)

@@ -2,7 +2,7 @@
 use Rattle.std.proofs.Common.{◌≡◌, ℕ, ◌+◌, ◌<◌, suc, List, [], ◌∷◌, ◌++◌, length, take, get_or, map, Option, None, Some, refl, sym, ◌∙◌, ap, subst, arith, append_assoc, append-nil}
 use Rattle.std.specs.List.{filter_map, cons_option}
 use Rattle.std.specs.Option.{option_to_list}
-use Rattle.std.proofs.lemmas.List.{take_more, length-take-le}
+use Rattle.std.proofs.lemmas.List.{take_more, length-take-le, length-map}
 use Rattle.et_pool.specs.Entries.{Constants}
 use Rattle.et_boot.specs.Classes.{BootClassOf}
 use Rattle.et_link.specs.MembersOf.{numbered, IsBootPool, AreBootPools}
@@ -40,6 +40,18 @@ map_push f (y ∷ xs) x = ap (λ l. f y ∷ l) (map_push f xs x)
 
 pub numbered_push : {X Y : Type 0} (f : ℕ → X → List Y) (k : ℕ) (xs : List X) (x : X) (n : ℕ) → n ≡ k + length xs → numbered f k (xs ++ x ∷ []) ≡ numbered f k xs ++ f n x
 numbered_push f k xs x n e = numbered-append f k xs x ∙ ap (λ m. numbered f k xs ++ f m x) (sym e)
+
+-- what was made of each element of a longer list
+pub map_push_of : {X Y Z : Type 0} (f : Y → Z) (g : X → Y) (xs : List X) (x : X) → map f (map g (xs ++ x ∷ [])) ≡ map f (map g xs) ++ f (g x) ∷ []
+map_push_of f g xs x = ap (map f) (map_push g xs x) ∙ map_push f (map g xs) (g x)
+
+pub numbered_push_of : {X Y Z : Type 0} (f : ℕ → Y → List Z) (g : X → Y) (k : ℕ) (xs : List X) (x : X) (n : ℕ) → n ≡ k + length xs → numbered f k (map g (xs ++ x ∷ [])) ≡ numbered f k (map g xs) ++ f n (g x)
+numbered_push_of f g k xs x n e = ap (numbered f k) (map_push g xs x) ∙ numbered_push f k (map g xs) (g x) n (e ∙ ap (λ l. k + l) (sym (length-map xs g)))
+
+pub numbered_more_of : {X Y Z : Type 0} (f : ℕ → Y → List Z) (g : X → Y) (k : ℕ) (xs : List X) (i : ℕ) (d x : X) (n : ℕ) → i < length xs → x ≡ get_or xs i d → n ≡ k + i → numbered f k (map g (take (i + 1) xs)) ≡ numbered f k (map g (take i xs)) ++ f n (g x)
+numbered_more_of f g k xs i d x n lt is at =
+    let m : n ≡ k + length (take i xs) = let l : length (take i xs) ≡ i = length-take-le i xs (omega arith) in omega arith in
+    ap (λ l. numbered f k (map g l)) (take_more xs i d lt ∙ ap (λ y. take i xs ++ y ∷ []) (sym is)) ∙ numbered_push_of f g k (take i xs) x n m
 
 pub length-push : {X : Type 0} (xs : List X) (x : X) → length (xs ++ x ∷ []) ≡ length xs + 1
 length-push [] x = refl

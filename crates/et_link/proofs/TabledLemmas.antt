@@ -8,7 +8,7 @@ use Rattle.std.proofs.lemmas.List.Elements.{All-nil, All-cons, All-head, All-tai
 use Rattle.std.proofs.lemmas.List.Sorted.{All-permutation, IsPermutation-reverse}
 use Rattle.et_pool.specs.Entries.{Constants}
 use Rattle.et_pool.specs.Descriptors.{dimensions}
-use Rattle.et_class.specs.declared.class.ClassFile.{ClassFile}
+use Rattle.et_link.specs.Loaded.{LoadedClass}
 use Rattle.et_set.specs.Outline.{Outline, place_of}
 use Rattle.et_set.specs.Links.{LinkEntry, links, links_of, no_links, parents_of, AreWithin}
 use Rattle.et_set.specs.Ancestry.{Ancestry, ancestry_at, IsBelow}
@@ -67,28 +67,28 @@ places_within {X} t n m (x ∷ xs) le = by (t x) (places_within t (n + 1) m xs (
 
 -- MEMBERS
 
-pub length-set : (files : List ClassFile) → length (set_of files) ≡ length boots + length files
+pub length-set : (files : List LoadedClass) → length (set_of files) ≡ length boots + length files
 length-set files =
     let a = length-append (map boot_outline boots) (map file_outline files) in
     let b = length-map boots boot_outline in
     let d = length-map files file_outline in
     omega arith
 
-pub methods_within : (files : List ClassFile) → All (λ (m : MethodInfo). m.class < length (set_of files)) (methods_of files)
+pub methods_within : (files : List LoadedClass) → All (λ (m : MethodInfo). m.class < length (set_of files)) (methods_of files)
 methods_within files =
     let n : length (set_of files) ≡ length boots + length files = length-set files in
     let P = λ (m : MethodInfo). m.class < length (set_of files) in
     All-append P (numbered boot_methods 0 boots) (numbered file_methods (length boots) files)
     (numbered_all P boot_methods 0 boots (λ j c le lt. All-map P (boot_method j) c.methods (λ i d l. omega arith)))
-    (numbered_all P file_methods (length boots) files (λ j c le lt. All-map P (file_method c.pool.slots j) c.methods.items (λ i d l. omega arith)))
+    (numbered_all P file_methods (length boots) files (λ j c le lt. All-map P (file_method c.pool.slots j) c.methods (λ i d l. omega arith)))
 
-pub fields_within : (files : List ClassFile) → All (λ (f : FieldInfo). f.class < length (set_of files)) (fields_of files)
+pub fields_within : (files : List LoadedClass) → All (λ (f : FieldInfo). f.class < length (set_of files)) (fields_of files)
 fields_within files =
     let n : length (set_of files) ≡ length boots + length files = length-set files in
     let P = λ (f : FieldInfo). f.class < length (set_of files) in
     All-append P (numbered boot_fields 0 boots) (numbered file_fields (length boots) files)
     (numbered_all P boot_fields 0 boots (λ j c le lt. All-map P (boot_field j) c.fields (λ i d l. omega arith)))
-    (numbered_all P file_fields (length boots) files (λ j c le lt. All-map P (file_field c.pool.slots j) c.fields.items (λ i d l. omega arith)))
+    (numbered_all P file_fields (length boots) files (λ j c le lt. All-map P (file_field c.pool.slots j) c.fields (λ i d l. omega arith)))
 
 pub length-placed : (base : ℕ → ℕ) (before fs : List FieldInfo) → length (placed_behind base before fs) ≡ length fs
 length-placed base before [] = refl
@@ -144,7 +144,7 @@ leaf_below set m (a ∷ rest) le = by (a == 76)
     by true = of_class _ (some_below (place_of set (take (length rest - 1) rest)) (length set) m le (position_within _ set))
     by false = of_base (base_kind a)
 
-set_class_within : (files : List ClassFile) (rows : List Ancestry) (m k : ℕ) (c : Outline) → AreRows files rows → m ≡ length (set_of files) + length (names_of files) → k < length (set_of files) → IsWithin m (set_class (heads_of files rows) k c)
+set_class_within : (files : List LoadedClass) (rows : List Ancestry) (m k : ℕ) (c : Outline) → AreRows files rows → m ≡ length (set_of files) + length (names_of files) → k < length (set_of files) → IsWithin m (set_class (heads_of files rows) k c)
 set_class_within files rows m k c are e lt =
     let n : ℕ = length (set_of files) in
     let le : n ≤ m = omega arith in
@@ -158,7 +158,7 @@ set_class_within files rows m k c are e lt =
       array = some_below _ (n + length (names_of files)) m (omega arith) (position_below _ n (names_of files));
     }
 
-set_info_within : (files : List ClassFile) (rows : List Ancestry) (m k : ℕ) (c : Outline) → AreRows files rows → m ≡ length (set_of files) + length (names_of files) → k < length (set_of files) → IsInfoWithin m (length (methods_of files)) (length (fields_of files)) (set_class (heads_of files rows) k c).info
+set_info_within : (files : List LoadedClass) (rows : List Ancestry) (m k : ℕ) (c : Outline) → AreRows files rows → m ≡ length (set_of files) + length (names_of files) → k < length (set_of files) → IsInfoWithin m (length (methods_of files)) (length (fields_of files)) (set_class (heads_of files rows) k c).info
 set_info_within files rows m k c are e lt =
     let n : ℕ = length (set_of files) in
     let le : n ≤ m = omega arith in
@@ -172,7 +172,7 @@ boots_are_some : 5 ≤ length boots
 unfolding boots
 boots_are_some = omega arith
 
-array_within : (files : List ClassFile) (rows : List Ancestry) (m k : ℕ) (name : List ℕ) → m ≡ length (set_of files) + length (names_of files) → k < m → IsWithin m (array_class (heads_of files rows) k name)
+array_within : (files : List LoadedClass) (rows : List Ancestry) (m k : ℕ) (name : List ℕ) → m ≡ length (set_of files) + length (names_of files) → k < m → IsWithin m (array_class (heads_of files rows) k name)
 array_within files rows m k name e lt =
     let n : ℕ = length (set_of files) in
     let s : n ≡ length boots + length files = length-set files in
@@ -187,7 +187,7 @@ array_within files rows m k name e lt =
       array = some_below _ (n + length (names_of files)) m (omega arith) (position_below _ n (names_of files));
     }
 
-array_info_within : (files : List ClassFile) (rows : List Ancestry) (m a b k : ℕ) (name : List ℕ) → IsInfoWithin m a b (array_class (heads_of files rows) k name).info
+array_info_within : (files : List LoadedClass) (rows : List Ancestry) (m a b k : ℕ) (name : List ℕ) → IsInfoWithin m a b (array_class (heads_of files rows) k name).info
 array_info_within files rows m a b k name = record { clinit = tt; prerequisites = All-nil (λ j. j < m); constants = All-nil (λ j. j < b) }
 
 pub length-classes : (h : Heads) (set : List Outline) (names : List (List ℕ)) → length (classes_by h set names) ≡ length set + length names
@@ -201,7 +201,7 @@ main_below : (o : Option ℕ) (m n : ℕ) → o ≡ Some m → IfSome o (λ j. j
 main_below None m n e h = absurd (cc)
 main_below (Some j) m n e h = h
 
-pub tabled : (files : List ClassFile) (rows : List Ancestry) (pools : List Constants) (m : ℕ) → AreRows files rows → main_of (methods_of files) ≡ Some m
+pub tabled : (files : List LoadedClass) (rows : List Ancestry) (pools : List Constants) (m : ℕ) → AreRows files rows → main_of (methods_of files) ≡ Some m
     → length (classes_by (heads_of files rows) (set_of files) (names_of files)) < 2 ^ 32 → length (methods_of files) < 2 ^ 32 → length (fields_of files) < 2 ^ 32 → IsTabled (program_with files rows pools)
 tabled files rows pools m are main few_c few_m few_f =
     let h : Heads = heads_of files rows in

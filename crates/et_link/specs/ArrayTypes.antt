@@ -16,13 +16,12 @@ use Rattle.et_code.specs.Decoding.{instruction_at}
 use Rattle.et_code.specs.Starts.{is_start}
 use Rattle.et_code.specs.Bodies.{Body}
 use Rattle.et_class.specs.Codes.{index_of}
-use Rattle.et_class.specs.declared.member.Member.{Member}
-use Rattle.et_class.specs.declared.class.ClassFile.{ClassFile}
 use Rattle.et_program.specs.declared.info.Element.{Element}
 use Rattle.et_program.specs.declared.info.Element.TheVariants as element
 use Rattle.et_program.specs.declared.kind.Leaf.{Leaf}
 use Rattle.et_program.specs.declared.kind.Leaf.TheVariants.{Base, Class}
 use Rattle.et_program.specs.declared.kind.Kind.{Kind}
+use Rattle.et_link.specs.Loaded.{LoadedMember, LoadedClass}
 use Rattle.et_link.specs.MembersOf.{numbered}
 
 -- NAMES
@@ -70,10 +69,10 @@ abbrev pub made_in_method : List (Option Item) → Option Body → List (List �
 made_in_method slots None = []
 made_in_method slots (Some b) = made_in slots b.code
 
-abbrev pub file_arrays : ClassFile → List (List ℕ)
-file_arrays c = named_arrays c.pool.slots ++ flat_map (λ (m : Member). made_in_method c.pool.slots m.code) c.methods.items
+abbrev pub file_arrays : LoadedClass → List (List ℕ)
+file_arrays c = named_arrays c.pool.slots ++ flat_map (λ (m : LoadedMember). made_in_method c.pool.slots m.code) c.methods
 
-abbrev pub arrays_met : List ClassFile → List (List ℕ)
+abbrev pub arrays_met : List LoadedClass → List (List ℕ)
 arrays_met files = codes "[Ljava/lang/String;" ∷ flat_map file_arrays files
 
 -- WHICH OF THEM A PROGRAM HAS, where `place` gives the number of a class of the set by its name

@@ -1,22 +1,22 @@
 -- What was read of the files, before there is a program.
 use Rattle.std.specs.Prelude.{◌≡◌, ℕ, ◌<◌, ◌^◌, List, length, Result, Ok, Err}
-use Rattle.et_class.specs.declared.class.ClassFile.{ClassFile}
 use Rattle.et_set.specs.Links.{links, AreWithin}
 use Rattle.et_set.specs.Faults.{IsFaultless}
 use Rattle.et_set.specs.Ancestry.{Ancestry, ancestry_at, IsAncestry, IsBelow}
 use Rattle.et_link.specs.declared.reading.Declared.{Declared}
 use Rattle.et_link.specs.declared.fault.LinkFault.{LinkFault}
+use Rattle.et_link.specs.Loaded.{LoadedClass}
 use Rattle.et_link.specs.Files.{set_of, flags_of}
 use Rattle.et_link.specs.MembersOf.{methods_of, fields_of, HasPools}
 use Rattle.et_link.specs.ArrayTypes.{arrays_met}
 use Rattle.et_link.specs.LinkFaults.{RefusesLink}
 
 -- what is known of the set keeps within it
-pub record AreRows (files : List ClassFile) (rows : List Ancestry) : Type 0 where
+pub record AreRows (files : List LoadedClass) (rows : List Ancestry) : Type 0 where
   pub within : AreWithin (length (set_of files)) (links (set_of files))
   pub below : (j : ℕ) → j < length (set_of files) → IsBelow (length (set_of files)) (ancestry_at rows j)
 
-pub record IsDeclared (files : List ClassFile) (d : Declared) : Type 0 where
+pub record IsDeclared (files : List LoadedClass) (d : Declared) : Type 0 where
   pub set_is : d.set.items ≡ set_of files
   pub table_is : d.hierarchy.table.items ≡ links (set_of files)
   pub ancestry : IsAncestry (links (set_of files)) d.hierarchy.rows.items
@@ -31,6 +31,6 @@ pub record IsDeclared (files : List ClassFile) (d : Declared) : Type 0 where
   pub few_fields : length d.parts.fields.items < 2 ^ 32
   pub faultless : IsFaultless (set_of files)
 
-abbrev pub Declares : List ClassFile → Result Declared LinkFault → Type 0
+abbrev pub Declares : List LoadedClass → Result Declared LinkFault → Type 0
 Declares files (Ok d) = IsDeclared files d
 Declares files (Err e) = RefusesLink files e

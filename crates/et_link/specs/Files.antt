@@ -4,9 +4,9 @@ use Rattle.et_pool.specs.Entries.{Item}
 use Rattle.et_pool.specs.Looks.{class_name_at}
 use Rattle.et_class.specs.Names.{has}
 use Rattle.et_class.specs.declared.flags.TheConstants.{INTERFACE, FINAL}
-use Rattle.et_class.specs.declared.class.ClassFile.{ClassFile}
 use Rattle.et_boot.specs.Classes.{BootClassOf, boot_classes}
 use Rattle.et_set.specs.Outline.{Outline}
+use Rattle.et_link.specs.Loaded.{LoadedClass}
 
 -- the built-in classes
 unfoldable pub boots : List BootClassOf
@@ -31,18 +31,18 @@ boot_outline c = record {
 }
 
 -- what the set has of the class of a file
-abbrev pub file_outline : ClassFile → Outline
+abbrev pub file_outline : LoadedClass → Outline
 file_outline c = record {
-  name = name_of c.pool.slots c.this_class;
-  super_name = class_name_at c.pool.slots c.super_class;
-  interfaces = map (name_of c.pool.slots) c.interfaces.items;
-  is_interface = has c.access_flags INTERFACE;
-  is_final = has c.access_flags FINAL;
+  name = name_of c.pool.slots c.this;
+  super_name = class_name_at c.pool.slots c.super;
+  interfaces = map (name_of c.pool.slots) c.interfaces;
+  is_interface = has c.flags INTERFACE;
+  is_final = has c.flags FINAL;
 }
 
-abbrev pub set_of : List ClassFile → List Outline
+abbrev pub set_of : List LoadedClass → List Outline
 set_of files = map boot_outline boots ++ map file_outline files
 
 -- the access flags of each class
-abbrev pub flags_of : List ClassFile → List ℕ
-flags_of files = map (λ (c : BootClassOf). c.flags) boots ++ map (λ (c : ClassFile). c.access_flags) files
+abbrev pub flags_of : List LoadedClass → List ℕ
+flags_of files = map (λ (c : BootClassOf). c.flags) boots ++ map (λ (c : LoadedClass). c.flags) files

@@ -1,3 +1,4 @@
+pub mod Loaded
 pub mod Files
 pub mod MembersOf
 pub mod Slots

@@ -1,10 +1,9 @@
 -- WHAT KEEPS FILES FROM BEING LINKED.
-use Rattle.std.specs.Prelude.{◌≡◌, ℕ, ◌+◌, ◌<◌, zero, suc, Bool, true, false, not, ◌==◌, ◌&&◌, List, [], ◌∷◌, length, take, Option, Some, None, codes}
+use Rattle.std.specs.Prelude.{◌≡◌, ℕ, ◌+◌, ◌<◌, zero, suc, Bool, true, false, not, ◌==◌, ◌&&◌, ◌⊎◌, List, [], ◌∷◌, length, take, Option, Some, None, codes}
 use Rattle.std.specs.List.{slice_index_or, position_from}
 use Rattle.std.specs.Str.{bytes_eq}
 use Rattle.et_class.specs.Names.{has}
 use Rattle.et_class.specs.declared.flags.TheConstants.{PUBLIC, PRIVATE, PROTECTED, STATIC}
-use Rattle.et_class.specs.declared.class.ClassFile.{ClassFile}
 use Rattle.et_set.specs.Outline.{Outline, outline_at}
 use Rattle.et_set.specs.Links.{LinkEntry, links, no_links}
 use Rattle.et_set.specs.Faults.{Shows}
@@ -16,6 +15,7 @@ use Rattle.et_link.specs.declared.fault.LinkFaultKind.{LinkFaultKind}
 use Rattle.et_link.specs.declared.fault.LinkFaultKind.TheVariants.{Duplicate, NoSuper, Cycle, FinalSuper, CrossPackage, NoMain, TooMany}
 use Rattle.et_link.specs.declared.fault.LinkFault.{LinkFault}
 use Rattle.et_link.specs.declared.fault.LinkFault.TheVariants as fault
+use Rattle.et_link.specs.Loaded.{LoadedClass}
 use Rattle.et_link.specs.Files.{boots, set_of}
 use Rattle.et_link.specs.MembersOf.{methods_of}
 use Rattle.et_link.specs.Slots.{places_from}
@@ -73,7 +73,7 @@ pub record CrossesPackage (set : List Outline) (methods : List MethodInfo) (k : 
 -- FAULTS
 
 -- class k of the set shows this
-abbrev pub LinkShows : List ClassFile → LinkFaultKind → ℕ → Type 0
+abbrev pub LinkShows : List LoadedClass → LinkFaultKind → ℕ → Type 0
 LinkShows files Duplicate k = Shows (set_of files) set.Duplicate k
 LinkShows files NoSuper k = Shows (set_of files) set.NoSuper k
 LinkShows files Cycle k = Shows (set_of files) set.Cycle k
@@ -92,21 +92,25 @@ link_number NoMain = 6
 link_number TooMany = 7
 
 -- no class shows this
-abbrev pub IsLinkFree : List ClassFile → LinkFaultKind → Type 0
+abbrev pub IsLinkFree : List LoadedClass → LinkFaultKind → Type 0
 IsLinkFree files kind = (k : ℕ) → k < length (set_of files) → LinkShows files kind k → ⊥
 
 -- the least kind that a class shows, with the first class that shows it
-pub record IsFaultAt (files : List ClassFile) (kind : LinkFaultKind) (k : ℕ) : Type 0 where
+pub record IsFaultAt (files : List LoadedClass) (kind : LinkFaultKind) (k : ℕ) : Type 0 where
   pub inside : k < length (set_of files)
   pub shows : LinkShows files kind k
   pub first : (j : ℕ) → j < k → LinkShows files kind j → ⊥
   pub least : (other : LinkFaultKind) → link_number other < link_number kind → IsLinkFree files other
 
 -- no class shows anything
-abbrev pub IsLinkable : List ClassFile → Type 0
+abbrev pub IsLinkable : List LoadedClass → Type 0
 IsLinkable files = (kind : LinkFaultKind) → IsLinkFree files kind
 
+-- some class shows a fault, or none does
+abbrev pub HasLinkAnswer : List LoadedClass → Type 0
+HasLinkAnswer files = ((kind : LinkFaultKind) × ((k : ℕ) × IsFaultAt files kind k)) ⊎ IsLinkable files
+
 -- a fault that is answered is that of the files, with the name of its class
-abbrev pub RefusesLink : List ClassFile → LinkFault → Type 0
+abbrev pub RefusesLink : List LoadedClass → LinkFault → Type 0
 RefusesLink files (fault.At kind name) = (k : ℕ) × IsFaultAt files kind k × (name ≡ (outline_at (set_of files) k).name)
 RefusesLink files fault.NoMemory = Unit {0}

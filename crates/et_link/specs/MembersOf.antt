@@ -4,11 +4,10 @@ use Rattle.et_pool.specs.Entries.{Item, Constants}
 use Rattle.et_pool.specs.Looks.{utf8_at}
 use Rattle.et_pool.specs.Pools.{IsPool}
 use Rattle.et_code.specs.Bodies.{Body}
-use Rattle.et_class.specs.declared.member.Member.{Member}
-use Rattle.et_class.specs.declared.class.ClassFile.{ClassFile}
 use Rattle.et_boot.specs.Classes.{BootClassOf, BootFieldOf, BootMethodOf, BootCodeOf}
 use Rattle.et_program.specs.declared.info.MethodInfo.{MethodInfo}
 use Rattle.et_program.specs.declared.info.FieldInfo.{FieldInfo}
+use Rattle.et_link.specs.Loaded.{LoadedMember, LoadedClass}
 use Rattle.et_link.specs.Files.{boots, or_empty}
 
 -- what the elements of a list give, each with its number, from a number on
@@ -29,16 +28,16 @@ boot_body c = record { max_stack = c.max_stack; max_locals = c.max_locals; code 
 abbrev pub boot_method : ℕ → BootMethodOf → MethodInfo
 boot_method k m = record { class = k; name = m.name; descriptor = m.descriptor; flags = m.flags; code = option_map boot_body m.code; deferred = m.deferred }
 
-abbrev pub file_method : List (Option Item) → ℕ → Member → MethodInfo
-file_method slots k m = record { class = k; name = text_of slots m.name_index; descriptor = text_of slots m.descriptor_index; flags = m.access_flags; code = m.code; deferred = false }
+abbrev pub file_method : List (Option Item) → ℕ → LoadedMember → MethodInfo
+file_method slots k m = record { class = k; name = text_of slots m.name; descriptor = text_of slots m.descriptor; flags = m.flags; code = m.code; deferred = false }
 
 abbrev pub boot_methods : ℕ → BootClassOf → List MethodInfo
 boot_methods k c = map (boot_method k) c.methods
 
-abbrev pub file_methods : ℕ → ClassFile → List MethodInfo
-file_methods k c = map (file_method c.pool.slots k) c.methods.items
+abbrev pub file_methods : ℕ → LoadedClass → List MethodInfo
+file_methods k c = map (file_method c.pool.slots k) c.methods
 
-abbrev pub methods_of : List ClassFile → List MethodInfo
+abbrev pub methods_of : List LoadedClass → List MethodInfo
 methods_of files = numbered boot_methods 0 boots ++ numbered file_methods (length boots) files
 
 -- FIELDS, before they have slots
@@ -46,16 +45,16 @@ methods_of files = numbered boot_methods 0 boots ++ numbered file_methods (lengt
 abbrev pub boot_field : ℕ → BootFieldOf → FieldInfo
 boot_field k f = record { class = k; name = f.name; descriptor = f.descriptor; flags = f.flags; slot = 0; constant = 0 }
 
-abbrev pub file_field : List (Option Item) → ℕ → Member → FieldInfo
-file_field slots k f = record { class = k; name = text_of slots f.name_index; descriptor = text_of slots f.descriptor_index; flags = f.access_flags; slot = 0; constant = f.constant }
+abbrev pub file_field : List (Option Item) → ℕ → LoadedMember → FieldInfo
+file_field slots k f = record { class = k; name = text_of slots f.name; descriptor = text_of slots f.descriptor; flags = f.flags; slot = 0; constant = f.constant }
 
 abbrev pub boot_fields : ℕ → BootClassOf → List FieldInfo
 boot_fields k c = map (boot_field k) c.fields
 
-abbrev pub file_fields : ℕ → ClassFile → List FieldInfo
-file_fields k c = map (file_field c.pool.slots k) c.fields.items
+abbrev pub file_fields : ℕ → LoadedClass → List FieldInfo
+file_fields k c = map (file_field c.pool.slots k) c.fields
 
-abbrev pub fields_of : List ClassFile → List FieldInfo
+abbrev pub fields_of : List LoadedClass → List FieldInfo
 fields_of files = numbered boot_fields 0 boots ++ numbered file_fields (length boots) files
 
 -- POOLS
@@ -72,11 +71,11 @@ AreBootPools [] (p ∷ ps) = ⊥
 AreBootPools (c ∷ cs) [] = ⊥
 AreBootPools (c ∷ cs) (p ∷ ps) = IsBootPool c p × AreBootPools cs ps
 
-abbrev pub file_pool : ClassFile → Constants
+abbrev pub file_pool : LoadedClass → Constants
 file_pool c = c.pool
 
 -- the pools of the built-in classes, and then those of the files
-pub record HasPools (files : List ClassFile) (pools : List Constants) : Type 0 where
+pub record HasPools (files : List LoadedClass) (pools : List Constants) : Type 0 where
   pub built_in : List Constants
   pub are_spelled : AreBootPools boots built_in
   pub are : pools ≡ built_in ++ map file_pool files

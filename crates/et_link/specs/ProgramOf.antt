@@ -6,12 +6,12 @@ use Rattle.std.specs.Str.{bytes_eq}
 use Rattle.et_pool.specs.Entries.{Constants}
 use Rattle.et_class.specs.Names.{has}
 use Rattle.et_class.specs.declared.flags.TheConstants.{STATIC}
-use Rattle.et_class.specs.declared.class.ClassFile.{ClassFile}
 use Rattle.et_set.specs.Outline.{Outline, place_of}
 use Rattle.et_set.specs.Links.{links}
 use Rattle.et_set.specs.Ancestry.{Ancestry, IsAncestry}
 use Rattle.et_program.specs.declared.info.MethodInfo.{MethodInfo}
 use Rattle.et_program.specs.Entries.{ClassEntry, Linked}
+use Rattle.et_link.specs.Loaded.{LoadedClass}
 use Rattle.et_link.specs.Files.{boots, set_of, flags_of}
 use Rattle.et_link.specs.MembersOf.{numbered, methods_of, fields_of, HasPools}
 use Rattle.et_link.specs.Slots.{slots_of, placed, places_from, is_static_field}
@@ -20,10 +20,10 @@ use Rattle.et_link.specs.ArrayTypes.{arrays_met, array_names, array_at}
 use Rattle.et_link.specs.Classes.{Heads, set_class, array_class}
 
 -- the names of the array classes
-abbrev pub names_of : List ClassFile → List (List ℕ)
+abbrev pub names_of : List LoadedClass → List (List ℕ)
 names_of files = array_names (place_of (set_of files)) (arrays_met files)
 
-abbrev pub heads_of : List ClassFile → List Ancestry → Heads
+abbrev pub heads_of : List LoadedClass → List Ancestry → Heads
 heads_of files rows = record {
   table = links (set_of files);
   rows = rows;
@@ -51,7 +51,7 @@ main_of methods = position_from is_main 0 methods
 abbrev pub is_of_file : MethodInfo → Bool
 is_of_file m = not (nat_lt m.class (length boots))
 
-abbrev pub program_with : List ClassFile → List Ancestry → List Constants → Linked
+abbrev pub program_with : List LoadedClass → List Ancestry → List Constants → Linked
 program_with files rows pools = record {
   classes = classes_by (heads_of files rows) (set_of files) (names_of files);
   methods = methods_of files;
@@ -63,7 +63,7 @@ program_with files rows pools = record {
 }
 
 -- the program of the files: its lists of superclasses and superinterfaces are those that the classes right above give
-pub record IsProgramOf (files : List ClassFile) (p : Linked) : Type 0 where
+pub record IsProgramOf (files : List LoadedClass) (p : Linked) : Type 0 where
   pub rows : List Ancestry
   pub ancestry : IsAncestry (links (set_of files)) rows
   pub pools : HasPools files p.pools

@@ -1,7 +1,6 @@
 -- The answers on the way to a program.
 use Rattle.std.specs.Prelude.{◌≡◌, ℕ, ◌+◌, ◌<◌, ◌≤◌, List, [], length, None, Some, Result, Ok, Err}
 use Rattle.et_pool.specs.Entries.{Constants}
-use Rattle.et_class.specs.declared.class.ClassFile.{ClassFile}
 use Rattle.et_set.specs.Outline.{Outline, outline_at}
 use Rattle.et_set.specs.Faults.{IsLinkFault}
 use Rattle.et_set.specs.Ancestry.{Ancestry}
@@ -14,16 +13,22 @@ use Rattle.et_link.specs.declared.fault.LinkFaultKind.{LinkFaultKind}
 use Rattle.et_link.specs.declared.fault.LinkFaultKind.TheVariants.{Duplicate, NoSuper, Cycle, FinalSuper, CrossPackage, NoMain, TooMany}
 use Rattle.et_link.specs.declared.fault.LinkFault.{LinkFault}
 use Rattle.et_link.specs.declared.fault.LinkFault.TheVariants as fault
+use Rattle.et_link.specs.Loaded.{LoadedClass}
 use Rattle.et_link.specs.Files.{boots}
 use Rattle.et_link.specs.Slots.{placed_behind, places_from, is_static_field}
 use Rattle.et_link.specs.Crossing.{crosses, AnswersLeast}
 use Rattle.et_link.specs.Classes.{Heads}
 use Rattle.et_link.specs.ProgramOf.{main_of, is_of_file, classes_by, IsProgramOf}
-use Rattle.et_link.specs.LinkFaults.{IsLinkable, RefusesLink}
+use Rattle.et_link.specs.LinkFaults.{IsFaultAt, IsLinkable, RefusesLink}
 
--- WHAT LINKING ANSWERS: a program exactly where no class shows a fault, and else the fault
-abbrev pub Links : List ClassFile → Result Linked LinkFault → Type 0
-Links files (Ok p) = IsLinkable files × IsProgramOf files p
+-- WHAT FILES ARE: a program where no class shows a fault, and else their fault, with the class that shows it
+abbrev pub LinkIs : List LoadedClass → Result Linked (LinkFaultKind × ℕ) → Type 0
+LinkIs files (Ok p) = IsLinkable files × IsProgramOf files p
+LinkIs files (Err f) = IsFaultAt files f.0 f.1
+
+-- what linking answers: the program, or the fault
+abbrev pub Links : List LoadedClass → Result Linked LinkFault → Type 0
+Links files (Ok p) = LinkIs files (Ok p)
 Links files (Err e) = RefusesLink files e
 
 -- the fault names class k of the set; want of memory says nothing

@@ -6,6 +6,7 @@ ghost use Rattle.std.specs.Option.{option_to_list};
 ghost use Rattle.et_pool.specs.Looks.{named_by};
 ghost use Rattle.et_index.specs.Shown.{number_of};
 ghost use Rattle.et_class.specs.Codes.{index_of};
+ghost use Rattle.et_link.specs.Loaded.{loaded_file};
 ghost use Rattle.et_link.specs.ArrayTypes.{base_letter, base_kind, array_over, named_arrays, made_by, made_in, made_in_method, file_arrays, arrays_met, leaf_at, leaf_of, is_known, with_elements, name_added, names_added, element_of, kind_of};
 ghost use Rattle.et_link.specs.Naming.{IsIndexFrom};
 
@@ -183,7 +184,7 @@ fn add_made_in_method(
 
 /// Puts the array types that a file names or makes behind a list.
 fn add_file_arrays(alloc: Global, list: &mut Vec<Name>, file: &ClassFile) -> Result<(), NoMemory>
-    ensures { OnOk result (list.new.items ≡ list.old.items ++ file_arrays file.now) }
+    ensures { OnOk result (list.new.items ≡ list.old.items ++ file_arrays (loaded_file file.now)) }
 {
     add_named(alloc, list, &file.pool)?;
     for method in &file.methods {
@@ -194,7 +195,7 @@ fn add_file_arrays(alloc: Global, list: &mut Vec<Name>, file: &ClassFile) -> Res
 
 /// The array types that the files name or make, behind that of the arguments of `main`.
 pub(crate) fn arrays_met(alloc: Global, files: &[ClassFile]) -> Result<Vec<Name>, NoMemory>
-    ensures { IfOk result (λ met. met.items ≡ arrays_met files.now) }
+    ensures { IfOk result (λ met. met.items ≡ arrays_met (map loaded_file files.now)) }
 {
     let mut met = Vec::new(alloc);
     let first = Name::of(alloc, b"[Ljava/lang/String;")?;

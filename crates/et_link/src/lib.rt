@@ -7,6 +7,7 @@ mod classes;
 mod crossing;
 mod fault;
 mod heads;
+pub mod laws;
 mod linking;
 mod members;
 mod names;

@@ -1,6 +1,6 @@
 //! The making of a program.
 
-ghost use Rattle.std.specs.Prelude.{◌≡◌, ℕ, ◌+◌, ◌<◌, ◌≤◌, ◌^◌, List, length, All, IfOk};
+ghost use Rattle.std.specs.Prelude.{◌≡◌, ℕ, ◌+◌, ◌<◌, ◌≤◌, ◌^◌, List, length, map, All, IfOk};
 ghost use Rattle.std.specs.List.{slice_index_or};
 ghost use Rattle.et_index.specs.Shown.{number_of};
 ghost use Rattle.et_set.specs.Outline.{place_of};
@@ -9,13 +9,13 @@ ghost use Rattle.et_set.specs.Ancestry.{ancestry_at, IsBelow};
 ghost use Rattle.et_program.specs.declared.info.MethodInfo.{MethodInfo as MethodOf};
 ghost use Rattle.et_program.specs.declared.info.FieldInfo.{FieldInfo as FieldOf};
 ghost use Rattle.et_program.specs.Tables.{IsTabled};
+ghost use Rattle.et_link.specs.Loaded.{LoadedClass, loaded_file};
 ghost use Rattle.et_link.specs.Slots.{own_slots, slots_above, places_from};
 ghost use Rattle.et_link.specs.Heads.{has_to_run, initializer_of, constants_of};
 ghost use Rattle.et_link.specs.ArrayTypes.{array_names};
 ghost use Rattle.et_link.specs.Naming.{IsIndexFrom};
 ghost use Rattle.et_link.specs.ProgramOf.{is_of_file};
 ghost use Rattle.et_link.specs.Known.{heads_in, AreSized};
-ghost use Rattle.et_class.specs.declared.class.ClassFile.{ClassFile as FileOf};
 ghost use Rattle.et_link.specs.MembersOf.{methods_of};
 ghost use Rattle.et_link.specs.Refusals.{linked_by};
 
@@ -165,7 +165,7 @@ ghost use Rattle.std.specs.Prelude.{Some};
 
 /// What the files declare, or the fault of the names of their classes.
 fn declare(alloc: Global, files: Vec<ClassFile>) -> Result<Declared, LinkFault>
-    ensures { Declares files.items result }
+    ensures { Declares (map loaded_file files.items) result }
 {
     let read = files.as_slice();
     let set = outlines(alloc, read)?;
@@ -207,8 +207,8 @@ fn check_classes(set: usize, arrays: usize) -> Result<(), NoMemory>
 
 /// The program of what the files declare.
 fn build(alloc: Global, declared: Declared, main: MethodId) -> Result<Program, NoMemory>
-    requires { (files : List FileOf) × IsDeclared files declared × (main_of (methods_of files) ≡ Some main) }
-    ensures { IfOk result (λ p. (files : List FileOf) → IsDeclared files declared → main_of (methods_of files) ≡ Some main → IsProgramOf files p) }
+    requires { (files : List LoadedClass) × IsDeclared files declared × (main_of (methods_of files) ≡ Some main) }
+    ensures { IfOk result (λ p. (files : List LoadedClass) → IsDeclared files declared → main_of (methods_of files) ≡ Some main → IsProgramOf files p) }
 {
     let Declared {
         set,
@@ -233,7 +233,7 @@ fn build(alloc: Global, declared: Declared, main: MethodId) -> Result<Program, N
 /// is looked for.
 pub fn link(alloc: Global, files: Vec<ClassFile>) -> Result<Program, LinkFault>
     requires { 0 < length files.items }
-    ensures { Links files.items result }
+    ensures { Links (map loaded_file files.items) result }
 {
     let count = files.len();
     let declared = declare(alloc, files)?;

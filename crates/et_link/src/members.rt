@@ -3,6 +3,7 @@
 ghost use Rattle.std.specs.Prelude.{◌≡◌, ◌++◌, length, IfOk, OnOk, map, option_map};
 ghost use Rattle.et_pool.specs.Pools.{IsPool};
 ghost use Rattle.et_boot.specs.Shown.{shown, shown_method, shown_code, shown_field};
+ghost use Rattle.et_link.specs.Loaded.{loaded_member, loaded_file};
 ghost use Rattle.et_link.specs.Files.{boots};
 ghost use Rattle.et_link.specs.MembersOf.{numbered, text_of, boot_body, boot_method, file_method, boot_methods, file_methods, boot_field, file_field, boot_fields, file_fields, fields_of};
 
@@ -42,7 +43,7 @@ fn field_of_file(
     pool: &Pool,
     field: &Member,
 ) -> Result<FieldInfo, NoMemory>
-    ensures { IfOk result (λ f. f ≡ file_field pool.now.slots class field.now) }
+    ensures { IfOk result (λ f. f ≡ file_field pool.now.slots class (loaded_member field.now)) }
 {
     let name = text_at(alloc, pool, field.name_index)?;
     let descriptor = text_at(alloc, pool, field.descriptor_index)?;
@@ -63,7 +64,7 @@ fn add_file_fields(
     class: ClassId,
     file: &ClassFile,
 ) -> Result<(), NoMemory>
-    ensures { OnOk result (list.new.items ≡ list.old.items ++ file_fields class file.now) }
+    ensures { OnOk result (list.new.items ≡ list.old.items ++ file_fields class (loaded_file file.now)) }
 {
     for field in &file.fields {
         let info = field_of_file(alloc, class, &file.pool, field)?;
@@ -118,7 +119,7 @@ fn all_boot_fields(alloc: Global) -> Result<Vec<FieldInfo>, NoMemory>
 
 /// The fields of all classes, without slots yet.
 pub(crate) fn all_fields(alloc: Global, files: &[ClassFile]) -> Result<Vec<FieldInfo>, NoMemory>
-    ensures { IfOk result (λ fields. fields.items ≡ fields_of files.now) }
+    ensures { IfOk result (λ fields. fields.items ≡ fields_of (map loaded_file files.now)) }
 {
     let mut list = all_boot_fields(alloc)?;
     let first = boots();
@@ -150,7 +151,7 @@ fn method_of_file(
     pool: &Pool,
     method: Member,
 ) -> Result<MethodInfo, NoMemory>
-    ensures { IfOk result (λ m. m ≡ file_method pool.now.slots class method) }
+    ensures { IfOk result (λ m. m ≡ file_method pool.now.slots class (loaded_member method)) }
 {
     let name = text_at(alloc, pool, method.name_index)?;
     let descriptor = text_at(alloc, pool, method.descriptor_index)?;
@@ -172,7 +173,7 @@ fn add_file_methods(
     pool: &Pool,
     methods: Vec<Member>,
 ) -> Result<(), NoMemory>
-    ensures { OnOk result (list.new.items ≡ list.old.items ++ map (file_method pool.now.slots class) methods.items) }
+    ensures { OnOk result (list.new.items ≡ list.old.items ++ map (file_method pool.now.slots class) (map loaded_member methods.items)) }
 {
     for method in methods {
         let info = method_of_file(alloc, class, pool, method)?;
@@ -278,8 +279,8 @@ fn boot_members(alloc: Global) -> Result<Members, NoMemory>
 
 /// The methods of all classes, and the pools.
 pub(crate) fn all_members(alloc: Global, files: Vec<ClassFile>) -> Result<Members, NoMemory>
-    ensures methods { IfOk result (λ m. m.methods.items ≡ methods_of files.items) }
-    ensures pools { IfOk result (λ m. HasPools files.items m.pools.items) }
+    ensures methods { IfOk result (λ m. m.methods.items ≡ methods_of (map loaded_file files.items)) }
+    ensures pools { IfOk result (λ m. HasPools (map loaded_file files.items) m.pools.items) }
 {
     let boot = boot_members(alloc)?;
     let Members {

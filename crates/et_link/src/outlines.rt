@@ -4,6 +4,7 @@ ghost use Rattle.std.specs.Prelude.{◌≡◌, ◌++◌, IfOk, OnOk, map, Some};
 ghost use Rattle.et_pool.specs.Looks.{class_name_at};
 ghost use Rattle.et_boot.specs.Classes.{BootClassOf};
 ghost use Rattle.et_boot.specs.Shown.{shown};
+ghost use Rattle.et_link.specs.Loaded.{loaded_file};
 ghost use Rattle.et_link.specs.Files.{boots, name_of, boot_outline, file_outline, set_of, flags_of};
 
 use crate::boots::{boot, boots};
@@ -49,7 +50,7 @@ fn names_at(alloc: Global, pool: &Pool, indices: &[u16]) -> Result<Vec<Name>, No
 
 /// The outline of a class of a file.
 fn outline_of_file(alloc: Global, file: &ClassFile) -> Result<ClassOutline, NoMemory>
-    ensures { IfOk result (λ o. o ≡ file_outline file.now) }
+    ensures { IfOk result (λ o. o ≡ file_outline (loaded_file file.now)) }
 {
     let name = name_at(alloc, &file.pool, file.this_class)?;
     let super_name = name_if_any(alloc, &file.pool, file.super_class)?;
@@ -108,7 +109,7 @@ fn boot_outlines(alloc: Global) -> Result<Vec<ClassOutline>, NoMemory>
 
 /// The outlines of the built-in classes, and then those of the files.
 pub(crate) fn outlines(alloc: Global, files: &[ClassFile]) -> Result<Vec<ClassOutline>, NoMemory>
-    ensures { IfOk result (λ set. set.items ≡ set_of files.now) }
+    ensures { IfOk result (λ set. set.items ≡ set_of (map loaded_file files.now)) }
 {
     let mut set = boot_outlines(alloc)?;
     for file in files {
@@ -120,7 +121,7 @@ pub(crate) fn outlines(alloc: Global, files: &[ClassFile]) -> Result<Vec<ClassOu
 
 /// The access flags of the built-in classes, and then those of the files.
 pub(crate) fn class_flags(alloc: Global, files: &[ClassFile]) -> Result<Vec<u16>, NoMemory>
-    ensures { IfOk result (λ flags. flags.items ≡ flags_of files.now) }
+    ensures { IfOk result (λ flags. flags.items ≡ flags_of (map loaded_file files.now)) }
 {
     let mut flags = boot_flags(alloc)?;
     for file in files {

@@ -70,8 +70,8 @@ fn several_files_are_read_in_order(rt: HostRuntime) -> Result<(), Fail> {
         ),
         (
             "trace Box.class Box.class",
-            Status::NotYet,
-            b"elephant: not yet Box.class\n",
+            Status::LinkFault,
+            b"elephant: link 1 Box\n",
         ),
     ];
     for (line, status, refusal) in rows {

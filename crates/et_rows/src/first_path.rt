@@ -185,16 +185,16 @@ fn cut_classes_are_refused(rt: HostRuntime) -> Result<(), Fail> {
 }
 
 #[test]
-fn a_class_without_main_is_not_run_yet(rt: HostRuntime) -> Result<(), Fail> {
+fn a_class_without_main_does_not_link(rt: HostRuntime) -> Result<(), Fail> {
     let alloc = rt.alloc();
     let mut files = files_with(alloc, &changed(alloc, 95, b"\x07")?)?;
-    let said = b"elephant: not yet Box.class\n";
+    let said = b"elephant: link 6 Box\n";
     is_answered(
         &rt,
         alloc,
         &mut files,
         "trace Box.class",
-        Status::NotYet,
+        Status::LinkFault,
         b"",
         said,
     )

@@ -7,6 +7,8 @@ mod commands;
 #[cfg(test)]
 mod first_path;
 #[cfg(test)]
+mod linking;
+#[cfg(test)]
 mod round_trip;
 #[cfg(test)]
 mod runs;

@@ -7,5 +7,6 @@ pub mod FaultLemmas
 pub mod AddLemmas
 pub mod BelowLemmas
 pub mod Rounds
+pub mod Unique
 pub mod InitLemmas
 pub mod OrderLemmas

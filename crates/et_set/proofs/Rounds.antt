@@ -79,7 +79,7 @@ same_by (Some s) ints rows rows' k h =
     (ap (λ (r : Ancestry). once (r.superinterfaces ++ flat_map (λ i. (ancestry_at rows' i).superinterfaces ++ i ∷ []) ints)) e ∙ ap (λ (z : List ℕ). once ((ancestry_at rows s).superinterfaces ++ z)) f)
     (ap (λ (r : Ancestry). once (k ∷ flat_map (λ i. (ancestry_at rows' i).field_order) ints ++ r.field_order)) e ∙ ap (λ (z : List ℕ). once (k ∷ z ++ (ancestry_at rows s).field_order)) g)
 
-ancestry_same : (l : LinkEntry) (rows rows' : List Ancestry) (k : ℕ) → All (λ p. ancestry_at rows' p ≡ ancestry_at rows p) (parents_of l) → ancestry_of l rows' k ≡ ancestry_of l rows k
+pub ancestry_same : (l : LinkEntry) (rows rows' : List Ancestry) (k : ℕ) → All (λ p. ancestry_at rows' p ≡ ancestry_at rows p) (parents_of l) → ancestry_of l rows' k ≡ ancestry_of l rows k
 ancestry_same l rows rows' k h = same_by l.above l.interfaces rows rows' k h
 
 -- the rows of the classes that are done are right

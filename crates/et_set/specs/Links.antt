@@ -37,7 +37,11 @@ IsAncestor table k a = (n : ℕ) × IsAncestorIn table k n a
 abbrev pub AreWithin : ℕ → List LinkEntry → Type 0
 AreWithin n table = All (λ l. All (λ k. k < n) (parents_of l)) table
 
+-- no class is its own ancestor
+abbrev pub IsAcyclic : List LinkEntry → Type 0
+IsAcyclic table = (k : ℕ) → k < length table → IsAncestor table k k → ⊥
+
 -- the first class that is its own ancestor, or none where no class is
 abbrev pub AnswersCycle : List LinkEntry → Option ℕ → Type 0
-AnswersCycle table None = (k : ℕ) → k < length table → IsAncestor table k k → ⊥
+AnswersCycle table None = IsAcyclic table
 AnswersCycle table (Some k) = (k < length table) × IsAncestor table k k × ((j : ℕ) → j < k → IsAncestor table j j → ⊥)

@@ -2,7 +2,7 @@
 
 ghost use Rattle.std.specs.Prelude.{◌≡◌, ℕ, ◌<◌, Bool, List, length, Some};
 ghost use Rattle.std.specs.List.{slice_index_or};
-ghost use Rattle.et_set.specs.Links.{LinkEntry, no_links};
+ghost use Rattle.et_set.specs.Links.{LinkEntry, no_links, AreWithin, IsAcyclic};
 ghost use Rattle.et_set.specs.Ancestry.{Ancestry, IsAncestry};
 ghost use Rattle.et_set.specs.Initialization.{GoesOn};
 
@@ -10,4 +10,10 @@ ghost use Rattle.et_set.specs.Initialization.{GoesOn};
 /// itself (JVMS 5.5).
 pub fn order_goes_on()
     ensures { (needs : ℕ → Bool) (table : List LinkEntry) (rows : List Ancestry) (k s : ℕ) → IsAncestry table rows → k < length table → (slice_index_or table k no_links).above ≡ Some s → GoesOn needs table rows k s }
+{}
+
+/// The lists of superclasses and superinterfaces are determined by the direct ones, where no class is its own ancestor
+/// (JVMS 5.3.5).
+pub fn ancestries_are_one()
+    ensures { (table : List LinkEntry) (rows others : List Ancestry) → AreWithin (length table) table → IsAcyclic table → IsAncestry table rows → IsAncestry table others → rows ≡ others }
 {}

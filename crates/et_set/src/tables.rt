@@ -2,7 +2,7 @@
 
 ghost use Rattle.std.specs.Prelude.{◌≡◌, ℕ, ◌<◌, ◌^◌, List, [], ◌∷◌, ◌++◌, length, All, OnOk, IfOk, IfSome, Option, Bool, MatchOption, true, false};
 ghost use Rattle.std.specs.List.{slice_index_or, list_all, flat_map};
-ghost use Rattle.et_set.specs.Links.{LinkEntry, parents_of, parents, no_links, IsAncestor, AreWithin};
+ghost use Rattle.et_set.specs.Links.{LinkEntry, parents_of, parents, no_links, IsAcyclic, AreWithin};
 ghost use Rattle.et_set.specs.Ancestry.{ancestry_at, added, added_all, once, supers_over, superinterfaces_over, field_order_over, ancestry_of, IsAncestry, IsBelow};
 
 use crate::links::Links;
@@ -185,7 +185,7 @@ fn next_ready(done: &[bool], table: &[Links]) -> Option<usize>
 pub fn ancestries(alloc: Global, table: &[Links]) -> Result<Vec<Row>, AllocError>
     requires few { length table.now < 2 ^ 32 }
     requires within { AreWithin (length table.now) table.now }
-    requires acyclic { (k : ℕ) → k < length table.now → IsAncestor table.now k k → ⊥ }
+    requires acyclic { IsAcyclic table.now }
     ensures rows { IfOk result (λ rows. IsAncestry table.now rows.items) }
     ensures below { IfOk result (λ rows. (k : ℕ) → k < length table.now → IsBelow (length table.now) (ancestry_at rows.items k)) }
 {

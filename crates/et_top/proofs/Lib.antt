@@ -1,3 +1,4 @@
 mod Found
+mod LinkLemmas
 mod ModelLemmas
 mod TopLemmas

@@ -13,7 +13,7 @@ use Rattle.et_run.specs.Traced.{WritesTrace}
 use Rattle.et_single.specs.MainClass.{MainClass}
 use Rattle.et_single.specs.Machine.{start, start_records}
 use Rattle.et_single.specs.Runs.{setting_of}
-use Rattle.et_top.specs.Faults.{Fault, Absent, TooLong, BadClass, BadText, BadTrace, NotYet, status_of_fault}
+use Rattle.et_top.specs.Faults.{Fault, Absent, TooLong, BadClass, BadText, BadTrace, LinkFault, NotYet, status_of_fault}
 use Rattle.et_io.specs.Files.{Held}
 use Rattle.et_words.specs.Command.{Asked}
 use Rattle.et_words.specs.Asked.{asked_by}
@@ -61,6 +61,7 @@ module _ (reached : Graph → ℕ → Bool) (before after : Option (List ℕ)) (
   history_more status.BadClass h = absurd h
   history_more status.BadText h = absurd h
   history_more status.BadTrace h = absurd h
+  history_more status.LinkFault h = absurd h
   history_more status.NotYet h = absurd h
 
 -- A TEXT THAT WAS WRITTEN
@@ -114,6 +115,7 @@ module _ (reached : Graph → ℕ → Bool) (taken : Option (List ℕ)) (read wr
   by_cause d (refusal.BadClass path kind offset) loaded file reads other = subst (λ x. Gives reached taken taken read written x status.BadClass) (sym (file (BadClass kind offset) refl)) (file_gives (BadClass kind offset) status.BadClass refl)
   by_cause d (refusal.BadText path kind line) loaded file reads other = subst (λ x. Gives reached taken taken read written x status.BadText) (sym (file (BadText kind line) refl)) (file_gives (BadText kind line) status.BadText refl)
   by_cause d (refusal.BadTrace path kind line) loaded file reads other = subst (λ x. Gives reached taken taken read written x status.BadTrace) (sym (file (BadTrace kind line) refl)) (file_gives (BadTrace kind line) status.BadTrace refl)
+  by_cause d (refusal.LinkFault kind class) loaded file reads other = subst (λ x. Gives reached taken taken read written x status.LinkFault) (sym (file (LinkFault kind class) refl)) (file_gives (LinkFault kind class) status.LinkFault refl)
   by_cause d (refusal.NotYet path) loaded file reads other = subst (λ x. Gives reached taken taken read written x status.NotYet) (sym (file NotYet refl)) (file_gives NotYet status.NotYet refl)
   by_cause d (refusal.ReadFault path) loaded file reads other = reading_gives d loaded (reads refl)
   by_cause d refusal.NoMemory loaded file reads other = memory_gives d

@@ -1,5 +1,6 @@
 -- What a file that a command names is refused for.
-use Rattle.std.specs.Prelude.{ℕ}
+use Rattle.std.specs.Prelude.{ℕ, List}
+use Rattle.et_link.specs.declared.fault.LinkFaultKind.{LinkFaultKind}
 use Rattle.et_top.specs.declared.status.Status.{Status}
 use Rattle.et_top.specs.declared.status.Status.TheVariants as status
 
@@ -14,6 +15,8 @@ pub data Fault : Type 0 where
   BadText : (kind line : ℕ) → Fault
   -- it is no trace: the kind and the number of its first faulty line
   BadTrace : (kind line : ℕ) → Fault
+  -- the classes don't link: the kind of the fault and the name of the class that shows it (JVMS 5.3, 5.4)
+  LinkFault : (kind : LinkFaultKind) → (class : List ℕ) → Fault
   -- the classes can't be run yet
   NotYet : Fault
 
@@ -23,4 +26,5 @@ status_of_fault TooLong = status.TooLong
 status_of_fault (BadClass kind offset) = status.BadClass
 status_of_fault (BadText kind line) = status.BadText
 status_of_fault (BadTrace kind line) = status.BadTrace
+status_of_fault (LinkFault kind class) = status.LinkFault
 status_of_fault NotYet = status.NotYet

@@ -1,14 +1,18 @@
 -- What the files that a command names hold: classes, a listing or a trace. A file is read up to its first fault, and several
--- files in the order of the words.
-use Rattle.std.specs.Prelude.{◌≡◌, ℕ, ◌⊎◌, nat_lt, if◌then◌else◌, List, [], ◌∷◌, length, Option, None, Some, Result, Ok, Err}
+-- files in the order of the words; classes are linked when all are read.
+use Rattle.std.specs.Prelude.{◌≡◌, ℕ, ◌⊎◌, nat_lt, if◌then◌else◌, List, [], ◌∷◌, length, map, Option, None, Some, Result, Ok, Err}
 use Rattle.et_base.specs.declared.line.TraceLine.{TraceLine}
 use Rattle.et_class.specs.Layout.{ClassOf}
 use Rattle.et_class.specs.Classes.{IsClassFile, HasFault}
 use Rattle.et_text.specs.Text.{IsTextOf, IsTraceFault}
 use Rattle.et_items.specs.Marks.{MarksAre, IsFirst}
 use Rattle.et_asm.specs.Listings.{marks_of, bytes_of as class_file_of}
+use Rattle.et_link.specs.Loaded.{loaded_class}
+use Rattle.et_link.specs.LinkFaults.{IsLinkable, RefusesLink}
+use Rattle.et_link.specs.declared.fault.LinkFaultKind.{LinkFaultKind}
+use Rattle.et_link.specs.declared.fault.LinkFault.TheVariants as link
 use Rattle.et_single.specs.MainClass.{MainClass, main_class}
-use Rattle.et_top.specs.Faults.{Fault, Absent, TooLong, BadClass, BadText, BadTrace, NotYet}
+use Rattle.et_top.specs.Faults.{Fault, Absent, TooLong, BadClass, BadText, BadTrace, LinkFault, NotYet}
 
 -- the most bytes that are read of a class file or a listing, and of a trace
 abbrev pub most_of_class : ℕ
@@ -59,12 +63,23 @@ AreClassesOf [] classes = classes ≡ Ok []
 AreClassesOf (file ∷ files) classes =
     (first : Result ClassOf Fault) × IsClassOf (bytes_of most_of_class file) first × AreFirstAnd first (AreClassesOf files) classes
 
--- the class that runs, where the classes are one of its form
-abbrev pub form_of : Option MainClass → Result MainClass Fault
-form_of None = Err NotYet
-form_of (Some main) = Ok main
+-- the class that runs, where the classes are one, and it has the form of those that run
+abbrev pub class_that_runs : List ClassOf → Option MainClass
+class_that_runs (c ∷ []) = main_class c
+class_that_runs _ = None
 
-abbrev pub program_of : Result (List ClassOf) Fault → Result MainClass Fault
-program_of (Err fault) = Err fault
-program_of (Ok (c ∷ [])) = form_of (main_class c)
-program_of (Ok _) = Err NotYet
+abbrev pub or_not_yet : Option MainClass → Result MainClass Fault
+or_not_yet None = Err NotYet
+or_not_yet (Some main) = Ok main
+
+-- the classes link, and this is the one that runs; or this is the fault that keeps them from being linked; exactly one of
+-- the two is the case (JVMS 5.3, 5.4)
+abbrev pub IsLinked : Result (List ClassOf) Fault → Result MainClass Fault → Type 0
+IsLinked (Err fault) program = program ≡ Err fault
+IsLinked (Ok classes) program =
+    ((kind : LinkFaultKind) × ((name : List ℕ) × RefusesLink (map loaded_class classes) (link.At kind name) × (program ≡ Err (LinkFault kind name))))
+    ⊎ (IsLinkable (map loaded_class classes) × (program ≡ or_not_yet (class_that_runs classes)))
+
+-- the program of the files: their classes, linked
+abbrev pub IsProgramOf : List (Option (List ℕ)) → Result MainClass Fault → Type 0
+IsProgramOf files program = (classes : Result (List ClassOf) Fault) × AreClassesOf files classes × IsLinked classes program

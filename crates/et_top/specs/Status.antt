@@ -9,6 +9,7 @@ number_of status.Done = 0
 number_of status.Usage = 2
 number_of status.Absent = 3
 number_of status.BadClass = 4
+number_of status.LinkFault = 5
 number_of status.ReadFault = 6
 number_of status.WriteFault = 7
 number_of status.NoMemory = 8

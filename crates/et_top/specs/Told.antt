@@ -4,7 +4,7 @@ use Rattle.et_top.specs.declared.refusal.Refusal.{Refusal}
 use Rattle.et_top.specs.declared.refusal.Refusal.TheVariants as refusal
 use Rattle.et_class.specs.declared.class.ClassFile.{ClassFile}
 use Rattle.et_class.specs.Layout.{ClassOf}
-use Rattle.et_class.specs.Classes.{class_of, HasParts}
+use Rattle.et_class.specs.Classes.{class_of}
 use Rattle.et_io.specs.declared.putting.RunFault.{RunFault}
 use Rattle.et_io.specs.declared.putting.RunFault.TheVariants as write
 use Rattle.et_text.specs.Text.{IsTraceFault}
@@ -16,7 +16,7 @@ use Rattle.et_replay.specs.declared.model.Policy.{Policy}
 use Rattle.et_top.specs.Refusals.{status_of}
 use Rattle.et_top.specs.declared.status.Status.{Status}
 use Rattle.et_top.specs.declared.status.Status.TheVariants as status
-use Rattle.et_top.specs.Faults.{Fault, Absent, TooLong, BadClass, BadText, BadTrace, NotYet}
+use Rattle.et_top.specs.Faults.{Fault, Absent, TooLong, BadClass, BadText, BadTrace, LinkFault, NotYet}
 
 -- why a refusal comes: a file is refused, a read failed, memory ran out, or none of these
 pub data Cause : Type 0 where
@@ -31,6 +31,7 @@ cause_of (refusal.TooLong path) = File TooLong
 cause_of (refusal.BadClass path kind offset) = File (BadClass kind offset)
 cause_of (refusal.BadText path kind line) = File (BadText kind line)
 cause_of (refusal.BadTrace path kind line) = File (BadTrace kind line)
+cause_of (refusal.LinkFault kind class) = File (LinkFault kind class)
 cause_of (refusal.NotYet path) = File NotYet
 cause_of (refusal.ReadFault path) = Reading
 cause_of refusal.NoMemory = Memory
@@ -67,9 +68,6 @@ IsOfBytes (File fault) = Unit {0}
 IsOfBytes Reading = ⊥
 IsOfBytes Memory = Unit {0}
 IsOfBytes Other = ⊥
-
-abbrev pub HasItsParts : ClassFile → Type 0
-HasItsParts c = HasParts c.pool.slots c.fields.items c.methods.items
 
 abbrev pub classes_of : Vec ClassFile Global → List ClassOf
 classes_of classes = map class_of classes.items

@@ -6,7 +6,6 @@ use Rattle.et_base.specs.declared.value.End.TheVariants as ends
 use Rattle.et_graph.specs.Graph.{Graph}
 use Rattle.et_io.specs.Files.{Held}
 use Rattle.et_io.specs.Sink.{with_more, TakesFront}
-use Rattle.et_class.specs.Layout.{ClassOf}
 use Rattle.et_state.specs.declared.options.Options.{Options}
 use Rattle.et_run.specs.declared.options.Ran.{Ran}
 use Rattle.et_run.specs.Traced.{WritesTrace, WritesFront}
@@ -22,7 +21,7 @@ use Rattle.et_single.specs.MainClass.{MainClass}
 use Rattle.et_single.specs.Machine.{start, start_records}
 use Rattle.et_single.specs.Runs.{setting_of}
 use Rattle.et_top.specs.Faults.{Fault, status_of_fault}
-use Rattle.et_top.specs.Loaded.{bytes_of, most_of_class, most_of_trace, IsListingOf, IsTraceOf, AreClassesOf, program_of}
+use Rattle.et_top.specs.Loaded.{bytes_of, most_of_class, most_of_trace, IsListingOf, IsTraceOf, IsProgramOf}
 use Rattle.et_top.specs.declared.status.Status.{Status}
 use Rattle.et_top.specs.declared.status.Status.TheVariants as status
 
@@ -55,7 +54,7 @@ policies_of asked kinds = filter_map (policy_of asked) kinds
 abbrev pub IsAskedDefined : List Kind → Option words.Asked → Held → Defined → Type 0
 IsAskedDefined kinds None held d = d ≡ Usage
 IsAskedDefined kinds (Some (words.Trace options paths)) held d =
-    (classes : Result (List ClassOf) Fault) × AreClassesOf (map held paths) classes × (d ≡ traces options (program_of classes))
+    (program : Result MainClass Fault) × IsProgramOf (map held paths) program × (d ≡ traces options program)
 IsAskedDefined kinds (Some (words.Assemble path)) held d =
     (class : Result (List ℕ) Fault) × IsListingOf (bytes_of most_of_class (held path)) class × (d ≡ writes (λ reached bytes. bytes) class)
 IsAskedDefined kinds (Some (words.Replay asked path)) held d =

@@ -1,6 +1,8 @@
 //! What the program says on standard error: a line for each refusal.
 use crate::status::Status;
+use et_base::Name;
 use et_io::{Sink, put_all};
+use et_link::LinkFaultKind;
 use std::alloc::Global;
 use std::fmt::{self, Display, Formatter, Write};
 use thiserror::Error;
@@ -65,6 +67,11 @@ pub enum Refusal<'a> {
     ObjectLimit,
     #[error("elephant: too long {0}")]
     TooLong(&'a str),
+    #[error("elephant: link {} {}", *.kind as u8, Escaped(.class.as_slice()))]
+    LinkFault {
+        kind: LinkFaultKind,
+        class: Name,
+    },
     #[error("elephant: not yet {0}")]
     NotYet(&'a str),
 }
@@ -89,6 +96,7 @@ impl Refusal<'_> {
             Refusal::IllTyped { .. } => Status::IllTyped,
             Refusal::ObjectLimit => Status::ObjectLimit,
             Refusal::TooLong(_) => Status::TooLong,
+            Refusal::LinkFault { .. } => Status::LinkFault,
             Refusal::NotYet(_) => Status::NotYet,
         }
     }

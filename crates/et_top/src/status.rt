@@ -13,6 +13,8 @@ pub enum Status {
     Absent,
     /// A file is no class file.
     BadClass,
+    /// The classes of the files don't link.
+    LinkFault,
     /// A read failed.
     ReadFault,
     /// A write failed. What was taken is a front of the output.
@@ -29,7 +31,7 @@ pub enum Status {
     BadText,
     /// A file is longer than is read: 1,048,576 bytes of a class file or a listing, 268,435,456 of a trace.
     TooLong,
-    /// A class file can't be run yet.
+    /// The classes of the files link, and can't be run yet.
     NotYet,
 }
 
@@ -43,6 +45,7 @@ impl Status {
             Status::Usage => 2,
             Status::Absent => 3,
             Status::BadClass => 4,
+            Status::LinkFault => 5,
             Status::ReadFault => 6,
             Status::WriteFault => 7,
             Status::NoMemory => 8,

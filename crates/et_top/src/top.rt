@@ -52,15 +52,15 @@ fn perform<F: Files, O: Sink, E: Sink, L: Ledger>(
 /// All that the program does. The words are those behind the program's name; the command's output goes to out, and a
 /// line for each refusal to err. The models are new.
 ///
-/// - `trace` reads the class files at the paths in their order, runs the class from its starting state by the options,
-///   and writes the trace of its history.
+/// - `trace` reads the class files at the paths in their order, links them (JVMS 5.3, 5.4), runs the class from its
+///   starting state by the options, and writes the trace of its history.
 /// - `asm` reads a listing and writes its class file.
 /// - `replay` reads a trace and writes a line for each of the models whose kind is asked for, in their order: what it
 ///   reports of the trace. The other models are dropped.
 /// - `curve` reads a trace and writes its live curve.
 ///
-/// Refusals come in this order: the words; of each file the read, the length and what it holds; the run. Until all that
-/// is read is known to be good nothing is put to out; after `WriteFault` and `NoMemory` out took a front of the output. A
+/// Refusals come in this order: the words; of each file the read, the length and what it holds; linking; the run. Until
+/// all that is read is known to be good, and to link, nothing is put to out; after `WriteFault` and `NoMemory` out took a front of the output. A
 /// fault of err changes nothing.
 pub fn elephant<F: Files, O: Sink, E: Sink, L: Ledger>(
     alloc: Global,

@@ -1,4 +1,4 @@
-use Rattle.std.proofs.Common.{sym, ap, ◌∙◌, arith, Bool, []}
+use Rattle.std.proofs.Common.{ℕ, sym, ap, ◌∙◌, arith, Bool, []}
 use Rattle.std.proofs.lemmas.Result.{err_from_is_err_and}
 use Rattle.et_items.specs.Numbers.{AreBytes}
 use Rattle.et_items.specs.Marks.{first_from}
@@ -44,9 +44,12 @@ returns-in-None c =
     let kept = all_kept c.in-Ok.pool.slots [] _ (members_of c.in_ok-members-in-Ok.members.methods.items) (methods_none c.args.bytes.now (λ i. (c.type_inv.bytes i).fits) (c.in_ok-minor_version.minor_version, c.in_ok-minor_version.major_version) c.in-Ok.pool.slots c.in-Ok.at (header_of c.in_ok-header-in-Ok.header) c.in_ok-header-in-Ok.members_at (members_view c.in_ok-members-in-Ok.members) c.in_ok-minor_version.ensures c.in-Ok.ensures.1 c.in_ok-header-in-Ok.ensures c.in_ok-members-in-Ok.ensures.read none) in (
       is_class c.args.bytes.now (λ i. (c.type_inv.bytes i).fits) (c.in_ok-minor_version.minor_version, c.in_ok-minor_version.major_version) c.in-Ok.pool.slots c.in-Ok.at (header_of c.in_ok-header-in-Ok.header) c.in_ok-header-in-Ok.members_at (members_view c.in_ok-members-in-Ok.members) c.in_ok-minor_version.ensures c.in-Ok.ensures.1 c.in_ok-header-in-Ok.ensures c.in_ok-members-in-Ok.ensures.read none,
       record {
-        constants = c.in_ok-members-in-Ok.ensures.constants;
-        no_code = c.in_ok-members-in-Ok.ensures.no_code;
-        codes = c.in_ok-members-in-Ok.ensures.codes ∙ kept;
-        no_constants = c.in_ok-members-in-Ok.ensures.no_constants;
+        pool = ap (λ (at : ℕ). record { at = at; slots = c.in-Ok.pool.slots }) c.in-Ok.ensures.0;
+        members = record {
+          constants = c.in_ok-members-in-Ok.ensures.constants;
+          no_code = c.in_ok-members-in-Ok.ensures.no_code;
+          codes = c.in_ok-members-in-Ok.ensures.codes ∙ kept;
+          no_constants = c.in_ok-members-in-Ok.ensures.no_constants;
+        };
       },
     )

@@ -1,7 +1,8 @@
-use Rattle.std.proofs.Common.{◌≡◌, ◌++◌, length, take}
+use Rattle.std.proofs.Common.{◌≡◌, ◌++◌, length, map, take}
+use Rattle.et_link.specs.Loaded.{loaded_file}
 use Rattle.et_link.specs.Files.{boots}
 use Rattle.et_link.specs.MembersOf.{numbered, boot_fields, file_fields}
 use Rattle.et_link.proofs.members.all_fields.Given as goal
 
 abbrev pub invariant-loop-i : goal.invariant-loop-i
-invariant-loop-i l = l.list.items ≡ numbered boot_fields 0 boots ++ numbered file_fields (length boots) (take l.i l.files)
+invariant-loop-i l = l.list.items ≡ numbered boot_fields 0 boots ++ numbered file_fields (length boots) (map loaded_file (take l.i l.files))

@@ -1,8 +1,9 @@
 use Rattle.std.proofs.Common.{◌≡◌, ◌∷◌, sym, ◌∙◌, ap, ◌++◌, ◌+◌, length, append_assoc, arith}
 use Rattle.std.specs.Vec.Iter.{into_iter_items}
+use Rattle.et_link.specs.Loaded.{loaded_file}
 use Rattle.et_link.specs.Files.{boots}
 use Rattle.et_link.specs.MembersOf.{file_methods, file_pool}
-use Rattle.et_link.proofs.Lists.{taken_more, length-push, numbered_push, map_push}
+use Rattle.et_link.proofs.Lists.{taken_more, length-push, numbered_push_of, map_push_of}
 use Rattle.et_link.proofs.members.all_members.Goals as goal
 
 pub loop-file-preserved : goal.loop-file-preserved
@@ -17,12 +18,12 @@ loop-file-preserved c =
       place = (let p = length-push at.yielded x in omega (arith, c.in-Some-checked_add.ensures));
       methods =
           c.in_ok-add_file_methods.ensures
-          ∙ (ap (λ l. l ++ file_methods c.in_ok-class.class x) at.invariant.methods
+          ∙ (ap (λ l. l ++ file_methods c.in_ok-class.class (loaded_file x)) at.invariant.methods
           ∙ (append_assoc c.in_ok-boot.boot.methods.items _ _
-          ∙ ap (λ l. c.in_ok-boot.boot.methods.items ++ l) (sym (numbered_push file_methods (length boots) at.yielded x c.in_ok-class.class n))));
+          ∙ ap (λ l. c.in_ok-boot.boot.methods.items ++ l) (sym (numbered_push_of file_methods loaded_file (length boots) at.yielded x c.in_ok-class.class n))));
       pools =
           c.in_ok-push.ensures.items
           ∙ (ap (λ l. l ++ x.pool ∷ _) at.invariant.pools
           ∙ (append_assoc c.in_ok-boot.boot.pools.items _ _
-          ∙ ap (λ l. c.in_ok-boot.boot.pools.items ++ l) (sym (map_push file_pool at.yielded x))));
+          ∙ ap (λ l. c.in_ok-boot.boot.pools.items ++ l) (sym (map_push_of file_pool loaded_file at.yielded x))));
     }

@@ -1,7 +1,6 @@
 use Rattle.std.proofs.Common.{sym, ◌∙◌, ap, subst}
 use Rattle.et_io.specs.Faults.{Rose}
 use Rattle.et_top.specs.Top.{traces, Gives}
-use Rattle.et_top.specs.Loaded.{program_of}
 use Rattle.et_top.proofs.TopLemmas.{history_more, refused_trace}
 use Rattle.et_top.proofs.commands.trace.Goals as goal
 
@@ -18,4 +17,4 @@ returns-in-Ok-clause-gives g c held told kinds d defined reached decides =
 pub returns-in-Err-clause-gives : goal.returns-in-Err-clause-gives
 returns-in-Err-clause-gives g c held told kinds d defined reached decides =
     refused_trace reached (g.O.Sink.taken c.args.out.now) (Rose (g.F.Files.faults c.args.files.now) (g.F.Files.faults c.load_program.new.files)) (Rose (g.O.Sink.faults c.args.out.now) (g.O.Sink.faults c.args.out.now))
-    c.args.options.now (program_of defined.0) c.in-Err.refusal d c.refuse.result defined.2 (c.in-Err.ensures.tells held told defined.0 defined.1) c.refuse.ensures
+    c.args.options.now defined.0 c.in-Err.refusal d c.refuse.result defined.2 (c.in-Err.ensures.tells held told defined.0 defined.1) c.refuse.ensures

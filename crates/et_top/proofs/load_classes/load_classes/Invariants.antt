@@ -2,10 +2,9 @@ use Rattle.std.proofs.Common.{◌≡◌, ◌≤◌, List, Some, Result, length, 
 use Rattle.std.specs.Prelude.{All}
 use Rattle.et_io.specs.Files.{Held}
 use Rattle.et_class.specs.Layout.{ClassOf}
-use Rattle.et_class.specs.Classes.{class_of}
+use Rattle.et_class.specs.Classes.{class_of, HasItsParts}
 use Rattle.et_top.specs.Faults.{Fault}
 use Rattle.et_top.specs.Loaded.{AreClassesOf}
-use Rattle.et_top.specs.Told.{HasItsParts}
 use Rattle.et_top.proofs.Found.{AreBehind}
 use Rattle.et_top.proofs.load_classes.load_classes.Given as goal
 
