@@ -1,0 +1,4 @@
+mod Running
+mod Constants
+mod Sizes
+mod Placing
