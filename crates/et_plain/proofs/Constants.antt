@@ -4,7 +4,7 @@ use Rattle.std.specs.Prelude.{◌==◌, ℤ, pos, int_lt, IfOk, IfSome, if◌the
 use Rattle.std.specs.List.{list_all}
 use Rattle.std.specs.Option.{ok_or}
 use Rattle.std.specs.Int.{Width, w8, w16, w32, byte_len, from_be_bytes, cast_signed}
-use Rattle.std.proofs.lemmas.Bool.{and_parts, or_cases, eqb-true, ltb-true}
+use Rattle.std.proofs.lemmas.Bool.{or_cases, eqb-true, ltb-true}
 use Rattle.et_items.specs.Numbers.{number_at}
 use Rattle.et_code.specs.declared.instr.CodeFault.{CodeFault}
 use Rattle.et_code.specs.declared.instr.CodeFault.TheVariants as fault
@@ -16,7 +16,8 @@ use Rattle.et_code.specs.Decoding.{◌>>=◌, read, instr, table_place, rows_at,
 use Rattle.et_event.specs.declared.rows.Row.{Row}
 use Rattle.et_event.specs.declared.rows.Row.TheVariants as row
 use Rattle.et_event.specs.Sites.{natural}
-use Rattle.et_event.specs.Table.{rows, row_among, row_of}
+use Rattle.et_event.specs.Table.{rows, row_of}
+use Rattle.et_plain.proofs.RowsAmong.{among}
 
 -- THE OPCODES that load a constant
 
@@ -33,26 +34,10 @@ fine e = if is_constant e.1 then (e.0 == 0x12) || ((e.0 == 0x13) || (e.0 == 0x14
 all_fine : list_all fine rows ≡ true
 all_fine = refl
 
-none_row : (r : Row) → None ≡ Some r → ⊥
-none_row r e = cc
-
-some_row : (a b : Row) → Some a ≡ Some b → a ≡ b
-some_row a b e = cc
-
-among_step : (b : Bool) (x : ℕ × Row) (k : ℕ) (r : Row) (o : Option Row) → (b ≡ true → x.0 ≡ k) → fine x ≡ true → (o ≡ Some r → fine (k, r) ≡ true) → (if b then Some x.1 else o) ≡ Some r → fine (k, r) ≡ true
-among_step true x k r o same first rest e = subst (λ (j : ℕ). fine (j, r) ≡ true) (same refl) (subst (λ (q : Row). fine (x.0, q) ≡ true) (some_row x.1 r e) first)
-among_step false x k r o same first rest e = rest e
-
-among : (rs : List (ℕ × Row)) (k : ℕ) (r : Row) → list_all fine rs ≡ true → row_among rs k ≡ Some r → fine (k, r) ≡ true
-among [] k r h e = absurd (none_row r e)
-among (x ∷ rs) k r h e =
-    let parts = and_parts (fine x) (list_all fine rs) h in
-    among_step (x.0 == k) x k r (row_among rs k) (eqb-true x.0 k) parts.0 (among rs k r parts.1) e
-
 loads : (opcode : ℕ) → row_of opcode ≡ Some row.PoolConstant → Loads opcode
 unfolding row_of
 loads opcode e =
-    elim (or_cases (opcode == 0x12) ((opcode == 0x13) || (opcode == 0x14)) (among rows opcode row.PoolConstant all_fine e)) [
+    elim (or_cases (opcode == 0x12) ((opcode == 0x13) || (opcode == 0x14)) (among fine rows opcode row.PoolConstant all_fine e)) [
       | inl h ↦ inl (eqb-true opcode 0x12 h)
       | inr h ↦ inr (elim (or_cases (opcode == 0x13) (opcode == 0x14) h) [ inl i ↦ inl (eqb-true opcode 0x13 i) | inr i ↦ inr (eqb-true opcode 0x14 i) ])
     ]

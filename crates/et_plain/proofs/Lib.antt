@@ -2,3 +2,6 @@ mod Running
 mod Constants
 mod Sizes
 mod Placing
+mod Keeping
+mod RowsAmong
+mod Going
