@@ -1,5 +1,5 @@
 -- Where an instruction of code that keeps the rules may go: behind itself, and to the targets of a branch or a switch.
-use Rattle.std.proofs.Common.{◌≡◌, ℕ, zero, suc, ◌+◌, ◌-◌, ◌*◌, ◌<◌, ◌≤◌, ◌⊎◌, Bool, true, false, cond, ltb, List, [], ◌∷◌, length, Option, Some, None, Result, Ok, Err, refl, sym, ◌∙◌, ap, subst, inl, inr, arith, rules, IsTrue}
+use Rattle.std.proofs.Common.{◌≡◌, ℕ, zero, suc, ◌+◌, ◌*◌, ◌<◌, ◌≤◌, ◌⊎◌, Bool, true, false, List, [], ◌∷◌, length, Option, Some, Result, Ok, refl, sym, ◌∙◌, ap, subst, inl, inr, arith, rules, IsTrue}
 use Rattle.std.specs.Prelude.{◌==◌, ◌||◌, ℤ, pos, negsuc, ◌+ℤ◌, int_lt, if◌then◌else◌, find, map}
 use Rattle.std.specs.List.{list_all}
 use Rattle.std.specs.Option.{option_map_or}
@@ -8,11 +8,11 @@ use Rattle.std.proofs.lemmas.Bool.{and_parts, or_cases, eqb-true, ltb-false, cas
 use Rattle.et_code.specs.declared.instr.Instr.{Instr}
 use Rattle.et_code.specs.declared.instr.CodeFault.{CodeFault}
 use Rattle.et_code.specs.Bodies.{Body}
-use Rattle.et_code.specs.Decoding.{instruction_at, bits_at, word_at, row_count}
-use Rattle.et_code.specs.Kept.{IsKept, HasInstruction, KeepsInstruction}
-use Rattle.et_code.specs.Rules.{passes, is_branch, offsets, has_targets}
+use Rattle.et_code.specs.Decoding.{instruction_at, word_at, row_count}
+use Rattle.et_code.specs.Kept.{IsKept, HasInstruction}
+use Rattle.et_code.specs.Rules.{passes, is_branch, offsets}
 use Rattle.et_code.specs.Starts.{IsStart, Follows, is_start}
-use Rattle.et_code.specs.Switches.{rows_from, pairs_from, table_rows, lookup_pairs, table_target, lookup_target, target_of}
+use Rattle.et_code.specs.Switches.{rows_from, table_rows, lookup_pairs, table_target, lookup_target, target_of}
 use Rattle.et_code.proofs.Decoded.{decoded_fits}
 use Rattle.et_code.proofs.Starting.{starts_are_all}
 use Rattle.et_event.specs.declared.rows.Condition.{Condition}

@@ -1,7 +1,7 @@
 -- What a plain instruction keeps of the frame: its method, its stage, its lock and its room; and the pc stays one of the
 -- code.
-use Rattle.std.proofs.Common.{◌≡◌, ℕ, zero, suc, ◌+◌, ◌-◌, ◌<◌, ◌≤◌, Bool, true, false, leb, ltb, List, [], ◌∷◌, ◌++◌, length, set, get_or, Option, Some, None, refl, sym, ◌∙◌, ap, subst, inl, inr, arith}
-use Rattle.std.specs.Prelude.{ℤ, pos, negsuc, IfSome, if◌then◌else◌, slice_set, slice_index_or, option_map, not}
+use Rattle.std.proofs.Common.{◌≡◌, ℕ, ◌+◌, ◌-◌, ◌≤◌, Bool, true, false, leb, ltb, List, [], ◌∷◌, ◌++◌, length, set, get_or, Option, Some, None, refl, ◌∙◌, arith}
+use Rattle.std.specs.Prelude.{ℤ, IfSome, if◌then◌else◌, option_map}
 use Rattle.std.proofs.lemmas.List.{length-set}
 use Rattle.std.proofs.lemmas.Bool.{leb-true}
 use Rattle.et_base.specs.declared.value.Value.{Value}
@@ -14,12 +14,11 @@ use Rattle.et_event.specs.declared.rows.Operand.TheVariants as operand
 use Rattle.et_event.specs.declared.rows.Local.TheVariants.{Named}
 use Rattle.et_event.specs.declared.rows.Condition.{Condition}
 use Rattle.et_event.specs.declared.rows.Condition.TheVariants as when
-use Rattle.et_event.specs.declared.rows.Rearrangement.{Rearrangement}
 use Rattle.et_event.specs.declared.rows.FrameRow.{FrameRow}
 use Rattle.et_event.specs.declared.rows.FrameRow.TheVariants as row
 use Rattle.et_event.specs.Checks.{Reference, with_int, with_long, with_reference}
 use Rattle.et_event.specs.Sites.{Site, local_index, target}
-use Rattle.et_event.specs.Plain.{put, put_some, with_locals, other_half_unset, freed, one_stored, long_stored, stored, increased, loaded, are_groups, groups_of, rearranged, combined, negated, moved, converted, compared, tested, branched, switched, after}
+use Rattle.et_event.specs.Plain.{put, put_some, with_locals, other_half_unset, freed, one_stored, long_stored, stored, increased, loaded, are_groups, groups_of, combined, negated, moved, converted, compared, tested, branched, switched, after}
 use Rattle.et_event.specs.Sound.{IsPc}
 
 pub record Keeps (body : Body) (f f' : FrameState) : Type 0 where

@@ -5,3 +5,4 @@ mod Placing
 mod Keeping
 mod RowsAmong
 mod Going
+mod Answering

@@ -4,7 +4,6 @@ use Rattle.std.specs.Prelude.{if◌then◌else◌, slice_index_or}
 use Rattle.std.specs.Option.{is_some}
 use Rattle.et_frames.specs.declared.stage.Stage.{Stage}
 use Rattle.et_frames.specs.declared.stage.Stage.TheVariants.{Plain, Before, Clinit}
-use Rattle.et_frames.specs.declared.stage.Turn.{Turn}
 use Rattle.et_frames.specs.declared.stage.Turn.TheVariants.{Unwind, EndThread, Entry, Initialize, Instruction}
 use Rattle.et_frames.specs.Threads.{FrameState, ThreadState, no_thread, turn_of, has_frame, is_before, first_frame, top_of}
 use Rattle.et_machine.specs.State.{GuestState, Kept}

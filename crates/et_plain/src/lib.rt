@@ -2,6 +2,8 @@
 #![tactic(auto)]
 
 mod codes;
+mod event;
 mod places;
 
+pub use event::ops_event;
 pub use places::{Place, place_of};

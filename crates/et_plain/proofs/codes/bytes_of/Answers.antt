@@ -1,4 +1,4 @@
-use Rattle.std.proofs.Common.{◌≡◌, true, length, subst, sym, ap, ◌∙◌}
+use Rattle.std.proofs.Common.{◌≡◌, length, ap, ◌∙◌}
 use Rattle.et_code.specs.Bodies.{Body}
 use Rattle.et_code.specs.Rules.{is_code_length}
 use Rattle.et_code.specs.Kept.{IsKept}

@@ -1,0 +1,29 @@
+use Rattle.std.proofs.Common.{◌≡◌, rules}
+use Rattle.et_machine.specs.State.{kept_of}
+use Rattle.et_event.specs.Event.{event, does}
+use Rattle.et_event.specs.Moments.{ill_typed}
+use Rattle.et_plain.specs.Places.{site_at}
+use Rattle.et_plain.proofs.Answering.{moment, ill_typed_answers, plain_here, not_none, answered}
+use Rattle.et_plain.proofs.event.instruction_event.Goals as goal
+
+pub returns-in_default-clause-event : goal.returns-in_default-clause-event
+returns-in_default-clause-event c =
+    let p = c.args.program.now in
+    let law : event p (kept_of c.args.machine.now) c.args.thread ≡ ill_typed (moment p (kept_of c.args.machine.now) c.args.thread) = search rules in
+    ill_typed_answers p c.args.thread c.args.machine.now c.args.out.now c.ill_typed.result c.ill_typed.ensures law
+
+pub unreachable-requires : goal.unreachable-requires
+unreachable-requires c =
+    let p = c.args.program.now in
+    let s = kept_of c.args.machine.now in
+    let place = c.in-Some.place in
+    not_none (does (moment p s c.args.thread) (site_at place) place.row) place.row c.in_ok-end.end c.args.machine.now c.plain_event.new.machine c.args.out.now c.plain_event.new.out c.in-None.is
+    (plain_here p s c.args.thread place c.in-Some.ensures.found c.requires.turn.plain) (c.in_ok-end.ensures.ok place.class)
+
+pub returns-clause-event : goal.returns-clause-event
+returns-clause-event c =
+    let p = c.args.program.now in
+    let s = kept_of c.args.machine.now in
+    let place = c.in-Some.place in
+    answered (does (moment p s c.args.thread) (site_at place) place.row) (event p s c.args.thread) place.row c.in_ok-end.end c.in-Some-end.end c.args.machine.now c.plain_event.new.machine c.args.out.now c.plain_event.new.out
+    c.in-Some-end.is c.in-Some.ensures.event (c.in_ok-end.ensures.ok place.class)

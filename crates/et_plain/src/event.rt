@@ -1,0 +1,72 @@
+//! The event of a plain instruction.
+ghost use Rattle.std.specs.Prelude.{◌≡◌, ◌<◌, ◌^◌, IfOk, OnErr};
+ghost use Rattle.et_machine.specs.State.{kept_of};
+ghost use Rattle.et_event.specs.Answered.{EventAnswers};
+ghost use Rattle.et_event.specs.Event.{event};
+ghost use Rattle.et_event.specs.Sound.{IsSoundFor};
+ghost use Rattle.et_plain.specs.Turns.{IsPlainTurn};
+
+use crate::places::place_of;
+use et_base::{NoMemory, Steps, ThreadId};
+use et_machine::Machine;
+use et_ops::{ill_typed, plain_event};
+use et_program::Program;
+use et_state::{EventEnd, Lines};
+use std::alloc::Global;
+use std::sync::ledger::Ledger;
+
+/// The event of a thread whose turn is a plain instruction.
+fn instruction_event(
+    program: &Program,
+    machine: &mut Machine,
+    thread: ThreadId,
+    out: &mut Lines,
+) -> Result<EventEnd, NoMemory>
+    requires sound { IsSoundFor program.now (kept_of machine.old) }
+    requires clock { machine.old.guest.clock < 2 ^ 40 }
+    requires turn { IsPlainTurn program.now (kept_of machine.old) thread }
+    ensures event { IfOk result (λ end. EventAnswers (event program.now (kept_of machine.old) thread) end machine.old machine.new out.old out.new) }
+    ensures err { OnErr result (machine.new.guest ≡ machine.old.guest) }
+{
+    let Some(place) = place_of(program, machine, thread) else {
+        return Ok(ill_typed(machine, thread));
+    };
+    let end = plain_event(
+        machine,
+        program,
+        thread,
+        place.row,
+        place.code,
+        place.pool,
+        &place.instr,
+        place.next,
+        out,
+    )?;
+    match end {
+        Some(end) => Ok(end),
+        None => unreachable!(),
+    }
+}
+
+/// The event of a thread whose turn is a plain instruction (JVMS 2.11.2 to 2.11.4, 2.11.6, 2.11.7), or that stands at the
+/// end of its code. It answers what the table of events says: `Done`, and then the machine keeps the next state, to which a
+/// legal step led, and the records of the event stand behind those that were there; or `IllTyped` or `ObjectLimit`, and then
+/// machine and records are as before. It visits no object. After `NoMemory` the machine may have one object more, to which
+/// nothing refers, and there may be its record; all else is as before.
+pub fn ops_event<L: Ledger>(
+    _alloc: Global,
+    program: &Program,
+    machine: &mut Machine,
+    thread: ThreadId,
+    out: &mut Lines,
+    visits: &mut Steps<L>,
+) -> Result<EventEnd, NoMemory>
+    requires sound { IsSoundFor program.now (kept_of machine.old) }
+    requires clock { machine.old.guest.clock < 2 ^ 40 }
+    requires turn { IsPlainTurn program.now (kept_of machine.old) thread }
+    ensures event { IfOk result (λ end. EventAnswers (event program.now (kept_of machine.old) thread) end machine.old machine.new out.old out.new) }
+    ensures visits { visits.new ≡ visits.old }
+    ensures err { OnErr result (machine.new.guest ≡ machine.old.guest) }
+{
+    instruction_event(program, machine, thread, out)
+}
