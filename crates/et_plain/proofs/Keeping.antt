@@ -22,12 +22,9 @@ use Rattle.et_event.specs.Plain.{put, put_some, with_locals, other_half_unset, f
 use Rattle.et_event.specs.Sound.{IsPc}
 
 pub record Keeps (body : Body) (f f' : FrameState) : Type 0 where
-  pub method : f'.method ≡ f.method
-  pub stage : f'.stage ≡ f.stage
-  pub lock : f'.lock ≡ f.lock
-  pub room : f'.room ≡ f.room
+  pub same : f' ≡ record f { pc = f'.pc; locals = f'.locals; operands = f'.operands }
   pub locals : length f'.locals ≡ length f.locals
-  pub operands : length f'.operands ≤ f'.room
+  pub operands : length f'.operands ≤ f.room
   pub pc : IsPc body f'.pc
 
 abbrev pub KeepsSome : Body → FrameState → Option FrameState → Type 0
@@ -36,7 +33,7 @@ KeepsSome body f o = IfSome o (λ f'. Keeps body f f')
 -- OPERANDS PUT
 
 put_case : (body : Body) (f : FrameState) (pc : ℕ) (ops : List Value) (b : Bool) → (b ≡ true → length ops ≤ f.room) → IsPc body pc → KeepsSome body f (if b then Some (record f { pc = pc; operands = ops }) else None)
-put_case body f pc ops true le at = record { method = refl; stage = refl; lock = refl; room = refl; locals = refl; operands = le refl; pc = at }
+put_case body f pc ops true le at = record { same = refl; locals = refl; operands = le refl; pc = at }
 put_case body f pc ops false le at = tt
 
 pub kept_put : (body : Body) (f : FrameState) (pc : ℕ) (ops : List Value) → IsPc body pc → KeepsSome body f (put pc ops f)
@@ -53,7 +50,7 @@ kept_if body f false o h = tt
 -- LOCALS WRITTEN
 
 locals_case : (body : Body) (f : FrameState) (pc : ℕ) (locals ops : List Value) (b : Bool) → length locals ≡ length f.locals → length ops ≤ f.room → IsPc body pc → KeepsSome body f (if b then Some (record f { pc = pc; locals = locals; operands = ops }) else None)
-locals_case body f pc locals ops true same le at = record { method = refl; stage = refl; lock = refl; room = refl; locals = same; operands = le; pc = at }
+locals_case body f pc locals ops true same le at = record { same = refl; locals = same; operands = le; pc = at }
 locals_case body f pc locals ops false same le at = tt
 
 kept_locals : (body : Body) (f : FrameState) (pc last : ℕ) (locals ops : List Value) → length locals ≡ length f.locals → length ops ≤ f.room → IsPc body pc → KeepsSome body f (with_locals pc last locals ops f)
@@ -80,7 +77,7 @@ length-long_stored i n locals =
 
 -- OPERANDS TAKEN: below them there are no more than before
 
-taken_int : {A : Type 0} (P : A → Type 0) (refused : A) (ops : List Value) (k : ℕ) (go : ℤ → List Value → A) → P refused → length ops ≤ k → ((n : ℤ) (below : List Value) → length below ≤ k → P (go n below)) → P (with_int refused ops go)
+pub taken_int : {A : Type 0} (P : A → Type 0) (refused : A) (ops : List Value) (k : ℕ) (go : ℤ → List Value → A) → P refused → length ops ≤ k → ((n : ℤ) (below : List Value) → length below ≤ k → P (go n below)) → P (with_int refused ops go)
 taken_int P refused [] k go r le h = r
 taken_int P refused (Unset ∷ below) k go r le h = r
 taken_int P refused (Int n ∷ below) k go r le h = h n below (omega arith)
@@ -98,7 +95,7 @@ taken_high P refused (LongHigh ∷ below) k go r le h = r
 taken_high P refused (Null ∷ below) k go r le h = r
 taken_high P refused (Ref o ∷ below) k go r le h = r
 
-taken_long : {A : Type 0} (P : A → Type 0) (refused : A) (ops : List Value) (k : ℕ) (go : ℤ → List Value → A) → P refused → length ops ≤ k → ((n : ℤ) (below : List Value) → length below ≤ k → P (go n below)) → P (with_long refused ops go)
+pub taken_long : {A : Type 0} (P : A → Type 0) (refused : A) (ops : List Value) (k : ℕ) (go : ℤ → List Value → A) → P refused → length ops ≤ k → ((n : ℤ) (below : List Value) → length below ≤ k → P (go n below)) → P (with_long refused ops go)
 taken_long P refused [] k go r le h = r
 taken_long P refused (Unset ∷ below) k go r le h = r
 taken_long P refused (Int n ∷ below) k go r le h = r
@@ -107,7 +104,7 @@ taken_long P refused (LongHigh ∷ below) k go r le h = taken_high P refused bel
 taken_long P refused (Null ∷ below) k go r le h = r
 taken_long P refused (Ref o ∷ below) k go r le h = r
 
-taken_reference : {A : Type 0} (P : A → Type 0) (refused : A) (ops : List Value) (k : ℕ) (go : Reference → List Value → A) → P refused → length ops ≤ k → ((r : Reference) (below : List Value) → length below ≤ k → P (go r below)) → P (with_reference refused ops go)
+pub taken_reference : {A : Type 0} (P : A → Type 0) (refused : A) (ops : List Value) (k : ℕ) (go : Reference → List Value → A) → P refused → length ops ≤ k → ((r : Reference) (below : List Value) → length below ≤ k → P (go r below)) → P (with_reference refused ops go)
 taken_reference P refused [] k go r le h = r
 taken_reference P refused (Unset ∷ below) k go r le h = r
 taken_reference P refused (Int n ∷ below) k go r le h = r
@@ -153,11 +150,11 @@ either_pc body false p q h i = i
 kept_branched : (body : Body) (at : Site) (f : FrameState) (o : Option (Bool × List Value)) → IsShort f.room o → IsPc body at.next → IsPc body (target f.pc at.instr.first) → KeepsSome body f (option_map (branched at f) o)
 kept_branched body at f None le next there = tt
 kept_branched body at f (Some test) le next there =
-    record { method = refl; stage = refl; lock = refl; room = refl; locals = refl; operands = le; pc = either_pc body test.0 (target f.pc at.instr.first) at.next there next }
+    record { same = refl; locals = refl; operands = le; pc = either_pc body test.0 (target f.pc at.instr.first) at.next there next }
 
 kept_switched : (body : Body) (at : Site) (f : FrameState) → length f.operands ≤ f.room → ((key : ℤ) → IsPc body (target f.pc (target_of at.code at.instr key))) → KeepsSome body f (switched at f)
 kept_switched body at f le there =
-    taken_int (KeepsSome body f) None f.operands f.room _ tt le (λ key below few. record { method = refl; stage = refl; lock = refl; room = refl; locals = refl; operands = few; pc = there key })
+    taken_int (KeepsSome body f) None f.operands f.room _ tt le (λ key below few. record { same = refl; locals = refl; operands = few; pc = there key })
 
 -- THE SHAPES
 

@@ -6,3 +6,6 @@ mod Keeping
 mod RowsAmong
 mod Going
 mod Answering
+mod Preserving
+mod Sounding
+mod Standing

@@ -1,10 +1,11 @@
 -- What a method that a frame runs has.
-use Rattle.std.proofs.Common.{◌≡◌, ℕ, ◌^◌, ◌<◌, List, length, Option, sym, ap, subst, ◌∙◌}
-use Rattle.std.specs.Prelude.{unwrap_or, slice_get, slice_index_or}
+use Rattle.std.proofs.Common.{◌≡◌, ℕ, ◌^◌, ◌<◌, List, length, Option, Some, sym, ap, subst, ◌∙◌}
+use Rattle.std.specs.Prelude.{IfSome, unwrap_or, slice_get, slice_index_or}
 use Rattle.std.proofs.lemmas.Option.{unwrap_or-slice_get}
 use Rattle.et_pool.specs.Entries.{Item, Constants}
 use Rattle.et_code.specs.declared.instr.Instr.{Instr}
 use Rattle.et_code.specs.Bodies.{Body}
+use Rattle.et_code.specs.Rules.{KeepsRules}
 use Rattle.et_program.specs.Entries.{Linked, method_at}
 use Rattle.et_program.specs.declared.info.MethodInfo.{MethodInfo}
 use Rattle.et_frames.specs.Threads.{FrameState}
@@ -31,3 +32,9 @@ site_found p f x code pool class same_code same_pool same_class =
     ap (λ (bytes : List ℕ). let at : Site = record { instr = x.0; next = x.1; code = bytes; pool = pool; class = class } in at) same_code
     ∙ (ap (λ (items : List (Option Item)). let at : Site = record { instr = x.0; next = x.1; code = (code_of p f).code; pool = items; class = class } in at) same_pool
     ∙ ap (λ (k : ℕ). let at : Site = record { instr = x.0; next = x.1; code = (code_of p f).code; pool = pool_of p (method_of p f).class; class = k } in at) same_class)
+
+pub rules_found : (p : Linked) (f : FrameState) → Runs p f → IfSome (method_of p f).code (λ body. KeepsRules body) → KeepsRules (code_of p f)
+rules_found p f r h =
+    let code : (method_of p f).code ≡ Some r.runs.body = ap (λ (m : MethodInfo). m.code) (method_runs p f r) ∙ r.runs.code in
+    let kept : KeepsRules r.runs.body = subst (λ (o : Option Body). IfSome o (λ body. KeepsRules body)) code h in
+    subst (λ (b : Body). KeepsRules b) (sym (body_runs p f r)) kept

@@ -3,13 +3,14 @@ use Rattle.std.specs.Prelude.{◌≡◌, ℕ, ◌<◌, ◌^◌, Option, Some, No
 use Rattle.std.specs.Option.{option_copied}
 use Rattle.et_code.specs.declared.instr.Instr.{Instr}
 use Rattle.et_code.specs.declared.instr.CodeFault.{CodeFault}
+use Rattle.et_code.specs.Rules.{KeepsRules}
 use Rattle.et_code.specs.Switches.{IsSwitch}
 use Rattle.et_program.specs.Entries.{Linked}
 use Rattle.et_frames.specs.Threads.{FrameState}
 use Rattle.et_event.specs.declared.rows.Row.{Row}
 use Rattle.et_event.specs.declared.rows.Row.TheVariants as rows
 use Rattle.et_event.specs.declared.rows.FrameRow.TheVariants as frame_rows
-use Rattle.et_event.specs.Sites.{Site, site_of, decoded_at, natural}
+use Rattle.et_event.specs.Sites.{Site, site_of, code_of, decoded_at, natural}
 use Rattle.et_event.specs.Sound.{RunsMethod}
 use Rattle.et_event.specs.Table.{row_of}
 use Rattle.et_ops.specs.Pools.{slots_of}
@@ -30,6 +31,8 @@ pub record IsPlace (p : Linked) (f : FrameState) (place : Place) : Type 0 where
   pub decoded : decoded_at p f ≡ Ok (place.instr, place.next)
   pub row : row_of place.instr.opcode ≡ Some place.row
   pub site : site_at place ≡ site_of p f (place.instr, place.next)
+  -- the code keeps the rules of the standard (JVMS 4.9.1)
+  pub rules : KeepsRules (code_of p f)
   pub switch : place.row ≡ rows.Frame frame_rows.Switch → IsSwitch place.code.now place.instr
   -- the pc, the number of locals and the index of a constant have 16 bits (JVMS 4.7.3, 4.11)
   pub pc : f.pc < 2 ^ 16

@@ -3,6 +3,7 @@ ghost use Rattle.std.specs.Prelude.{◌≡◌, ◌+◌, ◌<◌, ◌^◌, IfOk, 
 ghost use Rattle.std.specs.Int.{w8, w16};
 ghost use Rattle.et_items.specs.Numbers.{number_at};
 ghost use Rattle.et_code.specs.Decoding.{instruction_at};
+ghost use Rattle.et_code.specs.Rules.{KeepsRules};
 ghost use Rattle.et_machine.specs.Words.{HasFrame, top};
 ghost use Rattle.et_event.specs.Sites.{body_of, method_of as method_in, natural};
 ghost use Rattle.et_event.specs.Table.{row_of as row_in_table};
@@ -47,6 +48,23 @@ pub(crate) fn code_of(method: &MethodInfo) -> &[u8]
     match &method.code {
         Some(code) => bytes_of(code),
         None => b"",
+    }
+}
+
+/// Code keeps the rules of the standard (JVMS 4.9.1).
+fn code_keeps_rules(code: &Code)
+    ensures { KeepsRules code.now }
+{
+    let _raw = code.raw();
+}
+
+/// .. and so does that of a method which has code.
+pub(crate) fn keeps_rules(method: &MethodInfo)
+    ensures { IfSome method.now.code (λ body. KeepsRules body) }
+{
+    match &method.code {
+        Some(code) => code_keeps_rules(code),
+        None => (),
     }
 }
 

@@ -1,9 +1,10 @@
 //! The event of a plain instruction.
-ghost use Rattle.std.specs.Prelude.{◌≡◌, ◌<◌, ◌^◌, IfOk, OnErr};
+ghost use Rattle.std.specs.Prelude.{◌≡◌, ◌<◌, ◌^◌, IfOk, OnOk, OnErr};
 ghost use Rattle.et_machine.specs.State.{kept_of};
 ghost use Rattle.et_event.specs.Answered.{EventAnswers};
 ghost use Rattle.et_event.specs.Event.{event};
 ghost use Rattle.et_event.specs.Sound.{IsSoundFor};
+ghost use Rattle.et_plain.specs.Programs.{MakesSound};
 ghost use Rattle.et_plain.specs.Turns.{IsPlainTurn};
 
 use crate::places::place_of;
@@ -26,6 +27,7 @@ fn instruction_event(
     requires clock { machine.old.guest.clock < 2 ^ 40 }
     requires turn { IsPlainTurn program.now (kept_of machine.old) thread }
     ensures event { IfOk result (λ end. EventAnswers (event program.now (kept_of machine.old) thread) end machine.old machine.new out.old out.new) }
+    ensures sound { MakesSound program.now → OnOk result (IsSoundFor program.now (kept_of machine.new)) }
     ensures err { OnErr result (machine.new.guest ≡ machine.old.guest) }
 {
     let Some(place) = place_of(program, machine, thread) else {
@@ -66,6 +68,7 @@ pub fn ops_event<L: Ledger>(
     requires turn { IsPlainTurn program.now (kept_of machine.old) thread }
     ensures event { IfOk result (λ end. EventAnswers (event program.now (kept_of machine.old) thread) end machine.old machine.new out.old out.new) }
     ensures visits { visits.new ≡ visits.old }
+    ensures sound { MakesSound program.now → OnOk result (IsSoundFor program.now (kept_of machine.new)) }
     ensures err { OnErr result (machine.new.guest ≡ machine.old.guest) }
 {
     instruction_event(program, machine, thread, out)

@@ -10,7 +10,7 @@ ghost use Rattle.et_event.specs.Sites.{decoded_at};
 ghost use Rattle.et_event.specs.Sound.{IsSoundFor};
 ghost use Rattle.et_plain.specs.Places.{IsPlace, row_at, site_at};
 
-use crate::codes::{code_of, instruction, locals_are_few, method_of};
+use crate::codes::{code_of, instruction, keeps_rules, locals_are_few, method_of};
 use et_base::{ClassId, ThreadId};
 use et_code::Instr;
 use et_event::{Row, row_of};
@@ -45,6 +45,7 @@ fn find_place<'a>(program: &'a Program, machine: &Machine, thread: ThreadId) -> 
 {
     laws::switch();
     let method = method_of(program, machine, thread);
+    keeps_rules(method);
     locals_are_few(method);
     let code = code_of(method);
     let (instr, next) = instruction(code, machine.pc(thread)).ok()?;
