@@ -1,11 +1,13 @@
 -- What an event answers, by the place at which the thread stands.
-use Rattle.std.proofs.Common.{◌≡◌, ℕ, true, List, Option, Some, None, refl, sym, ap, subst, ◌∙◌}
-use Rattle.std.specs.Prelude.{Result, Ok, Err, IfSome, IfNone, unwrap_or}
+use Rattle.std.proofs.Common.{◌≡◌, ℕ, Bool, true, List, Option, Some, None, refl, sym, ap, subst, rules, ◌∙◌}
+use Rattle.std.specs.Prelude.{IsTrue, ◌↔◌, Result, Ok, Err, IfSome, IfNone, unwrap_or}
 use Rattle.et_code.specs.declared.instr.Instr.{Instr}
 use Rattle.et_code.specs.declared.instr.CodeFault.{CodeFault}
 use Rattle.et_program.specs.Entries.{Linked}
 use Rattle.et_machine.specs.State.{Kept, MachineState, kept_of}
-use Rattle.et_machine.specs.Words.{top}
+use Rattle.et_frames.specs.declared.stage.Turn.TheVariants.{Instruction}
+use Rattle.et_frames.specs.Threads.{turn_of}
+use Rattle.et_machine.specs.Words.{thread_at, top}
 use Rattle.et_state.specs.declared.records.Record.{Record}
 use Rattle.et_state.specs.declared.ends.EventEnd.{EventEnd}
 use Rattle.et_state.specs.declared.ends.EventEnd.TheVariants as ends
@@ -19,7 +21,7 @@ use Rattle.et_event.specs.Table.{row_of}
 use Rattle.et_ops.specs.Rows.{is_plain, PlainAnswers}
 use Rattle.et_plain.specs.declared.places.Place.{Place}
 use Rattle.et_plain.specs.Places.{IsPlace, site_at, row_at}
-use Rattle.et_plain.specs.Turns.{is_plain_row}
+use Rattle.et_plain.specs.Turns.{is_plain_row, IsPlainTurn}
 
 pub if_some : {A : Type 0} {P Q : A → Type 0} → (o : Option A) → ((a : A) → P a → Q a) → IfSome o P → IfSome o Q
 if_some None f h = tt
@@ -63,3 +65,10 @@ answered o o' r None x m m' out out' e law h = cc
 answered o o' r (Some y) x m m' out out' e law h =
     let same : y ≡ x = cc in
     subst (λ (z : EventEnd). EventAnswers o' z m m' out out') same (subst (λ (z : Outcome Kept). EventAnswers z y m m' out out') (sym law) h.1)
+
+-- whether a turn is plain, by what stands there
+pub plain_turn : (p : Linked) (s : Kept) (t : ℕ) (b : Bool) → turn_of (thread_at s.guest t) ≡ Instruction → is_plain_row (row_at (decoded_at p (top s.guest t))) ≡ b → IsTrue b ↔ IsPlainTurn p s t
+plain_turn p s t b turn e = (λ is. record { turn = turn; plain = e ∙ search (rules, is) }, λ h. let same : b ≡ true = sym e ∙ h.plain in search (rules, same))
+
+pub row_here : (p : Linked) (s : Kept) (t : ℕ) (place : Place) → IsPlace p (top s.guest t) place → is_plain_row (row_at (decoded_at p (top s.guest t))) ≡ is_plain place.row
+row_here p s t place is = ap (λ (d : Result (Instr × ℕ) CodeFault). is_plain_row (row_at d)) is.decoded ∙ ap (λ (o : Option Row). is_plain_row o) is.row

@@ -26,7 +26,7 @@ use Rattle.et_event.specs.declared.rows.Row.{Row}
 use Rattle.et_event.specs.declared.rows.Row.TheVariants as row
 use Rattle.et_event.specs.declared.errors.GuestError.TheVariants.{ArithmeticException}
 use Rattle.et_event.specs.Answered.{EventAnswers}
-use Rattle.et_event.specs.Errors.{name_of, class_called, error_class}
+use Rattle.et_event.specs.Errors.{class_called, error_class}
 use Rattle.et_event.specs.Event.{does}
 use Rattle.et_event.specs.Moments.{Moment, Doing, ill_typed, with_guest, begins, with_frame, ends as ending, fits, throws, instance_made, pending_now, entry_given_up, next_object}
 use Rattle.et_event.specs.Checks.{ill_typed_unless}
@@ -122,7 +122,7 @@ thrown_sound p s t b made =
     let given : entry_given_up e (begins e) ≡ begins e = given_up e (begins e) _ (has_frame (thread_at s.guest t).frames) (framed (thread_at s.guest t).frames b.has.frame) in
     subst (λ (x : Doing). KeepsSound p (ending (pending_now e (next_object (begins e)) (instance_made e class x)))) (sym given)
     (ends_sound p d (λ fit held. preserved p s (Some y ∷ []) t (with_pending (Some (length s.heap)) (thread_at s.guest t)) s.guest.interned b.sound b.clock b.has.thread
-    (record { few = refl; entry = refl; object = refl; entered = refl; ended = refl }) (b.sound.threads t b.has.thread).frames (one_new p y (made (name_of ArithmeticException)) refl) fit held))
+    (record { few = refl; entry = refl; object = refl; entered = refl; ended = refl }) (b.sound.threads t b.has.thread).frames (one_new p y (made.error ArithmeticException) refl) fit held))
 
 -- THE ROWS
 
@@ -151,7 +151,7 @@ string_sound p s t next bytes b made at lt =
     let d : Doing = with_guest (with_string x.state.guest bytes (next_object (begins e))) x in
     if_case (λ (z : Doing). KeepsSound p (ending (with_frame e (string_pushed f next bytes z) z))) (is_some (object_of s.guest.interned bytes)) (begins e) d
     (ends_sound p (with_frame e (string_pushed f next bytes (begins e)) (begins e)) (λ fit held. frame_sound p s t (string_pushed f next bytes (begins e)) b (string_keeps (code_of p f) f next bytes (begins e) lt at) held))
-    (ends_sound p (with_frame e (string_pushed f next bytes d) d) (λ fit held. top_sound p s t (string_pushed f next bytes d) (Some y ∷ []) (s.guest.interned ++ (bytes, length s.heap) ∷ []) b (string_keeps (code_of p f) f next bytes d lt at) (one_new p y (made (codes "java/lang/String")) refl) fit held))
+    (ends_sound p (with_frame e (string_pushed f next bytes d) d) (λ fit held. top_sound p s t (string_pushed f next bytes d) (Some y ∷ []) (s.guest.interned ++ (bytes, length s.heap) ∷ []) b (string_keeps (code_of p f) f next bytes d lt at) (one_new p y made.string refl) fit held))
 
 constant_sound : (p : Linked) (s : Kept) (t : ℕ) (at : Site) (o : Option LoadedConstant) → Begins p s t → MakesSound p → IsPc (code_of p (top s.guest t)) at.next → KeepsSound p (constant (moment p s t) at o)
 constant_sound p s t at None b made there = tt

@@ -1,20 +1,45 @@
 //! The event of a plain instruction.
-ghost use Rattle.std.specs.Prelude.{◌≡◌, ◌<◌, ◌^◌, IfOk, OnOk, OnErr};
+ghost use Rattle.std.specs.Prelude.{◌≡◌, ◌<◌, ◌^◌, ◌↔◌, IsTrue, IfOk, OnOk, OnErr};
+ghost use Rattle.et_frames.specs.declared.stage.Turn.TheVariants as turns;
+ghost use Rattle.et_frames.specs.Threads.{turn_of};
 ghost use Rattle.et_machine.specs.State.{kept_of};
+ghost use Rattle.et_machine.specs.Words.{thread_at};
 ghost use Rattle.et_event.specs.Answered.{EventAnswers};
 ghost use Rattle.et_event.specs.Event.{event};
 ghost use Rattle.et_event.specs.Sound.{IsSoundFor};
+ghost use Rattle.et_ops.specs.Rows.{is_plain as plain};
 ghost use Rattle.et_plain.specs.Programs.{MakesSound};
 ghost use Rattle.et_plain.specs.Turns.{IsPlainTurn};
 
 use crate::places::place_of;
 use et_base::{NoMemory, Steps, ThreadId};
+use et_event::Row;
 use et_machine::Machine;
 use et_ops::{ill_typed, plain_event};
 use et_program::Program;
 use et_state::{EventEnd, Lines};
 use std::alloc::Global;
 use std::sync::ledger::Ledger;
+
+/// Whether a row is plain.
+fn is_plain(row: Row) -> bool
+    ensures { result ≡ plain row }
+{
+    matches!(row, Row::Frame(_) | Row::PoolConstant | Row::Divide(_, _))
+}
+
+/// Whether `ops_event` does the turn of a thread that does an instruction: that is plain, or there is none, since the code
+/// ends there or has an opcode without a row.
+pub fn is_plain_turn(program: &Program, machine: &Machine, thread: ThreadId) -> bool
+    requires sound { IsSoundFor program.now (kept_of machine.now) }
+    requires turn { turn_of (thread_at machine.now.guest thread) ≡ turns.Instruction }
+    ensures { IsTrue result ↔ IsPlainTurn program.now (kept_of machine.now) thread }
+{
+    match place_of(program, machine, thread) {
+        Some(place) => is_plain(place.row),
+        None => true,
+    }
+}
 
 /// The event of a thread whose turn is a plain instruction.
 fn instruction_event(
@@ -53,7 +78,8 @@ fn instruction_event(
 /// The event of a thread whose turn is a plain instruction (JVMS 2.11.2 to 2.11.4, 2.11.6, 2.11.7), or that stands at the
 /// end of its code. It answers what the table of events says: `Done`, and then the machine keeps the next state, to which a
 /// legal step led, and the records of the event stand behind those that were there; or `IllTyped` or `ObjectLimit`, and then
-/// machine and records are as before. It visits no object. After `NoMemory` the machine may have one object more, to which
+/// machine and records are as before. What the machine keeps is a sound state of the program again. It visits no object.
+/// After `NoMemory` the machine may have one object more, to which
 /// nothing refers, and there may be its record; all else is as before.
 pub fn ops_event<L: Ledger>(
     _alloc: Global,

@@ -5,5 +5,5 @@ mod codes;
 mod event;
 mod places;
 
-pub use event::ops_event;
+pub use event::{is_plain_turn, ops_event};
 pub use places::{Place, place_of};
