@@ -9,3 +9,4 @@ mod Answering
 mod Preserving
 mod Sounding
 mod Standing
+mod Naming

@@ -105,11 +105,11 @@ ends_sound p d h = end_case p d (fits d.state.heap) refl h
 
 -- .. and thrown
 
-framed : (fs : List FrameState) → 0 < length fs → has_frame fs ≡ true
+pub framed : (fs : List FrameState) → 0 < length fs → has_frame fs ≡ true
 framed [] h = absurd (omega arith)
 framed (f ∷ fs) h = refl
 
-given_up : (e : Moment) (d x : Doing) (b : Bool) → b ≡ true → (if b then d else x) ≡ d
+pub given_up : (e : Moment) (d x : Doing) (b : Bool) → b ≡ true → (if b then d else x) ≡ d
 given_up e d x true h = refl
 given_up e d x false h = cc
 
@@ -126,7 +126,7 @@ thrown_sound p s t b made =
 
 -- THE ROWS
 
-if_case : {A : Type 0} (P : A → Type 0) (b : Bool) (x y : A) → P x → P y → P (if b then x else y)
+pub if_case : {A : Type 0} (P : A → Type 0) (b : Bool) (x y : A) → P x → P y → P (if b then x else y)
 if_case P true x y h i = h
 if_case P false x y h i = i
 
@@ -134,7 +134,7 @@ unless_case : (p : Linked) (e : Moment) (b : Bool) (o : Outcome Kept) → (b ≡
 unless_case p e true o h = h refl
 unless_case p e false o h = tt
 
-abbrev string_pushed : FrameState → ℕ → List ℕ → Doing → FrameState
+abbrev pub string_pushed : FrameState → ℕ → List ℕ → Doing → FrameState
 string_pushed f next bytes d = record f { pc = next; operands = Ref (string_object bytes d) ∷ f.operands }
 
 string_keeps : (body : Body) (f : FrameState) (next : ℕ) (bytes : List ℕ) (d : Doing) → length f.operands < f.room → IsPc body next → Keeps body f (string_pushed f next bytes d)

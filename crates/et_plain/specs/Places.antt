@@ -31,6 +31,7 @@ pub record IsPlace (p : Linked) (f : FrameState) (place : Place) : Type 0 where
   pub decoded : decoded_at p f ≡ Ok (place.instr, place.next)
   pub row : row_of place.instr.opcode ≡ Some place.row
   pub site : site_at place ≡ site_of p f (place.instr, place.next)
+  pub class : place.class < length p.classes
   -- the code keeps the rules of the standard (JVMS 4.9.1)
   pub rules : KeepsRules (code_of p f)
   pub switch : place.row ≡ rows.Frame frame_rows.Switch → IsSwitch place.code.now place.instr

@@ -1,9 +1,10 @@
 //! The event of a plain instruction.
-ghost use Rattle.std.specs.Prelude.{◌≡◌, ◌<◌, ◌^◌, ◌↔◌, IsTrue, IfOk, OnOk, OnErr};
+ghost use Rattle.std.specs.Prelude.{◌≡◌, ◌<◌, ◌^◌, ◌↔◌, IsTrue, All, IfOk, OnOk, OnErr, length};
 ghost use Rattle.et_frames.specs.declared.stage.Turn.TheVariants as turns;
 ghost use Rattle.et_frames.specs.Threads.{turn_of};
 ghost use Rattle.et_machine.specs.State.{kept_of};
 ghost use Rattle.et_machine.specs.Words.{thread_at};
+ghost use Rattle.et_state.specs.Naming.{Names, IsNamed};
 ghost use Rattle.et_event.specs.Answered.{EventAnswers};
 ghost use Rattle.et_event.specs.Event.{event};
 ghost use Rattle.et_event.specs.Sound.{IsSoundFor};
@@ -53,6 +54,7 @@ fn instruction_event(
     requires turn { IsPlainTurn program.now (kept_of machine.old) thread }
     ensures event { IfOk result (λ end. EventAnswers (event program.now (kept_of machine.old) thread) end machine.old machine.new out.old out.new) }
     ensures sound { MakesSound program.now → OnOk result (IsSoundFor program.now (kept_of machine.new)) }
+    ensures named { (names : Names) → names.class_count ≡ length program.now.classes → All (IsNamed names) out.old → OnOk result (All (IsNamed names) out.new) }
     ensures err { OnErr result (machine.new.guest ≡ machine.old.guest) }
 {
     let Some(place) = place_of(program, machine, thread) else {
@@ -78,8 +80,8 @@ fn instruction_event(
 /// The event of a thread whose turn is a plain instruction (JVMS 2.11.2 to 2.11.4, 2.11.6, 2.11.7), or that stands at the
 /// end of its code. It answers what the table of events says: `Done`, and then the machine keeps the next state, to which a
 /// legal step led, and the records of the event stand behind those that were there; or `IllTyped` or `ObjectLimit`, and then
-/// machine and records are as before. What the machine keeps is a sound state of the program again. It visits no object.
-/// After `NoMemory` the machine may have one object more, to which
+/// machine and records are as before. What the machine keeps is a sound state of the program again. Its
+/// records name classes of the program. It visits no object. After `NoMemory` the machine may have one object more, to which
 /// nothing refers, and there may be its record; all else is as before.
 pub fn ops_event<L: Ledger>(
     _alloc: Global,
@@ -95,6 +97,7 @@ pub fn ops_event<L: Ledger>(
     ensures event { IfOk result (λ end. EventAnswers (event program.now (kept_of machine.old) thread) end machine.old machine.new out.old out.new) }
     ensures visits { visits.new ≡ visits.old }
     ensures sound { MakesSound program.now → OnOk result (IsSoundFor program.now (kept_of machine.new)) }
+    ensures named { (names : Names) → names.class_count ≡ length program.now.classes → All (IsNamed names) out.old → OnOk result (All (IsNamed names) out.new) }
     ensures err { OnErr result (machine.new.guest ≡ machine.old.guest) }
 {
     instruction_event(program, machine, thread, out)

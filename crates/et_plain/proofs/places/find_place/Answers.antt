@@ -35,6 +35,7 @@ returns-clause-found c =
       decoded = at_pc;
       row = row;
       site = site_found p f (c.in_ok-instr.instr, c.in_ok-instr.next) c.code_of-code.result.now _ c.method_of-method.result.now.class code (pool_found p c.method_of-method.result.now.class (method_of p f).class (option_copied c.pool.result) c.pool.ensures class) class;
+      class = c.method_of-method.ensures.class;
       rules = rules_found p f runs (subst (λ (m : MethodInfo). IfSome m.code (λ body. KeepsRules body)) method c.keeps_rules.ensures);
       switch = λ e. subst (λ (bytes : List ℕ). IsSwitch bytes c.in_ok-instr.instr) (sym code)
           (c.switch.ensures (code_of p f).code f.pc (c.in_ok-instr.instr, c.in_ok-instr.next) at_pc (row ∙ ap (λ (r : Row). Some r) e));
