@@ -2,3 +2,4 @@ pub mod Tops
 pub mod Divisions
 pub mod Making
 pub mod Rows
+pub mod Pools

@@ -8,7 +8,7 @@ use et_machine::Machine;
 use et_state::EventEnd;
 
 /// What an event without meaning answers: the method and the pc of the topmost frame.
-pub(crate) fn ill_typed(machine: &Machine, thread: ThreadId) -> EventEnd
+pub fn ill_typed(machine: &Machine, thread: ThreadId) -> EventEnd
     requires { HasFrame machine.now.guest thread }
     ensures { result ≡ ends.IllTyped (unwrap_or (top machine.now.guest thread).method 0) (top machine.now.guest thread).pc }
 {

@@ -20,6 +20,7 @@ mod switches;
 mod throws;
 mod tops;
 
+pub use answers::ill_typed;
 pub use constants::constant_event;
 pub use divisions::divide_event;
 pub use frames::frame_event;

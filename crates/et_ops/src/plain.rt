@@ -1,6 +1,8 @@
 //! The plain instructions, by their rows.
 ghost use Rattle.std.specs.Prelude.{◌≡◌, ℕ, ◌<◌, ◌^◌, true, List, Option, IfOk, OnErr, length};
+ghost use Rattle.std.specs.Option.{option_copied};
 ghost use Rattle.et_pool.specs.Entries.{Item};
+ghost use Rattle.et_code.specs.declared.instr.Instr.{Instr as Decoded};
 ghost use Rattle.et_code.specs.Switches.{IsSwitch};
 ghost use Rattle.et_program.specs.Entries.{Linked};
 ghost use Rattle.et_machine.specs.State.{kept_of};
@@ -12,8 +14,9 @@ ghost use Rattle.et_event.specs.declared.rows.Row.TheVariants as rows;
 ghost use Rattle.et_event.specs.Answered.{EventAnswers};
 ghost use Rattle.et_event.specs.Event.{does};
 ghost use Rattle.et_event.specs.Moments.{fits};
-ghost use Rattle.et_event.specs.Plain.{after, on_frame};
-ghost use Rattle.et_event.specs.Sites.{natural as natural_of};
+ghost use Rattle.et_event.specs.Plain.{after, constant, on_frame};
+ghost use Rattle.et_event.specs.Sites.{constant_at, natural as natural_of};
+ghost use Rattle.et_ops.specs.Pools.{slots_of};
 ghost use Rattle.et_ops.specs.Rows.{PlainAnswers};
 
 use crate::answers::ill_typed;
@@ -52,8 +55,31 @@ fn frame_row_event(
     }
 }
 
+/// The event of `ldc`, `ldc_w` or `ldc2_w` in a class whose pool is this. Where the class has none, it has no meaning.
+fn pool_event(
+    machine: &mut Machine,
+    program: &Program,
+    thread: ThreadId,
+    pool: Option<&Pool>,
+    index: u16,
+    next: u32,
+    out: &mut Lines,
+) -> Result<EventEnd, NoMemory>
+    requires frame { HasFrame machine.old.guest thread }
+    requires sound { IsSound (kept_of machine.old) }
+    requires clock { machine.old.guest.clock < 2 ^ 40 }
+    requires fits { fits machine.old.heap ≡ true }
+    ensures ok { IfOk result (λ end. (instr : Decoded) (code : List ℕ) (items : List (Option Item)) (class : ℕ) → EventAnswers (constant (record { program = program.now; before = kept_of machine.old; thread = thread }) (record { instr = instr; next = next; code = code; pool = items; class = class }) (constant_at (slots_of (option_copied pool.entry)) index)) end machine.old machine.new out.old out.new) }
+    ensures err { OnErr result (machine.new.guest ≡ machine.old.guest) }
+{
+    match pool {
+        Some(pool) => constant_event(machine, program, thread, pool, index, next, out),
+        None => Ok(ill_typed(machine, thread)),
+    }
+}
+
 /// The event of a plain instruction of this row, decoded from this code, in front of the pc `next`, with the pool of its
-/// class; `None`, and nothing is done, exactly where the row is of another instruction. After `NoMemory` the machine may
+/// class, where that has one; `None`, and nothing is done, exactly where the row is of another instruction. After `NoMemory` the machine may
 /// have one object more, to which nothing refers, and there may be its record; all else is as before.
 pub fn plain_event(
     machine: &mut Machine,
@@ -61,7 +87,7 @@ pub fn plain_event(
     thread: ThreadId,
     row: Row,
     code: &[u8],
-    pool: &Pool,
+    pool: Option<&Pool>,
     instr: &Instr,
     next: u32,
     out: &mut Lines,
@@ -74,7 +100,7 @@ pub fn plain_event(
     requires pc { (top machine.old.guest thread).pc < 2 ^ 31 }
     requires switch { row ≡ rows.Frame frame_rows.Switch → IsSwitch code.now instr.now }
     requires index { row ≡ rows.PoolConstant → natural_of instr.now.first < 2 ^ 16 }
-    ensures ok { IfOk result (λ end. (class : ℕ) → PlainAnswers (does (record { program = program.now; before = kept_of machine.old; thread = thread }) (record { instr = instr.now; next = next; code = code.now; pool = pool.now.slots; class = class }) row) row end machine.old machine.new out.old out.new) }
+    ensures ok { IfOk result (λ end. (class : ℕ) → PlainAnswers (does (record { program = program.now; before = kept_of machine.old; thread = thread }) (record { instr = instr.now; next = next; code = code.now; pool = slots_of (option_copied pool.entry); class = class }) row) row end machine.old machine.new out.old out.new) }
     ensures err { OnErr result (machine.new.guest ≡ machine.old.guest) }
 {
     match row {
@@ -84,7 +110,7 @@ pub fn plain_event(
         }
         Row::PoolConstant => {
             let index = natural(instr.first) as u16;
-            let end = constant_event(machine, program, thread, pool, index, next, out)?;
+            let end = pool_event(machine, program, thread, pool, index, next, out)?;
             Ok(Some(end))
         }
         Row::Divide(number, division) => {

@@ -1,0 +1,74 @@
+-- What an event answers, by the place at which the thread stands.
+use Rattle.std.proofs.Common.{◌≡◌, ℕ, Bool, true, List, Option, Some, None, refl, sym, ap, subst, rules, ◌∙◌}
+use Rattle.std.specs.Prelude.{IsTrue, ◌↔◌, Result, Ok, Err, IfSome, IfNone, unwrap_or}
+use Rattle.et_code.specs.declared.instr.Instr.{Instr}
+use Rattle.et_code.specs.declared.instr.CodeFault.{CodeFault}
+use Rattle.et_program.specs.Entries.{Linked}
+use Rattle.et_machine.specs.State.{Kept, MachineState, kept_of}
+use Rattle.et_frames.specs.declared.stage.Turn.TheVariants.{Instruction}
+use Rattle.et_frames.specs.Threads.{turn_of}
+use Rattle.et_machine.specs.Words.{thread_at, top}
+use Rattle.et_state.specs.declared.records.Record.{Record}
+use Rattle.et_state.specs.declared.ends.EventEnd.{EventEnd}
+use Rattle.et_state.specs.declared.ends.EventEnd.TheVariants as ends
+use Rattle.et_state.specs.Outcome.{Outcome}
+use Rattle.et_event.specs.declared.rows.Row.{Row}
+use Rattle.et_event.specs.Answered.{EventAnswers}
+use Rattle.et_event.specs.Event.{event, does}
+use Rattle.et_event.specs.Moments.{Moment, ill_typed}
+use Rattle.et_event.specs.Sites.{Site, site_of, decoded_at}
+use Rattle.et_event.specs.Table.{row_of}
+use Rattle.et_ops.specs.Rows.{is_plain, PlainAnswers}
+use Rattle.et_plain.specs.declared.places.Place.{Place}
+use Rattle.et_plain.specs.Places.{IsPlace, site_at, row_at}
+use Rattle.et_plain.specs.Turns.{is_plain_row, IsPlainTurn}
+
+pub if_some : {A : Type 0} {P Q : A → Type 0} → (o : Option A) → ((a : A) → P a → Q a) → IfSome o P → IfSome o Q
+if_some None f h = tt
+if_some (Some a) f h = f a h
+
+pub if_none : {A : Type 0} {P Q : Type 0} → (o : Option A) → (P → Q) → IfNone o P → IfNone o Q
+if_none None f h = f h
+if_none (Some a) f h = tt
+
+abbrev pub moment : Linked → Kept → ℕ → Moment
+moment p s t = record { program = p; before = s; thread = t }
+
+pub at_place : (p : Linked) (s : Kept) (t : ℕ) (place : Place) → IsPlace p (top s.guest t) place
+    → event p s t ≡ does (moment p s t) (site_of p (top s.guest t) (place.instr, place.next)) place.row → event p s t ≡ does (moment p s t) (site_at place) place.row
+at_place p s t place is law = law ∙ ap (λ (at : Site). does (moment p s t) at place.row) (sym is.site)
+
+pub at_none : (p : Linked) (s : Kept) (t : ℕ) → ((x : Instr × ℕ) → decoded_at p (top s.guest t) ≡ Ok x → row_of x.0.opcode ≡ None → event p s t ≡ ill_typed (moment p s t))
+    → ((fault : CodeFault) → decoded_at p (top s.guest t) ≡ Err fault → event p s t ≡ ill_typed (moment p s t))
+    → (d : Result (Instr × ℕ) CodeFault) → decoded_at p (top s.guest t) ≡ d → row_at d ≡ None → event p s t ≡ ill_typed (moment p s t)
+at_none p s t no_row ended (Ok x) e r = no_row x e r
+at_none p s t no_row ended (Err fault) e r = ended fault e
+
+-- the machine and the records are as before, and the place is told
+pub ill_typed_answers : (p : Linked) (t : ℕ) (m : MachineState) (out : List Record) (end : EventEnd) → end ≡ ends.IllTyped (unwrap_or (top m.guest t).method 0) (top m.guest t).pc
+    → event p (kept_of m) t ≡ ill_typed (moment p (kept_of m) t) → EventAnswers (event p (kept_of m) t) end m m out out
+ill_typed_answers p t m out end e law =
+    subst (λ (o : Outcome Kept). EventAnswers o end m m out out) (sym law)
+    (subst (λ (x : EventEnd). EventAnswers (ill_typed (moment p (kept_of m) t)) x m m out out) (sym e) (refl, refl, refl, refl))
+
+pub plain_here : (p : Linked) (s : Kept) (t : ℕ) (place : Place) → IsPlace p (top s.guest t) place → is_plain_row (row_at (decoded_at p (top s.guest t))) ≡ true → is_plain place.row ≡ true
+plain_here p s t place is e =
+    sym (ap (λ (o : Option Row). is_plain_row o) is.row) ∙ (sym (ap (λ (d : Result (Instr × ℕ) CodeFault). is_plain_row (row_at d)) is.decoded) ∙ e)
+
+-- a plain row has an answer, and it is that of the event
+pub not_none : (o : Outcome Kept) (r : Row) (end : Option EventEnd) (m m' : MachineState) (out out' : List Record) → end ≡ None → is_plain r ≡ true → PlainAnswers o r end m m' out out' → ⊥
+not_none o r None m m' out out' e plain h = let other = h.0 in cc
+not_none o r (Some x) m m' out out' e plain h = cc
+
+pub answered : (o o' : Outcome Kept) (r : Row) (end : Option EventEnd) (x : EventEnd) (m m' : MachineState) (out out' : List Record) → end ≡ Some x → o' ≡ o → PlainAnswers o r end m m' out out' → EventAnswers o' x m m' out out'
+answered o o' r None x m m' out out' e law h = cc
+answered o o' r (Some y) x m m' out out' e law h =
+    let same : y ≡ x = cc in
+    subst (λ (z : EventEnd). EventAnswers o' z m m' out out') same (subst (λ (z : Outcome Kept). EventAnswers z y m m' out out') (sym law) h.1)
+
+-- whether a turn is plain, by what stands there
+pub plain_turn : (p : Linked) (s : Kept) (t : ℕ) (b : Bool) → turn_of (thread_at s.guest t) ≡ Instruction → is_plain_row (row_at (decoded_at p (top s.guest t))) ≡ b → IsTrue b ↔ IsPlainTurn p s t
+plain_turn p s t b turn e = (λ is. record { turn = turn; plain = e ∙ search (rules, is) }, λ h. let same : b ≡ true = sym e ∙ h.plain in search (rules, same))
+
+pub row_here : (p : Linked) (s : Kept) (t : ℕ) (place : Place) → IsPlace p (top s.guest t) place → is_plain_row (row_at (decoded_at p (top s.guest t))) ≡ is_plain place.row
+row_here p s t place is = ap (λ (d : Result (Instr × ℕ) CodeFault). is_plain_row (row_at d)) is.decoded ∙ ap (λ (o : Option Row). is_plain_row o) is.row

@@ -1,0 +1,12 @@
+mod Running
+mod Constants
+mod Sizes
+mod Placing
+mod Keeping
+mod RowsAmong
+mod Going
+mod Answering
+mod Preserving
+mod Sounding
+mod Standing
+mod Naming
