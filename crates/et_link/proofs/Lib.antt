@@ -8,3 +8,4 @@ pub mod CrossLemmas
 pub mod LinkingLemmas
 pub mod BuildLemmas
 pub mod Unique
+pub mod Exists

@@ -1,6 +1,6 @@
 //! What the definitions mean.
 
-ghost use Rattle.std.specs.Prelude.{◌≡◌, ℕ, List, Result, All, map};
+ghost use Rattle.std.specs.Prelude.{◌≡◌, ℕ, ◌<◌, length, List, Result, All, map};
 ghost use Rattle.et_class.specs.declared.class.ClassFile.{ClassFile};
 ghost use Rattle.et_class.specs.Classes.{class_of, HasItsParts};
 ghost use Rattle.et_link.specs.Loaded.{LoadedClass, loaded_class, loaded_file};
@@ -16,4 +16,9 @@ pub fn files_are_classes()
 /// Files are at most one program, or have at most one fault, and not both.
 pub fn answers_are_one()
     ensures { (files : List LoadedClass) (answer other : Result Linked (LinkFaultKind × ℕ)) → LinkIs files answer → LinkIs files other → answer ≡ other }
+{}
+
+/// One file or more are a program, or have a fault.
+pub fn answers_exist()
+    ensures { (files : List LoadedClass) → 0 < length files → (answer : Result Linked (LinkFaultKind × ℕ)) × LinkIs files answer }
 {}
