@@ -88,6 +88,15 @@ least_more test methods n found m h lt is =
     (λ f. least_of test methods (n + 1) _ found (cond-false (test m) (Some (lesser found m.class)) found f) (passed_over test methods n found h (ap test (sym e) ∙ f)))
     (cases_Bool (test m))
 
+pub least_at : (test : MethodInfo → Bool) (methods : List MethodInfo) (n : ℕ) → n ≤ length methods → (found : Option ℕ) × AnswersLeast test methods n found
+least_at test methods zero le = (None, λ j lt y. absurd (omega arith))
+least_at test methods (suc n) le =
+    let r = least_at test methods n (omega arith) in
+    let m : MethodInfo = method_of methods n in
+    let inside : n < length methods = omega arith in
+    let e : n + 1 ≡ suc n = omega arith in
+    (cond (test m) (Some (lesser r.0 m.class)) r.0, subst (λ k. AnswersLeast test methods k (cond (test m) (Some (lesser r.0 m.class)) r.0)) e (least_more test methods n r.0 m r.1 inside (get_or_default methods n no_method m inside)))
+
 -- SUPERCLASSES
 
 some_same : (a b : ℕ) → Some a ≡ Some b → a ≡ b

@@ -8,5 +8,4 @@ pub mod CrossLemmas
 pub mod LinkingLemmas
 pub mod BuildLemmas
 pub mod Unique
-pub mod DecidingLemmas
-pub mod AnswerLemmas
+pub mod Exists

@@ -66,7 +66,7 @@ free_below files kind k h TooMany lt = absurd (high kind lt)
     high set.Cycle l = omega arith
     high set.FinalSuper l = omega arith
 
-set_fault : (files : List LoadedClass) (kind : FaultKind) (k : ℕ) → IsLinkFault (set_of files) kind k → IsFaultAt files (link_kind kind) k
+pub set_fault : (files : List LoadedClass) (kind : FaultKind) (k : ℕ) → IsLinkFault (set_of files) kind k → IsFaultAt files (link_kind kind) k
 set_fault files set.Duplicate k h = record { inside = h.found.inside; shows = h.found.shows; first = h.found.first; least = free_below files set.Duplicate k h }
 set_fault files set.NoSuper k h = record { inside = h.found.inside; shows = h.found.shows; first = h.found.first; least = free_below files set.NoSuper k h }
 set_fault files set.Cycle k h = record { inside = h.found.inside; shows = h.found.shows; first = h.found.first; least = free_below files set.Cycle k h }
@@ -118,7 +118,7 @@ module _ (files : List LoadedClass) (rows : List Ancestry) (ancestry : IsAncestr
   has_main : (m : ℕ) → main_of (methods_of files) ≡ Some m → IsLinkFree files NoMain
   has_main m e k lt (at, none) = let z : None ≡ Some m = sym none ∙ e in absurd (cc)
 
-  late_fault : (kind : LinkFaultKind) (k : ℕ) → 0 < length files → IsLate (set_of files) rows (methods_of files) (length files) kind k → k < length (set_of files) → IsFaultAt files kind k
+  pub late_fault : (kind : LinkFaultKind) (k : ℕ) → 0 < length files → IsLate (set_of files) rows (methods_of files) (length files) kind k → k < length (set_of files) → IsFaultAt files kind k
   late_fault Duplicate k some h lt = absurd h
   late_fault NoSuper k some h lt = absurd h
   late_fault Cycle k some h lt = absurd h

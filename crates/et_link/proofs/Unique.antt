@@ -55,10 +55,10 @@ programs_one files p q linkable a b =
 
 -- FAULTS
 
-abbrev pub kind_numbered : ℕ → LinkFaultKind
+abbrev kind_numbered : ℕ → LinkFaultKind
 kind_numbered n = get_or (Duplicate ∷ Duplicate ∷ NoSuper ∷ Cycle ∷ FinalSuper ∷ CrossPackage ∷ NoMain ∷ TooMany ∷ []) n TooMany
 
-pub has_its_number : (kind : LinkFaultKind) → kind_numbered (link_number kind) ≡ kind
+has_its_number : (kind : LinkFaultKind) → kind_numbered (link_number kind) ≡ kind
 has_its_number Duplicate = refl
 has_its_number NoSuper = refl
 has_its_number Cycle = refl

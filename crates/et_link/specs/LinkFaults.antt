@@ -1,5 +1,5 @@
 -- WHAT KEEPS FILES FROM BEING LINKED.
-use Rattle.std.specs.Prelude.{◌≡◌, ℕ, ◌+◌, ◌<◌, zero, suc, Bool, true, false, not, ◌==◌, ◌&&◌, ◌⊎◌, List, [], ◌∷◌, length, take, Option, Some, None, codes}
+use Rattle.std.specs.Prelude.{◌≡◌, ℕ, ◌+◌, ◌<◌, zero, suc, Bool, true, false, not, ◌==◌, ◌&&◌, List, [], ◌∷◌, length, take, Option, Some, None, codes}
 use Rattle.std.specs.List.{slice_index_or, position_from}
 use Rattle.std.specs.Str.{bytes_eq}
 use Rattle.et_class.specs.Names.{has}
@@ -105,10 +105,6 @@ pub record IsFaultAt (files : List LoadedClass) (kind : LinkFaultKind) (k : ℕ)
 -- no class shows anything
 abbrev pub IsLinkable : List LoadedClass → Type 0
 IsLinkable files = (kind : LinkFaultKind) → IsLinkFree files kind
-
--- some class shows a fault, or none does
-abbrev pub HasLinkAnswer : List LoadedClass → Type 0
-HasLinkAnswer files = ((kind : LinkFaultKind) × ((k : ℕ) × IsFaultAt files kind k)) ⊎ IsLinkable files
 
 -- a fault that is answered is that of the files, with the name of its class
 abbrev pub RefusesLink : List LoadedClass → LinkFault → Type 0

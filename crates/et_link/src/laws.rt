@@ -1,10 +1,9 @@
 //! What the definitions mean.
 
-ghost use Rattle.std.specs.Prelude.{◌≡◌, ℕ, List, Result, All, map};
+ghost use Rattle.std.specs.Prelude.{◌≡◌, ℕ, ◌<◌, length, List, Result, All, map};
 ghost use Rattle.et_class.specs.declared.class.ClassFile.{ClassFile};
 ghost use Rattle.et_class.specs.Classes.{class_of, HasItsParts};
 ghost use Rattle.et_link.specs.Loaded.{LoadedClass, loaded_class, loaded_file};
-ghost use Rattle.et_link.specs.LinkFaults.{HasLinkAnswer};
 ghost use Rattle.et_link.specs.Refusals.{LinkIs};
 ghost use Rattle.et_link.specs.declared.fault.LinkFaultKind.{LinkFaultKind};
 ghost use Rattle.et_program.specs.Entries.{Linked};
@@ -14,12 +13,12 @@ pub fn files_are_classes()
     ensures { (files : List ClassFile) → All HasItsParts files → map loaded_file files ≡ map loaded_class (map class_of files) }
 {}
 
-/// Some class of the files shows a fault, or none does.
-pub fn answers_exist()
-    ensures { (files : List LoadedClass) → HasLinkAnswer files }
-{}
-
 /// Files are at most one program, or have at most one fault, and not both.
 pub fn answers_are_one()
     ensures { (files : List LoadedClass) (answer other : Result Linked (LinkFaultKind × ℕ)) → LinkIs files answer → LinkIs files other → answer ≡ other }
+{}
+
+/// One file or more are a program, or have a fault.
+pub fn answers_exist()
+    ensures { (files : List LoadedClass) → 0 < length files → (answer : Result Linked (LinkFaultKind × ℕ)) × LinkIs files answer }
 {}

@@ -8,5 +8,6 @@ pub mod AddLemmas
 pub mod BelowLemmas
 pub mod Rounds
 pub mod Unique
+pub mod Decided
 pub mod InitLemmas
 pub mod OrderLemmas

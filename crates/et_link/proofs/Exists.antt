@@ -1,0 +1,114 @@
+-- Files are a program, or have a fault.
+use Rattle.std.proofs.Common.{◌≡◌, ℕ, ◌+◌, ◌<◌, ◌≤◌, ◌^◌, Bool, true, ◌||◌, List, [], ◌∷◌, ◌++◌, length, map, Option, None, Some, Result, Ok, Err, refl, sym, ◌∙◌, ap, subst, arith, append-nil}
+use mathlib.Core.Logic.{⊎_elim}
+use Rattle.std.specs.Prelude.{All}
+use Rattle.std.specs.List.{list_all}
+use Rattle.std.specs.Str.{bytes_eq}
+use Rattle.std.proofs.lemmas.Bool.{cases_Bool, cases_lt, and_parts}
+use Rattle.std.proofs.lemmas.List.Elements.{All-nil, All-from_recursion}
+use Rattle.std.proofs.lemmas.Slice.Eq.{bytes_eq-Decides}
+use Rattle.et_pool.specs.Entries.{Item, Constants, slots_of}
+use Rattle.et_pool.specs.Pools.{IsPool}
+use Rattle.et_pool.specs.Text.{is_modified}
+use Rattle.et_pool.specs.Spelling.{IsEntry, pool_bytes}
+use Rattle.et_pool.proofs.Spelled.{spelled_pool}
+use Rattle.et_boot.specs.Classes.{BootClassOf, thread_pool}
+use Rattle.et_set.specs.Links.{links}
+use Rattle.et_set.specs.Faults.{IsLinkFault, IsFaultless}
+use Rattle.et_set.specs.Ancestry.{Ancestry, IsAncestry}
+use Rattle.et_set.specs.declared.fault.FaultKind.{FaultKind}
+use Rattle.et_set.proofs.LinkLemmas.{table_within}
+use Rattle.et_set.proofs.Decided.{rows_exist, set_answer}
+use Rattle.et_program.specs.Entries.{Linked}
+use Rattle.et_link.specs.declared.fault.LinkFaultKind.{LinkFaultKind}
+use Rattle.et_link.specs.declared.fault.LinkFaultKind.TheVariants.{CrossPackage, NoMain, TooMany}
+use Rattle.et_link.specs.Loaded.{LoadedClass}
+use Rattle.et_link.specs.Files.{boots, set_of}
+use Rattle.et_link.specs.MembersOf.{methods_of, IsBootPool, AreBootPools, file_pool}
+use Rattle.et_link.specs.ProgramOf.{main_of, program_with}
+use Rattle.et_link.specs.Crossing.{crosses, AnswersLeast}
+use Rattle.et_link.specs.Refusals.{link_kind, IsLate, LinkIs}
+use Rattle.et_link.proofs.CrossLemmas.{least_at}
+use Rattle.et_link.proofs.LinkingLemmas.{set_fault, late_fault, late_inside, linkable, acyclic_along}
+
+-- POOLS OF THE BUILT-IN CLASSES
+
+spelled_alone : (es : List Item) → All IsEntry es → length (slots_of es) < 2 ^ 16 → IsPool (pool_bytes es) 0 (slots_of es) (length (pool_bytes es))
+spelled_alone es all few =
+    spelled_pool (pool_bytes es) 0 (slots_of es) (length (pool_bytes es)) (record { entries = es; are_entries = all; few = few; slots_are = refl; stands = ([], sym (append-nil (pool_bytes es))); after_is = omega arith })
+
+thread_entries : All IsEntry thread_pool
+unfolding is_modified
+thread_entries =
+    All-from_recursion IsEntry thread_pool
+    ((refl, omega arith), ((refl, omega arith), ((refl, omega arith), ((refl, omega arith), ((refl, omega arith, omega arith), ((refl, omega arith, omega arith), ((refl, omega arith), ((refl, omega arith), ((refl, omega arith), ((refl, omega arith), ((refl, omega arith, omega arith), ((refl, omega arith, omega arith), tt))))))))))))
+
+abbrev is_spelled : BootClassOf → Bool
+is_spelled c = bytes_eq c.pool (pool_bytes []) || bytes_eq c.pool (pool_bytes thread_pool)
+
+pool_by : (c : BootClassOf) (es : List Item) → All IsEntry es → length (slots_of es) < 2 ^ 16 → c.pool ≡ pool_bytes es → (p : Constants) × IsBootPool c p
+pool_by c es all few e = (
+  record { at = 0; slots = slots_of es },
+  record { place = refl; after = length (pool_bytes es); spelled = subst (λ (b : List ℕ). IsPool b 0 (slots_of es) (length (pool_bytes es))) (sym e) (spelled_alone es all few) },
+)
+
+boot_pool : (c : BootClassOf) → is_spelled c ≡ true → (p : Constants) × IsBootPool c p
+boot_pool c h =
+    ⊎_elim
+    (λ y. pool_by c [] (All-nil IsEntry) (omega arith) ((bytes_eq-Decides c.pool (pool_bytes [])).0 y))
+    (λ n. pool_by c thread_pool thread_entries (omega arith) ((bytes_eq-Decides c.pool (pool_bytes thread_pool)).0 (sym (ap (λ b. b || bytes_eq c.pool (pool_bytes thread_pool)) n) ∙ h)))
+    (cases_Bool (bytes_eq c.pool (pool_bytes [])))
+
+boot_pools : (cs : List BootClassOf) → list_all is_spelled cs ≡ true → (ps : List Constants) × AreBootPools cs ps
+boot_pools [] h = ([], tt)
+boot_pools (c ∷ cs) h =
+    let both = and_parts (is_spelled c) (list_all is_spelled cs) h in
+    let p = boot_pool c both.0 in
+    let r = boot_pools cs both.1 in
+    (p.0 ∷ r.0, (p.1, r.1))
+
+are_spelled : list_all is_spelled boots ≡ true
+unfolding boots
+are_spelled = refl
+
+-- ANSWERS
+
+module _ (files : List LoadedClass) (some : 0 < length files) where
+  abbrev Answer : Type 0
+  Answer = (answer : Result Linked (LinkFaultKind × ℕ)) × LinkIs files answer
+
+  of_set : (kind : FaultKind) (k : ℕ) → IsLinkFault (set_of files) kind k → Answer
+  of_set kind k h = (Err (link_kind kind, k), set_fault files kind k h)
+
+  module _ (faultless : IsFaultless (set_of files)) (rows : List Ancestry) (ancestry : IsAncestry (links (set_of files)) rows) where
+    abbrev Least : Option ℕ → Type 0
+    Least found = AnswersLeast (crosses (set_of files) rows (methods_of files)) (methods_of files) (length (methods_of files)) found
+
+    of_late : (kind : LinkFaultKind) (k : ℕ) → IsLate (set_of files) rows (methods_of files) (length files) kind k → Answer
+    of_late kind k h = (Err (kind, k), late_fault files rows ancestry faultless kind k some h (late_inside files rows ancestry faultless kind k some h))
+
+    of_main : (m : ℕ) → Least None → main_of (methods_of files) ≡ Some m → length files ≤ 4096 → Answer
+    of_main m none main few =
+        let ps = boot_pools boots are_spelled in
+        let pools : List Constants = ps.0 ++ map file_pool files in (
+          Ok (program_with files rows pools),
+          (linkable files rows ancestry faultless m none main few, record { rows = rows; ancestry = ancestry; pools = record { built_in = ps.0; are_spelled = ps.1; are = refl }; tables = refl }),
+        )
+
+    of_methods : (main : Option ℕ) → main_of (methods_of files) ≡ main → Least None → Answer
+    of_methods None e none = of_late NoMain (length boots) (none, e, refl)
+    of_methods (Some m) e none = ⊎_elim (λ many. of_late TooMany (length boots + 4096) (none, (m, e), many, refl)) (λ few. of_main m none e few) (cases_lt 4096 (length files))
+
+    of_least : (found : Option ℕ) → Least found → Answer
+    of_least None h = of_methods (main_of (methods_of files)) refl h
+    of_least (Some k) h = of_late CrossPackage k h
+
+  of_names : IsFaultless (set_of files) → Answer
+  of_names faultless =
+      let table = links (set_of files) in
+      let r = rows_exist table (table_within (set_of files) table refl) (acyclic_along (set_of files) table refl faultless) in
+      let least = least_at (crosses (set_of files) r.0 (methods_of files)) (methods_of files) (length (methods_of files)) (omega arith) in
+      of_least faultless r.0 r.1 least.0 least.1
+
+  pub answer : Answer
+  answer = ⊎_elim of_names (λ (kind, k, h). of_set kind k h) (set_answer (set_of files))
