@@ -14,3 +14,11 @@ pub mod Answered
 pub mod Lengths
 pub mod Sets
 pub mod Slots
+pub mod Held
+pub mod Within
+pub mod Used
+pub mod Ordered
+pub mod BodyWithin
+pub mod Made
+pub mod Spellable
+pub mod Said

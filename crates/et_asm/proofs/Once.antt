@@ -1,5 +1,5 @@
 -- A set that is given entries keeps each once, in the order of their first places.
-use Rattle.std.proofs.Common.{◌≡◌, ℕ, Bool, true, false, not, cond, ◌&&◌, ◌||◌, List, [], ◌∷◌, ◌++◌, filter, refl, sym, ap, subst, ◌∙◌, true≢false, append_assoc, append-nil, inl, inr}
+use Rattle.std.proofs.Common.{◌≡◌, Bool, true, false, not, cond, ◌&&◌, ◌||◌, List, [], ◌∷◌, ◌++◌, filter, refl, sym, ap, subst, ◌∙◌, append_assoc, append-nil, inl, inr}
 use Rattle.std.proofs.Math.Path.{fun_ext}
 use Rattle.std.proofs.lemmas.Bool.{cases_Bool}
 use Rattle.std.specs.List.{flat_map, list_any}
@@ -54,7 +54,7 @@ not_or true b = refl
 not_or false b = refl
 
 -- those that a set lacks
-abbrev lacks : List Entry → Entry → Bool
+abbrev pub lacks : List Entry → Entry → Bool
 lacks ks y = not (list_any (same_entry y) ks)
 
 abbrev other : Entry → Entry → Bool
@@ -95,7 +95,7 @@ new_step ks xs x new before =
     ∙ (ap (λ zs. ks ++ x ∷ zs) (sym (filter_both (lacks ks) (other x) (lacks (ks ++ x ∷ [])) (lacks_push ks x) (each_once xs)))
     ∙ ap (λ b. ks ++ cond (not b) (x ∷ filter (lacks ks) ys) (filter (lacks ks) ys)) (sym new))))
 
-gather : (ks xs : List Entry) → insert_all same_entry ks xs ≡ ks ++ filter (lacks ks) (each_once xs)
+pub gather : (ks xs : List Entry) → insert_all same_entry ks xs ≡ ks ++ filter (lacks ks) (each_once xs)
 unfolding each_once
 gather ks [] = sym (append-nil ks)
 gather ks (x ∷ xs) = elim (cases_Bool (list_any (same_entry x) ks)) [

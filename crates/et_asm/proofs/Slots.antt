@@ -1,25 +1,23 @@
 -- What stands at the indices of a pool.
-use Rattle.std.proofs.Common.{◌≡◌, ℕ, zero, suc, ◌+◌, ◌<◌, ◌≤◌, ℤ, Bool, true, false, not, cond, ◌&&◌, ◌||◌, List, [], ◌∷◌, ◌++◌, length, get_or, take, map, Option, Some, None, refl, sym, ap, subst, ◌∙◌, arith, inl, inr, true≢false, append_assoc, append-nil, length-append}
-use Rattle.std.specs.Prelude.{sum_by, nat_lt, position}
+use Rattle.std.proofs.Common.{◌≡◌, ℕ, zero, suc, ◌+◌, ◌<◌, Bool, true, false, not, cond, ◌&&◌, ◌||◌, List, [], ◌∷◌, ◌++◌, length, get_or, take, map, Option, Some, None, refl, sym, ap, ◌∙◌, arith, inl, inr, true≢false, append-nil, length-append}
+use Rattle.std.specs.Prelude.{sum_by, position}
 use Rattle.std.specs.List.{flat_map, list_any, position_or_len}
 use Rattle.std.specs.Option.{option_map_or}
-use Rattle.std.specs.Ordering.{int_eq}
 use Rattle.std.specs.Cmp.Lexicographic.{same_text}
 use Rattle.std.proofs.lemmas.Bool.{cases_Bool, lt-ltb}
 use Rattle.std.proofs.lemmas.Bool.Decides.{Decides-int_eq}
 use Rattle.std.proofs.lemmas.List.{get_or-append-add}
 use Rattle.std.proofs.lemmas.List.Sums.{sum_by-cons}
 use Rattle.std.proofs.lemmas.Grind.{flat_map-append}
-use Rattle.et_pool.specs.Entries.{Item, slots_of, slots_of_item, item_bytes}
-use Rattle.et_pool.specs.Looks.{slot_bytes, slot_at, utf8_at, class_name_at, string_at, named_by, text_of_slot}
+use Rattle.et_pool.specs.Entries.{Item, slots_of_item}
+use Rattle.et_pool.specs.Looks.{slot_bytes, slot_at, named_by, text_of_slot}
 use Rattle.et_pool.specs.declared.tags.TheConstants.{CLASS, STRING}
 use Rattle.et_listing.specs.declared.entry.Entry.{Entry}
 use Rattle.et_listing.specs.declared.entry.Entry.TheVariants.{Utf8, Integer, Long, Class, Text, NameAndType, Field, Method, InterfaceMethod}
 use Rattle.et_listing.specs.declared.line.Parsed.{Parsed}
-use Rattle.et_listing.specs.Words.{same, unescaped}
-use Rattle.et_asm.specs.Pool.{same_entry, parts, uses, pool, width, index_behind, index_of, entry_bytes, pool_bytes, u2}
-use Rattle.et_asm.specs.Spelled.{item_of, slots, PoolsAreSpelled, FindsEntries, PoolsFind}
-use Rattle.et_asm.specs.Laws.{IsSetOf}
+use Rattle.et_listing.specs.Words.{same}
+use Rattle.et_asm.specs.Pool.{same_entry, parts, uses, pool, width, index_behind, index_of, entry_bytes, u2}
+use Rattle.et_asm.specs.Spelled.{item_of, slots, PoolsAreSpelled, PoolsFind}
 use Rattle.et_asm.proofs.Sets.{sets}
 
 -- BYTES AND WIDTHS
@@ -79,7 +77,7 @@ rest_at entries (x ∷ xs) (suc i) d lt =
     ap (λ n. get_or (rest_of entries (x ∷ xs)) n None) (sum_by-cons width x (take i xs) ∙ ap (λ n. n + sum_by width (take i xs)) (sym (room entries x)))
     ∙ (get_or-append-add (slots_of_item (item_of entries x)) (rest_of entries xs) (sum_by width (take i xs)) None ∙ rest_at entries xs i d (omega arith))
 
-slots_length : (entries : List Entry) → length (slots entries) ≡ index_behind entries
+pub slots_length : (entries : List Entry) → length (slots entries) ≡ index_behind entries
 unfolding slots
 slots_length entries = omega (arith, rest_length entries entries)
 
@@ -91,15 +89,15 @@ spelled lines =
 
 -- LOOK-UPS
 
-and_left : (a b : Bool) → (a && b) ≡ true → a ≡ true
+pub and_left : (a b : Bool) → (a && b) ≡ true → a ≡ true
 and_left true b h = refl
 and_left false b h = h
 
-and_right : (a b : Bool) → (a && b) ≡ true → b ≡ true
+pub and_right : (a b : Bool) → (a && b) ≡ true → b ≡ true
 and_right true b h = h
 and_right false b h = absurd (true≢false (sym h))
 
-one_text : (a b : List ℕ) → same a b ≡ true → a ≡ b
+pub one_text : (a b : List ℕ) → same a b ≡ true → a ≡ b
 one_text a b h = same_text a b (sym h)
 
 one_pair : (a b c d : List ℕ) → (same a c && same b d) ≡ true → (a ≡ c) × (b ≡ d)
@@ -112,7 +110,7 @@ one_member make a b c d e f h =
     ap (λ x. make x b c) first ∙ (ap (λ x. make d x c) others.0 ∙ ap (make d e) others.1)
 
 -- entries that are the same are one
-one_entry : (x y : Entry) → same_entry x y ≡ true → x ≡ y
+pub one_entry : (x y : Entry) → same_entry x y ≡ true → x ≡ y
 one_entry (Utf8 a) (Utf8 b) h = ap Utf8 (one_text a b h)
 one_entry (Integer a) (Integer b) h = ap Integer ((Decides-int_eq a b).0 h)
 one_entry (Long a) (Long b) h = ap Long ((Decides-int_eq a b).0 h)
@@ -160,22 +158,22 @@ item_at entries e h =
 
 -- THE PARTS OF AN ENTRY STAND IN THE POOL
 
-or_none : (b c : Bool) → (b || false) ≡ true → (b || c) ≡ true
+pub or_none : (b c : Bool) → (b || false) ≡ true → (b || c) ≡ true
 or_none true c h = refl
 or_none false c h = absurd (true≢false (sym h))
 
-class_parts : (n : List ℕ) (e : Entry) → list_any (same_entry (Class n)) (parts e) ≡ true → list_any (same_entry (Utf8 n)) (parts e) ≡ true
+pub class_parts : (n : List ℕ) (e : Entry) → list_any (same_entry (Class n)) (parts e) ≡ true → list_any (same_entry (Utf8 n)) (parts e) ≡ true
 class_parts n (Class name) h = or_none (same n name) _ h
 class_parts n (Field class name descriptor) h = or_none (same n class) _ h
 class_parts n (Method class name descriptor) h = or_none (same n class) _ h
 class_parts n (InterfaceMethod class name descriptor) h = or_none (same n class) _ h
 class_parts n e h = absurd (true≢false (sym h))
 
-text_parts : (n : List ℕ) (e : Entry) → list_any (same_entry (Text n)) (parts e) ≡ true → list_any (same_entry (Utf8 n)) (parts e) ≡ true
+pub text_parts : (n : List ℕ) (e : Entry) → list_any (same_entry (Text n)) (parts e) ≡ true → list_any (same_entry (Utf8 n)) (parts e) ≡ true
 text_parts n (Text text) h = or_none (same n text) _ h
 text_parts n e h = absurd (true≢false (sym h))
 
-any_append : (p : Entry → Bool) (xs ys : List Entry) → list_any p (xs ++ ys) ≡ (list_any p xs || list_any p ys)
+pub any_append : (p : Entry → Bool) (xs ys : List Entry) → list_any p (xs ++ ys) ≡ (list_any p xs || list_any p ys)
 any_append p [] ys = refl
 any_append p (x ∷ xs) ys = ap (λ b. p x || b) (any_append p xs ys) ∙ or_assoc (p x) (list_any p xs) (list_any p ys)
   where

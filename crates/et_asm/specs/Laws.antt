@@ -1,13 +1,16 @@
 -- What the definitions mean.
-use Rattle.std.specs.Prelude.{◌≡◌, ℕ, ◌<◌, List, ◌++◌, false, length, take, slice_index_or, AllPairs}
+use Rattle.std.specs.Prelude.{◌≡◌, ℕ, ◌<◌, List, ◌++◌, false, length, take, slice_index_or, AllPairs, None}
 use Rattle.std.specs.List.{flat_map, list_any}
-use Rattle.et_items.specs.Marks.{IsTheOne}
+use Rattle.et_items.specs.Marks.{MarksAre, IsTheOne}
+use Rattle.et_class.specs.Layout.{ClassOf}
+use Rattle.et_class.specs.Classes.{IsClassFile}
 use Rattle.et_listing.specs.declared.entry.Entry.{Entry}
 use Rattle.et_listing.specs.declared.line.Parsed.{Parsed}
 use Rattle.et_asm.specs.Along.{along_from}
 use Rattle.et_asm.specs.Pool.{same_entry, parts, uses, pool, index_behind, index_of}
 use Rattle.et_asm.specs.Code.{Labels, place_behind, bytes_at, code_bytes}
-use Rattle.et_asm.specs.Listings.{marks_of}
+use Rattle.et_asm.specs.Listings.{parsed_lines, marks_of, bytes_of}
+use Rattle.et_asm.specs.Accepted.{HasListing}
 
 -- a pool has each of the used entries once, and no others
 pub record IsSetOf (used entries : List Entry) : Type 0 where
@@ -32,3 +35,7 @@ CodeGoesOn = (entries : List Entry) (labels : Labels) (before more : List Parsed
 -- each text has exactly one answer: no line is faulty, or one is the first
 abbrev pub AnswersAreOne : Type 0
 AnswersAreOne = (text : List ℕ) → IsTheOne (marks_of text)
+
+-- where no line is faulty and the bytes are a class file, it says what the listing says
+abbrev pub ClassesHaveListings : Type 0
+ClassesHaveListings = (text : List ℕ) (c : ClassOf) → MarksAre (marks_of text) None → IsClassFile (bytes_of text) c → HasListing (parsed_lines text) c

@@ -6,3 +6,4 @@ pub mod Listings
 pub mod Symbols
 pub mod Laws
 pub mod Spelled
+pub mod Accepted

@@ -1,6 +1,6 @@
 //! What the definitions mean.
 
-ghost use Rattle.et_asm.specs.Laws.{PoolsAreSets, IndicesName, PlacesCount, CodeGoesOn, AnswersAreOne};
+ghost use Rattle.et_asm.specs.Laws.{PoolsAreSets, IndicesName, PlacesCount, CodeGoesOn, AnswersAreOne, ClassesHaveListings};
 ghost use Rattle.et_asm.specs.Spelled.{PoolsAreSpelled, PoolsFind};
 
 /// The constant pool of any lines has each entry that they use, with its parts, exactly once, and
@@ -33,4 +33,10 @@ pub fn exactly_one()
 pub fn pools_are_spelled()
     ensures bytes { PoolsAreSpelled }
     ensures entries { PoolsFind }
+{}
+
+/// Where no line of a text is faulty and the class file definition accepts the bytes, the class
+/// says what the listing says: it has the listing's names, descriptors, flags, constants and code.
+pub fn classes_have_listings()
+    ensures { ClassesHaveListings }
 {}

@@ -14,10 +14,10 @@ use Rattle.et_class.specs.Spelling.{IsAttribute, IsMember, IsCounted, IsIndex}
 use Rattle.et_class.proofs.Valid.{IsHeader}
 use Rattle.et_class.proofs.Headed.{header_bytes}
 
-read_u2 : (bytes : List ℕ) (at n next : ℕ) → n < 2 ^ 16 → Reads bytes at (u2 n) next → number w16 bytes at ≡ Ok (n, next)
+pub read_u2 : (bytes : List ℕ) (at n next : ℕ) → n < 2 ^ 16 → Reads bytes at (u2 n) next → number w16 bytes at ≡ Ok (n, next)
 read_u2 bytes at n next lt r = some_ok _ _ _ (reads_number w16 wide16 (omega arith) bytes at n next lt r)
 
-read_u4 : (bytes : List ℕ) (at n next : ℕ) → n < 2 ^ 32 → Reads bytes at (u4 n) next → number w32 bytes at ≡ Ok (n, next)
+pub read_u4 : (bytes : List ℕ) (at n next : ℕ) → n < 2 ^ 32 → Reads bytes at (u4 n) next → number w32 bytes at ≡ Ok (n, next)
 read_u4 bytes at n next lt r = some_ok _ _ _ (reads_number w32 wide32 (omega arith) bytes at n next lt r)
 
 module _ {X : Type 0} (one : ℕ → Result (X × ℕ) (ℕ × ℕ)) (spell : X → List ℕ) (V : X → Type 0) (bytes : List ℕ) (back : (at : ℕ) (x : X) (next : ℕ) → V x → Reads bytes at (spell x) next → one at ≡ Ok (x, next)) where

@@ -24,7 +24,7 @@ use Rattle.et_class.proofs.Inner.{inner_counted}
 
 -- ITS SIZE
 
-abbrev row_bytes : TableRow → List ℕ
+abbrev pub row_bytes : TableRow → List ℕ
 row_bytes r = u2 r.start ++ (u2 r.end ++ (u2 r.handler ++ u2 r.catch))
 
 row_whole : (bytes : List ℕ) (at : ℕ) → AreBytes bytes → StandsThere row_bytes bytes at (row_at bytes at)
@@ -41,7 +41,7 @@ row_whole bytes at fits =
 row_reads : (bytes : List ℕ) → AreBytes bytes → (at : ℕ) (r : TableRow) (next : ℕ) → row_at bytes at ≡ Ok (r, next) → Reads bytes at (row_bytes r) next
 row_reads bytes fits at r next h = subst (StandsThere row_bytes bytes at) h (row_whole bytes at fits)
 
-abbrev code_bytes : Body → List ℕ
+abbrev pub code_bytes : Body → List ℕ
 code_bytes b = u2 b.max_stack ++ (u2 b.max_locals ++ (u4 (length b.code) ++ (b.code ++ counted row_bytes b.table)))
 
 code_whole : (bytes : List ℕ) → AreBytes bytes → StandsThere code_bytes bytes 0 (code_body_at bytes)
@@ -59,7 +59,7 @@ code_whole bytes fits =
     (Reads-then bytes locals.1 (u4 (length code.0)) size.1 _ table.1 (subst (λ (m : ℕ). Reads bytes locals.1 (u4 m) size.1) (sym c.size_is) n.reads)
     (Reads-then bytes size.1 code.0 code.1 (counted row_bytes table.0) table.1 c.reads (counted_read (row_at bytes) row_bytes bytes (row_reads bytes fits) code.1 table.0 table.1 fits l)))))))))
 
-rows_size : (rows : List TableRow) → length (flat_map row_bytes rows) ≡ 8 * length rows
+pub rows_size : (rows : List TableRow) → length (flat_map row_bytes rows) ≡ 8 * length rows
 rows_size [] = omega arith
 rows_size (r ∷ rows) = omega (arith, rows_size rows, length-append (row_bytes r) (flat_map row_bytes rows))
 

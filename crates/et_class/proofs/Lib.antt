@@ -17,3 +17,4 @@ pub mod Headed
 pub mod Valid
 pub mod Back
 pub mod Respelled
+pub mod CodeBack

@@ -55,7 +55,7 @@ members_same bytes x y h k r p q i j m = ap (λ (z : HeaderOf × ℕ). members_a
 abbrev pub built : ℕ × ℕ → List (Option Item) → HeaderOf → MembersOf → ClassOf
 built v slots h m = record { minor = v.0; major = v.1; slots = slots; flags = h.flags; this = h.this; super = h.super; interfaces = h.interfaces; fields = m.fields; methods = m.methods; attributes = m.attributes }
 
-one_read : (bytes : List ℕ) (c d : ClassOf) → IsRead bytes c → IsRead bytes d → c ≡ d
+pub one_read : (bytes : List ℕ) (c d : ClassOf) → IsRead bytes c → IsRead bytes d → c ≡ d
 one_read bytes c d r s =
     let v = same_ok (head_at bytes) (c.minor, c.major) (d.minor, d.major) r.head_is s.head_is in
     let p = one_pool bytes (c.slots, r.header) (d.slots, s.header) r.pool_is s.pool_is in

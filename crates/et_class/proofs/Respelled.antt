@@ -161,13 +161,18 @@ class_spelled bytes c fits r =
           (Reads-then bytes r.header (header_bytes (header_of c)) r.members (members_bytes (members_of c)) (length bytes) header m.reads)));
     }
 
+-- the entries of the pool stand behind the head
+pub pool_reads : (bytes : List ℕ) (c : ClassOf) → bytes ≡ class_bytes c → (es : List Item) → c.slots ≡ slots_of es → Reads bytes 8 (pool_bytes es) (8 + length (counted slot_bytes c.slots))
+pool_reads bytes c is es slots_are =
+    let rest = Reads-second bytes 0 (head_bytes (c.minor, c.major)) (counted slot_bytes c.slots ++ tail_bytes c) (length bytes) (all_there bytes (class_bytes c) is) in
+    subst (λ (xs : List ℕ). Reads bytes 8 xs (8 + length (counted slot_bytes c.slots))) (sym (pool_same c.slots es slots_are)) (Reads-first bytes 8 (counted slot_bytes c.slots) (tail_bytes c) (length bytes) rest)
+
 pub spelled_class : (bytes : List ℕ) (c : ClassOf) → IsSpelled bytes c → IsRead bytes c
 spelled_class bytes c s =
     let v = s.can_be in
     let all = all_there bytes (class_bytes c) s.bytes_are in
     let rest = Reads-second bytes 0 (head_bytes (c.minor, c.major)) (counted slot_bytes c.slots ++ tail_bytes c) (length bytes) all in
-    let pool = Reads-first bytes 8 (counted slot_bytes c.slots) (tail_bytes c) (length bytes) rest in
-    let pool' : Reads bytes 8 (pool_bytes v.slots.entries) (8 + length (counted slot_bytes c.slots)) = subst (λ (xs : List ℕ). Reads bytes 8 xs (8 + length (counted slot_bytes c.slots))) (sym (pool_same c.slots v.slots.entries v.slots.slots_are)) pool in
+    let pool = pool_reads bytes c s.bytes_are v.slots.entries v.slots.slots_are in
     let tail = Reads-second bytes 8 (counted slot_bytes c.slots) (tail_bytes c) (length bytes) rest in
     let members = Reads-second bytes (8 + length (counted slot_bytes c.slots)) (header_bytes (header_of c)) (members_bytes (members_of c)) (length bytes) tail in
     let valid : IsHeader (header_of c) = record { flags = v.flags; this = v.this; super = v.super; interfaces = v.interfaces } in
@@ -180,8 +185,8 @@ spelled_class bytes c s =
         are_entries = v.slots.are_entries;
         few = omega (arith, v.slots.few, ap (λ (s : List (Option Item)). length s) v.slots.slots_are);
         slots_are = v.slots.slots_are;
-        stands = pool'.stands;
-        after_is = pool'.next_is;
+        stands = pool.stands;
+        after_is = pool.next_is;
       });
       header_is = header_back bytes (8 + length (counted slot_bytes c.slots)) (header_of c) (8 + length (counted slot_bytes c.slots) + length (header_bytes (header_of c))) valid (Reads-first bytes (8 + length (counted slot_bytes c.slots)) (header_bytes (header_of c)) (members_bytes (members_of c)) (length bytes) tail);
       members_are = members_back bytes (8 + length (counted slot_bytes c.slots) + length (header_bytes (header_of c))) (members_of c) v.fields v.methods v.attributes members;

@@ -2,3 +2,4 @@ pub mod Pieces
 pub mod Spelled
 pub mod Unescaped
 pub mod Shapes
+pub mod Sane

@@ -17,7 +17,7 @@ err_is r f g h i = cc
 not_both : {A : Type 0} (r : Result A Broken) (x : A) (f : Broken) → r ≡ Ok x → r ≡ Err f → ⊥
 not_both r x f h i = cc
 
-room_pos : (e : Item) → 0 < room_of e
+pub room_pos : (e : Item) → 0 < room_of e
 room_pos (Text bytes) = omega arith
 room_pos (Word tag bits) = omega arith
 room_pos (Wide tag bits) = omega arith

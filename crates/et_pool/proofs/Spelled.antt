@@ -18,6 +18,7 @@ use Rattle.et_pool.specs.Looks.{slot_bytes, end_of}
 use Rattle.et_pool.specs.Spelling.{IsEntry, IsSpelled}
 use Rattle.et_pool.proofs.Rooms.{entry_room}
 use Rattle.et_pool.proofs.Listing.{slots_length}
+use Rattle.et_pool.proofs.OneAnswer.{room_pos}
 
 -- TAGS
 
@@ -199,13 +200,17 @@ after_tag bytes room at tag s rest next x e le r h =
     let first = read_byte bytes at tag (at + 1) (tag_small tag s e) (Reads-first bytes at (tag ∷ []) rest next r) in
     bind_ok (number w8 bytes at) _ (tag, at + 1) x first (ap (λ o. shaped_at bytes room at tag (at + 1) o) e ∙ (ap (λ (b : Bool). cond b (Err (Tag at)) (body_at bytes at tag (at + 1) s)) (le-ltb _ _ le) ∙ h))
 
-text_back : (bytes : List ℕ) (entry at : ℕ) (text : List ℕ) (next : ℕ) → is_modified text ≡ true → length text < 2 ^ 16 → Reads bytes at (to_be_bytes w16 (length text) ++ text) next → text_at bytes entry at ≡ Ok (Text text, next)
+-- a text that is spelled is read, or refused where it isn't modified UTF-8
+text_read : (bytes : List ℕ) (entry at : ℕ) (text : List ℕ) (next : ℕ) → length text < 2 ^ 16 → Reads bytes at (to_be_bytes w16 (length text) ++ text) next → text_at bytes entry at ≡ cond (is_modified text) (Ok (Text text, next)) (Err (Utf8 entry))
 unfolding text_at
-text_back bytes entry at text next m lt r =
+text_read bytes entry at text next lt r =
     let head = Reads-first bytes at (to_be_bytes w16 (length text)) text next r in
     let n = read_16 bytes at (length text) (at + 2) lt head in
     let run = reads_run bytes (length text) (at + 2) text next (in_bytes bytes at (to_be_bytes w16 (length text)) (at + 2) (omega arith) head) refl (Reads-second bytes at (to_be_bytes w16 (length text)) text next r) in
-    bind_ok (number w16 bytes at) _ (length text, at + 2) _ n (bind_ok (ok_or (bytes_at bytes (length text) (at + 2)) (Short (at + 2))) _ (text, next) _ (some_ok _ _ _ run) (ap (λ (b : Bool). cond {A = Result (Item × ℕ) Broken} b (Ok (Text text, next)) (Err (Utf8 entry))) m))
+    bind_ok (number w16 bytes at) _ (length text, at + 2) _ n (bind_ok (ok_or (bytes_at bytes (length text) (at + 2)) (Short (at + 2))) _ (text, next) _ (some_ok _ _ _ run) refl)
+
+text_back : (bytes : List ℕ) (entry at : ℕ) (text : List ℕ) (next : ℕ) → is_modified text ≡ true → length text < 2 ^ 16 → Reads bytes at (to_be_bytes w16 (length text) ++ text) next → text_at bytes entry at ≡ Ok (Text text, next)
+text_back bytes entry at text next m lt r = text_read bytes entry at text next lt r ∙ ap (λ (b : Bool). cond {A = Result (Item × ℕ) Broken} b (Ok (Text text, next)) (Err (Utf8 entry))) m
 
 entry_back : (bytes : List ℕ) (room at : ℕ) (e : Item) (next : ℕ) → IsEntry e → room_of e ≤ room → Reads bytes at (item_bytes e) next → entry_at bytes room at ≡ Ok (e, next)
 entry_back bytes room at (Text text) next h le r =
@@ -250,6 +255,63 @@ spelled_pool bytes at slots after s =
         slots_are = s.slots_are;
       };
     }
+
+-- WHAT IS READ WHERE ENTRIES STAND
+
+-- an entry whose numbers fit; whether a text is modified UTF-8 is left open
+abbrev pub Fits : Item → Type 0
+Fits (Text bytes) = length bytes < 2 ^ 16
+Fits (Word tag bits) = IsEntry (Word tag bits)
+Fits (Wide tag bits) = IsEntry (Wide tag bits)
+Fits (Name tag index) = IsEntry (Name tag index)
+Fits (Pair tag first second) = IsEntry (Pair tag first second)
+Fits (Handle kind index) = IsEntry (Handle kind index)
+
+text_case : (bytes : List ℕ) (room at : ℕ) (text : List ℕ) (next : ℕ) (x : Item × ℕ) (b : Bool) → is_modified text ≡ b → length text < 2 ^ 16 → 1 ≤ room → Reads bytes at (item_bytes (Text text)) next → entry_at bytes room at ≡ Ok x → b ≡ true
+text_case bytes room at text next x true m lt le r h = refl
+text_case bytes room at text next x false m lt le r h =
+    let bad : Result (Item × ℕ) Broken = Err (Utf8 at) in
+    let refused : entry_at bytes room at ≡ bad =
+    after_tag bytes room at 1 shape.Text _ next bad refl le r
+    (text_read bytes at (at + 1) text next lt (Reads-second bytes at (1 ∷ []) _ next r) ∙ ap (λ (b : Bool). cond {A = Result (Item × ℕ) Broken} b (Ok (Text text, next)) (Err (Utf8 at))) m) in
+    absurd cc
+
+-- an entry that fits is one that can be spelled, where any entry is read from its bytes
+read_fits : (bytes : List ℕ) (room at : ℕ) (e : Item) (next : ℕ) (x : Item × ℕ) → Fits e → room_of e ≤ room → Reads bytes at (item_bytes e) next → entry_at bytes room at ≡ Ok x → IsEntry e
+read_fits bytes room at (Text text) next x f le r h = (text_case bytes room at text next x (is_modified text) refl f le r h, f)
+read_fits bytes room at (Word tag n) next x f le r h = f
+read_fits bytes room at (Wide tag n) next x f le r h = f
+read_fits bytes room at (Name tag n) next x f le r h = f
+read_fits bytes room at (Pair tag m n) next x f le r h = f
+read_fits bytes room at (Handle k n) next x f le r h = f
+
+same_read : {X : Type 0} (r : Result X Broken) (x y : X) → r ≡ Ok x → r ≡ Ok y → x ≡ y
+same_read r x y h i = cc
+
+entries_fit : (bytes : List ℕ) (room at : ℕ) (es ds : List Item) (after next : ℕ) → All Fits ds → length (flat_map slots_of_item ds) ≡ room → Reads bytes at (flat_map item_bytes ds) next → AreEntries bytes room at es 0 after → All IsEntry ds
+entries_fit bytes room at es [] after next all k r w = λ i d lt. absurd (omega arith)
+entries_fit bytes room at [] (d ∷ ds) after next all k r w =
+    let split = length-append (slots_of_item d) (flat_map slots_of_item ds) in
+    absurd (omega (arith, split, k, slots_length d, room_pos d, w.0))
+entries_fit bytes room at (e ∷ es) (d ∷ ds) after next all k r w =
+    let split = length-append (slots_of_item d) (flat_map slots_of_item ds) in
+    let le : room_of d ≤ room = omega (arith, split, k, slots_length d) in
+    let here = Reads-first bytes at (item_bytes d) (flat_map item_bytes ds) next r in
+    let rest = Reads-second bytes at (item_bytes d) (flat_map item_bytes ds) next r in
+    let is = read_fits bytes room at d (at + length (item_bytes d)) (e, w.0) (all 0 d (omega arith)) le here w.1 in
+    let same = same_read (entry_at bytes room at) (e, w.0) (d, at + length (item_bytes d)) w.1 (entry_back bytes room at d (at + length (item_bytes d)) is le here) in
+    All-cons d ds is
+    (entries_fit bytes (room - room_of d) (at + length (item_bytes d)) es ds after next (λ i x lt. all (suc i) x (omega arith)) (omega (arith, split, k, slots_length d)) rest
+    (subst (λ (x : Item × ℕ). AreEntries bytes (room - room_of x.0) x.1 es 0 after) same w.2))
+
+-- where a pool is read from the bytes of entries that fit, they can be spelled
+pub pool_stands : (bytes : List ℕ) (at : ℕ) (slots : List (Option Item)) (after : ℕ) (ds : List Item) (next : ℕ) → IsPool bytes at slots after → All Fits ds → length (slots_of ds) < 2 ^ 16 → Reads bytes at (to_be_bytes w16 (length (slots_of ds)) ++ flat_map item_bytes ds) next → All IsEntry ds
+pool_stands bytes at slots after ds next p all lt r =
+    let n = length (slots_of ds) in
+    let counted : number w16 bytes at ≡ Ok (n, at + 2) = read_16 bytes at n (at + 2) lt (Reads-first bytes at (to_be_bytes w16 n) (flat_map item_bytes ds) next r) in
+    let same = same_read (number w16 bytes at) (p.count, p.start) (n, at + 2) p.counted counted in
+    entries_fit bytes (n - 1) (at + 2) p.filled.entries ds after next all (omega arith) (Reads-second bytes at (to_be_bytes w16 n) (flat_map item_bytes ds) next r)
+    (subst (λ (x : ℕ × ℕ). AreEntries bytes (x.0 - 1) x.1 p.filled.entries 0 after) same p.filled.whole)
 
 -- THE PLACE AFTER A POOL
 
