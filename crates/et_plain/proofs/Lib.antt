@@ -10,3 +10,5 @@ mod Preserving
 mod Sounding
 mod Standing
 mod Naming
+mod Shapes
+mod Ticking

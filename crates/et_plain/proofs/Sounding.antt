@@ -1,43 +1,34 @@
 -- The outcome of a plain row leaves a sound state of the program.
-use Rattle.std.proofs.Common.{◌≡◌, ℕ, zero, suc, ◌<◌, ◌≤◌, ◌^◌, Bool, true, false, List, [], ◌∷◌, ◌++◌, length, Option, Some, None, refl, sym, ◌∙◌, ap, subst, arith, append-nil, ltb}
-use Rattle.std.proofs.lemmas.Bool.{ltb-true}
-use Rattle.std.specs.Prelude.{ℤ, if◌then◌else◌, is_some, codes}
-use Rattle.et_base.specs.declared.value.Value.{Value}
-use Rattle.et_base.specs.declared.value.Value.TheVariants.{Int, Long, LongHigh, Ref}
-use Rattle.std.specs.Int.{w32, w64}
+use Rattle.std.proofs.Common.{◌≡◌, ℕ, zero, suc, ◌<◌, ◌≤◌, ◌^◌, Bool, true, false, List, [], ◌∷◌, ◌++◌, length, Option, Some, None, refl, sym, ◌∙◌, ap, subst, arith, append-nil}
+use Rattle.std.specs.Prelude.{if◌then◌else◌, codes}
 use Rattle.et_code.specs.Bodies.{Body}
-use Rattle.et_program.specs.Entries.{Linked, class_at}
-use Rattle.et_heap.specs.Objects.{ObjectState, Objects, at, new_object, free_monitor}
-use Rattle.et_frames.specs.Threads.{FrameState, first_frame, rest_of, with_top_of, with_pending, has_frame}
+use Rattle.et_program.specs.Entries.{Linked}
+use Rattle.et_heap.specs.Objects.{ObjectState, Objects, at, free_monitor}
+use Rattle.et_frames.specs.Threads.{FrameState, first_frame, rest_of, with_top_of, with_pending}
 use Rattle.et_machine.specs.State.{Kept, MachineState, kept_of}
-use Rattle.et_machine.specs.Words.{thread_at, top, with_string, HasFrame}
+use Rattle.et_machine.specs.Words.{thread_at, top, HasFrame}
 use Rattle.et_machine.specs.Sound.{IsSound}
-use Rattle.et_machine.specs.Interned.{object_of}
 use Rattle.et_state.specs.declared.records.Record.{Record}
 use Rattle.et_state.specs.declared.ends.EventEnd.{EventEnd}
 use Rattle.et_state.specs.declared.ends.EventEnd.TheVariants as ends
 use Rattle.et_state.specs.Outcome.{Outcome}
 use Rattle.et_state.specs.Outcome as outcome
 use Rattle.et_event.specs.declared.rows.FrameRow.{FrameRow}
-use Rattle.et_event.specs.declared.rows.Number.{Number}
-use Rattle.et_event.specs.declared.rows.Number.TheVariants as number
-use Rattle.et_event.specs.declared.rows.Division.{Division}
 use Rattle.et_event.specs.declared.rows.Row.{Row}
 use Rattle.et_event.specs.declared.rows.Row.TheVariants as row
 use Rattle.et_event.specs.declared.errors.GuestError.TheVariants.{ArithmeticException}
 use Rattle.et_event.specs.Answered.{EventAnswers}
-use Rattle.et_event.specs.Errors.{class_called, error_class}
+use Rattle.et_event.specs.Errors.{name_of}
 use Rattle.et_event.specs.Event.{does}
-use Rattle.et_event.specs.Moments.{Moment, Doing, ill_typed, with_guest, begins, with_frame, ends as ending, fits, throws, instance_made, pending_now, entry_given_up, next_object}
-use Rattle.et_event.specs.Checks.{ill_typed_unless}
-use Rattle.et_event.specs.Plain.{put, after, on_frame, constant, divided, quotient, divides}
-use Rattle.et_event.specs.Sites.{Site, code_of, constant_at, pool_index, LoadedConstant, AnInt, ALong, AString}
-use Rattle.et_event.specs.Strings.{interned, string_object}
+use Rattle.et_event.specs.Moments.{Doing, begins, with_frame, ends as ending, fits}
+use Rattle.et_event.specs.Plain.{on_frame}
+use Rattle.et_event.specs.Sites.{Site, code_of}
 use Rattle.et_event.specs.Sound.{IsPc, AreSoundFrames, IsSoundObject, IsSoundFor}
 use Rattle.et_ops.specs.Rows.{is_plain}
-use Rattle.et_plain.specs.Programs.{MakesSound}
+use Rattle.et_plain.specs.Programs.{new_of, MakesSound}
 use Rattle.et_plain.proofs.Answering.{moment}
-use Rattle.et_plain.proofs.Keeping.{Keeps, KeepsSome, MayGo, kept_put, kept_after, taken_int, taken_long}
+use Rattle.et_plain.proofs.Keeping.{Keeps, KeepsSome, MayGo, kept_put, kept_after}
+use Rattle.et_plain.proofs.Shapes.{HoldsOfShapes, error_thrown, string_made, by_shape}
 use Rattle.et_plain.proofs.Preserving.{later_with, KeepsThread, AreNew, frames_still, preserved}
 
 -- where the event is done, the next state is sound for the program
@@ -103,89 +94,31 @@ end_case p d false e h = tt
 ends_sound : (p : Linked) (d : Doing) → (fits d.state.heap ≡ true → IsSound d.state → IsSoundFor p d.state) → KeepsSound p (ending d)
 ends_sound p d h = end_case p d (fits d.state.heap) refl h
 
--- .. and thrown
-
-pub framed : (fs : List FrameState) → 0 < length fs → has_frame fs ≡ true
-framed [] h = absurd (omega arith)
-framed (f ∷ fs) h = refl
-
-pub given_up : (e : Moment) (d x : Doing) (b : Bool) → b ≡ true → (if b then d else x) ≡ d
-given_up e d x true h = refl
-given_up e d x false h = cc
-
-thrown_sound : (p : Linked) (s : Kept) (t : ℕ) → Begins p s t → MakesSound p → KeepsSound p (throws (moment p s t) ArithmeticException (begins (moment p s t)))
-thrown_sound p s t b made =
-    let e = moment p s t in
-    let class = error_class p ArithmeticException in
-    let y : ObjectState = new_object class 0 (class_at p class).info.slots in
-    let d : Doing = pending_now e (next_object (begins e)) (instance_made e class (begins e)) in
-    let given : entry_given_up e (begins e) ≡ begins e = given_up e (begins e) _ (has_frame (thread_at s.guest t).frames) (framed (thread_at s.guest t).frames b.has.frame) in
-    subst (λ (x : Doing). KeepsSound p (ending (pending_now e (next_object (begins e)) (instance_made e class x)))) (sym given)
-    (ends_sound p d (λ fit held. preserved p s (Some y ∷ []) t (with_pending (Some (length s.heap)) (thread_at s.guest t)) s.guest.interned b.sound b.clock b.has.thread
-    (record { few = refl; entry = refl; object = refl; entered = refl; ended = refl }) (b.sound.threads t b.has.thread).frames (one_new p y (made.error ArithmeticException) refl) fit held))
-
 -- THE ROWS
 
-pub if_case : {A : Type 0} (P : A → Type 0) (b : Bool) (x y : A) → P x → P y → P (if b then x else y)
-if_case P true x y h i = h
-if_case P false x y h i = i
-
-unless_case : (p : Linked) (e : Moment) (b : Bool) (o : Outcome Kept) → (b ≡ true → KeepsSound p o) → KeepsSound p (ill_typed_unless e b o)
-unless_case p e true o h = h refl
-unless_case p e false o h = tt
-
-abbrev pub string_pushed : FrameState → ℕ → List ℕ → Doing → FrameState
-string_pushed f next bytes d = record f { pc = next; operands = Ref (string_object bytes d) ∷ f.operands }
-
-string_keeps : (body : Body) (f : FrameState) (next : ℕ) (bytes : List ℕ) (d : Doing) → length f.operands < f.room → IsPc body next → Keeps body f (string_pushed f next bytes d)
-string_keeps body f next bytes d lt at = record { same = refl; locals = refl; operands = omega arith; pc = at }
-
-string_sound : (p : Linked) (s : Kept) (t next : ℕ) (bytes : List ℕ) → Begins p s t → MakesSound p → IsPc (code_of p (top s.guest t)) next → length (top s.guest t).operands < (top s.guest t).room
-    → KeepsSound p (ending (with_frame (moment p s t) (string_pushed (top s.guest t) next bytes (interned (moment p s t) bytes (begins (moment p s t)))) (interned (moment p s t) bytes (begins (moment p s t)))))
-string_sound p s t next bytes b made at lt =
+shapes_sound : (p : Linked) (s : Kept) (t next : ℕ) → Begins p s t → MakesSound p → IsPc (code_of p (top s.guest t)) next → HoldsOfShapes (KeepsSound p) (Keeps (code_of p (top s.guest t)) (top s.guest t)) p s t next
+shapes_sound p s t next b made there =
     let e = moment p s t in
     let f = top s.guest t in
-    let class = class_called p (codes "java/lang/String") in
-    let y : ObjectState = new_object class 0 (class_at p class).info.slots in
-    let x : Doing = instance_made e class (begins e) in
-    let d : Doing = with_guest (with_string x.state.guest bytes (next_object (begins e))) x in
-    if_case (λ (z : Doing). KeepsSound p (ending (with_frame e (string_pushed f next bytes z) z))) (is_some (object_of s.guest.interned bytes)) (begins e) d
-    (ends_sound p (with_frame e (string_pushed f next bytes (begins e)) (begins e)) (λ fit held. frame_sound p s t (string_pushed f next bytes (begins e)) b (string_keeps (code_of p f) f next bytes (begins e) lt at) held))
-    (ends_sound p (with_frame e (string_pushed f next bytes d) d) (λ fit held. top_sound p s t (string_pushed f next bytes d) (Some y ∷ []) (s.guest.interned ++ (bytes, length s.heap) ∷ []) b (string_keeps (code_of p f) f next bytes d lt at) (one_new p y made.string refl) fit held))
-
-constant_sound : (p : Linked) (s : Kept) (t : ℕ) (at : Site) (o : Option LoadedConstant) → Begins p s t → MakesSound p → IsPc (code_of p (top s.guest t)) at.next → KeepsSound p (constant (moment p s t) at o)
-constant_sound p s t at None b made there = tt
-constant_sound p s t at (Some (AnInt n)) b made there = let f = top s.guest t in on_frame_sound p s t (put at.next (Int n ∷ f.operands) f) b (kept_put (code_of p f) f at.next (Int n ∷ f.operands) there)
-constant_sound p s t at (Some (ALong n)) b made there = let f = top s.guest t in on_frame_sound p s t (put at.next (LongHigh ∷ Long n ∷ f.operands) f) b (kept_put (code_of p f) f at.next (LongHigh ∷ Long n ∷ f.operands) there)
-constant_sound p s t at (Some (AString bytes)) b made there =
-    let f = top s.guest t in
-    unless_case p (moment p s t) (ltb (length f.operands) f.room) _ (λ e. string_sound p s t at.next bytes b made there (ltb-true (length f.operands) f.room e))
-
-quotient_sound : (p : Linked) (s : Kept) (t : ℕ) (at : Site) (o : Option ℤ) (operands : ℤ → List Value) → Begins p s t → MakesSound p → IsPc (code_of p (top s.guest t)) at.next → KeepsSound p (quotient (moment p s t) at o operands)
-quotient_sound p s t at None operands b made there = thrown_sound p s t b made
-quotient_sound p s t at (Some n) operands b made there = let f = top s.guest t in on_frame_sound p s t (put at.next (operands n) f) b (kept_put (code_of p f) f at.next (operands n) there)
-
-divides_sound : (p : Linked) (s : Kept) (t : ℕ) (at : Site) (n : Number) (o : Division) → Begins p s t → MakesSound p → IsPc (code_of p (top s.guest t)) at.next → KeepsSound p (divides (moment p s t) at n o)
-divides_sound p s t at number.Int o b made there =
-    let f = top s.guest t in
-    let e = moment p s t in
-    taken_int (KeepsSound p) (ill_typed e) f.operands f.room _ tt b.room
-    (λ y more few. taken_int (KeepsSound p) (ill_typed e) more f.room _ tt few (λ x below fewer. quotient_sound p s t at (divided w32 o x y) (λ n. Int n ∷ below) b made there))
-divides_sound p s t at number.Long o b made there =
-    let f = top s.guest t in
-    let e = moment p s t in
-    taken_long (KeepsSound p) (ill_typed e) f.operands f.room _ tt b.room
-    (λ y more few. taken_long (KeepsSound p) (ill_typed e) more f.room _ tt few (λ x below fewer. quotient_sound p s t at (divided w64 o x y) (λ n. LongHigh ∷ Long n ∷ below) b made there))
+    let body : Body = code_of p f in
+    let error : ObjectState = new_of p (name_of ArithmeticException) in
+    let string : ObjectState = new_of p (codes "java/lang/String") in
+    record {
+      no_meaning = tt;
+      operands = λ vs. kept_put body f next vs there;
+      pushed = λ v lt. record { same = refl; locals = refl; operands = omega arith; pc = there };
+      framed = λ g k. frame_sound p s t g b k;
+      thrown = ends_sound p (error_thrown p s t) (λ fit held. preserved p s (Some error ∷ []) t (with_pending (Some (length s.heap)) (thread_at s.guest t)) s.guest.interned b.sound b.clock b.has.thread
+          (record { few = refl; entry = refl; object = refl; entered = refl; ended = refl }) (b.sound.threads t b.has.thread).frames (one_new p error (made.error ArithmeticException) refl) fit held);
+      known = λ g k. ends_sound p (with_frame e g (begins e)) (λ fit held. frame_sound p s t g b k held);
+      made = λ bytes g k. ends_sound p (with_frame e g (string_made p s t bytes)) (λ fit held. top_sound p s t g (Some string ∷ []) (s.guest.interned ++ (bytes, length s.heap) ∷ []) b k (one_new p string made.string refl) fit held);
+    }
 
 pub does_sound : (p : Linked) (s : Kept) (t : ℕ) (at : Site) (r : Row) → Begins p s t → MakesSound p → is_plain r ≡ true → IsPc (code_of p (top s.guest t)) at.next
     → ((x : FrameRow) → r ≡ row.Frame x → MayGo (code_of p (top s.guest t)) at x (top s.guest t).pc) → KeepsSound p (does (moment p s t) at r)
-does_sound p s t at (row.Frame x) b made plain there go = let f = top s.guest t in on_frame_sound p s t (after at x f) b (kept_after (code_of p f) at x f b.room (go x refl))
-does_sound p s t at row.PoolConstant b made plain there go = constant_sound p s t at (constant_at at.pool (pool_index at)) b made there
-does_sound p s t at (row.Divide n o) b made plain there go = divides_sound p s t at n o b made there
-does_sound p s t at (row.Heap x) b made plain there go = cc
-does_sound p s t at (row.Call x) b made plain there go = cc
-does_sound p s t at row.Throw b made plain there go = cc
-does_sound p s t at (row.Monitor x) b made plain there go = cc
+does_sound p s t at r b made plain there go =
+    let f = top s.guest t in
+    by_shape (KeepsSound p) (Keeps (code_of p f) f) p s t b.has at (shapes_sound p s t at.next b made there) r plain (λ x e. kept_after (code_of p f) at x f b.room (go x e))
 
 -- WHAT IS ANSWERED
 

@@ -4,6 +4,7 @@ ghost use Rattle.et_frames.specs.declared.stage.Turn.TheVariants as turns;
 ghost use Rattle.et_frames.specs.Threads.{turn_of};
 ghost use Rattle.et_machine.specs.State.{kept_of};
 ghost use Rattle.et_machine.specs.Words.{thread_at};
+ghost use Rattle.et_state.specs.Answers.{TicksWhereDone};
 ghost use Rattle.et_state.specs.Naming.{Names, IsNamed};
 ghost use Rattle.et_event.specs.Answered.{EventAnswers};
 ghost use Rattle.et_event.specs.Event.{event};
@@ -54,6 +55,7 @@ fn instruction_event(
     requires turn { IsPlainTurn program.now (kept_of machine.old) thread }
     ensures event { IfOk result (λ end. EventAnswers (event program.now (kept_of machine.old) thread) end machine.old machine.new out.old out.new) }
     ensures sound { MakesSound program.now → OnOk result (IsSoundFor program.now (kept_of machine.new)) }
+    ensures clock { IfOk result (λ end. TicksWhereDone end machine.old.guest.clock machine.new.guest.clock) }
     ensures named { (names : Names) → names.class_count ≡ length program.now.classes → All (IsNamed names) out.old → OnOk result (All (IsNamed names) out.new) }
     ensures err { OnErr result (machine.new.guest ≡ machine.old.guest) }
 {
@@ -97,6 +99,7 @@ pub fn ops_event<L: Ledger>(
     ensures event { IfOk result (λ end. EventAnswers (event program.now (kept_of machine.old) thread) end machine.old machine.new out.old out.new) }
     ensures visits { visits.new ≡ visits.old }
     ensures sound { MakesSound program.now → OnOk result (IsSoundFor program.now (kept_of machine.new)) }
+    ensures clock { IfOk result (λ end. TicksWhereDone end machine.old.guest.clock machine.new.guest.clock) }
     ensures named { (names : Names) → names.class_count ≡ length program.now.classes → All (IsNamed names) out.old → OnOk result (All (IsNamed names) out.new) }
     ensures err { OnErr result (machine.new.guest ≡ machine.old.guest) }
 {

@@ -6,6 +6,7 @@ use Rattle.et_plain.specs.Places.{site_at}
 use Rattle.et_plain.proofs.Answering.{moment, ill_typed_answers, plain_here, not_none, answered}
 use Rattle.et_plain.proofs.Sounding.{answers_sound}
 use Rattle.et_plain.proofs.Naming.{does_named, answers_named}
+use Rattle.et_plain.proofs.Ticking.{does_tick, answers_tick}
 use Rattle.et_plain.proofs.Running.{has_frame_there}
 use Rattle.et_plain.proofs.Standing.{place_sound}
 use Rattle.et_plain.proofs.event.instruction_event.Goals as goal
@@ -54,3 +55,14 @@ returns-clause-named c =
     (answered (does (moment p s c.args.thread) (site_at place) place.row) (does (moment p s c.args.thread) (site_at place) place.row) place.row c.in_ok-end.end c.in-Some-end.end c.args.machine.now c.plain_event.new.machine c.args.out.now c.plain_event.new.out
     c.in-Some-end.is refl (c.in_ok-end.ensures.ok place.class))
     (does_named names p s c.args.thread (site_at place) place.row same (omega (arith, is.class)) (has_frame_there s.guest c.args.thread c.requires.turn.turn) plain) before
+
+pub returns-clause-clock : goal.returns-clause-clock
+returns-clause-clock c =
+    let p = c.args.program.now in
+    let s = kept_of c.args.machine.now in
+    let place = c.in-Some.place in
+    let plain = plain_here p s c.args.thread place c.in-Some.ensures.found c.requires.turn.plain in
+    answers_tick (does (moment p s c.args.thread) (site_at place) place.row) c.in-Some-end.end c.args.machine.now c.plain_event.new.machine c.args.out.now c.plain_event.new.out
+    (answered (does (moment p s c.args.thread) (site_at place) place.row) (does (moment p s c.args.thread) (site_at place) place.row) place.row c.in_ok-end.end c.in-Some-end.end c.args.machine.now c.plain_event.new.machine c.args.out.now c.plain_event.new.out
+    c.in-Some-end.is refl (c.in_ok-end.ensures.ok place.class))
+    (does_tick p s c.args.thread (site_at place) place.row (has_frame_there s.guest c.args.thread c.requires.turn.turn) plain)
