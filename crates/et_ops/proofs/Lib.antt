@@ -8,5 +8,3 @@ mod Making
 mod Throwing
 mod Texts
 mod Loading
-mod Instructions
-mod Rows

@@ -2,4 +2,3 @@ pub mod Tops
 pub mod Divisions
 pub mod Making
 pub mod Rows
-pub mod Pools

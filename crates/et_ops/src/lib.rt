@@ -7,7 +7,6 @@ mod branches;
 mod constants;
 mod divisions;
 mod frames;
-pub mod laws;
 mod locals;
 mod numbers;
 mod objects;

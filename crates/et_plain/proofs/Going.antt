@@ -4,7 +4,7 @@ use Rattle.std.specs.Prelude.{◌==◌, ◌||◌, ℤ, pos, negsuc, ◌+ℤ◌, 
 use Rattle.std.specs.List.{list_all}
 use Rattle.std.specs.Option.{option_map_or}
 use Rattle.std.specs.Int.{int_gap, w32, cast_unsigned}
-use Rattle.std.proofs.lemmas.Bool.{and_parts, or_cases, eqb-true, ltb-false, cases_lt}
+use Rattle.std.proofs.lemmas.Bool.{and_parts, ltb-false, cases_lt}
 use Rattle.et_code.specs.declared.instr.Instr.{Instr}
 use Rattle.et_code.specs.declared.instr.CodeFault.{CodeFault}
 use Rattle.et_code.specs.Bodies.{Body}
@@ -24,38 +24,24 @@ use Rattle.et_event.specs.Sites.{Site, natural, target}
 use Rattle.et_event.specs.Sound.{IsPc}
 use Rattle.et_event.specs.Table.{rows as all_rows, row_of}
 use Rattle.et_plain.proofs.Keeping.{MayGo}
-use Rattle.et_plain.proofs.RowsAmong.{among}
+use Rattle.et_place.proofs.Rows.{opcode_of_switch}
+use Rattle.et_place.proofs.RowsAmong.{among}
 
--- THE OPCODES of branches and switches
+-- THE OPCODES of branches
 
 abbrev is_branch_row : Row → Bool
 is_branch_row (rows.Frame (row.Branch c)) = true
 is_branch_row other = false
 
-abbrev is_switch_row : Row → Bool
-is_switch_row (rows.Frame row.Switch) = true
-is_switch_row other = false
-
 abbrev branches : ℕ × Row → Bool
 branches e = if is_branch_row e.1 then is_branch e.0 else true
-
-abbrev switches : ℕ × Row → Bool
-switches e = if is_switch_row e.1 then (e.0 == 0xaa) || (e.0 == 0xab) else true
 
 all_branches : list_all branches all_rows ≡ true
 all_branches = refl
 
-all_switches : list_all switches all_rows ≡ true
-all_switches = refl
-
 opcode_of_branch : (opcode : ℕ) (c : Condition) → row_of opcode ≡ Some (rows.Frame (row.Branch c)) → is_branch opcode ≡ true
 unfolding row_of
 opcode_of_branch opcode c e = among branches all_rows opcode (rows.Frame (row.Branch c)) all_branches e
-
-opcode_of_switch : (opcode : ℕ) → row_of opcode ≡ Some (rows.Frame row.Switch) → (opcode ≡ 0xaa) ⊎ (opcode ≡ 0xab)
-unfolding row_of
-opcode_of_switch opcode e =
-    elim (or_cases (opcode == 0xaa) (opcode == 0xab) (among switches all_rows opcode (rows.Frame row.Switch) all_switches e)) [ inl h ↦ inl (eqb-true opcode 0xaa h) | inr h ↦ inr (eqb-true opcode 0xab h) ]
 
 -- PLACES
 

@@ -18,14 +18,14 @@ use Rattle.et_event.specs.Event.{does}
 use Rattle.et_event.specs.Sites.{Site, code_of}
 use Rattle.et_event.specs.Sound.{IsPc, IsSoundFor}
 use Rattle.et_ops.specs.Rows.{is_plain}
-use Rattle.et_plain.specs.declared.places.Place.{Place}
-use Rattle.et_plain.specs.Places.{Runs, IsPlace, site_at}
+use Rattle.et_place.specs.declared.places.Place.{Place}
+use Rattle.et_place.specs.Places.{Runs, IsPlace, site_at}
 use Rattle.et_plain.specs.Programs.{MakesSound}
 use Rattle.et_plain.proofs.Answering.{moment}
-use Rattle.et_plain.proofs.Constants.{at_end}
+use Rattle.et_place.proofs.Constants.{at_end}
 use Rattle.et_plain.proofs.Going.{behind_pc, may_go}
-use Rattle.et_plain.proofs.Placing.{body_runs}
-use Rattle.et_plain.proofs.Running.{has_frame_there, runs_there}
+use Rattle.et_place.proofs.Placing.{body_runs}
+use Rattle.et_place.proofs.Running.{has_frame_there, runs_there}
 use Rattle.et_plain.proofs.Sounding.{Begins, KeepsSound, does_sound}
 
 not_decoded : (x : Instr × ℕ) (f : CodeFault) (r : Result (Instr × ℕ) CodeFault) → r ≡ Ok x → r ≡ Err f → ⊥

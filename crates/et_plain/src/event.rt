@@ -13,11 +13,11 @@ ghost use Rattle.et_ops.specs.Rows.{is_plain as plain};
 ghost use Rattle.et_plain.specs.Programs.{MakesSound};
 ghost use Rattle.et_plain.specs.Turns.{IsPlainTurn};
 
-use crate::places::place_of;
 use et_base::{NoMemory, Steps, ThreadId};
 use et_event::Row;
 use et_machine::Machine;
 use et_ops::{ill_typed, plain_event};
+use et_place::place_of;
 use et_program::Program;
 use et_state::{EventEnd, Lines};
 use std::alloc::Global;

@@ -17,7 +17,7 @@ use Rattle.et_event.specs.declared.rows.Row.{Row}
 use Rattle.et_event.specs.declared.rows.Row.TheVariants as row
 use Rattle.et_event.specs.Sites.{natural}
 use Rattle.et_event.specs.Table.{rows, row_of}
-use Rattle.et_plain.proofs.RowsAmong.{among}
+use Rattle.et_place.proofs.RowsAmong.{among}
 
 -- THE OPCODES that load a constant
 

@@ -2,8 +2,8 @@ use Rattle.std.proofs.Common.{◌≡◌, length, ap, ◌∙◌}
 use Rattle.et_code.specs.Bodies.{Body}
 use Rattle.et_code.specs.Rules.{is_code_length}
 use Rattle.et_code.specs.Kept.{IsKept}
-use Rattle.et_plain.proofs.Sizes.{code_small}
-use Rattle.et_plain.proofs.codes.bytes_of.Goals as goal
+use Rattle.et_place.proofs.Sizes.{code_small}
+use Rattle.et_place.proofs.codes.bytes_of.Goals as goal
 
 pub returns-clause-few : goal.returns-clause-few
 returns-clause-few c =

@@ -10,7 +10,7 @@ use Rattle.et_machine.specs.State.{GuestState, Kept}
 use Rattle.et_machine.specs.Words.{thread_at, top, HasFrame}
 use Rattle.et_program.specs.Entries.{Linked}
 use Rattle.et_event.specs.Sound.{IsStaged, AreSoundFrames, IsSoundFor}
-use Rattle.et_plain.specs.Places.{Runs}
+use Rattle.et_place.specs.Places.{Runs}
 
 by_parts : (pending has before entered : Bool) →
     (if pending then (if has then Unwind else EndThread) else (if has then (if before then Initialize else Instruction) else (if entered then EndThread else Entry))) ≡ Instruction →

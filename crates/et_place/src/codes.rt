@@ -8,7 +8,7 @@ ghost use Rattle.et_machine.specs.Words.{HasFrame, top};
 ghost use Rattle.et_event.specs.Sites.{body_of, method_of as method_in, natural};
 ghost use Rattle.et_event.specs.Table.{row_of as row_in_table};
 ghost use Rattle.et_event.specs.declared.rows.Row.TheVariants as rows;
-ghost use Rattle.et_plain.specs.Places.{Runs};
+ghost use Rattle.et_place.specs.Places.{Runs};
 
 use et_base::{MethodId, ThreadId};
 use et_code::{Code, CodeFault, Instr, decode};

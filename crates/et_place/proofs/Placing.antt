@@ -10,7 +10,7 @@ use Rattle.et_program.specs.Entries.{Linked, method_at}
 use Rattle.et_program.specs.declared.info.MethodInfo.{MethodInfo}
 use Rattle.et_frames.specs.Threads.{FrameState}
 use Rattle.et_event.specs.Sites.{Site, site_of, body_of, method_of, code_of, pool_of, no_constants}
-use Rattle.et_plain.specs.Places.{Runs}
+use Rattle.et_place.specs.Places.{Runs}
 
 pub pool_found : (p : Linked) (class k : ℕ) (pool : Option Constants) → pool ≡ slice_get p.pools class → class ≡ k → (unwrap_or pool no_constants).slots ≡ (slice_index_or p.pools k no_constants).slots
 pool_found p class k pool e same =

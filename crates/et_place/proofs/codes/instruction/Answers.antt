@@ -1,7 +1,7 @@
 use Rattle.std.proofs.Common.{◌≡◌, sym, ◌∙◌, rules}
 use Rattle.std.specs.Prelude.{Ok}
-use Rattle.et_plain.proofs.Constants.{index_small}
-use Rattle.et_plain.proofs.codes.instruction.Goals as goal
+use Rattle.et_place.proofs.Constants.{index_small}
+use Rattle.et_place.proofs.codes.instruction.Goals as goal
 
 pub returns-clause-index : goal.returns-clause-index
 returns-clause-index c =

@@ -13,8 +13,8 @@ use Rattle.et_event.specs.declared.rows.FrameRow.TheVariants as frame_rows
 use Rattle.et_event.specs.Sites.{Site, site_of, code_of, decoded_at, natural}
 use Rattle.et_event.specs.Sound.{RunsMethod}
 use Rattle.et_event.specs.Table.{row_of}
-use Rattle.et_ops.specs.Pools.{slots_of}
-use Rattle.et_plain.specs.declared.places.Place.{Place}
+use Rattle.et_place.specs.Pools.{slots_of}
+use Rattle.et_place.specs.declared.places.Place.{Place}
 
 -- the frame runs a method
 pub record Runs (p : Linked) (f : FrameState) : Type 0 where

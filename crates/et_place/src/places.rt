@@ -8,14 +8,14 @@ ghost use Rattle.et_event.specs.Event.{event, does};
 ghost use Rattle.et_event.specs.Moments.{ill_typed};
 ghost use Rattle.et_event.specs.Sites.{decoded_at};
 ghost use Rattle.et_event.specs.Sound.{IsSoundFor};
-ghost use Rattle.et_plain.specs.Places.{IsPlace, row_at, site_at};
+ghost use Rattle.et_place.specs.Places.{IsPlace, row_at, site_at};
 
 use crate::codes::{code_of, instruction, keeps_rules, locals_are_few, method_of};
+use crate::laws;
 use et_base::{ClassId, ThreadId};
 use et_code::Instr;
 use et_event::{Row, row_of};
 use et_machine::Machine;
-use et_ops::laws;
 use et_pool::Pool;
 use et_program::Program;
 

@@ -13,9 +13,9 @@ use Rattle.et_event.specs.declared.rows.Row.{Row}
 use Rattle.et_event.specs.declared.rows.Row.TheVariants as rows
 use Rattle.et_event.specs.Sites.{natural, body_of, code_of, method_of}
 use Rattle.et_event.specs.Table.{row_of}
-use Rattle.et_plain.proofs.Running.{runs_there}
-use Rattle.et_plain.proofs.Placing.{pool_found, locals_found, rules_found, site_found}
-use Rattle.et_plain.proofs.places.find_place.Goals as goal
+use Rattle.et_place.proofs.Running.{runs_there}
+use Rattle.et_place.proofs.Placing.{pool_found, locals_found, rules_found, site_found}
+use Rattle.et_place.proofs.places.find_place.Goals as goal
 
 pub returns-clause-found : goal.returns-clause-found
 returns-clause-found c =
