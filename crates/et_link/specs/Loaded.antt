@@ -17,6 +17,7 @@ pub record LoadedMember : Type 0 where
   pub constant : ℕ
   pub code : Option Body
 
+-- a class or interface, with the indices of the Class entries of itself, of its superclass and of its superinterfaces
 pub record LoadedClass : Type 0 where
   pub pool : Constants
   pub flags : ℕ

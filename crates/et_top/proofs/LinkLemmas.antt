@@ -1,5 +1,5 @@
 -- THE ONE CLASS that runs, or the one fault that keeps classes from being linked.
-use Rattle.std.proofs.Common.{◌≡◌, inl, inr, ℕ, List, [], ◌∷◌, length, map, Option, None, Some, Result, Ok, Err, refl, sym, ◌∙◌, ap, subst}
+use Rattle.std.proofs.Common.{◌≡◌, inl, inr, ℕ, List, [], ◌∷◌, length, map, None, Result, Ok, Err, refl, ◌∙◌, ap, subst}
 use Rattle.et_class.specs.declared.class.ClassFile.{ClassFile}
 use Rattle.et_class.specs.Layout.{ClassOf}
 use Rattle.et_class.specs.Classes.{class_of}
