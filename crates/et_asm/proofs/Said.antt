@@ -36,7 +36,7 @@ use Rattle.et_asm.specs.Pool.{header_entries, constant_entries, attribute_entrie
 use Rattle.et_asm.specs.Spelled.{slots, FindsEntries}
 use Rattle.et_asm.specs.Code.{labels_of, caught_index}
 use Rattle.et_asm.specs.Listings.{parsed_lines, marks_of, bytes_of}
-use Rattle.et_asm.specs.Accepted.{Header, Constant, Int, Long, String, Field, Method, constant_at, constant_in, field_in, method_in, listed_header, listed_interface, listed_constant, listed_field, listed_row, listed_body, listed_method, method_line, HasListing}
+use Rattle.et_asm.specs.Accepted.{Header, Constant, IntValue, LongValue, StringValue, Field, Method, constant_at, constant_in, field_in, method_in, listed_header, listed_interface, listed_constant, listed_field, listed_row, listed_body, listed_method, method_line, HasListing}
 use Rattle.et_asm.specs.Laws.{ClassesHaveListings}
 use Rattle.et_asm.proofs.Slots.{finds}
 use Rattle.et_asm.proofs.Within.{Has}
@@ -92,18 +92,18 @@ module _ (entries : List Entry) (found : FindsEntries entries) (low : index_behi
   -- CONSTANTS
 
   abbrev constant_of_slot : Option Item → Option Constant
-  constant_of_slot slot = option_or (option_map Int (integer_of_slot slot)) (option_or (option_map Long (long_of_slot slot)) (option_map String (named_by (slots entries) STRING slot)))
+  constant_of_slot slot = option_or (option_map IntValue (integer_of_slot slot)) (option_or (option_map LongValue (long_of_slot slot)) (option_map StringValue (named_by (slots entries) STRING slot)))
 
   constant_said : (e : Entry) → IsConstant (Some e) → Has entries e → constant_at (slots entries) (index_of entries e) ≡ listed_constant e
-  constant_said (entry.Integer value) s h = ap constant_of_slot (found.items (entry.Integer value) h) ∙ ap (λ (z : ℤ). Some (Int z)) (to_z-of_z w32 value (fits32 value s))
-  constant_said (entry.Long value) s h = ap constant_of_slot (found.items (entry.Long value) h) ∙ ap (λ (z : ℤ). Some (Long z)) (to_z-of_z w64 value (fits64 value s))
+  constant_said (entry.Integer value) s h = ap constant_of_slot (found.items (entry.Integer value) h) ∙ ap (λ (z : ℤ). Some (IntValue z)) (to_z-of_z w32 value (fits32 value s))
+  constant_said (entry.Long value) s h = ap constant_of_slot (found.items (entry.Long value) h) ∙ ap (λ (z : ℤ). Some (LongValue z)) (to_z-of_z w64 value (fits64 value s))
   constant_said (entry.Text text) s h =
       let slot = slot_at (slots entries) (index_of entries (entry.Text text)) in
       let string = string_at (slots entries) (index_of entries (entry.Text text)) in
       let there = found.items (entry.Text text) h in
-      ap (λ (o : Option ℤ). option_or (option_map Int o) (option_or (option_map Long (long_of_slot slot)) (option_map String string))) (ap integer_of_slot there)
-      ∙ (ap (λ (o : Option ℤ). option_or (option_map Long o) (option_map String string)) (ap long_of_slot there)
-      ∙ ap (λ (o : Option (List ℕ)). option_map String o) (found.strings text h))
+      ap (λ (o : Option ℤ). option_or (option_map IntValue o) (option_or (option_map LongValue (long_of_slot slot)) (option_map StringValue string))) (ap integer_of_slot there)
+      ∙ (ap (λ (o : Option ℤ). option_or (option_map LongValue o) (option_map StringValue string)) (ap long_of_slot there)
+      ∙ ap (λ (o : Option (List ℕ)). option_map StringValue o) (found.strings text h))
   constant_said e s h = absurd s
 
   value_said : (constant : Option Entry) → IsConstant constant → AllHas entries (constant_entries constant) → constant_in (slots entries) (made_constant entries constant) ≡ option_and_then listed_constant constant

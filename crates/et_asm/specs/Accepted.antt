@@ -34,9 +34,9 @@ pub record Header : Type 0 where
 
 -- the value of a ConstantValue (JVMS 4.7.2)
 pub data Constant : Type 0 where
-  Int : (value : ℤ) → Constant
-  Long : (value : ℤ) → Constant
-  String : (text : List ℕ) → Constant
+  IntValue : (value : ℤ) → Constant
+  LongValue : (value : ℤ) → Constant
+  StringValue : (text : List ℕ) → Constant
 
 -- a field (JVMS 4.5)
 pub record Field : Type 0 where
@@ -58,7 +58,7 @@ abbrev pub header_in : ClassOf → Header
 header_in c = record { flags = c.flags; name = class_name_at c.slots c.this; super = class_name_at c.slots c.super }
 
 abbrev pub constant_at : List (Option Item) → ℕ → Option Constant
-constant_at slots i = option_or (option_map Int (integer_at slots i)) (option_or (option_map Long (long_at slots i)) (option_map String (string_at slots i)))
+constant_at slots i = option_or (option_map IntValue (integer_at slots i)) (option_or (option_map LongValue (long_at slots i)) (option_map StringValue (string_at slots i)))
 
 abbrev pub constant_in : List (Option Item) → List AttributeOf → Option Constant
 constant_in slots attributes = option_and_then (λ a. constant_at slots (index_in (Some a))) (find (is_constant_value slots) attributes)
@@ -80,9 +80,9 @@ listed_interface (line.Interface name) = Some (unescaped name) ∷ []
 listed_interface other = []
 
 abbrev pub listed_constant : Entry → Option Constant
-listed_constant (entry.Integer value) = Some (Int value)
-listed_constant (entry.Long value) = Some (Long value)
-listed_constant (entry.Text text) = Some (String (unescaped text))
+listed_constant (entry.Integer value) = Some (IntValue value)
+listed_constant (entry.Long value) = Some (LongValue value)
+listed_constant (entry.Text text) = Some (StringValue (unescaped text))
 listed_constant other = None
 
 abbrev pub listed_field : Line → List Field
