@@ -1,5 +1,5 @@
 -- The instruction at which a thread stands.
-use Rattle.std.specs.Prelude.{◌≡◌, ℕ, ◌<◌, ◌^◌, Option, Some, None, Result, Ok, Err, length}
+use Rattle.std.specs.Prelude.{◌≡◌, ℕ, ◌<◌, ◌^◌, Bool, true, false, Option, Some, None, Result, Ok, Err, length}
 use Rattle.std.specs.Option.{option_copied}
 use Rattle.et_code.specs.declared.instr.Instr.{Instr}
 use Rattle.et_code.specs.declared.instr.CodeFault.{CodeFault}
@@ -22,6 +22,11 @@ pub record Runs (p : Linked) (f : FrameState) : Type 0 where
   pub named : f.method ≡ Some method
   pub runs : RunsMethod p f method
 
+-- the row changes nothing but the topmost frame
+abbrev pub is_frame : Row → Bool
+is_frame (rows.Frame r) = true
+is_frame other = false
+
 -- a place as the table has it
 abbrev pub site_at : Place → Site
 site_at place = record { instr = place.instr; next = place.next; code = place.code.now; pool = slots_of (option_copied place.pool); class = place.class }
@@ -35,10 +40,10 @@ pub record IsPlace (p : Linked) (f : FrameState) (place : Place) : Type 0 where
   -- the code keeps the rules of the standard (JVMS 4.9.1)
   pub rules : KeepsRules (code_of p f)
   pub switch : place.row ≡ rows.Frame frame_rows.Switch → IsSwitch place.code.now place.instr
-  -- the pc, the number of locals and the index of a constant have 16 bits (JVMS 4.7.3, 4.11)
+  -- the pc, the number of locals and an index into the pool have 16 bits (JVMS 4.7.3, 4.11)
   pub pc : f.pc < 2 ^ 16
   pub locals : length f.locals < 2 ^ 16
-  pub index : place.row ≡ rows.PoolConstant → natural place.instr.first < 2 ^ 16
+  pub index : is_frame place.row ≡ false → natural place.instr.first < 2 ^ 16
 
 -- the row of what was decoded; none at the end of the code
 abbrev pub row_at : Result (Instr × ℕ) CodeFault → Option Row

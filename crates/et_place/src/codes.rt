@@ -1,5 +1,5 @@
 //! The code that a thread runs, and what is decoded from it.
-ghost use Rattle.std.specs.Prelude.{◌≡◌, ◌+◌, ◌<◌, ◌^◌, IfOk, IfSome, length, Some};
+ghost use Rattle.std.specs.Prelude.{◌≡◌, false, ◌+◌, ◌<◌, ◌^◌, IfOk, IfSome, length, Some};
 ghost use Rattle.std.specs.Int.{w8, w16};
 ghost use Rattle.et_items.specs.Numbers.{number_at};
 ghost use Rattle.et_code.specs.Decoding.{instruction_at};
@@ -7,8 +7,8 @@ ghost use Rattle.et_code.specs.Rules.{KeepsRules};
 ghost use Rattle.et_machine.specs.Words.{HasFrame, top};
 ghost use Rattle.et_event.specs.Sites.{body_of, method_of as method_in, natural};
 ghost use Rattle.et_event.specs.Table.{row_of as row_in_table};
-ghost use Rattle.et_event.specs.declared.rows.Row.TheVariants as rows;
-ghost use Rattle.et_place.specs.Places.{Runs};
+ghost use Rattle.et_event.specs.declared.rows.Row.{Row};
+ghost use Rattle.et_place.specs.Places.{Runs, is_frame};
 
 use et_base::{MethodId, ThreadId};
 use et_code::{Code, CodeFault, Instr, decode};
@@ -99,13 +99,13 @@ pub(crate) fn locals_are_few(method: &MethodInfo)
     }
 }
 
-/// The instruction at a pc, which is in the code then, and the pc behind it. An index of a constant has 16 bits.
+/// The instruction at a pc, which is in the code then, and the pc behind it. An index into the pool has 16 bits.
 #[tactic(auto, using(crate::proofs::Constants::at_end))]
 pub(crate) fn instruction(code: &[u8], pc: u32) -> Result<(Instr, u32), CodeFault>
     requires { length code.now < 2 ^ 16 }
     ensures decoded { result ≡ instruction_at code.now pc }
     ensures within { IfOk result (λ x. pc < length code.now) }
-    ensures index { IfOk result (λ x. row_in_table x.0.opcode ≡ Some rows.PoolConstant → natural x.0.first < 2 ^ 16) }
+    ensures index { IfOk result (λ x. (r : Row) → row_in_table x.0.opcode ≡ Some r → is_frame r ≡ false → natural x.0.first < 2 ^ 16) }
 {
     let pc = pc as usize;
     if pc >= code.len() {

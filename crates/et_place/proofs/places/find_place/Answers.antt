@@ -1,4 +1,4 @@
-use Rattle.std.proofs.Common.{◌≡◌, ℕ, ◌<◌, ◌^◌, length, List, Some, sym, subst, ap, ◌∙◌, rules, arith}
+use Rattle.std.proofs.Common.{false, ◌≡◌, ℕ, ◌<◌, ◌^◌, length, List, Some, sym, subst, ap, ◌∙◌, rules, arith}
 use Rattle.std.specs.Prelude.{Result, Ok, IfOk, IfSome}
 use Rattle.std.specs.Option.{option_copied}
 use Rattle.et_code.specs.Rules.{KeepsRules}
@@ -10,9 +10,9 @@ use Rattle.et_program.specs.declared.info.MethodInfo.{MethodInfo}
 use Rattle.et_machine.specs.State.{kept_of}
 use Rattle.et_machine.specs.Words.{top}
 use Rattle.et_event.specs.declared.rows.Row.{Row}
-use Rattle.et_event.specs.declared.rows.Row.TheVariants as rows
 use Rattle.et_event.specs.Sites.{natural, body_of, code_of, method_of}
 use Rattle.et_event.specs.Table.{row_of}
+use Rattle.et_place.specs.Places.{is_frame}
 use Rattle.et_place.proofs.Running.{runs_there}
 use Rattle.et_place.proofs.Placing.{pool_found, locals_found, rules_found, site_found}
 use Rattle.et_place.proofs.places.find_place.Goals as goal
@@ -41,5 +41,5 @@ returns-clause-found c =
           (c.switch.ensures (code_of p f).code f.pc (c.in_ok-instr.instr, c.in_ok-instr.next) at_pc (row ∙ ap (λ (r : Row). Some r) e));
       pc = few;
       locals = locals_found p f runs (subst (λ (m : MethodInfo). (body_of m.code).max_locals < 2 ^ 16) method c.locals_are_few.ensures);
-      index = λ e. subst (λ (r : Result (Instr × ℕ) CodeFault). IfOk r (λ x. row_of x.0.opcode ≡ Some rows.PoolConstant → natural x.0.first < 2 ^ 16)) found c.instruction.ensures.index (row ∙ ap (λ (r : Row). Some r) e);
+      index = λ e. subst (λ (r : Result (Instr × ℕ) CodeFault). IfOk r (λ x. (q : Row) → row_of x.0.opcode ≡ Some q → is_frame q ≡ false → natural x.0.first < 2 ^ 16)) found c.instruction.ensures.index c.in_ok-row.row row e;
     }

@@ -1,8 +1,9 @@
-use Rattle.std.proofs.Common.{arith, ◌≡◌, refl, rules}
+use Rattle.std.proofs.Common.{ap, arith, ◌≡◌, refl, rules}
 use Rattle.et_machine.specs.State.{kept_of}
 use Rattle.et_event.specs.Event.{event, does}
 use Rattle.et_event.specs.Moments.{ill_typed}
-use Rattle.et_place.specs.Places.{site_at}
+use Rattle.et_event.specs.declared.rows.Row.{Row}
+use Rattle.et_place.specs.Places.{is_frame, site_at}
 use Rattle.et_plain.proofs.Answering.{moment, ill_typed_answers, plain_here, not_none, answered}
 use Rattle.et_plain.proofs.Sounding.{answers_sound}
 use Rattle.et_plain.proofs.Naming.{does_named, answers_named}
@@ -16,6 +17,9 @@ returns-in_default-clause-event c =
     let p = c.args.program.now in
     let law : event p (kept_of c.args.machine.now) c.args.thread ≡ ill_typed (moment p (kept_of c.args.machine.now) c.args.thread) = search rules in
     ill_typed_answers p c.args.thread c.args.machine.now c.args.out.now c.ill_typed.result c.ill_typed.ensures law
+
+pub plain_event-requires-clause-index : goal.plain_event-requires-clause-index
+plain_event-requires-clause-index c = λ e. c.in-Some.ensures.found.index (ap (λ (r : Row). is_frame r) e)
 
 pub unreachable-requires : goal.unreachable-requires
 unreachable-requires c =
