@@ -1,10 +1,5 @@
-mod Taking
-mod Groups
 mod Storing
 mod Switching
-mod Answering
 mod Dividing
-mod Making
-mod Throwing
 mod Texts
 mod Loading

@@ -1,5 +1,5 @@
 -- Local variables overwritten, and the other half of a long that is cut.
-use Rattle.et_ops.proofs.Taking.{moves_replaced}
+use Rattle.et_parts.proofs.Taking.{moves_replaced}
 use Rattle.std.proofs.Common.{◌≡◌, ℕ, zero, suc, ◌+◌, ◌<◌, ◌≤◌, List, [], ◌∷◌, length, take, drop, ℤ, get_or, set, Option, Some, None, refl, sym, ◌∙◌, ap, subst, arith, Contains, inl, inr}
 use Rattle.std.proofs.lemmas.List.{length-set}
 use Rattle.std.proofs.lemmas.List.Elements.{Contains-append_left, Contains-append_right, Contains-append_cases}

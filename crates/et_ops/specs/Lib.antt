@@ -1,4 +1,3 @@
 pub mod Tops
 pub mod Divisions
-pub mod Making
 pub mod Rows

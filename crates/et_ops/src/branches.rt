@@ -11,11 +11,10 @@ ghost use Rattle.et_event.specs.Plain.{compares, same_reference, tested};
 ghost use Rattle.et_event.specs.declared.rows.Condition.TheVariants as when;
 ghost use Rattle.et_ops.specs.Tops.{jumped};
 
-use crate::operands::put;
-use crate::tops::{int_at, reference_at};
 use et_base::{ObjectId, ThreadId};
 use et_event::{Comparison, Condition};
 use et_machine::Machine;
+use et_parts::{int_at, put, reference_at};
 
 /// The place so far from pc.
 fn target(pc: u32, offset: i32) -> u32

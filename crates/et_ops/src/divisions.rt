@@ -11,13 +11,10 @@ ghost use Rattle.et_event.specs.Answered.{EventAnswers};
 ghost use Rattle.et_event.specs.Plain.{divided, divides};
 ghost use Rattle.et_ops.specs.Divisions.{DividesFrame, quotients};
 
-use crate::answers::ill_typed;
-use crate::operands::replace;
-use crate::throws::throw_error;
-use crate::tops::{int_at, long_at};
 use et_base::{NoMemory, ThreadId, Value, div32, div64, rem32, rem64};
 use et_event::{Division, GuestError, Number};
 use et_machine::Machine;
+use et_parts::{ill_typed, int_at, long_at, replace, throw_error};
 use et_program::Program;
 use et_state::{EventEnd, Lines};
 

@@ -2,26 +2,19 @@
 //! division.
 #![tactic(auto)]
 
-mod answers;
 mod branches;
 mod constants;
 mod divisions;
 mod frames;
 mod locals;
 mod numbers;
-mod objects;
-mod operands;
 mod plain;
 mod stack;
 mod stores;
 mod strings;
 mod switches;
-mod throws;
-mod tops;
 
-pub use answers::ill_typed;
 pub use constants::constant_event;
 pub use divisions::divide_event;
 pub use frames::frame_event;
 pub use plain::plain_event;
-pub use throws::throw_error;

@@ -7,15 +7,15 @@ ghost use Rattle.et_machine.specs.Sound.{IsSound};
 ghost use Rattle.et_event.specs.Answered.{StepsFrame};
 ghost use Rattle.et_event.specs.Plain.{loaded, put_some};
 ghost use Rattle.et_event.specs.declared.rows.Operand.TheVariants as operand;
-ghost use Rattle.et_ops.specs.Tops.{IsIn};
+ghost use Rattle.et_parts.specs.Tops.{IsIn};
 
-use crate::operands::replace;
 use et_base::{ThreadId, Value};
 use et_event::Operand;
 use et_machine::Machine;
+use et_parts::replace;
 
 /// What a local variable holds; `Unset` where there is none of that index.
-#[tactic(auto, using(crate::proofs::Groups::unset_is_in))]
+#[tactic(auto, using(et_parts::proofs::Groups::unset_is_in))]
 pub(crate) fn local_at(machine: &Machine, thread: ThreadId, i: u32) -> Value
     requires frame { HasFrame machine.now.guest thread }
     requires locals { length (top machine.now.guest thread).locals < 2 ^ 16 }

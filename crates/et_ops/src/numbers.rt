@@ -9,8 +9,6 @@ ghost use Rattle.et_event.specs.Plain.{combine as combination, combined, negated
 ghost use Rattle.et_event.specs.declared.rows.Number.TheVariants as numbers;
 ghost use Rattle.et_event.specs.declared.rows.Conversion.TheVariants as conversions;
 
-use crate::operands::replace;
-use crate::tops::{int_at, long_at};
 use et_base::{
     ThreadId, Value, add32, add64, and32, and64, cmp64, mul32, mul64, neg32, neg64, or32, or64,
     shl32, shl64, shr32, shr64, sub32, sub64, to_byte, to_char, to_int, to_short, ushr32, ushr64,
@@ -18,6 +16,7 @@ use et_base::{
 };
 use et_event::{Arithmetic, Conversion, Number, Shift};
 use et_machine::Machine;
+use et_parts::{int_at, long_at, replace};
 
 fn combine32(operation: Arithmetic, a: i32, b: i32) -> i32
     ensures { result ≡ combination w32 operation a b }

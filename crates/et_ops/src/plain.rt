@@ -19,7 +19,6 @@ ghost use Rattle.et_event.specs.Sites.{constant_at, natural as natural_of};
 ghost use Rattle.et_place.specs.Pools.{slots_of};
 ghost use Rattle.et_ops.specs.Rows.{PlainAnswers};
 
-use crate::answers::ill_typed;
 use crate::constants::constant_event;
 use crate::divisions::divide_event;
 use crate::frames::{frame_event, natural};
@@ -27,6 +26,7 @@ use et_base::{NoMemory, ThreadId};
 use et_code::Instr;
 use et_event::{FrameRow, Row};
 use et_machine::Machine;
+use et_parts::ill_typed;
 use et_pool::Pool;
 use et_program::Program;
 use et_state::{EventEnd, Lines};

@@ -7,11 +7,10 @@ ghost use Rattle.et_event.specs.Answered.{StepsFrame};
 ghost use Rattle.et_event.specs.Plain.{rearranged};
 ghost use Rattle.et_event.specs.declared.rows.Rearrangement.TheVariants as stack;
 
-use crate::operands::replace;
-use crate::tops::{is_one, is_pair, operand_at};
 use et_base::ThreadId;
 use et_event::Rearrangement;
 use et_machine::Machine;
+use et_parts::{is_one, is_pair, operand_at, replace};
 
 /// `nop`.
 fn nop(machine: &mut Machine, thread: ThreadId, next: u32) -> bool

@@ -12,11 +12,10 @@ ghost use Rattle.et_event.specs.declared.rows.Operand.TheVariants as operand;
 ghost use Rattle.et_ops.specs.Tops.{half_beside as half, half_of, unset_at, refs_at};
 
 use crate::locals::local_at;
-use crate::operands::take;
-use crate::tops::{int_at, long_at, reference_at};
 use et_base::{ThreadId, Value, add32};
 use et_event::Operand;
 use et_machine::Machine;
+use et_parts::{int_at, long_at, reference_at, take};
 
 /// The local variable of the other half of a long, whose one half is this value of local variable i.
 fn half_beside(value: Value, i: u16) -> Option<u16>

@@ -14,10 +14,9 @@ ghost use Rattle.et_event.specs.Moments.{fits};
 ghost use Rattle.et_event.specs.Plain.{constant};
 ghost use Rattle.et_event.specs.Sites.{AString};
 
-use crate::answers::ill_typed;
-use crate::objects::{class_called, make_instance};
 use et_base::{NoMemory, ObjectId, ThreadId, Value};
 use et_machine::Machine;
+use et_parts::{class_called, ill_typed, make_instance};
 use et_program::Program;
 use et_state::{EventEnd, Lines};
 

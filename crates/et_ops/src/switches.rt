@@ -9,10 +9,10 @@ ghost use Rattle.et_event.specs.Checks.{with_int};
 ghost use Rattle.et_event.specs.Sites.{target as target_at};
 
 use crate::branches::jump;
-use crate::tops::int_at;
 use et_base::ThreadId;
 use et_code::{Instr, switch_target};
 use et_machine::Machine;
+use et_parts::int_at;
 
 /// `tableswitch` and `lookupswitch`, in this code: the pc goes to the target of the int on top.
 pub(crate) fn switch(machine: &mut Machine, thread: ThreadId, code: &[u8], instr: &Instr) -> bool

@@ -3,14 +3,14 @@ ghost use Rattle.std.specs.Prelude.{◌≡◌, ◌+◌, ◌<◌, ◌^◌, length
 ghost use Rattle.et_frames.specs.Threads.{operand_of};
 ghost use Rattle.et_machine.specs.Words.{HasFrame, top};
 ghost use Rattle.et_event.specs.Plain.{is_single as single, is_one as one_first, is_pair as pair_first};
-ghost use Rattle.et_ops.specs.Tops.{int_of, long_of, reference_of, IsIn, are_pair};
+ghost use Rattle.et_parts.specs.Tops.{int_of, long_of, reference_of, IsIn, are_pair};
 
 use et_base::{ObjectId, ThreadId, Value};
 use et_machine::Machine;
 
 /// The operand so far below the topmost one; `Unset` where there is none.
 #[tactic(auto, using(crate::proofs::Groups::unset_is_in))]
-pub(crate) fn operand_at(machine: &Machine, thread: ThreadId, k: u32) -> Value
+pub fn operand_at(machine: &Machine, thread: ThreadId, k: u32) -> Value
     requires { HasFrame machine.now.guest thread }
     ensures value { result ≡ operand_of (top machine.now.guest thread) k }
     ensures there { IsIn (top machine.now.guest thread) result }
@@ -23,7 +23,7 @@ pub(crate) fn operand_at(machine: &Machine, thread: ThreadId, k: u32) -> Value
 }
 
 /// The int so far below the top.
-pub(crate) fn int_at(machine: &Machine, thread: ThreadId, k: u32) -> Option<i32>
+pub fn int_at(machine: &Machine, thread: ThreadId, k: u32) -> Option<i32>
     requires { HasFrame machine.now.guest thread }
     ensures { result ≡ int_of (operand_of (top machine.now.guest thread) k) }
 {
@@ -34,7 +34,7 @@ pub(crate) fn int_at(machine: &Machine, thread: ThreadId, k: u32) -> Option<i32>
 }
 
 /// The long whose upper entry is so far below the top.
-pub(crate) fn long_at(machine: &Machine, thread: ThreadId, k: u32) -> Option<i64>
+pub fn long_at(machine: &Machine, thread: ThreadId, k: u32) -> Option<i64>
     requires frame { HasFrame machine.now.guest thread }
     requires small { k + 1 < 2 ^ 32 }
     ensures { result ≡ long_of (operand_of (top machine.now.guest thread) k) (operand_of (top machine.now.guest thread) (k + 1)) }
@@ -49,7 +49,7 @@ pub(crate) fn long_at(machine: &Machine, thread: ThreadId, k: u32) -> Option<i64
 }
 
 /// The reference so far below the top.
-pub(crate) fn reference_at(machine: &Machine, thread: ThreadId, k: u32) -> Option<Option<ObjectId>>
+pub fn reference_at(machine: &Machine, thread: ThreadId, k: u32) -> Option<Option<ObjectId>>
     requires { HasFrame machine.now.guest thread }
     ensures { result ≡ reference_of (operand_of (top machine.now.guest thread) k) }
 {
@@ -79,7 +79,7 @@ fn are_together(upper: Value, lower: Value) -> bool
 
 /// Whether the operand so far below the top is there, and a value by itself.
 #[tactic(auto, using(crate::proofs::Groups::one_at, crate::proofs::Groups::one_deep))]
-pub(crate) fn is_one(machine: &Machine, thread: ThreadId, k: u32) -> bool
+pub fn is_one(machine: &Machine, thread: ThreadId, k: u32) -> bool
     requires { HasFrame machine.now.guest thread }
     ensures is { result ≡ one_first (drop k (top machine.now.guest thread).operands) }
     ensures deep { result ≡ true → k < length (top machine.now.guest thread).operands }
@@ -89,7 +89,7 @@ pub(crate) fn is_one(machine: &Machine, thread: ThreadId, k: u32) -> bool
 
 /// Whether the two operands from there on are there, and a long or two values.
 #[tactic(auto, using(crate::proofs::Groups::pair_at, crate::proofs::Groups::pair_deep))]
-pub(crate) fn is_pair(machine: &Machine, thread: ThreadId, k: u32) -> bool
+pub fn is_pair(machine: &Machine, thread: ThreadId, k: u32) -> bool
     requires frame { HasFrame machine.now.guest thread }
     requires small { k + 1 < 2 ^ 32 }
     ensures is { result ≡ pair_first (drop k (top machine.now.guest thread).operands) }

@@ -23,7 +23,7 @@ use Rattle.et_event.specs.declared.errors.GuestError.{GuestError}
 use Rattle.et_event.specs.Errors.{error_class}
 use Rattle.et_event.specs.Moments.{Moment, Doing, with_thread_state, begins, instance_made, pending_now, entry_given_up, next_object, ends as ending, fits, throws}
 use Rattle.et_event.specs.Answered.{EventAnswers}
-use Rattle.et_ops.specs.Making.{MakesObject}
+use Rattle.et_parts.specs.Making.{MakesObject}
 
 abbrev moment : Linked → ℕ → MachineState → Moment
 moment p t m = record { program = p; before = kept_of m; thread = t }

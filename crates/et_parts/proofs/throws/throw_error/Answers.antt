@@ -2,9 +2,9 @@ use Rattle.std.proofs.Common.{ℕ, List, Option, ◌∙◌, ap, subst}
 use Rattle.et_machine.specs.State.{kept_of}
 use Rattle.et_event.specs.Errors.{class_called}
 use Rattle.et_event.specs.Moments.{begins, instance_made}
-use Rattle.et_ops.specs.Making.{MakesObject}
-use Rattle.et_ops.proofs.Throwing.{thrown_by_name}
-use Rattle.et_ops.proofs.throws.throw_error.Goals as goal
+use Rattle.et_parts.specs.Making.{MakesObject}
+use Rattle.et_parts.proofs.Throwing.{thrown_by_name}
+use Rattle.et_parts.proofs.throws.throw_error.Goals as goal
 
 -- src/throws.rt:19:1
 pub returns-clause-ok : goal.returns-clause-ok

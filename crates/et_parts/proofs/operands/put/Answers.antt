@@ -1,6 +1,6 @@
 use Rattle.et_machine.specs.Words.{top}
-use Rattle.et_ops.proofs.Taking.{replaced_led, are_in}
-use Rattle.et_ops.proofs.operands.put.Goals as goal
+use Rattle.et_parts.proofs.Taking.{replaced_led, are_in}
+use Rattle.et_parts.proofs.operands.put.Goals as goal
 
 pub returns : goal.returns
 returns c =

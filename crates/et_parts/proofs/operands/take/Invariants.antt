@@ -3,7 +3,7 @@ use Rattle.std.proofs.Common.{take as first}
 use Rattle.et_heap.specs.Refs.{refs_of}
 use Rattle.et_frames.specs.Threads.{popped}
 use Rattle.et_machine.specs.Words.{HasFrame, top, steps_top}
-use Rattle.et_ops.proofs.operands.take.Given as goal
+use Rattle.et_parts.proofs.operands.take.Given as goal
 
 abbrev pub invariant-loop : goal.invariant-loop
 invariant-loop l = record {

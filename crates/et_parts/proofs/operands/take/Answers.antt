@@ -2,8 +2,8 @@ use Rattle.std.proofs.Common.{◌≡◌, ◌+◌, ◌<◌, length, drop, ◌∙�
 use Rattle.et_frames.specs.Threads.{FrameState}
 use Rattle.et_machine.specs.Words.{top}
 use Rattle.et_machine.proofs.Steps.{top-steps_top}
-use Rattle.et_ops.proofs.Taking.{has_after, taken_one, length_dropped}
-use Rattle.et_ops.proofs.operands.take.Goals as goal
+use Rattle.et_parts.proofs.Taking.{has_after, taken_one, length_dropped}
+use Rattle.et_parts.proofs.operands.take.Goals as goal
 
 pub loop-preserved : goal.loop-preserved
 loop-preserved c =

@@ -9,7 +9,7 @@ use Rattle.et_frames.specs.Threads.{FrameState, operand_of, local_of}
 use Rattle.et_frames.specs.Roots.{frame_roots}
 use Rattle.et_machine.proofs.Places.{part_contained}
 use Rattle.et_event.specs.Plain.{is_single, is_one, is_pair}
-use Rattle.et_ops.specs.Tops.{are_pair}
+use Rattle.et_parts.specs.Tops.{are_pair}
 
 single_pair : (v : Value) → is_pair (v ∷ []) ≡ are_pair v Unset
 single_pair Unset = refl

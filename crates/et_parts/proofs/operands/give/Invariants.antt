@@ -1,6 +1,6 @@
 use Rattle.std.proofs.Common.{◌≡◌, ◌+◌, ◌-◌, ◌++◌, [], length, drop}
 use Rattle.et_machine.specs.Words.{HasFrame, top, steps_top}
-use Rattle.et_ops.proofs.operands.give.Given as goal
+use Rattle.et_parts.proofs.operands.give.Given as goal
 
 abbrev pub invariant-loop-k : goal.invariant-loop-k
 invariant-loop-k l = record {

@@ -2,8 +2,8 @@ use Rattle.std.proofs.Common.{◌<◌, length, subst, rules, Contains}
 use Rattle.et_base.specs.declared.value.Value.{Value}
 use Rattle.et_heap.specs.Refs.{refs_of_value}
 use Rattle.et_machine.specs.Words.{top}
-use Rattle.et_ops.proofs.Groups.{operand_is_in}
-use Rattle.et_ops.proofs.tops.operand_at.Goals as goal
+use Rattle.et_parts.proofs.Groups.{operand_is_in}
+use Rattle.et_parts.proofs.tops.operand_at.Goals as goal
 
 pub returns-then-k-depth-clause-there : goal.returns-then-k-depth-clause-there
 returns-then-k-depth-clause-there c =

@@ -6,7 +6,7 @@ ghost use Rattle.et_machine.specs.State.{kept_of};
 ghost use Rattle.et_machine.specs.Words.{HasFrame, top, with_top, ticked, steps_top};
 ghost use Rattle.et_machine.specs.Sound.{IsSound};
 ghost use Rattle.et_machine.specs.Moves.{Led};
-ghost use Rattle.et_ops.specs.Tops.{AreIn};
+ghost use Rattle.et_parts.specs.Tops.{AreIn};
 ghost use Rattle.et_event.specs.Answered.{StepsFrame};
 ghost use Rattle.et_event.specs.Plain.{put as put_operands};
 
@@ -14,7 +14,7 @@ use et_base::{ThreadId, Value};
 use et_machine::Machine;
 
 /// Takes so many operands.
-pub(crate) fn take(machine: &mut Machine, thread: ThreadId, count: u32)
+pub fn take(machine: &mut Machine, thread: ThreadId, count: u32)
     requires frame { HasFrame machine.old.guest thread }
     requires operands { count ≤ length (top machine.old.guest thread).operands }
     requires lost { length machine.old.lost + count ≤ lost_room }
@@ -26,7 +26,7 @@ pub(crate) fn take(machine: &mut Machine, thread: ThreadId, count: u32)
 }
 
 /// Puts these operands on top, the first of them topmost.
-fn give(machine: &mut Machine, thread: ThreadId, values: &[Value])
+pub fn give(machine: &mut Machine, thread: ThreadId, values: &[Value])
     requires frame { HasFrame machine.old.guest thread }
     requires room { length values.now + length (top machine.old.guest thread).operands ≤ (top machine.old.guest thread).room }
     ensures { machine.new ≡ steps_top machine.old thread (record (top machine.old.guest thread) { operands = values.now ++ (top machine.old.guest thread).operands }) [] }
@@ -38,7 +38,7 @@ fn give(machine: &mut Machine, thread: ThreadId, values: &[Value])
 
 /// The event in which so many operands are taken, these are put in their place, the first of them topmost, and the pc goes
 /// on. The references among them stood in the frame.
-pub(crate) fn put(machine: &mut Machine, thread: ThreadId, taken: u32, values: &[Value], pc: u32)
+pub fn put(machine: &mut Machine, thread: ThreadId, taken: u32, values: &[Value], pc: u32)
     requires frame { HasFrame machine.old.guest thread }
     requires sound { IsSound (kept_of machine.old) }
     requires clock { machine.old.guest.clock < 2 ^ 40 }
@@ -56,7 +56,7 @@ pub(crate) fn put(machine: &mut Machine, thread: ThreadId, taken: u32, values: &
 
 /// The event in which so many operands are taken, these are put in their place, the first of them topmost, and the pc goes
 /// on; `false`, and nothing is done, where they don't fit.
-pub(crate) fn replace(
+pub fn replace(
     machine: &mut Machine,
     thread: ThreadId,
     taken: u32,

@@ -5,7 +5,7 @@ ghost use Rattle.et_machine.specs.Sound.{IsSound};
 ghost use Rattle.et_program.specs.Entries.{class_at};
 ghost use Rattle.et_event.specs.Moments.{begins, instance_made};
 ghost use Rattle.et_event.specs.Errors.{class_called as called};
-ghost use Rattle.et_ops.specs.Making.{MakesObject};
+ghost use Rattle.et_parts.specs.Making.{MakesObject};
 
 use et_base::{ClassId, NoMemory, ObjectId, ThreadId};
 use et_heap::MakeFault;
@@ -14,7 +14,7 @@ use et_program::Program;
 use et_state::{Lines, Record};
 
 /// The built-in class of this name.
-pub(crate) fn class_called(program: &Program, name: &[u8]) -> ClassId
+pub fn class_called(program: &Program, name: &[u8]) -> ClassId
     ensures { result ≡ called program.now name.now }
 {
     program.resolve_class(name).unwrap_or(ClassId::new(0))
@@ -34,7 +34,7 @@ fn slots_of(program: &Program, class: ClassId) -> u32
 /// Makes an instance of a class in the event that comes next, and tells of it; `None`, and nothing is done, exactly where
 /// it doesn't fit. After `NoMemory` the machine may have one object more, to which nothing refers.
 #[tactic(auto, using(crate::proofs::Making::fits_made))]
-pub(crate) fn make_instance(
+pub fn make_instance(
     machine: &mut Machine,
     program: &Program,
     thread: ThreadId,

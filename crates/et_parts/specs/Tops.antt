@@ -1,0 +1,35 @@
+-- What stands on top of operands, by its kind.
+use Rattle.std.specs.Prelude.{ℕ, ◌-◌, ℤ, Bool, true, ◌&&◌, List, [], ◌∷◌, Option, Some, None, Contains}
+use Rattle.et_base.specs.declared.value.Value.{Value}
+use Rattle.et_base.specs.declared.value.Value.TheVariants.{Int, Long, LongHigh, Null, Ref}
+use Rattle.et_heap.specs.Refs.{refs_of_value}
+use Rattle.et_frames.specs.Threads.{FrameState}
+use Rattle.et_frames.specs.Roots.{frame_roots}
+use Rattle.et_event.specs.Checks.{Reference}
+use Rattle.et_event.specs.Plain.{is_single}
+
+abbrev pub int_of : Value → Option ℤ
+int_of (Int n) = Some n
+int_of other = None
+
+abbrev pub long_of : Value → Value → Option ℤ
+long_of LongHigh (Long n) = Some n
+long_of high low = None
+
+abbrev pub reference_of : Value → Option Reference
+reference_of Null = Some None
+reference_of (Ref o) = Some (Some o)
+reference_of other = None
+
+-- two entries are a long, or two values
+abbrev pub are_pair : Value → Value → Bool
+are_pair LongHigh (Long n) = true
+are_pair v w = is_single v && is_single w
+
+-- what the value refers to stands in the frame
+abbrev pub IsIn : FrameState → Value → Type 0
+IsIn f v = (o : ℕ) → Contains (refs_of_value v) o → Contains (frame_roots f) o
+
+abbrev pub AreIn : FrameState → List Value → Type 0
+AreIn f [] = Unit {0}
+AreIn f (v ∷ vs) = IsIn f v × AreIn f vs
