@@ -1,25 +1,25 @@
 -- A set of classes has no fault, or its one fault; and what is above each class is there where no class is its own
 -- ancestor.
-use Rattle.std.proofs.Common.{◌≡◌, ℕ, zero, suc, ◌+◌, ◌<◌, ◌≤◌, ◌⊎◌, inl, inr, Bool, true, false, List, [], ◌∷◌, ◌++◌, length, set, replicate, refl, sym, ◌∙◌, ap, subst, arith, true≢false}
+use Rattle.std.proofs.Common.{◌≡◌, ℕ, zero, suc, ◌+◌, ◌<◌, ◌≤◌, ◌⊎◌, inl, inr, Bool, true, false, List, [], ◌∷◌, ◌++◌, length, set, replicate, refl, sym, ◌∙◌, ap, subst, arith, get_or-set_same, true≢false}
 use mathlib.Core.Logic.{⊎_elim}
 use Rattle.std.specs.Prelude.{All}
-use Rattle.std.specs.List.{slice_index_or}
+use Rattle.std.specs.List.{slice_index_or, list_all}
 use Rattle.std.specs.Str.{bytes_eq}
 use Rattle.std.proofs.lemmas.Bool.{cases_Bool, cases_order}
 use Rattle.std.proofs.lemmas.Slice.Eq.{bytes_eq-Decides}
 use Rattle.std.proofs.lemmas.List.{length-map, length-set, length-replicate, length-append}
-use Rattle.std.proofs.lemmas.List.Elements.{All-head, All-tail}
+use Rattle.std.proofs.lemmas.List.Elements.{All-head, All-tail, All-contains}
 use Rattle.et_set.specs.Outline.{Outline, outline_at}
 use Rattle.et_set.specs.Links.{LinkEntry, no_links, parents, links, links_of, IsAncestor, IsAcyclic, AreWithin}
-use Rattle.et_set.specs.Search.{Visits, unmarked}
-use Rattle.et_set.specs.Ready.{is_done, are_done}
+use Rattle.et_set.specs.Search.{Visits, IsMarked, unmarked}
+use Rattle.et_set.specs.Sorting.{is_done}
 use Rattle.et_set.specs.Ancestry.{Ancestry, no_ancestry, ancestry_of, IsAncestry}
 use Rattle.et_set.specs.Faults.{IsRepeated, has_supers, has_final_super, Shows, IsFree, IsFirst, IsLinkFault, IsFaultless}
 use Rattle.et_set.specs.declared.fault.FaultKind.{FaultKind}
 use Rattle.et_set.specs.declared.fault.FaultKind.TheVariants.{Duplicate, NoSuper, Cycle, FinalSuper}
 use Rattle.et_set.proofs.LinkLemmas.{are_within}
-use Rattle.et_set.proofs.Marks.{Searching, visits_none, visits_marked, visits_fresh, visits_join, searching_start, searching_taken, searching_end, taken_within, unmarked-set}
-use Rattle.et_set.proofs.Rounds.{IsMaking, making_start, making_step, making_end}
+use Rattle.et_set.proofs.Marks.{Searching, visits_none, visits_marked, visits_fresh, visits_join, searching_start, searching_taken, searching_end, taken_within, unmarked-set, marked_before, marked_after, no_marks}
+use Rattle.et_set.proofs.Rounds.{IsMaking, making_start, making_step, making_end, not_all, all_of, all_done}
 use Rattle.et_set.proofs.FaultLemmas.{fault_duplicate, fault_no_super, fault_cycle, fault_final, faultless}
 
 -- THE FIRST NUMBER
@@ -80,33 +80,40 @@ module _ (table : List LinkEntry) (within : AreWithin (length table) table) wher
 
   -- WHAT IS ABOVE EACH CLASS
 
+  abbrev are_done : List Bool → ℕ → Bool
+  are_done done k = list_all (is_done done) (parents table k)
+
   abbrev IsNext : List Bool → ℕ → Type 0
-  IsNext done k = (is_done done k ≡ false) × (are_done done (slice_index_or table k no_links) ≡ true)
+  IsNext done k = (is_done done k ≡ false) × (are_done done k ≡ true)
 
   is_next : (done : List Bool) (k : ℕ) → IsNext done k ⊎ (IsNext done k → ⊥)
   is_next done k =
       ⊎_elim
       (λ y. inr (λ h. true≢false (sym y ∙ h.0)))
-      (λ n. ⊎_elim (λ a. inl (n, a)) (λ b. inr (λ h. true≢false (sym h.1 ∙ b))) (cases_Bool (are_done done (slice_index_or table k no_links))))
+      (λ n. ⊎_elim (λ a. inl (n, a)) (λ b. inr (λ h. true≢false (sym h.1 ∙ b))) (cases_Bool (are_done done k)))
       (cases_Bool (is_done done k))
 
   module _ (acyclic : IsAcyclic table) where
-    make : (fuel : ℕ) (rows : List Ancestry) (done : List Bool) → IsMaking table rows done → unmarked done ≤ fuel → (rs : List Ancestry) × IsAncestry table rs
-    make zero rows done making few =
-        (rows, making_end table rows done making within (λ k lt n. let w = unmarked-set done k (subst (λ m. k < m) (sym making.done_length) lt) n in absurd (omega arith)) acyclic)
-    make (suc fuel) rows done making few =
+    make : (fuel : ℕ) (rows : List Ancestry) (done : List Bool) → length done ≡ length table → IsMaking table rows (IsMarked done) → unmarked done ≤ fuel → (rs : List Ancestry) × IsAncestry table rs
+    make zero rows done len making few =
+        (rows, making_end table rows (IsMarked done) making (λ k lt. ⊎_elim (λ y. y) (λ n. let w = unmarked-set done k (subst (λ m. k < m) (sym len) lt) n in absurd (omega arith)) (cases_Bool (is_done done k))))
+    make (suc fuel) rows done len making few =
         ⊎_elim
-        (λ none. (rows, making_end table rows done making within (λ k lt n. ⊎_elim (λ a. absurd (none k lt (n, a))) (λ b. b) (cases_Bool (are_done done (slice_index_or table k no_links)))) acyclic))
+        (λ none. (rows, making_end table rows (IsMarked done) making (all_done table done within (λ k lt. ⊎_elim (λ y. inl y) (λ n. ⊎_elim (λ a. absurd (none k lt (n, a))) (λ b. inr (not_all done (parents table k) b)) (cases_Bool (are_done done k))) (cases_Bool (is_done done k))) acyclic)))
         (λ (k, lt, h, first).
         let row : Ancestry = ancestry_of (slice_index_or table k no_links) rows k in
-        let w = unmarked-set done k (subst (λ m. k < m) (sym making.done_length) lt) h.0 in
-        make fuel (set rows k row) (set done k true) (making_step table rows done k row within making (record { inside = lt; open_yet = h.0; above = h.1 }) refl) (omega arith))
+        let inside : k < length done = subst (λ m. k < m) (sym len) lt in
+        let w = unmarked-set done k inside h.0 in
+        make fuel (set rows k row) (set done k true) (length-set done k true ∙ len)
+        (making_step table rows (IsMarked done) (IsMarked (set done k true)) k row within lt making (λ c m. marked_before done k c inside m) (λ c m. marked_after done k c inside m) (get_or-set_same done k true false inside)
+        (λ p here. All-contains (λ q. IsMarked done q) (parents table k) p (all_of done (parents table k) h.1) here) refl)
+        (omega arith))
         (first_of (IsNext done) (length table) (λ k lt. is_next done k))
 
     pub rows_exist : (rs : List Ancestry) × IsAncestry table rs
     rows_exist =
         let n = length table in
-        make (unmarked (replicate n false)) (replicate n no_ancestry) (replicate n false) (making_start table (replicate n no_ancestry) (replicate n false) (length-replicate n no_ancestry) refl) (omega arith)
+        make (unmarked (replicate n false)) (replicate n no_ancestry) (replicate n false) (length-replicate n false) (making_start table (replicate n no_ancestry) (IsMarked (replicate n false)) (length-replicate n no_ancestry) (λ k m. no_marks n k m)) (omega arith)
 
 -- THE FAULT OF A SET
 

@@ -2,11 +2,13 @@ pub mod Names
 pub mod Maps
 pub mod EntryLemmas
 pub mod Marks
+pub mod Sortings
 pub mod LinkLemmas
 pub mod FaultLemmas
 pub mod AddLemmas
 pub mod BelowLemmas
 pub mod Rounds
+pub mod OrderedRows
 pub mod Unique
 pub mod Decided
 pub mod InitLemmas

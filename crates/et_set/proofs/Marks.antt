@@ -13,7 +13,7 @@ use Rattle.et_set.specs.Search.{Visits, IsMarked, unmarked}
 ⊎-elim f g (inl a) = f a
 ⊎-elim f g (inr b) = g b
 
-contains_none : (u : ℕ) → Contains [] u → ⊥
+pub contains_none : (u : ℕ) → Contains [] u → ⊥
 contains_none u h = omega (arith, h.1)
 
 contains_one : (o u : ℕ) → Contains (o ∷ []) u → o ≡ u

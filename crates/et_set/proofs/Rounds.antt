@@ -1,20 +1,19 @@
 -- Rows that are made one after another.
-use Rattle.std.proofs.Common.{◌≡◌, ℕ, zero, suc, ◌<◌, ◌≤◌, ◌≢◌, Bool, true, false, ◌&&◌, List, [], ◌∷◌, ◌++◌, length, get_or, set, replicate, Option, None, Some, IfSome, refl, sym, ◌∙◌, ap, subst, arith, get_or-set_same, get_or-set_other, true≢false}
+use Rattle.std.proofs.Common.{◌≡◌, ℕ, zero, suc, ◌<◌, ◌≤◌, ◌⊎◌, Bool, true, false, ◌&&◌, List, [], ◌∷◌, ◌++◌, length, get_or, set, replicate, Option, None, Some, IfSome, refl, sym, ◌∙◌, ap, subst, arith, get_or-set_same, get_or-set_other, true≢false}
 use mathlib.Core.Logic.{⊎_elim}
 use Rattle.std.specs.Prelude.{All, Contains}
 use Rattle.std.specs.List.{list_all, flat_map, slice_index_or}
 use Rattle.std.specs.Option.{option_to_list}
-use Rattle.std.proofs.lemmas.Bool.{cases_Bool, and_parts}
+use Rattle.std.proofs.lemmas.Bool.{cases_Bool, cases_eq, and_parts}
 use Rattle.std.proofs.lemmas.List.{length-set, length-replicate}
-use Rattle.et_set.specs.Links.{LinkEntry, no_links, parents_of, parents, IsAncestor, AreWithin}
+use Rattle.et_set.specs.Links.{LinkEntry, no_links, parents_of, parents, IsAncestor, IsAcyclic, AreWithin}
 use Rattle.et_set.specs.Search.{IsMarked, unmarked}
-use Rattle.et_set.proofs.Marks.{unmarked-set, marked_before, marked_after, no_marks}
+use Rattle.et_set.proofs.Marks.{unmarked-set, marked_before, no_marks}
 use Rattle.et_set.specs.Ancestry.{Ancestry, no_ancestry, ancestry_at, once, ancestry_of, IsAncestry, IsBelow}
-use Rattle.std.proofs.lemmas.List.Elements.{All-contains}
-use Rattle.std.proofs.lemmas.List.{get_or_default}
+use Rattle.std.proofs.lemmas.List.Elements.{All-contains, Contains-get_or}
 use Rattle.et_set.proofs.AddLemmas.{record_is}
 use Rattle.et_set.proofs.BelowLemmas.{below_of}
-use Rattle.et_set.specs.Ready.{is_done, IsReady, IsStuck}
+use Rattle.et_set.specs.Sorting.{is_done}
 
 Contains-here : (x : ℕ) (xs : List ℕ) → Contains (x ∷ xs) x
 Contains-here x xs = (0, omega arith, refl)
@@ -52,7 +51,7 @@ interfaces_below : (n : ℕ) (o : Option ℕ) (ys : List ℕ) → All (λ k. k <
 interfaces_below n None ys h = h
 interfaces_below n (Some s) ys h = λ k d lt. h (suc k) d (omega arith)
 
-links_at : (table : List LinkEntry) (k n : ℕ) (x : LinkEntry) → AreWithin (length table) table → k < length table → x ≡ get_or table k x → n ≡ length table → All (λ j. j < n) (parents_of x)
+pub links_at : (table : List LinkEntry) (k n : ℕ) (x : LinkEntry) → AreWithin (length table) table → k < length table → x ≡ get_or table k x → n ≡ length table → All (λ j. j < n) (parents_of x)
 links_at table k n x within lt e f =
     subst (λ m. All (λ j. j < m) (parents_of x)) (sym f) (subst (λ (l : LinkEntry). All (λ j. j < length table) (parents_of l)) (sym e) (within k x lt))
 
@@ -83,99 +82,82 @@ pub ancestry_same : (l : LinkEntry) (rows rows' : List Ancestry) (k : ℕ) → A
 ancestry_same l rows rows' k h = same_by l.above l.interfaces rows rows' k h
 
 -- the rows of the classes that are done are right
-pub record IsMaking (table : List LinkEntry) (rows : List Ancestry) (done : List Bool) : Type 0 where
+pub record IsMaking (table : List LinkEntry) (rows : List Ancestry) (IsDone : ℕ → Type 0) : Type 0 where
   pub rows_length : length rows ≡ length table
-  pub done_length : length done ≡ length table
-  pub each : (k : ℕ) → IsMarked done k → ancestry_at rows k ≡ ancestry_of (slice_index_or table k no_links) rows k
-  pub above : (k : ℕ) → IsMarked done k → All (λ p. IsMarked done p) (parents table k)
-  pub below : (k : ℕ) → IsMarked done k → IsBelow (length table) (ancestry_at rows k)
+  pub each : (k : ℕ) → IsDone k → ancestry_at rows k ≡ ancestry_of (slice_index_or table k no_links) rows k
+  pub above : (k p : ℕ) → IsDone k → Contains (parents table k) p → IsDone p
+  pub below : (k : ℕ) → IsDone k → IsBelow (length table) (ancestry_at rows k)
 
-pub making_start : (table : List LinkEntry) (rows : List Ancestry) (done : List Bool) → length rows ≡ length table → done ≡ replicate (length table) false → IsMaking table rows done
-making_start table rows done e f = record {
+pub making_start : (table : List LinkEntry) (rows : List Ancestry) (IsDone : ℕ → Type 0) → length rows ≡ length table → ((k : ℕ) → IsDone k → ⊥) → IsMaking table rows IsDone
+making_start table rows IsDone e none = record {
   rows_length = e;
-  done_length = ap length f ∙ length-replicate (length table) false;
-  each = λ k m. absurd (no_marks (length table) k (subst (λ ms. IsMarked ms k) f m));
-  above = λ k m. absurd (no_marks (length table) k (subst (λ ms. IsMarked ms k) f m));
-  below = λ k m. absurd (no_marks (length table) k (subst (λ ms. IsMarked ms k) f m));
+  each = λ k y. absurd (none k y);
+  above = λ k p y h. absurd (none k y);
+  below = λ k y. absurd (none k y);
 }
 
--- a row that is written changes none of those that are done
-agree : (rows : List Ancestry) (done : List Bool) (k : ℕ) (row : Ancestry) (ps : List ℕ) → is_done done k ≡ false → All (λ p. IsMarked done p) ps → All (λ p. ancestry_at (set rows k row) p ≡ ancestry_at rows p) ps
-agree rows done k row ps undone h j d lt =
-    let p : ℕ = slice_index_or ps j d in
-    let ne : p ≢ k = λ e. true≢false (sym (h j d lt) ∙ (ap (λ q. is_done done q) e ∙ undone)) in
-    get_or-set_other rows k p row no_ancestry ne
+-- the row of class k is written, when those right above it are done; it may have been done before, and then it stays
+-- the same
+module _ (table : List LinkEntry) (rows : List Ancestry) (IsDone IsDone' : ℕ → Type 0) (k : ℕ) (row : Ancestry) where
+  pub making_step : AreWithin (length table) table → k < length table → IsMaking table rows IsDone → ((c : ℕ) → IsDone' c → (c ≡ k) ⊎ IsDone c) → ((c : ℕ) → IsDone c → IsDone' c) → IsDone' k → ((p : ℕ) → Contains (parents table k) p → IsDone p)
+      → row ≡ ancestry_of (slice_index_or table k no_links) rows k → IsMaking table (set rows k row) IsDone'
+  making_step within lt making grow keep now parents_done is =
+      let lt_rows : k < length rows = subst (λ n. k < n) (sym making.rows_length) lt in
+      let links = λ (j : ℕ). slice_index_or table j no_links in
+      let kept : (p : ℕ) → IsDone p → ancestry_at (set rows k row) p ≡ ancestry_at rows p = λ p y.
+      ⊎_elim
+      (λ e. subst (λ q. ancestry_at (set rows k row) q ≡ ancestry_at rows q) (sym e) (get_or-set_same rows k row no_ancestry lt_rows ∙ (is ∙ sym (making.each k (subst IsDone e y)))))
+      (λ ne. get_or-set_other rows k p row no_ancestry ne)
+      (cases_eq p k) in
+      let same : (j : ℕ) → ((p : ℕ) → Contains (parents table j) p → IsDone p) → ancestry_of (links j) (set rows k row) j ≡ ancestry_of (links j) rows j = λ j above. ancestry_same (links j) rows (set rows k row) j (λ i d l. kept (slice_index_or (parents table j) i d) (above (slice_index_or (parents table j) i d) (Contains-get_or (parents table j) i d l))) in
+      let here : ancestry_at (set rows k row) k ≡ ancestry_of (links k) (set rows k row) k = get_or-set_same rows k row no_ancestry lt_rows ∙ (is ∙ sym (same k parents_done)) in
+      let inside : IsBelow (length table) row = subst (IsBelow (length table)) (sym is) (below_of (length table) (links k) rows k lt (within k no_links lt) (λ i d l. making.below (slice_index_or (parents table k) i d) (parents_done (slice_index_or (parents table k) i d) (Contains-get_or (parents table k) i d l)))) in
+      record {
+        rows_length = length-set rows k row ∙ making.rows_length;
+        each = λ j y.
+            ⊎_elim
+            (λ e. subst (λ i. ancestry_at (set rows k row) i ≡ ancestry_of (links i) (set rows k row) i) (sym e) here)
+            (λ b. kept j b ∙ (making.each j b ∙ sym (same j (λ p h. making.above j p b h))))
+            (grow j y);
+        above = λ j p y h. ⊎_elim (λ e. keep p (parents_done p (subst (λ i. Contains (parents table i) p) e h))) (λ b. keep p (making.above j p b h)) (grow j y);
+        below = λ j y.
+            ⊎_elim
+            (λ e. subst (λ i. IsBelow (length table) (ancestry_at (set rows k row) i)) (sym e) (subst (IsBelow (length table)) (sym (get_or-set_same rows k row no_ancestry lt_rows)) inside))
+            (λ b. subst (IsBelow (length table)) (sym (kept j b)) (making.below j b))
+            (grow j y);
+      }
 
-pub making_step : (table : List LinkEntry) (rows : List Ancestry) (done : List Bool) (k : ℕ) (row : Ancestry) → AreWithin (length table) table → IsMaking table rows done → IsReady done table k → row ≡ ancestry_of (slice_index_or table k no_links) rows k → IsMaking table (set rows k row) (set done k true)
-making_step table rows done k row within making ready is =
-    let lt_rows : k < length rows = subst (λ n. k < n) (sym making.rows_length) ready.inside in
-    let lt_done : k < length done = subst (λ n. k < n) (sym making.done_length) ready.inside in
-    let parents_here = all_of done (parents table k) ready.above in
-    let here : ancestry_at (set rows k row) k ≡ ancestry_of (slice_index_or table k no_links) (set rows k row) k =
-    get_or-set_same rows k row no_ancestry lt_rows ∙ (is ∙ sym (ancestry_same (slice_index_or table k no_links) rows (set rows k row) k (agree rows done k row (parents table k) ready.open_yet parents_here))) in
-    record {
-      rows_length = length-set rows k row ∙ making.rows_length;
-      done_length = length-set done k true ∙ making.done_length;
-      each = λ j m.
-          ⊎_elim
-          (λ e. subst (λ i. ancestry_at (set rows k row) i ≡ ancestry_of (slice_index_or table i no_links) (set rows k row) i) (sym e) here)
-          (λ b.
-          let ne : j ≢ k = λ e. true≢false (sym b ∙ (ap (λ q. is_done done q) e ∙ ready.open_yet)) in
-          get_or-set_other rows k j row no_ancestry ne ∙ (making.each j b ∙ sym (ancestry_same (slice_index_or table j no_links) rows (set rows k row) j (agree rows done k row (parents table j) ready.open_yet (making.above j b)))))
-          (marked_before done k j lt_done m);
-      above = λ j m.
-          ⊎_elim
-          (λ e. subst (λ i. All (λ p. IsMarked (set done k true) p) (parents table i)) (sym e) (λ i d lt. marked_after done k _ lt_done (parents_here i d lt)))
-          (λ b. λ i d lt. marked_after done k _ lt_done (making.above j b i d lt))
-          (marked_before done k j lt_done m);
-      below = λ j m.
-          ⊎_elim
-          (λ e. subst (λ i. IsBelow (length table) (ancestry_at (set rows k row) i)) (sym e) (subst (IsBelow (length table)) (sym (get_or-set_same rows k row no_ancestry lt_rows ∙ is)) (below_of (length table) (slice_index_or table k no_links) rows k ready.inside (within k no_links ready.inside) (λ i d lt. making.below _ (parents_here i d lt)))))
-          (λ b.
-          let ne : j ≢ k = λ e. true≢false (sym b ∙ (ap (λ q. is_done done q) e ∙ ready.open_yet)) in
-          subst (IsBelow (length table)) (sym (get_or-set_other rows k j row no_ancestry ne)) (making.below j b))
-          (marked_before done k j lt_done m);
-    }
+pub making_end : (table : List LinkEntry) (rows : List Ancestry) (IsDone : ℕ → Type 0) → IsMaking table rows IsDone → ((k : ℕ) → k < length table → IsDone k) → IsAncestry table rows
+making_end table rows IsDone making all = record {
+  each = making.rows_length;
+  row = λ k lt. making.each k (all k lt);
+}
+
+-- each class is done, or one right above it isn't
+abbrev pub IsFull : List LinkEntry → List Bool → Type 0
+IsFull table done = (c : ℕ) → c < length table → IsMarked done c ⊎ ((p : ℕ) × Contains (parents table c) p × (is_done done p ≡ false))
 
 -- from a class that isn't done one climbs without end
-climb : (table : List LinkEntry) (done : List Bool) → AreWithin (length table) table → IsStuck done table → ((k : ℕ) → k < length table → IsAncestor table k k → ⊥) → (fuel : ℕ) (seen : List Bool) (u : ℕ) → u < length table → length seen ≡ length table → is_done done u ≡ false
-    → ((v : ℕ) → IsMarked seen v → IsAncestor table v u) → unmarked seen ≤ fuel → ⊥
-climb table done within stuck acyclic zero seen u lt len undone below few =
-    ⊎_elim (λ y. acyclic u lt (below u y)) (λ n. let w = unmarked-set seen u (subst (λ m. u < m) (sym len) lt) n in omega arith) (cases_Bool (is_done seen u))
-climb table done within stuck acyclic (suc fuel) seen u lt len undone below few =
-    let lt' : u < length seen = subst (λ m. u < m) (sym len) lt in
-    let p = not_all done (parents table u) (stuck u lt undone) in
-    ⊎_elim
-    (λ y. acyclic u lt (below u y))
-    (λ n.
-    let w = unmarked-set seen u lt' n in
-    climb table done within stuck acyclic fuel (set seen u true) p.0 (All-contains (λ k. k < length table) (parents table u) p.0 (within u no_links lt) p.1) (length-set seen u true ∙ len) p.2
-    (λ v m. ⊎_elim (λ e. subst (λ q. IsAncestor table q p.0) (sym e) (0, p.1)) (λ b. let a = below v b in (suc a.0, (u, a.1, p.1))) (marked_before seen u v lt' m)) (omega arith))
-    (cases_Bool (is_done seen u))
+module _ (table : List LinkEntry) (done : List Bool) (within : AreWithin (length table) table) (full : IsFull table done) (acyclic : IsAcyclic table) where
+  -- each class from which one has come up to class u is marked as seen
+  climb : (fuel : ℕ) (seen : List Bool) (u : ℕ) → u < length table → length seen ≡ length table → is_done done u ≡ false → ((v : ℕ) → IsMarked seen v → IsAncestor table v u) → unmarked seen ≤ fuel → ⊥
+  climb zero seen u lt len undone below few =
+      ⊎_elim (λ y. acyclic u lt (below u y)) (λ n. let w = unmarked-set seen u (subst (λ m. u < m) (sym len) lt) n in omega arith) (cases_Bool (is_done seen u))
+  climb (suc fuel) seen u lt len undone below few =
+      let lt' : u < length seen = subst (λ m. u < m) (sym len) lt in
+      ⊎_elim
+      (λ y. acyclic u lt (below u y))
+      (λ n.
+      let w = unmarked-set seen u lt' n in
+      ⊎_elim
+      (λ y. true≢false (sym y ∙ undone))
+      (λ p. climb fuel (set seen u true) p.0 (All-contains (λ k. k < length table) (parents table u) p.0 (within u no_links lt) p.1) (length-set seen u true ∙ len) p.2
+      (λ v m. ⊎_elim (λ e. subst (λ q. IsAncestor table q p.0) (sym e) (0, p.1)) (λ b. let a = below v b in (suc a.0, (u, a.1, p.1))) (marked_before seen u v lt' m)) (omega arith))
+      (full u lt))
+      (cases_Bool (is_done seen u))
 
-pub making_end : (table : List LinkEntry) (rows : List Ancestry) (done : List Bool) → IsMaking table rows done → AreWithin (length table) table → IsStuck done table → ((k : ℕ) → k < length table → IsAncestor table k k → ⊥) → IsAncestry table rows
-making_end table rows done making within stuck acyclic = record {
-  each = making.rows_length;
-  row = λ k lt.
-      ⊎_elim (λ y. making.each k y)
-      (λ n. absurd (climb table done within stuck acyclic (unmarked (replicate (length table) false)) (replicate (length table) false) k lt (length-replicate (length table) false) n (λ v m. absurd (no_marks (length table) v m)) (omega arith)))
-      (cases_Bool (is_done done k));
-}
-
-pub below_end : (table : List LinkEntry) (rows : List Ancestry) (done : List Bool) → IsMaking table rows done → AreWithin (length table) table → IsStuck done table → ((k : ℕ) → k < length table → IsAncestor table k k → ⊥) → (k : ℕ) → k < length table → IsBelow (length table) (ancestry_at rows k)
-below_end table rows done making within stuck acyclic k lt =
-    ⊎_elim (λ y. making.below k y)
-    (λ n. absurd (climb table done within stuck acyclic (unmarked (replicate (length table) false)) (replicate (length table) false) k lt (length-replicate (length table) false) n (λ v m. absurd (no_marks (length table) v m)) (omega arith)))
-    (cases_Bool (is_done done k))
-
-pub making_turn : (table : List LinkEntry) (rows rows' : List Ancestry) (done done' : List Bool) (k : ℕ) (l : LinkEntry) (row : Ancestry) → AreWithin (length table) table → IsMaking table rows done → done' ≡ done → rows' ≡ rows → l ≡ get_or table k l → IsReady done' table k → row ≡ ancestry_of l rows' k → IsMaking table (set rows k row) (set done k true)
-making_turn table rows rows' done done' k l row within making ed er el ready is =
-    let r : IsReady done table k = subst (λ (d : List Bool). IsReady d table k) ed ready in
-    let e : l ≡ slice_index_or table k no_links = el ∙ get_or_default table k l no_links r.inside in
-    making_step table rows done k row within making r (is ∙ (ap (λ (x : LinkEntry). ancestry_of x rows' k) e ∙ ap (λ (rs : List Ancestry). ancestry_of (slice_index_or table k no_links) rs k) er))
-
-pub fewer_open : (table : List LinkEntry) (done done' : List Bool) (k : ℕ) → length done ≡ length table → done' ≡ done → IsReady done' table k → unmarked (set done k true) < unmarked done
-fewer_open table done done' k len ed ready =
-    let r : IsReady done table k = subst (λ (d : List Bool). IsReady d table k) ed ready in
-    let w = unmarked-set done k (subst (λ n. k < n) (sym len) r.inside) r.open_yet in
-    omega arith
+  pub all_done : (k : ℕ) → k < length table → IsMarked done k
+  all_done k lt =
+      ⊎_elim (λ y. y)
+      (λ n. absurd (climb (unmarked (replicate (length table) false)) (replicate (length table) false) k lt (length-replicate (length table) false) n (λ v m. absurd (no_marks (length table) v m)) (omega arith)))
+      (cases_Bool (is_done done k))

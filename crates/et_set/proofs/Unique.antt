@@ -9,7 +9,7 @@ use Rattle.std.proofs.lemmas.List.{length-set, length-replicate}
 use Rattle.std.proofs.lemmas.List.Elements.{Contains-get_or}
 use Rattle.et_set.specs.Links.{LinkEntry, no_links, parents, IsAncestor, IsAcyclic, AreWithin}
 use Rattle.et_set.specs.Search.{IsMarked, unmarked}
-use Rattle.et_set.specs.Ready.{is_done}
+use Rattle.et_set.specs.Sorting.{is_done}
 use Rattle.et_set.specs.Ancestry.{Ancestry, no_ancestry, ancestry_at, IsAncestry}
 use Rattle.et_set.proofs.Marks.{unmarked-set, marked_before, no_marks}
 use Rattle.et_set.proofs.Rounds.{ancestry_same}

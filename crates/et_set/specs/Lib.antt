@@ -5,5 +5,5 @@ pub mod Faults
 pub mod Index
 pub mod Answers
 pub mod Ancestry
-pub mod Ready
+pub mod Sorting
 pub mod Initialization

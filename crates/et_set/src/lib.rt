@@ -11,6 +11,7 @@ mod order;
 mod outlines;
 mod rows;
 mod search;
+mod sorting;
 mod tables;
 
 pub use check::check_set;

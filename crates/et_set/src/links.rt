@@ -1,6 +1,7 @@
 //! The superclasses and interfaces of the classes, by place.
 
 ghost use Rattle.std.specs.Prelude.{◌≡◌, ℕ, ◌<◌, ◌^◌, List, length, IfOk, IfSome, MatchOption, Option, All};
+ghost use Rattle.std.specs.List.{slice_index_or};
 ghost use Rattle.et_set.specs.Outline.{place_of, outline_at};
 ghost use Rattle.et_set.specs.Faults.{IsFree, IsFirst, names_class, names_interface, has_supers, has_final_super};
 ghost use Rattle.et_set.specs.declared.fault.FaultKind.TheVariants.{NoSuper, FinalSuper};
@@ -28,6 +29,8 @@ impl Model for Links {
 }
 
 impl Links {
+    ghost use Rattle.et_set.specs.Links.{parents_of};
+
     /// The direct superclass.
     pub fn above(&self) -> Option<u32>
         ensures { result ≡ self.now.above }
@@ -40,6 +43,34 @@ impl Links {
         ensures { result.now ≡ self.now.interfaces }
     {
         self.interfaces.as_slice()
+    }
+
+    /// How many classes are right above.
+    pub(crate) fn parent_count(&self) -> usize
+        ensures { result ≡ length (parents_of self.now) }
+    {
+        let interfaces = self.interfaces();
+        match self.above() {
+            Some(_) => interfaces.len() + 1,
+            None => interfaces.len(),
+        }
+    }
+
+    /// A class right above: the superclass is the first, and then the interfaces stand in order.
+    pub(crate) fn parent(&self, i: usize) -> u32
+        requires { i < length (parents_of self.now) }
+        ensures { result ≡ slice_index_or (parents_of self.now) i 0 }
+    {
+        let interfaces = self.interfaces();
+        match self.above() {
+            Some(class) => {
+                if i == 0 {
+                    return class;
+                }
+                interfaces[i - 1]
+            }
+            None => interfaces[i],
+        }
     }
 }
 

@@ -6,6 +6,7 @@ ghost use Rattle.et_set.specs.Search.{Visits, IsMarked};
 ghost use Rattle.et_set.specs.Links.{parents_of, IsAncestor, AreWithin, AnswersCycle};
 
 use crate::links::Links;
+use crate::sorting::sort;
 use std::alloc::{AllocError, Global};
 
 /// Marks a class and puts it on the list of work, unless it is marked.
@@ -78,13 +79,18 @@ pub(crate) fn ancestors(alloc: Global, table: &[Links], class: u32) -> Result<Ve
     Ok(marks)
 }
 
-/// The first class that is its own ancestor.
+/// The first class that is its own ancestor. Only classes that can't be put in order are searched from, so that where
+/// there is no such class the time is linear in the number of classes and links.
 pub(crate) fn first_on_cycle(alloc: Global, table: &[Links]) -> Result<Option<u32>, AllocError>
     requires few { length table.now < 2 ^ 32 }
     requires within { AreWithin (length table.now) table.now }
     ensures { IfOk result (AnswersCycle table.now) }
 {
+    let sorting = sort(alloc, table)?;
     for k in 0..table.len() {
+        if sorting.is_done(k) {
+            continue;
+        }
         let marks = ancestors(alloc, table, k as u32)?;
         if marks[k] {
             return Ok(Some(k as u32));

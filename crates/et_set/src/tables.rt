@@ -1,12 +1,13 @@
 //! The superclasses and superinterfaces of each class.
 
-ghost use Rattle.std.specs.Prelude.{◌≡◌, ℕ, ◌<◌, ◌^◌, List, [], ◌∷◌, ◌++◌, length, All, OnOk, IfOk, IfSome, Option, Bool, MatchOption, true, false};
-ghost use Rattle.std.specs.List.{slice_index_or, list_all, flat_map};
+ghost use Rattle.std.specs.Prelude.{◌≡◌, ℕ, ◌<◌, ◌^◌, List, [], ◌∷◌, ◌++◌, length, All, OnOk, IfOk, IfSome, Option};
+ghost use Rattle.std.specs.List.{slice_index_or, flat_map};
 ghost use Rattle.et_set.specs.Links.{LinkEntry, parents_of, parents, no_links, IsAcyclic, AreWithin};
 ghost use Rattle.et_set.specs.Ancestry.{ancestry_at, added, added_all, once, supers_over, superinterfaces_over, field_order_over, ancestry_of, IsAncestry, IsBelow};
 
 use crate::links::Links;
 use crate::rows::Row;
+use crate::sorting::sort;
 use indexmap::IndexSet;
 use std::alloc::{AllocError, Global};
 
@@ -138,48 +139,6 @@ fn row_of(alloc: Global, links: &Links, rows: &[Row], class: u32) -> Result<Row,
     Ok(Row::new(supers, superinterfaces, field_order))
 }
 
-ghost use Rattle.et_set.specs.Search.{IsMarked, unmarked};
-ghost use Rattle.et_set.specs.Ready.{is_done, are_done, IsReady, IsStuck};
-
-/// Whether each of these classes is done.
-fn all_done(done: &[bool], classes: &[u32]) -> bool
-    requires { All (λ k. k < length done.now) classes.now }
-    ensures { result ≡ list_all (is_done done.now) classes.now }
-{
-    for class in classes {
-        if !done[*class as usize] {
-            return false;
-        }
-    }
-    true
-}
-
-/// Whether each class right above is done.
-fn parents_done(done: &[bool], links: &Links) -> bool
-    requires above { IfSome links.now.above (λ s. s < length done.now) }
-    requires interfaces { All (λ i. i < length done.now) links.now.interfaces }
-    ensures { result ≡ are_done done.now links.now }
-{
-    match links.above() {
-        Some(class) => done[class as usize] && all_done(done, links.interfaces()),
-        None => all_done(done, links.interfaces()),
-    }
-}
-
-/// A class that isn't done while those right above are, or none.
-fn next_ready(done: &[bool], table: &[Links]) -> Option<usize>
-    requires same_length { length done.now ≡ length table.now }
-    requires within { AreWithin (length table.now) table.now }
-    ensures { MatchOption result (IsStuck done.now table.now) (IsReady done.now table.now) }
-{
-    for (k, links) in table.iter().enumerate() {
-        if !done[k] && parents_done(done, links) {
-            return Some(k);
-        }
-    }
-    None
-}
-
 /// The superclasses and superinterfaces of each class, and where it looks for a field (JVMS 5.4.3.2, 5.4.3.3), by the
 /// links that [`check_set`](crate::check_set) answers. The only error is want of memory.
 pub fn ancestries(alloc: Global, table: &[Links]) -> Result<Vec<Row>, AllocError>
@@ -189,18 +148,14 @@ pub fn ancestries(alloc: Global, table: &[Links]) -> Result<Vec<Row>, AllocError
     ensures rows { IfOk result (λ rows. IsAncestry table.now rows.items) }
     ensures below { IfOk result (λ rows. (k : ℕ) → k < length table.now → IsBelow (length table.now) (ancestry_at rows.items k)) }
 {
+    let sorting = sort(alloc, table)?;
+    let order = sorting.order();
     let mut rows = empty_rows(alloc, table.len())?;
-    let mut done = vec![in alloc; false; table.len()]?;
-    'rows: loop {
-        match next_ready(done.as_slice(), table) {
-            Some(k) => {
-                let row = row_of(alloc, &table[k], rows.as_slice(), k as u32)?;
-                rows[k] = row;
-                done[k] = true;
-            }
-            None => return Ok(rows),
-        }
+    for class in order {
+        let row = row_of(alloc, &table[*class as usize], rows.as_slice(), *class)?;
+        rows[*class as usize] = row;
     }
+    Ok(rows)
 }
 
 /// As many empty rows.

@@ -1,4 +1,4 @@
-use Rattle.std.proofs.Common.{◌≡◌, ℕ, ◌+◌, ◌-◌, ◌<◌, ◌≤◌, false, length, take, reverse, sym, subst, arith}
+use Rattle.std.proofs.Common.{◌≡◌, ℕ, ◌+◌, ◌-◌, false, take, reverse, sym, subst, arith}
 use Rattle.std.specs.List.{slice_index_or, flat_map}
 use Rattle.et_set.specs.Ancestry.{added_all}
 use Rattle.et_set.specs.Initialization.{with_interfaces}

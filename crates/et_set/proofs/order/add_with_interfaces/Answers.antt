@@ -1,4 +1,4 @@
-use Rattle.std.proofs.Common.{◌≡◌, ◌<◌, false}
+use Rattle.std.proofs.Common.{false}
 use Rattle.std.specs.List.{slice_index_or}
 use Rattle.et_set.proofs.Rounds.{next_interfaces}
 use Rattle.et_set.proofs.OrderLemmas.{with_added}

@@ -1,4 +1,4 @@
-use Rattle.std.proofs.Common.{◌≡◌, ◌∙◌, ◌<◌, ap, sym, false, Bool, arith}
+use Rattle.std.proofs.Common.{◌∙◌, ap, sym, false, Bool, arith}
 use Rattle.std.specs.List.{slice_index_or}
 use Rattle.et_set.specs.Initialization.{init_order}
 use Rattle.et_set.proofs.AddLemmas.{no_elements}
