@@ -1,0 +1,203 @@
+-- What the times of a flush tell.
+use Rattle.std.proofs.Common.{◌≡◌, ℕ, suc, ◌+◌, ◌-◌, ◌<◌, ◌≤◌, ◌↔◌, Bool, true, false, List, [], ◌∷◌, length, get_or, Contains, All, Option, Some, None, refl, sym, ◌∙◌, ap, subst, inl, inr, arith, true≢false}
+use Rattle.std.specs.Prelude.{if◌then◌else◌, not, ◌&&◌}
+use Rattle.std.proofs.lemmas.Bool.{cases_Bool, leb-true, le-leb}
+use Rattle.std.proofs.lemmas.List.Sums.{sum_by-cons}
+use Rattle.et_graph.specs.Graph.{IsWalk, Leads, IsReached, IsDead}
+use Rattle.et_graph.specs.Times.{set_each, unset_count}
+use Rattle.et_graph.proofs.Walks.{cases_reached}
+use Rattle.et_graph.proofs.Carrying.{carried_greatest, set_each_in, set_each_out}
+use Rattle.et_heap.specs.Objects.{ObjectState, Objects, IsHeld, is_there, found, object_at, made_count, held_count, ones_in}
+use Rattle.et_heap.specs.Refs.{pairs_of}
+use Rattle.et_heap.specs.Remaining.{kept_referent, left_place, remaining}
+use Rattle.et_heap.proofs.HeapLists.{pair_at, pair_held, held_within, gone_at, at_gone}
+use Rattle.et_stamps.specs.Listed.{IsGreatest, AreListed}
+use Rattle.et_flush.specs.declared.times.TheConstants.{NOW}
+use Rattle.et_flush.specs.Searches.{AreSeenHeld, AreBelow}
+use Rattle.et_flush.specs.Sweeps.{is_now, clears, visits_of, visits_from}
+use Rattle.et_flush.specs.Works.{IsSettled}
+use Rattle.et_flush.specs.Flushes.{heap_graph, is_cleared, cleared_in, cleared_from}
+use Rattle.et_flush.proofs.Targets.{held_above}
+use Rattle.et_flush.proofs.Orders.{cases_held}
+
+-- what leads to an object that is held is held
+walk_held : (heap : Objects) (u : ℕ) (walk : List ℕ) (o : ℕ) → IsWalk (pairs_of heap) u walk o → IsHeld heap o → IsHeld heap u
+walk_held heap u [] o w held = subst (λ (k : ℕ). IsHeld heap k) (sym w) held
+walk_held heap u (x ∷ walk) o w held = pair_held heap u x (pair_at heap u x w.0)
+
+lead_held : (heap : Objects) (u o : ℕ) → Leads (pairs_of heap) u o → IsHeld heap o → IsHeld heap u
+lead_held heap u o l held = walk_held heap u l.0 o l.1 held
+
+module _ (heap : Objects) (roots stamps times : List ℕ) (none : IsHeld heap 0 → ⊥) (roots_held : (o : ℕ) → Contains roots o → IsHeld heap o)
+    (long : length heap ≤ length stamps) (below : All (λ t. t < NOW) stamps) (settled : IsSettled heap roots stamps times) where
+  -- an object that is reached has a time of NOW at least
+  reached_time : (o : ℕ) → IsReached (heap_graph heap roots) o → NOW ≤ get_or times (o - 1) 0
+  reached_time o (root, c, leads) =
+      let held : IsHeld heap root = roots_held root c in
+      let above : 0 < root = held_above heap root none held in
+      let fits : root - 1 < length settled.first = omega (arith, held_within heap root held, settled.begins.long) in
+      let now : get_or (set_each roots NOW settled.first) (root - 1) 0 ≡ NOW = set_each_in roots NOW settled.first root (λ r d. held_above heap r none (roots_held r d)) above fits c in
+      omega (arith, now, carried_greatest (pairs_of heap) (set_each roots NOW settled.first) times settled.carries settled.settled root o leads)
+
+  -- one that leads to an object that isn't reached begins with its stamp
+  begins_stamped : (o u : ℕ) → IsHeld heap o → ¬ IsReached (heap_graph heap roots) o → Leads (pairs_of heap) u o → get_or (set_each roots NOW settled.first) (u - 1) 0 ≡ get_or stamps u 0
+  begins_stamped o u held unreached leads =
+      let here : IsHeld heap u = lead_held heap u o leads held in
+      let above : 0 < u = held_above heap u none here in
+      let out : ¬ Contains roots u = λ c. unreached (u, c, leads) in
+      set_each_out roots NOW settled.first u (λ r d. held_above heap r none (roots_held r d)) above out ∙ settled.begins.held u above (held_within heap u here) here
+
+  -- the time of an object that isn't reached is the greatest stamp that leads to it
+  unreached_time : (o : ℕ) → IsHeld heap o → ¬ IsReached (heap_graph heap roots) o → IsGreatest (heap_graph heap roots) (λ u. get_or stamps u 0) o (get_or times (o - 1) 0)
+  unreached_time o held unreached =
+      let from = settled.carries.carried o (held_above heap o none held) in
+      let here : IsHeld heap from.0 = lead_held heap from.0 o from.2 held in
+      record {
+        source = (from.0, (λ c. (gone_at heap from.0 c).2 here), from.2, sym (begins_stamped o from.0 held unreached from.2) ∙ sym from.3);
+        greatest = λ u _ leads. omega (arith, begins_stamped o u held unreached leads, carried_greatest (pairs_of heap) (set_each roots NOW settled.first) times settled.carries settled.settled u o leads);
+      }
+
+  unreached_below : (o : ℕ) → IsHeld heap o → ¬ IsReached (heap_graph heap roots) o → get_or times (o - 1) 0 < NOW
+  unreached_below o held unreached =
+      let s = (unreached_time o held unreached).source in
+      let here : IsHeld heap s.0 = lead_held heap s.0 o s.2 held in
+      omega (arith, s.3, below s.0 0 (omega (arith, held_within heap s.0 here)))
+
+  -- which are reached now
+  pub now_reached : (o : ℕ) → IsHeld heap o → (is_now times o ≡ true) ↔ IsReached (heap_graph heap roots) o
+  now_reached o held = (
+    λ now.
+        elim (cases_reached (heap_graph heap roots) o) [
+          | inl r ↦ r
+          | inr unreached ↦ absurd (omega (arith, unreached_below o held unreached, leb-true NOW (get_or times (o - 1) 0) now))
+        ],
+    λ r. le-leb NOW (get_or times (o - 1) 0) (reached_time o r),
+  )
+
+  dead_held : (o : ℕ) → IsDead (heap_graph heap roots) o → IsHeld heap o
+  dead_held o dead =
+      elim (cases_held heap o) [
+        | inl held ↦ held
+        | inr out ↦ absurd (dead.2 (at_gone heap o dead.0.0 (omega (arith, dead.0.0, dead.0.1)) out))
+      ]
+
+  held_dead : (o : ℕ) → IsHeld heap o → ¬ IsReached (heap_graph heap roots) o → IsDead (heap_graph heap roots) o
+  held_dead o held unreached = let last : o < length heap = held_within heap o held in ((held_above heap o none held, omega arith), unreached, λ c. (gone_at heap o c).2 held)
+
+  -- what is below NOW is dead, with the greatest stamp that leads to it
+  pub below_listed : (deaths : List (ℕ × ℕ)) → AreBelow heap times deaths → AreListed (heap_graph heap roots) (λ u. get_or stamps u 0) deaths
+  below_listed deaths are = record {
+    rising = are.rising;
+    exact = λ o t. (
+      λ c.
+          let d = (are.exact o t).0 c in
+          let unreached : ¬ IsReached (heap_graph heap roots) o = λ r. omega (arith, reached_time o r, d.1, d.2) in
+          (held_dead o d.0 unreached, subst (λ (k : ℕ). IsGreatest (heap_graph heap roots) (λ u. get_or stamps u 0) o k) d.1 (unreached_time o d.0 unreached)),
+      λ (dead, greatest).
+          let held : IsHeld heap o = dead_held o dead in
+          let time = unreached_time o held dead.1 in
+          let least = time.greatest greatest.source.0 greatest.source.1 greatest.source.2 in
+          let most = greatest.greatest time.source.0 time.source.1 time.source.2 in
+          let same : get_or times (o - 1) 0 ≡ t = omega (arith, least, most, greatest.source.3, time.source.3) in
+          (are.exact o t).1 (held, same, omega (arith, same, unreached_below o held dead.1)),
+    );
+  }
+
+-- TESTS THAT SAY THE SAME
+
+same_test : (a b : Bool) (R : Type 0) → (a ≡ true) ↔ R → (b ≡ true) ↔ R → a ≡ b
+same_test a b R f g =
+    elim (cases_Bool a) [
+      | inl t ↦ t ∙ sym (g.1 (f.0 t))
+      | inr n ↦ elim (cases_Bool b) [
+        | inl t ↦ absurd (true≢false (sym (f.1 (g.0 t)) ∙ n))
+        | inr m ↦ n ∙ sym m
+      ]
+    ]
+
+pub tests_same : (heap : Objects) (R : ℕ → Type 0) (here other : ℕ → Bool) → ((o : ℕ) → IsHeld heap o → (here o ≡ true) ↔ R o) → ((o : ℕ) → IsHeld heap o → (other o ≡ true) ↔ R o) → (o : ℕ) → IsHeld heap o → here o ≡ other o
+tests_same heap R here other f g o held = same_test (here o) (other o) (R o) (f o held) (g o held)
+
+abbrev Agree : (ℕ → Bool) → (ℕ → Bool) → ℕ → Objects → Type 0
+Agree here other k xs = (j : ℕ) → is_there (get_or xs j None) → here (k + j) ≡ other (k + j)
+
+abbrev AgreeWeakly : (ℕ → Bool) → (ℕ → Bool) → Objects → Type 0
+AgreeWeakly here other xs = (j r : ℕ) → (found (get_or xs j None)).referent ≡ Some r → here r ≡ other r
+
+agree_next : (here other : ℕ → Bool) (k : ℕ) (x : Option ObjectState) (xs : Objects) → Agree here other k (x ∷ xs) → Agree here other (k + 1) xs
+agree_next here other k x xs agree j there =
+    let e : k + suc j ≡ k + 1 + j = omega arith in
+    subst (λ (i : ℕ). here i ≡ other i) e (agree (suc j) there)
+
+referent_same : (here other : ℕ → Bool) (p : Option ℕ) → ((r : ℕ) → p ≡ Some r → here r ≡ other r) → kept_referent here p ≡ kept_referent other p
+referent_same here other None same = refl
+referent_same here other (Some r) same = ap (λ (b : Bool). if b then Some r else None) (same r refl)
+
+stays_same : (here other : ℕ → Bool) (b : Bool) (x : ObjectState) → ((r : ℕ) → x.referent ≡ Some r → here r ≡ other r) → left_place here b (Some x) ≡ left_place other b (Some x)
+stays_same here other false x weak = refl
+stays_same here other true x weak = ap (λ (r : Option ℕ). Some (record x { referent = r })) (referent_same here other x.referent weak)
+
+place_same : (here other : ℕ → Bool) (a b : Bool) (x : Option ObjectState) → (is_there x → a ≡ b) → ((r : ℕ) → (found x).referent ≡ Some r → here r ≡ other r) → left_place here a x ≡ left_place other b x
+place_same here other a b None same weak = refl
+place_same here other a b (Some x) same weak = ap (λ (c : Bool). left_place here c (Some x)) (same tt) ∙ stays_same here other b x weak
+
+remaining_from : (here other : ℕ → Bool) (k : ℕ) (xs : Objects) → Agree here other k xs → AgreeWeakly here other xs → remaining here k xs ≡ remaining other k xs
+remaining_from here other k [] agree weak = refl
+remaining_from here other k (x ∷ xs) agree weak =
+    let first : left_place here (here k) x ≡ left_place other (other k) x = place_same here other (here k) (other k) x (λ there. subst (λ (i : ℕ). here i ≡ other i) (let e : k + 0 ≡ k = omega arith in e) (agree 0 there)) (λ r e. weak 0 r e) in
+    let rest : remaining here (k + 1) xs ≡ remaining other (k + 1) xs = remaining_from here other (k + 1) xs (agree_next here other k x xs agree) (λ j r e. weak (suc j) r e) in
+    ap (λ (p : Option ObjectState). p ∷ remaining here (k + 1) xs) first ∙ ap (λ (ys : Objects). left_place other (other k) x ∷ ys) rest
+
+agrees : (heap : Objects) (here other : ℕ → Bool) → ((o : ℕ) → IsHeld heap o → here o ≡ other o) → Agree here other 0 heap
+agrees heap here other same j there = subst (λ (i : ℕ). here i ≡ other i) (let e : j ≡ 0 + j = omega arith in e) (same j there)
+
+pub remaining_same : (heap : Objects) (here other : ℕ → Bool) → ((o : ℕ) → IsHeld heap o → here o ≡ other o) → ((u r : ℕ) → (object_at heap u).referent ≡ Some r → IsHeld heap r) → remaining here 0 heap ≡ remaining other 0 heap
+remaining_same heap here other same referents = remaining_from here other 0 heap (agrees heap here other same) (λ j r e. same r (referents j r e))
+
+-- VISITS
+
+turned : (b : Bool) → let kept : ℕ = if b then 0 else 1 in kept ≡ (if not b then 1 else 0)
+turned true = refl
+turned false = refl
+
+clears_in : (here other : ℕ → Bool) (p : Option ℕ) → ((r : ℕ) → p ≡ Some r → here r ≡ other r) → clears here p ≡ (if is_cleared other p then 1 else 0)
+clears_in here other None same = refl
+clears_in here other (Some r) same = ap (λ (b : Bool). if b then 0 else 1) (same r refl) ∙ turned (other r)
+
+visits_in : (here other : ℕ → Bool) (a b : Bool) (x : Option ObjectState) → (is_there x → a ≡ b) → ((r : ℕ) → (found x).referent ≡ Some r → here r ≡ other r) → visits_of here a x ≤ ones_in x + cleared_in other b x
+visits_in here other a b None same weak = omega arith
+visits_in here other false b (Some x) same weak = omega arith
+visits_in here other true b (Some x) same weak =
+    let e : (if b && is_cleared other x.referent then 1 else 0) ≡ clears here x.referent =
+    ap (λ (c : Bool). if c && is_cleared other x.referent then 1 else 0) (sym (same tt)) ∙ sym (clears_in here other x.referent weak) in
+    omega arith
+
+visits_at : (here other : ℕ → Bool) (k : ℕ) (xs : Objects) → Agree here other k xs → AgreeWeakly here other xs → visits_from here k xs ≤ held_count xs + cleared_from other k xs
+visits_at here other k [] agree weak = omega arith
+visits_at here other k (x ∷ xs) agree weak =
+    let first = visits_in here other (here k) (other k) x (λ there. subst (λ (i : ℕ). here i ≡ other i) (let e : k + 0 ≡ k = omega arith in e) (agree 0 there)) (λ r e. weak 0 r e) in
+    let rest = visits_at here other (k + 1) xs (agree_next here other k x xs agree) (λ j r e. weak (suc j) r e) in
+    omega (arith, sum_by-cons ones_in x xs)
+
+pub visits_bound : (heap : Objects) (here other : ℕ → Bool) → ((o : ℕ) → IsHeld heap o → here o ≡ other o) → ((u r : ℕ) → (object_at heap u).referent ≡ Some r → IsHeld heap r) → visits_from here 0 heap ≤ held_count heap + cleared_from other 0 heap
+visits_bound heap here other same referents = visits_at here other 0 heap (agrees heap here other same) (λ j r e. same r (referents j r e))
+
+one_few : (b : Bool) (x : Option ObjectState) → (b ≡ true → is_there x) → 1 ≤ (if b then 0 else 1) + ones_in x
+one_few false x there = omega arith
+one_few true None there = absurd (there refl)
+one_few true (Some x) there = omega arith
+
+-- what was seen is held, so what isn't held wasn't
+seen_few : (flags : List Bool) (xs : Objects) → length flags ≡ length xs → ((j : ℕ) → get_or flags j false ≡ true → is_there (get_or xs j None)) → length flags ≤ unset_count flags + held_count xs
+seen_few [] xs long seen = omega arith
+seen_few (b ∷ flags) [] long seen = omega arith
+seen_few (b ∷ flags) (x ∷ xs) long seen =
+    let rest = seen_few flags xs (omega arith) (λ j s. seen (suc j) s) in
+    let first = one_few b x (λ s. seen 0 s) in
+    omega (arith, sum_by-cons (λ (c : Bool). if c then 0 else 1) b flags, sum_by-cons ones_in x xs)
+
+pub few_visits : (heap : Objects) (seen : List Bool) → (IsHeld heap 0 → ⊥) → length seen ≡ made_count heap → AreSeenHeld heap seen → made_count heap ≤ unset_count seen + held_count heap
+few_visits [] seen none long are = omega arith
+few_visits (x ∷ xs) seen none long are =
+    let few = seen_few seen xs (omega arith) (λ j s. are (suc j) (omega arith) (let e : j ≡ suc j - 1 = omega arith in subst (λ (i : ℕ). get_or seen i false ≡ true) e s)) in
+    omega (arith, sum_by-cons ones_in x xs)

@@ -1,0 +1,156 @@
+-- Objects that are swept one after the other.
+use Rattle.std.proofs.Common.{◌≡◌, ℕ, zero, suc, ◌+◌, ◌-◌, ◌<◌, ◌≤◌, Bool, true, false, List, [], ◌∷◌, length, get_or, set, Option, Some, None, refl, sym, ◌∙◌, ap, subst, arith, drop, drop-cons}
+use Rattle.std.proofs.lemmas.List.{set-get_or, drop_all}
+use Rattle.std.specs.Prelude.{if◌then◌else◌}
+use Rattle.std.proofs.lemmas.Bool.{le-leb}
+use Rattle.et_base.specs.declared.value.Value.TheVariants.{Ref}
+use Rattle.et_heap.specs.Objects.{ObjectState, Objects, IsHeld, is_there, at, found, object_at, with_referent, referent_value}
+use Rattle.et_heap.specs.Remaining.{kept_referent, left_place, remaining}
+use Rattle.et_flush.specs.declared.times.TheConstants.{NOW}
+use Rattle.et_flush.specs.Sweeps.{is_now, ReferentsWithin, clears, visits_of, visits_from}
+
+-- the first n places are swept
+abbrev pub swept : (ℕ → Bool) → ℕ → ℕ → Objects → Objects
+swept here zero k xs = xs
+swept here (suc n) k [] = []
+swept here (suc n) k (x ∷ xs) = left_place here (here k) x ∷ swept here n (k + 1) xs
+
+pub swept_length : (here : ℕ → Bool) (n k : ℕ) (xs : Objects) → length (swept here n k xs) ≡ length xs
+swept_length here zero k xs = refl
+swept_length here (suc n) k [] = refl
+swept_length here (suc n) k (x ∷ xs) = let e = swept_length here n (k + 1) xs in omega arith
+
+-- the next place is as it was
+pub swept_at : (here : ℕ → Bool) (n k : ℕ) (xs : Objects) → get_or (swept here n k xs) n None ≡ get_or xs n None
+swept_at here zero k xs = refl
+swept_at here (suc n) k [] = refl
+swept_at here (suc n) k (x ∷ xs) = swept_at here n (k + 1) xs
+
+pub swept_next : (here : ℕ → Bool) (n k : ℕ) (xs : Objects) → n < length xs → swept here (suc n) k xs ≡ set (swept here n k xs) n (left_place here (here (k + n)) (get_or xs n None))
+swept_next here zero k [] lt = absurd (omega arith)
+swept_next here zero k (x ∷ xs) lt = ap (λ (j : ℕ). left_place here (here j) x ∷ xs) (let e : k ≡ k + 0 = omega arith in e)
+swept_next here (suc n) k [] lt = absurd (omega arith)
+swept_next here (suc n) k (x ∷ xs) lt =
+    let next = swept_next here n (k + 1) xs (omega arith) in
+    let place : k + 1 + n ≡ k + suc n = omega arith in
+    ap (λ (ys : Objects). left_place here (here k) x ∷ ys) (next ∙ ap (λ (j : ℕ). set (swept here n (k + 1) xs) n (left_place here (here j) (get_or xs n None))) place)
+
+pub swept_all : (here : ℕ → Bool) (n k : ℕ) (xs : Objects) → length xs ≤ n → swept here n k xs ≡ remaining here k xs
+swept_all here zero k [] le = refl
+swept_all here zero k (x ∷ xs) le = absurd (omega arith)
+swept_all here (suc n) k [] le = refl
+swept_all here (suc n) k (x ∷ xs) le = ap (λ (ys : Objects). left_place here (here k) x ∷ ys) (swept_all here n (k + 1) xs (omega arith))
+
+-- nothing has the number 0
+left_none : (here : ℕ → Bool) (b : Bool) (p : Option ObjectState) → (is_there p → ⊥) → left_place here b p ≡ p
+left_none here b None out = refl
+left_none here b (Some x) out = absurd (out tt)
+
+pub swept_first : (here : ℕ → Bool) (xs : Objects) → (IsHeld xs 0 → ⊥) → swept here 1 0 xs ≡ xs
+swept_first here [] none = refl
+swept_first here (x ∷ xs) none = ap (λ (p : Option ObjectState). p ∷ xs) (left_none here (here 0) x none)
+
+-- ONE PLACE
+
+-- where nothing is held, nothing changes
+pub gone_stays : (here : ℕ → Bool) (b : Bool) (xs : Objects) (o : ℕ) → (IsHeld xs o → ⊥) → xs ≡ set xs o (left_place here b (at xs o))
+gone_stays here b xs o out = sym (ap (λ (p : Option ObjectState). set xs o p) (left_none here b (at xs o) out) ∙ set-get_or xs o None)
+
+taken : (here : ℕ → Bool) (p : Option ObjectState) → None ≡ left_place here false p
+taken here None = refl
+taken here (Some x) = refl
+
+pub taken_out : (here : ℕ → Bool) (b : Bool) (xs ys : Objects) (o : ℕ) → b ≡ false → ys ≡ set xs o None → ys ≡ set xs o (left_place here b (at xs o))
+taken_out here b xs ys o off is = is ∙ (ap (λ (p : Option ObjectState). set xs o p) (taken here (at xs o)) ∙ ap (λ (c : Bool). set xs o (left_place here c (at xs o))) (sym off))
+
+found_there : (p : Option ObjectState) → is_there p → Some (found p) ≡ p
+found_there None h = absurd h
+found_there (Some x) h = refl
+
+pub kept_place : (here : ℕ → Bool) (b : Bool) (xs ys : Objects) (o : ℕ) → IsHeld xs o → b ≡ true → ys ≡ set xs o (left_place here true (Some (object_at xs o))) → ys ≡ set xs o (left_place here b (at xs o))
+kept_place here b xs ys o held on is =
+    is ∙ (ap (λ (p : Option ObjectState). set xs o (left_place here true p)) (found_there (at xs o) held) ∙ ap (λ (c : Bool). set xs o (left_place here c (at xs o))) (sym on))
+
+no_visit : (here : ℕ → Bool) (b : Bool) (p : Option ObjectState) → (is_there p → ⊥) → visits_of here b p ≡ 0
+no_visit here b None out = refl
+no_visit here b (Some x) out = absurd (out tt)
+
+pub gone_visits : (here : ℕ → Bool) (b : Bool) (xs : Objects) (o visits : ℕ) → (IsHeld xs o → ⊥) → visits ≡ visits + visits_of here b (at xs o)
+gone_visits here b xs o visits out = let e = no_visit here b (at xs o) out in omega arith
+
+none_taken : (here : ℕ → Bool) (p : Option ObjectState) → visits_of here false p ≡ 0
+none_taken here None = refl
+none_taken here (Some x) = refl
+
+pub taken_visits : (here : ℕ → Bool) (b : Bool) (xs : Objects) (o visits : ℕ) → b ≡ false → visits ≡ visits + visits_of here b (at xs o)
+taken_visits here b xs o visits off = let e : visits_of here b (at xs o) ≡ 0 = ap (λ (c : Bool). visits_of here c (at xs o)) off ∙ none_taken here (at xs o) in omega arith
+
+pub kept_visits : (here : ℕ → Bool) (b : Bool) (xs : Objects) (o old new : ℕ) → IsHeld xs o → b ≡ true → new ≡ old + visits_of here true (Some (object_at xs o)) → new ≡ old + visits_of here b (at xs o)
+kept_visits here b xs o old new held on is =
+    is ∙ (ap (λ (p : Option ObjectState). old + visits_of here true p) (found_there (at xs o) held) ∙ ap (λ (c : Bool). old + visits_of here c (at xs o)) (sym on))
+
+-- THE REFERENT OF ONE OBJECT
+
+-- the referent stays
+pub referent_kept : (here : ℕ → Bool) (xs : Objects) (o : ℕ) → IsHeld xs o → kept_referent here (object_at xs o).referent ≡ (object_at xs o).referent → xs ≡ set xs o (left_place here true (Some (object_at xs o)))
+referent_kept here xs o held same =
+    sym (ap (λ (r : Option ℕ). set xs o (Some (record (object_at xs o) { referent = r }))) same ∙ (ap (λ (p : Option ObjectState). set xs o p) (found_there (at xs o) held) ∙ set-get_or xs o None))
+
+pub referent_gone : (here : ℕ → Bool) (xs ys : Objects) (o : ℕ) → kept_referent here (object_at xs o).referent ≡ None → ys ≡ set xs o (Some (with_referent None (object_at xs o))) → ys ≡ set xs o (left_place here true (Some (object_at xs o)))
+referent_gone here xs ys o gone is = is ∙ ap (λ (r : Option ℕ). set xs o (Some (record (object_at xs o) { referent = r }))) (sym gone)
+
+-- what stays refers to what stays
+pub kept_same : (here : ℕ → Bool) (p : Option ℕ) (r : ℕ) → p ≡ Some r → here r ≡ true → kept_referent here p ≡ p
+kept_same here p r is on =
+    subst (λ (q : Option ℕ). kept_referent here q ≡ q) (sym is) (ap (λ (b : Bool). if b then Some r else None) on)
+
+pub referent_is : (p : Option ℕ) (r : ℕ) → Ref r ≡ referent_value p → p ≡ Some r
+referent_is None r e = absurd (cc)
+referent_is (Some q) r e = cc
+
+pub clears_none : (here : ℕ → Bool) (p : Option ℕ) (r : ℕ) → p ≡ Some r → here r ≡ true → clears here p ≡ 0
+clears_none here p r is on = subst (λ (q : Option ℕ). clears here q ≡ 0) (sym is) (ap (λ (b : Bool). if b then 0 else 1) on)
+
+-- an object is reached now where its time is no less than NOW
+pub now_is : (times : List ℕ) (o place : ℕ) → place + 1 ≡ o → NOW ≤ get_or times place 0 → is_now times o ≡ true
+now_is times o place at le = le-leb NOW (get_or times (o - 1) 0) (subst (λ (k : ℕ). NOW ≤ get_or times k 0) (let e : place ≡ o - 1 = omega arith in e) le)
+
+-- ALL
+
+pub swept_step : (here : ℕ → Bool) (xs ys zs : Objects) (n o : ℕ) → ys ≡ swept here n 0 xs → o ≡ n → n < length xs → zs ≡ set ys o (left_place here (here o) (at ys o)) → zs ≡ swept here (n + 1) 0 xs
+swept_step here xs ys zs n o before same lt is =
+    let number : (λ (k : ℕ). set ys k (left_place here (here k) (at ys k))) o ≡ set ys n (left_place here (here n) (at ys n)) = ap (λ (k : ℕ). set ys k (left_place here (here k) (at ys k))) same in
+    let now : set ys n (left_place here (here n) (at ys n)) ≡ set (swept here n 0 xs) n (left_place here (here n) (at (swept here n 0 xs) n)) = ap (λ (v : Objects). set v n (left_place here (here n) (at v n))) before in
+    let place : set (swept here n 0 xs) n (left_place here (here n) (at (swept here n 0 xs) n)) ≡ set (swept here n 0 xs) n (left_place here (here n) (get_or xs n None)) = ap (λ (p : Option ObjectState). set (swept here n 0 xs) n (left_place here (here n) p)) (swept_at here n 0 xs) in
+    let zero_first : set (swept here n 0 xs) n (left_place here (here n) (get_or xs n None)) ≡ set (swept here n 0 xs) n (left_place here (here (0 + n)) (get_or xs n None)) = ap (λ (k : ℕ). set (swept here n 0 xs) n (left_place here (here k) (get_or xs n None))) (let e : n ≡ 0 + n = omega arith in e) in
+    let more : swept here (suc n) 0 xs ≡ swept here (n + 1) 0 xs = ap (λ (k : ℕ). swept here k 0 xs) (let e : suc n ≡ n + 1 = omega arith in e) in
+    is ∙ (number ∙ (now ∙ (place ∙ (zero_first ∙ (sym (swept_next here n 0 xs lt) ∙ more)))))
+
+pub place_before : (here : ℕ → Bool) (xs ys : Objects) (n o : ℕ) → ys ≡ swept here n 0 xs → o ≡ n → at ys o ≡ at xs n
+place_before here xs ys n o before same = ap (λ (k : ℕ). at ys k) same ∙ (ap (λ (v : Objects). at v n) before ∙ swept_at here n 0 xs)
+
+pub within_before : (here : ℕ → Bool) (xs ys : Objects) (n o m : ℕ) → ys ≡ swept here n 0 xs → o ≡ n → ReferentsWithin m (object_at xs n) → ReferentsWithin m (object_at ys o)
+within_before here xs ys n o m before same within = subst (λ (p : Option ObjectState). ReferentsWithin m (found p)) (sym (place_before here xs ys n o before same)) within
+
+-- THE VISITS OF ALL
+
+visits_left : (here : ℕ → Bool) (n : ℕ) (xs : Objects) → n < length xs → visits_from here n (drop n xs) ≡ visits_of here (here n) (get_or xs n None) + visits_from here (n + 1) (drop (n + 1) xs)
+visits_left here n xs lt =
+    let first : drop n xs ≡ get_or xs n None ∷ drop (suc n) xs = drop-cons xs n None lt in
+    let place : drop (suc n) xs ≡ drop (n + 1) xs = ap (λ (j : ℕ). drop j xs) (let e : suc n ≡ n + 1 = omega arith in e) in
+    ap (λ (ys : Objects). visits_from here n ys) (first ∙ ap (λ (ys : Objects). get_or xs n None ∷ ys) place)
+
+pub visits_first : (here : ℕ → Bool) (xs : Objects) → (IsHeld xs 0 → ⊥) → visits_from here 1 (drop 1 xs) ≡ visits_from here 0 xs
+visits_first here [] none = refl
+visits_first here (x ∷ xs) none = let e : visits_of here (here 0) x ≡ 0 = no_visit here (here 0) x none in omega arith
+
+pub visits_step : (here : ℕ → Bool) (xs ys : Objects) (n o all old v v' : ℕ) → ys ≡ swept here n 0 xs → o ≡ n → n < length xs → v + visits_from here n (drop n xs) ≡ old + all → v' ≡ v + visits_of here (here o) (at ys o) → v' + visits_from here (n + 1) (drop (n + 1) xs) ≡ old + all
+visits_step here xs ys n o all old v v' before same lt sum is =
+    let here_now : visits_of here (here o) (at ys o) ≡ visits_of here (here n) (get_or xs n None) = ap (λ (p : Option ObjectState). visits_of here (here o) p) (place_before here xs ys n o before same) ∙ ap (λ (k : ℕ). visits_of here (here k) (get_or xs n None)) same in
+    omega (arith, visits_left here n xs lt)
+
+pub swept_end : (here : ℕ → Bool) (xs ys : Objects) (n : ℕ) → ys ≡ swept here n 0 xs → length xs ≤ n → ys ≡ remaining here 0 xs
+swept_end here xs ys n before all = before ∙ swept_all here n 0 xs all
+
+pub visits_end : (here : ℕ → Bool) (n : ℕ) (xs : Objects) → length xs ≤ n → visits_from here n (drop n xs) ≡ 0
+visits_end here n xs all = ap (λ (ys : Objects). visits_from here n ys) (drop_all n xs all)

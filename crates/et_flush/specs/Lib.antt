@@ -1,0 +1,5 @@
+pub mod Searches
+pub mod Sweeps
+pub mod Works
+pub mod Rooms
+pub mod Flushes

@@ -1,0 +1,42 @@
+-- What a search over a heap keeps to.
+use Rattle.std.specs.Prelude.{◌≡◌, ℕ, ◌+◌, ◌-◌, ◌<◌, ◌≤◌, ◌↔◌, Bool, List, length, map, Contains, slice_index, slice_index_or}
+use Rattle.std.specs.List.Sorted.{IsStrictlyIncreasing}
+use Rattle.et_graph.specs.Times.{IsSet}
+use Rattle.et_heap.specs.Objects.{Objects, IsHeld}
+use Rattle.et_heap.specs.Refs.{pairs_of}
+use Rattle.et_flush.specs.declared.times.TheConstants.{NOW}
+use Rattle.et_flush.specs.declared.order.Source.{Source}
+
+-- what stands in a slot is held
+abbrev pub ArePairsHeld : Objects → Type 0
+ArePairsHeld heap = (u o : ℕ) → Contains (pairs_of heap) (u, o) → IsHeld heap o
+
+abbrev pub AreHeld : Objects → List ℕ → Type 0
+AreHeld heap objects = (o : ℕ) → Contains objects o → IsHeld heap o
+
+-- what was seen is held
+abbrev pub AreSeenHeld : Objects → List Bool → Type 0
+AreSeenHeld heap seen = (o : ℕ) → 0 < o → IsSet seen o → IsHeld heap o
+
+-- The times as a search begins, the one of object o at o - 1: its stamp, and 0 where it was taken out.
+pub record AreTimes (heap : Objects) (stamps times : List ℕ) : Type 0 where
+  pub long : length times + 1 ≡ length heap
+  pub held : (o : ℕ) → 0 < o → o < length heap → IsHeld heap o → slice_index times (o - 1) ≡ slice_index stamps o
+  pub gone : (o : ℕ) → 0 < o → ¬ IsHeld heap o → slice_index times (o - 1) ≡ 0
+
+-- the objects that are held, each with the difference of its time from NOW
+pub record AreSources (heap : Objects) (times : List ℕ) (order : List Source) : Type 0 where
+  pub each : (s : Source) → Contains order s → IsHeld heap s.object × (s.age ≡ NOW - slice_index times (s.object - 1)) × (slice_index times (s.object - 1) ≤ NOW)
+  pub all : (o : ℕ) → IsHeld heap o → (s : Source) × Contains order s × (s.object ≡ o)
+
+-- each object that is held is there, and none comes after one with a smaller time
+pub record IsOrder (heap : Objects) (times : List ℕ) (order : List Source) : Type 0 where
+  pub each : (s : Source) → Contains order s → IsHeld heap s.object
+  pub all : (o : ℕ) → IsHeld heap o → (k : ℕ) × (k < length order) × ((d : Source) → (slice_index_or order k d).object ≡ o)
+  pub falls : (i j : ℕ) (d : Source) → i ≤ j → j < length order
+      → slice_index times ((slice_index_or order j d).object - 1) ≤ slice_index times ((slice_index_or order i d).object - 1)
+
+-- the objects that are held and whose times are below NOW, in rising order, each with its time
+pub record AreBelow (heap : Objects) (times : List ℕ) (deaths : List (ℕ × ℕ)) : Type 0 where
+  pub rising : IsStrictlyIncreasing (map (λ d. d.0) deaths)
+  pub exact : (o t : ℕ) → Contains deaths (o, t) ↔ (IsHeld heap o × (slice_index times (o - 1) ≡ t) × (t < NOW))

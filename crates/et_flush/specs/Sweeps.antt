@@ -1,0 +1,28 @@
+-- What a flush takes out and clears, by the times that it found.
+use Rattle.std.specs.Prelude.{◌≡◌, ℕ, ◌+◌, ◌-◌, ◌<◌, ◌≤◌, Bool, true, false, nat_le, if◌then◌else◌, List, [], ◌∷◌, Option, Some, None, slice_index}
+use Rattle.et_heap.specs.Objects.{ObjectState, Objects}
+use Rattle.et_flush.specs.declared.times.TheConstants.{NOW}
+
+-- the object is reached now
+abbrev pub is_now : List ℕ → ℕ → Bool
+is_now times o = nat_le NOW (slice_index times (o - 1))
+
+-- what the object refers to weakly is one of the first n objects
+abbrev pub ReferentsWithin : ℕ → ObjectState → Type 0
+ReferentsWithin n x = (r : ℕ) → x.referent ≡ Some r → (0 < r) × (r ≤ n)
+
+-- HOW MANY VISITS OF OBJECTS IT TAKES: one of each that stays, and one more where its weak reference is cleared
+
+abbrev pub clears : (ℕ → Bool) → Option ℕ → ℕ
+clears here None = 0
+clears here (Some r) = if here r then 0 else 1
+
+abbrev pub visits_of : (ℕ → Bool) → Bool → Option ObjectState → ℕ
+visits_of here stays None = 0
+visits_of here false (Some x) = 0
+visits_of here true (Some x) = 1 + clears here x.referent
+
+-- .. of the objects from number k on
+abbrev pub visits_from : (ℕ → Bool) → ℕ → Objects → ℕ
+visits_from here k [] = 0
+visits_from here k (x ∷ xs) = visits_of here (here k) x + visits_from here (k + 1) xs

@@ -1,0 +1,18 @@
+//! The flush of a heap: what no search from the roots reaches any more is listed with the last event at which one did, and
+//! taken out.
+#![tactic(auto)]
+
+mod deaths;
+mod order;
+mod room;
+mod search;
+mod sweep;
+mod times;
+mod within;
+mod work;
+
+pub use room::{FlushRoom, flush};
+pub use times::NOW;
+
+#[cfg(test)]
+mod tests;

@@ -1,0 +1,130 @@
+//! The room of a flush, and the flush.
+ghost use Rattle.std.specs.Prelude.{◌≡◌, ℕ, ◌+◌, ◌*◌, ◌^◌, ◌<◌, ◌≤◌, ◌↔◌, true, Bool, length, map, slice_index, All, Contains, OnOk, OnErr, Some};
+ghost use Rattle.et_graph.specs.Graph.{IsReached};
+ghost use Rattle.et_heap.specs.Objects.{IsHeld, object_at, made_count, held_count};
+ghost use Rattle.et_heap.specs.Remaining.{remaining};
+ghost use Rattle.et_stamps.specs.Listed.{AreListed};
+ghost use Rattle.et_flush.specs.Searches.{ArePairsHeld};
+ghost use Rattle.et_flush.specs.Flushes.{heap_graph, cleared_from};
+
+use crate::sweep::sweep;
+use crate::times::NOW;
+use crate::work::{Work, find_deaths, no_work, reserve};
+use et_base::{NoMemory, Steps};
+use et_graph::Death;
+use et_heap::{Heap, RootList};
+use et_stamps::Stamps;
+use std::alloc::Global;
+use std::marker::Model;
+use std::sync::ledger::Ledger;
+
+/// The room in which a flush works, with the deaths that the newest one listed. A contract sees it as the number of objects
+/// for which it has places, and those deaths.
+#[derive(Drop)]
+pub struct FlushRoom {
+    places: u32,
+    work: Work,
+}
+
+impl Model for FlushRoom {
+    ghost use Rattle.et_flush.specs.Rooms.{Room, room_of, HasRoom};
+
+    ghost Value = { Room };
+
+    ghost view = { room_of };
+
+    ghost invariant = { HasRoom };
+}
+
+impl FlushRoom {
+    ghost use Rattle.std.specs.Prelude.{[]};
+    ghost use Rattle.et_graph.specs.Listing.{death_pairs};
+
+    /// No places yet, and no deaths.
+    pub fn begin(alloc: Global) -> FlushRoom
+        ensures places { result.places ≡ 0 }
+        ensures deaths { result.deaths ≡ [] }
+    {
+        FlushRoom {
+            places: 0,
+            work: no_work(alloc),
+        }
+    }
+
+    /// Makes places up to this object. What is there stays. After `NoMemory` it is as before.
+    pub fn grow(&mut self, objects: u32) -> Result<(), NoMemory>
+        ensures places { OnOk result (objects ≤ self.new.places) }
+        ensures kept { self.old.places ≤ self.new.places }
+        ensures deaths { self.new.deaths ≡ self.old.deaths }
+        ensures err { OnErr result (self.new ≡ self.old) }
+    {
+        reserve(&mut self.work, objects as usize)?;
+        self.places = self.places.max(objects);
+        Ok(())
+    }
+
+    /// The deaths that the newest flush listed, in rising order of the objects.
+    pub fn deaths(&self) -> &[Death]
+        ensures { death_pairs result.now ≡ self.now.deaths }
+    {
+        &self.work.deaths
+    }
+
+    /// Finds the deaths and sweeps the heap.
+    fn run<L: Ledger>(
+        &mut self,
+        heap: &mut Heap,
+        roots: &RootList,
+        stamps: &Stamps,
+        visits: &mut Steps<L>,
+    )
+        requires none { ¬ IsHeld heap.old 0 }
+        requires roots { (o : ℕ) → Contains roots.now o → IsHeld heap.old o }
+        requires slots { ArePairsHeld heap.old }
+        requires referents { (u o : ℕ) → (object_at heap.old u).referent ≡ Some o → IsHeld heap.old o }
+        requires stamps { length heap.old ≤ length stamps.now }
+        requires events { All (λ t. t ≤ 2 ^ 40) stamps.now }
+        requires places { made_count heap.old ≤ self.old.places }
+        ensures deaths { AreListed (heap_graph heap.old roots.now) (slice_index stamps.now) self.new.deaths }
+        ensures heap { (here : ℕ → Bool) → ((o : ℕ) → IsHeld heap.old o → (here o ≡ true) ↔ IsReached (heap_graph heap.old roots.now) o) → heap.new ≡ remaining here 0 heap.old }
+        ensures visits { (here : ℕ → Bool) → ((o : ℕ) → IsHeld heap.old o → (here o ≡ true) ↔ IsReached (heap_graph heap.old roots.now) o) → visits.new ≤ visits.old + 2 * held_count heap.old + cleared_from here 0 heap.old }
+        ensures places { self.new.places ≡ self.old.places }
+    {
+        find_deaths(
+            heap,
+            roots.as_slice(),
+            stamps.as_slice(),
+            &mut self.work,
+            visits,
+        );
+        sweep(heap, &self.work.times, visits);
+    }
+}
+
+/// The flush (JVMS 2.5.3 leaves it free when an object is reclaimed): lists each object that no search from the roots reaches,
+/// in rising order, with the greatest stamp among the objects that are held and lead to it; takes these objects out; and makes
+/// null what the others refer to weakly, where that is one of them. It answers how many there are, and the room has the list.
+/// It takes no memory. Each object that is held is visited twice at most, and once more where its weak reference is cleared.
+pub fn flush<L: Ledger>(
+    heap: &mut Heap,
+    roots: &RootList,
+    stamps: &Stamps,
+    room: &mut FlushRoom,
+    visits: &mut Steps<L>,
+) -> usize
+    requires none { ¬ IsHeld heap.old 0 }
+    requires roots { (o : ℕ) → Contains roots.now o → IsHeld heap.old o }
+    requires slots { ArePairsHeld heap.old }
+    requires referents { (u o : ℕ) → (object_at heap.old u).referent ≡ Some o → IsHeld heap.old o }
+    requires stamps { length heap.old ≤ length stamps.now }
+    requires events { All (λ t. t ≤ 2 ^ 40) stamps.now }
+    requires places { made_count heap.old ≤ room.old.places }
+    ensures deaths { AreListed (heap_graph heap.old roots.now) (slice_index stamps.now) room.new.deaths }
+    ensures count { result ≡ length room.new.deaths }
+    ensures heap { (here : ℕ → Bool) → ((o : ℕ) → IsHeld heap.old o → (here o ≡ true) ↔ IsReached (heap_graph heap.old roots.now) o) → heap.new ≡ remaining here 0 heap.old }
+    ensures visits { (here : ℕ → Bool) → ((o : ℕ) → IsHeld heap.old o → (here o ≡ true) ↔ IsReached (heap_graph heap.old roots.now) o) → visits.new ≤ visits.old + 2 * held_count heap.old + cleared_from here 0 heap.old }
+    ensures places { room.new.places ≡ room.old.places }
+{
+    room.run(heap, roots, stamps, visits);
+    room.deaths().len()
+}
