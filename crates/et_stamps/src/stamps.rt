@@ -1,0 +1,66 @@
+//! A stamp for each object.
+ghost use Rattle.std.specs.Prelude.{◌≡◌, ◌<◌, ◌≤◌, ℕ, [], length, OnOk, slice_index, slice_set};
+
+use et_base::{NoMemory, ObjectId};
+use std::alloc::Global;
+use std::marker::Model;
+
+/// A stamp for each object. A contract sees it as a list, in which the stamp of each object stands at its number.
+#[derive(Drop)]
+pub struct Stamps {
+    stamps: Vec<u64>,
+}
+
+impl Model for Stamps {
+    ghost use Rattle.std.specs.Prelude.{ℕ, List};
+
+    ghost Value = { List ℕ };
+
+    ghost view = { λ s. s.stamps.items };
+}
+
+impl Stamps {
+    /// No places yet.
+    pub fn begin(alloc: Global) -> Self
+        ensures { result ≡ [] }
+    {
+        Stamps {
+            stamps: Vec::new(alloc),
+        }
+    }
+
+    /// Makes places up to this object. The stamps that are there stay, also after `NoMemory`, and a new place has 0.
+    pub fn grow(&mut self, objects: u32) -> Result<(), NoMemory>
+        ensures long { OnOk result (objects < length self.new) }
+        ensures longer { length self.old ≤ length self.new }
+        ensures kept { (o : ℕ) → slice_index self.new o ≡ slice_index self.old o }
+    {
+        'grow: while self.stamps.len() <= objects as usize {
+            self.stamps.push(0)?;
+        }
+        Ok(())
+    }
+
+    /// Writes the stamp of an object that has a place.
+    pub fn set(&mut self, object: ObjectId, event: u64)
+        requires { object < length self.old }
+        ensures { self.new ≡ slice_set self.old object event }
+    {
+        self.stamps[object.number() as usize] = event;
+    }
+
+    /// The stamp of an object that has a place.
+    pub fn of(&self, object: ObjectId) -> u64
+        requires { object < length self.now }
+        ensures { result ≡ slice_index self.now object }
+    {
+        self.stamps[object.number() as usize]
+    }
+
+    /// The stamps by the numbers of the objects.
+    pub fn as_slice(&self) -> &[u64]
+        ensures { result.now ≡ self.now }
+    {
+        self.stamps.as_slice()
+    }
+}
