@@ -51,13 +51,13 @@ fn report<G: StampedGuest, L: Ledger>(
     requires stamps { HasStamps (G.graph_of (G.state machine.old)) stamps.now }
     requires room { G.has_places room.old (G.graph_of (G.state machine.old)).made }
     ensures lines { (deaths : List (ℕ × ℕ)) → AreListed (G.graph_of (G.state machine.old)) (slice_index stamps.now) deaths → OnOk result (buffer.new.items ≡ buffer.old.items ++ text (flush_lines e deaths)) }
-    ensures state { (here : ℕ → Bool) → ((o : ℕ) → IsTrue (here o) ↔ IsReached (G.graph_of (G.state machine.old)) o) → G.state machine.new ≡ G.flushed_of here (G.state machine.old) }
-    ensures graph { Settles true (G.graph_of (G.state machine.old)) (G.graph_of (G.state machine.new)) }
-    ensures clock { G.clock_of (G.state machine.new) ≡ G.clock_of (G.state machine.old) }
-    ensures sound { G.is_sound code.now (G.state machine.new) }
-    ensures room { G.has_places room.new (G.graph_of (G.state machine.new)).made }
+    ensures state { (here : ℕ → Bool) → ((o : ℕ) → IsTrue (here o) ↔ IsReached (G.graph_of (G.state machine.old)) o) → OnOk result (G.state machine.new ≡ G.flushed_of here (G.state machine.old)) }
+    ensures graph { OnOk result (Settles true (G.graph_of (G.state machine.old)) (G.graph_of (G.state machine.new))) }
+    ensures clock { OnOk result (G.clock_of (G.state machine.new) ≡ G.clock_of (G.state machine.old)) }
+    ensures sound { OnOk result (G.is_sound code.now (G.state machine.new)) }
+    ensures room { OnOk result (G.has_places room.new (G.graph_of (G.state machine.new)).made) }
 {
-    machine.flush(code, stamps, room, visits);
+    machine.flush(code, stamps, room, visits)?;
     write_deaths(buffer, e, G::deaths(room))
 }
 
@@ -76,11 +76,11 @@ pub fn settle<G: StampedGuest, L: Ledger>(
     requires stamps { HasStamps (G.graph_of (G.state machine.old)) stamps.now }
     requires room { G.has_places room.old (G.graph_of (G.state machine.old)).made }
     ensures lines { (deaths : List (ℕ × ℕ)) → AreListed (G.graph_of (G.state machine.old)) (slice_index stamps.now) deaths → OnOk result (buffer.new.items ≡ buffer.old.items ++ text (due_lines due (flush_lines e deaths))) }
-    ensures state { (here : ℕ → Bool) → ((o : ℕ) → IsTrue (here o) ↔ IsReached (G.graph_of (G.state machine.old)) o) → G.state machine.new ≡ due_state due (G.flushed_of here (G.state machine.old)) (G.state machine.old) }
-    ensures graph { Settles due (G.graph_of (G.state machine.old)) (G.graph_of (G.state machine.new)) }
-    ensures clock { G.clock_of (G.state machine.new) ≡ G.clock_of (G.state machine.old) }
-    ensures sound { G.is_sound code.now (G.state machine.new) }
-    ensures room { G.has_places room.new (G.graph_of (G.state machine.new)).made }
+    ensures state { (here : ℕ → Bool) → ((o : ℕ) → IsTrue (here o) ↔ IsReached (G.graph_of (G.state machine.old)) o) → OnOk result (G.state machine.new ≡ due_state due (G.flushed_of here (G.state machine.old)) (G.state machine.old)) }
+    ensures graph { OnOk result (Settles due (G.graph_of (G.state machine.old)) (G.graph_of (G.state machine.new))) }
+    ensures clock { OnOk result (G.clock_of (G.state machine.new) ≡ G.clock_of (G.state machine.old)) }
+    ensures sound { OnOk result (G.is_sound code.now (G.state machine.new)) }
+    ensures room { OnOk result (G.has_places room.new (G.graph_of (G.state machine.new)).made) }
 {
     if due {
         report(code, e, machine, stamps, room, buffer, visits)?;

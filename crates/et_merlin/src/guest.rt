@@ -87,23 +87,23 @@ pub trait StampedGuest {
         ensures { death_pairs result.now ≡ deaths_of room.now };
 
     /// Lists the dead objects, each with the greatest stamp of those that lead to it, takes them out, and clears the
-    /// references to them. It takes no memory.
+    /// references to them. After `NoMemory`, which may come while the roots are listed, the machine may only be dropped.
     fn flush<L: Ledger>(
         &mut self,
         code: &Self::Code,
         stamps: &Stamps,
         room: &mut Self::Room,
         visits: &mut Steps<L>,
-    )
+    ) -> Result<(), NoMemory>
         requires sound { is_sound code.now (state self.old) }
         requires stamps { (graph_of (state self.old)).made < length stamps.now }
         requires room { has_places room.old (graph_of (state self.old)).made }
-        ensures deaths { AreListed (graph_of (state self.old)) (slice_index stamps.now) (deaths_of room.new) }
-        ensures room { has_places room.new (graph_of (state self.old)).made }
-        ensures state { (here : ℕ → Bool) → ((o : ℕ) → IsTrue (here o) ↔ IsReached (graph_of (state self.old)) o) → state self.new ≡ flushed_of here (state self.old) }
-        ensures graph { IsCleared (graph_of (state self.old)) (graph_of (state self.new)) }
-        ensures clock { clock_of (state self.new) ≡ clock_of (state self.old) }
-        ensures sound { is_sound code.now (state self.new) };
+        ensures deaths { OnOk result (AreListed (graph_of (state self.old)) (slice_index stamps.now) (deaths_of room.new)) }
+        ensures room { OnOk result (has_places room.new (graph_of (state self.old)).made) }
+        ensures state { (here : ℕ → Bool) → ((o : ℕ) → IsTrue (here o) ↔ IsReached (graph_of (state self.old)) o) → OnOk result (state self.new ≡ flushed_of here (state self.old)) }
+        ensures graph { OnOk result (IsCleared (graph_of (state self.old)) (graph_of (state self.new))) }
+        ensures clock { OnOk result (clock_of (state self.new) ≡ clock_of (state self.old)) }
+        ensures sound { OnOk result (is_sound code.now (state self.new)) };
 
     /// The event of a thread.
     fn event<L: Ledger>(
