@@ -99,7 +99,7 @@ module _ {S : Type 0} (reached : Graph → ℕ → Bool) (given : Setting S) (st
   noted_before o zero = zero
   noted_before o (suc e) = last_reached reached given start made o e
 
-  noted_is : (o e : ℕ) → noted (reached (given.rule.graph (left_by reached given start made e))) (λ x. noted_before x e) e o ≡ last_reached reached given start made o e
+  pub noted_is : (o e : ℕ) → noted (reached (given.rule.graph (left_by reached given start made e))) (λ x. noted_before x e) e o ≡ last_reached reached given start made o e
   unfolding noted_before last_reached
   noted_is o zero = elim (reached (given.rule.graph (left_by reached given start made 0)) o) as (λ b. (if b then zero else zero) ≡ zero) [ true ↦ refl | false ↦ refl ]
   noted_is o (suc e) = refl

@@ -10,5 +10,7 @@ mod tracer;
 
 pub use et_state::{Options, Schedule};
 pub use guest::{Guest, Program};
+pub use naming::Numbering;
 pub use options::Ran;
 pub use run::run_guest;
+pub use tracer::{ended_as, is_due, pick};

@@ -19,14 +19,14 @@ use std::alloc::Global;
 use std::sync::ledger::Ledger;
 
 /// Whether a flush follows this event even where it is not the last.
-fn is_due(interval: u64, e: u64) -> bool
+pub fn is_due(interval: u64, e: u64) -> bool
     ensures { result ≡ is_flush_point interval e }
 {
     interval > 0 && e > 0 && e % interval == 0
 }
 
 /// The number that the schedule has for an event.
-fn pick(options: &Options, e: u64) -> u64
+pub fn pick(options: &Options, e: u64) -> u64
     requires { AreOptions options.now }
     ensures { result ≡ pick_of options.now.schedule e }
 {
@@ -40,7 +40,7 @@ fn pick(options: &Options, e: u64) -> u64
 }
 
 /// How a Z line spells the end.
-fn ended_as(end: &End) -> u8
+pub fn ended_as(end: &End) -> u8
     ensures { result ≡ how_of end.now }
 {
     match end {

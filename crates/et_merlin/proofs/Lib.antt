@@ -1,0 +1,6 @@
+pub mod Wholes
+pub mod Dates
+pub mod Turns
+pub mod Joins
+pub mod Marking
+pub mod TurnSteps

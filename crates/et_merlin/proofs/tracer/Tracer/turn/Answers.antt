@@ -1,0 +1,43 @@
+use Rattle.std.proofs.Common.{[], false, subst}
+use Rattle.et_run.specs.Options.{setting_of}
+use Rattle.et_run.specs.Run.{Goes}
+use Rattle.et_merlin.specs.Stamping.{Stamped}
+use Rattle.et_merlin.proofs.TurnSteps.{settled_made, deaths_now, goes_on, goes_out, still_listed}
+use Rattle.et_merlin.proofs.tracer.Tracer.turn.Goals as goal
+
+pub step-requires-clause-made : goal.step-requires-clause-made
+step-requires-clause-made g c =
+    let G = g.G.StampedGuest in
+    settled_made c.is_due-due.result (G.graph_of (G.state c.args.machine.now)) (G.graph_of (G.state c.settle.new.machine)) c.in_ok-settle.ensures.graph c.requires.made
+
+-- the next event was done
+pub returns-in-None-clause-turns : goal.returns-in-None-clause-turns
+returns-in-None-clause-turns g c reached decides last listed =
+    let G = g.G.StampedGuest in
+    let s = G.state c.args.machine.now in
+    let graph = G.graph_of s in
+    let given = setting_of (G.event_of c.args.code.now) G.unended_of G.graph_of G.flushed_of (g.G.Code.Program.names c.args.code.now) c.args.options.now in
+    let deaths = deaths_now reached given c.args.e s s s last c.args.self.now.numbering c.args.self.now.numbering false [] [] [] in
+    let lines = c.in_ok-settle.ensures.lines deaths listed in
+    let state = c.in_ok-settle.ensures.state (reached graph) (decides graph) in
+    let goes = subst (λ end. Goes given c.args.e (G.state c.settle.new.machine) c.args.self.now.numbering (G.state c.step.new.machine) c.step.new.numbering c.settle.new.buffer.items c.step.new.buffer.items end) c.in-None.is c.in_ok-step.ensures.goes in
+    goes_on reached given c.args.e s (G.state c.settle.new.machine) (G.state c.step.new.machine) last c.args.self.now.numbering c.step.new.numbering c.is_due-due.result c.args.self.now.buffer.items c.settle.new.buffer.items c.step.new.buffer.items
+    c.is_due-due.ensures lines state goes
+
+-- the history ended
+pub returns-in_ok-conclude-in-Some-clause-turns : goal.returns-in_ok-conclude-in-Some-clause-turns
+returns-in_ok-conclude-in-Some-clause-turns g c reached decides last listed =
+    let G = g.G.StampedGuest in
+    let s = G.state c.args.machine.now in
+    let graph = G.graph_of s in
+    let given = setting_of (G.event_of c.args.code.now) G.unended_of G.graph_of G.flushed_of (g.G.Code.Program.names c.args.code.now) c.args.options.now in
+    let deaths = deaths_now reached given c.args.e s s s last c.args.self.now.numbering c.args.self.now.numbering false [] [] [] in
+    let lines = c.in_ok-settle.ensures.lines deaths listed in
+    let state = c.in_ok-settle.ensures.state (reached graph) (decides graph) in
+    let goes = subst (λ end. Goes given c.args.e (G.state c.settle.new.machine) c.args.self.now.numbering (G.state c.step.new.machine) c.step.new.numbering c.settle.new.buffer.items c.step.new.buffer.items end) c.in-Some.is c.in_ok-step.ensures.goes in
+    let kept = subst (λ end. Stamped end c.args.e (G.graph_of (G.state c.settle.new.machine)) (G.graph_of (G.state c.step.new.machine)) c.args.self.now.stamps c.step.new.stamps) c.in-Some.is c.in_ok-step.ensures.stamped in
+    let still = still_listed reached given c.args.e s (G.state c.settle.new.machine) (G.state c.step.new.machine) last c.args.self.now.numbering c.step.new.numbering c.is_due-due.result c.args.self.now.buffer.items c.settle.new.buffer.items c.step.new.buffer.items
+    c.is_due-due.ensures lines state c.in-Some.end c.args.self.now.stamps c.step.new.stamps goes kept listed in
+    let out = goes_out reached given c.args.e s (G.state c.settle.new.machine) (G.state c.step.new.machine) last c.args.self.now.numbering c.step.new.numbering c.is_due-due.result c.args.self.now.buffer.items c.settle.new.buffer.items c.step.new.buffer.items
+    c.is_due-due.ensures lines state c.in-Some.end c.conclude.new.buffer.items goes (c.in_ok-conclude-in-Some.ensures deaths still) in
+    record { ends = out.ends; lines = out.lines }
