@@ -1,0 +1,6 @@
+pub mod Growing
+pub mod Wholes
+pub mod Threads
+pub mod Objects
+pub mod Slots
+pub mod Monitors
