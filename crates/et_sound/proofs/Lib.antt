@@ -4,3 +4,4 @@ pub mod Threads
 pub mod Objects
 pub mod Slots
 pub mod Monitors
+pub mod Frames

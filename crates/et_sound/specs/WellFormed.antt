@@ -4,13 +4,15 @@ use Rattle.std.specs.Prelude.{◌≡◌, ℕ, ◌<◌, ◌≤◌, ◌^◌, ◌�
 use Rattle.et_base.specs.declared.value.Value.{Value}
 use Rattle.et_class.specs.Names.{has}
 use Rattle.et_class.specs.declared.flags.TheConstants.{STATIC}
-use Rattle.et_program.specs.Entries.{Linked, class_at, field_at}
+use Rattle.et_code.specs.Bodies.{Body}
+use Rattle.et_program.specs.Entries.{Linked, class_at, method_at, field_at, is_static}
 use Rattle.et_program.specs.Members.{is_subclass}
 use Rattle.et_program.specs.declared.info.Element.TheVariants.{NoArray}
 use Rattle.et_heap.specs.Objects.{ObjectState, IsHeld, at}
 use Rattle.et_frames.specs.Threads.{FrameState, ThreadState, most_frames, most_threads}
 use Rattle.et_machine.specs.State.{Kept}
 use Rattle.et_machine.specs.Words.{thread_at}
+use Rattle.et_event.specs.Frames.{first_reference}
 use Rattle.et_event.specs.Kinds.{kind_of}
 use Rattle.et_event.specs.Monitors.{Lock, OfObject, OfClass}
 use Rattle.et_event.specs.Sites.{code_of}
@@ -56,3 +58,10 @@ pub record MayHold (p : Linked) (class i : ℕ) (v : Value) : Type 0 where
 abbrev pub IsThere : Kept → Lock → Type 0
 IsThere s (OfObject o) = IsHeld s.heap o
 IsThere s (OfClass c) = Unit {0}
+
+-- a method with code may be entered with these arguments: they have room, and where it isn't static a receiver is the first
+pub record MayTake (p : Linked) (m : ℕ) (body : Body) (arguments : List Value) : Type 0 where
+  pub method : m < length p.methods
+  pub code : (method_at p m).code ≡ Some body
+  pub few : length arguments ≤ body.max_locals
+  pub receiver : is_static p m ≡ false → IsSome (first_reference arguments)

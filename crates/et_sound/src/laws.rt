@@ -1,22 +1,28 @@
 //! What each word that changes a state keeps. Each law is a function with an empty body: what it promises is its contract.
 
-ghost use Rattle.std.specs.Prelude.{◌≡◌, ◌<◌, ◌≤◌, ◌^◌, ℕ, true, List, [], ◌∷◌, ◌++◌, Option, Some, length, slice_index_or};
+ghost use Rattle.std.specs.Prelude.{◌≡◌, ◌<◌, ◌≤◌, ◌^◌, ℕ, true, List, [], ◌∷◌, ◌++◌, Option, Some, None, Ok, length, slice_index_or};
 ghost use Rattle.et_base.specs.declared.value.Value.{Value};
+ghost use Rattle.et_code.specs.Bodies.{Body};
+ghost use Rattle.et_code.specs.Decoding.{instruction_at};
+ghost use Rattle.et_code.specs.declared.instr.Instr.{Instr};
 ghost use Rattle.et_event.specs.BuiltIns.{with_referent_of, with_thread_for};
-ghost use Rattle.et_event.specs.Initialization.{with_state};
-ghost use Rattle.et_event.specs.Kinds.{kind_of};
+ghost use Rattle.et_event.specs.Frames.{method_frame, frames_after_return};
+ghost use Rattle.et_event.specs.Initialization.{initializer_frame, with_state};
+ghost use Rattle.et_event.specs.Kinds.{kind_of, returned_width};
 ghost use Rattle.et_event.specs.Moments.{Moment, Doing, fits, later, slot_written, static_written};
 ghost use Rattle.et_event.specs.Monitors.{Lock, monitor_of, entered, left};
-ghost use Rattle.et_event.specs.Sound.{is_of_kind, AreSoundFrames, HasThreadObject, IsSoundObject, IsSoundMonitor, IsSoundClassState, IsSoundFor};
-ghost use Rattle.et_frames.specs.Threads.{FrameState, ThreadState, most_frames, most_threads, with_pending, as_entered, as_ended};
+ghost use Rattle.et_event.specs.Sites.{method_of};
+ghost use Rattle.et_event.specs.Sound.{is_of_kind, IsPc, IsCaller, IsVoid, returned_of, AreSoundFrames, HasThreadObject, IsSoundObject, IsSoundMonitor, IsSoundClassState, IsSoundFor};
+ghost use Rattle.et_frames.specs.declared.stage.Stage.TheVariants as stages;
+ghost use Rattle.et_frames.specs.Threads.{FrameState, ThreadState, most_frames, most_threads, first_frame, rest_of, in_clinit, with_pending, as_entered, as_ended};
 ghost use Rattle.et_heap.specs.Objects.{ObjectState, IsHeld, object_at, with_object_at, free_monitor};
 ghost use Rattle.et_machine.specs.declared.class_state.ClassState.{ClassState};
 ghost use Rattle.et_machine.specs.declared.class_state.ClassState.TheVariants as classes;
 ghost use Rattle.et_machine.specs.Sound.{IsSound};
 ghost use Rattle.et_machine.specs.State.{Kept};
-ghost use Rattle.et_machine.specs.Words.{thread_at, with_thread, class_state_at, with_string};
-ghost use Rattle.et_program.specs.Entries.{Linked, field_at};
-ghost use Rattle.et_sound.specs.WellFormed.{IsWellFormed, MayBeThread, MayHold, IsThere};
+ghost use Rattle.et_machine.specs.Words.{thread_at, with_thread, top, with_top, HasFrame, class_state_at, with_string};
+ghost use Rattle.et_program.specs.Entries.{Linked, method_at, field_at};
+ghost use Rattle.et_sound.specs.WellFormed.{IsWellFormed, MayBeThread, MayHold, IsThere, KeepsFrame, MayTake};
 
 /// A sound state is well formed; and so is the state in which an event begins.
 pub fn sound_states_are_well_formed()
@@ -133,4 +139,55 @@ pub fn thread_is_started()
 pub fn string_is_remembered()
     ensures { (p : Linked) (s : Kept) (bytes : List ℕ) (o : ℕ) → IsWellFormed p s →
         IsWellFormed p (record { heap = s.heap; guest = with_string s.guest bytes o }) }
+{}
+
+// FRAMES
+
+/// The topmost frame goes on, or is done again with fewer operands.
+pub fn top_changes()
+    ensures state { (p : Linked) (s : Kept) (t : ℕ) (f : FrameState) → IsWellFormed p s → HasFrame s.guest t → KeepsFrame p (top s.guest t) f →
+        IsWellFormed p (record { heap = s.heap; guest = with_top s.guest t f }) }
+    ensures frames { (p : Linked) (f f' : FrameState) (below : List FrameState) → KeepsFrame p f f' → AreSoundFrames p (f ∷ below) → AreSoundFrames p (f' ∷ below) }
+{}
+
+/// What stands behind an instruction of the code is a pc of it (JVMS 4.9.1).
+pub fn next_is_a_pc()
+    ensures { (b : Body) (pc : ℕ) (x : Instr × ℕ) → IsPc b pc → instruction_at b.code pc ≡ Ok x → IsPc b x.1 }
+{}
+
+/// A method is entered: below its frame stands its caller, at its call (JVMS 2.6).
+pub fn callee_is_entered()
+    ensures { (p : Linked) (m : ℕ) (body : Body) (arguments : List Value) (f : FrameState) (below : List FrameState) → MayTake p m body arguments →
+        IsCaller p f (method_frame p m body arguments) → AreSoundFrames p (f ∷ below) → AreSoundFrames p (method_frame p m body arguments ∷ f ∷ below) }
+{}
+
+/// The first method of a thread is entered, which returns nothing.
+pub fn first_method_is_entered()
+    ensures { (p : Linked) (m : ℕ) (body : Body) (arguments : List Value) → MayTake p m body arguments →
+        IsVoid p (method_frame p m body arguments) → AreSoundFrames p (method_frame p m body arguments ∷ []) }
+{}
+
+/// An initializer begins (JVMS 5.5).
+pub fn initializer_begins()
+    ensures { (p : Linked) (c : ℕ) (frames : List FrameState) → c < length p.classes → AreSoundFrames p frames → AreSoundFrames p (initializer_frame c ∷ frames) }
+{}
+
+/// .. and enters its method, which takes and returns nothing (JVMS 2.9).
+pub fn initializer_is_entered()
+    ensures { (p : Linked) (c m : ℕ) (body : Body) (f : FrameState) (below : List FrameState) → f.stage ≡ stages.Before c → m < length p.methods →
+        (method_at p m).code ≡ Some body → IsVoid p (in_clinit m body.max_stack body.max_locals f) →
+        AreSoundFrames p (f ∷ below) → AreSoundFrames p (in_clinit m body.max_stack body.max_locals f ∷ below) }
+{}
+
+/// A frame is dropped.
+pub fn frame_is_dropped()
+    ensures { (p : Linked) (frames : List FrameState) → AreSoundFrames p frames → AreSoundFrames p (rest_of frames) }
+{}
+
+/// A frame returns: its caller, which runs a method, gets what is returned and goes on behind its call (JVMS 2.6.4).
+pub fn frame_returns()
+    ensures { (p : Linked) (f : FrameState) (values : List Value) (below : List FrameState) → AreSoundFrames p (f ∷ below) →
+        (f.stage ≡ stages.Plain → length values ≤ returned_width (returned_of (method_of p f))) →
+        (f.stage ≡ stages.Plain → (first_frame below).method ≡ None → below ≡ []) →
+        AreSoundFrames p (frames_after_return p f.stage values below) }
 {}
