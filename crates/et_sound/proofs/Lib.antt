@@ -5,3 +5,4 @@ pub mod Objects
 pub mod Slots
 pub mod Monitors
 pub mod Frames
+pub mod Outcomes

@@ -14,6 +14,7 @@ use Rattle.et_machine.specs.State.{Kept}
 use Rattle.et_machine.specs.Words.{thread_at}
 use Rattle.et_event.specs.Frames.{first_reference}
 use Rattle.et_event.specs.Kinds.{kind_of}
+use Rattle.et_event.specs.Moments.{Moment, Doing}
 use Rattle.et_event.specs.Monitors.{Lock, OfObject, OfClass}
 use Rattle.et_event.specs.Sites.{code_of}
 use Rattle.et_event.specs.Sound.{is_of_kind, kind_of_element, IsPc, AreSoundFrames, HasThreadObject, IsSoundObject, IsSoundMonitor, IsSoundThread, IsSoundClassState, IsSoundStatic}
@@ -29,6 +30,11 @@ pub record IsWellFormed (p : Linked) (s : Kept) : Type 0 where
   pub classes : (length s.guest.classes ≡ length p.classes) × All (IsSoundClassState s.guest) s.guest.classes
   pub class_monitors : (length s.guest.class_monitors ≡ length p.classes) × All (IsSoundMonitor s.guest) s.guest.class_monitors
   pub statics : (length s.guest.statics ≡ length p.statics) × ((i : ℕ) → i < length p.statics → IsSoundStatic p s.guest i)
+
+-- so far an event has come to a well-formed state, and its thread was started
+pub record IsGoing (e : Moment) (d : Doing) : Type 0 where
+  pub well : IsWellFormed e.program d.state
+  pub thread : e.thread < length d.state.guest.threads
 
 -- thread t may become x
 pub record MayBeThread (p : Linked) (s : Kept) (t : ℕ) (x : ThreadState) : Type 0 where

@@ -5,24 +5,32 @@ ghost use Rattle.et_base.specs.declared.value.Value.{Value};
 ghost use Rattle.et_code.specs.Bodies.{Body};
 ghost use Rattle.et_code.specs.Decoding.{instruction_at};
 ghost use Rattle.et_code.specs.declared.instr.Instr.{Instr};
+ghost use Rattle.et_event.specs.Answered.{EventAnswers};
 ghost use Rattle.et_event.specs.BuiltIns.{with_referent_of, with_thread_for};
 ghost use Rattle.et_event.specs.Frames.{method_frame, frames_after_return};
 ghost use Rattle.et_event.specs.Initialization.{initializer_frame, with_state};
 ghost use Rattle.et_event.specs.Kinds.{kind_of, returned_width};
-ghost use Rattle.et_event.specs.Moments.{Moment, Doing, fits, later, slot_written, static_written};
+ghost use Rattle.et_event.specs.declared.errors.GuestError.{GuestError};
+ghost use Rattle.et_event.specs.Moments.{Moment, Doing, begins, fits, later, instance_made, array_made, slot_written, static_written, ends, goes, waits, throws};
 ghost use Rattle.et_event.specs.Monitors.{Lock, monitor_of, entered, left};
 ghost use Rattle.et_event.specs.Sites.{method_of};
 ghost use Rattle.et_event.specs.Sound.{is_of_kind, IsPc, IsCaller, IsVoid, returned_of, AreSoundFrames, HasThreadObject, IsSoundObject, IsSoundMonitor, IsSoundClassState, IsSoundFor};
+ghost use Rattle.et_event.specs.Strings.{interned};
 ghost use Rattle.et_frames.specs.declared.stage.Stage.TheVariants as stages;
 ghost use Rattle.et_frames.specs.Threads.{FrameState, ThreadState, most_frames, most_threads, first_frame, rest_of, in_clinit, with_pending, as_entered, as_ended};
-ghost use Rattle.et_heap.specs.Objects.{ObjectState, IsHeld, object_at, with_object_at, free_monitor};
+ghost use Rattle.et_heap.specs.Objects.{ObjectState, IsHeld, object_at, with_object_at, free_monitor, new_object};
 ghost use Rattle.et_machine.specs.declared.class_state.ClassState.{ClassState};
 ghost use Rattle.et_machine.specs.declared.class_state.ClassState.TheVariants as classes;
 ghost use Rattle.et_machine.specs.Sound.{IsSound};
-ghost use Rattle.et_machine.specs.State.{Kept};
+ghost use Rattle.et_machine.specs.State.{Kept, MachineState, kept_of};
 ghost use Rattle.et_machine.specs.Words.{thread_at, with_thread, top, with_top, HasFrame, class_state_at, with_string};
-ghost use Rattle.et_program.specs.Entries.{Linked, method_at, field_at};
-ghost use Rattle.et_sound.specs.WellFormed.{IsWellFormed, MayBeThread, MayHold, IsThere, KeepsFrame, MayTake};
+ghost use Rattle.et_program.specs.Entries.{Linked, class_at, method_at, field_at};
+ghost use Rattle.et_state.specs.declared.records.Record.{Record};
+ghost use Rattle.et_state.specs.declared.ends.EventEnd.{EventEnd};
+ghost use Rattle.et_state.specs.Outcome.{Outcome};
+ghost use Rattle.et_sound.specs.Outcomes.{KeepsSound};
+ghost use Rattle.et_sound.specs.Programs.{MakesSound};
+ghost use Rattle.et_sound.specs.WellFormed.{IsWellFormed, IsGoing, MayBeThread, MayHold, IsThere, KeepsFrame, MayTake};
 
 /// A sound state is well formed; and so is the state in which an event begins.
 pub fn sound_states_are_well_formed()
@@ -190,4 +198,35 @@ pub fn frame_returns()
         (f.stage ≡ stages.Plain → length values ≤ returned_width (returned_of (method_of p f))) →
         (f.stage ≡ stages.Plain → (first_frame below).method ≡ None → below ≡ []) →
         AreSoundFrames p (frames_after_return p f.stage values below) }
+{}
+
+// EVENTS
+
+/// What the machine makes is sound as it is made: an instance, an array, the object of a string.
+pub fn new_objects_keep_well_formed()
+    ensures instance { (e : Moment) (class : ℕ) (d : Doing) → IsSoundObject e.program (new_object class 0 (class_at e.program class).info.slots) →
+        IsWellFormed e.program d.state → IsWellFormed e.program (instance_made e class d).state }
+    ensures array { (e : Moment) (class elements : ℕ) (d : Doing) → IsSoundObject e.program (new_object class elements elements) →
+        IsWellFormed e.program d.state → IsWellFormed e.program (array_made e class elements d).state }
+    ensures string { (e : Moment) (bytes : List ℕ) (d : Doing) → MakesSound e.program → IsWellFormed e.program d.state → IsWellFormed e.program (interned e bytes d).state }
+{}
+
+/// An event begins in a well-formed state.
+pub fn events_begin_well_formed()
+    ensures { (p : Linked) (e : Moment) → IsSoundFor p e.before → e.before.guest.clock < 2 ^ 40 → IsWellFormed p (begins e).state }
+{}
+
+/// An event that ends in a well-formed state leaves a sound one: where it is done and what it made fits, or made nothing;
+/// where the thread waits; and where an exception is thrown.
+pub fn events_end_sound()
+    ensures fits { (p : Linked) (d : Doing) → IsWellFormed p d.state → KeepsSound p (ends d) }
+    ensures goes { (p : Linked) (d : Doing) → fits d.state.heap ≡ true → IsWellFormed p d.state → KeepsSound p (goes d) }
+    ensures waits { (p : Linked) (e : Moment) → IsSoundFor p e.before → e.before.guest.clock < 2 ^ 40 → KeepsSound p (waits e) }
+    ensures throws { (e : Moment) (error : GuestError) (d : Doing) → MakesSound e.program → IsGoing e d → KeepsSound e.program (throws e error d) }
+{}
+
+/// What a call that does an event leaves is sound, where the outcome of the event is.
+pub fn answers_are_sound()
+    ensures { (p : Linked) (o : Outcome Kept) (end : EventEnd) (m m' : MachineState) (out out' : List Record) →
+        EventAnswers o end m m' out out' → IsSoundFor p (kept_of m) → KeepsSound p o → IsSoundFor p (kept_of m') }
 {}
