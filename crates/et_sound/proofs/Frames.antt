@@ -1,12 +1,12 @@
 -- The frames of a thread: the topmost one changes, one is entered, one is left.
-use Rattle.std.proofs.Common.{◌≡◌, ℕ, zero, suc, ◌+◌, ◌-◌, ◌<◌, ◌≤◌, ◌↔◌, ◌⊎◌, Bool, true, false, List, [], ◌∷◌, ◌++◌, length, replicate, drop, Option, Some, None, Result, Ok, Err, refl, sym, ◌∙◌, ap, subst, inl, inr, arith}
+use Rattle.std.proofs.Common.{◌≡◌, ℕ, ◌-◌, ◌<◌, ◌≤◌, ◌↔◌, Bool, true, false, List, [], ◌∷◌, ◌++◌, length, replicate, Option, Some, None, Result, Ok, Err, refl, sym, ◌∙◌, ap, subst, inl, inr, arith}
 use Rattle.std.specs.Prelude.{IsSome, if◌then◌else◌, unwrap_or}
 use Rattle.std.proofs.lemmas.Bool.{cases_lt, false≢true, true≢false}
 use Rattle.std.proofs.lemmas.List.{length-append, length-drop, length-replicate}
 use Rattle.et_base.specs.declared.value.Value.{Value}
 use Rattle.et_base.specs.declared.value.Value.TheVariants.{Unset}
 use Rattle.et_class.specs.Names.{has}
-use Rattle.et_class.specs.declared.flags.TheConstants.{STATIC, SYNCHRONIZED}
+use Rattle.et_class.specs.declared.flags.TheConstants.{SYNCHRONIZED}
 use Rattle.et_code.specs.Bodies.{Body}
 use Rattle.et_code.specs.Decoding.{instruction_at}
 use Rattle.et_code.specs.Starts.{IsStart, Begins, Follows}
@@ -17,13 +17,13 @@ use Rattle.et_code.proofs.Decoded.{decoded_fits}
 use Rattle.et_program.specs.Entries.{Linked, method_at, is_static}
 use Rattle.et_frames.specs.declared.stage.Stage.{Stage}
 use Rattle.et_frames.specs.declared.stage.Stage.TheVariants.{Plain, Before, Clinit}
-use Rattle.et_frames.specs.Threads.{FrameState, ThreadState, first_frame, rest_of, top_of, with_top_of, popped, locals_with, in_clinit, clinit_stage, most_frames}
-use Rattle.et_machine.specs.State.{GuestState, Kept}
+use Rattle.et_frames.specs.Threads.{FrameState, ThreadState, first_frame, rest_of, with_top_of, popped, locals_with, in_clinit, clinit_stage, most_frames}
+use Rattle.et_machine.specs.State.{Kept}
 use Rattle.et_machine.specs.Words.{thread_at, top, with_top, HasFrame}
-use Rattle.et_event.specs.Frames.{first_reference, receiver_of, lock_slot, method_frame, behind, behind_or, resumed, frames_after_return}
+use Rattle.et_event.specs.Frames.{first_reference, method_frame, behind_or, frames_after_return}
 use Rattle.et_event.specs.Initialization.{initializer_frame}
 use Rattle.et_event.specs.Sites.{body_of, code_of, decoded_at}
-use Rattle.et_event.specs.Sound.{IsPc, RunsMethod, IsLocked, IsVoid, returned_of, IsStaged, IsCaller, IsAbove, AreSoundFrames}
+use Rattle.et_event.specs.Sound.{IsPc, RunsMethod, IsVoid, returned_of, IsStaged, IsCaller, IsAbove, AreSoundFrames}
 use Rattle.et_event.specs.Kinds.{returned_width}
 use Rattle.et_event.specs.Sites.{method_of}
 use Rattle.et_place.proofs.Constants.{at_end}

@@ -1,10 +1,9 @@
 -- Monitors are entered and left, classes go on with their initialization, threads are started.
-use Rattle.std.proofs.Common.{◌≡◌, ℕ, zero, suc, ◌+◌, ◌-◌, ◌<◌, ◌≤◌, ◌↔◌, ◌⊎◌, Bool, true, false, List, [], ◌∷◌, ◌++◌, length, set, get_or, Option, Some, None, IfSome, refl, sym, ◌∙◌, ap, subst, inl, inr, arith, get_or-set_same, rules}
+use Rattle.std.proofs.Common.{◌≡◌, ℕ, zero, suc, ◌+◌, ◌-◌, ◌<◌, ◌≤◌, ◌⊎◌, Bool, true, false, List, [], ◌∷◌, ◌++◌, length, set, get_or, Some, None, refl, sym, ◌∙◌, ap, subst, inl, inr, arith, get_or-set_same}
 use Rattle.std.specs.Prelude.{All, nat_le, IsSome, if◌then◌else◌}
 use Rattle.std.specs.List.{slice_index_or}
 use Rattle.std.proofs.lemmas.Bool.{cases_eq, cases_lt, leb-false}
 use Rattle.std.proofs.lemmas.List.{length-set, length-append, get_or-set_other, get_or_append_left, get_or-append_right}
-use Rattle.std.proofs.lemmas.List.Elements.{All-push}
 use Rattle.et_program.specs.Entries.{Linked, field_at}
 use Rattle.et_heap.specs.Objects.{ObjectState, IsHeld, free_monitor, object_at, with_monitor}
 use Rattle.et_heap.specs.declared.monitor.Monitor.{Monitor}
@@ -13,12 +12,12 @@ use Rattle.et_frames.specs.Threads.{ThreadState, no_thread, new_thread, most_thr
 use Rattle.et_machine.specs.declared.class_state.ClassState.{ClassState}
 use Rattle.et_machine.specs.declared.class_state.ClassState.TheVariants.{Untouched}
 use Rattle.et_machine.specs.State.{GuestState, Kept}
-use Rattle.et_machine.specs.Words.{thread_at, class_state_at, class_monitor_at, with_class_state, with_class_monitor, with_new_thread, with_string}
+use Rattle.et_machine.specs.Words.{thread_at, class_state_at, class_monitor_at, with_class_state, with_new_thread, with_string}
 use Rattle.et_event.specs.BuiltIns.{with_thread_for}
 use Rattle.et_event.specs.Initialization.{with_state}
 use Rattle.et_event.specs.Moments.{Moment, Doing, fits}
 use Rattle.et_event.specs.Monitors.{Lock, OfObject, OfClass, monitor_of, with_monitor_of, entered, left, left_once}
-use Rattle.et_event.specs.Sound.{AreSoundFrames, HasThreadObject, IsSoundObject, IsSoundMonitor, IsSoundThread, IsSoundClassState, IsSoundStatic}
+use Rattle.et_event.specs.Sound.{AreSoundFrames, HasThreadObject, IsSoundMonitor, IsSoundClassState}
 use Rattle.et_sound.specs.WellFormed.{IsWellFormed, IsThere}
 use Rattle.et_sound.proofs.Growing.{Grows, objects_grow, monitors_grow, classes_grow, free_is_sound}
 use Rattle.et_sound.proofs.Objects.{object_well, object_is_sound}

@@ -1,5 +1,5 @@
 -- An object becomes another one of its class, or is made.
-use Rattle.std.proofs.Common.{◌≡◌, ℕ, zero, suc, ◌+◌, ◌-◌, ◌<◌, ◌≤◌, true, false, List, [], ◌∷◌, ◌++◌, length, set, get_or, Option, Some, None, refl, sym, ◌∙◌, ap, subst, inl, inr, arith, get_or-set_same}
+use Rattle.std.proofs.Common.{◌≡◌, ℕ, zero, suc, ◌+◌, ◌-◌, ◌<◌, ◌≤◌, [], ◌∷◌, ◌++◌, length, Option, Some, None, refl, sym, ◌∙◌, ap, subst, inl, inr, arith, get_or-set_same}
 use Rattle.std.specs.Prelude.{codes}
 use Rattle.std.proofs.lemmas.Bool.{cases_eq, cases_lt}
 use Rattle.std.proofs.lemmas.List.{length-set, length-append, get_or-set_other, get_or_append_left, get_or-append_right}
@@ -11,9 +11,9 @@ use Rattle.et_heap.specs.Objects.{ObjectState, Objects, IsHeld, is_there, at, fo
 use Rattle.et_machine.specs.State.{Kept}
 use Rattle.et_machine.specs.Words.{thread_at}
 use Rattle.et_event.specs.Errors.{class_called}
-use Rattle.et_event.specs.Sound.{HasThreadObject, IsSoundObject, IsSoundMonitor, IsSoundThread}
+use Rattle.et_event.specs.Sound.{HasThreadObject, IsSoundObject, IsSoundMonitor}
 use Rattle.et_sound.specs.WellFormed.{IsWellFormed}
-use Rattle.et_sound.proofs.Growing.{Grows, monitor_grows, free_is_sound}
+use Rattle.et_sound.proofs.Growing.{free_is_sound}
 
 abbrev pub heap_now : Kept → Objects → Kept
 heap_now s heap = record { heap = heap; guest = s.guest }

@@ -1,5 +1,5 @@
 -- What an event makes, and how it ends.
-use Rattle.std.proofs.Common.{◌≡◌, ℕ, ◌+◌, ◌<◌, ◌≤◌, ◌^◌, Bool, true, false, ltb, List, [], ◌∷◌, ◌++◌, length, set, Option, Some, None, Result, Ok, Err, refl, sym, ◌∙◌, ap, subst, arith}
+use Rattle.std.proofs.Common.{◌≡◌, ℕ, ◌+◌, ◌<◌, ◌≤◌, ◌^◌, Bool, true, false, ltb, List, [], ◌∷◌, length, set, Option, Some, None, Result, Ok, Err, refl, sym, subst, arith}
 use Rattle.std.specs.Prelude.{ℤ, if◌then◌else◌, is_some, codes}
 use Rattle.std.proofs.lemmas.Bool.{ltb-true}
 use Rattle.std.proofs.lemmas.List.{length-set}
@@ -7,7 +7,7 @@ use Rattle.et_base.specs.declared.value.Value.{Value}
 use Rattle.et_base.specs.declared.value.Value.TheVariants.{Unset, Int, Long, LongHigh, Null, Ref}
 use Rattle.et_program.specs.Entries.{Linked, class_at}
 use Rattle.et_program.specs.declared.errors.LinkError.{LinkError}
-use Rattle.et_heap.specs.Objects.{ObjectState, Objects, new_object}
+use Rattle.et_heap.specs.Objects.{new_object}
 use Rattle.et_frames.specs.Threads.{ThreadState, with_pending, as_entered, has_frame, most_frames}
 use Rattle.et_machine.specs.Interned.{object_of}
 use Rattle.et_machine.specs.State.{Kept, MachineState, kept_of}
@@ -24,7 +24,7 @@ use Rattle.et_event.specs.declared.rows.Operand.TheVariants as operand
 use Rattle.et_event.specs.Answered.{EventAnswers}
 use Rattle.et_event.specs.Checks.{Reference, value_of, with_int, with_long, with_reference, with_value, ill_typed_unless, resolved, throws_unless, not_null, waits_unless, frame_fits}
 use Rattle.et_event.specs.Errors.{class_called, error_class, error_of}
-use Rattle.et_event.specs.Moments.{Moment, Doing, begins, with_guest, with_thread_state, next_object, instance_made, array_made, pending_now, entry_given_up, fits, ends, goes, waits, throws, ill_typed, later}
+use Rattle.et_event.specs.Moments.{Moment, Doing, begins, with_guest, with_thread_state, next_object, instance_made, array_made, pending_now, entry_given_up, fits, ends, goes, waits, throws, later}
 use Rattle.et_event.specs.Strings.{interned}
 use Rattle.et_event.specs.Sound.{is_of_kind, IsSoundObject, IsSoundFor}
 use Rattle.et_sound.specs.Outcomes.{KeepsSound}

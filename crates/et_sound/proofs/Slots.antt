@@ -1,14 +1,13 @@
 -- Slots of objects and static slots are written.
-use Rattle.std.proofs.Common.{◌≡◌, ℕ, zero, suc, ◌+◌, ◌-◌, ◌<◌, ◌≤◌, ◌⊎◌, ◌&&◌, true, false, List, [], ◌∷◌, length, set, get_or, Option, Some, None, refl, sym, ◌∙◌, ap, subst, inl, inr, arith, get_or-set_same}
+use Rattle.std.proofs.Common.{◌≡◌, ℕ, ◌-◌, ◌<◌, ◌⊎◌, ◌&&◌, true, List, length, set, get_or, Option, Some, None, refl, sym, ◌∙◌, ap, subst, inl, inr, arith, get_or-set_same}
 use Rattle.std.specs.Prelude.{All, nat_le}
 use Rattle.std.specs.List.{slice_index_or}
-use Rattle.std.proofs.lemmas.Bool.{cases_eq, cases_lt}
+use Rattle.std.proofs.lemmas.Bool.{cases_eq}
 use Rattle.std.proofs.lemmas.List.{length-set, get_or-set_other}
 use Rattle.std.proofs.lemmas.List.Sums.{sum_by-set}
 use Rattle.et_base.specs.declared.value.Value.{Value}
 use Rattle.et_base.specs.declared.value.Value.TheVariants.{Unset, Int, Long, LongHigh, Null, Ref}
 use Rattle.et_program.specs.Entries.{Linked, class_at, field_at}
-use Rattle.et_program.specs.Members.{is_subclass}
 use Rattle.et_program.specs.declared.info.Element.{Element}
 use Rattle.et_program.specs.declared.info.Element.TheVariants.{NoArray}
 use Rattle.et_heap.specs.Objects.{ObjectState, Objects, IsHeld, at, object_at, slot_of, with_slot, with_referent, with_monitor, with_object_at, slots_in, slot_count, made_count, most_objects, most_slots}
@@ -21,7 +20,7 @@ use Rattle.et_event.specs.declared.rows.Operand.{Operand}
 use Rattle.et_event.specs.Kinds.{kind_of}
 use Rattle.et_event.specs.Moments.{Moment, Doing, updated, slot_written, static_written, fits}
 use Rattle.et_event.specs.BuiltIns.{with_referent_of}
-use Rattle.et_event.specs.Sound.{is_of_kind, kind_of_element, HasField, IsSoundObject, IsSoundMonitor, IsSoundThread, IsSoundStatic}
+use Rattle.et_event.specs.Sound.{is_of_kind, kind_of_element, HasField, IsSoundObject, IsSoundStatic}
 use Rattle.et_sound.specs.WellFormed.{IsWellFormed, MayHold}
 use Rattle.et_sound.proofs.Growing.{Grows, objects_grow, monitors_grow, classes_grow}
 use Rattle.et_sound.proofs.Objects.{heap_now, object_well, object_is_sound, found_there}

@@ -1,6 +1,6 @@
 -- WHAT HOLDS OF A SOUND STATE besides that what is referred to is held, and that its objects fit. Each word that changes a
 -- state keeps it, also in the midst of an event.
-use Rattle.std.specs.Prelude.{◌≡◌, ℕ, ◌<◌, ◌≤◌, ◌^◌, ◌⊎◌, Bool, true, false, List, length, All, Option, Some, None, IsSome}
+use Rattle.std.specs.Prelude.{◌≡◌, ℕ, ◌<◌, ◌≤◌, ◌^◌, ◌⊎◌, true, false, List, length, All, Some, None, IsSome}
 use Rattle.et_base.specs.declared.value.Value.{Value}
 use Rattle.et_class.specs.Names.{has}
 use Rattle.et_class.specs.declared.flags.TheConstants.{STATIC}
