@@ -6,3 +6,6 @@ pub mod Slots
 pub mod Monitors
 pub mod Frames
 pub mod Outcomes
+pub mod Values
+pub mod Taken
+pub mod Fields

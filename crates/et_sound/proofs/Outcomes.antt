@@ -1,10 +1,8 @@
 -- What an event makes, and how it ends.
-use Rattle.std.proofs.Common.{◌≡◌, ℕ, ◌+◌, ◌<◌, ◌≤◌, ◌^◌, Bool, true, false, ltb, List, [], ◌∷◌, length, set, Option, Some, None, Result, Ok, Err, refl, sym, subst, arith}
-use Rattle.std.specs.Prelude.{ℤ, if◌then◌else◌, is_some, codes}
+use Rattle.std.proofs.Common.{◌≡◌, ℕ, ◌<◌, ◌^◌, Bool, true, false, ltb, List, length, set, Some, None, Result, Ok, Err, refl, sym, subst}
+use Rattle.std.specs.Prelude.{if◌then◌else◌, is_some, codes}
 use Rattle.std.proofs.lemmas.Bool.{ltb-true}
 use Rattle.std.proofs.lemmas.List.{length-set}
-use Rattle.et_base.specs.declared.value.Value.{Value}
-use Rattle.et_base.specs.declared.value.Value.TheVariants.{Unset, Int, Long, LongHigh, Null, Ref}
 use Rattle.et_program.specs.Entries.{Linked, class_at}
 use Rattle.et_program.specs.declared.errors.LinkError.{LinkError}
 use Rattle.et_heap.specs.Objects.{new_object}
@@ -19,14 +17,12 @@ use Rattle.et_state.specs.Outcome.{Outcome}
 use Rattle.et_state.specs.Outcome as outcome
 use Rattle.et_event.specs.declared.errors.GuestError.{GuestError}
 use Rattle.et_event.specs.declared.errors.GuestError.TheVariants.{NullPointerException, StackOverflowError}
-use Rattle.et_event.specs.declared.rows.Operand.{Operand}
-use Rattle.et_event.specs.declared.rows.Operand.TheVariants as operand
 use Rattle.et_event.specs.Answered.{EventAnswers}
-use Rattle.et_event.specs.Checks.{Reference, value_of, with_int, with_long, with_reference, with_value, ill_typed_unless, resolved, throws_unless, not_null, waits_unless, frame_fits}
+use Rattle.et_event.specs.Checks.{Reference, ill_typed_unless, resolved, throws_unless, not_null, waits_unless, frame_fits}
 use Rattle.et_event.specs.Errors.{class_called, error_class, error_of}
 use Rattle.et_event.specs.Moments.{Moment, Doing, begins, with_guest, with_thread_state, next_object, instance_made, array_made, pending_now, entry_given_up, fits, ends, goes, waits, throws, later}
 use Rattle.et_event.specs.Strings.{interned}
-use Rattle.et_event.specs.Sound.{is_of_kind, IsSoundObject, IsSoundFor}
+use Rattle.et_event.specs.Sound.{IsSoundObject, IsSoundFor}
 use Rattle.et_sound.specs.Outcomes.{KeepsSound}
 use Rattle.et_sound.specs.Programs.{MakesSound}
 use Rattle.et_sound.specs.WellFormed.{IsWellFormed, IsGoing}
@@ -121,55 +117,6 @@ pub where_frame_fits : (e : Moment) (d : Doing) (go : Outcome Kept) → MakesSou
 where_frame_fits e d go makes g h =
     let n : ℕ = length (thread_at d.state.guest e.thread).frames in
     unless_thrown e d StackOverflowError (ltb n most_frames) go makes g (λ few. h (ltb-true n most_frames few))
-
--- OPERANDS that are taken: below them there are no more than before
-
-pub taken_int : {A : Type 0} (P : A → Type 0) (refused : A) (ops : List Value) (k : ℕ) (go : ℤ → List Value → A) → P refused → length ops ≤ k → ((n : ℤ) (below : List Value) → length below + 1 ≤ k → P (go n below)) → P (with_int refused ops go)
-taken_int P refused [] k go r le h = r
-taken_int P refused (Unset ∷ below) k go r le h = r
-taken_int P refused (Int n ∷ below) k go r le h = h n below (omega arith)
-taken_int P refused (Long n ∷ below) k go r le h = r
-taken_int P refused (LongHigh ∷ below) k go r le h = r
-taken_int P refused (Null ∷ below) k go r le h = r
-taken_int P refused (Ref o ∷ below) k go r le h = r
-
-taken_high : {A : Type 0} (P : A → Type 0) (refused : A) (ops : List Value) (k : ℕ) (go : ℤ → List Value → A) → P refused → length ops + 1 ≤ k → ((n : ℤ) (below : List Value) → length below + 2 ≤ k → P (go n below)) → P (with_long refused (LongHigh ∷ ops) go)
-taken_high P refused [] k go r le h = r
-taken_high P refused (Unset ∷ below) k go r le h = r
-taken_high P refused (Int n ∷ below) k go r le h = r
-taken_high P refused (Long n ∷ below) k go r le h = h n below (omega arith)
-taken_high P refused (LongHigh ∷ below) k go r le h = r
-taken_high P refused (Null ∷ below) k go r le h = r
-taken_high P refused (Ref o ∷ below) k go r le h = r
-
-pub taken_long : {A : Type 0} (P : A → Type 0) (refused : A) (ops : List Value) (k : ℕ) (go : ℤ → List Value → A) → P refused → length ops ≤ k → ((n : ℤ) (below : List Value) → length below + 2 ≤ k → P (go n below)) → P (with_long refused ops go)
-taken_long P refused [] k go r le h = r
-taken_long P refused (Unset ∷ below) k go r le h = r
-taken_long P refused (Int n ∷ below) k go r le h = r
-taken_long P refused (Long n ∷ below) k go r le h = r
-taken_long P refused (LongHigh ∷ below) k go r le h = taken_high P refused below k go r (omega arith) h
-taken_long P refused (Null ∷ below) k go r le h = r
-taken_long P refused (Ref o ∷ below) k go r le h = r
-
-pub taken_reference : {A : Type 0} (P : A → Type 0) (refused : A) (ops : List Value) (k : ℕ) (go : Reference → List Value → A) → P refused → length ops ≤ k → ((r : Reference) (below : List Value) → length below + 1 ≤ k → P (go r below)) → P (with_reference refused ops go)
-taken_reference P refused [] k go r le h = r
-taken_reference P refused (Unset ∷ below) k go r le h = r
-taken_reference P refused (Int n ∷ below) k go r le h = r
-taken_reference P refused (Long n ∷ below) k go r le h = r
-taken_reference P refused (LongHigh ∷ below) k go r le h = r
-taken_reference P refused (Null ∷ below) k go r le h = h None below (omega arith)
-taken_reference P refused (Ref o ∷ below) k go r le h = h (Some o) below (omega arith)
-
-reference_kind : (r : Reference) → is_of_kind (Some operand.Reference) (value_of r) ≡ true
-reference_kind None = refl
-reference_kind (Some o) = refl
-
--- .. a value of a kind
-pub taken_value : {A : Type 0} (P : A → Type 0) (kind : Option Operand) (refused : A) (ops : List Value) (k : ℕ) (go : Value → List Value → A) → P refused → length ops ≤ k → ((v : Value) (below : List Value) → is_of_kind kind v ≡ true → length below + 1 ≤ k → P (go v below)) → P (with_value kind refused ops go)
-taken_value P None refused ops k go r le h = r
-taken_value P (Some operand.Int) refused ops k go r le h = taken_int P refused ops k (λ n. go (Int n)) r le (λ n below few. h (Int n) below refl few)
-taken_value P (Some operand.Long) refused ops k go r le h = taken_long P refused ops k (λ n. go (Long n)) r le (λ n below few. h (Long n) below refl (omega arith))
-taken_value P (Some operand.Reference) refused ops k go r le h = taken_reference P refused ops k (λ q. go (value_of q)) r le (λ q below few. h (value_of q) below (reference_kind q) few)
 
 -- WHAT IS ANSWERED
 

@@ -11,13 +11,13 @@ use Rattle.et_program.specs.declared.info.Element.TheVariants.{NoArray}
 use Rattle.et_heap.specs.Objects.{ObjectState, IsHeld, at}
 use Rattle.et_frames.specs.Threads.{FrameState, ThreadState, most_frames, most_threads}
 use Rattle.et_machine.specs.State.{Kept}
-use Rattle.et_machine.specs.Words.{thread_at}
+use Rattle.et_machine.specs.Words.{thread_at, HasFrame}
 use Rattle.et_event.specs.Frames.{first_reference}
 use Rattle.et_event.specs.Kinds.{kind_of}
-use Rattle.et_event.specs.Moments.{Moment, Doing}
+use Rattle.et_event.specs.Moments.{Moment, Doing, frame_of}
 use Rattle.et_event.specs.Monitors.{Lock, OfObject, OfClass}
-use Rattle.et_event.specs.Sites.{code_of}
-use Rattle.et_event.specs.Sound.{is_of_kind, kind_of_element, IsPc, AreSoundFrames, HasThreadObject, IsSoundObject, IsSoundMonitor, IsSoundThread, IsSoundClassState, IsSoundStatic}
+use Rattle.et_event.specs.Sites.{Site, code_of}
+use Rattle.et_event.specs.Sound.{is_of_kind, kind_of_element, IsPc, AreSoundFrames, HasThreadObject, IsSoundObject, IsSoundMonitor, IsSoundThread, IsSoundClassState, IsSoundStatic, IsSoundFor}
 
 pub record IsWellFormed (p : Linked) (s : Kept) : Type 0 where
   pub clock : s.guest.clock ≤ 2 ^ 40
@@ -35,6 +35,15 @@ pub record IsWellFormed (p : Linked) (s : Kept) : Type 0 where
 pub record IsGoing (e : Moment) (d : Doing) : Type 0 where
   pub well : IsWellFormed e.program d.state
   pub thread : e.thread < length d.state.guest.threads
+
+-- a thread does an instruction of its topmost frame, in a sound state
+pub record StandsAt (e : Moment) (at : Site) : Type 0 where
+  pub sound : IsSoundFor e.program e.before
+  pub clock : e.before.guest.clock < 2 ^ 40
+  pub frame : HasFrame e.before.guest e.thread
+  pub runs : (frame_of e).method ≡ None → ⊥
+  pub operands : length (frame_of e).operands ≤ (frame_of e).room
+  pub next : IsPc (code_of e.program (frame_of e)) at.next
 
 -- thread t may become x
 pub record MayBeThread (p : Linked) (s : Kept) (t : ℕ) (x : ThreadState) : Type 0 where

@@ -8,12 +8,16 @@ ghost use Rattle.et_code.specs.declared.instr.Instr.{Instr};
 ghost use Rattle.et_event.specs.Answered.{EventAnswers};
 ghost use Rattle.et_event.specs.BuiltIns.{with_referent_of, with_thread_for};
 ghost use Rattle.et_event.specs.Frames.{method_frame, frames_after_return};
+ghost use Rattle.et_event.specs.Heap.{get_field, put_field, load_element, store_element};
 ghost use Rattle.et_event.specs.Initialization.{initializer_frame, with_state};
-ghost use Rattle.et_event.specs.Kinds.{kind_of, returned_width};
+ghost use Rattle.et_event.specs.declared.rows.Elements.{Elements};
+ghost use Rattle.et_event.specs.declared.rows.Operand.{Operand};
+ghost use Rattle.et_event.specs.Checks.{entries_of};
+ghost use Rattle.et_event.specs.Kinds.{kind_of, or_zero, narrowed, kind_of_elements, are_elements, kept_element, returned_width};
 ghost use Rattle.et_event.specs.declared.errors.GuestError.{GuestError};
 ghost use Rattle.et_event.specs.Moments.{Moment, Doing, begins, fits, later, instance_made, array_made, slot_written, static_written, ends, goes, waits, throws};
 ghost use Rattle.et_event.specs.Monitors.{Lock, monitor_of, entered, left};
-ghost use Rattle.et_event.specs.Sites.{method_of};
+ghost use Rattle.et_event.specs.Sites.{Site, method_of};
 ghost use Rattle.et_event.specs.Sound.{is_of_kind, IsPc, IsCaller, IsVoid, returned_of, AreSoundFrames, HasThreadObject, IsSoundObject, IsSoundMonitor, IsSoundClassState, IsSoundFor};
 ghost use Rattle.et_event.specs.Strings.{interned};
 ghost use Rattle.et_frames.specs.declared.stage.Stage.TheVariants as stages;
@@ -29,8 +33,9 @@ ghost use Rattle.et_state.specs.declared.records.Record.{Record};
 ghost use Rattle.et_state.specs.declared.ends.EventEnd.{EventEnd};
 ghost use Rattle.et_state.specs.Outcome.{Outcome};
 ghost use Rattle.et_sound.specs.Outcomes.{KeepsSound};
-ghost use Rattle.et_sound.specs.Programs.{MakesSound};
-ghost use Rattle.et_sound.specs.WellFormed.{IsWellFormed, IsGoing, MayBeThread, MayHold, IsThere, KeepsFrame, MayTake};
+ghost use Rattle.et_pool.specs.Descriptors.{width_of};
+ghost use Rattle.et_sound.specs.Programs.{MakesSound, HasInstanceField, HasSlots};
+ghost use Rattle.et_sound.specs.WellFormed.{IsWellFormed, IsGoing, MayBeThread, MayHold, IsThere, KeepsFrame, MayTake, StandsAt};
 
 /// A sound state is well formed; and so is the state in which an event begins.
 pub fn sound_states_are_well_formed()
@@ -98,6 +103,21 @@ pub fn slot_is_written()
         MayHold p (object_at d.state.heap o).class i v → IsWellFormed p (slot_written e o i v d).state }
     ensures fits { (e : Moment) (o i : ℕ) (v : Value) (d : Doing) → IsHeld d.state.heap o → fits d.state.heap ≡ true →
         fits (slot_written e o i v d).state.heap ≡ true }
+{}
+
+/// An object may hold a value of its type in the slot of a field (JVMS 2.4), also as the field keeps it, and an array of a
+/// kind may hold what an element keeps of a value of that kind.
+pub fn slots_may_be_written()
+    ensures field { (p : Linked) (c f : ℕ) (v : Value) → HasSlots p → HasInstanceField p c f →
+        is_of_kind (kind_of (field_at p f).descriptor) v ≡ true → MayHold p c (field_at p f).slot v }
+    ensures narrowed { (k : Option Operand) (descriptor : List ℕ) (v : Value) → is_of_kind k v ≡ true → is_of_kind k (narrowed descriptor v) ≡ true }
+    ensures element { (p : Linked) (kind : Elements) (c i : ℕ) (v : Value) → HasSlots p → are_elements kind (class_at p c).info.element ≡ true →
+        is_of_kind (Some (kind_of_elements kind)) v ≡ true → MayHold p c i (kept_element kind v) }
+{}
+
+/// What is read from a field takes no more entries than its type.
+pub fn reads_have_width()
+    ensures { (descriptor : List ℕ) (v : Value) → is_of_kind (kind_of descriptor) v ≡ true → length (entries_of (or_zero (kind_of descriptor) v)) ≤ width_of descriptor }
 {}
 
 /// What an object refers to weakly is set.
@@ -229,4 +249,14 @@ pub fn events_end_sound()
 pub fn answers_are_sound()
     ensures { (p : Linked) (o : Outcome Kept) (end : EventEnd) (m m' : MachineState) (out out' : List Record) →
         EventAnswers o end m m' out out' → IsSoundFor p (kept_of m) → KeepsSound p o → IsSoundFor p (kept_of m') }
+{}
+
+// INSTRUCTIONS on fields and elements (JVMS 2.11.5)
+
+/// What reads or writes a field or an element leaves a sound state.
+pub fn slot_rows_keep_sound()
+    ensures get_field { (e : Moment) (at : Site) → StandsAt e at → MakesSound e.program → KeepsSound e.program (get_field e at) }
+    ensures put_field { (e : Moment) (at : Site) → StandsAt e at → MakesSound e.program → HasSlots e.program → KeepsSound e.program (put_field e at) }
+    ensures load_element { (e : Moment) (at : Site) (kind : Elements) → StandsAt e at → MakesSound e.program → KeepsSound e.program (load_element e at kind) }
+    ensures store_element { (e : Moment) (at : Site) (kind : Elements) → StandsAt e at → MakesSound e.program → HasSlots e.program → KeepsSound e.program (store_element e at kind) }
 {}
