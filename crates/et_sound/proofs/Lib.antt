@@ -9,3 +9,4 @@ pub mod Outcomes
 pub mod Values
 pub mod Taken
 pub mod Fields
+pub mod Steps

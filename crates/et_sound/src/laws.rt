@@ -1,25 +1,33 @@
 //! What each word that changes a state keeps. Each law is a function with an empty body: what it promises is its contract.
 
-ghost use Rattle.std.specs.Prelude.{◌≡◌, ◌<◌, ◌≤◌, ◌^◌, ℕ, true, List, [], ◌∷◌, ◌++◌, Option, Some, None, Ok, length, slice_index_or};
+ghost use Rattle.std.specs.Prelude.{◌≡◌, ℤ, ◌+◌, Bool, find, ◌<◌, ◌≤◌, ◌^◌, ℕ, true, List, [], ◌∷◌, ◌++◌, Option, Some, None, Ok, length, slice_index_or};
 ghost use Rattle.et_base.specs.declared.value.Value.{Value};
+ghost use Rattle.et_base.specs.declared.value.Value.TheVariants as values;
+ghost use Rattle.et_code.specs.declared.body.TableRow.{TableRow};
+ghost use Rattle.et_code.specs.Kept.{IsKept};
 ghost use Rattle.et_code.specs.Bodies.{Body};
 ghost use Rattle.et_code.specs.Decoding.{instruction_at};
 ghost use Rattle.et_code.specs.declared.instr.Instr.{Instr};
 ghost use Rattle.et_event.specs.Answered.{EventAnswers};
 ghost use Rattle.et_event.specs.BuiltIns.{with_referent_of, with_thread_for};
 ghost use Rattle.et_event.specs.Frames.{method_frame, frames_after_return};
-ghost use Rattle.et_event.specs.Heap.{get_field, put_field, load_element, store_element};
+ghost use Rattle.et_event.specs.declared.errors.GuestError.TheVariants as errors;
+ghost use Rattle.et_event.specs.declared.rows.MonitorRow.{MonitorRow};
+ghost use Rattle.et_event.specs.Errors.{error_class};
+ghost use Rattle.et_event.specs.Heap.{get_field, put_field, load_element, store_element, array_length, check_cast, instance_of, new_array_of};
 ghost use Rattle.et_event.specs.Initialization.{initializer_frame, with_state};
 ghost use Rattle.et_event.specs.declared.rows.Elements.{Elements};
 ghost use Rattle.et_event.specs.declared.rows.Operand.{Operand};
 ghost use Rattle.et_event.specs.Checks.{entries_of};
 ghost use Rattle.et_event.specs.Kinds.{kind_of, or_zero, narrowed, kind_of_elements, are_elements, kept_element, returned_width};
 ghost use Rattle.et_event.specs.declared.errors.GuestError.{GuestError};
-ghost use Rattle.et_event.specs.Moments.{Moment, Doing, begins, fits, later, instance_made, array_made, slot_written, static_written, ends, goes, waits, throws};
+ghost use Rattle.et_event.specs.Moments.{Moment, Doing, frame_of, begins, fits, later, instance_made, array_made, slot_written, static_written, ends, goes, waits, throws};
 ghost use Rattle.et_event.specs.Monitors.{Lock, monitor_of, entered, left};
-ghost use Rattle.et_event.specs.Sites.{Site, method_of};
+ghost use Rattle.et_event.specs.Sites.{Site, method_of, code_of};
 ghost use Rattle.et_event.specs.Sound.{is_of_kind, IsPc, IsCaller, IsVoid, returned_of, AreSoundFrames, HasThreadObject, IsSoundObject, IsSoundMonitor, IsSoundClassState, IsSoundFor};
 ghost use Rattle.et_event.specs.Strings.{interned};
+ghost use Rattle.et_event.specs.Sync.{monitor_event, end_of_thread};
+ghost use Rattle.et_event.specs.Throw.{throw, caught, unwound, unwound_clinit, failed, dropped};
 ghost use Rattle.et_frames.specs.declared.stage.Stage.TheVariants as stages;
 ghost use Rattle.et_frames.specs.Threads.{FrameState, ThreadState, most_frames, most_threads, first_frame, rest_of, in_clinit, with_pending, as_entered, as_ended};
 ghost use Rattle.et_heap.specs.Objects.{ObjectState, IsHeld, object_at, with_object_at, free_monitor, new_object};
@@ -259,4 +267,49 @@ pub fn slot_rows_keep_sound()
     ensures put_field { (e : Moment) (at : Site) → StandsAt e at → MakesSound e.program → HasSlots e.program → KeepsSound e.program (put_field e at) }
     ensures load_element { (e : Moment) (at : Site) (kind : Elements) → StandsAt e at → MakesSound e.program → KeepsSound e.program (load_element e at kind) }
     ensures store_element { (e : Moment) (at : Site) (kind : Elements) → StandsAt e at → MakesSound e.program → HasSlots e.program → KeepsSound e.program (store_element e at kind) }
+{}
+
+/// What tells the length of an array, casts, tests a type, or makes an array of a class whose arrays are sound as they are made.
+pub fn type_rows_keep_sound()
+    ensures array_length { (e : Moment) (at : Site) → StandsAt e at → MakesSound e.program → KeepsSound e.program (array_length e at) }
+    ensures check_cast { (e : Moment) (at : Site) → StandsAt e at → MakesSound e.program → KeepsSound e.program (check_cast e at) }
+    ensures instance_of { (e : Moment) (at : Site) → StandsAt e at → MakesSound e.program → KeepsSound e.program (instance_of e at) }
+    ensures new_array { (e : Moment) (at : Site) (class : ℕ) (elements : ℤ) (below : List Value) → StandsAt e at → MakesSound e.program →
+        ((n : ℕ) → IsSoundObject e.program (new_object class n n)) → length below + 1 ≤ (frame_of e).room → KeepsSound e.program (new_array_of e at class elements below) }
+{}
+
+// MONITORS, AND THE END OF A THREAD
+
+/// A monitor is entered or left by an instruction (JVMS 6.5 monitorenter, monitorexit).
+pub fn monitor_rows_keep_sound()
+    ensures { (e : Moment) (at : Site) (row : MonitorRow) → StandsAt e at → MakesSound e.program → KeepsSound e.program (monitor_event e at row) }
+{}
+
+/// A thread ends (JVMS 2.5.1).
+pub fn ends_of_threads_keep_sound()
+    ensures { (p : Linked) (e : Moment) → IsSoundFor p e.before → e.before.guest.clock < 2 ^ 40 → e.thread < length e.before.guest.threads → KeepsSound p (end_of_thread e) }
+{}
+
+// EXCEPTIONS (JVMS 2.10)
+
+/// athrow.
+pub fn throws_keep_sound()
+    ensures { (e : Moment) (at : Site) → StandsAt e at → MakesSound e.program → KeepsSound e.program (throw e) }
+{}
+
+/// A handler of the code begins at an instruction, and is entered.
+pub fn handlers_keep_sound()
+    ensures pc { (b : Body) (tags : List ℕ) (test : TableRow → Bool) (row : TableRow) → IsKept b tags → find test b.table ≡ Some row → IsPc b row.handler }
+    ensures caught { (e : Moment) (at : Site) (o handler : ℕ) → StandsAt e at → IsPc (code_of e.program (frame_of e)) handler → KeepsSound e.program (caught e o handler) }
+{}
+
+/// A frame is dropped by an exception: that of a method, with its monitor; that of an initializer, which was not entered yet
+/// or is in its method, and whose class has failed then. The exception that the machine makes for it holds a cause.
+pub fn unwinding_keeps_sound()
+    ensures plain { (e : Moment) (o : ℕ) → IsSoundFor e.program e.before → e.before.guest.clock < 2 ^ 40 → HasFrame e.before.guest e.thread →
+        (frame_of e).stage ≡ stages.Plain → KeepsSound e.program (unwound e o) }
+    ensures before { (e : Moment) (c o : ℕ) → MakesSound e.program → MayHold e.program (error_class e.program errors.ExceptionInInitializerError) 1 (values.Ref o) →
+        c < length e.program.classes → IsGoing e (begins e) → KeepsSound e.program (ends (failed e c o (dropped e (begins e)))) }
+    ensures clinit { (e : Moment) (c o : ℕ) → MakesSound e.program → MayHold e.program (error_class e.program errors.ExceptionInInitializerError) 1 (values.Ref o) →
+        c < length e.program.classes → IsGoing e (begins e) → KeepsSound e.program (unwound_clinit e c o) }
 {}
