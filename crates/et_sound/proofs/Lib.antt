@@ -10,3 +10,4 @@ pub mod Values
 pub mod Taken
 pub mod Fields
 pub mod Steps
+pub mod Initializing

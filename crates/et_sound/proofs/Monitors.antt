@@ -106,7 +106,7 @@ left_fits lock d there h = monitor_fits lock (left_once (monitor_of d lock)) d t
 
 -- A CLASS goes on
 
-untouched_before : (g : GuestState) (c k : ℕ) (x : ClassState) → c < length g.classes → (x ≡ Untouched → ⊥) → class_state_at (with_class_state g c x) k ≡ Untouched → class_state_at g k ≡ Untouched
+pub untouched_before : (g : GuestState) (c k : ℕ) (x : ClassState) → c < length g.classes → (x ≡ Untouched → ⊥) → class_state_at (with_class_state g c x) k ≡ Untouched → class_state_at g k ≡ Untouched
 untouched_before g c k x lt touched u =
     elim (cases_eq k c) [
       | inl e ↦ absurd (touched (sym (get_or-set_same g.classes c x Untouched lt) ∙ subst (λ (j : ℕ). class_state_at (with_class_state g c x) j ≡ Untouched) e u))

@@ -1,5 +1,7 @@
 -- What holds of the classes of a program, so that its objects are sound as they are made and written.
-use Rattle.std.specs.Prelude.{◌≡◌, ℕ, ◌<◌, true, false, List, length, slice_index_or, codes}
+use Rattle.std.specs.Prelude.{◌≡◌, ℕ, ◌<◌, true, false, List, length, slice_index_or, codes, All, Contains, Some}
+use Rattle.et_base.specs.declared.value.Value.{Value}
+use Rattle.et_base.specs.declared.value.Value.TheVariants.{Int, Long, Null}
 use Rattle.et_class.specs.Names.{has}
 use Rattle.et_class.specs.declared.flags.TheConstants.{STATIC}
 use Rattle.et_program.specs.Entries.{Linked, class_at, field_at}
@@ -8,8 +10,9 @@ use Rattle.et_program.specs.declared.info.Element.TheVariants.{NoArray}
 use Rattle.et_heap.specs.Objects.{ObjectState, new_object}
 use Rattle.et_event.specs.declared.errors.GuestError.{GuestError}
 use Rattle.et_event.specs.Errors.{name_of, class_called}
-use Rattle.et_event.specs.Kinds.{is_array}
-use Rattle.et_event.specs.Sound.{IsSoundObject}
+use Rattle.et_event.specs.Kinds.{is_array, kind_of}
+use Rattle.et_event.specs.Sites.{LoadedConstant, AnInt, ALong, AString, constant_at, pool_of}
+use Rattle.et_event.specs.Sound.{is_of_kind, IsSoundObject}
 
 -- an object of the built-in class of this name, as it is made
 abbrev pub new_of : Linked → List ℕ → ObjectState
@@ -36,3 +39,22 @@ pub record HasSlots (p : Linked) : Type 0 where
   pub bare : (c f : ℕ) → HasInstanceField p c f → (class_at p c).info.element ≡ NoArray
   -- a static field stands at its number among the static fields
   pub statics : (f : ℕ) → f < length p.fields → has (field_at p f).flags STATIC ≡ true → ((field_at p f).slot < length p.statics) × (slice_index_or p.statics (field_at p f).slot 0 ≡ f)
+
+-- a value of the kind of a constant; which object a string is doesn't matter
+abbrev pub value_like : LoadedConstant → Value
+value_like (AnInt n) = Int n
+value_like (ALong n) = Long n
+value_like (AString bytes) = Null
+
+-- f is a static field of class c whose constant, if any, is of its type (JVMS 4.7.2)
+pub record HasConstant (p : Linked) (c f : ℕ) : Type 0 where
+  pub class : (field_at p f).class ≡ c
+  pub slot : (field_at p f).slot < length p.statics
+  pub place : slice_index_or p.statics (field_at p f).slot 0 ≡ f
+  pub typed : (k : LoadedConstant) → constant_at (pool_of p (field_at p f).class) (field_at p f).constant ≡ Some k → is_of_kind (kind_of (field_at p f).descriptor) (value_like k) ≡ true
+
+-- the initialization of classes (JVMS 5.5): what is initialized with a class, itself too, are classes
+pub record HasInitializers (p : Linked) : Type 0 where
+  pub orders : (c : ℕ) → All (λ k. k < length p.classes) (class_at p c).init_order
+  pub own : (c : ℕ) → c < length p.classes → Contains (class_at p c).init_order c
+  pub constants : (c : ℕ) → c < length p.classes → All (HasConstant p c) (class_at p c).info.constants

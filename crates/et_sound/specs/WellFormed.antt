@@ -10,9 +10,11 @@ use Rattle.et_program.specs.Members.{is_subclass}
 use Rattle.et_program.specs.declared.info.Element.TheVariants.{NoArray}
 use Rattle.et_heap.specs.Objects.{ObjectState, IsHeld, at}
 use Rattle.et_frames.specs.Threads.{FrameState, ThreadState, most_frames, most_threads}
+use Rattle.et_machine.specs.declared.class_state.ClassState.TheVariants.{Untouched}
 use Rattle.et_machine.specs.State.{Kept}
 use Rattle.et_machine.specs.Words.{thread_at, HasFrame}
 use Rattle.et_event.specs.Frames.{first_reference}
+use Rattle.et_event.specs.Initialization.{state_of}
 use Rattle.et_event.specs.Kinds.{kind_of}
 use Rattle.et_event.specs.Moments.{Moment, Doing, frame_of}
 use Rattle.et_event.specs.Monitors.{Lock, OfObject, OfClass}
@@ -35,6 +37,12 @@ pub record IsWellFormed (p : Linked) (s : Kept) : Type 0 where
 pub record IsGoing (e : Moment) (d : Doing) : Type 0 where
   pub well : IsWellFormed e.program d.state
   pub thread : e.thread < length d.state.guest.threads
+
+-- .. some classes went on with their initialization since d, and the threads are the same
+pub record IsFurther (e : Moment) (d x : Doing) : Type 0 where
+  pub well : IsWellFormed e.program x.state
+  pub threads : x.state.guest.threads ≡ d.state.guest.threads
+  pub touched : (k : ℕ) → (state_of d k ≡ Untouched → ⊥) → state_of x k ≡ Untouched → ⊥
 
 -- a thread does an instruction of its topmost frame, in a sound state
 pub record StandsAt (e : Moment) (at : Site) : Type 0 where

@@ -15,7 +15,7 @@ ghost use Rattle.et_event.specs.declared.errors.GuestError.TheVariants as errors
 ghost use Rattle.et_event.specs.declared.rows.MonitorRow.{MonitorRow};
 ghost use Rattle.et_event.specs.Errors.{error_class};
 ghost use Rattle.et_event.specs.Heap.{get_field, put_field, load_element, store_element, array_length, check_cast, instance_of, new_array_of};
-ghost use Rattle.et_event.specs.Initialization.{initializer_frame, with_state};
+ghost use Rattle.et_event.specs.Initialization.{state_of, initializer_frame, with_state, begins_class, initialized};
 ghost use Rattle.et_event.specs.declared.rows.Elements.{Elements};
 ghost use Rattle.et_event.specs.declared.rows.Operand.{Operand};
 ghost use Rattle.et_event.specs.Checks.{entries_of};
@@ -42,8 +42,8 @@ ghost use Rattle.et_state.specs.declared.ends.EventEnd.{EventEnd};
 ghost use Rattle.et_state.specs.Outcome.{Outcome};
 ghost use Rattle.et_sound.specs.Outcomes.{KeepsSound};
 ghost use Rattle.et_pool.specs.Descriptors.{width_of};
-ghost use Rattle.et_sound.specs.Programs.{MakesSound, HasInstanceField, HasSlots};
-ghost use Rattle.et_sound.specs.WellFormed.{IsWellFormed, IsGoing, MayBeThread, MayHold, IsThere, KeepsFrame, MayTake, StandsAt};
+ghost use Rattle.et_sound.specs.Programs.{MakesSound, HasInstanceField, HasSlots, HasInitializers};
+ghost use Rattle.et_sound.specs.WellFormed.{IsWellFormed, IsGoing, IsFurther, MayBeThread, MayHold, IsThere, KeepsFrame, MayTake, StandsAt};
 
 /// A sound state is well formed; and so is the state in which an event begins.
 pub fn sound_states_are_well_formed()
@@ -312,4 +312,18 @@ pub fn unwinding_keeps_sound()
         c < length e.program.classes → IsGoing e (begins e) → KeepsSound e.program (ends (failed e c o (dropped e (begins e)))) }
     ensures clinit { (e : Moment) (c o : ℕ) → MakesSound e.program → MayHold e.program (error_class e.program errors.ExceptionInInitializerError) 1 (values.Ref o) →
         c < length e.program.classes → IsGoing e (begins e) → KeepsSound e.program (unwound_clinit e c o) }
+{}
+
+// INITIALIZATION (JVMS 5.5)
+
+/// Where a class is needed: an event that goes on keeps sound what it does then, in a well-formed state with the same threads
+/// in which the class is no longer untouched; the initializer that begins instead, the thread that waits and the exception
+/// that is thrown leave a sound state.
+pub fn initialization_keeps_sound()
+    ensures needed { (e : Moment) (d : Doing) (c : ℕ) (go : Doing → Outcome Kept) → IsSoundFor e.program e.before → e.before.guest.clock < 2 ^ 40 →
+        HasInitializers e.program → MakesSound e.program → c < length e.program.classes → IsGoing e d →
+        ((x : Doing) → IsGoing e x → IsFurther e d x → (state_of x c ≡ classes.Untouched → ⊥) → KeepsSound e.program (go x)) →
+        KeepsSound e.program (initialized e d c go) }
+    ensures begins { (e : Moment) (c : ℕ) (d : Doing) → HasInitializers e.program → MakesSound e.program → c < length e.program.classes → IsGoing e d →
+        KeepsSound e.program (begins_class e c d) }
 {}
