@@ -77,11 +77,11 @@ pub record IsField (p : Linked) (type : List ℕ) (f : ℕ) : Type 0 where
   pub within : f < length p.fields
   pub descriptor : (field_at p f).descriptor ≡ type
 
-record Passes {X : Type 0} (t : X → Bool) (d : X) (i : ℕ) (xs : List X) (j : ℕ) : Type 0 where
-  place : ℕ
-  is : j ≡ i + place
-  within : place < length xs
-  passes : t (get_or xs place d) ≡ true
+pub record Passes {X : Type 0} (t : X → Bool) (d : X) (i : ℕ) (xs : List X) (j : ℕ) : Type 0 where
+  pub place : ℕ
+  pub is : j ≡ i + place
+  pub within : place < length xs
+  pub passes : t (get_or xs place d) ≡ true
 
 shifted : {X : Type 0} (t : X → Bool) (d : X) (i : ℕ) (x : X) (xs : List X) (o : Option ℕ) → IfSome o (Passes t d (i + 1) xs) → IfSome o (Passes t d i (x ∷ xs))
 shifted t d i x xs None h = tt
@@ -92,7 +92,7 @@ by_test : {X : Type 0} (t : X → Bool) (d : X) (i : ℕ) (x : X) (xs : List X) 
 by_test t d i x xs true e h = record { place = 0; is = omega arith; within = omega arith; passes = e }
 by_test t d i x xs false e h = shifted t d i x xs (position_from t (i + 1) xs) h
 
-position_passes : {X : Type 0} (t : X → Bool) (d : X) (i : ℕ) (xs : List X) → IfSome (position_from t i xs) (Passes t d i xs)
+pub position_passes : {X : Type 0} (t : X → Bool) (d : X) (i : ℕ) (xs : List X) → IfSome (position_from t i xs) (Passes t d i xs)
 position_passes t d i [] = tt
 position_passes t d i (x ∷ xs) = by_test t d i x xs (t x) refl (position_passes t d (i + 1) xs)
 
@@ -119,7 +119,7 @@ first_found : (P : ℕ → Type 0) (member : ℕ → Option ℕ) → ((c : ℕ) 
 first_found P member h [] = tt
 first_found P member h (c ∷ cs) = either P (member c) (first_in member cs) (h c) (first_found P member h cs)
 
-ok_is : (P : ℕ → Type 0) (o : Option ℕ) (error : LinkError) (f : ℕ) → IfSome o P → ok_or o error ≡ Ok f → P f
+pub ok_is : (P : ℕ → Type 0) (o : Option ℕ) (error : LinkError) (f : ℕ) → IfSome o P → ok_or o error ≡ Ok f → P f
 ok_is P None error f h e = absurd (not_ok e)
   where
     not_ok : ok_or None error ≡ Ok f → ⊥
@@ -184,7 +184,7 @@ get_field_sound e at here makes =
 
 -- PUTFIELD
 
-kind_of_one : (p : Linked) (descriptor : List ℕ) (v : Value) (b : Bool) → is_of_kind (if b then kind_of descriptor else None) v ≡ true → b ≡ true → is_of_kind (kind_of descriptor) v ≡ true
+pub kind_of_one : (p : Linked) (descriptor : List ℕ) (v : Value) (b : Bool) → is_of_kind (if b then kind_of descriptor else None) v ≡ true → b ≡ true → is_of_kind (kind_of descriptor) v ≡ true
 kind_of_one p descriptor v true h e = h
 kind_of_one p descriptor v false h e = cc
 

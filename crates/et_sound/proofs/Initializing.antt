@@ -107,10 +107,10 @@ all_set e c (f ∷ fs) d makes all touched h =
 
 -- A CLASS goes on, and gets its constants
 
-further_itself : (e : Moment) (d : Doing) → IsWellFormed e.program d.state → IsFurther e d d
+pub further_itself : (e : Moment) (d : Doing) → IsWellFormed e.program d.state → IsFurther e d d
 further_itself e d h = record { well = h; threads = refl; touched = λ k touched u. touched u }
 
-further_then : (e : Moment) (d x y : Doing) → IsFurther e d x → IsFurther e x y → IsFurther e d y
+pub further_then : (e : Moment) (d x y : Doing) → IsFurther e d x → IsFurther e x y → IsFurther e d y
 further_then e d x y a b = record { well = b.well; threads = b.threads ∙ a.threads; touched = λ k touched. b.touched k (a.touched k touched) }
 
 -- class c becomes x
@@ -134,7 +134,7 @@ goes_on e c x d initializers makes lt sound touched h =
       touched = touched_still y (constants_set e c y) c set.beside now;
     }
 
-not_done : Done ≡ Untouched → ⊥
+pub not_done : Done ≡ Untouched → ⊥
 not_done e = cc
 
 not_begun : (t : ℕ) → Begun t ≡ Untouched → ⊥
@@ -150,11 +150,11 @@ done_by e c Done d is initializers makes lt h = record { further = further_itsel
 done_by e c Failed d is initializers makes lt h = record { further = further_itself e d h; touched = λ u. not_failed (sym is ∙ u) }
 
 -- .. as do all with which it is initialized
-record AllGoOn (e : Moment) (cs : List ℕ) (d y : Doing) : Type 0 where
-  further : IsFurther e d y
-  touched : (k : ℕ) → Contains cs k → state_of y k ≡ Untouched → ⊥
+pub record AllGoOn (e : Moment) (cs : List ℕ) (d y : Doing) : Type 0 where
+  pub further : IsFurther e d y
+  pub touched : (k : ℕ) → Contains cs k → state_of y k ≡ Untouched → ⊥
 
-all_done : (e : Moment) (cs : List ℕ) (d : Doing) → HasInitializers e.program → MakesSound e.program → All (λ k. k < length e.program.classes) cs → IsWellFormed e.program d.state → AllGoOn e cs d (fold (λ x k. class_done e k (state_of x k) x) d cs)
+pub all_done : (e : Moment) (cs : List ℕ) (d : Doing) → HasInitializers e.program → MakesSound e.program → All (λ k. k < length e.program.classes) cs → IsWellFormed e.program d.state → AllGoOn e cs d (fold (λ x k. class_done e k (state_of x k) x) d cs)
 all_done e [] d initializers makes all h = record { further = further_itself e d h; touched = λ k c. absurd (Contains-none k c) }
 all_done e (c ∷ cs) d initializers makes all h =
     let x : Doing = class_done e c (state_of d c) d in

@@ -11,3 +11,7 @@ pub mod Taken
 pub mod Fields
 pub mod Steps
 pub mod Initializing
+pub mod Classes
+pub mod Initializers
+pub mod Calls
+pub mod Standing

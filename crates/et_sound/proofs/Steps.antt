@@ -64,7 +64,7 @@ array_length_sound e at here makes =
     where_not_null e (begins e) r _ makes (going e at here) (λ o is.
     unless_ill_typed e.program e (is_array (element_of e o)) _ (λ array. leaving_sound e at _ here (omega (arith, few)))))
 
-class_named : (p : Linked) (e : Moment) (o : Option (List ℕ)) (go : List ℕ → Outcome Kept) → ((name : List ℕ) → KeepsSound p (go name)) → KeepsSound p (with_class e o go)
+pub class_named : (p : Linked) (e : Moment) (o : Option (List ℕ)) (go : List ℕ → Outcome Kept) → ((name : List ℕ) → KeepsSound p (go name)) → KeepsSound p (with_class e o go)
 class_named p e None go h = tt
 class_named p e (Some name) go h = h name
 
@@ -243,7 +243,7 @@ unwound_clinit_sound e c o makes holds lt g =
 
 -- a frame of a method is dropped, and its monitor left once, where this thread owns it
 
-abbrev IsSomeThere : Kept → Option Lock → Type 0
+abbrev pub IsSomeThere : Kept → Option Lock → Type 0
 IsSomeThere s None = Unit {0}
 IsSomeThere s (Some lock) = IsThere s lock
 
@@ -256,7 +256,7 @@ lock_there s m receiver h = by (has m.flags SYNCHRONIZED) (has m.flags STATIC) r
     by true false (Some o) held = held o refl
     by false static r held = tt
 
-threads_left : (lock : Lock) (d : Doing) → (left lock d).state.guest.threads ≡ d.state.guest.threads
+pub threads_left : (lock : Lock) (d : Doing) → (left lock d).state.guest.threads ≡ d.state.guest.threads
 threads_left (OfObject o) d = refl
 threads_left (OfClass c) d = refl
 

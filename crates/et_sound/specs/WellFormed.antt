@@ -1,6 +1,6 @@
 -- WHAT HOLDS OF A SOUND STATE besides that what is referred to is held, and that its objects fit. Each word that changes a
 -- state keeps it, also in the midst of an event.
-use Rattle.std.specs.Prelude.{◌≡◌, ℕ, ◌<◌, ◌≤◌, ◌^◌, ◌⊎◌, true, false, List, length, All, Some, None, IsSome}
+use Rattle.std.specs.Prelude.{◌≡◌, ℕ, ◌<◌, ◌≤◌, ◌^◌, ◌⊎◌, true, false, List, length, All, Option, Some, None, IsSome}
 use Rattle.et_base.specs.declared.value.Value.{Value}
 use Rattle.et_class.specs.Names.{has}
 use Rattle.et_class.specs.declared.flags.TheConstants.{STATIC}
@@ -17,7 +17,7 @@ use Rattle.et_event.specs.Frames.{first_reference}
 use Rattle.et_event.specs.Initialization.{state_of}
 use Rattle.et_event.specs.Kinds.{kind_of}
 use Rattle.et_event.specs.Moments.{Moment, Doing, frame_of}
-use Rattle.et_event.specs.Monitors.{Lock, OfObject, OfClass}
+use Rattle.et_event.specs.Monitors.{Lock, OfObject, OfClass, monitor_of}
 use Rattle.et_event.specs.Sites.{Site, code_of}
 use Rattle.et_event.specs.Sound.{is_of_kind, kind_of_element, IsPc, AreSoundFrames, HasThreadObject, IsSoundObject, IsSoundMonitor, IsSoundThread, IsSoundClassState, IsSoundStatic, IsSoundFor}
 
@@ -88,3 +88,8 @@ pub record MayTake (p : Linked) (m : ℕ) (body : Body) (arguments : List Value)
   pub code : (method_at p m).code ≡ Some body
   pub few : length arguments ≤ body.max_locals
   pub receiver : is_static p m ≡ false → IsSome (first_reference arguments)
+
+-- the monitor of a method, if it has one, may be entered once more
+abbrev pub MayEnter : Doing → Option Lock → Type 0
+MayEnter d None = Unit {0}
+MayEnter d (Some lock) = IsThere d.state lock × ((monitor_of d lock).count < d.state.guest.clock)

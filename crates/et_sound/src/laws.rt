@@ -1,6 +1,6 @@
 //! What each word that changes a state keeps. Each law is a function with an empty body: what it promises is its contract.
 
-ghost use Rattle.std.specs.Prelude.{◌≡◌, ℤ, ◌+◌, Bool, find, ◌<◌, ◌≤◌, ◌^◌, ℕ, true, List, [], ◌∷◌, ◌++◌, Option, Some, None, Ok, length, slice_index_or};
+ghost use Rattle.std.specs.Prelude.{◌≡◌, unwrap_or, ℤ, ◌+◌, Bool, find, ◌<◌, ◌≤◌, ◌^◌, ℕ, true, List, [], ◌∷◌, ◌++◌, Option, Some, None, Ok, length, slice_index_or};
 ghost use Rattle.et_base.specs.declared.value.Value.{Value};
 ghost use Rattle.et_base.specs.declared.value.Value.TheVariants as values;
 ghost use Rattle.et_code.specs.declared.body.TableRow.{TableRow};
@@ -10,26 +10,30 @@ ghost use Rattle.et_code.specs.Decoding.{instruction_at};
 ghost use Rattle.et_code.specs.declared.instr.Instr.{Instr};
 ghost use Rattle.et_event.specs.Answered.{EventAnswers};
 ghost use Rattle.et_event.specs.BuiltIns.{with_referent_of, with_thread_for};
-ghost use Rattle.et_event.specs.Frames.{method_frame, frames_after_return};
+ghost use Rattle.et_event.specs.Calls.{frame_returned};
+ghost use Rattle.et_event.specs.Frames.{receiver_of, method_frame, frame_entered, frames_after_return};
 ghost use Rattle.et_event.specs.declared.errors.GuestError.TheVariants as errors;
 ghost use Rattle.et_event.specs.declared.rows.MonitorRow.{MonitorRow};
 ghost use Rattle.et_event.specs.Errors.{error_class};
-ghost use Rattle.et_event.specs.Heap.{get_field, put_field, load_element, store_element, array_length, check_cast, instance_of, new_array_of};
-ghost use Rattle.et_event.specs.Initialization.{state_of, initializer_frame, with_state, begins_class, initialized};
+ghost use Rattle.et_event.specs.Heap.{get_field, put_field, load_element, store_element, array_length, check_cast, instance_of, new_array_of, get_static, put_static, new_instance, new_array, new_reference_array};
+ghost use Rattle.et_event.specs.Initialization.{state_of, initializer_frame, with_state, begins_class, initialized, initialization_step};
 ghost use Rattle.et_event.specs.declared.rows.Elements.{Elements};
 ghost use Rattle.et_event.specs.declared.rows.Operand.{Operand};
 ghost use Rattle.et_event.specs.Checks.{entries_of};
 ghost use Rattle.et_event.specs.Kinds.{kind_of, or_zero, narrowed, kind_of_elements, are_elements, kept_element, returned_width};
 ghost use Rattle.et_event.specs.declared.errors.GuestError.{GuestError};
-ghost use Rattle.et_event.specs.Moments.{Moment, Doing, frame_of, begins, fits, later, instance_made, array_made, slot_written, static_written, ends, goes, waits, throws};
-ghost use Rattle.et_event.specs.Monitors.{Lock, monitor_of, entered, left};
-ghost use Rattle.et_event.specs.Sites.{Site, method_of, code_of};
+ghost use Rattle.et_event.specs.Moments.{Moment, Doing, frame_of, thread_of, begins, fits, later, instance_made, array_made, slot_written, static_written, ends, goes, waits, throws};
+ghost use Rattle.et_event.specs.Monitors.{Lock, monitor_of, entered, left, lock_for};
+ghost use Rattle.et_event.specs.Sites.{Site, method_of, code_of, class_operand, natural};
 ghost use Rattle.et_event.specs.Sound.{is_of_kind, IsPc, IsCaller, IsVoid, returned_of, AreSoundFrames, HasThreadObject, IsSoundObject, IsSoundMonitor, IsSoundClassState, IsSoundFor};
 ghost use Rattle.et_event.specs.Strings.{interned};
 ghost use Rattle.et_event.specs.Sync.{monitor_event, end_of_thread};
 ghost use Rattle.et_event.specs.Throw.{throw, caught, unwound, unwound_clinit, failed, dropped};
 ghost use Rattle.et_frames.specs.declared.stage.Stage.TheVariants as stages;
-ghost use Rattle.et_frames.specs.Threads.{FrameState, ThreadState, most_frames, most_threads, first_frame, rest_of, in_clinit, with_pending, as_entered, as_ended};
+ghost use Rattle.et_frames.specs.declared.stage.Turn.TheVariants as turns;
+ghost use Rattle.et_place.specs.declared.places.Place.{Place};
+ghost use Rattle.et_place.specs.Places.{IsPlace, site_at};
+ghost use Rattle.et_frames.specs.Threads.{turn_of, FrameState, ThreadState, most_frames, most_threads, first_frame, rest_of, in_clinit, with_pending, as_entered, as_ended};
 ghost use Rattle.et_heap.specs.Objects.{ObjectState, IsHeld, object_at, with_object_at, free_monitor, new_object};
 ghost use Rattle.et_machine.specs.declared.class_state.ClassState.{ClassState};
 ghost use Rattle.et_machine.specs.declared.class_state.ClassState.TheVariants as classes;
@@ -37,13 +41,15 @@ ghost use Rattle.et_machine.specs.Sound.{IsSound};
 ghost use Rattle.et_machine.specs.State.{Kept, MachineState, kept_of};
 ghost use Rattle.et_machine.specs.Words.{thread_at, with_thread, top, with_top, HasFrame, class_state_at, with_string};
 ghost use Rattle.et_program.specs.Entries.{Linked, class_at, method_at, field_at};
+ghost use Rattle.et_program.specs.Members.{base_array};
+ghost use Rattle.et_program.specs.Resolution.{resolve_class};
 ghost use Rattle.et_state.specs.declared.records.Record.{Record};
 ghost use Rattle.et_state.specs.declared.ends.EventEnd.{EventEnd};
 ghost use Rattle.et_state.specs.Outcome.{Outcome};
 ghost use Rattle.et_sound.specs.Outcomes.{KeepsSound};
 ghost use Rattle.et_pool.specs.Descriptors.{width_of};
-ghost use Rattle.et_sound.specs.Programs.{MakesSound, HasInstanceField, HasSlots, HasInitializers};
-ghost use Rattle.et_sound.specs.WellFormed.{IsWellFormed, IsGoing, IsFurther, MayBeThread, MayHold, IsThere, KeepsFrame, MayTake, StandsAt};
+ghost use Rattle.et_sound.specs.Programs.{MakesSound, HasInstanceField, HasSlots, HasInitializers, IsArrayClass};
+ghost use Rattle.et_sound.specs.WellFormed.{IsWellFormed, IsGoing, IsFurther, MayBeThread, MayHold, IsThere, KeepsFrame, MayTake, MayEnter, StandsAt};
 
 /// A sound state is well formed; and so is the state in which an event begins.
 pub fn sound_states_are_well_formed()
@@ -259,6 +265,12 @@ pub fn answers_are_sound()
         EventAnswers o end m m' out out' → IsSoundFor p (kept_of m) → KeepsSound p o → IsSoundFor p (kept_of m') }
 {}
 
+/// A thread whose turn is an instruction stands at it, at the place that `et_place` looks up.
+pub fn instructions_stand_at_places()
+    ensures { (e : Moment) (place : Place) → IsSoundFor e.program e.before → e.before.guest.clock < 2 ^ 40 →
+        turn_of (thread_of e) ≡ turns.Instruction → IsPlace e.program (frame_of e) place → StandsAt e (site_at place) }
+{}
+
 // INSTRUCTIONS on fields and elements (JVMS 2.11.5)
 
 /// What reads or writes a field or an element leaves a sound state.
@@ -318,7 +330,7 @@ pub fn unwinding_keeps_sound()
 
 /// Where a class is needed: an event that goes on keeps sound what it does then, in a well-formed state with the same threads
 /// in which the class is no longer untouched; the initializer that begins instead, the thread that waits and the exception
-/// that is thrown leave a sound state.
+/// that is thrown leave a sound state. So does a step of an initializer.
 pub fn initialization_keeps_sound()
     ensures needed { (e : Moment) (d : Doing) (c : ℕ) (go : Doing → Outcome Kept) → IsSoundFor e.program e.before → e.before.guest.clock < 2 ^ 40 →
         HasInitializers e.program → MakesSound e.program → c < length e.program.classes → IsGoing e d →
@@ -326,4 +338,39 @@ pub fn initialization_keeps_sound()
         KeepsSound e.program (initialized e d c go) }
     ensures begins { (e : Moment) (c : ℕ) (d : Doing) → HasInitializers e.program → MakesSound e.program → c < length e.program.classes → IsGoing e d →
         KeepsSound e.program (begins_class e c d) }
+    ensures step { (e : Moment) (c : ℕ) → IsSoundFor e.program e.before → e.before.guest.clock < 2 ^ 40 → HasFrame e.before.guest e.thread →
+        (frame_of e).stage ≡ stages.Before c → c < length e.program.classes → HasInitializers e.program → MakesSound e.program →
+        KeepsSound e.program (initialization_step e c) }
+{}
+
+/// What reads or writes a static field, and what makes an instance or an array, leaves a sound state, where the program has
+/// the arrays.
+pub fn class_rows_keep_sound()
+    ensures get_static { (e : Moment) (at : Site) → StandsAt e at → MakesSound e.program → HasSlots e.program → HasInitializers e.program → KeepsSound e.program (get_static e at) }
+    ensures put_static { (e : Moment) (at : Site) → StandsAt e at → MakesSound e.program → HasSlots e.program → HasInitializers e.program → KeepsSound e.program (put_static e at) }
+    ensures new { (e : Moment) (at : Site) → StandsAt e at → MakesSound e.program → HasSlots e.program → HasInitializers e.program → KeepsSound e.program (new_instance e at) }
+    ensures new_array { (e : Moment) (at : Site) (c : ℕ) → StandsAt e at → MakesSound e.program → HasSlots e.program →
+        base_array e.program (natural at.instr.first) ≡ Some c → KeepsSound e.program (new_array e at) }
+    ensures new_reference_array { (e : Moment) (at : Site) → StandsAt e at → MakesSound e.program → HasSlots e.program →
+        ((name : List ℕ) (class : ℕ) → class_operand at ≡ Some name → resolve_class e.program name ≡ Ok class → IsArrayClass e.program (unwrap_or (class_at e.program class).array 0)) →
+        KeepsSound e.program (new_reference_array e at) }
+{}
+
+// CALLS (JVMS 2.6)
+
+/// The frame of a method is pushed, whose monitor is entered.
+pub fn entered_frames_keep_well_formed()
+    ensures { (e : Moment) (m : ℕ) (body : Body) (arguments : List Value) (d : Doing) → IsGoing e d →
+        MayEnter d (lock_for (method_at e.program m) (receiver_of e.program m arguments)) → length (thread_at d.state.guest e.thread).frames < most_frames →
+        AreSoundFrames e.program (method_frame e.program m body arguments ∷ (thread_at d.state.guest e.thread).frames) →
+        IsWellFormed e.program (frame_entered e m body arguments d).state }
+{}
+
+/// A frame returns what has the width of its type, to a caller that runs a method, and its monitor is left once; an initializer
+/// makes its class done.
+pub fn returns_keep_sound()
+    ensures { (e : Moment) (returned : List Value) → IsSoundFor e.program e.before → e.before.guest.clock < 2 ^ 40 → HasFrame e.before.guest e.thread →
+        ((frame_of e).stage ≡ stages.Plain → length returned ≤ returned_width (returned_of (method_of e.program (frame_of e)))) →
+        ((frame_of e).stage ≡ stages.Plain → (first_frame (rest_of (thread_of e).frames)).method ≡ None → rest_of (thread_of e).frames ≡ []) →
+        KeepsSound e.program (goes (frame_returned e returned (begins e))) }
 {}
