@@ -121,7 +121,7 @@ no_slots (Base kind) = refl
 no_slots (Class class) = refl
 
 -- a field is of a class of the set, and of one that declares fields; none of them stands above an array class
-no_field_of : (p : Linked) (n q : ℕ) → q < n → has_no_fields boots q ≡ false → All NoField (class_at p n).supers → All NoField (class_at p n).superinterfaces → is_subclass p n q ≡ true → ⊥
+pub no_field_of : (p : Linked) (n q : ℕ) → q < n → has_no_fields boots q ≡ false → All NoField (class_at p n).supers → All NoField (class_at p n).superinterfaces → is_subclass p n q ≡ true → ⊥
 no_field_of p n q lt other supers interfaces h =
     ⊎_elim
     (λ e. let same : n ≡ q = eqb-true n q e in omega arith)

@@ -6,3 +6,6 @@ pub mod Names
 pub mod Arguments
 pub mod Starting
 pub mod Flushing
+pub mod Chains
+pub mod Counts
+pub mod Slotted

@@ -7,6 +7,7 @@ use Rattle.std.specs.Str.{bytes_eq}
 use Rattle.std.proofs.lemmas.Bool.{eqb-true, or_cases, both_ways}
 use Rattle.std.proofs.lemmas.List.{length-replicate}
 use Rattle.std.proofs.lemmas.List.Elements.{All-nil, All-cons, All-head, All-tail, All-append, All-map}
+use Rattle.et_base.specs.declared.value.Value.{Value}
 use Rattle.et_base.specs.declared.value.Value.TheVariants.{Unset}
 use Rattle.et_pool.specs.Entries.{Constants}
 use Rattle.et_set.specs.Outline.{Outline, no_outline}
@@ -24,9 +25,11 @@ use Rattle.et_link.specs.Classes.{Heads, set_class, array_class}
 use Rattle.et_link.specs.ProgramOf.{heads_of, names_of, program_with, IsProgramOf}
 use Rattle.et_link.proofs.TabledLemmas.{length-set, length-classes}
 use Rattle.et_heap.specs.Objects.{new_object}
-use Rattle.et_event.specs.Errors.{class_called, name_of}
+use Rattle.et_event.specs.declared.errors.GuestError.{GuestError}
+use Rattle.et_event.specs.Errors.{class_called, error_class, name_of}
 use Rattle.et_event.specs.Sound.{IsSoundObject, slots_by}
 use Rattle.et_sound.specs.Programs.{MakesSound, new_of}
+use Rattle.et_sound.specs.WellFormed.{MayHold}
 use Rattle.et_begin.proofs.Places.{at_numbered, first_numbered, one_of}
 use Rattle.et_begin.proofs.BuiltIn.{has_no_fields, no_fields_within, none_behind, boot_place, fields_of_others, IsFieldless, of_error, of_string}
 use Rattle.et_begin.proofs.Above.{NoField, IsFree, place_in_set, free_above}
@@ -36,7 +39,7 @@ use Rattle.et_begin.proofs.Above.{NoField, IsFree, place_in_set, free_above}
 abbrev OfOther : FieldInfo → Type 0
 OfOther f = has_no_fields boots f.class ≡ false
 
-numbered_all : {X Y : Type 0} (P : Y → Type 0) (f : ℕ → X → List Y) (k : ℕ) (xs : List X) → ((j : ℕ) (x : X) → k ≤ j → All P (f j x)) → All P (numbered f k xs)
+pub numbered_all : {X Y : Type 0} (P : Y → Type 0) (f : ℕ → X → List Y) (k : ℕ) (xs : List X) → ((j : ℕ) (x : X) → k ≤ j → All P (f j x)) → All P (numbered f k xs)
 numbered_all P f k [] h = All-nil P
 numbered_all P f k (x ∷ xs) h = All-append P (f k x) (numbered f (k + 1) xs) (h k x (omega arith)) (numbered_all P f (k + 1) xs (λ j y le. h j y (omega arith)))
 
@@ -109,3 +112,26 @@ makes_sound files p is =
       string = named_sound files is.rows p.pools is.ancestry (codes "java/lang/String") of_string;
       error = λ error. named_sound files is.rows p.pools is.ancestry (name_of error) (of_error error);
     })
+
+-- .. and may hold any value in any slot, since no field stands there
+
+new_holds : (files : List LoadedClass) (rows : List Ancestry) (pools : List Constants) → IsAncestry (links (set_of files)) rows → (k i : ℕ) (v : Value) → NoField k → MayHold (program_with files rows pools) k i v
+new_holds files rows pools is k i v h =
+    let p : Linked = program_with files rows pools in
+    let n : length (set_of files) ≡ length boots + length files = length-set files in
+    let lt : k < length boots = no_fields_within boots k h in
+    let c : class_at p k ≡ set_class (heads_of files rows) k (slice_index_or (set_of files) k no_outline) = class_in files rows pools k (omega arith) in
+    let free : IsFree rows k = free_above files rows is k h in
+    let supers : All NoField (class_at p k).supers = subst (λ (x : ClassEntry). All NoField x.supers) (sym c) free.above.supers in
+    let interfaces : All NoField (class_at p k).superinterfaces = subst (λ (x : ClassEntry). All NoField x.superinterfaces) (sym c) free.above.superinterfaces in
+    record {
+      fields = λ f l static below e. absurd (both_ways (has_no_fields boots (field_at p f).class) (fields_elsewhere files rows f no_field l) (no_field_above p k (field_at p f).class h supers interfaces below));
+      elements = inr (ap (λ (x : ClassEntry). x.info.element) c);
+    }
+
+pub errors_hold : (files : List LoadedClass) (p : Linked) → IsProgramOf files p → (error : GuestError) (i : ℕ) (v : Value) → MayHold p (error_class p error) i v
+errors_hold files p is error i v =
+    let q : Linked = program_with files is.rows p.pools in
+    let x : IsFieldless (name_of error) = of_error error in
+    subst (λ (z : Linked). MayHold z (error_class z error) i v) (sym is.tables)
+    (subst (λ (c : ℕ). MayHold q c i v) (sym (named_in files is.rows p.pools (name_of error) x.place x.found)) (new_holds files is.rows p.pools is.ancestry x.place i v x.fieldless))

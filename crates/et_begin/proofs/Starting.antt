@@ -123,7 +123,7 @@ states_next p n old new x e here grown =
 
 -- STATIC SLOTS
 
-unset_fits : (k : Option Operand) → is_of_kind k Unset ≡ true
+pub unset_fits : (k : Option Operand) → is_of_kind k Unset ≡ true
 unset_fits None = refl
 unset_fits (Some operand.Int) = refl
 unset_fits (Some operand.Long) = refl
