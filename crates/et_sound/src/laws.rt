@@ -51,7 +51,7 @@ ghost use Rattle.et_pool.specs.Descriptors.{width_of};
 ghost use Rattle.et_sound.specs.Programs.{MakesSound, HasInstanceField, HasSlots, HasInitializers, IsArrayClass};
 ghost use Rattle.et_sound.specs.WellFormed.{IsWellFormed, IsGoing, IsFurther, MayBeThread, MayHold, IsThere, KeepsFrame, MayTake, MayEnter, StandsAt};
 
-/// A sound state is well formed; and so is the state in which an event begins.
+/// A sound state is well formed.
 pub fn sound_states_are_well_formed()
     ensures { (p : Linked) (s : Kept) → IsSoundFor p s → IsWellFormed p s }
 {}
