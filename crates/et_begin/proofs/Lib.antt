@@ -1,0 +1,11 @@
+pub mod Places
+pub mod BuiltIn
+pub mod Above
+pub mod Making
+pub mod Names
+pub mod Arguments
+pub mod Starting
+pub mod Flushing
+pub mod Chains
+pub mod Counts
+pub mod Slotted

@@ -1,0 +1,17 @@
+pub mod Growing
+pub mod Wholes
+pub mod Threads
+pub mod Objects
+pub mod Slots
+pub mod Monitors
+pub mod Frames
+pub mod Outcomes
+pub mod Values
+pub mod Taken
+pub mod Fields
+pub mod Steps
+pub mod Initializing
+pub mod Classes
+pub mod Initializers
+pub mod Calls
+pub mod Standing
