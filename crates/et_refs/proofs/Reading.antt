@@ -14,9 +14,11 @@ use Rattle.et_program.specs.declared.info.FieldInfo.{FieldInfo}
 use Rattle.et_program.specs.Entries.{Linked, field_at, no_field}
 use Rattle.et_program.specs.Members.{is_field, field_in, first_in}
 use Rattle.et_program.specs.Resolution.{resolve_field}
+use Rattle.et_event.specs.declared.rows.Elements.{Elements}
+use Rattle.et_event.specs.declared.rows.Elements.TheVariants as elements
 use Rattle.et_event.specs.declared.rows.Operand.{Operand}
 use Rattle.et_event.specs.declared.rows.Operand.TheVariants as operand
-use Rattle.et_event.specs.Kinds.{or_zero, zero_of, narrowed}
+use Rattle.et_event.specs.Kinds.{or_zero, zero_of, narrowed, kept_element}
 
 -- SLOTS
 
@@ -89,3 +91,27 @@ pub field_described : (p : Linked) (owner : ℕ) (name descriptor : List ℕ) �
 field_described p owner name descriptor =
     as_ok (λ f. (field_at p f).descriptor ≡ descriptor) (first_in (field_in p name descriptor) _) _
     (first_found (λ f. (field_at p f).descriptor ≡ descriptor) (field_in p name descriptor) (λ c. found_in p name descriptor c (field_in p name descriptor c) (position_passes (is_field name descriptor c) no_field 0 p.fields)) _)
+
+-- what an element keeps of a value refers to what the value refers to
+pub element_refers : (kind : Elements) (v : Value) (o : ℕ) → Contains (refs_of_value (kept_element kind v)) o → Contains (refs_of_value v) o
+element_refers elements.Int v o c = c
+element_refers elements.Long v o c = c
+element_refers elements.Reference v o c = c
+element_refers elements.Byte Unset o c = c
+element_refers elements.Byte (Int n) o c = c
+element_refers elements.Byte (Long n) o c = c
+element_refers elements.Byte LongHigh o c = c
+element_refers elements.Byte Null o c = c
+element_refers elements.Byte (Ref x) o c = c
+element_refers elements.Char Unset o c = c
+element_refers elements.Char (Int n) o c = c
+element_refers elements.Char (Long n) o c = c
+element_refers elements.Char LongHigh o c = c
+element_refers elements.Char Null o c = c
+element_refers elements.Char (Ref x) o c = c
+element_refers elements.Short Unset o c = c
+element_refers elements.Short (Int n) o c = c
+element_refers elements.Short (Long n) o c = c
+element_refers elements.Short LongHigh o c = c
+element_refers elements.Short Null o c = c
+element_refers elements.Short (Ref x) o c = c

@@ -1,6 +1,7 @@
 -- What an event on fields, arrays and classes does once no check refused: it puts a value in the place of operands, it
 -- writes a slot, or it makes an array.
-use Rattle.std.specs.Prelude.{◌≡◌, ℕ, ◌+◌, ◌<◌, ◌≤◌, ◌∷◌, ◌++◌, length, drop, Some, Contains}
+use Rattle.std.specs.Prelude.{◌≡◌, ℕ, ◌+◌, ◌<◌, ◌≤◌, List, ◌∷◌, ◌++◌, length, drop, Some, Contains}
+use Rattle.et_base.specs.declared.value.Value.{Value}
 use Rattle.et_base.specs.declared.value.Value.TheVariants.{Ref}
 use Rattle.et_heap.specs.Objects.{IsHeld, object_at}
 use Rattle.et_heap.specs.Refs.{refs_of_value}
@@ -20,8 +21,12 @@ use Rattle.et_refs.specs.declared.changes.NewArray.{NewArray}
 use Rattle.et_refs.specs.declared.changes.Change.{Change}
 use Rattle.et_refs.specs.declared.changes.Change.TheVariants as change
 
+-- a value was put in the place of operands, and these are below it
+abbrev pub left : Moment → Site → List Value → Value → Outcome Kept
+left e at below v = goes (leaving e at (entries_of v ++ below) (begins e))
+
 abbrev pub exchanged : Moment → Site → Exchange → Outcome Kept
-exchanged e at x = goes (leaving e at (entries_of x.value ++ drop x.taken (frame_of e).operands) (begins e))
+exchanged e at x = left e at (drop x.taken (frame_of e).operands) x.value
 
 abbrev pub stored : Moment → Site → Store → Outcome Kept
 stored e at x = goes (slot_written e x.object x.slot x.value (leaving e at (drop x.taken (frame_of e).operands) (begins e)))

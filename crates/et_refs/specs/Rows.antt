@@ -8,21 +8,21 @@ use Rattle.et_event.specs.declared.rows.HeapRow.{HeapRow}
 use Rattle.et_event.specs.declared.rows.HeapRow.TheVariants as row
 use Rattle.et_event.specs.Answered.{EventAnswers}
 
--- the rows that are done: those that neither initialize a class nor make anything
+-- the rows that are done: those that initialize no class, but for newarray and multianewarray
 abbrev pub is_done : HeapRow → Bool
 is_done row.GetStatic = false
 is_done row.PutStatic = false
 is_done row.GetField = true
 is_done row.PutField = true
 is_done (row.LoadElement kind) = true
-is_done (row.StoreElement kind) = false
+is_done (row.StoreElement kind) = true
 is_done row.New = false
 is_done row.NewArray = false
-is_done row.NewReferenceArray = false
+is_done row.NewReferenceArray = true
 is_done row.NewMultiArray = false
 is_done row.ArrayLength = true
-is_done row.CheckCast = false
-is_done row.InstanceOf = false
+is_done row.CheckCast = true
+is_done row.InstanceOf = true
 
 -- The outcome of a row that is done is answered; for another row there is no answer, and nothing has changed.
 abbrev pub HeapAnswers : Outcome Kept → HeapRow → Option EventEnd → MachineState → MachineState → List Record → List Record → Type 0

@@ -2,7 +2,9 @@
 use Rattle.std.specs.Prelude.{◌≡◌, ℕ, ◌<◌, true, false, List, length, Option, Some}
 use Rattle.et_class.specs.Names.{has}
 use Rattle.et_class.specs.declared.flags.TheConstants.{STATIC}
-use Rattle.et_program.specs.Entries.{Linked, field_at}
+use Rattle.et_program.specs.Entries.{Linked, class_at, field_at}
+use Rattle.et_program.specs.declared.info.Element.{Element}
+use Rattle.et_program.specs.declared.info.Element.TheVariants as element
 use Rattle.et_heap.specs.Objects.{IsHeld, object_at, slot_of}
 use Rattle.et_machine.specs.State.{MachineState}
 use Rattle.et_event.specs.declared.rows.Operand.{Operand}
@@ -26,3 +28,13 @@ pub record IsSlotAt (m : MachineState) (kind : Option Operand) (x : SlotAt) : Ty
 abbrev pub entries : Option Operand → ℕ
 entries (Some operand.Long) = 2
 entries other = 1
+
+-- the class of elements is one of the first n
+abbrev pub IsElementWithin : ℕ → Element → Type 0
+IsElementWithin n element.NoArray = Unit {0}
+IsElementWithin n (element.Base kind) = Unit {0}
+IsElementWithin n (element.Class class) = class < n
+
+-- the classes of the elements of arrays are classes of the program
+abbrev pub AreElementsWithin : Linked → Type 0
+AreElementsWithin p = (c : ℕ) → c < length p.classes → IsElementWithin (length p.classes) (class_at p c).info.element

@@ -1,6 +1,6 @@
 //! Elements of arrays (JVMS 6.5, arraylength, iaload, iastore and their kin).
 ghost use Rattle.std.specs.Prelude.{◌≡◌, ℕ, ◌+◌, ◌<◌, ◌≤◌, ◌^◌, true, length, pos, Some, IfOk};
-ghost use Rattle.et_base.specs.declared.value.Value.TheVariants.{Int};
+ghost use Rattle.et_base.specs.declared.value.Value.TheVariants.{Int, Ref};
 ghost use Rattle.et_machine.specs.State.{Kept, kept_of};
 ghost use Rattle.et_heap.specs.Refs.{refs_of_value};
 ghost use Rattle.et_program.specs.Entries.{class_at};
@@ -17,8 +17,9 @@ ghost use Rattle.et_event.specs.Sound.{IsSoundFor};
 ghost use Rattle.et_place.specs.Places.{site_at};
 ghost use Rattle.et_refs.specs.Changes.{IsNamed, MayExchange, MayStore, exchanged, stored};
 ghost use Rattle.et_refs.specs.Refusals.{moment, decided};
-ghost use Rattle.et_refs.specs.Slots.{IsSlotAt};
+ghost use Rattle.et_refs.specs.Slots.{IsSlotAt, IsElementWithin, AreElementsWithin};
 
+use crate::casts::passes;
 use crate::changes::{Exchange, Store};
 use crate::checks::{ill_typed_unless, not_null, throws_unless};
 use crate::kinds::{are_elements, in_bounds, is_array, kept_element, kind_of_elements, natural};
@@ -178,4 +179,78 @@ pub(crate) fn read_length<L: Ledger>(
     ill_typed_unless(is_array(element))?;
     let value = length_value(machine, program, object, visits);
     Ok(Exchange { taken: 1, value })
+}
+
+/// Whether an object may be an element: whether it passes for one of the class of elements.
+fn passes_for<L: Ledger>(
+    machine: &Machine,
+    program: &Program,
+    thread: ThreadId,
+    object: ObjectId,
+    element: Element,
+    visits: &mut Steps<L>,
+) -> bool
+    requires sound { IsSoundFor program.now (kept_of machine.now) }
+    requires object { IsHeld machine.now.heap object }
+    requires element { IsElementWithin (length program.now.classes) element }
+    ensures value { result ≡ passing_element (moment program.now machine.now thread) (Ref object) element }
+    ensures visits { visits.new ≤ visits.old + 1 }
+{
+    match element {
+        Element::Class(class) => passes(machine, program, object, class, visits),
+        Element::NoArray | Element::Base(_) => true,
+    }
+}
+
+/// Whether an array may have this value as an element: null, an object that passes for one of the class of its elements, and
+/// what is no reference.
+fn passes_element<L: Ledger>(
+    machine: &Machine,
+    program: &Program,
+    thread: ThreadId,
+    value: Value,
+    array: ObjectId,
+    visits: &mut Steps<L>,
+) -> bool
+    requires sound { IsSoundFor program.now (kept_of machine.now) }
+    requires elements { AreElementsWithin program.now }
+    requires array { IsHeld machine.now.heap array }
+    requires value { AreHeld machine.now (refs_of_value value) }
+    ensures value { result ≡ passing_element (moment program.now machine.now thread) value (elements_of (moment program.now machine.now thread) array) }
+    ensures visits { visits.new ≤ visits.old + 2 }
+{
+    let element = element_of(machine, program, thread, array, visits);
+    match value {
+        Value::Ref(object) => passes_for(machine, program, thread, object, element, visits),
+        Value::Unset | Value::Int(_) | Value::Long(_) | Value::LongHigh | Value::Null => true,
+    }
+}
+
+/// What `iastore` or one of its kin writes.
+pub(crate) fn write_element<L: Ledger>(
+    machine: &Machine,
+    program: &Program,
+    thread: ThreadId,
+    elements: Elements,
+    visits: &mut Steps<L>,
+) -> Result<Store, Refusal>
+    requires frame { HasFrame machine.now.guest thread }
+    requires sound { IsSoundFor program.now (kept_of machine.now) }
+    requires elements { AreElementsWithin program.now }
+    ensures is { (at : Site) → store_element (moment program.now machine.now thread) at elements ≡ decided (moment program.now machine.now thread) result (stored (moment program.now machine.now thread) at) }
+    ensures may { IfOk result (λ x. MayStore machine.now (top machine.now.guest thread) x) }
+    ensures visits { visits.new ≤ visits.old + 4 }
+{
+    let taken = take_element(machine, thread, elements)?;
+    let index = take_int(machine, thread, taken.width)?;
+    let reference = take_reference(machine, thread, taken.width + 1)?;
+    let at = element_slot(machine, program, thread, elements, reference, index, visits)?;
+    let may_be = passes_element(machine, program, thread, taken.value, at.object, visits);
+    throws_unless(GuestError::ArrayStoreException, may_be)?;
+    Ok(Store {
+        taken: taken.width + 2,
+        object: at.object,
+        slot: at.slot,
+        value: kept_element(elements, taken.value),
+    })
 }

@@ -1,5 +1,5 @@
 //! Types, and what fields and elements hold of them (JVMS 2.2 to 2.4, 4.3.2).
-ghost use Rattle.std.specs.Prelude.{◌≡◌, ◌≤◌};
+ghost use Rattle.std.specs.Prelude.{◌≡◌, ◌≤◌, pos, int_le};
 ghost use Rattle.et_event.specs.Kinds.{kind_of_letter as letter_kind, kind_of as descriptor_kind, zero_of as zero, or_zero as zero_or, narrowed_letter as letter_narrowed, narrowed_int as int_narrowed, narrowed as narrowed_by, kind_of_elements as elements_kind, are_elements as are_such, is_array as is_such, kept_element as kept_by, in_bounds as is_within};
 ghost use Rattle.et_pool.specs.Descriptors.{width_of as descriptor_width};
 ghost use Rattle.et_event.specs.Sites.{natural as natural_of};
@@ -179,4 +179,11 @@ pub(crate) fn natural(n: i32) -> u32
     ensures { result ≡ natural_of n }
 {
     if n < 0 { 0 } else { n as u32 }
+}
+
+/// Whether an array may have so many elements.
+pub(crate) fn is_length(n: i32) -> bool
+    ensures { result ≡ int_le (pos 0) n }
+{
+    0 <= n
 }

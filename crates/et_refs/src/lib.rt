@@ -1,6 +1,8 @@
 //! The instructions on fields, arrays and classes (JVMS 2.11.5), on the machine.
 #![tactic(auto)]
 
+mod arrays;
+mod casts;
 mod changes;
 mod checks;
 mod elements;

@@ -11,12 +11,15 @@ ghost use Rattle.et_event.specs.Moments.{Moment};
 ghost use Rattle.et_event.specs.Sites.{Site, natural};
 ghost use Rattle.et_event.specs.Sound.{IsSoundFor};
 ghost use Rattle.et_place.specs.Places.{IsPlace, site_at};
-ghost use Rattle.et_refs.specs.Changes.{MayExchange, MayStore, MayChange, exchanged, stored, changed};
+ghost use Rattle.et_refs.specs.Changes.{MayExchange, MayStore, MayMake, MayChange, exchanged, stored, added, changed};
 ghost use Rattle.et_refs.specs.Refusals.{moment, decided};
 ghost use Rattle.et_refs.specs.Rows.{HeapAnswers, is_done};
+ghost use Rattle.et_refs.specs.Slots.{AreElementsWithin};
 
-use crate::changes::{Change, Exchange, Store, carry_out};
-use crate::elements::{read_element, read_length};
+use crate::arrays::new_reference_array;
+use crate::casts::{check_cast, instance_of};
+use crate::changes::{Change, Exchange, NewArray, Store, carry_out};
+use crate::elements::{read_element, read_length, write_element};
 use crate::fields::{read_field, write_field};
 use crate::refusals::{Refusal, refuse};
 use et_base::{NoMemory, Steps, ThreadId};
@@ -49,6 +52,17 @@ fn write(answer: Result<Store, Refusal>) -> Result<Change, Refusal>
     }
 }
 
+/// An array that is made, as a change.
+fn make(answer: Result<NewArray, Refusal>) -> Result<Change, Refusal>
+    ensures is { (e : Moment) (at : Site) → decided e answer (added e at) ≡ decided e result (changed e at) }
+    ensures may { (m : MachineState) (f : FrameState) → IfOk answer (λ x. MayMake f) → IfOk result (λ x. MayChange m f x) }
+{
+    match answer {
+        Ok(x) => Ok(Change::Make(x)),
+        Err(refusal) => Err(refusal),
+    }
+}
+
 /// What the instruction of a row does, or what refuses; `None` for the rows that are not done.
 fn change_of<L: Ledger>(
     machine: &Machine,
@@ -61,6 +75,7 @@ fn change_of<L: Ledger>(
     requires frame { HasFrame machine.now.guest thread }
     requires sound { IsSoundFor program.now (kept_of machine.now) }
     requires index { natural place.now.instr.first < 2 ^ 16 }
+    requires elements { AreElementsWithin program.now }
     ensures is { IfSome result (λ answer. heap_event (moment program.now machine.now thread) (site_at place.now) row ≡ decided (moment program.now machine.now thread) answer (changed (moment program.now machine.now thread) (site_at place.now))) }
     ensures may { IfSome result (λ answer. IfOk answer (λ x. MayChange machine.now (top machine.now.guest thread) x)) }
     ensures done { IfSome result (λ answer. is_done row ≡ true) }
@@ -84,15 +99,27 @@ fn change_of<L: Ledger>(
             let answer = read_length(machine, program, thread, visits);
             Some(put(answer))
         }
+        HeapRow::StoreElement(elements) => {
+            let answer = write_element(machine, program, thread, elements, visits);
+            Some(write(answer))
+        }
+        HeapRow::CheckCast => {
+            let answer = check_cast(machine, program, thread, place, visits);
+            Some(put(answer))
+        }
+        HeapRow::InstanceOf => {
+            let answer = instance_of(machine, program, thread, place, visits);
+            Some(put(answer))
+        }
+        HeapRow::NewReferenceArray => {
+            let answer = new_reference_array(machine, program, thread, place);
+            Some(make(answer))
+        }
         HeapRow::GetStatic
         | HeapRow::PutStatic
-        | HeapRow::StoreElement(_)
         | HeapRow::New
         | HeapRow::NewArray
-        | HeapRow::NewReferenceArray
-        | HeapRow::NewMultiArray
-        | HeapRow::CheckCast
-        | HeapRow::InstanceOf => None,
+        | HeapRow::NewMultiArray => None,
     }
 }
 
@@ -138,6 +165,7 @@ pub fn heap_row_event<L: Ledger>(
     requires clock { machine.old.guest.clock < 2 ^ 40 }
     requires place { IsPlace program.now (top machine.old.guest thread) place.now }
     requires row { place.now.row ≡ row_kinds.Heap row }
+    requires elements { AreElementsWithin program.now }
     ensures ok { IfOk result (λ end. HeapAnswers (heap_event (moment program.now machine.old thread) (site_at place.now) row) row end machine.old machine.new out.old out.new) }
     ensures err { OnErr result (machine.new.guest ≡ machine.old.guest) }
     ensures visits { visits.new ≤ visits.old + 6 }
