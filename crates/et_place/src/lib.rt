@@ -3,6 +3,8 @@
 
 mod codes;
 pub mod laws;
+mod members;
 mod places;
 
+pub use members::{MemberAt, class_operand, member_at, names_interface};
 pub use places::{Place, place_of};

@@ -1,0 +1,185 @@
+-- What stands so far below the top.
+use Rattle.std.proofs.Common.{◌≡◌, ℕ, zero, suc, ◌+◌, ◌<◌, ◌≤◌, ℤ, List, [], ◌∷◌, length, drop, get_or, Some, None, refl, sym, ◌∙◌, ap, subst, arith, Contains, inl, inr}
+use Rattle.et_base.specs.declared.value.Value.{Value}
+use Rattle.et_base.specs.declared.value.Value.TheVariants.{Unset, Int, Long, LongHigh, Null, Ref}
+use Rattle.et_graph.proofs.Lists.{Contains-here, Contains-none, Contains-cons}
+use Rattle.et_heap.specs.Refs.{refs_of_value}
+use Rattle.et_frames.specs.Threads.{FrameState, operand_of}
+use Rattle.et_frames.specs.Roots.{frame_roots}
+use Rattle.et_machine.specs.State.{MachineState, kept_of}
+use Rattle.et_machine.specs.Words.{HasFrame, top}
+use Rattle.et_machine.specs.Sound.{IsSound}
+use Rattle.et_machine.proofs.Places.{top_root}
+use Rattle.et_event.specs.Checks.{Reference, with_int, with_long, with_reference, value_of}
+use Rattle.et_parts.specs.Tops.{int_of, long_of, reference_of}
+use Rattle.et_parts.proofs.Groups.{operand_is_in}
+use Rattle.et_refs.specs.Changes.{IsNamed}
+
+int_first : {A : Type 0} (v : Value) (ops : List Value) (n : ℤ) (refused : A) (go : ℤ → List Value → A) → int_of v ≡ Some n → with_int refused (v ∷ ops) go ≡ go n ops
+int_first Unset ops n refused go e = cc
+int_first (Int m) ops n refused go e = let same : m ≡ n = cc in ap (λ (k : ℤ). go k ops) same
+int_first (Long m) ops n refused go e = cc
+int_first LongHigh ops n refused go e = cc
+int_first Null ops n refused go e = cc
+int_first (Ref o) ops n refused go e = cc
+
+no_int_first : {A : Type 0} (v : Value) (ops : List Value) (refused : A) (go : ℤ → List Value → A) → int_of v ≡ None → with_int refused (v ∷ ops) go ≡ refused
+no_int_first Unset ops refused go e = refl
+no_int_first (Int m) ops refused go e = cc
+no_int_first (Long m) ops refused go e = refl
+no_int_first LongHigh ops refused go e = refl
+no_int_first Null ops refused go e = refl
+no_int_first (Ref o) ops refused go e = refl
+
+int_at_depth : {A : Type 0} (ops : List Value) (k : ℕ) (n : ℤ) (refused : A) (go : ℤ → List Value → A) → int_of (get_or ops k Unset) ≡ Some n → with_int refused (drop k ops) go ≡ go n (drop (suc k) ops)
+int_at_depth [] zero n refused go e = cc
+int_at_depth [] (suc k) n refused go e = cc
+int_at_depth (v ∷ ops) zero n refused go e = int_first v ops n refused go e
+int_at_depth (v ∷ ops) (suc k) n refused go e = int_at_depth ops k n refused go e
+
+pub int_there : {A : Type 0} (ops : List Value) (k : ℕ) (n : ℤ) (refused : A) (go : ℤ → List Value → A) → Some n ≡ int_of (get_or ops k Unset) → with_int refused (drop k ops) go ≡ go n (drop (k + 1) ops)
+int_there ops k n refused go e =
+    let one : suc k ≡ k + 1 = omega arith in
+    int_at_depth ops k n refused go (sym e) ∙ ap (λ (j : ℕ). go n (drop j ops)) one
+
+pub no_int : {A : Type 0} (ops : List Value) (k : ℕ) (refused : A) (go : ℤ → List Value → A) → None ≡ int_of (get_or ops k Unset) → with_int refused (drop k ops) go ≡ refused
+no_int [] zero refused go e = refl
+no_int [] (suc k) refused go e = refl
+no_int (v ∷ ops) zero refused go e = no_int_first v ops refused go (sym e)
+no_int (v ∷ ops) (suc k) refused go e = no_int ops k refused go e
+
+pub int_deep : (ops : List Value) (k : ℕ) (n : ℤ) → Some n ≡ int_of (get_or ops k Unset) → k < length ops
+int_deep [] zero n e = cc
+int_deep [] (suc k) n e = cc
+int_deep (v ∷ ops) zero n e = omega arith
+int_deep (v ∷ ops) (suc k) n e = let h : k < length ops = int_deep ops k n e in omega arith
+
+-- LONGS
+
+long_first : {A : Type 0} (v w : Value) (ops : List Value) (n : ℤ) (refused : A) (go : ℤ → List Value → A) → long_of v w ≡ Some n → with_long refused (v ∷ w ∷ ops) go ≡ go n ops
+long_first Unset w ops n refused go e = cc
+long_first (Int m) w ops n refused go e = cc
+long_first (Long m) w ops n refused go e = cc
+long_first LongHigh Unset ops n refused go e = cc
+long_first LongHigh (Int m) ops n refused go e = cc
+long_first LongHigh (Long m) ops n refused go e = let same : m ≡ n = cc in ap (λ (k : ℤ). go k ops) same
+long_first LongHigh LongHigh ops n refused go e = cc
+long_first LongHigh Null ops n refused go e = cc
+long_first LongHigh (Ref o) ops n refused go e = cc
+long_first Null w ops n refused go e = cc
+long_first (Ref o) w ops n refused go e = cc
+
+no_long_first : {A : Type 0} (v w : Value) (ops : List Value) (refused : A) (go : ℤ → List Value → A) → long_of v w ≡ None → with_long refused (v ∷ w ∷ ops) go ≡ refused
+no_long_first Unset w ops refused go e = refl
+no_long_first (Int m) w ops refused go e = refl
+no_long_first (Long m) w ops refused go e = refl
+no_long_first LongHigh Unset ops refused go e = refl
+no_long_first LongHigh (Int m) ops refused go e = refl
+no_long_first LongHigh (Long m) ops refused go e = cc
+no_long_first LongHigh LongHigh ops refused go e = refl
+no_long_first LongHigh Null ops refused go e = refl
+no_long_first LongHigh (Ref o) ops refused go e = refl
+no_long_first Null w ops refused go e = refl
+no_long_first (Ref o) w ops refused go e = refl
+
+long_single : (v : Value) → long_of v Unset ≡ None
+long_single Unset = refl
+long_single (Int m) = refl
+long_single (Long m) = refl
+long_single LongHigh = refl
+long_single Null = refl
+long_single (Ref o) = refl
+
+none_single : {A : Type 0} (v : Value) (refused : A) (go : ℤ → List Value → A) → with_long refused (v ∷ []) go ≡ refused
+none_single Unset refused go = refl
+none_single (Int m) refused go = refl
+none_single (Long m) refused go = refl
+none_single LongHigh refused go = refl
+none_single Null refused go = refl
+none_single (Ref o) refused go = refl
+
+pub long_there : {A : Type 0} (ops : List Value) (n : ℤ) (refused : A) (go : ℤ → List Value → A) → Some n ≡ long_of (get_or ops 0 Unset) (get_or ops 1 Unset) → with_long refused ops go ≡ go n (drop 2 ops)
+long_there [] n refused go e = cc
+long_there (v ∷ []) n refused go e = let f : long_of v Unset ≡ None = long_single v in cc
+long_there (v ∷ w ∷ ops) n refused go e = long_first v w ops n refused go (sym e)
+
+pub no_long : {A : Type 0} (ops : List Value) (refused : A) (go : ℤ → List Value → A) → None ≡ long_of (get_or ops 0 Unset) (get_or ops 1 Unset) → with_long refused ops go ≡ refused
+no_long [] refused go e = refl
+no_long (v ∷ []) refused go e = none_single v refused go
+no_long (v ∷ w ∷ ops) refused go e = no_long_first v w ops refused go (sym e)
+
+pub long_deep : (ops : List Value) (n : ℤ) → Some n ≡ long_of (get_or ops 0 Unset) (get_or ops 1 Unset) → 2 ≤ length ops
+long_deep [] n e = cc
+long_deep (v ∷ []) n e = let f : long_of v Unset ≡ None = long_single v in cc
+long_deep (v ∷ w ∷ ops) n e = omega arith
+
+-- REFERENCES
+
+reference_first : {A : Type 0} (v : Value) (ops : List Value) (r : Reference) (refused : A) (go : Reference → List Value → A) → reference_of v ≡ Some r → with_reference refused (v ∷ ops) go ≡ go r ops
+reference_first Unset ops r refused go e = cc
+reference_first (Int m) ops r refused go e = cc
+reference_first (Long m) ops r refused go e = cc
+reference_first LongHigh ops r refused go e = cc
+reference_first Null ops r refused go e = let same : None ≡ r = cc in ap (λ (k : Reference). go k ops) same
+reference_first (Ref o) ops r refused go e = let same : Some o ≡ r = cc in ap (λ (k : Reference). go k ops) same
+
+no_reference_first : {A : Type 0} (v : Value) (ops : List Value) (refused : A) (go : Reference → List Value → A) → reference_of v ≡ None → with_reference refused (v ∷ ops) go ≡ refused
+no_reference_first Unset ops refused go e = refl
+no_reference_first (Int m) ops refused go e = refl
+no_reference_first (Long m) ops refused go e = refl
+no_reference_first LongHigh ops refused go e = refl
+no_reference_first Null ops refused go e = cc
+no_reference_first (Ref o) ops refused go e = cc
+
+reference_at_depth : {A : Type 0} (ops : List Value) (k : ℕ) (r : Reference) (refused : A) (go : Reference → List Value → A) → reference_of (get_or ops k Unset) ≡ Some r → with_reference refused (drop k ops) go ≡ go r (drop (suc k) ops)
+reference_at_depth [] zero r refused go e = cc
+reference_at_depth [] (suc k) r refused go e = cc
+reference_at_depth (v ∷ ops) zero r refused go e = reference_first v ops r refused go e
+reference_at_depth (v ∷ ops) (suc k) r refused go e = reference_at_depth ops k r refused go e
+
+pub reference_there : {A : Type 0} (ops : List Value) (k : ℕ) (r : Reference) (refused : A) (go : Reference → List Value → A) → Some r ≡ reference_of (get_or ops k Unset) → with_reference refused (drop k ops) go ≡ go r (drop (k + 1) ops)
+reference_there ops k r refused go e =
+    let one : suc k ≡ k + 1 = omega arith in
+    reference_at_depth ops k r refused go (sym e) ∙ ap (λ (j : ℕ). go r (drop j ops)) one
+
+pub no_reference : {A : Type 0} (ops : List Value) (k : ℕ) (refused : A) (go : Reference → List Value → A) → None ≡ reference_of (get_or ops k Unset) → with_reference refused (drop k ops) go ≡ refused
+no_reference [] zero refused go e = refl
+no_reference [] (suc k) refused go e = refl
+no_reference (v ∷ ops) zero refused go e = no_reference_first v ops refused go (sym e)
+no_reference (v ∷ ops) (suc k) refused go e = no_reference ops k refused go e
+
+pub reference_deep : (ops : List Value) (k : ℕ) (r : Reference) → Some r ≡ reference_of (get_or ops k Unset) → k < length ops
+reference_deep [] zero r e = cc
+reference_deep [] (suc k) r e = cc
+reference_deep (v ∷ ops) zero r e = omega arith
+reference_deep (v ∷ ops) (suc k) r e = let h : k < length ops = reference_deep ops k r e in omega arith
+
+-- an object that a reference names stands in the value
+named_by : (v : Value) (r : Reference) (o : ℕ) → Some r ≡ reference_of v → r ≡ Some o → Contains (refs_of_value v) o
+named_by Unset r o e f = cc
+named_by (Int m) r o e f = cc
+named_by (Long m) r o e f = cc
+named_by LongHigh r o e f = cc
+named_by Null r o e f = cc
+named_by (Ref x) r o e f = let same : x ≡ o = cc in subst (λ (k : ℕ). Contains (x ∷ []) k) same (Contains-here x [])
+
+pub reference_named : (m : MachineState) (t k : ℕ) (r : Reference) → HasFrame m.guest t → IsSound (kept_of m) → Some r ≡ reference_of (operand_of (top m.guest t) k) → IsNamed m (top m.guest t) r
+reference_named m t k r has sound e =
+    let f = top m.guest t in
+    λ o named.
+    let inside : Contains (frame_roots f) o = operand_is_in f k (reference_deep f.operands k r e) o (named_by (operand_of f k) r o e named) in
+    (sound.roots o (top_root m.guest t o has inside), inside)
+
+-- .. and as a value it refers to that object alone
+pub named_in : (m : MachineState) (f : FrameState) (r : Reference) → IsNamed m f r → (o : ℕ) → Contains (refs_of_value (value_of r)) o → Contains (frame_roots f) o
+named_in m f None named o c = absurd (Contains-none o c)
+named_in m f (Some x) named o c = (named o (only x o c)).1
+  where
+    only : (x o : ℕ) → Contains (x ∷ []) o → Some x ≡ Some o
+    only x o c = elim (Contains-cons x [] o c) [ inl same ↦ ap (λ (k : ℕ). Some k) same | inr d ↦ absurd (Contains-none o d) ]
+
+pub int_in : (f : FrameState) (n : ℤ) (o : ℕ) → Contains (refs_of_value (Int n)) o → Contains (frame_roots f) o
+int_in f n o c = absurd (Contains-none o c)
+
+pub long_in : (f : FrameState) (n : ℤ) (o : ℕ) → Contains (refs_of_value (Long n)) o → Contains (frame_roots f) o
+long_in f n o c = absurd (Contains-none o c)

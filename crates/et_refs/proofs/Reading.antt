@@ -1,0 +1,117 @@
+-- What stands in a slot, and which field a name means.
+use Rattle.std.proofs.Common.{◌≡◌, ℕ, suc, ◌+◌, Bool, true, false, cond, List, [], ◌∷◌, get_or, Option, None, Some, IfSome, IfOk, refl, subst, arith, Contains}
+use Rattle.std.specs.List.{position_from}
+use Rattle.std.specs.Option.{ok_or, option_or}
+use Rattle.std.specs.Str.{bytes_eq}
+use Rattle.std.specs.Prelude.{◌&&◌, ◌==◌}
+use Rattle.std.proofs.lemmas.Bool.{and_parts}
+use Rattle.std.proofs.lemmas.Slice.Eq.{bytes_eq-Decides}
+use Rattle.et_base.specs.declared.value.Value.{Value}
+use Rattle.et_base.specs.declared.value.Value.TheVariants.{Unset, Int, Long, LongHigh, Null, Ref}
+use Rattle.et_graph.proofs.Lists.{Contains-none}
+use Rattle.et_heap.specs.Refs.{refs_of_value}
+use Rattle.et_program.specs.declared.info.FieldInfo.{FieldInfo}
+use Rattle.et_program.specs.Entries.{Linked, field_at, no_field}
+use Rattle.et_program.specs.Members.{is_field, field_in, first_in}
+use Rattle.et_program.specs.Resolution.{resolve_field}
+use Rattle.et_event.specs.declared.rows.Elements.{Elements}
+use Rattle.et_event.specs.declared.rows.Elements.TheVariants as elements
+use Rattle.et_event.specs.declared.rows.Operand.{Operand}
+use Rattle.et_event.specs.declared.rows.Operand.TheVariants as operand
+use Rattle.et_event.specs.Kinds.{or_zero, zero_of, narrowed, kept_element}
+
+-- SLOTS
+
+zero_refers : (kind : Option Operand) (o : ℕ) → Contains (refs_of_value (zero_of kind)) o → ⊥
+zero_refers None o c = Contains-none o c
+zero_refers (Some operand.Int) o c = Contains-none o c
+zero_refers (Some operand.Long) o c = Contains-none o c
+zero_refers (Some operand.Reference) o c = Contains-none o c
+
+pub read_refers : (kind : Option Operand) (v : Value) (o : ℕ) → Contains (refs_of_value (or_zero kind v)) o → Contains (refs_of_value v) o
+read_refers kind Unset o c = absurd (zero_refers kind o c)
+read_refers kind (Int n) o c = c
+read_refers kind (Long n) o c = c
+read_refers kind LongHigh o c = c
+read_refers kind Null o c = c
+read_refers kind (Ref x) o c = c
+
+-- what a slot keeps of a value refers to what the value refers to
+pub kept_refers : (type : List ℕ) (v : Value) (o : ℕ) → Contains (refs_of_value (narrowed type v)) o → Contains (refs_of_value v) o
+kept_refers type Unset o c = c
+kept_refers type (Int n) o c = c
+kept_refers type (Long n) o c = c
+kept_refers type LongHigh o c = c
+kept_refers type Null o c = c
+kept_refers type (Ref x) o c = c
+
+-- FIELDS: what resolution finds has the descriptor that was asked for
+
+abbrev Passes : {X : Type 0} → (X → Bool) → X → ℕ → List X → ℕ → Type 0
+Passes t d i xs j = (k : ℕ) × (j ≡ i + k) × (t (get_or xs k d) ≡ true)
+
+shifted : {X : Type 0} (t : X → Bool) (d : X) (i : ℕ) (x : X) (xs : List X) (o : Option ℕ) → IfSome o (Passes t d (i + 1) xs) → IfSome o (Passes t d i (x ∷ xs))
+shifted t d i x xs None h = tt
+shifted t d i x xs (Some j) h = let e : j ≡ i + 1 + h.0 = h.1 in (suc h.0, omega arith, h.2)
+
+by_test : {X : Type 0} (t : X → Bool) (d : X) (i : ℕ) (x : X) (xs : List X) (b : Bool) → t x ≡ b → IfSome (position_from t (i + 1) xs) (Passes t d (i + 1) xs)
+    → IfSome (cond b (Some i) (position_from t (i + 1) xs)) (Passes t d i (x ∷ xs))
+by_test t d i x xs true e h = (0, omega arith, e)
+by_test t d i x xs false e h = shifted t d i x xs (position_from t (i + 1) xs) h
+
+position_passes : {X : Type 0} (t : X → Bool) (d : X) (i : ℕ) (xs : List X) → IfSome (position_from t i xs) (Passes t d i xs)
+position_passes t d i [] = tt
+position_passes t d i (x ∷ xs) = by_test t d i x xs (t x) refl (position_passes t d (i + 1) xs)
+
+described : (f : FieldInfo) (name descriptor : List ℕ) (c : ℕ) → is_field name descriptor c f ≡ true → f.descriptor ≡ descriptor
+described f name descriptor c e =
+    let rest = (and_parts (f.class == c) (bytes_eq f.name name && bytes_eq f.descriptor descriptor) e).1 in
+    let last = (and_parts (bytes_eq f.name name) (bytes_eq f.descriptor descriptor) rest).1 in
+    (bytes_eq-Decides f.descriptor descriptor).0 last
+
+found_in : (p : Linked) (name descriptor : List ℕ) (c : ℕ) (o : Option ℕ) → IfSome o (Passes (is_field name descriptor c) no_field 0 p.fields) → IfSome o (λ f. (field_at p f).descriptor ≡ descriptor)
+found_in p name descriptor c None h = tt
+found_in p name descriptor c (Some f) h =
+    let same : h.0 ≡ f = omega (arith, h.1) in
+    described (field_at p f) name descriptor c (subst (λ (k : ℕ). is_field name descriptor c (get_or p.fields k no_field) ≡ true) same h.2)
+
+either : (P : ℕ → Type 0) (a b : Option ℕ) → IfSome a P → IfSome b P → IfSome (option_or a b) P
+either P None b h i = i
+either P (Some x) b h i = h
+
+first_found : (P : ℕ → Type 0) (member : ℕ → Option ℕ) → ((c : ℕ) → IfSome (member c) P) → (cs : List ℕ) → IfSome (first_in member cs) P
+first_found P member h [] = tt
+first_found P member h (c ∷ cs) = either P (member c) (first_in member cs) (h c) (first_found P member h cs)
+
+as_ok : {E : Type 0} (P : ℕ → Type 0) (o : Option ℕ) (e : E) → IfSome o P → IfOk (ok_or o e) P
+as_ok P None e h = tt
+as_ok P (Some x) e h = h
+
+pub field_described : (p : Linked) (owner : ℕ) (name descriptor : List ℕ) → IfOk (resolve_field p owner name descriptor) (λ f. (field_at p f).descriptor ≡ descriptor)
+field_described p owner name descriptor =
+    as_ok (λ f. (field_at p f).descriptor ≡ descriptor) (first_in (field_in p name descriptor) _) _
+    (first_found (λ f. (field_at p f).descriptor ≡ descriptor) (field_in p name descriptor) (λ c. found_in p name descriptor c (field_in p name descriptor c) (position_passes (is_field name descriptor c) no_field 0 p.fields)) _)
+
+-- what an element keeps of a value refers to what the value refers to
+pub element_refers : (kind : Elements) (v : Value) (o : ℕ) → Contains (refs_of_value (kept_element kind v)) o → Contains (refs_of_value v) o
+element_refers elements.Int v o c = c
+element_refers elements.Long v o c = c
+element_refers elements.Reference v o c = c
+element_refers elements.Byte Unset o c = c
+element_refers elements.Byte (Int n) o c = c
+element_refers elements.Byte (Long n) o c = c
+element_refers elements.Byte LongHigh o c = c
+element_refers elements.Byte Null o c = c
+element_refers elements.Byte (Ref x) o c = c
+element_refers elements.Char Unset o c = c
+element_refers elements.Char (Int n) o c = c
+element_refers elements.Char (Long n) o c = c
+element_refers elements.Char LongHigh o c = c
+element_refers elements.Char Null o c = c
+element_refers elements.Char (Ref x) o c = c
+element_refers elements.Short Unset o c = c
+element_refers elements.Short (Int n) o c = c
+element_refers elements.Short (Long n) o c = c
+element_refers elements.Short LongHigh o c = c
+element_refers elements.Short Null o c = c
+element_refers elements.Short (Ref x) o c = c

@@ -1,0 +1,36 @@
+use Rattle.std.proofs.Common.{rules, ◌≡◌, Bool, true, Err, ◌∙◌, ap}
+use Rattle.et_base.specs.declared.value.Value.TheVariants.{Ref}
+use Rattle.et_heap.specs.Objects.{object_at}
+use Rattle.et_machine.specs.State.{kept_of}
+use Rattle.et_program.specs.Types.{passes}
+use Rattle.et_event.specs.declared.errors.GuestError.TheVariants.{ClassCastException}
+use Rattle.et_event.specs.Moments.{begins}
+use Rattle.et_event.specs.Checks.{throws_unless}
+use Rattle.et_refs.specs.Changes.{left}
+use Rattle.et_refs.specs.Refusals.{moment}
+use Rattle.et_refs.proofs.Chains.{refusing, casts}
+use Rattle.et_refs.proofs.casts.cast_object.Goals as goal
+
+pub returns-in_err-class-clause-is : goal.returns-in_err-class-clause-is
+returns-in_err-class-clause-is g c =
+    let e = moment c.args.program.now c.args.machine.now c.args.thread in
+    let same : c.from_residual.result ≡ Err c.in_err-class.field-0.0 = search rules in
+    λ at below. refusing e _ _ c.in_err-class.field-0.0 (left e at below) (c.in_err-class.ensures.is (kept_of c.args.machine.now) c.args.thread (casts e at below c.args.object)) same
+
+pub returns-in_err-throws_unless-clause-is : goal.returns-in_err-throws_unless-clause-is
+returns-in_err-throws_unless-clause-is g c =
+    let e = moment c.args.program.now c.args.machine.now c.args.thread in
+    let o = c.args.object in
+    let same : c.from_residual-in_err-throws_unless.result ≡ Err c.in_err-throws_unless.field-0.0 = search rules in
+    let test : passes c.args.program.now (object_at c.args.machine.now.heap o).class c.in_ok-class.class ≡ c.passes-holds.result = search rules in
+    λ at below. refusing e _ _ c.in_err-throws_unless.field-0.0 (left e at below)
+    (c.in_ok-class.ensures.is (kept_of c.args.machine.now) c.args.thread (casts e at below o)
+    ∙ (ap (λ (b : Bool). throws_unless e (begins e) ClassCastException b (left e at below (Ref o))) test ∙ c.in_err-throws_unless.ensures.is e (left e at below (Ref o)))) same
+
+pub returns-clause-is : goal.returns-clause-is
+returns-clause-is g c =
+    let e = moment c.args.program.now c.args.machine.now c.args.thread in
+    let o = c.args.object in
+    let test : passes c.args.program.now (object_at c.args.machine.now.heap o).class c.in_ok-class.class ≡ true = search rules in
+    λ at below. c.in_ok-class.ensures.is (kept_of c.args.machine.now) c.args.thread (casts e at below o)
+    ∙ ap (λ (b : Bool). throws_unless e (begins e) ClassCastException b (left e at below (Ref o))) test

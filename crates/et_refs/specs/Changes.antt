@@ -1,0 +1,71 @@
+-- What an event on fields, arrays and classes does once no check refused: it puts a value in the place of operands, it
+-- writes a slot, or it makes an array.
+use Rattle.std.specs.Prelude.{◌≡◌, ℕ, ◌+◌, ◌<◌, ◌≤◌, List, ◌∷◌, ◌++◌, length, drop, Some, Contains}
+use Rattle.et_base.specs.declared.value.Value.{Value}
+use Rattle.et_base.specs.declared.value.Value.TheVariants.{Ref}
+use Rattle.et_heap.specs.Objects.{IsHeld, object_at}
+use Rattle.et_heap.specs.Refs.{refs_of_value}
+use Rattle.et_frames.specs.Threads.{FrameState}
+use Rattle.et_frames.specs.Roots.{frame_roots}
+use Rattle.et_machine.specs.State.{Kept, MachineState}
+use Rattle.et_machine.specs.Moves.{AreHeld}
+use Rattle.et_state.specs.Outcome.{Outcome}
+use Rattle.et_event.specs.Moments.{Moment, frame_of, begins, next_object, array_made, slot_written, goes, ends}
+use Rattle.et_event.specs.Checks.{Reference, entries_of}
+use Rattle.et_event.specs.Heap.{leaving}
+use Rattle.et_event.specs.Sites.{Site}
+use Rattle.et_parts.specs.Tops.{IsIn}
+use Rattle.et_refs.specs.declared.changes.Exchange.{Exchange}
+use Rattle.et_refs.specs.declared.changes.Store.{Store}
+use Rattle.et_refs.specs.declared.changes.NewArray.{NewArray}
+use Rattle.et_refs.specs.declared.changes.Change.{Change}
+use Rattle.et_refs.specs.declared.changes.Change.TheVariants as change
+
+-- a value was put in the place of operands, and these are below it
+abbrev pub left : Moment → Site → List Value → Value → Outcome Kept
+left e at below v = goes (leaving e at (entries_of v ++ below) (begins e))
+
+abbrev pub exchanged : Moment → Site → Exchange → Outcome Kept
+exchanged e at x = left e at (drop x.taken (frame_of e).operands) x.value
+
+abbrev pub stored : Moment → Site → Store → Outcome Kept
+stored e at x = goes (slot_written e x.object x.slot x.value (leaving e at (drop x.taken (frame_of e).operands) (begins e)))
+
+abbrev pub added : Moment → Site → NewArray → Outcome Kept
+added e at x = ends (leaving e at (Ref (next_object (begins e)) ∷ drop 1 (frame_of e).operands) (array_made e x.class x.elements (begins e)))
+
+abbrev pub changed : Moment → Site → Change → Outcome Kept
+changed e at (change.Put x) = exchanged e at x
+changed e at (change.Write x) = stored e at x
+changed e at (change.Make x) = added e at x
+
+-- WHAT HOLDS OF SUCH A CHANGE
+
+-- the operands are there, the value that is put in their place fits, and what it refers to is held
+pub record MayExchange (m : MachineState) (f : FrameState) (x : Exchange) : Type 0 where
+  pub taken : x.taken ≤ length f.operands
+  pub few : x.taken ≤ 16
+  pub room : length (entries_of x.value) + length (drop x.taken f.operands) ≤ f.room
+  pub held : AreHeld m (refs_of_value x.value)
+
+-- the operands are there, the object stands in the frame and has the slot, and what the value refers to stands in the frame
+pub record MayStore (m : MachineState) (f : FrameState) (x : Store) : Type 0 where
+  pub taken : x.taken ≤ length f.operands
+  pub few : x.taken ≤ 8
+  pub object : Contains (frame_roots f) x.object
+  pub slot : x.slot < length (object_at m.heap x.object).slots
+  pub value : IsIn f x.value
+
+-- the length is there
+pub record MayMake (f : FrameState) : Type 0 where
+  pub taken : 1 ≤ length f.operands
+  pub room : length f.operands ≤ f.room
+
+abbrev pub MayChange : MachineState → FrameState → Change → Type 0
+MayChange m f (change.Put x) = MayExchange m f x
+MayChange m f (change.Write x) = MayStore m f x
+MayChange m f (change.Make x) = MayMake f
+
+-- the object that a reference names is held and stands in the frame
+abbrev pub IsNamed : MachineState → FrameState → Reference → Type 0
+IsNamed m f r = (o : ℕ) → r ≡ Some o → IsHeld m.heap o × Contains (frame_roots f) o

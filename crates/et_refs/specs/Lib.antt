@@ -1,0 +1,4 @@
+pub mod Refusals
+pub mod Changes
+pub mod Slots
+pub mod Rows

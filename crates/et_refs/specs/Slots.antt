@@ -1,0 +1,40 @@
+-- A slot that an instruction reads or writes.
+use Rattle.std.specs.Prelude.{◌≡◌, ℕ, ◌<◌, true, false, List, length, Option, Some}
+use Rattle.et_class.specs.Names.{has}
+use Rattle.et_class.specs.declared.flags.TheConstants.{STATIC}
+use Rattle.et_program.specs.Entries.{Linked, class_at, field_at}
+use Rattle.et_program.specs.declared.info.Element.{Element}
+use Rattle.et_program.specs.declared.info.Element.TheVariants as element
+use Rattle.et_heap.specs.Objects.{IsHeld, object_at, slot_of}
+use Rattle.et_machine.specs.State.{MachineState}
+use Rattle.et_event.specs.declared.rows.Operand.{Operand}
+use Rattle.et_event.specs.declared.rows.Operand.TheVariants as operand
+use Rattle.et_event.specs.Sound.{is_of_kind}
+use Rattle.et_refs.specs.declared.slots.SlotAt.{SlotAt}
+
+-- an instance field of this descriptor
+pub record IsInstanceField (p : Linked) (type : List ℕ) (f : ℕ) : Type 0 where
+  pub within : f < length p.fields
+  pub instance : has (field_at p f).flags STATIC ≡ false
+  pub descriptor : (field_at p f).descriptor ≡ type
+
+-- the object is held and has this slot, which holds nothing yet or a value of the kind
+pub record IsSlotAt (m : MachineState) (kind : Option Operand) (x : SlotAt) : Type 0 where
+  pub held : IsHeld m.heap x.object
+  pub slot : x.slot < length (object_at m.heap x.object).slots
+  pub value : is_of_kind kind (slot_of (object_at m.heap x.object) x.slot) ≡ true
+
+-- how many entries a value of a kind takes
+abbrev pub entries : Option Operand → ℕ
+entries (Some operand.Long) = 2
+entries other = 1
+
+-- the class of elements is one of the first n
+abbrev pub IsElementWithin : ℕ → Element → Type 0
+IsElementWithin n element.NoArray = Unit {0}
+IsElementWithin n (element.Base kind) = Unit {0}
+IsElementWithin n (element.Class class) = class < n
+
+-- the classes of the elements of arrays are classes of the program
+abbrev pub AreElementsWithin : Linked → Type 0
+AreElementsWithin p = (c : ℕ) → c < length p.classes → IsElementWithin (length p.classes) (class_at p c).info.element

@@ -1,0 +1,64 @@
+//! Arrays that are made (JVMS 6.5, anewarray).
+ghost use Rattle.std.specs.Prelude.{◌≡◌, ℕ, ◌+◌, ◌<◌, ◌≤◌, ◌^◌, drop, length, unwrap_or, IfOk};
+ghost use Rattle.et_machine.specs.State.{Kept, kept_of};
+ghost use Rattle.et_machine.specs.Words.{HasFrame, top};
+ghost use Rattle.et_program.specs.Entries.{class_at};
+ghost use Rattle.et_event.specs.Heap.{new_array_of, new_reference_array as reference_array};
+ghost use Rattle.et_event.specs.Moments.{Moment, frame_of};
+ghost use Rattle.et_event.specs.Sites.{Site, natural as natural_of};
+ghost use Rattle.et_event.specs.Sound.{IsSoundFor};
+ghost use Rattle.et_place.specs.Places.{site_at};
+ghost use Rattle.et_refs.specs.Changes.{MayMake, added};
+ghost use Rattle.et_refs.specs.Refusals.{moment, decided};
+
+use crate::casts::class_named;
+use crate::changes::NewArray;
+use crate::checks::{resolve, throws_unless};
+use crate::kinds::{is_length, natural};
+use crate::operands::{operands_fit, take_int};
+use crate::refusals::Refusal;
+use et_base::{ClassId, ThreadId};
+use et_event::GuestError;
+use et_machine::Machine;
+use et_place::Place;
+use et_program::Program;
+
+/// An array of a class of so many elements; a NegativeArraySizeException where they are less than 0.
+fn sized(class: ClassId, elements: i32) -> Result<NewArray, Refusal>
+    ensures { (e : Moment) (at : Site) → new_array_of e at class elements (drop 1 (frame_of e).operands) ≡ decided e result (added e at) }
+{
+    throws_unless(GuestError::NegativeArraySizeException, is_length(elements))?;
+    Ok(NewArray {
+        class,
+        elements: natural(elements),
+    })
+}
+
+/// The class of the arrays over a class; the program has one for each class over which an instruction makes arrays.
+fn array_over(program: &Program, class: ClassId) -> ClassId
+    requires { class < length program.now.classes }
+    ensures { result ≡ unwrap_or (class_at program.now class).array 0 }
+{
+    program.array_over(class).unwrap_or(ClassId::new(0))
+}
+
+/// The array that `anewarray` makes.
+pub(crate) fn new_reference_array(
+    machine: &Machine,
+    program: &Program,
+    thread: ThreadId,
+    place: &Place<'_>,
+) -> Result<NewArray, Refusal>
+    requires frame { HasFrame machine.now.guest thread }
+    requires sound { IsSoundFor program.now (kept_of machine.now) }
+    requires index { natural_of place.now.instr.first < 2 ^ 16 }
+    ensures is { reference_array (moment program.now machine.now thread) (site_at place.now) ≡ decided (moment program.now machine.now thread) result (added (moment program.now machine.now thread) (site_at place.now)) }
+    ensures may { IfOk result (λ x. MayMake (top machine.now.guest thread)) }
+{
+    operands_fit(machine, thread);
+    let name = class_named(place)?;
+    let elements = take_int(machine, thread, 0)?;
+    let class = resolve(program, name)?;
+    let array = array_over(program, class);
+    sized(array, elements)
+}

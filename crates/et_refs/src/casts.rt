@@ -1,0 +1,197 @@
+//! Type tests (JVMS 6.5, checkcast, instanceof).
+ghost use Rattle.std.specs.Prelude.{◌≡◌, ℕ, ◌+◌, ◌<◌, ◌≤◌, ◌^◌, List, ◌∷◌, length, Some, IfOk};
+ghost use Rattle.et_base.specs.declared.value.Value.{Value as Entry};
+ghost use Rattle.et_base.specs.declared.value.Value.TheVariants.{Ref};
+ghost use Rattle.et_heap.specs.Objects.{IsHeld, object_at};
+ghost use Rattle.et_heap.specs.Refs.{refs_of_value};
+ghost use Rattle.et_machine.specs.State.{Kept, kept_of};
+ghost use Rattle.et_machine.specs.Words.{HasFrame, top};
+ghost use Rattle.et_machine.specs.Moves.{AreHeld};
+ghost use Rattle.et_state.specs.Outcome.{Outcome};
+ghost use Rattle.et_program.specs.Types.{passes as passing};
+ghost use Rattle.et_event.specs.Checks.{Reference, entries_of};
+ghost use Rattle.et_event.specs.Heap.{leaving, with_class, check_cast as check_casting, cast as casting, instance_of as instance_testing, tested as testing, truth as truth_of};
+ghost use Rattle.et_event.specs.Moments.{Moment, begins, goes};
+ghost use Rattle.et_event.specs.Sites.{Site, class_operand as operand_class, natural};
+ghost use Rattle.et_event.specs.Sound.{IsSoundFor};
+ghost use Rattle.et_place.specs.Places.{site_at};
+ghost use Rattle.et_refs.specs.Changes.{IsNamed, MayExchange, exchanged, left};
+ghost use Rattle.et_refs.specs.Refusals.{moment, decided};
+
+use crate::changes::Exchange;
+use crate::checks::{resolve, throws_unless};
+use crate::operands::{operands_fit, take_reference};
+use crate::refusals::Refusal;
+use et_base::{ClassId, ObjectId, Steps, ThreadId, Value};
+use et_event::GuestError;
+use et_machine::Machine;
+use et_place::{Place, class_operand};
+use et_program::Program;
+use std::sync::ledger::Ledger;
+
+/// The name of the class that an instruction has as its operand.
+pub(crate) fn class_named<'a>(place: &Place<'a>) -> Result<&'a [u8], Refusal>
+    requires { natural place.now.instr.first < 2 ^ 16 }
+    ensures { (e : Moment) (go : List ℕ → Outcome Kept) → with_class e (operand_class (site_at place.now)) go ≡ decided e result (λ name. go name.now) }
+{
+    match class_operand(place) {
+        Some(name) => Ok(name),
+        None => Err(Refusal::IllTyped),
+    }
+}
+
+/// Whether an object passes for one of a class.
+pub(crate) fn passes<L: Ledger>(
+    machine: &Machine,
+    program: &Program,
+    object: ObjectId,
+    class: ClassId,
+    visits: &mut Steps<L>,
+) -> bool
+    requires sound { IsSoundFor program.now (kept_of machine.now) }
+    requires held { IsHeld machine.now.heap object }
+    requires class { class < length program.now.classes }
+    ensures value { result ≡ passing program.now (object_at machine.now.heap object).class class }
+    ensures visits { visits.new ≡ visits.old + 1 }
+{
+    let low = machine.heap.class_of(object, visits);
+    program.passes(low, class)
+}
+
+/// The object, where it passes for one of the class of this name; a ClassCastException where it doesn't.
+fn cast_object<L: Ledger>(
+    machine: &Machine,
+    program: &Program,
+    thread: ThreadId,
+    name: &[u8],
+    object: ObjectId,
+    visits: &mut Steps<L>,
+) -> Result<Value, Refusal>
+    requires sound { IsSoundFor program.now (kept_of machine.now) }
+    requires held { IsHeld machine.now.heap object }
+    ensures is { (at : Site) (below : List Entry) → casting (moment program.now machine.now thread) at name.now below (Some object) ≡ decided (moment program.now machine.now thread) result (left (moment program.now machine.now thread) at below) }
+    ensures few { IfOk result (λ v. length (entries_of v) ≤ 1) }
+    ensures held { IfOk result (λ v. AreHeld machine.now (refs_of_value v)) }
+    ensures visits { visits.new ≤ visits.old + 1 }
+{
+    let class = resolve(program, name)?;
+    let holds = passes(machine, program, object, class, visits);
+    throws_unless(GuestError::ClassCastException, holds)?;
+    Ok(Value::Ref(object))
+}
+
+/// Whether the object passes for one of the class of this name, as an int.
+fn test_object<L: Ledger>(
+    machine: &Machine,
+    program: &Program,
+    thread: ThreadId,
+    name: &[u8],
+    object: ObjectId,
+    visits: &mut Steps<L>,
+) -> Result<Value, Refusal>
+    requires sound { IsSoundFor program.now (kept_of machine.now) }
+    requires held { IsHeld machine.now.heap object }
+    ensures is { (at : Site) (below : List Entry) → testing (moment program.now machine.now thread) at name.now below (Some object) ≡ decided (moment program.now machine.now thread) result (left (moment program.now machine.now thread) at below) }
+    ensures few { IfOk result (λ v. length (entries_of v) ≤ 1) }
+    ensures held { IfOk result (λ v. AreHeld machine.now (refs_of_value v)) }
+    ensures visits { visits.new ≤ visits.old + 1 }
+{
+    let class = resolve(program, name)?;
+    let holds = passes(machine, program, object, class, visits);
+    Ok(truth(holds))
+}
+
+/// A truth as an int.
+fn truth(holds: bool) -> Value
+    ensures { result ≡ truth_of holds }
+{
+    Value::Int(i32::from(holds))
+}
+
+/// What `checkcast` leaves for a reference; null is of each class, and then nothing is resolved.
+fn cast<L: Ledger>(
+    machine: &Machine,
+    program: &Program,
+    thread: ThreadId,
+    name: &[u8],
+    reference: Option<ObjectId>,
+    visits: &mut Steps<L>,
+) -> Result<Value, Refusal>
+    requires sound { IsSoundFor program.now (kept_of machine.now) }
+    requires named { IsNamed machine.now (top machine.now.guest thread) reference }
+    ensures is { (at : Site) (below : List Entry) → casting (moment program.now machine.now thread) at name.now below reference ≡ decided (moment program.now machine.now thread) result (left (moment program.now machine.now thread) at below) }
+    ensures few { IfOk result (λ v. length (entries_of v) ≤ 1) }
+    ensures held { IfOk result (λ v. AreHeld machine.now (refs_of_value v)) }
+    ensures visits { visits.new ≤ visits.old + 1 }
+{
+    match reference {
+        Some(object) => cast_object(machine, program, thread, name, object, visits),
+        None => Ok(Value::Null),
+    }
+}
+
+/// What `instanceof` gives for a reference; null is of no class, and then nothing is resolved.
+fn test<L: Ledger>(
+    machine: &Machine,
+    program: &Program,
+    thread: ThreadId,
+    name: &[u8],
+    reference: Option<ObjectId>,
+    visits: &mut Steps<L>,
+) -> Result<Value, Refusal>
+    requires sound { IsSoundFor program.now (kept_of machine.now) }
+    requires named { IsNamed machine.now (top machine.now.guest thread) reference }
+    ensures is { (at : Site) (below : List Entry) → testing (moment program.now machine.now thread) at name.now below reference ≡ decided (moment program.now machine.now thread) result (left (moment program.now machine.now thread) at below) }
+    ensures few { IfOk result (λ v. length (entries_of v) ≤ 1) }
+    ensures held { IfOk result (λ v. AreHeld machine.now (refs_of_value v)) }
+    ensures visits { visits.new ≤ visits.old + 1 }
+{
+    match reference {
+        Some(object) => test_object(machine, program, thread, name, object, visits),
+        None => Ok(truth(false)),
+    }
+}
+
+/// What `checkcast` puts in the place of the reference.
+pub(crate) fn check_cast<L: Ledger>(
+    machine: &Machine,
+    program: &Program,
+    thread: ThreadId,
+    place: &Place<'_>,
+    visits: &mut Steps<L>,
+) -> Result<Exchange, Refusal>
+    requires frame { HasFrame machine.now.guest thread }
+    requires sound { IsSoundFor program.now (kept_of machine.now) }
+    requires index { natural place.now.instr.first < 2 ^ 16 }
+    ensures is { check_casting (moment program.now machine.now thread) (site_at place.now) ≡ decided (moment program.now machine.now thread) result (exchanged (moment program.now machine.now thread) (site_at place.now)) }
+    ensures may { IfOk result (λ x. MayExchange machine.now (top machine.now.guest thread) x) }
+    ensures visits { visits.new ≤ visits.old + 1 }
+{
+    operands_fit(machine, thread);
+    let name = class_named(place)?;
+    let reference = take_reference(machine, thread, 0)?;
+    let value = cast(machine, program, thread, name, reference, visits)?;
+    Ok(Exchange { taken: 1, value })
+}
+
+/// What `instanceof` puts in the place of the reference.
+pub(crate) fn instance_of<L: Ledger>(
+    machine: &Machine,
+    program: &Program,
+    thread: ThreadId,
+    place: &Place<'_>,
+    visits: &mut Steps<L>,
+) -> Result<Exchange, Refusal>
+    requires frame { HasFrame machine.now.guest thread }
+    requires sound { IsSoundFor program.now (kept_of machine.now) }
+    requires index { natural place.now.instr.first < 2 ^ 16 }
+    ensures is { instance_testing (moment program.now machine.now thread) (site_at place.now) ≡ decided (moment program.now machine.now thread) result (exchanged (moment program.now machine.now thread) (site_at place.now)) }
+    ensures may { IfOk result (λ x. MayExchange machine.now (top machine.now.guest thread) x) }
+    ensures visits { visits.new ≤ visits.old + 1 }
+{
+    operands_fit(machine, thread);
+    let name = class_named(place)?;
+    let reference = take_reference(machine, thread, 0)?;
+    let value = test(machine, program, thread, name, reference, visits)?;
+    Ok(Exchange { taken: 1, value })
+}

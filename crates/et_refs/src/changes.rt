@@ -1,0 +1,293 @@
+//! What an event does once no check refused.
+ghost use Rattle.std.specs.Prelude.{◌≡◌, ◌+◌, ◌*◌, ◌<◌, ◌≤◌, ◌^◌, ◌++◌, ◌∷◌, [], List, length, drop, take as first, IfOk, OnOk, OnErr};
+ghost use Rattle.et_base.specs.declared.value.Value.TheVariants.{Ref};
+ghost use Rattle.et_heap.specs.Refs.{refs_of};
+ghost use Rattle.et_frames.specs.Threads.{lost_room};
+ghost use Rattle.et_heap.specs.Objects.{object_at, slot_of, with_slot, with_object_at};
+ghost use Rattle.et_machine.specs.State.{Kept, kept_of};
+ghost use Rattle.et_machine.specs.Words.{HasFrame, top, with_top, ticked, steps_top};
+ghost use Rattle.et_machine.specs.Sound.{IsSound};
+ghost use Rattle.et_machine.specs.Moves.{Led};
+ghost use Rattle.et_program.specs.Entries.{class_at, Linked};
+ghost use Rattle.et_event.specs.Answered.{EventAnswers};
+ghost use Rattle.et_event.specs.Checks.{entries_of};
+ghost use Rattle.et_event.specs.Moments.{Moment, begins, array_made, array_size as bytes_of, element_width as width_of_element, number_of as number_in, updated};
+ghost use Rattle.et_parts.specs.Making.{MakesObject};
+ghost use Rattle.et_place.specs.Places.{site_at};
+ghost use Rattle.et_refs.specs.Changes.{changed, stored, added, MayExchange, MayStore, MayMake, MayChange};
+ghost use Rattle.et_refs.specs.Refusals.{moment};
+
+use crate::kinds::element_width;
+use crate::slots::{SlotAt, slot_value};
+use et_base::{ClassId, NoMemory, ObjectId, Steps, ThreadId, Value};
+use et_heap::MakeFault;
+use et_machine::Machine;
+use et_parts::{give, take};
+use et_place::Place;
+use et_program::Program;
+use et_state::{EventEnd, Lines, Record};
+use std::sync::ledger::Ledger;
+
+/// So many operands are taken, and a value is put in their place.
+#[derive(Clone, Copy)]
+pub struct Exchange {
+    pub taken: u32,
+    pub value: Value,
+}
+
+/// So many operands are taken, and a value is written to a slot of an object.
+#[derive(Clone, Copy)]
+pub struct Store {
+    pub taken: u32,
+    pub object: ObjectId,
+    pub slot: u32,
+    pub value: Value,
+}
+
+/// The length is taken, and an array of a class is put in its place.
+#[derive(Clone, Copy)]
+pub struct NewArray {
+    pub class: ClassId,
+    pub elements: u32,
+}
+
+/// What an event does.
+#[derive(Clone, Copy)]
+pub enum Change {
+    Put(Exchange),
+    Write(Store),
+    Make(NewArray),
+}
+
+/// Puts a value on top; a long takes two entries.
+fn give_value(machine: &mut Machine, thread: ThreadId, value: Value)
+    requires frame { HasFrame machine.old.guest thread }
+    requires room { length (entries_of value) + length (top machine.old.guest thread).operands ≤ (top machine.old.guest thread).room }
+    ensures { machine.new ≡ steps_top machine.old thread (record (top machine.old.guest thread) { operands = entries_of value ++ (top machine.old.guest thread).operands }) [] }
+{
+    match value {
+        Value::Long(_) => give(machine, thread, &[Value::LongHigh, value]),
+        Value::Unset | Value::Int(_) | Value::LongHigh | Value::Null | Value::Ref(_) => {
+            give(machine, thread, &[value])
+        }
+    }
+}
+
+/// Takes so many operands, puts a value in their place, and sets the pc.
+fn replace_top(machine: &mut Machine, thread: ThreadId, taken: u32, value: Value, next: u32)
+    requires frame { HasFrame machine.old.guest thread }
+    requires operands { taken ≤ length (top machine.old.guest thread).operands }
+    requires lost { length machine.old.lost + taken ≤ lost_room }
+    requires room { length (entries_of value) + length (drop taken (top machine.old.guest thread).operands) ≤ (top machine.old.guest thread).room }
+    ensures { machine.new ≡ steps_top machine.old thread (record (top machine.old.guest thread) { pc = next; operands = entries_of value ++ drop taken (top machine.old.guest thread).operands }) (refs_of (first taken (top machine.old.guest thread).operands)) }
+{
+    take(machine, thread, taken);
+    give_value(machine, thread, value);
+    machine.set_pc(thread, next);
+}
+
+/// The event in which a value is put in the place of operands.
+fn put_value(machine: &mut Machine, thread: ThreadId, next: u32, x: Exchange)
+    requires frame { HasFrame machine.old.guest thread }
+    requires sound { IsSound (kept_of machine.old) }
+    requires clock { machine.old.guest.clock < 2 ^ 40 }
+    requires may { MayExchange machine.old (top machine.old.guest thread) x }
+    ensures { Led (kept_of machine.old) (record { heap = machine.old.heap; guest = with_top (ticked machine.old.guest) thread (record (top machine.old.guest thread) { pc = next; operands = entries_of x.value ++ drop x.taken (top machine.old.guest thread).operands }) }) machine.new }
+{
+    machine.begin_event();
+    replace_top(machine, thread, x.taken, x.value, next);
+}
+
+/// The number of a reference in a record; 0 is null.
+fn number_of(value: Value) -> u32
+    ensures { result ≡ number_in value }
+{
+    match value {
+        Value::Ref(o) => o.number(),
+        Value::Unset | Value::Int(_) | Value::Long(_) | Value::LongHigh | Value::Null => 0,
+    }
+}
+
+/// Tells in an event that a value is written to a slot of an object over another, where it is a reference. After `NoMemory`
+/// the records are as before.
+fn tell_update(
+    out: &mut Lines,
+    event: u64,
+    thread: ThreadId,
+    object: ObjectId,
+    slot: u32,
+    old: Value,
+    value: Value,
+) -> Result<(), NoMemory>
+    ensures ok { OnOk result ((p : Linked) (b s : Kept) → s.guest.clock ≡ event → out.new ≡ (updated (record { program = p; before = b; thread = thread }) object slot old value (record { state = s; records = out.old })).records) }
+    ensures err { OnErr result (out.new ≡ out.old) }
+{
+    match value {
+        Value::Null | Value::Ref(_) => out.push(Record::Update {
+            event,
+            thread: thread.number(),
+            object: object.number(),
+            slot,
+            old: number_of(old),
+            new: number_of(value),
+        }),
+        Value::Unset | Value::Int(_) | Value::Long(_) | Value::LongHigh => Ok(()),
+    }
+}
+
+/// The event in which operands are taken and a slot is written, which stood there before.
+fn set_slot<L: Ledger>(
+    machine: &mut Machine,
+    thread: ThreadId,
+    next: u32,
+    x: Store,
+    visits: &mut Steps<L>,
+)
+    requires frame { HasFrame machine.old.guest thread }
+    requires sound { IsSound (kept_of machine.old) }
+    requires clock { machine.old.guest.clock < 2 ^ 40 }
+    requires may { MayStore machine.old (top machine.old.guest thread) x }
+    ensures led { Led (kept_of machine.old) (record { heap = with_object_at machine.old.heap x.object (with_slot x.slot x.value (object_at machine.old.heap x.object)); guest = with_top (ticked machine.old.guest) thread (record (top machine.old.guest thread) { pc = next; operands = drop x.taken (top machine.old.guest thread).operands }) }) machine.new }
+    ensures visits { visits.new ≡ visits.old + 1 }
+{
+    machine.begin_event();
+    let _old = machine.set_slot(x.object, x.slot, x.value, visits);
+    take(machine, thread, x.taken);
+    machine.set_pc(thread, next);
+}
+
+/// The event in which operands are taken and a slot is written. After `NoMemory` all is as before.
+fn write_slot<L: Ledger>(
+    machine: &mut Machine,
+    program: &Program,
+    thread: ThreadId,
+    place: &Place<'_>,
+    x: Store,
+    out: &mut Lines,
+    visits: &mut Steps<L>,
+) -> Result<EventEnd, NoMemory>
+    requires frame { HasFrame machine.old.guest thread }
+    requires sound { IsSound (kept_of machine.old) }
+    requires clock { machine.old.guest.clock < 2 ^ 40 }
+    requires may { MayStore machine.old (top machine.old.guest thread) x }
+    ensures ok { IfOk result (λ end. EventAnswers (stored (moment program.now machine.old thread) (site_at place.now) x) end machine.old machine.new out.old out.new) }
+    ensures err { OnErr result (machine.new ≡ machine.old) }
+    ensures visits { visits.new ≤ visits.old + 2 }
+{
+    let at = SlotAt {
+        object: x.object,
+        slot: x.slot,
+    };
+    let old = slot_value(machine, &at, visits);
+    let event = machine.clock() + 1;
+    tell_update(out, event, thread, x.object, x.slot, old, x.value)?;
+    set_slot(machine, thread, place.next, x, visits);
+    Ok(EventEnd::Done)
+}
+
+/// How many bytes an element of an array of a class takes.
+fn width_in(program: &Program, class: ClassId) -> u64
+    ensures value { result ≡ width_of_element (class_at program.now class).info.element }
+    ensures small { result ≤ 8 }
+{
+    if class.number() < program.class_count() {
+        element_width(program.class(class).element)
+    } else {
+        0
+    }
+}
+
+/// How many bytes an array takes.
+fn array_size(elements: u32, width: u64) -> u64
+    requires { width ≤ 8 }
+    ensures { result ≡ bytes_of elements width }
+{
+    (24 + elements as u64 * width + 7) / 8 * 8
+}
+
+/// Makes an array of a class in the event that comes next, and tells of it; `None`, and nothing is done, exactly where it
+/// doesn't fit. After `NoMemory` the machine may have one object more, to which nothing refers.
+#[tactic(auto, using(crate::proofs::Fitting::fits_array))]
+fn make_array(
+    machine: &mut Machine,
+    program: &Program,
+    thread: ThreadId,
+    x: NewArray,
+    out: &mut Lines,
+) -> Result<Option<ObjectId>, NoMemory>
+    requires sound { IsSound (kept_of machine.old) }
+    requires clock { machine.old.guest.clock < 2 ^ 40 }
+    ensures err { OnErr result (machine.new.guest ≡ machine.old.guest) }
+    ensures made { IfOk result (λ made. MakesObject (array_made (moment program.now machine.old thread) x.class x.elements (begins (moment program.now machine.old thread))) made machine.old machine.new out.old out.new) }
+{
+    let width = width_in(program, x.class);
+    let event = machine.clock() + 1;
+    let object = match machine.heap.make_array(x.class, x.elements) {
+        Ok(object) => object,
+        Err(MakeFault::Full) => return Ok(None),
+        Err(MakeFault::NoMemory) => return Err(NoMemory),
+    };
+    out.push(Record::Alloc {
+        event,
+        thread: thread.number(),
+        object: object.number(),
+        class: x.class,
+        size: array_size(x.elements, width),
+        length: x.elements,
+    })?;
+    Ok(Some(object))
+}
+
+/// The event in which an array is made. After `NoMemory` the machine may have one object more, to which nothing refers, and
+/// there may be its record; all else is as before.
+fn add_array(
+    machine: &mut Machine,
+    program: &Program,
+    thread: ThreadId,
+    place: &Place<'_>,
+    x: NewArray,
+    out: &mut Lines,
+) -> Result<EventEnd, NoMemory>
+    requires frame { HasFrame machine.old.guest thread }
+    requires sound { IsSound (kept_of machine.old) }
+    requires clock { machine.old.guest.clock < 2 ^ 40 }
+    requires may { MayMake (top machine.old.guest thread) }
+    ensures ok { IfOk result (λ end. EventAnswers (added (moment program.now machine.old thread) (site_at place.now) x) end machine.old machine.new out.old out.new) }
+    ensures err { OnErr result (machine.new.guest ≡ machine.old.guest) }
+{
+    let Some(array) = make_array(machine, program, thread, x, out)? else {
+        return Ok(EventEnd::ObjectLimit);
+    };
+    machine.begin_event();
+    replace_top(machine, thread, 1, Value::Ref(array), place.next);
+    Ok(EventEnd::Done)
+}
+
+/// The event that does this change at a place. After `NoMemory` the machine may have one object more, to which nothing
+/// refers, and there may be its record; all else is as before.
+pub(crate) fn carry_out<L: Ledger>(
+    machine: &mut Machine,
+    program: &Program,
+    thread: ThreadId,
+    place: &Place<'_>,
+    change: Change,
+    out: &mut Lines,
+    visits: &mut Steps<L>,
+) -> Result<EventEnd, NoMemory>
+    requires frame { HasFrame machine.old.guest thread }
+    requires sound { IsSound (kept_of machine.old) }
+    requires clock { machine.old.guest.clock < 2 ^ 40 }
+    requires may { MayChange machine.old (top machine.old.guest thread) change }
+    ensures ok { IfOk result (λ end. EventAnswers (changed (moment program.now machine.old thread) (site_at place.now) change) end machine.old machine.new out.old out.new) }
+    ensures err { OnErr result (machine.new.guest ≡ machine.old.guest) }
+    ensures visits { visits.new ≤ visits.old + 2 }
+{
+    match change {
+        Change::Put(x) => {
+            put_value(machine, thread, place.next, x);
+            Ok(EventEnd::Done)
+        }
+        Change::Write(x) => write_slot(machine, program, thread, place, x, out, visits),
+        Change::Make(x) => add_array(machine, program, thread, place, x, out),
+    }
+}

@@ -1,0 +1,256 @@
+//! Elements of arrays (JVMS 6.5, arraylength, iaload, iastore and their kin).
+ghost use Rattle.std.specs.Prelude.{◌≡◌, ℕ, ◌+◌, ◌<◌, ◌≤◌, ◌^◌, true, length, pos, Some, IfOk};
+ghost use Rattle.et_base.specs.declared.value.Value.TheVariants.{Int, Ref};
+ghost use Rattle.et_machine.specs.State.{Kept, kept_of};
+ghost use Rattle.et_heap.specs.Refs.{refs_of_value};
+ghost use Rattle.et_program.specs.Entries.{class_at};
+ghost use Rattle.et_machine.specs.Words.{HasFrame, top};
+ghost use Rattle.et_machine.specs.Sound.{IsSound};
+ghost use Rattle.et_machine.specs.Moves.{AreHeld};
+ghost use Rattle.et_event.specs.Checks.{entries_of};
+ghost use Rattle.et_state.specs.Outcome.{Outcome};
+ghost use Rattle.et_heap.specs.Objects.{IsHeld, object_at, slot_of};
+ghost use Rattle.et_event.specs.Heap.{with_element, load_element, store_element, array_length, element_of as elements_of, passes_element as passing_element};
+ghost use Rattle.et_event.specs.Kinds.{kind_of_elements as elements_kind, or_zero as zero_or, is_array as is_such};
+ghost use Rattle.et_event.specs.Sites.{Site, natural as natural_of};
+ghost use Rattle.et_event.specs.Sound.{IsSoundFor};
+ghost use Rattle.et_place.specs.Places.{site_at};
+ghost use Rattle.et_refs.specs.Changes.{IsNamed, MayExchange, MayStore, exchanged, stored};
+ghost use Rattle.et_refs.specs.Refusals.{moment, decided};
+ghost use Rattle.et_refs.specs.Slots.{IsSlotAt, IsElementWithin, AreElementsWithin};
+
+use crate::casts::passes;
+use crate::changes::{Exchange, Store};
+use crate::checks::{ill_typed_unless, not_null, throws_unless};
+use crate::kinds::{are_elements, in_bounds, is_array, kept_element, kind_of_elements, natural};
+use crate::operands::{operands_fit, take_element, take_int, take_reference};
+use crate::refusals::Refusal;
+use crate::slots::{SlotAt, read_slot};
+use et_base::{ObjectId, Steps, ThreadId, Value};
+use et_event::{Elements, GuestError};
+use et_machine::Machine;
+use et_place::Place;
+use et_program::{Element, Program};
+use std::sync::ledger::Ledger;
+
+/// What an object has as its elements.
+fn element_of<L: Ledger>(
+    machine: &Machine,
+    program: &Program,
+    thread: ThreadId,
+    object: ObjectId,
+    visits: &mut Steps<L>,
+) -> Element
+    requires sound { IsSoundFor program.now (kept_of machine.now) }
+    requires held { IsHeld machine.now.heap object }
+    ensures value { result ≡ elements_of (moment program.now machine.now thread) object }
+    ensures visits { visits.new ≡ visits.old + 1 }
+{
+    let class = machine.heap.class_of(object, visits);
+    program.class(class).element
+}
+
+/// The length of an array, which has a slot for each element.
+fn length_of<L: Ledger>(
+    machine: &Machine,
+    program: &Program,
+    object: ObjectId,
+    visits: &mut Steps<L>,
+) -> u32
+    requires sound { IsSoundFor program.now (kept_of machine.now) }
+    requires held { IsHeld machine.now.heap object }
+    requires array { is_such (class_at program.now (object_at machine.now.heap object).class).info.element ≡ true }
+    ensures value { result ≡ (object_at machine.now.heap object).length }
+    ensures slots { result ≡ length (object_at machine.now.heap object).slots }
+    ensures few { result < 2 ^ 31 }
+    ensures visits { visits.new ≡ visits.old + 1 }
+{
+    let _slots = machine.heap.slots();
+    machine.heap.length_of(object, visits)
+}
+
+/// The element of an index of the array that a reference names, where the array has such elements.
+fn element_slot<L: Ledger>(
+    machine: &Machine,
+    program: &Program,
+    thread: ThreadId,
+    elements: Elements,
+    reference: Option<ObjectId>,
+    index: i32,
+    visits: &mut Steps<L>,
+) -> Result<SlotAt, Refusal>
+    requires sound { IsSoundFor program.now (kept_of machine.now) }
+    requires named { IsNamed machine.now (top machine.now.guest thread) reference }
+    ensures is { (go : ℕ → ℕ → Outcome Kept) → with_element (moment program.now machine.now thread) elements reference index (λ o. go o (natural_of index)) ≡ decided (moment program.now machine.now thread) result (λ x. go x.object x.slot) }
+    ensures object { IfOk result (λ x. reference ≡ Some x.object) }
+    ensures at { IfOk result (λ x. IsSlotAt machine.now (Some (elements_kind elements)) x) }
+    ensures visits { visits.new ≤ visits.old + 2 }
+{
+    let object = not_null(reference)?;
+    let element = element_of(machine, program, thread, object, visits);
+    ill_typed_unless(are_elements(elements, element))?;
+    let length = length_of(machine, program, object, visits);
+    throws_unless(
+        GuestError::ArrayIndexOutOfBoundsException,
+        in_bounds(index, length),
+    )?;
+    Ok(SlotAt {
+        object,
+        slot: natural(index),
+    })
+}
+
+/// What an element gives.
+fn element_value<L: Ledger>(
+    machine: &Machine,
+    elements: Elements,
+    at: &SlotAt,
+    visits: &mut Steps<L>,
+) -> Value
+    requires sound { IsSound (kept_of machine.now) }
+    requires at { IsSlotAt machine.now (Some (elements_kind elements)) at.now }
+    ensures value { result ≡ zero_or (Some (elements_kind elements)) (slot_of (object_at machine.now.heap at.now.object) at.now.slot) }
+    ensures few { length (entries_of result) ≤ 2 }
+    ensures held { AreHeld machine.now (refs_of_value result) }
+    ensures visits { visits.new ≡ visits.old + 1 }
+{
+    let kind = Some(kind_of_elements(elements));
+    read_slot(machine, kind, at, visits)
+}
+
+/// What `iaload` or one of its kin puts in the place of the array and the index.
+pub(crate) fn read_element<L: Ledger>(
+    machine: &Machine,
+    program: &Program,
+    thread: ThreadId,
+    elements: Elements,
+    visits: &mut Steps<L>,
+) -> Result<Exchange, Refusal>
+    requires frame { HasFrame machine.now.guest thread }
+    requires sound { IsSoundFor program.now (kept_of machine.now) }
+    ensures is { (at : Site) → load_element (moment program.now machine.now thread) at elements ≡ decided (moment program.now machine.now thread) result (exchanged (moment program.now machine.now thread) at) }
+    ensures may { IfOk result (λ x. MayExchange machine.now (top machine.now.guest thread) x) }
+    ensures visits { visits.new ≤ visits.old + 3 }
+{
+    operands_fit(machine, thread);
+    let index = take_int(machine, thread, 0)?;
+    let reference = take_reference(machine, thread, 1)?;
+    let at = element_slot(machine, program, thread, elements, reference, index, visits)?;
+    let value = element_value(machine, elements, &at, visits);
+    Ok(Exchange { taken: 2, value })
+}
+
+/// The length of an array as a value.
+fn length_value<L: Ledger>(
+    machine: &Machine,
+    program: &Program,
+    object: ObjectId,
+    visits: &mut Steps<L>,
+) -> Value
+    requires sound { IsSoundFor program.now (kept_of machine.now) }
+    requires held { IsHeld machine.now.heap object }
+    requires array { is_such (class_at program.now (object_at machine.now.heap object).class).info.element ≡ true }
+    ensures value { result ≡ Int (pos (object_at machine.now.heap object).length) }
+    ensures few { length (entries_of result) ≤ 1 }
+    ensures held { AreHeld machine.now (refs_of_value result) }
+    ensures visits { visits.new ≡ visits.old + 1 }
+{
+    let length = length_of(machine, program, object, visits);
+    Value::Int(length as i32)
+}
+
+/// What `arraylength` puts in the place of the array.
+pub(crate) fn read_length<L: Ledger>(
+    machine: &Machine,
+    program: &Program,
+    thread: ThreadId,
+    visits: &mut Steps<L>,
+) -> Result<Exchange, Refusal>
+    requires frame { HasFrame machine.now.guest thread }
+    requires sound { IsSoundFor program.now (kept_of machine.now) }
+    ensures is { (at : Site) → array_length (moment program.now machine.now thread) at ≡ decided (moment program.now machine.now thread) result (exchanged (moment program.now machine.now thread) at) }
+    ensures may { IfOk result (λ x. MayExchange machine.now (top machine.now.guest thread) x) }
+    ensures visits { visits.new ≤ visits.old + 2 }
+{
+    operands_fit(machine, thread);
+    let reference = take_reference(machine, thread, 0)?;
+    let object = not_null(reference)?;
+    let element = element_of(machine, program, thread, object, visits);
+    ill_typed_unless(is_array(element))?;
+    let value = length_value(machine, program, object, visits);
+    Ok(Exchange { taken: 1, value })
+}
+
+/// Whether an object may be an element: whether it passes for one of the class of elements.
+fn passes_for<L: Ledger>(
+    machine: &Machine,
+    program: &Program,
+    thread: ThreadId,
+    object: ObjectId,
+    element: Element,
+    visits: &mut Steps<L>,
+) -> bool
+    requires sound { IsSoundFor program.now (kept_of machine.now) }
+    requires object { IsHeld machine.now.heap object }
+    requires element { IsElementWithin (length program.now.classes) element }
+    ensures value { result ≡ passing_element (moment program.now machine.now thread) (Ref object) element }
+    ensures visits { visits.new ≤ visits.old + 1 }
+{
+    match element {
+        Element::Class(class) => passes(machine, program, object, class, visits),
+        Element::NoArray | Element::Base(_) => true,
+    }
+}
+
+/// Whether an array may have this value as an element: null, an object that passes for one of the class of its elements, and
+/// what is no reference.
+fn passes_element<L: Ledger>(
+    machine: &Machine,
+    program: &Program,
+    thread: ThreadId,
+    value: Value,
+    array: ObjectId,
+    visits: &mut Steps<L>,
+) -> bool
+    requires sound { IsSoundFor program.now (kept_of machine.now) }
+    requires elements { AreElementsWithin program.now }
+    requires array { IsHeld machine.now.heap array }
+    requires value { AreHeld machine.now (refs_of_value value) }
+    ensures value { result ≡ passing_element (moment program.now machine.now thread) value (elements_of (moment program.now machine.now thread) array) }
+    ensures visits { visits.new ≤ visits.old + 2 }
+{
+    let element = element_of(machine, program, thread, array, visits);
+    match value {
+        Value::Ref(object) => passes_for(machine, program, thread, object, element, visits),
+        Value::Unset | Value::Int(_) | Value::Long(_) | Value::LongHigh | Value::Null => true,
+    }
+}
+
+/// What `iastore` or one of its kin writes.
+pub(crate) fn write_element<L: Ledger>(
+    machine: &Machine,
+    program: &Program,
+    thread: ThreadId,
+    elements: Elements,
+    visits: &mut Steps<L>,
+) -> Result<Store, Refusal>
+    requires frame { HasFrame machine.now.guest thread }
+    requires sound { IsSoundFor program.now (kept_of machine.now) }
+    requires elements { AreElementsWithin program.now }
+    ensures is { (at : Site) → store_element (moment program.now machine.now thread) at elements ≡ decided (moment program.now machine.now thread) result (stored (moment program.now machine.now thread) at) }
+    ensures may { IfOk result (λ x. MayStore machine.now (top machine.now.guest thread) x) }
+    ensures visits { visits.new ≤ visits.old + 4 }
+{
+    let taken = take_element(machine, thread, elements)?;
+    let index = take_int(machine, thread, taken.width)?;
+    let reference = take_reference(machine, thread, taken.width + 1)?;
+    let at = element_slot(machine, program, thread, elements, reference, index, visits)?;
+    let may_be = passes_element(machine, program, thread, taken.value, at.object, visits);
+    throws_unless(GuestError::ArrayStoreException, may_be)?;
+    Ok(Store {
+        taken: taken.width + 2,
+        object: at.object,
+        slot: at.slot,
+        value: kept_element(elements, taken.value),
+    })
+}

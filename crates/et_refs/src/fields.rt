@@ -1,0 +1,210 @@
+//! Instance fields (JVMS 6.5, getfield, putfield).
+ghost use Rattle.std.specs.Prelude.{◌≡◌, ℕ, ◌+◌, ◌<◌, ◌≤◌, ◌^◌, true, false, not, length, Some, IfOk};
+ghost use Rattle.et_class.specs.Names.{has as has_flag};
+ghost use Rattle.et_class.specs.declared.flags.TheConstants.{STATIC as STATIC_FLAG};
+ghost use Rattle.et_pool.specs.Descriptors.{is_field_descriptor as is_of_field, width_of as descriptor_width};
+ghost use Rattle.et_program.specs.Entries.{field_at as field_of};
+ghost use Rattle.et_program.specs.Resolution.{resolve_field as field_meant};
+ghost use Rattle.et_heap.specs.Objects.{object_at, slot_of};
+ghost use Rattle.et_machine.specs.State.{Kept, kept_of};
+ghost use Rattle.et_heap.specs.Refs.{refs_of_value};
+ghost use Rattle.et_machine.specs.Words.{HasFrame, top};
+ghost use Rattle.et_machine.specs.Sound.{IsSound};
+ghost use Rattle.et_machine.specs.Moves.{AreHeld};
+ghost use Rattle.et_state.specs.Outcome.{Outcome};
+ghost use Rattle.et_event.specs.declared.errors.GuestError.TheVariants.{IncompatibleClassChangeError};
+ghost use Rattle.et_event.specs.Checks.{entries_of, resolved, throws_unless as throwing_unless};
+ghost use Rattle.et_event.specs.Heap.{with_field, resolved_field, is_static_field, with_holder, get_field, put_field};
+ghost use Rattle.et_event.specs.Kinds.{kind_of as descriptor_kind, or_zero as zero_or};
+ghost use Rattle.et_event.specs.Moments.{Moment, begins};
+ghost use Rattle.et_event.specs.Sites.{Member, member_of, natural};
+ghost use Rattle.et_event.specs.Sound.{IsSoundFor, HasField};
+ghost use Rattle.et_place.specs.Members.{shown_member};
+ghost use Rattle.et_place.specs.Places.{site_at};
+ghost use Rattle.et_refs.specs.Changes.{IsNamed, MayExchange, MayStore, exchanged, stored};
+ghost use Rattle.et_refs.specs.Refusals.{moment, decided};
+ghost use Rattle.et_refs.specs.Slots.{IsInstanceField, IsSlotAt};
+
+use crate::changes::{Exchange, Store};
+use crate::checks::{ill_typed_unless, not_null, resolve, throws_unless};
+use crate::kinds::{kind_of, narrowed};
+use crate::operands::{take_reference, take_typed, type_fits};
+use crate::refusals::Refusal;
+use crate::slots::{SlotAt, read_slot};
+use et_base::{ClassId, FieldId, ObjectId, Steps, ThreadId, Value};
+use et_class::flags::{STATIC, has};
+use et_event::GuestError;
+use et_machine::Machine;
+use et_place::{MemberAt, Place, member_at};
+use et_pool::descriptor::is_field_descriptor;
+use et_program::Program;
+use std::sync::ledger::Ledger;
+
+/// The member that an instruction names, where it is a field.
+fn field_named<'a>(place: &Place<'a>) -> Result<MemberAt<'a>, Refusal>
+    requires { natural place.now.instr.first < 2 ^ 16 }
+    ensures is { (e : Moment) (go : Member → Outcome Kept) → with_field e (member_of (site_at place.now)) go ≡ decided e result (λ m. go (shown_member m)) }
+    ensures field { IfOk result (λ m. is_of_field m.descriptor.now ≡ true) }
+{
+    let Some(member) = member_at(place) else {
+        return Err(Refusal::IllTyped);
+    };
+    if !is_field_descriptor(member.descriptor) {
+        return Err(Refusal::IllTyped);
+    }
+    Ok(member)
+}
+
+/// The field that a name and a descriptor mean in a class (JVMS 5.4.3.2).
+fn resolve_field(
+    program: &Program,
+    owner: ClassId,
+    name: &[u8],
+    descriptor: &[u8],
+) -> Result<FieldId, Refusal>
+    requires { owner < length program.now.classes }
+    ensures is { (s : Kept) (t : ℕ) (go : ℕ → Outcome Kept) → resolved (record { program = program.now; before = s; thread = t }) (begins (record { program = program.now; before = s; thread = t })) (field_meant program.now owner name.now descriptor.now) go ≡ decided (record { program = program.now; before = s; thread = t }) result go }
+    ensures within { IfOk result (λ f. f < length program.now.fields) }
+    ensures descriptor { IfOk result (λ f. (field_of program.now f).descriptor ≡ descriptor.now) }
+{
+    match program.resolve_field(owner, name, descriptor) {
+        Ok(field) => Ok(field),
+        Err(error) => Err(Refusal::Throws(GuestError::of(error))),
+    }
+}
+
+/// The instance field that an instruction names.
+fn instance_field(program: &Program, member: &MemberAt<'_>) -> Result<FieldId, Refusal>
+    ensures is { (s : Kept) (t : ℕ) (go : ℕ → Outcome Kept) →
+        resolved_field (record { program = program.now; before = s; thread = t }) (begins (record { program = program.now; before = s; thread = t })) (shown_member member.now)
+        (λ f. throwing_unless (record { program = program.now; before = s; thread = t }) (begins (record { program = program.now; before = s; thread = t })) IncompatibleClassChangeError (not (is_static_field program.now f)) (go f))
+        ≡ decided (record { program = program.now; before = s; thread = t }) result go }
+    ensures field { IfOk result (λ f. IsInstanceField program.now member.now.descriptor.now f) }
+{
+    let owner = resolve(program, member.owner)?;
+    let field = resolve_field(program, owner, member.name, member.descriptor)?;
+    let is_static = has(program.field(field).flags, STATIC);
+    throws_unless(GuestError::IncompatibleClassChangeError, !is_static)?;
+    Ok(field)
+}
+
+/// The object that a reference names, where its class has an instance field.
+fn holder<L: Ledger>(
+    machine: &Machine,
+    program: &Program,
+    thread: ThreadId,
+    field: FieldId,
+    reference: Option<ObjectId>,
+    visits: &mut Steps<L>,
+) -> Result<ObjectId, Refusal>
+    requires sound { IsSoundFor program.now (kept_of machine.now) }
+    requires within { field < length program.now.fields }
+    requires instance { has_flag (field_of program.now field).flags STATIC_FLAG ≡ false }
+    requires named { IsNamed machine.now (top machine.now.guest thread) reference }
+    ensures is { (go : ℕ → Outcome Kept) → with_holder (moment program.now machine.now thread) (begins (moment program.now machine.now thread)) field reference go ≡ decided (moment program.now machine.now thread) result go }
+    ensures object { IfOk result (λ o. reference ≡ Some o) }
+    ensures has { IfOk result (λ o. HasField program.now (object_at machine.now.heap o) field) }
+    ensures visits { visits.new ≤ visits.old + 1 }
+{
+    let object = not_null(reference)?;
+    let class = machine.heap.class_of(object, visits);
+    let declarer = program.field(field).class;
+    ill_typed_unless(program.is_subclass(class, declarer))?;
+    Ok(object)
+}
+
+/// The slot of an instance field that an instruction names, in the object that a reference names.
+fn field_slot<L: Ledger>(
+    machine: &Machine,
+    program: &Program,
+    thread: ThreadId,
+    member: &MemberAt<'_>,
+    reference: Option<ObjectId>,
+    visits: &mut Steps<L>,
+) -> Result<SlotAt, Refusal>
+    requires sound { IsSoundFor program.now (kept_of machine.now) }
+    requires named { IsNamed machine.now (top machine.now.guest thread) reference }
+    ensures is { (go : ℕ → ℕ → Outcome Kept) →
+        resolved_field (moment program.now machine.now thread) (begins (moment program.now machine.now thread)) (shown_member member.now)
+        (λ f. throwing_unless (moment program.now machine.now thread) (begins (moment program.now machine.now thread)) IncompatibleClassChangeError (not (is_static_field program.now f))
+        (with_holder (moment program.now machine.now thread) (begins (moment program.now machine.now thread)) f reference (λ o. go o (field_of program.now f).slot)))
+        ≡ decided (moment program.now machine.now thread) result (λ x. go x.object x.slot) }
+    ensures object { IfOk result (λ x. reference ≡ Some x.object) }
+    ensures at { IfOk result (λ x. IsSlotAt machine.now (descriptor_kind member.now.descriptor.now) x) }
+    ensures visits { visits.new ≤ visits.old + 1 }
+{
+    let field = instance_field(program, member)?;
+    let object = holder(machine, program, thread, field, reference, visits)?;
+    let info = program.field(field);
+    Ok(SlotAt {
+        object,
+        slot: info.slot,
+    })
+}
+
+/// What a field of a type gives.
+fn field_value<L: Ledger>(
+    machine: &Machine,
+    descriptor: &[u8],
+    at: &SlotAt,
+    visits: &mut Steps<L>,
+) -> Value
+    requires sound { IsSound (kept_of machine.now) }
+    requires at { IsSlotAt machine.now (descriptor_kind descriptor.now) at.now }
+    ensures value { result ≡ zero_or (descriptor_kind descriptor.now) (slot_of (object_at machine.now.heap at.now.object) at.now.slot) }
+    ensures few { length (entries_of result) ≤ descriptor_width descriptor.now }
+    ensures held { AreHeld machine.now (refs_of_value result) }
+    ensures visits { visits.new ≡ visits.old + 1 }
+{
+    read_slot(machine, kind_of(descriptor), at, visits)
+}
+
+/// What `getfield` puts in the place of the reference.
+pub(crate) fn read_field<L: Ledger>(
+    machine: &Machine,
+    program: &Program,
+    thread: ThreadId,
+    place: &Place<'_>,
+    visits: &mut Steps<L>,
+) -> Result<Exchange, Refusal>
+    requires frame { HasFrame machine.now.guest thread }
+    requires sound { IsSoundFor program.now (kept_of machine.now) }
+    requires index { natural place.now.instr.first < 2 ^ 16 }
+    ensures is { get_field (moment program.now machine.now thread) (site_at place.now) ≡ decided (moment program.now machine.now thread) result (exchanged (moment program.now machine.now thread) (site_at place.now)) }
+    ensures may { IfOk result (λ x. MayExchange machine.now (top machine.now.guest thread) x) }
+    ensures visits { visits.new ≤ visits.old + 2 }
+{
+    let member = field_named(place)?;
+    let reference = take_reference(machine, thread, 0)?;
+    type_fits(machine, thread, member.descriptor)?;
+    let at = field_slot(machine, program, thread, &member, reference, visits)?;
+    let value = field_value(machine, member.descriptor, &at, visits);
+    Ok(Exchange { taken: 1, value })
+}
+
+/// What `putfield` writes.
+pub(crate) fn write_field<L: Ledger>(
+    machine: &Machine,
+    program: &Program,
+    thread: ThreadId,
+    place: &Place<'_>,
+    visits: &mut Steps<L>,
+) -> Result<Store, Refusal>
+    requires frame { HasFrame machine.now.guest thread }
+    requires sound { IsSoundFor program.now (kept_of machine.now) }
+    requires index { natural place.now.instr.first < 2 ^ 16 }
+    ensures is { put_field (moment program.now machine.now thread) (site_at place.now) ≡ decided (moment program.now machine.now thread) result (stored (moment program.now machine.now thread) (site_at place.now)) }
+    ensures may { IfOk result (λ x. MayStore machine.now (top machine.now.guest thread) x) }
+    ensures visits { visits.new ≤ visits.old + 1 }
+{
+    let member = field_named(place)?;
+    let taken = take_typed(machine, thread, member.descriptor)?;
+    let reference = take_reference(machine, thread, taken.width)?;
+    let at = field_slot(machine, program, thread, &member, reference, visits)?;
+    Ok(Store {
+        taken: taken.width + 1,
+        object: at.object,
+        slot: at.slot,
+        value: narrowed(member.descriptor, taken.value),
+    })
+}

@@ -1,0 +1,44 @@
+//! Why an event does nothing but throw, or has no meaning.
+ghost use Rattle.std.specs.Prelude.{◌≡◌, ◌<◌, ◌^◌, IfOk, OnErr};
+ghost use Rattle.et_machine.specs.State.{kept_of};
+ghost use Rattle.et_machine.specs.Words.{HasFrame};
+ghost use Rattle.et_machine.specs.Sound.{IsSound};
+ghost use Rattle.et_event.specs.Answered.{EventAnswers};
+ghost use Rattle.et_refs.specs.Refusals.{moment, refused};
+
+use et_base::{NoMemory, ThreadId};
+use et_event::GuestError;
+use et_machine::Machine;
+use et_parts::{ill_typed, throw_error};
+use et_program::Program;
+use et_state::{EventEnd, Lines};
+
+/// What the first check says that refuses.
+#[derive(Clone, Copy)]
+pub enum Refusal {
+    /// The event has no meaning.
+    IllTyped,
+    /// The machine throws this.
+    Throws(GuestError),
+}
+
+/// The event that a check refused. After `NoMemory` the machine may have one object more, to which nothing refers, and there
+/// may be its record; all else is as before.
+pub(crate) fn refuse(
+    machine: &mut Machine,
+    program: &Program,
+    thread: ThreadId,
+    refusal: Refusal,
+    out: &mut Lines,
+) -> Result<EventEnd, NoMemory>
+    requires frame { HasFrame machine.old.guest thread }
+    requires sound { IsSound (kept_of machine.old) }
+    requires clock { machine.old.guest.clock < 2 ^ 40 }
+    ensures ok { IfOk result (λ end. EventAnswers (refused (moment program.now machine.old thread) refusal) end machine.old machine.new out.old out.new) }
+    ensures err { OnErr result (machine.new.guest ≡ machine.old.guest) }
+{
+    match refusal {
+        Refusal::IllTyped => Ok(ill_typed(machine, thread)),
+        Refusal::Throws(error) => throw_error(machine, program, thread, error, out),
+    }
+}
