@@ -1,0 +1,10 @@
+//! The initialization of classes (JVMS 5.5, 4.7.2, 2.9): what an event needs of a class, quiet classes with their constants,
+//! and the events in which an initializer begins.
+#![tactic(auto)]
+
+mod constants;
+mod needs;
+mod quiet;
+
+pub use needs::{Need, need_of};
+pub use quiet::set_quietly;
