@@ -1,0 +1,3 @@
+mod Strings
+mod Setting
+mod Running

@@ -1,8 +1,5 @@
 //! What an event does that needs a class.
-ghost use Rattle.std.specs.Prelude.{◌≡◌, ◌<◌, All, length};
-ghost use Rattle.std.specs.List.{list_all};
-ghost use Rattle.et_machine.specs.declared.class_state.ClassState.{ClassState as State};
-ghost use Rattle.et_machine.specs.Words.{class_state_at};
+ghost use Rattle.std.specs.Prelude.{◌≡◌, ℕ, ◌<◌, length};
 ghost use Rattle.et_event.specs.Moments.{begins};
 ghost use Rattle.et_event.specs.Initialization.{is_quiet as quiet, is_quiet_state as quiet_state};
 ghost use Rattle.et_initialize.specs.Needs.{need_of as needed};
@@ -39,13 +36,12 @@ fn is_quiet_state(program: &Program, class: ClassId, state: ClassState) -> bool
     }
 }
 
-/// Whether nothing is to be run for a class and for what is initialized with it.
-fn is_quiet(program: &Program, machine: &Machine, thread: ThreadId, class: ClassId) -> bool
+/// Whether nothing is to be run for a class, and for what is initialized with it.
+fn is_quiet(program: &Program, machine: &Machine, class: ClassId) -> bool
     requires class { class < length program.now.classes }
     requires classes { length machine.now.guest.classes ≡ length program.now.classes }
-    ensures { result ≡ quiet (moment program.now machine.now thread) (begins (moment program.now machine.now thread)) class }
+    ensures { (thread : ℕ) → result ≡ quiet (moment program.now machine.now thread) (begins (moment program.now machine.now thread)) class }
 {
-    let _ = thread;
     let order = program.init_order(class);
     for k in 0..order.len() {
         if !is_quiet_state(program, order[k], machine.class_state(order[k])) {
@@ -63,10 +59,20 @@ pub fn need_of(program: &Program, machine: &Machine, thread: ThreadId, class: Cl
 {
     match machine.class_state(class) {
         ClassState::Done => Need::Ready,
-        ClassState::Begun(owner) if owner == thread => Need::Ready,
-        ClassState::Begun(_) => Need::Waits,
+        ClassState::Begun(owner) => {
+            if owner.number() == thread.number() {
+                Need::Ready
+            } else {
+                Need::Waits
+            }
+        }
         ClassState::Failed => Need::Failed,
-        ClassState::Untouched if is_quiet(program, machine, thread, class) => Need::Quiet,
-        ClassState::Untouched => Need::Begins,
+        ClassState::Untouched => {
+            if is_quiet(program, machine, class) {
+                Need::Quiet
+            } else {
+                Need::Begins
+            }
+        }
     }
 }
