@@ -1,16 +1,25 @@
 -- The strings of constants.
-use Rattle.std.proofs.Common.{◌≡◌, ℕ, ◌==◌, ◌<◌, Bool, true, false, cond, List, [], ◌∷◌, ◌++◌, length, Option, Some, None, refl, sym, ◌∙◌, ap, subst, arith, Contains}
-use Rattle.std.specs.Prelude.{if◌then◌else◌, is_some, codes, find, unwrap_or}
+use Rattle.std.proofs.Common.{rules, ◌≡◌, ℕ, ◌==◌, ◌<◌, Bool, true, false, cond, List, [], ◌∷◌, ◌++◌, length, Option, Some, None, refl, sym, ◌∙◌, ap, subst, arith, Contains}
+use Rattle.std.specs.Prelude.{if◌then◌else◌, is_some, codes, find, unwrap_or, slice_get}
 use Rattle.std.specs.Option.{option_map}
 use Rattle.std.specs.Str.{bytes_eq}
 use Rattle.std.proofs.lemmas.Bool.{eqb-true}
+use Rattle.std.proofs.lemmas.Option.{unwrap_or-slice_get}
 use Rattle.std.proofs.lemmas.Slice.Eq.{bytes_eq-Decides}
 use Rattle.et_graph.proofs.Lists.{Contains-here, Contains-there}
 use Rattle.et_machine.specs.Interned.{object_of, text_of, objects_of}
+use Rattle.et_machine.specs.State.{MachineState}
 use Rattle.et_machine.specs.Words.{with_string}
+use Rattle.et_state.specs.declared.records.Record.{Record}
+use Rattle.et_initialize.specs.Under.{so_far, with_kept, ComesTo}
 use Rattle.et_event.specs.Errors.{class_called}
 use Rattle.et_event.specs.Moments.{Moment, Doing, with_guest, instance_made, next_object}
+use Rattle.et_pool.specs.Entries.{Item, Constants}
+use Rattle.et_program.specs.Entries.{field_at}
+use Rattle.et_program.specs.declared.info.FieldInfo.{FieldInfo}
+use Rattle.et_event.specs.Sites.{constant_at, pool_of, no_constants}
 use Rattle.et_event.specs.Strings.{interned, string_object}
+use Rattle.et_event.specs.Initialization.{constant_set, field_set}
 
 abbrev pub Strings : Type 0
 Strings = List (List ℕ × ℕ)
@@ -92,3 +101,16 @@ object_listed e bytes d = by_interned (λ (x : Doing). Contains (objects_of x.st
   where
     listed : (x : Doing) (o : ℕ) → object_of x.state.guest.interned bytes ≡ Some o → Contains (objects_of x.state.guest.interned) (string_object bytes x)
     listed x o h = subst (λ (k : ℕ). Contains (objects_of x.state.guest.interned) k) (sym (ap (λ (r : Option ℕ). unwrap_or r 0) h)) (object_in x.state.guest.interned bytes o h)
+
+-- A FIELD OF A CLASS WITHOUT A POOL gets nothing
+no_pool : (e : Moment) (f : ℕ) (d : Doing) (info : FieldInfo) → info ≡ field_at e.program f → slice_get e.program.pools info.class ≡ None → field_set e d f ≡ d
+no_pool e f d info is none =
+    let at : slice_get e.program.pools (field_at e.program f).class ≡ None = ap (λ (i : FieldInfo). slice_get e.program.pools i.class) (sym is) ∙ none in
+    let empty : pool_of e.program (field_at e.program f).class ≡ [] =
+    ap (λ (c : Constants). c.slots) (sym (unwrap_or-slice_get e.program.pools (field_at e.program f).class no_constants) ∙ ap (λ (o : Option Constants). unwrap_or o no_constants) at) in
+    ap (λ (pool : List (Option Item)). constant_set e (field_at e.program f) (constant_at pool (field_at e.program f).constant) d) empty
+
+pub no_pool_field : (e : Moment) (f : ℕ) (m : MachineState) (out : List Record) (info : FieldInfo) → info ≡ field_at e.program f → slice_get e.program.pools info.class ≡ None → ComesTo (field_set e (so_far m out) f) m m out
+no_pool_field e f m out info is none =
+    let same = no_pool e f (so_far m out) info is none in
+    (sym (ap (λ (x : Doing). with_kept m x.state) same), sym (ap (λ (x : Doing). x.records) same))
