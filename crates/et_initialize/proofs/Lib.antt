@@ -1,3 +1,6 @@
 mod Strings
 mod Setting
 mod Running
+pub mod Legal
+pub mod Records
+mod Counting

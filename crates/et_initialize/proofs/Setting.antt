@@ -134,7 +134,7 @@ follows_field e d f = follows_constant e (field_at e.program f) (constant_at (po
 abbrev pub OfClass : Linked → ℕ → ℕ → Type 0
 OfClass p c j = class_of_slot p j ≡ c
 
-slot_class : (p : Linked) (c f j : ℕ) → IsStaticOf p c f → Slot (field_at p f).slot j → OfClass p c j
+pub slot_class : (p : Linked) (c f j : ℕ) → IsStaticOf p c f → Slot (field_at p f).slot j → OfClass p c j
 slot_class p c f j s e = ap (λ (i : ℕ). class_of_slot p i) e ∙ (ap (λ (g : ℕ). (field_at p g).class) s.stands ∙ s.class)
 
 -- a slot of one of these fields
@@ -164,7 +164,7 @@ pub record CanSet (p : Linked) (f : ℕ) (d : Doing) : Type 0 where
   pub unset : static_at d.state.guest (field_at p f).slot ≡ Unset
   pub made : (o : ℕ) → Contains (objects_of d.state.guest.interned) o → o < length d.state.heap
 
-apart_slots : (p : Linked) (c : ℕ) (fs : List ℕ) (i k : ℕ) → All (IsStaticOf p c) fs → ((i j : ℕ) → i < j → j < length fs → get_or fs i 0 < get_or fs j 0) → i < k → k < length fs
+pub apart_slots : (p : Linked) (c : ℕ) (fs : List ℕ) (i k : ℕ) → All (IsStaticOf p c) fs → ((i j : ℕ) → i < j → j < length fs → get_or fs i 0 < get_or fs j 0) → i < k → k < length fs
     → (field_at p (get_or fs k 0)).slot ≡ (field_at p (get_or fs i 0)).slot → ⊥
 apart_slots p c fs i k all once lt within same =
     let a = (all k 0 within).stands in
@@ -208,10 +208,10 @@ field_fits e d fs k lt fit =
 
 -- THE STATE STAYS READY
 
-state_changed : (d : Doing) (c k : ℕ) (x : ClassState) → (k ≡ c → ⊥) → class_state_at (with_state c x d).state.guest k ≡ class_state_at d.state.guest k
+pub state_changed : (d : Doing) (c k : ℕ) (x : ClassState) → (k ≡ c → ⊥) → class_state_at (with_state c x d).state.guest k ≡ class_state_at d.state.guest k
 state_changed d c k x n = get_or-set_other d.state.guest.classes c k x Untouched n
 
-state_set : (d : Doing) (c : ℕ) (x : ClassState) → c < length d.state.guest.classes → class_state_at (with_state c x d).state.guest c ≡ x
+pub state_set : (d : Doing) (c : ℕ) (x : ClassState) → c < length d.state.guest.classes → class_state_at (with_state c x d).state.guest c ≡ x
 state_set d c x lt = get_or-set_same d.state.guest.classes c x Untouched lt
 
 pub done_untouched : Done ≡ Untouched → ⊥
@@ -293,3 +293,14 @@ ready_order e [] d has all r = r
 ready_order e (k ∷ ks) d has all r =
     let lt = all 0 0 (omega arith) in
     ready_order e ks (done_step e d k) has (λ i z within. all (suc i) z (omega arith)) (ready_done e k (state_of d k) d lt (has.constants k lt) r)
+
+-- THE THREADS stay
+threads_done : (e : Moment) (c : ℕ) (x : ClassState) (d : Doing) → (class_done e c x d).state.guest.threads ≡ d.state.guest.threads
+threads_done e c Untouched d = (follows_each e (class_at e.program c).info.constants (with_state c Done d)).threads
+threads_done e c (Begun t) d = refl
+threads_done e c Done d = refl
+threads_done e c Failed d = refl
+
+pub threads_order : (e : Moment) (ks : List ℕ) (d : Doing) → (fold (done_step e) d ks).state.guest.threads ≡ d.state.guest.threads
+threads_order e [] d = refl
+threads_order e (k ∷ ks) d = threads_order e ks (done_step e d k) ∙ threads_done e k (state_of d k) d

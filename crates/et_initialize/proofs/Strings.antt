@@ -15,7 +15,9 @@ use Rattle.et_initialize.specs.Under.{so_far, with_kept, ComesTo}
 use Rattle.et_event.specs.Errors.{class_called}
 use Rattle.et_event.specs.Moments.{Moment, Doing, with_guest, instance_made, next_object}
 use Rattle.et_pool.specs.Entries.{Item, Constants}
-use Rattle.et_program.specs.Entries.{field_at}
+use Rattle.et_pool.specs.Looks.{string_at}
+use Rattle.et_program.specs.Entries.{Linked, field_at}
+use Rattle.et_initialize.specs.Texts.{text_of as text_in}
 use Rattle.et_program.specs.declared.info.FieldInfo.{FieldInfo}
 use Rattle.et_event.specs.Sites.{constant_at, pool_of, no_constants}
 use Rattle.et_event.specs.Strings.{interned, string_object}
@@ -103,12 +105,17 @@ object_listed e bytes d = by_interned (λ (x : Doing). Contains (objects_of x.st
     listed x o h = subst (λ (k : ℕ). Contains (objects_of x.state.guest.interned) k) (sym (ap (λ (r : Option ℕ). unwrap_or r 0) h)) (object_in x.state.guest.interned bytes o h)
 
 -- A FIELD OF A CLASS WITHOUT A POOL gets nothing
+pub empty_pool : (p : Linked) (f : ℕ) (info : FieldInfo) → info ≡ field_at p f → slice_get p.pools info.class ≡ None → pool_of p (field_at p f).class ≡ []
+empty_pool p f info is none =
+    let at : slice_get p.pools (field_at p f).class ≡ None = ap (λ (i : FieldInfo). slice_get p.pools i.class) (sym is) ∙ none in
+    ap (λ (c : Constants). c.slots) (sym (unwrap_or-slice_get p.pools (field_at p f).class no_constants) ∙ ap (λ (o : Option Constants). unwrap_or o no_constants) at)
+
+pub no_text_of : (p : Linked) (f : ℕ) (info : FieldInfo) → info ≡ field_at p f → slice_get p.pools info.class ≡ None → None ≡ text_in p f
+no_text_of p f info is none = sym (ap (λ (pool : List (Option Item)). string_at pool (field_at p f).constant) (empty_pool p f info is none))
+
 no_pool : (e : Moment) (f : ℕ) (d : Doing) (info : FieldInfo) → info ≡ field_at e.program f → slice_get e.program.pools info.class ≡ None → field_set e d f ≡ d
 no_pool e f d info is none =
-    let at : slice_get e.program.pools (field_at e.program f).class ≡ None = ap (λ (i : FieldInfo). slice_get e.program.pools i.class) (sym is) ∙ none in
-    let empty : pool_of e.program (field_at e.program f).class ≡ [] =
-    ap (λ (c : Constants). c.slots) (sym (unwrap_or-slice_get e.program.pools (field_at e.program f).class no_constants) ∙ ap (λ (o : Option Constants). unwrap_or o no_constants) at) in
-    ap (λ (pool : List (Option Item)). constant_set e (field_at e.program f) (constant_at pool (field_at e.program f).constant) d) empty
+    ap (λ (pool : List (Option Item)). constant_set e (field_at e.program f) (constant_at pool (field_at e.program f).constant) d) (empty_pool e.program f info is none)
 
 pub no_pool_field : (e : Moment) (f : ℕ) (m : MachineState) (out : List Record) (info : FieldInfo) → info ≡ field_at e.program f → slice_get e.program.pools info.class ≡ None → ComesTo (field_set e (so_far m out) f) m m out
 no_pool_field e f m out info is none =

@@ -15,5 +15,6 @@ pub record HasConstants (p : Linked) (c : ℕ) : Type 0 where
 
 pub record IsInOrder (p : Linked) : Type 0 where
   pub constants : (c : ℕ) → c < length p.classes → HasConstants p c
+  pub within : (c : ℕ) → c < length p.classes → All (λ k. k < length p.classes) (class_at p c).init_order
   -- what is initialized with a class is initialized with each class that this one is initialized with
   pub orders : (c k j : ℕ) → c < length p.classes → Contains (class_at p c).init_order k → Contains (class_at p k).init_order j → Contains (class_at p c).init_order j

@@ -35,7 +35,7 @@ fn narrowed(descriptor: &[u8], n: i32) -> i32
 }
 
 /// How many slots an instance of a class has.
-fn slots_of(program: &Program, class: ClassId) -> u32
+pub(crate) fn slots_of(program: &Program, class: ClassId) -> u32
     ensures { result ≡ (class_at program.now class).info.slots }
 {
     if class.number() < program.class_count() {

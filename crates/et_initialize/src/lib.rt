@@ -3,8 +3,11 @@
 #![tactic(auto)]
 
 mod constants;
+pub mod laws;
+mod limits;
 mod needs;
 mod quiet;
 
+pub use limits::quiet_fits;
 pub use needs::{Need, need_of};
 pub use quiet::set_quietly;
