@@ -4,3 +4,4 @@ mod Running
 pub mod Legal
 pub mod Records
 mod Counting
+mod Beginning

@@ -2,12 +2,14 @@
 //! and the events in which an initializer begins.
 #![tactic(auto)]
 
+mod begins;
 mod constants;
 pub mod laws;
 mod limits;
 mod needs;
 mod quiet;
 
+pub use begins::{begin_class_event, wait_event};
 pub use limits::quiet_fits;
 pub use needs::{Need, need_of};
 pub use quiet::set_quietly;
