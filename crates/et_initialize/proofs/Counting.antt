@@ -246,7 +246,7 @@ Marks p m d = (c : ℕ) → (class_state_at d.state.guest c ≡ class_state_at m
 untouched_done : Untouched ≡ Done → ⊥
 untouched_done e = cc
 
-done_is : (e : Moment) (c : ℕ) (x : ClassState) (d : Doing) → (x ≡ Untouched → ⊥) → class_done e c x d ≡ d
+pub done_is : (e : Moment) (c : ℕ) (x : ClassState) (d : Doing) → (x ≡ Untouched → ⊥) → class_done e c x d ≡ d
 done_is e c Untouched d apart = absurd (apart refl)
 done_is e c (Begun t) d apart = refl
 done_is e c Done d apart = refl

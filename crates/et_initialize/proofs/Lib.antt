@@ -5,3 +5,4 @@ pub mod Legal
 pub mod Records
 mod Counting
 mod Beginning
+mod Preparing

@@ -8,6 +8,7 @@ pub mod laws;
 mod limits;
 mod needs;
 mod quiet;
+mod steps;
 
 pub use begins::{begin_class_event, wait_event};
 pub use limits::quiet_fits;
