@@ -370,3 +370,28 @@ pre_ready p t m₀ m out₀ out ks k has all ready before =
     let e = moment p m₀ t in
     let d = so_far m₀ out₀ in
     known (λ b x. IsReady p b) m₀ m out (pre_first e d ks k) before.0 before.1 (ready_prepared e (take k ks) d has (All-take (λ c. c < length p.classes) k ks all) ready)
+
+-- one prerequisite more is counted
+list_all_take : (p : ℕ → Bool) (xs : List ℕ) (n : ℕ) → list_all p xs ≡ true → list_all p (take n xs) ≡ true
+list_all_take p [] zero h = refl
+list_all_take p [] (suc n) h = refl
+list_all_take p (x ∷ xs) zero h = refl
+list_all_take p (x ∷ xs) (suc n) h =
+    let b = and_parts (p x) (list_all p xs) h in
+    ap (λ (c : Bool). c && list_all p (take n xs)) b.0 ∙ list_all_take p xs n b.1
+
+pub counted_more : (p : Linked) (m : MachineState) (t : ℕ) (ks : List ℕ) (k c : ℕ) (seen seen' : List ℕ) → IsInOrder p → All (λ j. j < length p.classes) ks → list_all (is_ready (moment p m t) (begins (moment p m t))) ks ≡ true → length m.guest.classes ≡ length p.classes
+    → k < length ks → c ≡ get_or ks k c
+    → (class_state_at m.guest c ≡ Untouched → (before : Kept) (thread : ℕ) (d : Doing) → CountedAll p m seen d → CountedAll p m seen' (quietly_done (at p thread before) c d))
+    → ((class_state_at m.guest c ≡ Untouched → ⊥) → seen' ≡ seen)
+    → CountedAll p m seen (pre_first (moment p m t) (begins (moment p m t)) ks k) → CountedAll p m seen' (pre_first (moment p m t) (begins (moment p m t)) ks (k + 1))
+counted_more p m t ks k c seen seen' has all ready classes lt read count other h =
+    let e = moment p m t in
+    let d = pre_first e (begins e) ks k in
+    let same : get_or ks k 0 ≡ c = sym (read ∙ get_or_default ks k c 0 lt) in
+    let more : pre_first e (begins e) ks (k + 1) ≡ pre_step e d c = fold_more (pre_step e) (begins e) ks k 0 lt ∙ ap (λ (g : ℕ). pre_step e d g) same in
+    let turns : Turns e (begins e) d = turns_prepared e (begins e) (begins e) (take k ks) has (All-take (λ j. j < length p.classes) k ks all) (list_all_take (is_ready e (begins e)) ks k ready) (turns_none e (begins e) classes) in
+    subst (λ (x : Doing). CountedAll p m seen' x) (sym more) (elim (is_untouched (class_state_at m.guest c)) [
+      | inl un ↦ counted_pre m seen seen' e (begins e) d c has un turns (λ x g. count un (kept_of m) t x g) h
+      | inr apart ↦ subst (λ (fs : List ℕ). CountedAll p m fs (pre_step e d c)) (sym (other apart)) (subst (λ (x : Doing). CountedAll p m seen x) (sym (counted_passed e (begins e) d c apart turns)) h)
+    ])

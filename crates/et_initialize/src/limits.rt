@@ -1,18 +1,21 @@
 //! Whether what an event makes fits, with the strings that the constants of classes make.
-ghost use Rattle.std.specs.Prelude.{◌≡◌, ℕ, ◌<◌, ◌||◌, All, IfOk, OnOk, length, fold, option_map, is_some};
-ghost use Rattle.std.specs.List.{list_any};
+ghost use Rattle.std.specs.Prelude.{◌≡◌, ℕ, ◌<◌, ◌||◌, [], true, All, IfOk, OnOk, length, fold, option_map, is_some};
+ghost use Rattle.std.specs.List.{list_all, list_any};
 ghost use Rattle.et_heap.specs.Objects.{has_room};
 ghost use Rattle.et_machine.specs.declared.class_state.ClassState.{ClassState as State};
+ghost use Rattle.et_machine.specs.declared.class_state.ClassState.TheVariants as states;
 ghost use Rattle.et_machine.specs.State.{Kept};
+ghost use Rattle.et_machine.specs.Words.{class_state_at};
+ghost use Rattle.et_initialize.specs.Programs.{IsInOrder};
 ghost use Rattle.et_machine.specs.Interned.{object_of};
 ghost use Rattle.et_program.specs.Entries.{class_at};
 ghost use Rattle.et_event.specs.Moments.{Doing, begins, fits as all_fit};
-ghost use Rattle.et_event.specs.Initialization.{state_of, field_set, constants_set, with_state, class_done, quietly_done};
+ghost use Rattle.et_event.specs.Initialization.{state_of, field_set, constants_set, with_state, class_done, quietly_done, is_ready, prepared};
 ghost use Rattle.et_initialize.specs.Texts.{text_of as text_in, has_text, string_slots as slots_of_string, has_room_for as room_for, Counted, CountedAll};
 ghost use Rattle.et_initialize.specs.Under.{moment};
 
 use crate::constants::slots_of;
-use et_base::{ClassId, FieldId, NoMemory, ThreadId};
+use et_base::{ClassId, FieldId, NoMemory};
 use et_heap::{MOST_OBJECTS, MOST_SLOTS};
 use et_machine::{ClassState, Machine};
 use et_parts::class_called;
@@ -197,6 +200,99 @@ pub(crate) fn constants_fit(
     ensures { IfOk result (λ fits. (thread : ℕ) (state : State) → fits ≡ all_fit (constants_set (moment program.now machine.now thread) class (with_state class state (begins (moment program.now machine.now thread)))).state.heap) }
 {
     let mut seen = Vec::new(alloc);
+    count_constants(program, machine, class, &mut seen)?;
+    Ok(has_room_for(
+        machine,
+        seen.len(),
+        string_slots(program),
+        0,
+        0,
+    ))
+}
+
+/// Adds the constants that make strings of an untouched quiet class and of what is initialized with it.
+fn count_quiet(
+    program: &Program,
+    machine: &Machine,
+    class: ClassId,
+    seen: &mut Vec<FieldId>,
+) -> Result<(), NoMemory>
+    requires class { class < length program.now.classes }
+    requires classes { length machine.now.guest.classes ≡ length program.now.classes }
+    requires within { All (λ f. f < length program.now.fields) seen.old.items }
+    ensures within { OnOk result (All (λ f. f < length program.now.fields) seen.new.items) }
+    ensures counted { OnOk result (class_state_at machine.now.guest class ≡ states.Untouched → (before : Kept) (thread : ℕ) (d : Doing) → CountedAll program.now machine.now seen.old.items d → CountedAll program.now machine.now seen.new.items (quietly_done (record { program = program.now; before = before; thread = thread }) class d)) }
+    ensures other { OnOk result ((class_state_at machine.now.guest class ≡ states.Untouched → ⊥) → seen.new.items ≡ seen.old.items) }
+{
+    match machine.class_state(class) {
+        ClassState::Untouched => count_classes(program, machine, program.init_order(class), seen),
+        _ => Ok(()),
+    }
+}
+
+/// Adds the constants that make strings as these classes, for which nothing is waited, become done where they are quiet.
+fn count_prepared(
+    program: &Program,
+    machine: &Machine,
+    classes: &[ClassId],
+    seen: &mut Vec<FieldId>,
+) -> Result<(), NoMemory>
+    requires program { IsInOrder program.now }
+    requires all { All (λ c. c < length program.now.classes) classes.now }
+    requires classes { length machine.now.guest.classes ≡ length program.now.classes }
+    requires within { All (λ f. f < length program.now.fields) seen.old.items }
+    ensures within { OnOk result (All (λ f. f < length program.now.fields) seen.new.items) }
+    ensures counted { OnOk result ((thread : ℕ) → list_all (is_ready (moment program.now machine.now thread) (begins (moment program.now machine.now thread))) classes.now ≡ true → CountedAll program.now machine.now seen.old.items (begins (moment program.now machine.now thread)) → CountedAll program.now machine.now seen.new.items (prepared (moment program.now machine.now thread) classes.now (begins (moment program.now machine.now thread)))) }
+{
+    for k in 0..classes.len() {
+        count_quiet(program, machine, classes[k], seen)?;
+    }
+    Ok(())
+}
+
+/// Whether what these classes make, as the quiet ones become done, fits together with so many objects and slots besides.
+/// Nothing is changed.
+pub(crate) fn prepared_fit(
+    program: &Program,
+    machine: &Machine,
+    alloc: Global,
+    classes: &[ClassId],
+    objects: u32,
+    slots: u32,
+) -> Result<bool, NoMemory>
+    requires program { IsInOrder program.now }
+    requires all { All (λ c. c < length program.now.classes) classes.now }
+    requires classes { length machine.now.guest.classes ≡ length program.now.classes }
+    ensures { IfOk result (λ fits. (thread : ℕ) → list_all (is_ready (moment program.now machine.now thread) (begins (moment program.now machine.now thread))) classes.now ≡ true → fits ≡ has_room (prepared (moment program.now machine.now thread) classes.now (begins (moment program.now machine.now thread))).state.heap objects slots) }
+{
+    let mut seen = Vec::new(alloc);
+    count_prepared(program, machine, classes, &mut seen)?;
+    Ok(has_room_for(
+        machine,
+        seen.len(),
+        string_slots(program),
+        objects,
+        slots,
+    ))
+}
+
+/// Whether what these classes make, as the quiet ones become done, fits together with the constants of a class. Nothing is
+/// changed.
+pub(crate) fn prepared_class_fits(
+    program: &Program,
+    machine: &Machine,
+    alloc: Global,
+    classes: &[ClassId],
+    class: ClassId,
+) -> Result<bool, NoMemory>
+    requires program { IsInOrder program.now }
+    requires all { All (λ c. c < length program.now.classes) classes.now }
+    requires class { class < length program.now.classes }
+    requires classes { length machine.now.guest.classes ≡ length program.now.classes }
+    ensures { IfOk result (λ fits. (thread : ℕ) → list_all (is_ready (moment program.now machine.now thread) (begins (moment program.now machine.now thread))) classes.now ≡ true → (state : State) → fits ≡ all_fit (constants_set (moment program.now machine.now thread) class (with_state class state (prepared (moment program.now machine.now thread) classes.now (begins (moment program.now machine.now thread))))).state.heap) }
+{
+    let mut seen = Vec::new(alloc);
+    count_prepared(program, machine, classes, &mut seen)?;
     count_constants(program, machine, class, &mut seen)?;
     Ok(has_room_for(
         machine,
