@@ -6,3 +6,4 @@ pub mod Records
 mod Counting
 mod Beginning
 mod Preparing
+mod Stepping

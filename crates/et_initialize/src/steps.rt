@@ -1,19 +1,24 @@
 //! The turns of an initializer that has not entered `<clinit>` yet.
-ghost use Rattle.std.specs.Prelude.{◌≡◌, ◌<◌, ◌≤◌, ◌^◌, ◌++◌, true, false, All, IfOk, OnOk, length, take, slice_index_or};
+ghost use Rattle.std.specs.Prelude.{◌≡◌, ◌<◌, ◌≤◌, ◌^◌, ◌++◌, true, false, None, All, IfOk, OnOk, length, take, slice_index_or};
 ghost use Rattle.std.specs.List.{list_all};
 ghost use Rattle.et_frames.specs.Threads.{lost_room};
 ghost use Rattle.et_machine.specs.State.{kept_of};
+ghost use Rattle.et_frames.specs.declared.stage.Stage.TheVariants as stages;
+ghost use Rattle.et_machine.specs.Words.{HasFrame, top, begun};
+ghost use Rattle.et_event.specs.Answered.{EventAnswers};
 ghost use Rattle.et_event.specs.Moments.{begins, fits};
-ghost use Rattle.et_event.specs.Initialization.{is_ready as ready, prepared, quietly_if_untouched, state_of};
+ghost use Rattle.et_event.specs.Sites.{body_of};
+ghost use Rattle.et_event.specs.Sound.{IsSoundFor};
+ghost use Rattle.et_event.specs.Initialization.{is_ready as ready, prepared, quietly_if_untouched, state_of, enters_clinit};
 ghost use Rattle.et_initialize.specs.Programs.{IsInOrder};
 ghost use Rattle.et_initialize.specs.Under.{moment, so_far, ComesTo, IsReady};
 
 use crate::needs::{Need, need_of};
 use crate::quiet::set_quietly;
-use et_base::{ClassId, NoMemory, ThreadId};
+use et_base::{ClassId, MethodId, NoMemory, ThreadId};
 use et_machine::{ClassState, Machine};
-use et_program::Program;
-use et_state::Lines;
+use et_program::{MethodInfo, Program};
+use et_state::{EventEnd, Lines, Record};
 
 /// In the event under way, a quiet class that is untouched becomes done, with what is initialized with it.
 fn prepare_class(
@@ -83,4 +88,93 @@ fn ready_count(program: &Program, machine: &Machine, thread: ThreadId, classes: 
         }
     }
     classes.len()
+}
+
+/// How many operands and locals the code of a method has.
+fn frame_size(method: &MethodInfo) -> (u16, u16)
+    ensures stack { result.0 ≡ (body_of method.now.code).max_stack }
+    ensures locals { result.1 ≡ (body_of method.now.code).max_locals }
+{
+    match &method.code {
+        Some(code) => {
+            let body = code.raw();
+            (body.max_stack, body.max_locals)
+        }
+        None => (0, 0),
+    }
+}
+
+/// An event begins, in which the quiet ones among these classes become done. All fits.
+fn begin_prepared(
+    program: &Program,
+    machine: &mut Machine,
+    thread: ThreadId,
+    classes: &[ClassId],
+    out: &mut Lines,
+) -> Result<(), NoMemory>
+    requires program { IsInOrder program.now }
+    requires classes { All (λ c. c < length program.now.classes) classes.now }
+    requires sound { IsSoundFor program.now (kept_of machine.old) }
+    requires clock { machine.old.guest.clock < 2 ^ 40 }
+    requires fits { fits (prepared (moment program.now machine.old thread) classes.now (begins (moment program.now machine.old thread))).state.heap ≡ true }
+    ensures { OnOk result (ComesTo (record { state = (prepared (moment program.now machine.old thread) classes.now (begins (moment program.now machine.old thread))).state; records = out.old ++ (prepared (moment program.now machine.old thread) classes.now (begins (moment program.now machine.old thread))).records }) (begun machine.old) machine.new out.new) }
+{
+    machine.begin_event();
+    prepare(program, machine, thread, classes, out)
+}
+
+/// The event in which a class without `<clinit>` is done, after its prerequisites, and its initializer is dropped. All fits.
+fn finish(
+    program: &Program,
+    machine: &mut Machine,
+    thread: ThreadId,
+    class: ClassId,
+    classes: &[ClassId],
+    out: &mut Lines,
+) -> Result<EventEnd, NoMemory>
+    requires program { IsInOrder program.now }
+    requires classes { All (λ c. c < length program.now.classes) classes.now }
+    requires sound { IsSoundFor program.now (kept_of machine.old) }
+    requires clock { machine.old.guest.clock < 2 ^ 40 }
+    requires frame { HasFrame machine.old.guest thread }
+    requires stage { (top machine.old.guest thread).stage ≡ stages.Before class }
+    requires fits { fits (prepared (moment program.now machine.old thread) classes.now (begins (moment program.now machine.old thread))).state.heap ≡ true }
+    ensures { IfOk result (λ end. EventAnswers (enters_clinit (moment program.now machine.old thread) class None (prepared (moment program.now machine.old thread) classes.now (begins (moment program.now machine.old thread)))) end machine.old machine.new out.old out.new) }
+{
+    begin_prepared(program, machine, thread, classes, out)?;
+    machine.set_class_state(class, ClassState::Done);
+    machine.drop_frame(thread);
+    Ok(EventEnd::Done)
+}
+
+/// The event in which the `<clinit>` of a class is entered, after its prerequisites. All fits.
+fn enter(
+    program: &Program,
+    machine: &mut Machine,
+    thread: ThreadId,
+    class: ClassId,
+    clinit: MethodId,
+    classes: &[ClassId],
+    out: &mut Lines,
+) -> Result<EventEnd, NoMemory>
+    requires program { IsInOrder program.now }
+    requires clinit { clinit < length program.now.methods }
+    requires classes { All (λ c. c < length program.now.classes) classes.now }
+    requires sound { IsSoundFor program.now (kept_of machine.old) }
+    requires clock { machine.old.guest.clock < 2 ^ 40 }
+    requires frame { HasFrame machine.old.guest thread }
+    requires stage { (top machine.old.guest thread).stage ≡ stages.Before class }
+    requires fits { fits (prepared (moment program.now machine.old thread) classes.now (begins (moment program.now machine.old thread))).state.heap ≡ true }
+    ensures { IfOk result (λ end. EventAnswers (enters_clinit (moment program.now machine.old thread) class (Some clinit) (prepared (moment program.now machine.old thread) classes.now (begins (moment program.now machine.old thread)))) end machine.old machine.new out.old out.new) }
+{
+    let (max_stack, max_locals) = frame_size(program.method(clinit));
+    begin_prepared(program, machine, thread, classes, out)?;
+    machine.enter_clinit(thread, clinit, max_stack, max_locals)?;
+    out.push(Record::Enter {
+        event: machine.clock(),
+        thread: thread.number(),
+        method: clinit,
+        receiver: 0,
+    })?;
+    Ok(EventEnd::Done)
 }
