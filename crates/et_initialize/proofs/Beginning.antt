@@ -102,7 +102,7 @@ begin_records p t c m m₂ m₃ out out' e h = (began p t c m m₂ m₃ out out'
 
 -- THE EVENT
 
-few : (e : Moment) (c : ℕ) (d : Doing) → length (thread_at d.state.guest e.thread).frames < most_frames → begins_class e c d ≡ ending (begun_by e c d)
+pub few : (e : Moment) (c : ℕ) (d : Doing) → length (thread_at d.state.guest e.thread).frames < most_frames → begins_class e c d ≡ ending (begun_by e c d)
 few e c d lt = ap (λ (b : Bool). throws_unless e d StackOverflowError b (ending (begun_by e c d))) (lt-ltb (length (thread_at d.state.guest e.thread).frames) most_frames lt)
 
 pub begin_overflows : (e : Moment) (c : ℕ) (d : Doing) → most_frames ≤ length (thread_at d.state.guest e.thread).frames → begins_class e c d ≡ throws e StackOverflowError d

@@ -12,7 +12,7 @@ use Rattle.et_heap.specs.Objects.{ObjectState, Objects, new_object, has_room, ma
 use Rattle.et_heap.specs.Refs.{refs_of}
 use Rattle.et_frames.specs.declared.stage.Stage.{Stage}
 use Rattle.et_frames.specs.declared.stage.Stage.TheVariants.{Plain, Before, Clinit}
-use Rattle.et_frames.specs.Threads.{FrameState, ThreadState, no_thread, first_frame, top_of, has_frame, without_top, with_pending, as_entered, in_clinit, entered_by, lost_room}
+use Rattle.et_frames.specs.Threads.{FrameState, ThreadState, no_thread, first_frame, top_of, has_frame, without_top, with_pending, as_entered, in_clinit, entered_by, lost_room, most_frames}
 use Rattle.et_frames.specs.Roots.{frame_roots}
 use Rattle.et_machine.specs.declared.class_state.ClassState.{ClassState}
 use Rattle.et_machine.specs.declared.class_state.ClassState.TheVariants.{Untouched, Begun, Done}
@@ -29,6 +29,7 @@ use Rattle.et_state.specs.declared.records.Record.TheVariants.{Alloc, Enter}
 use Rattle.et_state.specs.declared.ends.EventEnd.TheVariants as ends
 use Rattle.et_state.specs.Outcome.{Outcome, Goes, ObjectLimit}
 use Rattle.et_event.specs.declared.errors.GuestError.{GuestError}
+use Rattle.et_event.specs.declared.errors.GuestError.TheVariants.{StackOverflowError}
 use Rattle.et_event.specs.Errors.{error_class}
 use Rattle.et_event.specs.Moments.{Moment, Doing, frame_of, begins, later, fits, next_object, instance_made, pending_now, entry_given_up, with_thread_state, with_frame, told, ends as ending, throws}
 use Rattle.et_event.specs.Answered.{EventAnswers}
@@ -38,12 +39,12 @@ use Rattle.et_event.specs.Initialization.{with_state, prepared, constants_set, b
 use Rattle.et_parts.proofs.Throwing.{ends_fit, ends_full}
 use Rattle.et_initialize.specs.Programs.{IsInOrder}
 use Rattle.et_initialize.specs.Under.{moment, so_far, with_kept, ComesTo, IsReady, HasMadeStrings}
-use Rattle.et_initialize.proofs.Setting.{follows_each}
+use Rattle.et_initialize.proofs.Setting.{fits_grown, follows_each}
 use Rattle.et_initialize.proofs.Running.{marked}
 use Rattle.et_initialize.proofs.Legal.{made_none, ready_first, made_constants}
 use Rattle.et_initialize.proofs.Records.{behind, behind_constants}
 use Rattle.et_initialize.proofs.Preparing.{ready_prepared, made_prepared, threads_prepared, behind_prepared}
-use Rattle.et_initialize.proofs.Beginning.{strings_led}
+use Rattle.et_initialize.proofs.Beginning.{strings_led, few, begin_overflows}
 
 -- what was done as the prerequisites were prepared
 abbrev pub after : Linked → MachineState → ℕ → List ℕ → Doing
@@ -357,3 +358,50 @@ began_led p t c ks m m₂ m₃ m₄ m₅ out out₂ out₄ f has all lt sound th
     let way : IsOnWay s (steps_thread n t (entered_by (initializer_frame c) (thread_at n.guest t)) []) = on_enter_frame s n t (initializer_frame c) made.way long (λ o none. absurd (Contains-none o none)) in
     let k : Kept = (begun_by q c d).state in
     (strings_led s k m₅ (subst (λ (z : MachineState). IsOnWay s z) (sym is) way) (ap (λ (z : MachineState). kept_of z) is) made.grown (λ o low high. string_root k.guest o (made.made o low high)), came.1)
+
+pub made_alloc : (m m' : MachineState) (out out' : List Record) (t class slots o : ℕ) → m' ≡ with_new_object m (new_object class 0 slots) → o ≡ length m.heap → out' ≡ out ++ Alloc m.guest.clock t (length m.heap) class (16 + 8 * slots) 0 ∷ []
+    → out' ≡ out ++ Alloc m'.guest.clock t o class (16 + 8 * slots) 0 ∷ []
+made_alloc m m' out out' t class slots o e number told = told
+    ∙ (ap (λ (i : ℕ). out ++ Alloc m.guest.clock t i class (16 + 8 * slots) 0 ∷ []) (sym number)
+    ∙ ap (λ (i : ℕ). out ++ Alloc i t o class (16 + 8 * slots) 0 ∷ []) (sym (ap (λ (z : MachineState). z.guest.clock) e)))
+
+pub after_some : (p : Linked) (t : ℕ) (ks : List ℕ) (m : MachineState) → IsInOrder p → All (λ k. k < length p.classes) ks → IsSoundFor p (kept_of m) → 0 < length (after p m t ks).state.heap
+after_some p t ks m has all sound =
+    let grown = (made_after p t ks m has all sound).grown in
+    let room = sound.held.room in
+    omega arith
+
+-- what beginning a class needs
+pub begin_less : (p : Linked) (t c : ℕ) (ks : List ℕ) (m : MachineState) → fits (constants_set (moment p m t) c (with_state c (Begun t) (after p m t ks))).state.heap ≡ true → fits (after p m t ks).state.heap ≡ true
+begin_less p t c ks m fit =
+    let y = with_state c (Begun t) (after p m t ks) in
+    fits_grown y.state.heap (constants_set (moment p m t) c y).state.heap (follows_each (moment p m t) (class_at p c).info.constants y).heap fit
+
+pub base_ready : (p : Linked) (t : ℕ) (ks : List ℕ) (m m₂ : MachineState) → IsInOrder p → All (λ k. k < length p.classes) ks → IsSoundFor p (kept_of m) → m₂ ≡ base p m t ks → IsReady p (kept_of m₂)
+base_ready p t ks m m₂ has all sound e = subst (λ (z : MachineState). IsReady p (kept_of z)) (sym e) (ready_after p t ks m has all sound)
+
+pub base_state : (p : Linked) (t c : ℕ) (ks : List ℕ) (m m₂ : MachineState) → m₂ ≡ base p m t ks → class_state_at (after p m t ks).state.guest c ≡ Untouched → class_state_at m₂.guest c ≡ Untouched
+base_state p t c ks m m₂ e un = ap (λ (z : MachineState). class_state_at z.guest c) e ∙ un
+
+pub base_lost : (p : Linked) (t c : ℕ) (x : ClassState) (ks : List ℕ) (m m₂ m₃ : MachineState) → m₂ ≡ base p m t ks → m₃ ≡ marked m₂ c x → length m₃.lost < lost_room
+base_lost p t c x ks m m₂ m₃ e₂ e₃ = subst (λ (l : List ℕ). length l < lost_room) (sym (ap (λ (z : MachineState). z.lost) e₃ ∙ ap (λ (z : MachineState). z.lost) e₂)) (lit< tt)
+
+pub began_done : (p : Linked) (t c : ℕ) (ks : List ℕ) (m m' : MachineState) (out out' : List Record) → length (thread_at m.guest t).frames < most_frames → fits (constants_set (moment p m t) c (with_state c (Begun t) (after p m t ks))).state.heap ≡ true
+    → Led (kept_of m) (begun_by (moment p m t) c (after p m t ks)).state m' × (out' ≡ out ++ (begun_by (moment p m t) c (after p m t ks)).records) → EventAnswers (begins_class (moment p m t) c (after p m t ks)) ends.Done m m' out out'
+began_done p t c ks m m' out out' lt fit h =
+    let e = moment p m t in
+    let d = after p m t ks in
+    let lt' : length (thread_at d.state.guest t).frames < most_frames = subst (λ (ts : List ThreadState). length (get_or ts t no_thread).frames < most_frames) (sym (threads_after p t ks m)) lt in
+    subst (λ (x : Outcome Kept). EventAnswers x ends.Done m m' out out') (sym (few e c d lt' ∙ ends_fit (begun_by e c d) fit)) h
+
+pub began_full : (p : Linked) (t c : ℕ) (ks : List ℕ) (m : MachineState) (out : List Record) → length (thread_at m.guest t).frames < most_frames → fits (constants_set (moment p m t) c (with_state c (Begun t) (after p m t ks))).state.heap ≡ false
+    → EventAnswers (begins_class (moment p m t) c (after p m t ks)) ends.ObjectLimit m m out out
+began_full p t c ks m out lt fit =
+    let e = moment p m t in
+    let d = after p m t ks in
+    let lt' : length (thread_at d.state.guest t).frames < most_frames = subst (λ (ts : List ThreadState). length (get_or ts t no_thread).frames < most_frames) (sym (threads_after p t ks m)) lt in
+    subst (λ (x : Outcome Kept). EventAnswers x ends.ObjectLimit m m out out) (sym (few e c d lt' ∙ ends_full (begun_by e c d) fit)) (refl, refl)
+
+pub began_overflows : (p : Linked) (t c : ℕ) (ks : List ℕ) (m : MachineState) → most_frames ≤ length (thread_at m.guest t).frames → begins_class (moment p m t) c (after p m t ks) ≡ throws (moment p m t) StackOverflowError (after p m t ks)
+began_overflows p t c ks m le =
+    begin_overflows (moment p m t) c (after p m t ks) (subst (λ (ts : List ThreadState). most_frames ≤ length (get_or ts t no_thread).frames) (sym (threads_after p t ks m)) le)

@@ -43,7 +43,7 @@ pub fn wait_event(machine: &mut Machine, thread: ThreadId) -> EventEnd
 }
 
 /// The initializer of a class before its `<clinit>` is entered.
-fn initializer(alloc: Global, class: ClassId) -> NewFrame
+pub(crate) fn initializer(alloc: Global, class: ClassId) -> NewFrame
     ensures frame { frame_of result ≡ initializer_frame class }
     ensures arguments { length result.arguments.items ≤ result.max_locals }
 {

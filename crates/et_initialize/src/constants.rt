@@ -1,8 +1,10 @@
 //! The constant of a static field (JVMS 4.7.2).
-ghost use Rattle.std.specs.Prelude.{◌≡◌, ℕ, ◌<◌, true, None, List, Contains, IfOk, OnOk, length};
+ghost use Rattle.std.specs.Prelude.{◌≡◌, ℕ, ◌+◌, ◌*◌, ◌<◌, ◌++◌, ◌∷◌, [], true, None, List, Contains, IfOk, OnOk, length};
 ghost use Rattle.et_base.specs.declared.value.Value.TheVariants.{Unset, Int, Long, Ref};
 ghost use Rattle.et_frames.specs.Threads.{lost_room};
-ghost use Rattle.et_machine.specs.Words.{static_at, with_static, steps_guest};
+ghost use Rattle.et_heap.specs.Objects.{has_room, new_object};
+ghost use Rattle.et_state.specs.declared.records.Record.TheVariants.{Alloc};
+ghost use Rattle.et_machine.specs.Words.{static_at, with_static, steps_guest, with_new_object};
 ghost use Rattle.et_machine.specs.Interned.{object_of, objects_of};
 ghost use Rattle.et_program.specs.Entries.{class_at, field_at};
 ghost use Rattle.et_event.specs.Errors.{class_called};
@@ -188,4 +190,33 @@ pub(crate) fn set_field(
         Some(pool) => set_constant(program, machine, thread, pool, info, out),
         None => Ok(()),
     }
+}
+
+/// Makes an object of a class that is no array class, in the event under way. It fits.
+pub(crate) fn make_object(
+    machine: &mut Machine,
+    thread: ThreadId,
+    class: ClassId,
+    slots: u32,
+    out: &mut Lines,
+) -> Result<ObjectId, NoMemory>
+    requires { has_room machine.old.heap 1 slots ≡ true }
+    ensures object { IfOk result (λ o. o ≡ length machine.old.heap) }
+    ensures made { OnOk result (machine.new ≡ with_new_object machine.old (new_object class 0 slots)) }
+    ensures told { OnOk result (out.new ≡ out.old ++ Alloc machine.old.guest.clock thread (length machine.old.heap) class (16 + 8 * slots) 0 ∷ []) }
+{
+    let object = match machine.heap.make_object(class, slots) {
+        Ok(object) => object,
+        Err(MakeFault::NoMemory) => return Err(NoMemory),
+        Err(MakeFault::Full) => unreachable!(),
+    };
+    out.push(Record::Alloc {
+        event: machine.clock(),
+        thread: thread.number(),
+        object: object.number(),
+        class,
+        size: 16 + 8 * slots as u64,
+        length: 0,
+    })?;
+    Ok(object)
 }

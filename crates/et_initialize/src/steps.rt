@@ -1,24 +1,34 @@
 //! The turns of an initializer that has not entered `<clinit>` yet.
 ghost use Rattle.std.specs.Prelude.{◌≡◌, ◌<◌, ◌≤◌, ◌^◌, ◌++◌, true, false, None, All, IfOk, OnOk, length, take, slice_index_or};
 ghost use Rattle.std.specs.List.{list_all};
-ghost use Rattle.et_frames.specs.Threads.{lost_room};
+ghost use Rattle.et_frames.specs.Threads.{lost_room, most_frames};
+ghost use Rattle.et_machine.specs.declared.class_state.ClassState.TheVariants as states;
 ghost use Rattle.et_machine.specs.State.{kept_of};
 ghost use Rattle.et_frames.specs.declared.stage.Stage.TheVariants as stages;
-ghost use Rattle.et_machine.specs.Words.{HasFrame, top, begun};
+ghost use Rattle.et_machine.specs.Words.{HasFrame, top, begun, thread_at};
 ghost use Rattle.et_event.specs.Answered.{EventAnswers};
-ghost use Rattle.et_event.specs.Moments.{begins, fits};
+ghost use Rattle.et_heap.specs.Objects.{has_room};
+ghost use Rattle.et_program.specs.Entries.{class_at};
+ghost use Rattle.et_event.specs.Errors.{error_class};
+ghost use Rattle.et_event.specs.Moments.{begins, fits, throws};
 ghost use Rattle.et_event.specs.Sites.{body_of};
 ghost use Rattle.et_event.specs.Sound.{IsSoundFor};
-ghost use Rattle.et_event.specs.Initialization.{is_ready as ready, prepared, quietly_if_untouched, state_of, enters_clinit};
+ghost use Rattle.et_event.specs.Initialization.{is_ready as ready, prepared, quietly_if_untouched, state_of, with_state, constants_set, begins_class, enters_clinit};
 ghost use Rattle.et_initialize.specs.Programs.{IsInOrder};
 ghost use Rattle.et_initialize.specs.Under.{moment, so_far, ComesTo, IsReady};
 
+use crate::begins::initializer;
+use crate::constants::{make_object, slots_of};
+use crate::limits::prepared_fit;
 use crate::needs::{Need, need_of};
-use crate::quiet::set_quietly;
+use crate::quiet::{set_constants, set_quietly};
 use et_base::{ClassId, MethodId, NoMemory, ThreadId};
+use et_event::GuestError;
 use et_machine::{ClassState, Machine};
+use et_parts::class_called;
 use et_program::{MethodInfo, Program};
 use et_state::{EventEnd, Lines, Record};
+use std::alloc::Global;
 
 /// In the event under way, a quiet class that is untouched becomes done, with what is initialized with it.
 fn prepare_class(
@@ -176,5 +186,83 @@ fn enter(
         method: clinit,
         receiver: 0,
     })?;
+    Ok(EventEnd::Done)
+}
+
+/// The event in which an error is thrown, after quiet classes became done. All fits.
+fn throw_prepared(
+    program: &Program,
+    machine: &mut Machine,
+    thread: ThreadId,
+    classes: &[ClassId],
+    error: GuestError,
+    out: &mut Lines,
+) -> Result<EventEnd, NoMemory>
+    requires program { IsInOrder program.now }
+    requires classes { All (λ c. c < length program.now.classes) classes.now }
+    requires sound { IsSoundFor program.now (kept_of machine.old) }
+    requires clock { machine.old.guest.clock < 2 ^ 40 }
+    requires frame { HasFrame machine.old.guest thread }
+    requires room { has_room (prepared (moment program.now machine.old thread) classes.now (begins (moment program.now machine.old thread))).state.heap 1 (class_at program.now (error_class program.now error)).info.slots ≡ true }
+    ensures { IfOk result (λ end. EventAnswers (throws (moment program.now machine.old thread) error (prepared (moment program.now machine.old thread) classes.now (begins (moment program.now machine.old thread)))) end machine.old machine.new out.old out.new) }
+{
+    let class = class_called(program, error.class_name());
+    let slots = slots_of(program, class);
+    begin_prepared(program, machine, thread, classes, out)?;
+    let object = make_object(machine, thread, class, slots, out)?;
+    machine.throw(thread, object);
+    Ok(EventEnd::Done)
+}
+
+/// The event in which an error is thrown, after the quiet ones among these classes became done.
+fn throw_after(
+    program: &Program,
+    machine: &mut Machine,
+    alloc: Global,
+    thread: ThreadId,
+    classes: &[ClassId],
+    error: GuestError,
+    out: &mut Lines,
+) -> Result<EventEnd, NoMemory>
+    requires program { IsInOrder program.now }
+    requires classes { All (λ c. c < length program.now.classes) classes.now }
+    requires sound { IsSoundFor program.now (kept_of machine.old) }
+    requires clock { machine.old.guest.clock < 2 ^ 40 }
+    requires frame { HasFrame machine.old.guest thread }
+    requires ready { list_all (ready (moment program.now machine.old thread) (begins (moment program.now machine.old thread))) classes.now ≡ true }
+    ensures { IfOk result (λ end. EventAnswers (throws (moment program.now machine.old thread) error (prepared (moment program.now machine.old thread) classes.now (begins (moment program.now machine.old thread)))) end machine.old machine.new out.old out.new) }
+{
+    let slots = slots_of(program, class_called(program, error.class_name()));
+    if !prepared_fit(program, machine, alloc, classes, 1, slots)? {
+        return Ok(EventEnd::ObjectLimit);
+    }
+    throw_prepared(program, machine, thread, classes, error, out)
+}
+
+/// The event in which an untouched class begins, after the quiet ones among these classes became done. All fits.
+fn begin_blocker(
+    program: &Program,
+    machine: &mut Machine,
+    alloc: Global,
+    thread: ThreadId,
+    classes: &[ClassId],
+    class: ClassId,
+    out: &mut Lines,
+) -> Result<EventEnd, NoMemory>
+    requires program { IsInOrder program.now }
+    requires class { class < length program.now.classes }
+    requires classes { All (λ c. c < length program.now.classes) classes.now }
+    requires sound { IsSoundFor program.now (kept_of machine.old) }
+    requires clock { machine.old.guest.clock < 2 ^ 40 }
+    requires frame { HasFrame machine.old.guest thread }
+    requires frames { length (thread_at machine.old.guest thread).frames < most_frames }
+    requires untouched { state_of (prepared (moment program.now machine.old thread) classes.now (begins (moment program.now machine.old thread))) class ≡ states.Untouched }
+    requires fits { fits (constants_set (moment program.now machine.old thread) class (with_state class (states.Begun thread) (prepared (moment program.now machine.old thread) classes.now (begins (moment program.now machine.old thread))))).state.heap ≡ true }
+    ensures { IfOk result (λ end. EventAnswers (begins_class (moment program.now machine.old thread) class (prepared (moment program.now machine.old thread) classes.now (begins (moment program.now machine.old thread)))) end machine.old machine.new out.old out.new) }
+{
+    begin_prepared(program, machine, thread, classes, out)?;
+    machine.set_class_state(class, ClassState::Begun(thread));
+    set_constants(program, machine, thread, class, out)?;
+    machine.enter_frame(thread, initializer(alloc, class))?;
     Ok(EventEnd::Done)
 }
