@@ -1,0 +1,129 @@
+-- The calls one after another, each on what the machine has come to.
+use Rattle.std.proofs.Common.{◌≡◌, ℕ, ◌+◌, ◌<◌, Bool, true, List, [], length, get_or, take, All, refl, sym, ◌∙◌, ap, subst}
+use Rattle.std.specs.Prelude.{fold}
+use Rattle.std.proofs.lemmas.List.{get_or_default}
+use Rattle.std.proofs.lemmas.List.Elements.{All-take}
+use Rattle.std.proofs.lemmas.List.Sums.{fold_more}
+use Rattle.et_base.specs.declared.value.Value.TheVariants.{Unset}
+use Rattle.et_machine.specs.declared.class_state.ClassState.{ClassState}
+use Rattle.et_machine.specs.declared.class_state.ClassState.TheVariants.{Untouched, Done}
+use Rattle.et_machine.specs.Words.{static_at, class_state_at, with_class_state, with_guest}
+use Rattle.et_machine.specs.State.{Kept, MachineState, kept_of}
+use Rattle.et_program.specs.Entries.{Linked, class_at, field_at}
+use Rattle.et_state.specs.declared.records.Record.{Record}
+use Rattle.et_event.specs.Moments.{Moment, Doing, fits}
+use Rattle.et_event.specs.Initialization.{state_of, with_state, field_set, constants_set, class_done, quietly_done}
+use Rattle.et_initialize.specs.Programs.{IsInOrder}
+use Rattle.et_initialize.specs.Under.{moment, so_far, with_kept, ComesTo, IsReady, class_of_slot}
+use Rattle.et_initialize.proofs.Setting.{CanSet, after, can_set, field_fits, done_step, done_first, class_fits, ready_order, ready_marked, unset_marked}
+
+abbrev pub at : Linked → ℕ → Kept → Moment
+at p t b = record { program = p; before = b; thread = t }
+
+-- the state before the event doesn't matter
+pub field_same : (p : Linked) (t : ℕ) (b b' : Kept) (f : ℕ) (x : Doing) → field_set (at p t b) x f ≡ field_set (at p t b') x f
+field_same p t b b' f x = refl
+
+pub constants_same : (p : Linked) (t : ℕ) (b b' : Kept) (c : ℕ) (x : Doing) → constants_set (at p t b) c x ≡ constants_set (at p t b') c x
+constants_same p t b b' c x = refl
+
+pub done_same : (p : Linked) (t : ℕ) (b b' : Kept) (c : ℕ) (x : Doing) → class_done (at p t b) c (state_of x c) x ≡ class_done (at p t b') c (state_of x c) x
+done_same p t b b' c x = refl
+
+pub quietly_same : (p : Linked) (t : ℕ) (b b' : Kept) (c : ℕ) (x : Doing) → quietly_done (at p t b) c x ≡ quietly_done (at p t b') c x
+quietly_same p t b b' c x = refl
+
+-- one call more
+pub came : (F : Kept → Doing → Doing) → ((b b' : Kept) (x : Doing) → F b x ≡ F b' x) → (m₀ m m' : MachineState) (out out' : List Record) (x : Doing)
+    → m ≡ with_kept m₀ x.state → out ≡ x.records → ComesTo (F (kept_of m) (so_far m out)) m m' out' → ComesTo (F (kept_of m₀) x) m₀ m' out'
+came F same m₀ m m' out out' x e₁ e₂ h =
+    let a : ComesTo (F x.state x) (with_kept m₀ x.state) m' out' = subst (λ (n : MachineState). ComesTo (F (kept_of n) (so_far n x.records)) n m' out') e₁ (subst (λ (o : List Record). ComesTo (F (kept_of m) (so_far m o)) m m' out') e₂ h) in
+    subst (λ (y : Doing). ComesTo y m₀ m' out') (same x.state (kept_of m₀) x) a
+
+-- what holds of what was done so far
+pub known : (P : Kept → Doing → Type 0) (m₀ m : MachineState) (out : List Record) (x : Doing) → m ≡ with_kept m₀ x.state → out ≡ x.records → P x.state x → P (kept_of m) (so_far m out)
+known P m₀ m out x e₁ e₂ h =
+    subst (λ (n : MachineState). P (kept_of n) (so_far n out)) (sym e₁) (subst (λ (o : List Record). P x.state (so_far (with_kept m₀ x.state) o)) (sym e₂) h)
+
+-- A LOOP OVER THE CONSTANTS OF A CLASS
+
+pub field_can : (p : Linked) (t c : ℕ) (m₀ m : MachineState) (out₀ out : List Record) (fs : List ℕ) (k f : ℕ) → IsInOrder p → c < length p.classes → IsReady p (kept_of m₀)
+    → ((i : ℕ) → i < length p.statics → class_of_slot p i ≡ c → static_at m₀.guest i ≡ Unset) → fs ≡ (class_at p c).info.constants → k < length fs → f ≡ get_or fs k f
+    → ComesTo (after (moment p m₀ t) (so_far m₀ out₀) fs k) m₀ m out → CanSet p f (so_far m out)
+field_can p t c m₀ m out₀ out fs k f has lt ready unset is within read before =
+    let e = moment p m₀ t in
+    let d = so_far m₀ out₀ in
+    let here : k < length (class_at p c).info.constants = subst (λ (l : List ℕ). k < length l) is within in
+    let can : CanSet p (get_or (class_at p c).info.constants k 0) (after e d (class_at p c).info.constants k) = can_set e c d k (has.constants c lt) here ready unset in
+    let same : get_or (class_at p c).info.constants k 0 ≡ f = sym (read ∙ (get_or_default fs k f 0 within ∙ ap (λ (l : List ℕ). get_or l k 0) is)) in
+    let on : CanSet p f (after e d fs k) = subst (λ (g : ℕ). CanSet p g (after e d fs k)) same (subst (λ (l : List ℕ). CanSet p (get_or (class_at p c).info.constants k 0) (after e d l k)) (sym is) can) in
+    known (λ b x. CanSet p f x) m₀ m out (after e d fs k) before.0 before.1 on
+
+pub field_has_room : (p : Linked) (t : ℕ) (m₀ m : MachineState) (out₀ out : List Record) (fs : List ℕ) (k f : ℕ) → k < length fs → f ≡ get_or fs k f
+    → fits (fold (field_set (moment p m₀ t)) (so_far m₀ out₀) fs).state.heap ≡ true → ComesTo (after (moment p m₀ t) (so_far m₀ out₀) fs k) m₀ m out
+    → fits (field_set (moment p m t) (so_far m out) f).state.heap ≡ true
+field_has_room p t m₀ m out₀ out fs k f within read fit before =
+    let e = moment p m₀ t in
+    let d = so_far m₀ out₀ in
+    let one = field_fits e d fs k within fit in
+    let same : get_or fs k 0 ≡ f = sym (read ∙ get_or_default fs k f 0 within) in
+    known (λ b x. fits (field_set (at p t b) x f).state.heap ≡ true) m₀ m out (after e d fs k) before.0 before.1 (subst (λ (g : ℕ). fits (field_set e (after e d fs k) g).state.heap ≡ true) same one)
+
+pub field_came : (p : Linked) (t : ℕ) (m₀ m m' : MachineState) (out₀ out out' : List Record) (fs : List ℕ) (k f : ℕ) → k < length fs → f ≡ get_or fs k f
+    → ComesTo (after (moment p m₀ t) (so_far m₀ out₀) fs k) m₀ m out → ComesTo (field_set (moment p m t) (so_far m out) f) m m' out'
+    → ComesTo (after (moment p m₀ t) (so_far m₀ out₀) fs (k + 1)) m₀ m' out'
+field_came p t m₀ m m' out₀ out out' fs k f within read before h =
+    let e = moment p m₀ t in
+    let d = so_far m₀ out₀ in
+    let same : get_or fs k 0 ≡ f = sym (read ∙ get_or_default fs k f 0 within) in
+    let now : ComesTo (field_set e (after e d fs k) f) m₀ m' out' = came (λ b x. field_set (at p t b) x f) (λ b b' x. refl) m₀ m m' out out' (after e d fs k) before.0 before.1 h in
+    let more : after e d fs (k + 1) ≡ field_set e (after e d fs k) f = fold_more (field_set e) d fs k 0 within ∙ ap (λ (g : ℕ). field_set e (after e d fs k) g) same in
+    subst (λ (x : Doing). ComesTo x m₀ m' out') (sym more) now
+
+-- A LOOP OVER CLASSES
+
+pub class_has_room : (p : Linked) (t : ℕ) (m₀ m : MachineState) (out₀ out : List Record) (ks : List ℕ) (k c : ℕ) → k < length ks → c ≡ get_or ks k c
+    → fits (fold (done_step (moment p m₀ t)) (so_far m₀ out₀) ks).state.heap ≡ true → ComesTo (done_first (moment p m₀ t) (so_far m₀ out₀) ks k) m₀ m out
+    → fits (done_step (moment p m t) (so_far m out) c).state.heap ≡ true
+class_has_room p t m₀ m out₀ out ks k c within read fit before =
+    let e = moment p m₀ t in
+    let d = so_far m₀ out₀ in
+    let one = class_fits e d ks k within fit in
+    let same : get_or ks k 0 ≡ c = sym (read ∙ get_or_default ks k c 0 within) in
+    known (λ b x. fits (done_step (at p t b) x c).state.heap ≡ true) m₀ m out (done_first e d ks k) before.0 before.1 (subst (λ (g : ℕ). fits (done_step e (done_first e d ks k) g).state.heap ≡ true) same one)
+
+pub class_came : (p : Linked) (t : ℕ) (m₀ m m' : MachineState) (out₀ out out' : List Record) (ks : List ℕ) (k c : ℕ) → k < length ks → c ≡ get_or ks k c
+    → ComesTo (done_first (moment p m₀ t) (so_far m₀ out₀) ks k) m₀ m out → ComesTo (done_step (moment p m t) (so_far m out) c) m m' out'
+    → ComesTo (done_first (moment p m₀ t) (so_far m₀ out₀) ks (k + 1)) m₀ m' out'
+class_came p t m₀ m m' out₀ out out' ks k c within read before h =
+    let e = moment p m₀ t in
+    let d = so_far m₀ out₀ in
+    let same : get_or ks k 0 ≡ c = sym (read ∙ get_or_default ks k c 0 within) in
+    let now : ComesTo (done_step e (done_first e d ks k) c) m₀ m' out' = came (λ b x. done_step (at p t b) x c) (λ b b' x. refl) m₀ m m' out out' (done_first e d ks k) before.0 before.1 h in
+    let more : done_first e d ks (k + 1) ≡ done_step e (done_first e d ks k) c = fold_more (done_step e) d ks k 0 within ∙ ap (λ (g : ℕ). done_step e (done_first e d ks k) g) same in
+    subst (λ (x : Doing). ComesTo x m₀ m' out') (sym more) now
+
+pub class_ready : (p : Linked) (t : ℕ) (m₀ m : MachineState) (out₀ out : List Record) (ks : List ℕ) (k : ℕ) → IsInOrder p → k < length ks → All (λ c. c < length p.classes) ks → IsReady p (kept_of m₀)
+    → ComesTo (done_first (moment p m₀ t) (so_far m₀ out₀) ks k) m₀ m out → IsReady p (kept_of m)
+class_ready p t m₀ m out₀ out ks k has within all ready before =
+    let e = moment p m₀ t in
+    let d = so_far m₀ out₀ in
+    let some : All (λ c. c < length p.classes) (take k ks) = All-take (λ c. c < length p.classes) k ks all in
+    known (λ b x. IsReady p b) m₀ m out (done_first e d ks k) before.0 before.1 (ready_order e (take k ks) d has some ready)
+
+-- A CLASS IS MARKED, and then its constants are set
+
+abbrev pub marked : MachineState → ℕ → ClassState → MachineState
+marked m c x = with_guest m (with_class_state m.guest c x)
+
+pub marked_ready : (p : Linked) (c : ℕ) (x : ClassState) (m m' : MachineState) → c < length p.classes → (x ≡ Untouched → ⊥) → IsReady p (kept_of m) → m' ≡ marked m c x → IsReady p (kept_of m')
+marked_ready p c x m m' lt apart ready is = subst (λ (n : MachineState). IsReady p (kept_of n)) (sym is) (ready_marked p c x (so_far m []) lt apart ready)
+
+pub marked_unset : (p : Linked) (c : ℕ) (x : ClassState) (m m' : MachineState) → IsReady p (kept_of m) → class_state_at m.guest c ≡ Untouched → m' ≡ marked m c x → (i : ℕ) → i < length p.statics → class_of_slot p i ≡ c → static_at m'.guest i ≡ Unset
+marked_unset p c x m m' ready un is i lt same = ap (λ (n : MachineState). static_at n.guest i) is ∙ unset_marked p c x (so_far m []) ready un i lt same
+
+pub done_fits : (p : Linked) (t c : ℕ) (m m' : MachineState) (out : List Record) → class_state_at m.guest c ≡ Untouched → m' ≡ marked m c Done
+    → fits (class_done (moment p m t) c (state_of (so_far m out) c) (so_far m out)).state.heap ≡ true → fits (constants_set (moment p m' t) c (so_far m' out)).state.heap ≡ true
+done_fits p t c m m' out un is fit =
+    let one : fits (constants_set (moment p m t) c (with_state c Done (so_far m out))).state.heap ≡ true = ap (λ (x : ClassState). fits (class_done (moment p m t) c x (so_far m out)).state.heap) (sym un) ∙ fit in
+    ap (λ (n : MachineState). fits (constants_set (moment p n t) c (so_far n out)).state.heap) is ∙ one

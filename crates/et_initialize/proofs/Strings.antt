@@ -1,0 +1,123 @@
+-- The strings of constants.
+use Rattle.std.proofs.Common.{rules, ◌≡◌, ℕ, ◌==◌, ◌<◌, Bool, true, false, cond, List, [], ◌∷◌, ◌++◌, length, Option, Some, None, refl, sym, ◌∙◌, ap, subst, arith, Contains}
+use Rattle.std.specs.Prelude.{if◌then◌else◌, is_some, codes, find, unwrap_or, slice_get}
+use Rattle.std.specs.Option.{option_map}
+use Rattle.std.specs.Str.{bytes_eq}
+use Rattle.std.proofs.lemmas.Bool.{eqb-true}
+use Rattle.std.proofs.lemmas.Option.{unwrap_or-slice_get}
+use Rattle.std.proofs.lemmas.Slice.Eq.{bytes_eq-Decides}
+use Rattle.et_graph.proofs.Lists.{Contains-here, Contains-there}
+use Rattle.et_machine.specs.Interned.{object_of, text_of, objects_of}
+use Rattle.et_machine.specs.State.{MachineState}
+use Rattle.et_machine.specs.Words.{with_string}
+use Rattle.et_state.specs.declared.records.Record.{Record}
+use Rattle.et_initialize.specs.Under.{so_far, with_kept, ComesTo}
+use Rattle.et_event.specs.Errors.{class_called}
+use Rattle.et_event.specs.Moments.{Moment, Doing, with_guest, instance_made, next_object}
+use Rattle.et_pool.specs.Entries.{Item, Constants}
+use Rattle.et_pool.specs.Looks.{string_at}
+use Rattle.et_program.specs.Entries.{Linked, field_at}
+use Rattle.et_initialize.specs.Texts.{text_of as text_in}
+use Rattle.et_program.specs.declared.info.FieldInfo.{FieldInfo}
+use Rattle.et_event.specs.Sites.{constant_at, pool_of, no_constants}
+use Rattle.et_event.specs.Strings.{interned, string_object}
+use Rattle.et_event.specs.Initialization.{constant_set, field_set}
+
+abbrev pub Strings : Type 0
+Strings = List (List ℕ × ℕ)
+
+none_some : {A : Type 0} (a : A) → None ≡ Some a → ⊥
+none_some a e = cc
+
+some_none : {A : Type 0} (a : A) → Some a ≡ None → ⊥
+some_none a e = cc
+
+some_inj : (i j : ℕ) → Some i ≡ Some j → i ≡ j
+some_inj i j e = cc
+
+text_step : (b : Bool) (e : List ℕ × ℕ) (r : Option (List ℕ × ℕ)) → (b ≡ true → ⊥) → option_map (λ q. q.0) r ≡ None → option_map (λ q. q.0) (cond b (Some e) r) ≡ None
+text_step true e r apart h = absurd (apart refl)
+text_step false e r apart h = h
+
+-- an object above all of these has no bytes
+pub no_text : (o : ℕ) (es : Strings) → ((q : ℕ) → Contains (objects_of es) q → q < o) → text_of es o ≡ None
+no_text o [] h = refl
+no_text o (e ∷ es) h =
+    let lt : e.1 < o = h e.1 (Contains-here e.1 (objects_of es)) in
+    let other : (o == e.1) ≡ true → ⊥ = λ same. let is : o ≡ e.1 = eqb-true o e.1 same in omega arith in
+    text_step (o == e.1) e (find (λ p. o == p.1) es) other (no_text o es (λ q c. h q (Contains-there e.1 (objects_of es) q c)))
+
+push_step : (b : Bool) (v n : ℕ) (r r' : Option ℕ) → (r ≡ None → r' ≡ Some n) → cond b (Some v) r ≡ None → cond b (Some v) r' ≡ Some n
+push_step true v n r r' ih h = absurd (some_none v h)
+push_step false v n r r' ih h = ih h
+
+object_pushed : (es : Strings) (bytes : List ℕ) (n : ℕ) → object_of es bytes ≡ None → object_of (es ++ (bytes, n) ∷ []) bytes ≡ Some n
+object_pushed [] bytes n h = last (bytes_eq bytes bytes) n (bytes_same bytes)
+  where
+    bytes_same : (bs : List ℕ) → bytes_eq bs bs ≡ true
+    bytes_same bs = search (rules, bytes_eq-Decides)
+    last : (b : Bool) (k : ℕ) → b ≡ true → cond b (Some k) None ≡ Some k
+    last b k e = ap (λ (x : Bool). cond x (Some k) None) e
+object_pushed (e ∷ es) bytes n h = push_step (bytes_eq bytes e.0) e.1 n (object_of es bytes) (object_of (es ++ (bytes, n) ∷ []) bytes) (object_pushed es bytes n) h
+
+-- the string is made
+abbrev pub making : Moment → List ℕ → Doing → Doing
+making e bytes d =
+    let x = instance_made e (class_called e.program (codes "java/lang/String")) d in
+    with_guest (with_string x.state.guest bytes (next_object d)) x
+
+pub makes : (e : Moment) (bytes : List ℕ) (d : Doing) → object_of d.state.guest.interned bytes ≡ None → interned e bytes d ≡ making e bytes d
+makes e bytes d none = ap (λ (o : Option ℕ). if is_some o then d else making e bytes d) none
+
+pub has_made : (e : Moment) (bytes : List ℕ) (d : Doing) (o : ℕ) → object_of d.state.guest.interned bytes ≡ Some o → interned e bytes d ≡ d
+has_made e bytes d o some = ap (λ (r : Option ℕ). if is_some r then d else making e bytes d) some
+
+-- it has the number that is next
+pub made_string : (e : Moment) (bytes : List ℕ) (d : Doing) (o : ℕ) → object_of d.state.guest.interned bytes ≡ None → o ≡ length d.state.heap → o ≡ string_object bytes (interned e bytes d)
+made_string e bytes d o none is =
+    is ∙ sym (ap (λ (x : Doing). string_object bytes x) (makes e bytes d none) ∙ ap (λ (r : Option ℕ). unwrap_or r 0) (object_pushed d.state.guest.interned bytes (length d.state.heap) none))
+
+object_step : (b : Bool) (v : ℕ) (vs : List ℕ) (r : Option ℕ) (o : ℕ) → (r ≡ Some o → Contains vs o) → cond b (Some v) r ≡ Some o → Contains (v ∷ vs) o
+object_step true v vs r o ih h = subst (λ (k : ℕ). Contains (v ∷ vs) k) (some_inj v o h) (Contains-here v vs)
+object_step false v vs r o ih h = Contains-there v vs o (ih h)
+
+-- what has bytes is the object of a string
+pub object_in : (es : Strings) (bytes : List ℕ) (o : ℕ) → object_of es bytes ≡ Some o → Contains (objects_of es) o
+object_in [] bytes o h = absurd (none_some o h)
+object_in (e ∷ es) bytes o h = object_step (bytes_eq bytes e.0) e.1 (objects_of es) (object_of es bytes) o (object_in es bytes o) h
+
+-- either there is an object, or it is made
+pub by_interned : (P : Doing → Type 0) (e : Moment) (bytes : List ℕ) (d : Doing) → (object_of d.state.guest.interned bytes ≡ None → P (making e bytes d)) → ((o : ℕ) → object_of d.state.guest.interned bytes ≡ Some o → P d) → P (interned e bytes d)
+by_interned P e bytes d new old = case (object_of d.state.guest.interned bytes) refl
+  where
+    case : (r : Option ℕ) → object_of d.state.guest.interned bytes ≡ r → P (interned e bytes d)
+    case None h = subst P (sym (makes e bytes d h)) (new h)
+    case (Some o) h = subst P (sym (has_made e bytes d o h)) (old o h)
+
+-- its object is that of a string
+pub object_listed : (e : Moment) (bytes : List ℕ) (d : Doing) → Contains (objects_of (interned e bytes d).state.guest.interned) (string_object bytes (interned e bytes d))
+object_listed e bytes d = by_interned (λ (x : Doing). Contains (objects_of x.state.guest.interned) (string_object bytes x)) e bytes d
+    (λ none. let is : object_of (making e bytes d).state.guest.interned bytes ≡ Some (length d.state.heap) = object_pushed d.state.guest.interned bytes (length d.state.heap) none in
+    listed (making e bytes d) (length d.state.heap) is)
+    (λ o some. listed d o some)
+  where
+    listed : (x : Doing) (o : ℕ) → object_of x.state.guest.interned bytes ≡ Some o → Contains (objects_of x.state.guest.interned) (string_object bytes x)
+    listed x o h = subst (λ (k : ℕ). Contains (objects_of x.state.guest.interned) k) (sym (ap (λ (r : Option ℕ). unwrap_or r 0) h)) (object_in x.state.guest.interned bytes o h)
+
+-- A FIELD OF A CLASS WITHOUT A POOL gets nothing
+pub empty_pool : (p : Linked) (f : ℕ) (info : FieldInfo) → info ≡ field_at p f → slice_get p.pools info.class ≡ None → pool_of p (field_at p f).class ≡ []
+empty_pool p f info is none =
+    let at : slice_get p.pools (field_at p f).class ≡ None = ap (λ (i : FieldInfo). slice_get p.pools i.class) (sym is) ∙ none in
+    ap (λ (c : Constants). c.slots) (sym (unwrap_or-slice_get p.pools (field_at p f).class no_constants) ∙ ap (λ (o : Option Constants). unwrap_or o no_constants) at)
+
+pub no_text_of : (p : Linked) (f : ℕ) (info : FieldInfo) → info ≡ field_at p f → slice_get p.pools info.class ≡ None → None ≡ text_in p f
+no_text_of p f info is none = sym (ap (λ (pool : List (Option Item)). string_at pool (field_at p f).constant) (empty_pool p f info is none))
+
+no_pool : (e : Moment) (f : ℕ) (d : Doing) (info : FieldInfo) → info ≡ field_at e.program f → slice_get e.program.pools info.class ≡ None → field_set e d f ≡ d
+no_pool e f d info is none =
+    ap (λ (pool : List (Option Item)). constant_set e (field_at e.program f) (constant_at pool (field_at e.program f).constant) d) (empty_pool e.program f info is none)
+
+pub no_pool_field : (e : Moment) (f : ℕ) (m : MachineState) (out : List Record) (info : FieldInfo) → info ≡ field_at e.program f → slice_get e.program.pools info.class ≡ None → ComesTo (field_set e (so_far m out) f) m m out
+no_pool_field e f m out info is none =
+    let same = no_pool e f (so_far m out) info is none in
+    (sym (ap (λ (x : Doing). with_kept m x.state) same), sym (ap (λ (x : Doing). x.records) same))

@@ -1,0 +1,20 @@
+use Rattle.std.proofs.Common.{◌≡◌, ℕ, List, None, length, rules, sym, ap, ◌∙◌}
+use Rattle.et_machine.specs.State.{MachineState}
+use Rattle.et_machine.specs.Interned.{text_of}
+use Rattle.et_initialize.specs.Under.{moment, so_far}
+use Rattle.et_initialize.proofs.Strings.{no_text, made_string}
+use Rattle.et_initialize.proofs.constants.make_string.Goals as goal
+
+pub intern-requires-clause-object : goal.intern-requires-clause-object
+intern-requires-clause-object c =
+    let m = c.args.machine.now in
+    let none : text_of m.guest.interned (length m.heap) ≡ None = no_text (length m.heap) m.guest.interned c.requires.made in
+    let number : c.in-Ok.object ≡ length m.heap = search rules in
+    let same : c.machine.inside.interned ≡ m.guest.interned = search rules in
+    ap (λ (es : List (List ℕ × ℕ)). text_of es c.in-Ok.object) same ∙ (ap (λ (o : ℕ). text_of m.guest.interned o) number ∙ none)
+
+pub returns-clause-object : goal.returns-clause-object
+returns-clause-object c =
+    let m = c.args.machine.now in
+    let number : c.in-Ok.object ≡ length m.heap = search rules in
+    made_string (moment c.args.program.now m c.args.thread) c.args.bytes.now (so_far m c.args.out.now) c.in-Ok.object c.requires.first number

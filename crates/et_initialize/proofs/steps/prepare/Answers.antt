@@ -1,0 +1,21 @@
+use Rattle.std.proofs.Common.{◌<◌, length, sym, subst}
+use Rattle.et_frames.specs.Threads.{lost_room}
+use Rattle.et_machine.specs.State.{MachineState}
+use Rattle.et_initialize.proofs.Preparing.{pre_ready, pre_has_room, pre_came}
+use Rattle.et_initialize.proofs.steps.prepare.Goals as goal
+
+pub prepare_class-requires-clause-ready : goal.prepare_class-requires-clause-ready
+prepare_class-requires-clause-ready c =
+    pre_ready c.args.program.now c.args.thread c.args.machine.now c.loop-k.machine c.args.out.now c.loop-k.out c.args.classes.now c.loop-k.k c.requires.program c.requires.classes c.requires.ready c.loop-k.invariant
+
+pub prepare_class-requires-clause-lost : goal.prepare_class-requires-clause-lost
+prepare_class-requires-clause-lost c = subst (λ (m : MachineState). length m.lost < lost_room) (sym c.loop-k.invariant.0) c.requires.lost
+
+pub prepare_class-requires-clause-fits : goal.prepare_class-requires-clause-fits
+prepare_class-requires-clause-fits c =
+    pre_has_room c.args.program.now c.args.thread c.args.machine.now c.loop-k.machine c.args.out.now c.loop-k.out c.args.classes.now c.loop-k.k c.index-classes-k.result c.loop-k-test.true c.index-classes-k.is c.requires.fits c.loop-k.invariant
+
+pub loop-k-preserved : goal.loop-k-preserved
+loop-k-preserved c =
+    pre_came c.args.program.now c.args.thread c.args.machine.now c.loop-k.machine c.prepare_class.new.machine c.args.out.now c.loop-k.out c.prepare_class.new.out c.args.classes.now c.loop-k.k c.index-classes-k.result
+    c.loop-k-test.true c.index-classes-k.is c.loop-k.invariant c.in_ok-prepare_class.ensures

@@ -1,0 +1,4 @@
+pub mod Needs
+pub mod Programs
+pub mod Texts
+pub mod Under

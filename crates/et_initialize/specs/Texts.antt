@@ -1,0 +1,56 @@
+-- The strings that the constants of classes make, counted before they are made.
+use Rattle.std.specs.Prelude.{◌≡◌, ℕ, ◌+◌, ◌*◌, ◌<◌, ◌&&◌, ◌||◌, ◌⊎◌, Bool, true, false, nat_le, List, length, slice_index_or, Option, Some, is_some, codes}
+use Rattle.std.specs.List.{list_any}
+use Rattle.std.specs.Option.{option_map_or}
+use Rattle.std.specs.Str.{bytes_eq}
+use Rattle.et_pool.specs.Looks.{string_at}
+use Rattle.et_heap.specs.Objects.{Objects, made_count, slot_count, most_objects, most_slots}
+use Rattle.et_machine.specs.declared.class_state.ClassState.TheVariants.{Untouched, Done}
+use Rattle.et_machine.specs.State.{MachineState}
+use Rattle.et_machine.specs.Interned.{object_of}
+use Rattle.et_machine.specs.Words.{class_state_at}
+use Rattle.et_program.specs.Entries.{Linked, class_at, field_at}
+use Rattle.et_event.specs.Errors.{class_called}
+use Rattle.et_event.specs.Moments.{Doing}
+use Rattle.et_event.specs.Sites.{pool_of}
+
+-- the bytes of the constant of a field, where that is a string
+abbrev pub text_of : Linked → ℕ → Option (List ℕ)
+text_of p f = string_at (pool_of p (field_at p f).class) (field_at p f).constant
+
+abbrev pub has_text : Linked → List ℕ → ℕ → Bool
+has_text p bytes f = option_map_or (bytes_eq bytes) (text_of p f) false
+
+abbrev pub string_slots : Linked → ℕ
+string_slots p = (class_at p (class_called p (codes "java/lang/String"))).info.slots
+
+-- so many strings, of so many slots each, and so many objects and slots besides may be made
+abbrev pub has_room_for : Objects → ℕ → ℕ → ℕ → ℕ → Bool
+has_room_for heap strings each objects slots =
+    nat_le (made_count heap + strings + objects) most_objects && nat_le (slot_count heap + strings * each + slots) most_slots
+
+-- the string of these bytes is there
+abbrev pub is_known : Doing → List ℕ → Bool
+is_known d t = is_some (object_of d.state.guest.interned t)
+
+-- what was done made the strings of the fields that were seen, and nothing else
+pub record Counted (p : Linked) (m : MachineState) (seen : List ℕ) (d : Doing) : Type 0 where
+  pub known : (t : List ℕ) → is_known d t ≡ (is_some (object_of m.guest.interned t) || list_any (has_text p t) seen)
+  pub objects : length d.state.heap ≡ length m.heap + length seen
+  pub slots : slot_count d.state.heap ≡ slot_count m.heap + length seen * string_slots p
+
+-- the strings of these fields are there
+abbrev pub AreKnown : Linked → List ℕ → Doing → Type 0
+AreKnown p fs d = (i : ℕ) → i < length fs → (bytes : List ℕ) → text_of p (slice_index_or fs i 0) ≡ Some bytes → is_known d bytes ≡ true
+
+-- the class became done, and the strings of its constants are there
+pub record BecameDone (p : Linked) (m : MachineState) (d : Doing) (c : ℕ) : Type 0 where
+  pub was : class_state_at m.guest c ≡ Untouched
+  pub is : class_state_at d.state.guest c ≡ Done
+  pub texts : AreKnown p (class_at p c).info.constants d
+
+-- .. and no other class changed
+pub record CountedAll (p : Linked) (m : MachineState) (seen : List ℕ) (d : Doing) : Type 0 where
+  pub counted : Counted p m seen d
+  pub marks : (c : ℕ) → (class_state_at d.state.guest c ≡ class_state_at m.guest c) ⊎ BecameDone p m d c
+  pub classes : length d.state.guest.classes ≡ length p.classes

@@ -1,0 +1,222 @@
+//! The constant of a static field (JVMS 4.7.2).
+ghost use Rattle.std.specs.Prelude.{◌≡◌, ℕ, ◌+◌, ◌*◌, ◌<◌, ◌++◌, ◌∷◌, [], true, None, List, Contains, IfOk, OnOk, length};
+ghost use Rattle.et_base.specs.declared.value.Value.TheVariants.{Unset, Int, Long, Ref};
+ghost use Rattle.et_frames.specs.Threads.{lost_room};
+ghost use Rattle.et_heap.specs.Objects.{has_room, new_object};
+ghost use Rattle.et_state.specs.declared.records.Record.TheVariants.{Alloc};
+ghost use Rattle.et_machine.specs.Words.{static_at, with_static, steps_guest, with_new_object};
+ghost use Rattle.et_machine.specs.Interned.{object_of, objects_of};
+ghost use Rattle.et_program.specs.Entries.{class_at, field_at};
+ghost use Rattle.et_event.specs.Errors.{class_called};
+ghost use Rattle.et_event.specs.Kinds.{narrowed_int};
+ghost use Rattle.et_event.specs.Moments.{fits};
+ghost use Rattle.et_event.specs.Sites.{AString, constant_at, pool_of};
+ghost use Rattle.et_event.specs.Strings.{interned, string_object};
+ghost use Rattle.et_event.specs.Initialization.{constant_set, field_set};
+ghost use Rattle.et_initialize.specs.Under.{moment, so_far, with_kept, ComesTo};
+
+
+use et_base::{ClassId, FieldId, NoMemory, ObjectId, ThreadId, Value, to_byte, to_char, to_short};
+use et_heap::MakeFault;
+use et_machine::Machine;
+use et_parts::class_called;
+use et_pool::Pool;
+use et_program::{FieldInfo, Program};
+use et_state::{Lines, Record};
+
+/// What a field of this descriptor keeps of an int (JVMS 2.3.1).
+fn narrowed(descriptor: &[u8], n: i32) -> i32
+    ensures { result ≡ narrowed_int descriptor.now n }
+{
+    match descriptor.first() {
+        Some(b'B' | b'Z') => to_byte(n),
+        Some(b'S') => to_short(n),
+        Some(b'C') => to_char(n),
+        _ => n,
+    }
+}
+
+/// How many slots an instance of a class has.
+pub(crate) fn slots_of(program: &Program, class: ClassId) -> u32
+    ensures { result ≡ (class_at program.now class).info.slots }
+{
+    if class.number() < program.class_count() {
+        program.class(class).slots
+    } else {
+        0
+    }
+}
+
+/// Makes the object of a string that has none yet, in the event under way. It fits.
+fn make_string(
+    program: &Program,
+    machine: &mut Machine,
+    thread: ThreadId,
+    bytes: &[u8],
+    out: &mut Lines,
+) -> Result<ObjectId, NoMemory>
+    requires first { object_of machine.old.guest.interned bytes.now ≡ None }
+    requires made { (o : ℕ) → Contains (objects_of machine.old.guest.interned) o → o < length machine.old.heap }
+    requires fits { fits (interned (moment program.now machine.old thread) bytes.now (so_far machine.old out.old)).state.heap ≡ true }
+    ensures object { IfOk result (λ o. o ≡ string_object bytes.now (interned (moment program.now machine.old thread) bytes.now (so_far machine.old out.old))) }
+    ensures made { OnOk result (ComesTo (interned (moment program.now machine.old thread) bytes.now (so_far machine.old out.old)) machine.old machine.new out.new) }
+{
+    let class = class_called(program, b"java/lang/String");
+    let slots = slots_of(program, class);
+    let object = match machine.heap.make_object(class, slots) {
+        Ok(object) => object,
+        Err(MakeFault::NoMemory) => return Err(NoMemory),
+        Err(MakeFault::Full) => unreachable!(),
+    };
+    out.push(Record::Alloc {
+        event: machine.clock(),
+        thread: thread.number(),
+        object: object.number(),
+        class,
+        size: 16 + 8 * slots as u64,
+        length: 0,
+    })?;
+    machine.intern(bytes, object)?;
+    Ok(object)
+}
+
+/// The object of a string, made in the event under way where there is none yet.
+fn string_of(
+    program: &Program,
+    machine: &mut Machine,
+    thread: ThreadId,
+    bytes: &[u8],
+    out: &mut Lines,
+) -> Result<ObjectId, NoMemory>
+    requires made { (o : ℕ) → Contains (objects_of machine.old.guest.interned) o → o < length machine.old.heap }
+    requires fits { fits (interned (moment program.now machine.old thread) bytes.now (so_far machine.old out.old)).state.heap ≡ true }
+    ensures object { IfOk result (λ o. o ≡ string_object bytes.now (interned (moment program.now machine.old thread) bytes.now (so_far machine.old out.old))) }
+    ensures made { OnOk result (ComesTo (interned (moment program.now machine.old thread) bytes.now (so_far machine.old out.old)) machine.old machine.new out.new) }
+{
+    match machine.interned(bytes) {
+        Some(object) => Ok(object),
+        None => make_string(program, machine, thread, bytes, out),
+    }
+}
+
+/// Writes a number to a static field to which nothing was written.
+fn set_number(machine: &mut Machine, slot: u32, value: Value)
+    requires slot { slot < length machine.old.guest.statics }
+    requires unset { static_at machine.old.guest slot ≡ Unset }
+    requires lost { length machine.old.lost < lost_room }
+    ensures { machine.new ≡ record machine.old { guest = with_static machine.old.guest slot value } }
+{
+    machine.set_static(slot, value);
+}
+
+/// Writes a string to a static field to which nothing was written.
+fn set_string(
+    program: &Program,
+    machine: &mut Machine,
+    thread: ThreadId,
+    field: &FieldInfo,
+    bytes: &[u8],
+    out: &mut Lines,
+) -> Result<(), NoMemory>
+    requires slot { field.now.slot < length machine.old.guest.statics }
+    requires unset { static_at machine.old.guest field.now.slot ≡ Unset }
+    requires lost { length machine.old.lost < lost_room }
+    requires made { (o : ℕ) → Contains (objects_of machine.old.guest.interned) o → o < length machine.old.heap }
+    requires fits { fits (interned (moment program.now machine.old thread) bytes.now (so_far machine.old out.old)).state.heap ≡ true }
+    ensures { OnOk result (ComesTo (constant_set (moment program.now machine.old thread) field.now (Some (AString bytes.now)) (so_far machine.old out.old)) machine.old machine.new out.new) }
+{
+    let object = string_of(program, machine, thread, bytes, out)?;
+    machine.set_static(field.slot, Value::Ref(object));
+    out.push(Record::Update {
+        event: machine.clock(),
+        thread: thread.number(),
+        object: 0,
+        slot: field.slot,
+        old: 0,
+        new: object.number(),
+    })?;
+    Ok(())
+}
+
+/// Sets a static field to the constant at its index of the pool.
+fn set_constant(
+    program: &Program,
+    machine: &mut Machine,
+    thread: ThreadId,
+    pool: &Pool,
+    field: &FieldInfo,
+    out: &mut Lines,
+) -> Result<(), NoMemory>
+    requires slot { field.now.slot < length machine.old.guest.statics }
+    requires unset { static_at machine.old.guest field.now.slot ≡ Unset }
+    requires lost { length machine.old.lost < lost_room }
+    requires made { (o : ℕ) → Contains (objects_of machine.old.guest.interned) o → o < length machine.old.heap }
+    requires fits { fits (constant_set (moment program.now machine.old thread) field.now (constant_at pool.now.slots field.now.constant) (so_far machine.old out.old)).state.heap ≡ true }
+    ensures { OnOk result (ComesTo (constant_set (moment program.now machine.old thread) field.now (constant_at pool.now.slots field.now.constant) (so_far machine.old out.old)) machine.old machine.new out.new) }
+{
+    if let Some(n) = pool.integer(field.constant) {
+        let kept = narrowed(field.descriptor.as_slice(), n);
+        set_number(machine, field.slot, Value::Int(kept));
+        return Ok(());
+    }
+    if let Some(n) = pool.long(field.constant) {
+        set_number(machine, field.slot, Value::Long(n));
+        return Ok(());
+    }
+    match pool.string(field.constant) {
+        Some(bytes) => set_string(program, machine, thread, field, bytes, out),
+        None => Ok(()),
+    }
+}
+
+/// Sets a static field, to which nothing was written, to its constant.
+pub(crate) fn set_field(
+    program: &Program,
+    machine: &mut Machine,
+    thread: ThreadId,
+    field: FieldId,
+    out: &mut Lines,
+) -> Result<(), NoMemory>
+    requires field { field < length program.now.fields }
+    requires slot { (field_at program.now field).slot < length machine.old.guest.statics }
+    requires unset { static_at machine.old.guest (field_at program.now field).slot ≡ Unset }
+    requires lost { length machine.old.lost < lost_room }
+    requires made { (o : ℕ) → Contains (objects_of machine.old.guest.interned) o → o < length machine.old.heap }
+    requires fits { fits (field_set (moment program.now machine.old thread) (so_far machine.old out.old) field).state.heap ≡ true }
+    ensures { OnOk result (ComesTo (field_set (moment program.now machine.old thread) (so_far machine.old out.old) field) machine.old machine.new out.new) }
+{
+    let info = program.field(field);
+    match program.pool(info.class) {
+        Some(pool) => set_constant(program, machine, thread, pool, info, out),
+        None => Ok(()),
+    }
+}
+
+/// Makes an object of a class that is no array class, in the event under way. It fits.
+pub(crate) fn make_object(
+    machine: &mut Machine,
+    thread: ThreadId,
+    class: ClassId,
+    slots: u32,
+    out: &mut Lines,
+) -> Result<ObjectId, NoMemory>
+    requires { has_room machine.old.heap 1 slots ≡ true }
+    ensures object { IfOk result (λ o. o ≡ length machine.old.heap) }
+    ensures made { OnOk result (machine.new ≡ with_new_object machine.old (new_object class 0 slots)) }
+    ensures told { OnOk result (out.new ≡ out.old ++ Alloc machine.old.guest.clock thread (length machine.old.heap) class (16 + 8 * slots) 0 ∷ []) }
+{
+    let object = match machine.heap.make_object(class, slots) {
+        Ok(object) => object,
+        Err(MakeFault::NoMemory) => return Err(NoMemory),
+        Err(MakeFault::Full) => unreachable!(),
+    };
+    out.push(Record::Alloc {
+        event: machine.clock(),
+        thread: thread.number(),
+        object: object.number(),
+        class,
+        size: 16 + 8 * slots as u64,
+        length: 0,
+    })?;
+    Ok(object)
+}

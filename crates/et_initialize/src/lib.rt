@@ -1,0 +1,16 @@
+//! The initialization of classes (JVMS 5.5, 4.7.2, 2.9): what an event needs of a class, quiet classes with their constants,
+//! and the events in which an initializer begins.
+#![tactic(auto)]
+
+mod begins;
+mod constants;
+pub mod laws;
+mod limits;
+mod needs;
+mod quiet;
+mod steps;
+
+pub use begins::{begin_class_event, wait_event};
+pub use limits::quiet_fits;
+pub use needs::{Need, need_of};
+pub use quiet::set_quietly;

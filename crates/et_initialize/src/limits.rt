@@ -1,0 +1,304 @@
+//! Whether what an event makes fits, with the strings that the constants of classes make.
+ghost use Rattle.std.specs.Prelude.{◌≡◌, ℕ, ◌<◌, ◌||◌, [], true, All, IfOk, OnOk, length, fold, option_map, is_some};
+ghost use Rattle.std.specs.List.{list_all, list_any};
+ghost use Rattle.et_heap.specs.Objects.{has_room};
+ghost use Rattle.et_machine.specs.declared.class_state.ClassState.{ClassState as State};
+ghost use Rattle.et_machine.specs.declared.class_state.ClassState.TheVariants as states;
+ghost use Rattle.et_machine.specs.State.{Kept};
+ghost use Rattle.et_machine.specs.Words.{class_state_at};
+ghost use Rattle.et_initialize.specs.Programs.{IsInOrder};
+ghost use Rattle.et_machine.specs.Interned.{object_of};
+ghost use Rattle.et_program.specs.Entries.{class_at};
+ghost use Rattle.et_event.specs.Moments.{Doing, begins, fits as all_fit};
+ghost use Rattle.et_event.specs.Initialization.{state_of, field_set, constants_set, with_state, class_done, quietly_done, is_ready, prepared};
+ghost use Rattle.et_initialize.specs.Texts.{text_of as text_in, has_text, string_slots as slots_of_string, has_room_for as room_for, Counted, CountedAll};
+ghost use Rattle.et_initialize.specs.Under.{moment};
+
+use crate::constants::slots_of;
+use et_base::{ClassId, FieldId, NoMemory};
+use et_heap::{MOST_OBJECTS, MOST_SLOTS};
+use et_machine::{ClassState, Machine};
+use et_parts::class_called;
+use et_program::Program;
+use std::alloc::Global;
+
+/// The bytes of the constant of a field, where that is a string.
+fn text_of(program: &Program, field: FieldId) -> Option<&[u8]>
+    requires { field < length program.now.fields }
+    ensures { option_map (λ s. s.now) result ≡ text_in program.now field }
+{
+    let info = program.field(field);
+    match program.pool(info.class) {
+        Some(pool) => pool.string(info.constant),
+        None => None,
+    }
+}
+
+/// Whether the constant of a field is the string of these bytes.
+fn is_text(program: &Program, field: FieldId, bytes: &[u8]) -> bool
+    requires { field < length program.now.fields }
+    ensures { result ≡ has_text program.now bytes.now field }
+{
+    match text_of(program, field) {
+        Some(text) => bytes == text,
+        None => false,
+    }
+}
+
+/// Whether one of these fields has the constant of these bytes.
+fn is_seen(program: &Program, seen: &[FieldId], bytes: &[u8]) -> bool
+    requires { All (λ f. f < length program.now.fields) seen.now }
+    ensures { result ≡ list_any (has_text program.now bytes.now) seen.now }
+{
+    for k in 0..seen.len() {
+        if is_text(program, seen[k], bytes) {
+            return true;
+        }
+    }
+    false
+}
+
+/// Whether the string of these bytes is there, or will be once the constants of these fields are set.
+fn is_known(program: &Program, machine: &Machine, seen: &[FieldId], bytes: &[u8]) -> bool
+    requires { All (λ f. f < length program.now.fields) seen.now }
+    ensures { result ≡ (is_some (object_of machine.now.guest.interned bytes.now) || list_any (has_text program.now bytes.now) seen.now) }
+{
+    machine.interned(bytes).is_some() || is_seen(program, seen, bytes)
+}
+
+/// Adds a field to those that were seen, where its constant is a string that isn't there yet.
+fn count_field(
+    program: &Program,
+    machine: &Machine,
+    field: FieldId,
+    seen: &mut Vec<FieldId>,
+) -> Result<(), NoMemory>
+    requires field { field < length program.now.fields }
+    requires within { All (λ f. f < length program.now.fields) seen.old.items }
+    ensures within { OnOk result (All (λ f. f < length program.now.fields) seen.new.items) }
+    ensures counted { OnOk result ((before : Kept) (thread : ℕ) (d : Doing) → Counted program.now machine.now seen.old.items d → Counted program.now machine.now seen.new.items (field_set (record { program = program.now; before = before; thread = thread }) d field)) }
+{
+    if let Some(text) = text_of(program, field) {
+        if !is_known(program, machine, seen.as_slice(), text) {
+            seen.push(field)?;
+        }
+    }
+    Ok(())
+}
+
+/// Adds the constants of a class that make strings.
+fn count_constants(
+    program: &Program,
+    machine: &Machine,
+    class: ClassId,
+    seen: &mut Vec<FieldId>,
+) -> Result<(), NoMemory>
+    requires class { class < length program.now.classes }
+    requires within { All (λ f. f < length program.now.fields) seen.old.items }
+    ensures within { OnOk result (All (λ f. f < length program.now.fields) seen.new.items) }
+    ensures counted { OnOk result ((before : Kept) (thread : ℕ) (d : Doing) → Counted program.now machine.now seen.old.items d → Counted program.now machine.now seen.new.items (constants_set (record { program = program.now; before = before; thread = thread }) class d)) }
+{
+    let constants = program.class(class).constants.as_slice();
+    for k in 0..constants.len() {
+        count_field(program, machine, constants[k], seen)?;
+    }
+    Ok(())
+}
+
+/// Adds the constants of a class that make strings, where it is untouched.
+fn count_class(
+    program: &Program,
+    machine: &Machine,
+    class: ClassId,
+    seen: &mut Vec<FieldId>,
+) -> Result<(), NoMemory>
+    requires class { class < length program.now.classes }
+    requires classes { length machine.now.guest.classes ≡ length program.now.classes }
+    requires within { All (λ f. f < length program.now.fields) seen.old.items }
+    ensures within { OnOk result (All (λ f. f < length program.now.fields) seen.new.items) }
+    ensures counted { OnOk result ((before : Kept) (thread : ℕ) (d : Doing) → CountedAll program.now machine.now seen.old.items d → CountedAll program.now machine.now seen.new.items (class_done (record { program = program.now; before = before; thread = thread }) class (state_of d class) d)) }
+{
+    match machine.class_state(class) {
+        ClassState::Untouched => count_constants(program, machine, class, seen),
+        _ => Ok(()),
+    }
+}
+
+/// Adds the constants of all untouched classes among these that make strings.
+fn count_classes(
+    program: &Program,
+    machine: &Machine,
+    classes: &[ClassId],
+    seen: &mut Vec<FieldId>,
+) -> Result<(), NoMemory>
+    requires all { All (λ c. c < length program.now.classes) classes.now }
+    requires classes { length machine.now.guest.classes ≡ length program.now.classes }
+    requires within { All (λ f. f < length program.now.fields) seen.old.items }
+    ensures within { OnOk result (All (λ f. f < length program.now.fields) seen.new.items) }
+    ensures counted { OnOk result ((before : Kept) (thread : ℕ) (d : Doing) → CountedAll program.now machine.now seen.old.items d → CountedAll program.now machine.now seen.new.items (fold (λ x k. class_done (record { program = program.now; before = before; thread = thread }) k (state_of x k) x) d classes.now)) }
+{
+    for k in 0..classes.len() {
+        count_class(program, machine, classes[k], seen)?;
+    }
+    Ok(())
+}
+
+/// How many slots a string has.
+fn string_slots(program: &Program) -> u32
+    ensures { result ≡ slots_of_string program.now }
+{
+    slots_of(program, class_called(program, b"java/lang/String"))
+}
+
+/// Whether so many strings, of so many slots each, and so many objects and slots besides may be made.
+fn has_room_for(machine: &Machine, strings: usize, each: u32, objects: u32, slots: u32) -> bool
+    ensures value { result ≡ room_for machine.now.heap strings each objects slots }
+    ensures some { 0 < length machine.now.heap }
+{
+    let room = (MOST_OBJECTS - machine.heap.count()) as u64;
+    if objects as u64 > room || strings as u64 > room - objects as u64 {
+        return false;
+    }
+    let room = (MOST_SLOTS - machine.heap.slots()) as u64;
+    strings as u64 * each as u64 + slots as u64 <= room
+}
+
+/// Whether the strings that the constants of a quiet class make, with those of what is initialized with it, each once, fit
+/// together with so many objects and slots besides. Nothing is changed.
+pub fn quiet_fits(
+    program: &Program,
+    machine: &Machine,
+    alloc: Global,
+    class: ClassId,
+    objects: u32,
+    slots: u32,
+) -> Result<bool, NoMemory>
+    requires class { class < length program.now.classes }
+    requires classes { length machine.now.guest.classes ≡ length program.now.classes }
+    ensures { IfOk result (λ fits. (thread : ℕ) → fits ≡ has_room (quietly_done (moment program.now machine.now thread) class (begins (moment program.now machine.now thread))).state.heap objects slots) }
+{
+    let mut seen = Vec::new(alloc);
+    count_classes(program, machine, program.init_order(class), &mut seen)?;
+    Ok(has_room_for(
+        machine,
+        seen.len(),
+        string_slots(program),
+        objects,
+        slots,
+    ))
+}
+
+/// Whether the strings that the constants of a class make fit. Nothing is changed.
+pub(crate) fn constants_fit(
+    program: &Program,
+    machine: &Machine,
+    alloc: Global,
+    class: ClassId,
+) -> Result<bool, NoMemory>
+    requires class { class < length program.now.classes }
+    requires classes { length machine.now.guest.classes ≡ length program.now.classes }
+    ensures { IfOk result (λ fits. (thread : ℕ) (state : State) → fits ≡ all_fit (constants_set (moment program.now machine.now thread) class (with_state class state (begins (moment program.now machine.now thread)))).state.heap) }
+{
+    let mut seen = Vec::new(alloc);
+    count_constants(program, machine, class, &mut seen)?;
+    Ok(has_room_for(
+        machine,
+        seen.len(),
+        string_slots(program),
+        0,
+        0,
+    ))
+}
+
+/// Adds the constants that make strings of an untouched quiet class and of what is initialized with it.
+fn count_quiet(
+    program: &Program,
+    machine: &Machine,
+    class: ClassId,
+    seen: &mut Vec<FieldId>,
+) -> Result<(), NoMemory>
+    requires class { class < length program.now.classes }
+    requires classes { length machine.now.guest.classes ≡ length program.now.classes }
+    requires within { All (λ f. f < length program.now.fields) seen.old.items }
+    ensures within { OnOk result (All (λ f. f < length program.now.fields) seen.new.items) }
+    ensures counted { OnOk result (class_state_at machine.now.guest class ≡ states.Untouched → (before : Kept) (thread : ℕ) (d : Doing) → CountedAll program.now machine.now seen.old.items d → CountedAll program.now machine.now seen.new.items (quietly_done (record { program = program.now; before = before; thread = thread }) class d)) }
+    ensures other { OnOk result ((class_state_at machine.now.guest class ≡ states.Untouched → ⊥) → seen.new.items ≡ seen.old.items) }
+{
+    match machine.class_state(class) {
+        ClassState::Untouched => count_classes(program, machine, program.init_order(class), seen),
+        _ => Ok(()),
+    }
+}
+
+/// Adds the constants that make strings as these classes, for which nothing is waited, become done where they are quiet.
+fn count_prepared(
+    program: &Program,
+    machine: &Machine,
+    classes: &[ClassId],
+    seen: &mut Vec<FieldId>,
+) -> Result<(), NoMemory>
+    requires program { IsInOrder program.now }
+    requires all { All (λ c. c < length program.now.classes) classes.now }
+    requires classes { length machine.now.guest.classes ≡ length program.now.classes }
+    requires within { All (λ f. f < length program.now.fields) seen.old.items }
+    ensures within { OnOk result (All (λ f. f < length program.now.fields) seen.new.items) }
+    ensures counted { OnOk result ((thread : ℕ) → list_all (is_ready (moment program.now machine.now thread) (begins (moment program.now machine.now thread))) classes.now ≡ true → CountedAll program.now machine.now seen.old.items (begins (moment program.now machine.now thread)) → CountedAll program.now machine.now seen.new.items (prepared (moment program.now machine.now thread) classes.now (begins (moment program.now machine.now thread)))) }
+{
+    for k in 0..classes.len() {
+        count_quiet(program, machine, classes[k], seen)?;
+    }
+    Ok(())
+}
+
+/// Whether what these classes make, as the quiet ones become done, fits together with so many objects and slots besides.
+/// Nothing is changed.
+pub(crate) fn prepared_fit(
+    program: &Program,
+    machine: &Machine,
+    alloc: Global,
+    classes: &[ClassId],
+    objects: u32,
+    slots: u32,
+) -> Result<bool, NoMemory>
+    requires program { IsInOrder program.now }
+    requires all { All (λ c. c < length program.now.classes) classes.now }
+    requires classes { length machine.now.guest.classes ≡ length program.now.classes }
+    ensures { IfOk result (λ fits. (thread : ℕ) → list_all (is_ready (moment program.now machine.now thread) (begins (moment program.now machine.now thread))) classes.now ≡ true → fits ≡ has_room (prepared (moment program.now machine.now thread) classes.now (begins (moment program.now machine.now thread))).state.heap objects slots) }
+{
+    let mut seen = Vec::new(alloc);
+    count_prepared(program, machine, classes, &mut seen)?;
+    Ok(has_room_for(
+        machine,
+        seen.len(),
+        string_slots(program),
+        objects,
+        slots,
+    ))
+}
+
+/// Whether what these classes make, as the quiet ones become done, fits together with the constants of a class. Nothing is
+/// changed.
+pub(crate) fn prepared_class_fits(
+    program: &Program,
+    machine: &Machine,
+    alloc: Global,
+    classes: &[ClassId],
+    class: ClassId,
+) -> Result<bool, NoMemory>
+    requires program { IsInOrder program.now }
+    requires all { All (λ c. c < length program.now.classes) classes.now }
+    requires class { class < length program.now.classes }
+    requires classes { length machine.now.guest.classes ≡ length program.now.classes }
+    ensures { IfOk result (λ fits. (thread : ℕ) → list_all (is_ready (moment program.now machine.now thread) (begins (moment program.now machine.now thread))) classes.now ≡ true → (state : State) → fits ≡ all_fit (constants_set (moment program.now machine.now thread) class (with_state class state (prepared (moment program.now machine.now thread) classes.now (begins (moment program.now machine.now thread))))).state.heap) }
+{
+    let mut seen = Vec::new(alloc);
+    count_prepared(program, machine, classes, &mut seen)?;
+    count_constants(program, machine, class, &mut seen)?;
+    Ok(has_room_for(
+        machine,
+        seen.len(),
+        string_slots(program),
+        0,
+        0,
+    ))
+}

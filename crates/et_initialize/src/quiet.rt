@@ -1,0 +1,87 @@
+//! Quiet classes: those for which nothing is to be run.
+ghost use Rattle.std.specs.Prelude.{◌≡◌, ℕ, ◌<◌, true, OnOk, length};
+ghost use Rattle.et_base.specs.declared.value.Value.TheVariants.{Unset};
+ghost use Rattle.et_frames.specs.Threads.{lost_room};
+ghost use Rattle.et_machine.specs.State.{kept_of};
+ghost use Rattle.et_machine.specs.Words.{static_at};
+ghost use Rattle.et_event.specs.Moments.{fits};
+ghost use Rattle.et_event.specs.Initialization.{constants_set, class_done, quietly_done, state_of};
+ghost use Rattle.et_initialize.specs.Programs.{IsInOrder};
+ghost use Rattle.et_initialize.specs.Under.{moment, so_far, ComesTo, IsReady, class_of_slot};
+
+use crate::constants::set_field;
+use et_base::{ClassId, NoMemory, ThreadId};
+use et_machine::{ClassState, Machine};
+use et_program::Program;
+use et_state::Lines;
+
+/// Sets the constants of a class whose static fields were not written, in the order of the file.
+pub(crate) fn set_constants(
+    program: &Program,
+    machine: &mut Machine,
+    thread: ThreadId,
+    class: ClassId,
+    out: &mut Lines,
+) -> Result<(), NoMemory>
+    requires program { IsInOrder program.now }
+    requires class { class < length program.now.classes }
+    requires ready { IsReady program.now (kept_of machine.old) }
+    requires unset { (i : ℕ) → i < length program.now.statics → class_of_slot program.now i ≡ class → static_at machine.old.guest i ≡ Unset }
+    requires lost { length machine.old.lost < lost_room }
+    requires fits { fits (constants_set (moment program.now machine.old thread) class (so_far machine.old out.old)).state.heap ≡ true }
+    ensures { OnOk result (ComesTo (constants_set (moment program.now machine.old thread) class (so_far machine.old out.old)) machine.old machine.new out.new) }
+{
+    let constants = program.class(class).constants.as_slice();
+    for k in 0..constants.len() {
+        set_field(program, machine, thread, constants[k], out)?;
+    }
+    Ok(())
+}
+
+/// An untouched class becomes done, with its constants.
+fn set_done(
+    program: &Program,
+    machine: &mut Machine,
+    thread: ThreadId,
+    class: ClassId,
+    out: &mut Lines,
+) -> Result<(), NoMemory>
+    requires program { IsInOrder program.now }
+    requires class { class < length program.now.classes }
+    requires ready { IsReady program.now (kept_of machine.old) }
+    requires lost { length machine.old.lost < lost_room }
+    requires fits { fits (class_done (moment program.now machine.old thread) class (state_of (so_far machine.old out.old) class) (so_far machine.old out.old)).state.heap ≡ true }
+    ensures { OnOk result (ComesTo (class_done (moment program.now machine.old thread) class (state_of (so_far machine.old out.old) class) (so_far machine.old out.old)) machine.old machine.new out.new) }
+{
+    match machine.class_state(class) {
+        ClassState::Untouched => {
+            machine.set_class_state(class, ClassState::Done);
+            set_constants(program, machine, thread, class, out)
+        }
+        _ => Ok(()),
+    }
+}
+
+/// In the event under way, each untouched class that is initialized with a quiet class, and then this itself, becomes done:
+/// its constants are set in the order of the file, and a string is made at its first use (JVMS 4.7.2, 5.1). All that is made
+/// fits. After `NoMemory` the event is half done, and machine and records may only be dropped.
+pub fn set_quietly(
+    program: &Program,
+    machine: &mut Machine,
+    thread: ThreadId,
+    class: ClassId,
+    out: &mut Lines,
+) -> Result<(), NoMemory>
+    requires program { IsInOrder program.now }
+    requires class { class < length program.now.classes }
+    requires ready { IsReady program.now (kept_of machine.old) }
+    requires lost { length machine.old.lost < lost_room }
+    requires fits { fits (quietly_done (moment program.now machine.old thread) class (so_far machine.old out.old)).state.heap ≡ true }
+    ensures { OnOk result (ComesTo (quietly_done (moment program.now machine.old thread) class (so_far machine.old out.old)) machine.old machine.new out.new) }
+{
+    let order = program.init_order(class);
+    for k in 0..order.len() {
+        set_done(program, machine, thread, order[k], out)?;
+    }
+    Ok(())
+}

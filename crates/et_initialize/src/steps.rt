@@ -1,0 +1,268 @@
+//! The turns of an initializer that has not entered `<clinit>` yet.
+ghost use Rattle.std.specs.Prelude.{◌≡◌, ◌<◌, ◌≤◌, ◌^◌, ◌++◌, true, false, None, All, IfOk, OnOk, length, take, slice_index_or};
+ghost use Rattle.std.specs.List.{list_all};
+ghost use Rattle.et_frames.specs.Threads.{lost_room, most_frames};
+ghost use Rattle.et_machine.specs.declared.class_state.ClassState.TheVariants as states;
+ghost use Rattle.et_machine.specs.State.{kept_of};
+ghost use Rattle.et_frames.specs.declared.stage.Stage.TheVariants as stages;
+ghost use Rattle.et_machine.specs.Words.{HasFrame, top, begun, thread_at};
+ghost use Rattle.et_event.specs.Answered.{EventAnswers};
+ghost use Rattle.et_heap.specs.Objects.{has_room};
+ghost use Rattle.et_program.specs.Entries.{class_at};
+ghost use Rattle.et_event.specs.Errors.{error_class};
+ghost use Rattle.et_event.specs.Moments.{begins, fits, throws};
+ghost use Rattle.et_event.specs.Sites.{body_of};
+ghost use Rattle.et_event.specs.Sound.{IsSoundFor};
+ghost use Rattle.et_event.specs.Initialization.{is_ready as ready, prepared, quietly_if_untouched, state_of, with_state, constants_set, begins_class, enters_clinit};
+ghost use Rattle.et_initialize.specs.Programs.{IsInOrder};
+ghost use Rattle.et_initialize.specs.Under.{moment, so_far, ComesTo, IsReady};
+
+use crate::begins::initializer;
+use crate::constants::{make_object, slots_of};
+use crate::limits::prepared_fit;
+use crate::needs::{Need, need_of};
+use crate::quiet::{set_constants, set_quietly};
+use et_base::{ClassId, MethodId, NoMemory, ThreadId};
+use et_event::GuestError;
+use et_machine::{ClassState, Machine};
+use et_parts::class_called;
+use et_program::{MethodInfo, Program};
+use et_state::{EventEnd, Lines, Record};
+use std::alloc::Global;
+
+/// In the event under way, a quiet class that is untouched becomes done, with what is initialized with it.
+fn prepare_class(
+    program: &Program,
+    machine: &mut Machine,
+    thread: ThreadId,
+    class: ClassId,
+    out: &mut Lines,
+) -> Result<(), NoMemory>
+    requires program { IsInOrder program.now }
+    requires class { class < length program.now.classes }
+    requires ready { IsReady program.now (kept_of machine.old) }
+    requires lost { length machine.old.lost < lost_room }
+    requires fits { fits (quietly_if_untouched (moment program.now machine.old thread) class (state_of (so_far machine.old out.old) class) (so_far machine.old out.old)).state.heap ≡ true }
+    ensures { OnOk result (ComesTo (quietly_if_untouched (moment program.now machine.old thread) class (state_of (so_far machine.old out.old) class) (so_far machine.old out.old)) machine.old machine.new out.new) }
+{
+    match machine.class_state(class) {
+        ClassState::Untouched => set_quietly(program, machine, thread, class, out),
+        _ => Ok(()),
+    }
+}
+
+/// In the event under way, the quiet ones among these classes become done.
+pub(crate) fn prepare(
+    program: &Program,
+    machine: &mut Machine,
+    thread: ThreadId,
+    classes: &[ClassId],
+    out: &mut Lines,
+) -> Result<(), NoMemory>
+    requires program { IsInOrder program.now }
+    requires classes { All (λ c. c < length program.now.classes) classes.now }
+    requires ready { IsReady program.now (kept_of machine.old) }
+    requires lost { length machine.old.lost < lost_room }
+    requires fits { fits (prepared (moment program.now machine.old thread) classes.now (so_far machine.old out.old)).state.heap ≡ true }
+    ensures { OnOk result (ComesTo (prepared (moment program.now machine.old thread) classes.now (so_far machine.old out.old)) machine.old machine.new out.new) }
+{
+    for k in 0..classes.len() {
+        prepare_class(program, machine, thread, classes[k], out)?;
+    }
+    Ok(())
+}
+
+/// Whether an initializer need not wait for a class: it is done, begun by this thread, or quiet.
+fn is_ready(program: &Program, machine: &Machine, thread: ThreadId, class: ClassId) -> bool
+    requires class { class < length program.now.classes }
+    requires classes { length machine.now.guest.classes ≡ length program.now.classes }
+    ensures { result ≡ ready (moment program.now machine.now thread) (begins (moment program.now machine.now thread)) class }
+{
+    match need_of(program, machine, thread, class) {
+        Need::Ready | Need::Quiet => true,
+        Need::Waits | Need::Failed | Need::Begins => false,
+    }
+}
+
+/// How many of these classes, from the first on, an initializer need not wait for.
+fn ready_count(program: &Program, machine: &Machine, thread: ThreadId, classes: &[ClassId]) -> usize
+    requires all { All (λ c. c < length program.now.classes) classes.now }
+    requires classes { length machine.now.guest.classes ≡ length program.now.classes }
+    ensures few { result ≤ length classes.now }
+    ensures ready { list_all (ready (moment program.now machine.now thread) (begins (moment program.now machine.now thread))) (take result classes.now) ≡ true }
+    ensures blocker { result < length classes.now → ready (moment program.now machine.now thread) (begins (moment program.now machine.now thread)) (slice_index_or classes.now result 0) ≡ false }
+{
+    for k in 0..classes.len() {
+        if !is_ready(program, machine, thread, classes[k]) {
+            return k;
+        }
+    }
+    classes.len()
+}
+
+/// How many operands and locals the code of a method has.
+fn frame_size(method: &MethodInfo) -> (u16, u16)
+    ensures stack { result.0 ≡ (body_of method.now.code).max_stack }
+    ensures locals { result.1 ≡ (body_of method.now.code).max_locals }
+{
+    match &method.code {
+        Some(code) => {
+            let body = code.raw();
+            (body.max_stack, body.max_locals)
+        }
+        None => (0, 0),
+    }
+}
+
+/// An event begins, in which the quiet ones among these classes become done. All fits.
+fn begin_prepared(
+    program: &Program,
+    machine: &mut Machine,
+    thread: ThreadId,
+    classes: &[ClassId],
+    out: &mut Lines,
+) -> Result<(), NoMemory>
+    requires program { IsInOrder program.now }
+    requires classes { All (λ c. c < length program.now.classes) classes.now }
+    requires sound { IsSoundFor program.now (kept_of machine.old) }
+    requires clock { machine.old.guest.clock < 2 ^ 40 }
+    requires fits { fits (prepared (moment program.now machine.old thread) classes.now (begins (moment program.now machine.old thread))).state.heap ≡ true }
+    ensures { OnOk result (ComesTo (record { state = (prepared (moment program.now machine.old thread) classes.now (begins (moment program.now machine.old thread))).state; records = out.old ++ (prepared (moment program.now machine.old thread) classes.now (begins (moment program.now machine.old thread))).records }) (begun machine.old) machine.new out.new) }
+{
+    machine.begin_event();
+    prepare(program, machine, thread, classes, out)
+}
+
+/// The event in which a class without `<clinit>` is done, after its prerequisites, and its initializer is dropped. All fits.
+fn finish(
+    program: &Program,
+    machine: &mut Machine,
+    thread: ThreadId,
+    class: ClassId,
+    classes: &[ClassId],
+    out: &mut Lines,
+) -> Result<EventEnd, NoMemory>
+    requires program { IsInOrder program.now }
+    requires classes { All (λ c. c < length program.now.classes) classes.now }
+    requires sound { IsSoundFor program.now (kept_of machine.old) }
+    requires clock { machine.old.guest.clock < 2 ^ 40 }
+    requires frame { HasFrame machine.old.guest thread }
+    requires stage { (top machine.old.guest thread).stage ≡ stages.Before class }
+    requires fits { fits (prepared (moment program.now machine.old thread) classes.now (begins (moment program.now machine.old thread))).state.heap ≡ true }
+    ensures { IfOk result (λ end. EventAnswers (enters_clinit (moment program.now machine.old thread) class None (prepared (moment program.now machine.old thread) classes.now (begins (moment program.now machine.old thread)))) end machine.old machine.new out.old out.new) }
+{
+    begin_prepared(program, machine, thread, classes, out)?;
+    machine.set_class_state(class, ClassState::Done);
+    machine.drop_frame(thread);
+    Ok(EventEnd::Done)
+}
+
+/// The event in which the `<clinit>` of a class is entered, after its prerequisites. All fits.
+fn enter(
+    program: &Program,
+    machine: &mut Machine,
+    thread: ThreadId,
+    class: ClassId,
+    clinit: MethodId,
+    classes: &[ClassId],
+    out: &mut Lines,
+) -> Result<EventEnd, NoMemory>
+    requires program { IsInOrder program.now }
+    requires clinit { clinit < length program.now.methods }
+    requires classes { All (λ c. c < length program.now.classes) classes.now }
+    requires sound { IsSoundFor program.now (kept_of machine.old) }
+    requires clock { machine.old.guest.clock < 2 ^ 40 }
+    requires frame { HasFrame machine.old.guest thread }
+    requires stage { (top machine.old.guest thread).stage ≡ stages.Before class }
+    requires fits { fits (prepared (moment program.now machine.old thread) classes.now (begins (moment program.now machine.old thread))).state.heap ≡ true }
+    ensures { IfOk result (λ end. EventAnswers (enters_clinit (moment program.now machine.old thread) class (Some clinit) (prepared (moment program.now machine.old thread) classes.now (begins (moment program.now machine.old thread)))) end machine.old machine.new out.old out.new) }
+{
+    let (max_stack, max_locals) = frame_size(program.method(clinit));
+    begin_prepared(program, machine, thread, classes, out)?;
+    machine.enter_clinit(thread, clinit, max_stack, max_locals)?;
+    out.push(Record::Enter {
+        event: machine.clock(),
+        thread: thread.number(),
+        method: clinit,
+        receiver: 0,
+    })?;
+    Ok(EventEnd::Done)
+}
+
+/// The event in which an error is thrown, after quiet classes became done. All fits.
+fn throw_prepared(
+    program: &Program,
+    machine: &mut Machine,
+    thread: ThreadId,
+    classes: &[ClassId],
+    error: GuestError,
+    out: &mut Lines,
+) -> Result<EventEnd, NoMemory>
+    requires program { IsInOrder program.now }
+    requires classes { All (λ c. c < length program.now.classes) classes.now }
+    requires sound { IsSoundFor program.now (kept_of machine.old) }
+    requires clock { machine.old.guest.clock < 2 ^ 40 }
+    requires frame { HasFrame machine.old.guest thread }
+    requires room { has_room (prepared (moment program.now machine.old thread) classes.now (begins (moment program.now machine.old thread))).state.heap 1 (class_at program.now (error_class program.now error)).info.slots ≡ true }
+    ensures { IfOk result (λ end. EventAnswers (throws (moment program.now machine.old thread) error (prepared (moment program.now machine.old thread) classes.now (begins (moment program.now machine.old thread)))) end machine.old machine.new out.old out.new) }
+{
+    let class = class_called(program, error.class_name());
+    let slots = slots_of(program, class);
+    begin_prepared(program, machine, thread, classes, out)?;
+    let object = make_object(machine, thread, class, slots, out)?;
+    machine.throw(thread, object);
+    Ok(EventEnd::Done)
+}
+
+/// The event in which an error is thrown, after the quiet ones among these classes became done.
+fn throw_after(
+    program: &Program,
+    machine: &mut Machine,
+    alloc: Global,
+    thread: ThreadId,
+    classes: &[ClassId],
+    error: GuestError,
+    out: &mut Lines,
+) -> Result<EventEnd, NoMemory>
+    requires program { IsInOrder program.now }
+    requires classes { All (λ c. c < length program.now.classes) classes.now }
+    requires sound { IsSoundFor program.now (kept_of machine.old) }
+    requires clock { machine.old.guest.clock < 2 ^ 40 }
+    requires frame { HasFrame machine.old.guest thread }
+    requires ready { list_all (ready (moment program.now machine.old thread) (begins (moment program.now machine.old thread))) classes.now ≡ true }
+    ensures { IfOk result (λ end. EventAnswers (throws (moment program.now machine.old thread) error (prepared (moment program.now machine.old thread) classes.now (begins (moment program.now machine.old thread)))) end machine.old machine.new out.old out.new) }
+{
+    let slots = slots_of(program, class_called(program, error.class_name()));
+    if !prepared_fit(program, machine, alloc, classes, 1, slots)? {
+        return Ok(EventEnd::ObjectLimit);
+    }
+    throw_prepared(program, machine, thread, classes, error, out)
+}
+
+/// The event in which an untouched class begins, after the quiet ones among these classes became done. All fits.
+fn begin_blocker(
+    program: &Program,
+    machine: &mut Machine,
+    alloc: Global,
+    thread: ThreadId,
+    classes: &[ClassId],
+    class: ClassId,
+    out: &mut Lines,
+) -> Result<EventEnd, NoMemory>
+    requires program { IsInOrder program.now }
+    requires class { class < length program.now.classes }
+    requires classes { All (λ c. c < length program.now.classes) classes.now }
+    requires sound { IsSoundFor program.now (kept_of machine.old) }
+    requires clock { machine.old.guest.clock < 2 ^ 40 }
+    requires frame { HasFrame machine.old.guest thread }
+    requires frames { length (thread_at machine.old.guest thread).frames < most_frames }
+    requires untouched { state_of (prepared (moment program.now machine.old thread) classes.now (begins (moment program.now machine.old thread))) class ≡ states.Untouched }
+    requires fits { fits (constants_set (moment program.now machine.old thread) class (with_state class (states.Begun thread) (prepared (moment program.now machine.old thread) classes.now (begins (moment program.now machine.old thread))))).state.heap ≡ true }
+    ensures { IfOk result (λ end. EventAnswers (begins_class (moment program.now machine.old thread) class (prepared (moment program.now machine.old thread) classes.now (begins (moment program.now machine.old thread)))) end machine.old machine.new out.old out.new) }
+{
+    begin_prepared(program, machine, thread, classes, out)?;
+    machine.set_class_state(class, ClassState::Begun(thread));
+    set_constants(program, machine, thread, class, out)?;
+    machine.enter_frame(thread, initializer(alloc, class))?;
+    Ok(EventEnd::Done)
+}
