@@ -1,19 +1,18 @@
 -- Where an instruction of code that keeps the rules may go: behind itself, and to the targets of a branch or a switch.
-use Rattle.std.proofs.Common.{◌≡◌, ℕ, zero, suc, ◌+◌, ◌*◌, ◌<◌, ◌≤◌, ◌⊎◌, Bool, true, false, List, [], ◌∷◌, length, Option, Some, Result, Ok, refl, sym, ◌∙◌, ap, subst, inl, inr, arith, rules, IsTrue}
+use Rattle.std.proofs.Common.{◌≡◌, ℕ, zero, suc, ◌+◌, ◌*◌, ◌<◌, ◌≤◌, ◌⊎◌, Bool, true, false, List, [], ◌∷◌, Option, Some, Result, Ok, refl, sym, ◌∙◌, ap, subst, inl, inr, arith, rules, IsTrue}
 use Rattle.std.specs.Prelude.{◌==◌, ◌||◌, ℤ, pos, negsuc, ◌+ℤ◌, int_lt, if◌then◌else◌, find, map}
 use Rattle.std.specs.List.{list_all}
 use Rattle.std.specs.Option.{option_map_or}
 use Rattle.std.specs.Int.{int_gap, w32, cast_unsigned}
-use Rattle.std.proofs.lemmas.Bool.{and_parts, ltb-false, cases_lt}
+use Rattle.std.proofs.lemmas.Bool.{and_parts, ltb-false}
 use Rattle.et_code.specs.declared.instr.Instr.{Instr}
 use Rattle.et_code.specs.declared.instr.CodeFault.{CodeFault}
 use Rattle.et_code.specs.Bodies.{Body}
 use Rattle.et_code.specs.Decoding.{instruction_at, word_at, row_count}
 use Rattle.et_code.specs.Kept.{IsKept, HasInstruction}
 use Rattle.et_code.specs.Rules.{passes, is_branch, offsets}
-use Rattle.et_code.specs.Starts.{IsStart, Follows, is_start}
+use Rattle.et_code.specs.Starts.{IsStart, is_start}
 use Rattle.et_code.specs.Switches.{rows_from, table_rows, lookup_pairs, table_target, lookup_target, target_of}
-use Rattle.et_code.proofs.Decoded.{decoded_fits}
 use Rattle.et_code.proofs.Starting.{starts_are_all}
 use Rattle.et_event.specs.declared.rows.Condition.{Condition}
 use Rattle.et_event.specs.declared.rows.Row.{Row}
@@ -23,6 +22,7 @@ use Rattle.et_event.specs.declared.rows.FrameRow.TheVariants as row
 use Rattle.et_event.specs.Sites.{Site, natural, target}
 use Rattle.et_event.specs.Sound.{IsPc}
 use Rattle.et_event.specs.Table.{rows as all_rows, row_of}
+use Rattle.et_sound.proofs.Frames.{behind_pc}
 use Rattle.et_plain.proofs.Keeping.{MayGo}
 use Rattle.et_place.proofs.Rows.{opcode_of_switch}
 use Rattle.et_place.proofs.RowsAmong.{among}
@@ -44,14 +44,6 @@ unfolding row_of
 opcode_of_branch opcode c e = among branches all_rows opcode (rows.Frame (row.Branch c)) all_branches e
 
 -- PLACES
-
-pub behind_pc : (b : Body) (pc : ℕ) (x : Instr × ℕ) → IsStart b.code pc → instruction_at b.code pc ≡ Ok x → IsPc b x.1
-behind_pc b pc x s e =
-    let fits = decoded_fits b.code pc x.0 x.1 e in
-    elim (cases_lt x.1 (length b.code)) [
-      | inl lt ↦ inl (Follows pc x.0 x.1 s e lt)
-      | inr le ↦ let same : x.1 ≡ length b.code = omega (arith, fits.within) in inr same
-    ]
 
 start_passes : (b : Body) (z : ℤ) → passes (is_start b.code) z ≡ true → IsPc b (natural z)
 start_passes b (pos n) e = let t : IsTrue (is_start b.code n) = search (rules, e) in inl ((starts_are_all b.code n).0 t)

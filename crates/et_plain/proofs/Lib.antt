@@ -1,7 +1,6 @@
 mod Answering
 mod Keeping
 mod Going
-mod Preserving
 mod Shapes
 mod Sounding
 mod Naming

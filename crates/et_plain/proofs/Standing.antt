@@ -1,12 +1,8 @@
 -- What a plain instruction leaves, at the place at which the thread stands.
-use Rattle.std.proofs.Common.{◌≡◌, ℕ, ◌<◌, ◌^◌, true, Some, None, Result, Ok, Err, refl, sym, ◌∙◌, ap, subst, inl, inr, arith}
+use Rattle.std.proofs.Common.{◌≡◌, ℕ, ◌<◌, ◌^◌, true, Some, None, refl, sym, ◌∙◌, ap, subst}
 use Rattle.et_code.specs.Bodies.{Body}
-use Rattle.et_code.specs.Decoding.{instruction_at}
 use Rattle.et_code.specs.Kept.{IsKept}
 use Rattle.et_code.specs.Starts.{IsStart}
-use Rattle.et_code.specs.declared.instr.Instr.{Instr}
-use Rattle.et_code.specs.declared.instr.CodeFault.{CodeFault}
-use Rattle.et_code.specs.declared.instr.CodeFault.TheVariants as fault
 use Rattle.et_code.proofs.Keeping.{kept_code}
 use Rattle.et_program.specs.Entries.{Linked}
 use Rattle.et_frames.specs.declared.stage.Turn.TheVariants.{Instruction}
@@ -20,25 +16,18 @@ use Rattle.et_event.specs.Sound.{IsPc, IsSoundFor}
 use Rattle.et_ops.specs.Rows.{is_plain}
 use Rattle.et_place.specs.declared.places.Place.{Place}
 use Rattle.et_place.specs.Places.{Runs, IsPlace, site_at}
-use Rattle.et_plain.specs.Programs.{MakesSound}
+use Rattle.et_sound.specs.Outcomes.{KeepsSound}
+use Rattle.et_sound.specs.Programs.{MakesSound}
+use Rattle.et_sound.proofs.Frames.{starts_there, behind_pc}
 use Rattle.et_plain.proofs.Answering.{moment}
-use Rattle.et_place.proofs.Constants.{at_end}
-use Rattle.et_plain.proofs.Going.{behind_pc, may_go}
+use Rattle.et_plain.proofs.Going.{may_go}
 use Rattle.et_place.proofs.Placing.{body_runs}
 use Rattle.et_place.proofs.Running.{has_frame_there, runs_there}
-use Rattle.et_plain.proofs.Sounding.{Begins, KeepsSound, does_sound}
-
-not_decoded : (x : Instr × ℕ) (f : CodeFault) (r : Result (Instr × ℕ) CodeFault) → r ≡ Ok x → r ≡ Err f → ⊥
-not_decoded x f r a b = cc
+use Rattle.et_plain.proofs.Sounding.{Begins, does_sound}
 
 -- an instruction stands there
 starts_here : (p : Linked) (f : FrameState) (place : Place) → Runs p f → IsPlace p f place → IsStart (code_of p f).code f.pc
-starts_here p f place r is =
-    let there : IsPc (code_of p f) f.pc = subst (λ (b : Body). IsPc b f.pc) (sym (body_runs p f r)) r.runs.pc in
-    elim there [
-      | inl s ↦ s
-      | inr e ↦ absurd (not_decoded (place.instr, place.next) fault.Short (instruction_at (code_of p f).code f.pc) is.decoded (at_end (code_of p f).code f.pc (omega arith)))
-    ]
+starts_here p f place r is = starts_there (code_of p f) f.pc (place.instr, place.next) (subst (λ (b : Body). IsPc b f.pc) (sym (body_runs p f r)) r.runs.pc) is.decoded
 
 no_method : (p : Linked) (f : FrameState) → Runs p f → f.method ≡ None → ⊥
 no_method p f r e = let named = r.named in cc

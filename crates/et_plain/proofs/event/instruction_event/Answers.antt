@@ -5,7 +5,7 @@ use Rattle.et_event.specs.Moments.{ill_typed}
 use Rattle.et_event.specs.declared.rows.Row.{Row}
 use Rattle.et_place.specs.Places.{is_frame, site_at}
 use Rattle.et_plain.proofs.Answering.{moment, ill_typed_answers, plain_here, not_none, answered}
-use Rattle.et_plain.proofs.Sounding.{answers_sound}
+use Rattle.et_sound.proofs.Outcomes.{answers_sound}
 use Rattle.et_plain.proofs.Naming.{does_named, answers_named}
 use Rattle.et_plain.proofs.Ticking.{does_tick, answers_tick}
 use Rattle.et_place.proofs.Running.{has_frame_there}
