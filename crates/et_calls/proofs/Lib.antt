@@ -1,0 +1,12 @@
+mod Walking
+mod Returning
+mod Values
+mod Coming
+mod Sizes
+mod Leaving
+mod Passing
+mod Fitting
+mod Planning
+mod Entered
+mod Calling
+mod Built

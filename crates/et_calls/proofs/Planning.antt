@@ -1,0 +1,116 @@
+-- The receiver of a call, and what is selected.
+use Rattle.std.proofs.Common.{◌≡◌, ℕ, ◌<◌, Bool, true, false, List, [], ◌∷◌, length, get_or, Option, Some, None, refl, ◌∙◌, ap}
+use Rattle.std.specs.Prelude.{if◌then◌else◌}
+use Rattle.et_base.specs.declared.value.Value.{Value}
+use Rattle.et_base.specs.declared.value.Value.TheVariants.{Unset, Ref}
+use Rattle.et_graph.proofs.Lists.{Contains-here}
+use Rattle.et_heap.specs.Objects.{ObjectState, IsHeld, at, found, is_there, object_at}
+use Rattle.et_machine.specs.State.{Kept, MachineState, kept_of}
+use Rattle.et_machine.specs.Sound.{IsSound}
+use Rattle.et_machine.specs.Words.{HasFrame, top}
+use Rattle.et_machine.proofs.Places.{top_root}
+use Rattle.et_program.specs.Entries.{Linked, is_static}
+use Rattle.et_program.specs.Resolution.{resolve_class, resolve_method, select, select_special}
+use Rattle.et_event.specs.declared.errors.GuestError.TheVariants.{IncompatibleClassChangeError, NullPointerException}
+use Rattle.et_event.specs.declared.rows.CallKind.TheVariants.{Virtual, Special, Interface}
+use Rattle.et_event.specs.Calls.{arguments_of, call_fits, dispatched, enters_method, entry_count, invoke, is_as, is_of_owner, is_static_call, special_class, with_method, with_type}
+use Rattle.et_event.specs.declared.rows.CallKind.{CallKind}
+use Rattle.et_calls.specs.Arguments.{fitting}
+use Rattle.et_pool.specs.Descriptors.{MethodType, method_type}
+use Rattle.et_state.specs.Outcome.{Outcome}
+use Rattle.et_event.specs.Checks.{ill_typed_unless, not_null, resolved, selected, throws_unless}
+use Rattle.et_event.specs.Frames.{first_reference}
+use Rattle.et_event.specs.Moments.{Moment, begins, class_of, ill_typed, throws}
+use Rattle.et_event.specs.Sites.{Member, Site, member_of, names_interface}
+use Rattle.et_event.specs.Sound.{IsSoundFor}
+use Rattle.et_parts.specs.Tops.{IsIn}
+
+abbrev pub reference_in : Value → Option ℕ
+reference_in (Ref o) = Some o
+reference_in v = None
+
+pub first_is : (vs : List Value) → first_reference vs ≡ reference_in (get_or vs 0 Unset)
+first_is [] = refl
+first_is (Ref o ∷ vs) = refl
+first_is (v ∷ vs) = refl
+
+pub reference_held : (m : MachineState) (t o : ℕ) → IsSound (kept_of m) → HasFrame m.guest t → IsIn (top m.guest t) (Ref o) → IsHeld m.heap o
+reference_held m t o sound has there = sound.roots o (top_root m.guest t o has (there o (Contains-here o [])))
+
+there_is : (x : Option ObjectState) → is_there x → x ≡ Some (found x)
+there_is None h = absurd h
+there_is (Some x) h = refl
+
+pub class_within : (p : Linked) (m : MachineState) (o : ℕ) → IsSoundFor p (kept_of m) → IsHeld m.heap o → (object_at m.heap o).class < length p.classes
+class_within p m o sound held = (sound.objects o (found (at m.heap o)) (there_is (at m.heap o) held)).0.class
+
+-- WHAT THE TABLE SAYS OF A RECEIVER
+
+pub virtual_null : (e : Moment) (at : Site) (args : List Value) (named m : ℕ) → first_reference args ≡ None → dispatched e at Virtual args named m ≡ throws e NullPointerException (begins e)
+virtual_null e at args named m h =
+    ap (λ (r : Option ℕ). not_null e (begins e) r (λ o. ill_typed_unless e (is_of_owner e (begins e) m o) (selected e (begins e) (select e.program (class_of (begins e) o) m false) (enters_method e at (begins e) args)))) h
+
+pub virtual_refused : (e : Moment) (at : Site) (args : List Value) (named m o : ℕ) → first_reference args ≡ Some o → is_of_owner e (begins e) m o ≡ false → dispatched e at Virtual args named m ≡ ill_typed e
+virtual_refused e at args named m o h b =
+    ap (λ (r : Option ℕ). not_null e (begins e) r (λ o. ill_typed_unless e (is_of_owner e (begins e) m o) (selected e (begins e) (select e.program (class_of (begins e) o) m false) (enters_method e at (begins e) args)))) h
+    ∙ ap (λ (x : Bool). ill_typed_unless e x (selected e (begins e) (select e.program (class_of (begins e) o) m false) (enters_method e at (begins e) args))) b
+
+pub virtual_selected : (e : Moment) (at : Site) (args : List Value) (named m o : ℕ) → first_reference args ≡ Some o → is_of_owner e (begins e) m o ≡ true
+    → dispatched e at Virtual args named m ≡ selected e (begins e) (select e.program (class_of (begins e) o) m false) (enters_method e at (begins e) args)
+virtual_selected e at args named m o h b =
+    ap (λ (r : Option ℕ). not_null e (begins e) r (λ o. ill_typed_unless e (is_of_owner e (begins e) m o) (selected e (begins e) (select e.program (class_of (begins e) o) m false) (enters_method e at (begins e) args)))) h
+    ∙ ap (λ (x : Bool). ill_typed_unless e x (selected e (begins e) (select e.program (class_of (begins e) o) m false) (enters_method e at (begins e) args))) b
+
+pub interface_null : (e : Moment) (at : Site) (args : List Value) (named m : ℕ) → first_reference args ≡ None → dispatched e at Interface args named m ≡ throws e NullPointerException (begins e)
+interface_null e at args named m h =
+    ap (λ (r : Option ℕ). not_null e (begins e) r (λ o. selected e (begins e) (select e.program (class_of (begins e) o) m true) (enters_method e at (begins e) args))) h
+
+pub interface_selected : (e : Moment) (at : Site) (args : List Value) (named m o : ℕ) → first_reference args ≡ Some o
+    → dispatched e at Interface args named m ≡ selected e (begins e) (select e.program (class_of (begins e) o) m true) (enters_method e at (begins e) args)
+interface_selected e at args named m o h =
+    ap (λ (r : Option ℕ). not_null e (begins e) r (λ o. selected e (begins e) (select e.program (class_of (begins e) o) m true) (enters_method e at (begins e) args))) h
+
+pub special_null : (e : Moment) (at : Site) (args : List Value) (named m : ℕ) → first_reference args ≡ None → dispatched e at Special args named m ≡ throws e NullPointerException (begins e)
+special_null e at args named m h =
+    ap (λ (r : Option ℕ). not_null e (begins e) r (λ o. ill_typed_unless e (is_of_owner e (begins e) m o) (selected e (begins e) (select_special e.program at.class (special_class e.program named) m) (enters_method e at (begins e) args)))) h
+
+pub special_refused : (e : Moment) (at : Site) (args : List Value) (named m o : ℕ) → first_reference args ≡ Some o → is_of_owner e (begins e) m o ≡ false → dispatched e at Special args named m ≡ ill_typed e
+special_refused e at args named m o h b =
+    ap (λ (r : Option ℕ). not_null e (begins e) r (λ o. ill_typed_unless e (is_of_owner e (begins e) m o) (selected e (begins e) (select_special e.program at.class (special_class e.program named) m) (enters_method e at (begins e) args)))) h
+    ∙ ap (λ (x : Bool). ill_typed_unless e x (selected e (begins e) (select_special e.program at.class (special_class e.program named) m) (enters_method e at (begins e) args))) b
+
+pub special_selected : (e : Moment) (at : Site) (args : List Value) (named m o : ℕ) → first_reference args ≡ Some o → is_of_owner e (begins e) m o ≡ true
+    → dispatched e at Special args named m ≡ selected e (begins e) (select_special e.program at.class (special_class e.program named) m) (enters_method e at (begins e) args)
+special_selected e at args named m o h b =
+    ap (λ (r : Option ℕ). not_null e (begins e) r (λ o. ill_typed_unless e (is_of_owner e (begins e) m o) (selected e (begins e) (select_special e.program at.class (special_class e.program named) m) (enters_method e at (begins e) args)))) h
+    ∙ ap (λ (x : Bool). ill_typed_unless e x (selected e (begins e) (select_special e.program at.class (special_class e.program named) m) (enters_method e at (begins e) args))) b
+
+-- THE CHECKS BEFORE THE RECEIVER
+
+abbrev pub checks : Moment → Site → CallKind → ℕ → ℕ → ℕ → Outcome Kept
+checks e at kind count owner method =
+    throws_unless e (begins e) IncompatibleClassChangeError (is_as (is_static_call kind) (is_static e.program method)) (dispatched e at kind (arguments_of e count) owner method)
+
+abbrev pub resolves : Moment → Member → Bool → (ℕ → ℕ → Outcome Kept) → Outcome Kept
+resolves e m by_interface go =
+    resolved e (begins e) (resolve_class e.program m.owner) (λ owner. resolved e (begins e) (resolve_method e.program owner by_interface m.name m.descriptor) (go owner))
+
+-- by how many entries are passed, if the call may be done
+abbrev pub fitted : Moment → Site → CallKind → Member → Option ℕ → Outcome Kept
+fitted e at kind m None = ill_typed e
+fitted e at kind m (Some count) = resolves e m (names_interface at) (checks e at kind count)
+
+by_fit : (e : Moment) (at : Site) (kind : CallKind) (m : Member) (type : MethodType) (b : Bool)
+    → ill_typed_unless e b (resolves e m (names_interface at) (checks e at kind (entry_count (is_static_call kind) type))) ≡ fitted e at kind m (if b then Some (entry_count (is_static_call kind) type) else None)
+by_fit e at kind m type true = refl
+by_fit e at kind m type false = refl
+
+by_type : (e : Moment) (at : Site) (kind : CallKind) (m : Member) (o : Option MethodType)
+    → with_type e o (λ type. ill_typed_unless e (call_fits e (is_static_call kind) type) (resolves e m (names_interface at) (checks e at kind (entry_count (is_static_call kind) type)))) ≡ fitted e at kind m (fitting e (is_static_call kind) o)
+by_type e at kind m None = refl
+by_type e at kind m (Some type) = by_fit e at kind m type (call_fits e (is_static_call kind) type)
+
+pub invoke_is : (e : Moment) (at : Site) (kind : CallKind) (m : Member) → member_of at ≡ Some m → invoke e at kind ≡ fitted e at kind m (fitting e (is_static_call kind) (method_type m.descriptor))
+invoke_is e at kind m h =
+    ap (λ (o : Option Member). with_method e o (λ n type. ill_typed_unless e (call_fits e (is_static_call kind) type) (resolves e n (names_interface at) (checks e at kind (entry_count (is_static_call kind) type))))) h
+    ∙ by_type e at kind m (method_type m.descriptor)

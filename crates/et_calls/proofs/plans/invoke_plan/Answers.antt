@@ -1,0 +1,49 @@
+use Rattle.std.proofs.Common.{◌≡◌, ℕ, Bool, Some, None, refl, sym, ◌∙◌, ap}
+use Rattle.std.specs.Prelude.{Result}
+use Rattle.et_pool.specs.Descriptors.{method_type}
+use Rattle.et_place.specs.Places.{site_at}
+use Rattle.et_place.specs.Members.{shown_member}
+use Rattle.et_event.specs.declared.errors.GuestError.{GuestError}
+use Rattle.et_event.specs.Calls.{is_static_call}
+use Rattle.et_calls.specs.Arguments.{fitting}
+use Rattle.et_calls.specs.Plans.{resolving}
+use Rattle.et_calls.proofs.Coming.{moment}
+use Rattle.et_calls.proofs.Planning.{checks, fitted, invoke_is, resolves}
+use Rattle.et_calls.proofs.plans.invoke_plan.Goals as goal
+
+pub returns-in_default-fitting_call-clause-plan : goal.returns-in_default-fitting_call-clause-plan
+returns-in_default-fitting_call-clause-plan g c =
+    let e = moment c.args.program.now c.args.thread c.args.machine.now in
+    let at = site_at c.args.place.now in
+    let member = shown_member c.in-Some.member in
+    let none : fitting e (is_static_call c.args.kind) (method_type member.descriptor) ≡ None =
+    ap (λ (b : Bool). fitting e b (method_type member.descriptor)) (sym c.is_static_call.ensures) ∙ sym (c.in_default-fitting_call.ensures.value c.args.program.now) in
+    invoke_is e at c.args.kind member (sym c.in-Some.ensures) ∙ ap (fitted e at c.args.kind member) none
+
+pub returns-in-Ok-clause-plan : goal.returns-in-Ok-clause-plan
+returns-in-Ok-clause-plan g c =
+    let e = moment c.args.program.now c.args.thread c.args.machine.now in
+    let at = site_at c.args.place.now in
+    let member = shown_member c.in-Some.member in
+    let count = c.in-Some-fitting_call.count in
+    let some : fitting e (is_static_call c.args.kind) (method_type member.descriptor) ≡ Some count =
+    ap (λ (b : Bool). fitting e b (method_type member.descriptor)) (sym c.is_static_call.ensures) ∙ sym (c.in-Some-fitting_call.ensures.value c.args.program.now) in
+    invoke_is e at c.args.kind member (sym c.in-Some.ensures)
+    ∙ (ap (fitted e at c.args.kind member) some
+    ∙ (ap (λ (b : Bool). resolves e member b (checks e at c.args.kind count)) (sym c.names_interface.ensures)
+    ∙ (c.resolve.ensures.value e (checks e at c.args.kind count) refl
+    ∙ (ap (λ (r : Result (ℕ × ℕ) GuestError). resolving e r (checks e at c.args.kind count)) c.in-Ok.is ∙ c.resolved_plan.ensures.plan at refl))))
+
+pub returns-in-Err-clause-plan : goal.returns-in-Err-clause-plan
+returns-in-Err-clause-plan g c =
+    let e = moment c.args.program.now c.args.thread c.args.machine.now in
+    let at = site_at c.args.place.now in
+    let member = shown_member c.in-Some.member in
+    let count = c.in-Some-fitting_call.count in
+    let some : fitting e (is_static_call c.args.kind) (method_type member.descriptor) ≡ Some count =
+    ap (λ (b : Bool). fitting e b (method_type member.descriptor)) (sym c.is_static_call.ensures) ∙ sym (c.in-Some-fitting_call.ensures.value c.args.program.now) in
+    invoke_is e at c.args.kind member (sym c.in-Some.ensures)
+    ∙ (ap (fitted e at c.args.kind member) some
+    ∙ (ap (λ (b : Bool). resolves e member b (checks e at c.args.kind count)) (sym c.names_interface.ensures)
+    ∙ (c.resolve.ensures.value e (checks e at c.args.kind count) refl
+    ∙ ap (λ (r : Result (ℕ × ℕ) GuestError). resolving e r (checks e at c.args.kind count)) c.in-Err.is)))

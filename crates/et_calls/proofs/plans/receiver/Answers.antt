@@ -1,0 +1,16 @@
+use Rattle.std.proofs.Common.{sym, ◌∙◌, ap, subst}
+use Rattle.et_base.specs.declared.value.Value.{Value}
+use Rattle.et_machine.specs.Words.{top}
+use Rattle.et_parts.specs.Tops.{IsIn}
+use Rattle.et_calls.specs.Arguments.{arguments_in}
+use Rattle.et_calls.proofs.Planning.{first_is, reference_in, reference_held}
+use Rattle.et_calls.proofs.plans.receiver.Goals as goal
+
+pub returns-in-Ref-clause-value : goal.returns-in-Ref-clause-value
+returns-in-Ref-clause-value c =
+    sym (first_is (arguments_in (top c.args.machine.now.guest c.args.thread) c.args.count) ∙ ap reference_in (sym c.argument_at.ensures.value ∙ c.in-Ref.is))
+
+pub returns-in-Ref-clause-held : goal.returns-in-Ref-clause-held
+returns-in-Ref-clause-held c =
+    reference_held c.args.machine.now c.args.thread c.in-Ref.o c.requires.sound c.requires.frame
+    (subst (λ (v : Value). IsIn (top c.args.machine.now.guest c.args.thread) v) c.in-Ref.is c.argument_at.ensures.there)

@@ -1,0 +1,98 @@
+//! The code of frames, and where they go on.
+ghost use Rattle.std.specs.Prelude.{◌≡◌, ◌+◌, ◌<◌, ◌≤◌, ◌^◌, ◌++◌, [], length};
+ghost use Rattle.et_code.specs.Decoding.{instruction_at};
+ghost use Rattle.et_machine.specs.Words.{HasFrame, top, steps_top};
+ghost use Rattle.et_program.specs.Entries.{method_at};
+ghost use Rattle.et_event.specs.Frames.{behind as behind_of, behind_or};
+ghost use Rattle.et_event.specs.Sites.{body_of, method_of as method_in};
+ghost use Rattle.et_place.specs.Places.{Runs};
+
+use et_base::{MethodId, ThreadId, Value};
+use et_code::{Code, decode};
+use et_machine::Machine;
+use et_parts::give;
+use et_program::{MethodInfo, Program};
+
+/// The method that a thread runs.
+pub(crate) fn method_of<'a>(
+    program: &'a Program,
+    machine: &Machine,
+    thread: ThreadId,
+) -> &'a MethodInfo
+    requires frame { HasFrame machine.now.guest thread }
+    requires runs { Runs program.now (top machine.now.guest thread) }
+    ensures method { result.now ≡ method_in program.now (top machine.now.guest thread) }
+    ensures class { result.now.class < length program.now.classes }
+{
+    let method = machine.frame_method(thread).unwrap_or(MethodId::new(0));
+    program.method(method)
+}
+
+/// The bytes of code, of which there are fewer than 65,536 (JVMS 4.7.3).
+fn bytes_of(code: &Code) -> &[u8]
+    ensures bytes { result.now ≡ code.now.code }
+    ensures few { length result.now < 2 ^ 16 }
+{
+    et_code::laws::kept_code();
+    code.raw().code.as_slice()
+}
+
+/// The code of a method; there is none where it is abstract, native or built in.
+fn code_of(program: &Program, method: MethodId) -> &[u8]
+    ensures bytes { result.now ≡ (body_of (method_at program.now method).code).code }
+    ensures few { length result.now < 2 ^ 16 }
+{
+    if method.number() >= program.method_count() {
+        return b"";
+    }
+    match &program.method(method).code {
+        Some(code) => bytes_of(code),
+        None => b"",
+    }
+}
+
+/// The pc behind the instruction at a pc; where there is none, that pc.
+#[tactic(auto, using(et_place::proofs::Constants::at_end))]
+fn behind_at(code: &[u8], pc: u32) -> u32
+    requires { length code.now < 2 ^ 16 }
+    ensures { result ≡ behind_or pc (instruction_at code.now pc) }
+{
+    if pc as usize >= code.len() {
+        return pc;
+    }
+    match decode(code, pc as usize) {
+        Ok((_instr, next)) => next as u32,
+        Err(_) => pc,
+    }
+}
+
+/// The pc behind the instruction at which the frame stands.
+fn behind(program: &Program, machine: &Machine, thread: ThreadId) -> u32
+    requires { HasFrame machine.now.guest thread }
+    ensures { result ≡ behind_of program.now (top machine.now.guest thread) }
+{
+    let method = machine.frame_method(thread).unwrap_or(MethodId::new(0));
+    behind_at(code_of(program, method), machine.pc(thread))
+}
+
+/// The frame gets what a call returns, and goes on behind it.
+#[tactic(auto, using(crate::proofs::Returning::resumed_once))]
+pub(crate) fn resume(machine: &mut Machine, program: &Program, thread: ThreadId, values: &[Value])
+    requires frame { HasFrame machine.old.guest thread }
+    requires room { length values.now + length (top machine.old.guest thread).operands ≤ (top machine.old.guest thread).room }
+    ensures { machine.new ≡ steps_top machine.old thread (record (top machine.old.guest thread) { pc = behind_of program.now (top machine.old.guest thread); operands = values.now ++ (top machine.old.guest thread).operands }) [] }
+{
+    let next = behind(program, machine, thread);
+    give(machine, thread, values);
+    machine.set_pc(thread, next);
+}
+
+/// A frame has no more operands than it has room for, and that is for fewer than 65,536.
+pub(crate) fn operands_are_few(machine: &Machine, thread: ThreadId)
+    requires { HasFrame machine.now.guest thread }
+    ensures few { length (top machine.now.guest thread).operands < 2 ^ 16 }
+    ensures fits { length (top machine.now.guest thread).operands ≤ (top machine.now.guest thread).room }
+{
+    let _room = machine.room(thread);
+    let _depth = machine.depth(thread);
+}

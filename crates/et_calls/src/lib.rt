@@ -1,0 +1,16 @@
+//! Calls of methods, and returns from them (JVMS 2.6, 2.11.8).
+#![tactic(auto)]
+
+mod arguments;
+mod builtins;
+mod entering;
+mod frames;
+mod plans;
+mod returned;
+mod returns;
+mod rows;
+mod types;
+
+pub use entering::enter_event;
+pub use plans::{CallPlan, invoke_plan};
+pub use rows::call_row_event;

@@ -1,0 +1,347 @@
+//! What an invoke comes to (JVMS 6.5, the invokes; 5.4.3), found out without a change.
+ghost use Rattle.std.specs.Prelude.{◌≡◌, ℕ, ◌+◌, ◌<◌, ◌≤◌, ◌^◌, IfOk, IfSome, codes, length};
+ghost use Rattle.et_heap.specs.Objects.{IsHeld};
+ghost use Rattle.et_machine.specs.Sound.{IsSound};
+ghost use Rattle.et_machine.specs.Words.{HasFrame, top};
+ghost use Rattle.et_event.specs.declared.rows.CallKind.TheVariants as kinds;
+ghost use Rattle.et_machine.specs.State.{Kept, kept_of};
+ghost use Rattle.et_place.specs.Places.{site_at};
+ghost use Rattle.et_program.specs.Entries.{is_static, method_at};
+ghost use Rattle.et_program.specs.Resolution.{resolve_class, resolve_method};
+ghost use Rattle.et_state.specs.Outcome.{Outcome};
+ghost use Rattle.et_event.specs.declared.errors.GuestError.TheVariants as errors;
+ghost use Rattle.et_event.specs.Calls.{arguments_of, dispatched, enters_method, invoke, is_as, is_static_call as calls_static, special_class as class_of_special};
+ghost use Rattle.et_event.specs.Checks.{resolved, selected as selected_in, throws_unless};
+ghost use Rattle.et_event.specs.Errors.{class_called};
+ghost use Rattle.et_event.specs.Frames.{first_reference};
+ghost use Rattle.et_event.specs.Moments.{Moment, begins, frame_of};
+ghost use Rattle.et_event.specs.Sites.{Site, natural};
+ghost use Rattle.et_event.specs.Initialization.{state_of};
+ghost use Rattle.et_event.specs.Sound.{IsSoundFor};
+ghost use Rattle.et_calls.specs.Arguments.{arguments_in};
+ghost use Rattle.et_calls.specs.Plans.{planned, IsPlan, resolving};
+
+use crate::arguments::{argument_at, fitting_call};
+use et_base::{ClassId, MethodId, ObjectId, Steps, ThreadId, Value};
+use et_class::flags::{STATIC, has};
+use et_event::{CallKind, GuestError};
+use et_machine::{ClassState, Machine};
+use et_place::{MemberAt, Place, member_at, names_interface};
+use et_program::{Element, LinkError, Program};
+use std::sync::ledger::Ledger;
+
+/// What an invoke comes to.
+#[derive(Clone, Copy, Debug, PartialEq, Eq)]
+pub enum CallPlan {
+    /// It has no meaning.
+    IllTyped,
+    /// An error is thrown.
+    Throws(GuestError),
+    /// Another thread initializes the class of the static method, and the thread waits.
+    Waits,
+    /// The class of the static method is untouched, and is initialized first.
+    Initializes { method: MethodId, count: u32 },
+    /// The selected method is entered, or done where it is built in, with so many entries as arguments.
+    Enters { method: MethodId, count: u32 },
+}
+
+/// The object on which a method is called: the first argument.
+#[tactic(auto, using(crate::proofs::Planning::first_is, crate::proofs::Planning::reference_held))]
+pub(crate) fn receiver(machine: &Machine, thread: ThreadId, count: u32) -> Option<ObjectId>
+    requires frame { HasFrame machine.now.guest thread }
+    requires operands { count ≤ length (top machine.now.guest thread).operands }
+    requires sound { IsSound (kept_of machine.now) }
+    ensures value { result ≡ first_reference (arguments_in (top machine.now.guest thread) count) }
+    ensures held { IfSome result (λ o. IsHeld machine.now.heap o) }
+{
+    match argument_at(machine, thread, count, 0) {
+        Value::Ref(o) => Some(o),
+        _ => None,
+    }
+}
+
+/// The selected method is entered, or the error of the selection is thrown.
+fn selected(answer: Result<MethodId, LinkError>, count: u32) -> CallPlan
+    ensures within { (e : Moment) → IfOk answer (λ m. m < length e.program.methods) → count ≤ length (frame_of e).operands → IsPlan e result }
+    ensures plan { (e : Moment) (at : Site) → selected_in e (begins e) answer (enters_method e at (begins e) (arguments_of e count)) ≡ planned e at result }
+{
+    match answer {
+        Ok(method) => CallPlan::Enters { method, count },
+        Err(error) => CallPlan::Throws(GuestError::of(error)),
+    }
+}
+
+/// The plan of `invokevirtual` of a resolved method. It visits one object at most, as each plan.
+#[tactic(auto, using(crate::proofs::Planning::class_within))]
+fn virtual_plan<L: Ledger>(
+    program: &Program,
+    machine: &Machine,
+    thread: ThreadId,
+    method: MethodId,
+    count: u32,
+    visits: &mut Steps<L>,
+) -> CallPlan
+    requires frame { HasFrame machine.now.guest thread }
+    requires sound { IsSoundFor program.now (kept_of machine.now) }
+    requires operands { count ≤ length (top machine.now.guest thread).operands }
+    requires method { method < length program.now.methods }
+    ensures plan { (at : Site) (named : ℕ) → dispatched (record { program = program.now; before = kept_of machine.now; thread = thread }) at kinds.Virtual (arguments_of (record { program = program.now; before = kept_of machine.now; thread = thread }) count) named method ≡ planned (record { program = program.now; before = kept_of machine.now; thread = thread }) at result }
+    ensures within { IsPlan (record { program = program.now; before = kept_of machine.now; thread = thread }) result }
+    ensures visits { visits.new ≤ visits.old + 1 }
+{
+    let Some(receiver) = receiver(machine, thread, count) else {
+        return CallPlan::Throws(GuestError::NullPointerException);
+    };
+    let class = machine.heap.class_of(receiver, visits);
+    if !program.is_subclass(class, program.method(method).class) {
+        return CallPlan::IllTyped;
+    }
+    selected(program.select(class, method, false), count)
+}
+
+/// The plan of `invokeinterface` of a resolved method.
+#[tactic(auto, using(crate::proofs::Planning::class_within))]
+fn interface_plan<L: Ledger>(
+    program: &Program,
+    machine: &Machine,
+    thread: ThreadId,
+    method: MethodId,
+    count: u32,
+    visits: &mut Steps<L>,
+) -> CallPlan
+    requires frame { HasFrame machine.now.guest thread }
+    requires sound { IsSoundFor program.now (kept_of machine.now) }
+    requires operands { count ≤ length (top machine.now.guest thread).operands }
+    requires method { method < length program.now.methods }
+    ensures plan { (at : Site) (named : ℕ) → dispatched (record { program = program.now; before = kept_of machine.now; thread = thread }) at kinds.Interface (arguments_of (record { program = program.now; before = kept_of machine.now; thread = thread }) count) named method ≡ planned (record { program = program.now; before = kept_of machine.now; thread = thread }) at result }
+    ensures within { IsPlan (record { program = program.now; before = kept_of machine.now; thread = thread }) result }
+    ensures visits { visits.new ≤ visits.old + 1 }
+{
+    let Some(receiver) = receiver(machine, thread, count) else {
+        return CallPlan::Throws(GuestError::NullPointerException);
+    };
+    let class = machine.heap.class_of(receiver, visits);
+    selected(program.select(class, method, true), count)
+}
+
+/// The class `java/lang/Object`.
+fn object_class(program: &Program) -> ClassId
+    requires { 0 < length program.now.classes }
+    ensures value { result ≡ class_called program.now (codes "java/lang/Object") }
+    ensures within { result < length program.now.classes }
+{
+    match program.resolve_class(b"java/lang/Object") {
+        Ok(class) => class,
+        Err(_) => ClassId::new(0),
+    }
+}
+
+/// The class from which `invokespecial` selects: the one that it names, or Object for an array class.
+fn special_class(program: &Program, named: ClassId) -> ClassId
+    requires { named < length program.now.classes }
+    ensures value { result ≡ class_of_special program.now named }
+    ensures within { result < length program.now.classes }
+{
+    match program.class(named).element {
+        Element::NoArray => named,
+        Element::Base(_) | Element::Class(_) => object_class(program),
+    }
+}
+
+/// The plan of `invokespecial` in a method of the current class, of a method that was resolved in a named one.
+#[tactic(auto, using(crate::proofs::Planning::class_within))]
+fn special_plan<L: Ledger>(
+    program: &Program,
+    machine: &Machine,
+    thread: ThreadId,
+    current: ClassId,
+    named: ClassId,
+    method: MethodId,
+    count: u32,
+    visits: &mut Steps<L>,
+) -> CallPlan
+    requires frame { HasFrame machine.now.guest thread }
+    requires sound { IsSoundFor program.now (kept_of machine.now) }
+    requires operands { count ≤ length (top machine.now.guest thread).operands }
+    requires current { current < length program.now.classes }
+    requires named { named < length program.now.classes }
+    requires method { method < length program.now.methods }
+    ensures plan { (at : Site) → at.class ≡ current → dispatched (record { program = program.now; before = kept_of machine.now; thread = thread }) at kinds.Special (arguments_of (record { program = program.now; before = kept_of machine.now; thread = thread }) count) named method ≡ planned (record { program = program.now; before = kept_of machine.now; thread = thread }) at result }
+    ensures within { IsPlan (record { program = program.now; before = kept_of machine.now; thread = thread }) result }
+    ensures visits { visits.new ≤ visits.old + 1 }
+{
+    let Some(receiver) = receiver(machine, thread, count) else {
+        return CallPlan::Throws(GuestError::NullPointerException);
+    };
+    let class = machine.heap.class_of(receiver, visits);
+    if !program.is_subclass(class, program.method(method).class) {
+        return CallPlan::IllTyped;
+    }
+    selected(
+        program.select_special(current, special_class(program, named), method),
+        count,
+    )
+}
+
+/// The plan of `invokestatic` of a resolved method, by how far its class is with its initialization (JVMS 5.5).
+fn static_plan(
+    program: &Program,
+    machine: &Machine,
+    thread: ThreadId,
+    method: MethodId,
+    count: u32,
+) -> CallPlan
+    requires sound { IsSoundFor program.now (kept_of machine.now) }
+    requires operands { count ≤ length (top machine.now.guest thread).operands }
+    requires method { method < length program.now.methods }
+    ensures plan { (at : Site) (named : ℕ) → dispatched (record { program = program.now; before = kept_of machine.now; thread = thread }) at kinds.Static (arguments_of (record { program = program.now; before = kept_of machine.now; thread = thread }) count) named method ≡ planned (record { program = program.now; before = kept_of machine.now; thread = thread }) at result }
+    ensures within { IsPlan (record { program = program.now; before = kept_of machine.now; thread = thread }) result }
+{
+    let class = program.method(method).class;
+    state_plan(machine.class_state(class), thread, method, count)
+}
+
+/// The plan of `invokestatic` where the class of the method is in this state.
+fn state_plan(state: ClassState, thread: ThreadId, method: MethodId, count: u32) -> CallPlan
+    ensures plan { (e : Moment) (at : Site) (class named : ℕ) → e.thread ≡ thread → (method_at e.program method).class ≡ class → state_of (begins e) class ≡ state → dispatched e at kinds.Static (arguments_of e count) named method ≡ planned e at result }
+    ensures within { (e : Moment) → method < length e.program.methods → count ≤ length (frame_of e).operands → state_of (begins e) (method_at e.program method).class ≡ state → IsPlan e result }
+{
+    match state {
+        ClassState::Done => CallPlan::Enters { method, count },
+        ClassState::Begun(owner) => if owner == thread {
+            CallPlan::Enters { method, count }
+        } else {
+            CallPlan::Waits
+        },
+        ClassState::Failed => CallPlan::Throws(GuestError::NoClassDefFoundError),
+        ClassState::Untouched => CallPlan::Initializes { method, count },
+    }
+}
+
+/// The plan of an invoke of a kind in a method of the current class, of a method that was resolved in a named one.
+fn dispatch_plan<L: Ledger>(
+    program: &Program,
+    machine: &Machine,
+    thread: ThreadId,
+    current: ClassId,
+    kind: CallKind,
+    named: ClassId,
+    method: MethodId,
+    count: u32,
+    visits: &mut Steps<L>,
+) -> CallPlan
+    requires frame { HasFrame machine.now.guest thread }
+    requires sound { IsSoundFor program.now (kept_of machine.now) }
+    requires operands { count ≤ length (top machine.now.guest thread).operands }
+    requires current { current < length program.now.classes }
+    requires named { named < length program.now.classes }
+    requires method { method < length program.now.methods }
+    ensures plan { (at : Site) → at.class ≡ current → dispatched (record { program = program.now; before = kept_of machine.now; thread = thread }) at kind (arguments_of (record { program = program.now; before = kept_of machine.now; thread = thread }) count) named method ≡ planned (record { program = program.now; before = kept_of machine.now; thread = thread }) at result }
+    ensures within { IsPlan (record { program = program.now; before = kept_of machine.now; thread = thread }) result }
+    ensures visits { visits.new ≤ visits.old + 1 }
+{
+    match kind {
+        CallKind::Virtual => virtual_plan(program, machine, thread, method, count, visits),
+        CallKind::Special => special_plan(
+            program, machine, thread, current, named, method, count, visits,
+        ),
+        CallKind::Static => static_plan(program, machine, thread, method, count),
+        CallKind::Interface => interface_plan(program, machine, thread, method, count, visits),
+    }
+}
+
+/// Whether an invoke calls static methods.
+fn is_static_call(kind: CallKind) -> bool
+    ensures { result ≡ calls_static kind }
+{
+    matches!(kind, CallKind::Static)
+}
+
+/// The plan of an invoke of a resolved method, which is static or not as the invoke wants it.
+fn resolved_plan<L: Ledger>(
+    program: &Program,
+    machine: &Machine,
+    thread: ThreadId,
+    current: ClassId,
+    kind: CallKind,
+    named: ClassId,
+    method: MethodId,
+    count: u32,
+    visits: &mut Steps<L>,
+) -> CallPlan
+    requires frame { HasFrame machine.now.guest thread }
+    requires sound { IsSoundFor program.now (kept_of machine.now) }
+    requires operands { count ≤ length (top machine.now.guest thread).operands }
+    requires current { current < length program.now.classes }
+    requires named { named < length program.now.classes }
+    requires method { method < length program.now.methods }
+    ensures plan { (at : Site) → at.class ≡ current → throws_unless (record { program = program.now; before = kept_of machine.now; thread = thread }) (begins (record { program = program.now; before = kept_of machine.now; thread = thread })) errors.IncompatibleClassChangeError (is_as (calls_static kind) (is_static program.now method)) (dispatched (record { program = program.now; before = kept_of machine.now; thread = thread }) at kind (arguments_of (record { program = program.now; before = kept_of machine.now; thread = thread }) count) named method) ≡ planned (record { program = program.now; before = kept_of machine.now; thread = thread }) at result }
+    ensures within { IsPlan (record { program = program.now; before = kept_of machine.now; thread = thread }) result }
+    ensures visits { visits.new ≤ visits.old + 1 }
+{
+    let is_static = has(program.method(method).flags, STATIC);
+    if is_static != is_static_call(kind) {
+        return CallPlan::Throws(GuestError::IncompatibleClassChangeError);
+    }
+    dispatch_plan(
+        program, machine, thread, current, kind, named, method, count, visits,
+    )
+}
+
+/// The class and the method that an invoke names (JVMS 5.4.3.3, 5.4.3.4), or the error that is thrown.
+fn resolve(
+    program: &Program,
+    member: &MemberAt<'_>,
+    by_interface: bool,
+) -> Result<(ClassId, MethodId), GuestError>
+    ensures value { (e : Moment) (go : ℕ → ℕ → Outcome Kept) → e.program ≡ program.now → resolved e (begins e) (resolve_class e.program member.now.owner.now) (λ owner. resolved e (begins e) (resolve_method e.program owner by_interface member.now.name.now member.now.descriptor.now) (go owner)) ≡ resolving e result go }
+    ensures within { IfOk result (λ x. (x.0 < length program.now.classes) × (x.1 < length program.now.methods)) }
+{
+    let owner = match program.resolve_class(member.owner) {
+        Ok(owner) => owner,
+        Err(error) => return Err(GuestError::of(error)),
+    };
+    match program.resolve_method(owner, by_interface, member.name, member.descriptor) {
+        Ok(method) => Ok((owner, method)),
+        Err(error) => Err(GuestError::of(error)),
+    }
+}
+
+/// What an invoke comes to at a place. It visits one object at most.
+pub fn invoke_plan<L: Ledger>(
+    program: &Program,
+    machine: &Machine,
+    thread: ThreadId,
+    place: &Place<'_>,
+    kind: CallKind,
+    visits: &mut Steps<L>,
+) -> CallPlan
+    requires frame { HasFrame machine.now.guest thread }
+    requires sound { IsSoundFor program.now (kept_of machine.now) }
+    requires class { place.now.class < length program.now.classes }
+    requires index { natural place.now.instr.first < 2 ^ 16 }
+    ensures plan { invoke (record { program = program.now; before = kept_of machine.now; thread = thread }) (site_at place.now) kind ≡ planned (record { program = program.now; before = kept_of machine.now; thread = thread }) (site_at place.now) result }
+    ensures within { IsPlan (record { program = program.now; before = kept_of machine.now; thread = thread }) result }
+    ensures visits { visits.new ≤ visits.old + 1 }
+{
+    let Some(member) = member_at(place) else {
+        return CallPlan::IllTyped;
+    };
+    let Some(count) = fitting_call(machine, thread, is_static_call(kind), member.descriptor) else {
+        return CallPlan::IllTyped;
+    };
+    match resolve(program, &member, names_interface(place)) {
+        Ok(found) => resolved_plan(
+            program,
+            machine,
+            thread,
+            place.class,
+            kind,
+            found.0,
+            found.1,
+            count,
+            visits,
+        ),
+        Err(error) => CallPlan::Throws(error),
+    }
+}
