@@ -4,7 +4,7 @@ use Rattle.std.specs.Prelude.{pos}
 use Rattle.et_base.specs.declared.value.Value.{Value}
 use Rattle.et_base.specs.declared.value.Value.TheVariants.{Int, Ref}
 use Rattle.et_program.specs.Entries.{class_at, field_at}
-use Rattle.et_program.specs.Members.{is_subclass}
+use Rattle.et_program.specs.Members.{is_subclass, base_array}
 use Rattle.et_program.specs.Types.{passes}
 use Rattle.et_heap.specs.Objects.{object_at, slot_of}
 use Rattle.et_machine.specs.State.{Kept}
@@ -134,7 +134,10 @@ stores_index e at kind v i more = with_reference (ill_typed e) more (stores e at
 abbrev pub stores_value : Moment → Site → Elements → Value → List Value → Outcome Kept
 stores_value e at kind v most = with_int (ill_typed e) most (stores_index e at kind v)
 
--- ANEWARRAY
+-- NEWARRAY, ANEWARRAY
+
+abbrev pub makes_base : Moment → Site → ℤ → List Value → Outcome Kept
+makes_base e at n below = new_array_of e at (unwrap_or (base_array e.program (natural at.instr.first)) 0) n below
 
 abbrev pub makes : Moment → Site → ℤ → List Value → ℕ → Outcome Kept
 makes e at n below class = new_array_of e at (unwrap_or (class_at e.program class).array 0) n below

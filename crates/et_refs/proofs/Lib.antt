@@ -5,3 +5,4 @@ pub mod Ending
 pub mod Reading
 pub mod Chains
 pub mod May
+pub mod Bases

@@ -8,7 +8,7 @@ use Rattle.et_event.specs.declared.rows.HeapRow.{HeapRow}
 use Rattle.et_event.specs.declared.rows.HeapRow.TheVariants as row
 use Rattle.et_event.specs.Answered.{EventAnswers}
 
--- the rows that are done: those that initialize no class, but for newarray and multianewarray
+-- the rows that are done: those that initialize no class, but for multianewarray
 abbrev pub is_done : HeapRow → Bool
 is_done row.GetStatic = false
 is_done row.PutStatic = false
@@ -17,7 +17,7 @@ is_done row.PutField = true
 is_done (row.LoadElement kind) = true
 is_done (row.StoreElement kind) = true
 is_done row.New = false
-is_done row.NewArray = false
+is_done row.NewArray = true
 is_done row.NewReferenceArray = true
 is_done row.NewMultiArray = false
 is_done row.ArrayLength = true

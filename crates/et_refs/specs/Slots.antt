@@ -1,5 +1,5 @@
 -- A slot that an instruction reads or writes.
-use Rattle.std.specs.Prelude.{◌≡◌, ℕ, ◌<◌, true, false, List, length, Option, Some}
+use Rattle.std.specs.Prelude.{◌≡◌, ℕ, ◌<◌, ◌^◌, true, false, List, length, Option, Some}
 use Rattle.et_class.specs.Names.{has}
 use Rattle.et_class.specs.declared.flags.TheConstants.{STATIC}
 use Rattle.et_program.specs.Entries.{Linked, class_at, field_at}
@@ -29,12 +29,12 @@ abbrev pub entries : Option Operand → ℕ
 entries (Some operand.Long) = 2
 entries other = 1
 
--- the class of elements is one of the first n
+-- elements are of a base type by its code, which has 8 bits, or of one of the first n classes
 abbrev pub IsElementWithin : ℕ → Element → Type 0
 IsElementWithin n element.NoArray = Unit {0}
-IsElementWithin n (element.Base kind) = Unit {0}
+IsElementWithin n (element.Base kind) = kind < 2 ^ 8
 IsElementWithin n (element.Class class) = class < n
 
--- the classes of the elements of arrays are classes of the program
+-- .. in each class of the program
 abbrev pub AreElementsWithin : Linked → Type 0
 AreElementsWithin p = (c : ℕ) → c < length p.classes → IsElementWithin (length p.classes) (class_at p c).info.element

@@ -1,15 +1,17 @@
-//! Arrays that are made (JVMS 6.5, anewarray).
+//! Arrays that are made (JVMS 6.5, newarray, anewarray).
 ghost use Rattle.std.specs.Prelude.{◌≡◌, ℕ, ◌+◌, ◌<◌, ◌≤◌, ◌^◌, drop, length, unwrap_or, IfOk};
 ghost use Rattle.et_machine.specs.State.{Kept, kept_of};
 ghost use Rattle.et_machine.specs.Words.{HasFrame, top};
 ghost use Rattle.et_program.specs.Entries.{class_at};
-ghost use Rattle.et_event.specs.Heap.{new_array_of, new_reference_array as reference_array};
+ghost use Rattle.et_event.specs.Heap.{new_array_of, new_array as base_type_array, new_reference_array as reference_array};
 ghost use Rattle.et_event.specs.Moments.{Moment, frame_of};
 ghost use Rattle.et_event.specs.Sites.{Site, natural as natural_of};
 ghost use Rattle.et_event.specs.Sound.{IsSoundFor};
 ghost use Rattle.et_place.specs.Places.{site_at};
 ghost use Rattle.et_refs.specs.Changes.{MayMake, added};
+ghost use Rattle.et_program.specs.Members.{base_array};
 ghost use Rattle.et_refs.specs.Refusals.{moment, decided};
+ghost use Rattle.et_refs.specs.Slots.{AreElementsWithin};
 
 use crate::casts::class_named;
 use crate::changes::NewArray;
@@ -40,6 +42,44 @@ fn array_over(program: &Program, class: ClassId) -> ClassId
     ensures { result ≡ unwrap_or (class_at program.now class).array 0 }
 {
     program.array_over(class).unwrap_or(ClassId::new(0))
+}
+
+/// The class of the arrays over a base type, by its code, where the program has one.
+fn base_array_of(program: &Program, kind: u32) -> Option<ClassId>
+    requires { AreElementsWithin program.now }
+    ensures { result ≡ base_array program.now kind }
+{
+    if kind < 256 {
+        program.base_array(kind as u8)
+    } else {
+        None
+    }
+}
+
+/// .. and the program has one for each base type over which an instruction makes arrays.
+fn array_of_base(program: &Program, kind: u32) -> ClassId
+    requires { AreElementsWithin program.now }
+    ensures { result ≡ unwrap_or (base_array program.now kind) 0 }
+{
+    base_array_of(program, kind).unwrap_or(ClassId::new(0))
+}
+
+/// The array that `newarray` makes.
+pub(crate) fn new_array(
+    machine: &Machine,
+    program: &Program,
+    thread: ThreadId,
+    place: &Place<'_>,
+) -> Result<NewArray, Refusal>
+    requires frame { HasFrame machine.now.guest thread }
+    requires elements { AreElementsWithin program.now }
+    ensures is { base_type_array (moment program.now machine.now thread) (site_at place.now) ≡ decided (moment program.now machine.now thread) result (added (moment program.now machine.now thread) (site_at place.now)) }
+    ensures may { IfOk result (λ x. MayMake (top machine.now.guest thread)) }
+{
+    operands_fit(machine, thread);
+    let elements = take_int(machine, thread, 0)?;
+    let array = array_of_base(program, natural(place.instr.first));
+    sized(array, elements)
 }
 
 /// The array that `anewarray` makes.

@@ -16,7 +16,7 @@ ghost use Rattle.et_refs.specs.Refusals.{moment, decided};
 ghost use Rattle.et_refs.specs.Rows.{HeapAnswers, is_done};
 ghost use Rattle.et_refs.specs.Slots.{AreElementsWithin};
 
-use crate::arrays::new_reference_array;
+use crate::arrays::{new_array, new_reference_array};
 use crate::casts::{check_cast, instance_of};
 use crate::changes::{Change, Exchange, NewArray, Store, carry_out};
 use crate::elements::{read_element, read_length, write_element};
@@ -111,6 +111,10 @@ fn change_of<L: Ledger>(
             let answer = instance_of(machine, program, thread, place, visits);
             Some(put(answer))
         }
+        HeapRow::NewArray => {
+            let answer = new_array(machine, program, thread, place);
+            Some(make(answer))
+        }
         HeapRow::NewReferenceArray => {
             let answer = new_reference_array(machine, program, thread, place);
             Some(make(answer))
@@ -118,7 +122,6 @@ fn change_of<L: Ledger>(
         HeapRow::GetStatic
         | HeapRow::PutStatic
         | HeapRow::New
-        | HeapRow::NewArray
         | HeapRow::NewMultiArray => None,
     }
 }
