@@ -1,16 +1,12 @@
 -- An event in which a class begins.
-use Rattle.std.proofs.Common.{◌≡◌, ℕ, zero, suc, ◌+◌, ◌-◌, ◌<◌, ◌≤◌, ◌^◌, true, false, Bool, List, [], ◌∷◌, ◌++◌, length, Some, refl, sym, ◌∙◌, ap, subst, arith, inl, inr, Contains, append-nil, lit<}
-use Rattle.std.specs.Prelude.{if◌then◌else◌, nat_lt}
+use Rattle.std.proofs.Common.{◌≡◌, ℕ, zero, suc, ◌+◌, ◌-◌, ◌<◌, ◌≤◌, true, false, Bool, List, [], ◌++◌, length, refl, sym, ◌∙◌, ap, subst, arith, inl, inr, Contains, append-nil, lit<}
 use Rattle.std.proofs.lemmas.Bool.{lt-ltb, le-ltb}
-use Rattle.et_graph.specs.Graph.{IsReached}
 use Rattle.et_graph.proofs.Lists.{Contains-none, Contains-cons}
 use Rattle.et_frames.specs.Threads.{FrameState, ThreadState, entered_by, most_frames, lost_room}
-use Rattle.et_frames.specs.Roots.{frame_roots}
 use Rattle.et_machine.specs.declared.class_state.ClassState.TheVariants.{Untouched, Begun}
 use Rattle.et_machine.specs.State.{Kept, MachineState, kept_of}
-use Rattle.et_machine.specs.Interned.{objects_of}
-use Rattle.et_machine.specs.Words.{thread_at, with_thread, class_state_at, begun, steps_thread}
-use Rattle.et_machine.specs.Roots.{roots_of, graph_of, numbers_from, fresh_of}
+use Rattle.et_machine.specs.Words.{thread_at, class_state_at, begun, steps_thread}
+use Rattle.et_machine.specs.Roots.{roots_of, numbers_from}
 use Rattle.et_machine.specs.Moves.{IsOnWay, Led}
 use Rattle.et_machine.proofs.Calls.{on_enter_frame}
 use Rattle.et_machine.proofs.Places.{string_root}
@@ -22,15 +18,15 @@ use Rattle.et_state.specs.declared.ends.EventEnd.TheVariants as ends
 use Rattle.et_state.specs.Outcome.{Outcome, Goes, ObjectLimit}
 use Rattle.et_event.specs.declared.errors.GuestError.TheVariants.{StackOverflowError}
 use Rattle.et_event.specs.Checks.{throws_unless}
-use Rattle.et_event.specs.Moments.{Moment, Doing, begins, fits, later, ends as ending, throws}
+use Rattle.et_event.specs.Moments.{Moment, Doing, begins, fits, ends as ending, throws}
 use Rattle.et_event.specs.Answered.{EventAnswers}
 use Rattle.et_event.specs.Sound.{IsSoundFor}
 use Rattle.et_event.specs.Initialization.{with_state, constants_set, begun_by, begins_class, initializer_frame}
 use Rattle.et_parts.proofs.Throwing.{ends_fit, ends_full}
 use Rattle.et_initialize.specs.Programs.{IsInOrder}
-use Rattle.et_initialize.specs.Under.{moment, so_far, with_kept, ComesTo, IsReady, HasMadeStrings, class_of_slot}
-use Rattle.et_initialize.proofs.Setting.{begun_untouched, follows_each}
-use Rattle.et_initialize.proofs.Running.{marked, marked_ready, marked_unset}
+use Rattle.et_initialize.specs.Under.{moment, so_far, with_kept, ComesTo, IsReady, HasMadeStrings}
+use Rattle.et_initialize.proofs.Setting.{follows_each}
+use Rattle.et_initialize.proofs.Running.{marked}
 use Rattle.et_initialize.proofs.Legal.{made_none, ready_first, made_constants}
 use Rattle.et_initialize.proofs.Records.{behind, behind_constants}
 

@@ -1,7 +1,7 @@
 -- The strings of constants, counted before they are made.
-use Rattle.std.proofs.Common.{◌≡◌, ℕ, zero, suc, ◌+◌, ◌-◌, ◌*◌, ◌<◌, ◌⊎◌, leb, Bool, true, false, cond, List, [], ◌∷◌, ◌++◌, length, get_or, Option, Some, None, refl, sym, ◌∙◌, ap, subst, arith, inl, inr, replicate, add-one, add-zero, zero-mul, add_assoc}
+use Rattle.std.proofs.Common.{◌≡◌, ℕ, zero, suc, ◌+◌, ◌-◌, ◌*◌, ◌<◌, ◌⊎◌, leb, Bool, true, false, cond, List, [], ◌∷◌, ◌++◌, length, get_or, Option, Some, None, refl, sym, ◌∙◌, ap, subst, arith, inl, inr, add-one, add-zero, zero-mul, add_assoc}
 use Rattle.std.specs.Prelude.{fold, if◌then◌else◌, ◌==◌, ◌||◌, ◌&&◌, is_some, codes, option_map, ℤ, Result, Ok, Err, OnOk}
-use Rattle.std.specs.List.{list_any, sum_by}
+use Rattle.std.specs.List.{list_any}
 use Rattle.std.specs.Option.{option_map_or, option_or}
 use Rattle.std.specs.Int.{w32, w64, cast_signed}
 use Rattle.std.proofs.lemmas.Slice.Eq.{bytes_eq-Decides}
@@ -13,7 +13,7 @@ use Rattle.std.proofs.lemmas.List.Folds.{list_any-append}
 use Rattle.std.proofs.lemmas.List.Sums.{sum_by-append}
 use Rattle.std.proofs.lemmas.Bool.{cases_eq}
 use Rattle.et_pool.specs.Entries.{Item, Text, Word, Wide, Name, Pair, Handle}
-use Rattle.et_pool.specs.Looks.{slot_at, string_at, integer_of_slot, long_of_slot, named_by}
+use Rattle.et_pool.specs.Looks.{slot_at, integer_of_slot, long_of_slot, named_by}
 use Rattle.et_pool.specs.declared.tags.TheConstants.{INTEGER, LONG, STRING}
 use Rattle.et_base.specs.declared.value.Value.{Value}
 use Rattle.et_base.specs.declared.value.Value.TheVariants.{Unset, Int, Long, Ref}
@@ -28,7 +28,7 @@ use Rattle.et_program.specs.declared.info.FieldInfo.{FieldInfo}
 use Rattle.et_event.specs.Errors.{class_called}
 use Rattle.et_event.specs.Kinds.{narrowed}
 use Rattle.et_event.specs.Moments.{Moment, Doing, begins, fits, static_written}
-use Rattle.et_event.specs.Sites.{LoadedConstant, AnInt, ALong, AString, constant_at, pool_of}
+use Rattle.et_event.specs.Sites.{LoadedConstant, AnInt, ALong, AString, pool_of}
 use Rattle.et_event.specs.Strings.{interned, string_object}
 use Rattle.et_event.specs.Initialization.{state_of, with_state, constant_set, field_set, constants_set, class_done}
 use Rattle.et_initialize.specs.Texts.{text_of, has_text, string_slots, has_room_for, is_known, Counted, AreKnown, BecameDone, CountedAll}
@@ -159,8 +159,8 @@ counted_making m seen f bytes e d text c =
     let product : (length seen + 1) * n ≡ length seen * n + n = ap (λ (k : ℕ). k * n) (add-one (length seen)) ∙ suc-mul (length seen) n in
     record {
       known = λ t. pushed_known d.state.guest.interned bytes t (length d.state.heap)
-        ∙ (or_more (is_known d t) (is_some (object_of m.guest.interned t)) (list_any (has_text e.program t) seen) (bytes_eq t bytes) (c.known t)
-        ∙ ap (λ (b : Bool). is_some (object_of m.guest.interned t) || b) (sym (list_any-append (has_text e.program t) seen (f ∷ []) ∙ ap (λ (b : Bool). list_any (has_text e.program t) seen || b) (one_seen e.program t f bytes text))));
+          ∙ (or_more (is_known d t) (is_some (object_of m.guest.interned t)) (list_any (has_text e.program t) seen) (bytes_eq t bytes) (c.known t)
+          ∙ ap (λ (b : Bool). is_some (object_of m.guest.interned t) || b) (sym (list_any-append (has_text e.program t) seen (f ∷ []) ∙ ap (λ (b : Bool). list_any (has_text e.program t) seen || b) (one_seen e.program t f bytes text))));
       objects = omega (arith, long, more, before);
       slots = sum ∙ (ap (λ (k : ℕ). slot_count d.state.heap + k) last ∙ (ap (λ (k : ℕ). k + n) had ∙ (add_assoc (slot_count m.heap) (length seen * n) n ∙ ap (λ (k : ℕ). slot_count m.heap + k) (sym product ∙ ap (λ (k : ℕ). k * n) (sym more)))));
     }
@@ -235,7 +235,7 @@ texts_alike e [] d h = alike_none d
 texts_alike e (f ∷ fs) d h =
     let x = field_set e d f in
     let one : Alike d x = by_text (Alike d x) e.program f (λ none. alike_number e d f none)
-        (λ bytes text. alike_then d (interned e bytes d) x (alike_known e bytes d (h 0 (omega arith) bytes text)) (alike_field e d f bytes text)) in
+    (λ bytes text. alike_then d (interned e bytes d) x (alike_known e bytes d (h 0 (omega arith) bytes text)) (alike_field e d f bytes text)) in
     alike_then d x (fold (field_set e) x fs) one (texts_alike e fs x (λ i lt bytes text. known_field e bytes d f (h (suc i) (omega arith) bytes text)))
 
 -- CLASSES
@@ -265,38 +265,38 @@ marks_after m e c d lt un marks k =
     let stay : class_state_at x.state.guest k ≡ class_state_at y.state.guest k = ap (λ (xs : List ClassState). get_or xs k Untouched) (follows_each e fs y).classes in
     elim (cases_eq k c) [
       | inl is ↦ inr (subst (λ (j : ℕ). BecameDone e.program m x j) (sym is) (record {
-          was = un;
-          is = ap (λ (xs : List ClassState). get_or xs c Untouched) (follows_each e fs y).classes ∙ state_set d c Done lt;
-          texts = texts_set e fs y;
-        }))
+        was = un;
+        is = ap (λ (xs : List ClassState). get_or xs c Untouched) (follows_each e fs y).classes ∙ state_set d c Done lt;
+        texts = texts_set e fs y;
+      }))
       | inr ne ↦
-        let same : class_state_at x.state.guest k ≡ class_state_at d.state.guest k = stay ∙ state_changed d c k Done ne in
-        elim (marks k) [
-          | inl as_far ↦ inl (same ∙ as_far)
-          | inr b ↦ inr (record { was = b.was; is = same ∙ b.is; texts = λ i within bytes text. known_fields e bytes fs y (b.texts i within bytes text) })
-        ]
+          let same : class_state_at x.state.guest k ≡ class_state_at d.state.guest k = stay ∙ state_changed d c k Done ne in
+          elim (marks k) [
+            | inl as_far ↦ inl (same ∙ as_far)
+            | inr b ↦ inr (record { was = b.was; is = same ∙ b.is; texts = λ i within bytes text. known_fields e bytes fs y (b.texts i within bytes text) })
+          ]
     ]
 
 pub counted_class : (m : MachineState) (seen seen' : List ℕ) (e : Moment) (c : ℕ) (d : Doing) → c < length e.program.classes → class_state_at m.guest c ≡ Untouched
     → ((x : Doing) → Counted e.program m seen x → Counted e.program m seen' (constants_set e c x)) → CountedAll e.program m seen d → CountedAll e.program m seen' (done_step e d c)
 counted_class m seen seen' e c d lt un count all = elim (all.marks c) [
   | inl same ↦
-    let y = with_state c Done d in
-    let x = constants_set e c y in
-    let is : done_step e d c ≡ x = ap (λ (s : ClassState). class_done e c s d) (same ∙ un) in
-    subst (λ (z : Doing). CountedAll e.program m seen' z) (sym is) (record {
-      counted = count y (record { known = all.counted.known; objects = all.counted.objects; slots = all.counted.slots });
-      marks = marks_after m e c d (subst (λ (n : ℕ). c < n) (sym all.classes) lt) un all.marks;
-      classes = ap (λ (xs : List ClassState). length xs) (follows_each e (class_at e.program c).info.constants y).classes ∙ (length-set d.state.guest.classes c Done ∙ all.classes);
-    })
+      let y = with_state c Done d in
+      let x = constants_set e c y in
+      let is : done_step e d c ≡ x = ap (λ (s : ClassState). class_done e c s d) (same ∙ un) in
+      subst (λ (z : Doing). CountedAll e.program m seen' z) (sym is) (record {
+        counted = count y (record { known = all.counted.known; objects = all.counted.objects; slots = all.counted.slots });
+        marks = marks_after m e c d (subst (λ (n : ℕ). c < n) (sym all.classes) lt) un all.marks;
+        classes = ap (λ (xs : List ClassState). length xs) (follows_each e (class_at e.program c).info.constants y).classes ∙ (length-set d.state.guest.classes c Done ∙ all.classes);
+      })
   | inr b ↦
-    let is : done_step e d c ≡ d = done_is e c (state_of d c) d (λ u. untouched_done (sym u ∙ b.is)) in
-    let x = constants_set e c d in
-    subst (λ (z : Doing). CountedAll e.program m seen' z) (sym is) (record {
-      counted = counted_alike e.program m seen' x d (alike_back d x (texts_alike e (class_at e.program c).info.constants d b.texts)) (count d all.counted);
-      marks = all.marks;
-      classes = all.classes;
-    })
+      let is : done_step e d c ≡ d = done_is e c (state_of d c) d (λ u. untouched_done (sym u ∙ b.is)) in
+      let x = constants_set e c d in
+      subst (λ (z : Doing). CountedAll e.program m seen' z) (sym is) (record {
+        counted = counted_alike e.program m seen' x d (alike_back d x (texts_alike e (class_at e.program c).info.constants d b.texts)) (count d all.counted);
+        marks = all.marks;
+        classes = all.classes;
+      })
 ]
 
 -- WHETHER ALL FITS

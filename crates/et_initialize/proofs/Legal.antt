@@ -1,5 +1,5 @@
 -- Setting constants keeps an event under way.
-use Rattle.std.proofs.Common.{◌≡◌, ℕ, zero, suc, ◌+◌, ◌<◌, ◌≤◌, ◌⊎◌, List, [], ◌∷◌, ◌++◌, length, get_or, Option, Some, None, All, refl, sym, ◌∙◌, ap, subst, arith, inl, inr, Contains, append-nil}
+use Rattle.std.proofs.Common.{◌≡◌, ℕ, suc, ◌+◌, ◌<◌, ◌≤◌, List, [], ◌∷◌, ◌++◌, length, get_or, Option, Some, None, All, refl, sym, ◌∙◌, ap, subst, arith, inl, inr, Contains, append-nil}
 use Rattle.std.specs.Prelude.{fold}
 use Rattle.std.proofs.lemmas.List.{length_push, map-append}
 use Rattle.std.proofs.lemmas.List.Elements.{Contains-append_left, Contains-append_right}
@@ -18,21 +18,20 @@ use Rattle.et_machine.specs.Words.{static_at, with_static, with_string, class_st
 use Rattle.et_machine.specs.Roots.{roots_of}
 use Rattle.et_machine.specs.Moves.{WasThere, IsUnderWay}
 use Rattle.et_machine.specs.Sound.{IsSound}
-use Rattle.et_machine.proofs.Places.{guest_static, guest_interned, moves_none, refs_of-unset, string_root}
+use Rattle.et_machine.proofs.Places.{guest_static, guest_interned, refs_of-unset, string_root}
 use Rattle.et_machine.proofs.UnderWay.{law_guest, law_make, start}
 use Rattle.et_machine.proofs.Steps.{newest_held}
 use Rattle.et_program.specs.Entries.{Linked, class_at, field_at}
 use Rattle.et_program.specs.declared.info.FieldInfo.{FieldInfo}
-use Rattle.et_event.specs.Errors.{class_called}
 use Rattle.et_event.specs.Kinds.{narrowed}
-use Rattle.et_event.specs.Moments.{Moment, Doing, static_written, with_guest, later}
+use Rattle.et_event.specs.Moments.{Moment, Doing, static_written, later}
 use Rattle.et_event.specs.Sites.{LoadedConstant, AnInt, ALong, AString, constant_at, pool_of}
 use Rattle.et_event.specs.Sound.{IsSoundFor}
 use Rattle.et_event.specs.Strings.{interned, string_object}
 use Rattle.et_event.specs.Initialization.{state_of, with_state, constant_set, field_set, constants_set, class_done, quietly_done}
 use Rattle.et_initialize.specs.Programs.{IsStaticOf, HasConstants, IsInOrder}
-use Rattle.et_initialize.specs.Under.{IsReady, HasMadeStrings, class_of_slot}
-use Rattle.et_initialize.proofs.Strings.{making, by_interned, object_listed}
+use Rattle.et_initialize.specs.Under.{IsReady, HasMadeStrings}
+use Rattle.et_initialize.proofs.Strings.{by_interned, object_listed}
 use Rattle.et_initialize.proofs.Setting.{written_state, follows_field, slot_class, apart_slots, unset_marked, done_step, ready_done, ready_order, threads_order}
 
 nothing_more : (s k : Kept) (lost l : List ℕ) → l ≡ [] → IsUnderWay s k (lost ++ l) → IsUnderWay s k lost

@@ -1,5 +1,5 @@
 -- The prerequisites of a class.
-use Rattle.std.proofs.Common.{◌≡◌, ℕ, zero, suc, ◌+◌, ◌<◌, ◌≤◌, ◌⊎◌, Bool, true, false, cond, List, [], ◌∷◌, ◌++◌, length, get_or, take, drop, All, Option, Some, None, refl, sym, ◌∙◌, ap, subst, arith, inl, inr, Contains}
+use Rattle.std.proofs.Common.{◌≡◌, ℕ, zero, suc, ◌+◌, ◌<◌, ◌⊎◌, Bool, true, false, cond, List, [], ◌∷◌, length, get_or, take, drop, All, Some, None, refl, sym, ◌∙◌, ap, subst, arith, inl, inr, Contains}
 use Rattle.std.specs.Prelude.{fold, ◌==◌, ◌&&◌, if◌then◌else◌, find, take_while, not}
 use Rattle.std.specs.List.{list_all, prefix_len}
 use Rattle.std.proofs.lemmas.Bool.{cases_eq, and_parts}
@@ -15,9 +15,9 @@ use Rattle.et_program.specs.Entries.{Linked, class_at}
 use Rattle.et_state.specs.declared.records.Record.{Record}
 use Rattle.et_state.specs.Outcome.{Outcome}
 use Rattle.et_event.specs.Moments.{Moment, Doing, begins, fits}
-use Rattle.et_event.specs.Initialization.{state_of, with_state, constants_set, class_done, quietly_done, quietly_if_untouched, prepared, is_quiet, is_quiet_state, is_ready, is_ready_state, needed, initialized}
+use Rattle.et_event.specs.Initialization.{state_of, with_state, class_done, quietly_done, quietly_if_untouched, prepared, is_quiet, is_quiet_state, is_ready, is_ready_state, needed, initialized}
 use Rattle.et_initialize.specs.declared.needs.Need.{Need}
-use Rattle.et_initialize.specs.declared.needs.Need.TheVariants.{Ready, Waits, Failed as FailedNeed, Quiet, Begins}
+use Rattle.et_initialize.specs.declared.needs.Need.TheVariants.{Ready, Waits, Quiet, Begins}
 use Rattle.et_initialize.specs.Needs.{need_by, need_of, met}
 use Rattle.et_initialize.specs.Programs.{IsInOrder}
 use Rattle.et_initialize.specs.Texts.{CountedAll}
@@ -149,19 +149,19 @@ passed e (k ∷ ks) d all =
               ]
             ])
         | inr ne ↦
-          let as_was : class_state_at x.state.guest j ≡ class_state_at d.state.guest j = step_other e d k j ne in
-          elim (tail.each j) [
-            | inl stay ↦ inl (stay ∙ as_was)
-            | inr t ↦ inr (sym as_was ∙ t.0, t.1, Contains-there k ks j t.2)
-          ]
+            let as_was : class_state_at x.state.guest j ≡ class_state_at d.state.guest j = step_other e d k j ne in
+            elim (tail.each j) [
+              | inl stay ↦ inl (stay ∙ as_was)
+              | inr t ↦ inr (sym as_was ∙ t.0, t.1, Contains-there k ks j t.2)
+            ]
       ];
       whole = λ j c un. elim (Contains-cons k ks j c) [
         | inl is ↦
-          let un_k : class_state_at d'.state.guest k ≡ Untouched = ap (λ (i : ℕ). class_state_at d'.state.guest i) is ∙ un in
-          elim (tail.each k) [
-            | inl stay ↦ first_set e d k (all 0 0 (omega arith)) (sym stay ∙ un_k)
-            | inr t ↦ done_is_set (sym t.1 ∙ un_k)
-          ]
+            let un_k : class_state_at d'.state.guest k ≡ Untouched = ap (λ (i : ℕ). class_state_at d'.state.guest i) is ∙ un in
+            elim (tail.each k) [
+              | inl stay ↦ first_set e d k (all 0 0 (omega arith)) (sym stay ∙ un_k)
+              | inr t ↦ done_is_set (sym t.1 ∙ un_k)
+            ]
         | inr in_rest ↦ tail.whole j in_rest un
       ];
       classes = tail.classes ∙ same;
@@ -326,9 +326,9 @@ pub counted_pre : (m : MachineState) (seen seen' : List ℕ) (e : Moment) (d₀ 
 counted_pre m seen seen' e d₀ d c has un t count h = elim (t.each c) [
   | inl same ↦ subst (λ (x : Doing). CountedAll e.program m seen' x) (sym (ap (λ (s : ClassState). quietly_if_untouched e c s d) (same ∙ un))) (count d h)
   | inr v ↦
-    let stays : quietly_done e c d ≡ d = all_done e (class_at e.program c).init_order d (λ j m. v.whole j (has.orders v.by c j v.within v.member m)) in
-    let pre : pre_step e d c ≡ d = pre_is e c (state_of d c) d (λ u. done_is_set (sym v.is ∙ u)) in
-    subst (λ (x : Doing). CountedAll e.program m seen' x) (stays ∙ sym pre) (count d h)
+      let stays : quietly_done e c d ≡ d = all_done e (class_at e.program c).init_order d (λ j m. v.whole j (has.orders v.by c j v.within v.member m)) in
+      let pre : pre_step e d c ≡ d = pre_is e c (state_of d c) d (λ u. done_is_set (sym v.is ∙ u)) in
+      subst (λ (x : Doing). CountedAll e.program m seen' x) (stays ∙ sym pre) (count d h)
 ]
 
 -- A LOOP OVER PREREQUISITES

@@ -1,5 +1,5 @@
 -- The calls one after another, each on what the machine has come to.
-use Rattle.std.proofs.Common.{◌≡◌, ℕ, ◌+◌, ◌<◌, Bool, true, List, [], length, get_or, take, All, refl, sym, ◌∙◌, ap, subst}
+use Rattle.std.proofs.Common.{◌≡◌, ℕ, ◌+◌, ◌<◌, true, List, [], length, get_or, take, All, refl, sym, ◌∙◌, ap, subst}
 use Rattle.std.specs.Prelude.{fold}
 use Rattle.std.proofs.lemmas.List.{get_or_default}
 use Rattle.std.proofs.lemmas.List.Elements.{All-take}
@@ -9,7 +9,7 @@ use Rattle.et_machine.specs.declared.class_state.ClassState.{ClassState}
 use Rattle.et_machine.specs.declared.class_state.ClassState.TheVariants.{Untouched, Done}
 use Rattle.et_machine.specs.Words.{static_at, class_state_at, with_class_state, with_guest}
 use Rattle.et_machine.specs.State.{Kept, MachineState, kept_of}
-use Rattle.et_program.specs.Entries.{Linked, class_at, field_at}
+use Rattle.et_program.specs.Entries.{Linked, class_at}
 use Rattle.et_state.specs.declared.records.Record.{Record}
 use Rattle.et_event.specs.Moments.{Moment, Doing, fits}
 use Rattle.et_event.specs.Initialization.{state_of, with_state, field_set, constants_set, class_done, quietly_done}

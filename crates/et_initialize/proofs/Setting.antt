@@ -1,5 +1,5 @@
 -- What setting constants leaves as it was.
-use Rattle.std.proofs.Common.{◌≡◌, ℕ, zero, suc, ◌+◌, ◌-◌, ◌<◌, ◌≤◌, leb, Bool, true, false, List, [], ◌∷◌, ◌++◌, length, set, get_or, take, drop, Option, Some, None, All, refl, sym, ◌∙◌, ap, subst, arith, Contains, append-nil, append_assoc, inl, inr}
+use Rattle.std.proofs.Common.{◌≡◌, ℕ, suc, ◌+◌, ◌-◌, ◌<◌, ◌≤◌, leb, Bool, true, List, [], ◌∷◌, ◌++◌, length, get_or, take, drop, Option, Some, None, All, refl, sym, ◌∙◌, ap, subst, arith, Contains, append-nil, append_assoc, inl, inr}
 use Rattle.std.specs.Prelude.{fold, ◌&&◌, slice_index_or}
 use Rattle.std.specs.List.{sum_by}
 use Rattle.std.proofs.lemmas.List.{length-set, length_push, length-append, get_or-set_same, get_or-set_other, get_or-take, length-take-le, take-append-drop}
@@ -10,8 +10,7 @@ use Rattle.std.proofs.lemmas.List.{map-append}
 use Rattle.et_graph.proofs.Lists.{Contains-none, Contains-cons}
 use Rattle.et_base.specs.declared.value.Value.{Value}
 use Rattle.et_base.specs.declared.value.Value.TheVariants.{Unset, Int, Long, LongHigh, Null, Ref}
-use Rattle.et_heap.specs.Objects.{ObjectState, Objects, new_object, made_count, slot_count, slots_in, most_objects, most_slots}
-use Rattle.et_frames.specs.Threads.{ThreadState}
+use Rattle.et_heap.specs.Objects.{Objects, slots_in, most_objects, most_slots}
 use Rattle.et_machine.specs.declared.class_state.ClassState.{ClassState}
 use Rattle.et_machine.specs.declared.class_state.ClassState.TheVariants.{Untouched, Begun, Done, Failed}
 use Rattle.et_machine.specs.State.{Kept}
@@ -23,7 +22,7 @@ use Rattle.et_event.specs.Kinds.{narrowed}
 use Rattle.et_event.specs.Moments.{Moment, Doing, fits, static_written, with_guest}
 use Rattle.et_event.specs.Sites.{LoadedConstant, AnInt, ALong, AString, constant_at, pool_of}
 use Rattle.et_event.specs.Strings.{interned, string_object}
-use Rattle.et_event.specs.Initialization.{state_of, with_state, constant_set, field_set, constants_set, class_done, quietly_done}
+use Rattle.et_event.specs.Initialization.{state_of, with_state, constant_set, field_set, constants_set, class_done}
 use Rattle.et_initialize.specs.Programs.{IsStaticOf, HasConstants, IsInOrder}
 use Rattle.et_initialize.specs.Under.{IsReady, class_of_slot}
 use Rattle.et_initialize.proofs.Strings.{making, by_interned}
@@ -108,12 +107,12 @@ follows_making W e bytes d = record {
   threads = refl;
   heap = record { rest = _; is = refl };
   strings = λ h o c.
-    let long : length (making e bytes d).state.heap ≡ length d.state.heap + 1 = length_push d.state.heap _ in
-    let last : objects_of (d.state.guest.interned ++ (bytes, length d.state.heap) ∷ []) ≡ objects_of d.state.guest.interned ++ length d.state.heap ∷ [] = map-append (λ p. p.1) d.state.guest.interned ((bytes, length d.state.heap) ∷ []) in
-    elim (Contains-append_cases (objects_of d.state.guest.interned) (length d.state.heap ∷ []) o (subst (λ (os : List ℕ). Contains os o) last c)) [
-      | inl x ↦ let lt = h o x in omega (arith, long)
-      | inr x ↦ elim (Contains-cons (length d.state.heap) [] o x) [ inl is ↦ omega (arith, long) | inr y ↦ absurd (Contains-none o y) ]
-    ];
+      let long : length (making e bytes d).state.heap ≡ length d.state.heap + 1 = length_push d.state.heap _ in
+      let last : objects_of (d.state.guest.interned ++ (bytes, length d.state.heap) ∷ []) ≡ objects_of d.state.guest.interned ++ length d.state.heap ∷ [] = map-append (λ p. p.1) d.state.guest.interned ((bytes, length d.state.heap) ∷ []) in
+      elim (Contains-append_cases (objects_of d.state.guest.interned) (length d.state.heap ∷ []) o (subst (λ (os : List ℕ). Contains os o) last c)) [
+        | inl x ↦ let lt = h o x in omega (arith, long)
+        | inr x ↦ elim (Contains-cons (length d.state.heap) [] o x) [ inl is ↦ omega (arith, long) | inr y ↦ absurd (Contains-none o y) ]
+      ];
 }
 
 follows_interned : (W : ℕ → Type 0) (e : Moment) (bytes : List ℕ) (d : Doing) → Follows W d (interned e bytes d)
@@ -188,10 +187,10 @@ can_set e c d k has lt ready unset =
     record {
       slot = subst (λ (n : ℕ). (field_at e.program (get_or fs k 0)).slot < n) (sym (f.statics ∙ ready.statics)) here.slot;
       unset = f.others (field_at e.program (get_or fs k 0)).slot (λ a.
-        let few = a.within in
-        let early : a.place < k = omega arith in
-        apart_slots e.program c fs a.place k has.fields has.once early lt (a.slot ∙ ap (λ (g : ℕ). (field_at e.program g).slot) (get_or-take k fs a.place 0 early)))
-        ∙ unset (field_at e.program (get_or fs k 0)).slot here.slot (slot_class e.program c (get_or fs k 0) (field_at e.program (get_or fs k 0)).slot here refl);
+          let few = a.within in
+          let early : a.place < k = omega arith in
+          apart_slots e.program c fs a.place k has.fields has.once early lt (a.slot ∙ ap (λ (g : ℕ). (field_at e.program g).slot) (get_or-take k fs a.place 0 early)))
+          ∙ unset (field_at e.program (get_or fs k 0)).slot here.slot (slot_class e.program c (get_or fs k 0) (field_at e.program (get_or fs k 0)).slot here refl);
       made = f.strings ready.strings;
     }
 
@@ -228,7 +227,7 @@ ready_marked p c x d lt apart r =
       classes = length-set d.state.guest.classes c x ∙ r.classes;
       statics = r.statics;
       untouched = λ i small un. r.untouched i small (sym (state_changed d c (class_of_slot p i) x (λ same.
-        apart (sym (ap (λ (k : ℕ). class_state_at (with_state c x d).state.guest k) same ∙ state_set d c x within) ∙ un))) ∙ un);
+          apart (sym (ap (λ (k : ℕ). class_state_at (with_state c x d).state.guest k) same ∙ state_set d c x within) ∙ un))) ∙ un);
       strings = r.strings;
     }
 
@@ -238,8 +237,8 @@ ready_follows p c d d' apart f r = record {
   classes = ap (λ (xs : List ClassState). length xs) f.classes ∙ r.classes;
   statics = f.statics ∙ r.statics;
   untouched = λ i small un.
-    let was : class_state_at d.state.guest (class_of_slot p i) ≡ Untouched = sym (ap (λ (xs : List ClassState). get_or xs (class_of_slot p i) Untouched) f.classes) ∙ un in
-    f.others i (λ same. apart (sym (ap (λ (k : ℕ). class_state_at d.state.guest k) same) ∙ was)) ∙ r.untouched i small was;
+      let was : class_state_at d.state.guest (class_of_slot p i) ≡ Untouched = sym (ap (λ (xs : List ClassState). get_or xs (class_of_slot p i) Untouched) f.classes) ∙ un in
+      f.others i (λ same. apart (sym (ap (λ (k : ℕ). class_state_at d.state.guest k) same) ∙ was)) ∙ r.untouched i small was;
   strings = f.strings r.strings;
 }
 

@@ -1,14 +1,13 @@
 -- The events of an initializer, after its quiet prerequisites are done.
-use Rattle.std.proofs.Common.{◌≡◌, ℕ, ◌+◌, ◌-◌, ◌*◌, ◌<◌, ◌≤◌, leb, Bool, true, false, List, [], ◌∷◌, ◌++◌, length, All, Option, Some, None, refl, sym, ◌∙◌, ap, subst, arith, inl, inr, Contains, append-nil, append_assoc, option_to_list, replicate, get_or, lit<}
+use Rattle.std.proofs.Common.{◌≡◌, ℕ, ◌+◌, ◌-◌, ◌*◌, ◌<◌, ◌≤◌, leb, Bool, true, false, List, [], ◌∷◌, ◌++◌, length, All, Option, Some, None, refl, sym, ◌∙◌, ap, subst, arith, inl, inr, Contains, append-nil, append_assoc, option_to_list, get_or, lit<}
 use Rattle.std.specs.Prelude.{◌&&◌, if◌then◌else◌}
-use Rattle.std.specs.List.{sum_by}
 use Rattle.std.proofs.lemmas.Bool.{cases_eq, and_parts, leb-true, le-leb}
 use Rattle.std.proofs.lemmas.List.{length_push, length-replicate, get_or-set_same, length-set}
 use Rattle.std.proofs.lemmas.List.Sums.{sum_by-append}
 use Rattle.et_graph.proofs.Lists.{Contains-none, Contains-here}
 use Rattle.et_base.specs.declared.value.Value.{Value}
 use Rattle.et_base.specs.declared.value.Value.TheVariants.{Unset}
-use Rattle.et_heap.specs.Objects.{ObjectState, Objects, new_object, has_room, made_count, slot_count, slots_in, most_objects, most_slots}
+use Rattle.et_heap.specs.Objects.{ObjectState, Objects, new_object, has_room, slot_count, slots_in, most_objects, most_slots}
 use Rattle.et_heap.specs.Refs.{refs_of}
 use Rattle.et_frames.specs.declared.stage.Stage.{Stage}
 use Rattle.et_frames.specs.declared.stage.Stage.TheVariants.{Plain, Before, Clinit}
@@ -19,7 +18,7 @@ use Rattle.et_machine.specs.declared.class_state.ClassState.TheVariants.{Untouch
 use Rattle.et_machine.specs.State.{GuestState, Kept, MachineState, kept_of}
 use Rattle.et_machine.specs.Words.{thread_at, with_thread, top, HasFrame, class_state_at, begun, steps_thread, steps_top, with_new_object}
 use Rattle.et_machine.specs.Roots.{roots_of}
-use Rattle.et_machine.specs.Moves.{IsOnWay, WasThere, Led}
+use Rattle.et_machine.specs.Moves.{IsOnWay, Led}
 use Rattle.et_machine.proofs.Calls.{on_set_class_state, on_drop_frame, on_enter_clinit, on_make, on_throw, on_enter_frame}
 use Rattle.et_machine.proofs.Places.{string_root, pending_root}
 use Rattle.et_machine.proofs.Steps.{root_there, newest_held}
@@ -27,11 +26,11 @@ use Rattle.et_program.specs.Entries.{Linked, class_at, method_at}
 use Rattle.et_state.specs.declared.records.Record.{Record}
 use Rattle.et_state.specs.declared.records.Record.TheVariants.{Alloc, Enter}
 use Rattle.et_state.specs.declared.ends.EventEnd.TheVariants as ends
-use Rattle.et_state.specs.Outcome.{Outcome, Goes, ObjectLimit}
+use Rattle.et_state.specs.Outcome.{Outcome}
 use Rattle.et_event.specs.declared.errors.GuestError.{GuestError}
 use Rattle.et_event.specs.declared.errors.GuestError.TheVariants.{StackOverflowError}
 use Rattle.et_event.specs.Errors.{error_class}
-use Rattle.et_event.specs.Moments.{Moment, Doing, frame_of, begins, later, fits, next_object, instance_made, pending_now, entry_given_up, with_thread_state, with_frame, told, ends as ending, throws}
+use Rattle.et_event.specs.Moments.{Moment, Doing, frame_of, begins, fits, next_object, instance_made, pending_now, entry_given_up, with_thread_state, with_frame, told, ends as ending, throws}
 use Rattle.et_event.specs.Answered.{EventAnswers}
 use Rattle.et_event.specs.Sound.{IsSoundFor, AreSoundFrames, IsStaged}
 use Rattle.et_event.specs.Sites.{body_of}
@@ -264,10 +263,10 @@ error_thrown p t error ks m m₂ m₃ m₄ out out₂ out₃ class slots o has a
     let here : Contains (option_to_list (thread_at g t).pending) k = subst (λ (z : ThreadState). Contains (option_to_list z.pending) k) (sym (get_or-set_same n.guest.threads t (with_pending (Some k) (thread_at n.guest t)) no_thread on.thread)) (Contains-here k []) in
     let root : Contains (roots_of g) k = pending_root g t k (subst (λ (i : ℕ). t < i) (sym (length-set n.guest.threads t (with_pending (Some k) (thread_at n.guest t)))) on.thread) here in
     let led : Led s x m₄ = strings_led s x m₄ (subst (λ (z : MachineState). IsOnWay s z) (sym is₄) way₄) (ap (λ (z : MachineState). kept_of z) is₄) (omega (arith, long))
-        (λ q low high. elim (cases_eq q k) [
-          | inl same ↦ subst (λ (i : ℕ). Contains (roots_of g) i) (sym same) root
-          | inr ne ↦ string_root g q (made.made q low (below q k (length n.heap) high long ne))
-        ]) in
+    (λ q low high. elim (cases_eq q k) [
+      | inl same ↦ subst (λ (i : ℕ). Contains (roots_of g) i) (sym same) root
+      | inr ne ↦ string_root g q (made.made q low (below q k (length n.heap) high long ne))
+    ]) in
     let slots_are : slots ≡ (class_at p (error_class p error)).info.slots = size ∙ ap (λ (c : ℕ). (class_at p c).info.slots) name in
     let made_of : Doing = thrown e error d in
     let same_object : new_object class 0 slots ≡ new_object (error_class p error) 0 (class_at p (error_class p error)).info.slots = ap (λ (c : ℕ). new_object c 0 slots) name ∙ ap (λ (i : ℕ). new_object (error_class p error) 0 i) slots_are in

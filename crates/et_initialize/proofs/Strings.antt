@@ -56,6 +56,7 @@ object_pushed [] bytes n h = last (bytes_eq bytes bytes) n (bytes_same bytes)
   where
     bytes_same : (bs : List ℕ) → bytes_eq bs bs ≡ true
     bytes_same bs = search (rules, bytes_eq-Decides)
+
     last : (b : Bool) (k : ℕ) → b ≡ true → cond b (Some k) None ≡ Some k
     last b k e = ap (λ (x : Bool). cond x (Some k) None) e
 object_pushed (e ∷ es) bytes n h = push_step (bytes_eq bytes e.0) e.1 n (object_of es bytes) (object_of (es ++ (bytes, n) ∷ []) bytes) (object_pushed es bytes n) h

@@ -1,5 +1,5 @@
 -- What holds of the constants of a linked program, and of the order in which its classes are initialized.
-use Rattle.std.specs.Prelude.{◌≡◌, ℕ, ◌<◌, List, All, Contains, length, slice_index_or}
+use Rattle.std.specs.Prelude.{◌≡◌, ℕ, ◌<◌, All, Contains, length, slice_index_or}
 use Rattle.et_program.specs.Entries.{Linked, class_at, field_at}
 
 -- the field is one of the class, and stands in its slot among the static fields

@@ -104,7 +104,13 @@ pub fn begin_class_event(
     ensures { IfOk result (λ end. EventAnswers (begins_class (moment program.now machine.old thread) class (begins (moment program.now machine.old thread))) end machine.old machine.new out.old out.new) }
 {
     if machine.frames(thread) >= MOST_FRAMES {
-        return throw_error(machine, program, thread, GuestError::StackOverflowError, out);
+        return throw_error(
+            machine,
+            program,
+            thread,
+            GuestError::StackOverflowError,
+            out,
+        );
     }
     if !constants_fit(program, machine, alloc, class)? {
         return Ok(EventEnd::ObjectLimit);

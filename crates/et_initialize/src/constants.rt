@@ -15,7 +15,6 @@ ghost use Rattle.et_event.specs.Strings.{interned, string_object};
 ghost use Rattle.et_event.specs.Initialization.{constant_set, field_set};
 ghost use Rattle.et_initialize.specs.Under.{moment, so_far, with_kept, ComesTo};
 
-
 use et_base::{ClassId, FieldId, NoMemory, ObjectId, ThreadId, Value, to_byte, to_char, to_short};
 use et_heap::MakeFault;
 use et_machine::Machine;

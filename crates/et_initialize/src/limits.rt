@@ -179,13 +179,7 @@ pub fn quiet_fits(
 {
     let mut seen = Vec::new(alloc);
     count_classes(program, machine, program.init_order(class), &mut seen)?;
-    Ok(has_room_for(
-        machine,
-        seen.len(),
-        string_slots(program),
-        objects,
-        slots,
-    ))
+    Ok(has_room_for(machine, seen.len(), string_slots(program), objects, slots))
 }
 
 /// Whether the strings that the constants of a class make fit. Nothing is changed.
@@ -201,13 +195,7 @@ pub(crate) fn constants_fit(
 {
     let mut seen = Vec::new(alloc);
     count_constants(program, machine, class, &mut seen)?;
-    Ok(has_room_for(
-        machine,
-        seen.len(),
-        string_slots(program),
-        0,
-        0,
-    ))
+    Ok(has_room_for(machine, seen.len(), string_slots(program), 0, 0))
 }
 
 /// Adds the constants that make strings of an untouched quiet class and of what is initialized with it.
@@ -267,13 +255,7 @@ pub(crate) fn prepared_fit(
 {
     let mut seen = Vec::new(alloc);
     count_prepared(program, machine, classes, &mut seen)?;
-    Ok(has_room_for(
-        machine,
-        seen.len(),
-        string_slots(program),
-        objects,
-        slots,
-    ))
+    Ok(has_room_for(machine, seen.len(), string_slots(program), objects, slots))
 }
 
 /// Whether what these classes make, as the quiet ones become done, fits together with the constants of a class. Nothing is
@@ -294,11 +276,5 @@ pub(crate) fn prepared_class_fits(
     let mut seen = Vec::new(alloc);
     count_prepared(program, machine, classes, &mut seen)?;
     count_constants(program, machine, class, &mut seen)?;
-    Ok(has_room_for(
-        machine,
-        seen.len(),
-        string_slots(program),
-        0,
-        0,
-    ))
+    Ok(has_room_for(machine, seen.len(), string_slots(program), 0, 0))
 }

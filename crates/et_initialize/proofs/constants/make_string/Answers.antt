@@ -1,5 +1,4 @@
-use Rattle.std.proofs.Common.{◌≡◌, ℕ, List, None, length, rules, sym, ap, ◌∙◌}
-use Rattle.et_machine.specs.State.{MachineState}
+use Rattle.std.proofs.Common.{◌≡◌, ℕ, List, None, length, rules, ap, ◌∙◌}
 use Rattle.et_machine.specs.Interned.{text_of}
 use Rattle.et_initialize.specs.Under.{moment, so_far}
 use Rattle.et_initialize.proofs.Strings.{no_text, made_string}

@@ -10,5 +10,5 @@ abbrev pub invariant-loop-k : goal.invariant-loop-k
 invariant-loop-k l = record {
   within : All (λ f. f < length l.program.fields) l.seen.items;
   counted : (before : Kept) (thread : ℕ) (d : Doing) → Counted l.program l.machine l.fn.seen.items d
-    → Counted l.program l.machine l.seen.items (fold (field_set (record { program = l.program; before = before; thread = thread })) d (take l.k l.constants));
+      → Counted l.program l.machine l.seen.items (fold (field_set (record { program = l.program; before = before; thread = thread })) d (take l.k l.constants));
 }

@@ -11,5 +11,5 @@ abbrev pub invariant-loop-k : goal.invariant-loop-k
 invariant-loop-k l = record {
   within : All (λ f. f < length l.program.fields) l.seen.items;
   counted : (thread : ℕ) → list_all (is_ready (moment l.program l.machine thread) (begins (moment l.program l.machine thread))) l.classes ≡ true → CountedAll l.program l.machine l.fn.seen.items (begins (moment l.program l.machine thread))
-    → CountedAll l.program l.machine l.seen.items (pre_first (moment l.program l.machine thread) (begins (moment l.program l.machine thread)) l.classes l.k);
+      → CountedAll l.program l.machine l.seen.items (pre_first (moment l.program l.machine thread) (begins (moment l.program l.machine thread)) l.classes l.k);
 }

@@ -1,6 +1,5 @@
-use Rattle.std.proofs.Common.{◌≡◌, ℕ, List, sym, ap, subst, ◌∙◌}
+use Rattle.std.proofs.Common.{ℕ, List, sym, subst, ◌∙◌}
 use Rattle.std.specs.Prelude.{fold}
-use Rattle.et_machine.specs.declared.class_state.ClassState.TheVariants.{Untouched}
 use Rattle.et_event.specs.Moments.{Moment}
 use Rattle.et_initialize.specs.Texts.{CountedAll}
 use Rattle.et_initialize.proofs.Setting.{done_step}
@@ -10,8 +9,8 @@ use Rattle.et_initialize.proofs.limits.count_quiet.Goals as goal
 pub returns-in-Untouched-clause-counted : goal.returns-in-Untouched-clause-counted
 returns-in-Untouched-clause-counted c =
     on_ok c.count_classes.result (λ count un before thread d h.
-      let e : Moment = record { program = c.args.program.now; before = before; thread = thread } in
-      subst (λ (ks : List ℕ). CountedAll c.args.program.now c.args.machine.now c.count_classes.new.seen.items (fold (done_step e) d ks)) c.init_order.ensures.value (count before thread d h)) c.count_classes.ensures.counted
+    let e : Moment = record { program = c.args.program.now; before = before; thread = thread } in
+    subst (λ (ks : List ℕ). CountedAll c.args.program.now c.args.machine.now c.count_classes.new.seen.items (fold (done_step e) d ks)) c.init_order.ensures.value (count before thread d h)) c.count_classes.ensures.counted
 
 pub returns-in-Untouched-clause-other : goal.returns-in-Untouched-clause-other
 returns-in-Untouched-clause-other c =

@@ -1,4 +1,4 @@
-use Rattle.std.proofs.Common.{◌≡◌, ◌<◌, true, List, length, All, sym, ap, subst, ◌∙◌}
+use Rattle.std.proofs.Common.{◌≡◌, ◌<◌, true, List, length, sym, subst}
 use Rattle.std.specs.Prelude.{fold}
 use Rattle.et_frames.specs.Threads.{lost_room}
 use Rattle.et_machine.specs.State.{MachineState}

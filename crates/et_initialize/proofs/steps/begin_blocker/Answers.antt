@@ -1,4 +1,4 @@
-use Rattle.std.proofs.Common.{◌≡◌, ◌<◌, ◌∙◌, List, length, sym, subst}
+use Rattle.std.proofs.Common.{◌<◌, List, length, sym, subst}
 use Rattle.std.specs.Prelude.{slice_index_or}
 use Rattle.et_frames.specs.Threads.{ThreadState, no_thread, most_frames}
 use Rattle.et_machine.specs.declared.class_state.ClassState.TheVariants.{Begun}
