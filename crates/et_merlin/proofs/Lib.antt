@@ -4,3 +4,4 @@ pub mod Turns
 pub mod Joins
 pub mod Marking
 pub mod TurnSteps
+pub mod Counts

@@ -1,3 +1,4 @@
 pub mod Kept
 pub mod Stamping
 pub mod Told
+pub mod Visits

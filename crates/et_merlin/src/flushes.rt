@@ -1,5 +1,5 @@
 //! The flushes of a run.
-ghost use Rattle.std.specs.Prelude.{◌≡◌, ℕ, Bool, true, false, ◌<◌, ◌^◌, ◌++◌, ◌↔◌, List, IsTrue, length, OnOk, slice_index};
+ghost use Rattle.std.specs.Prelude.{◌≡◌, ℕ, Bool, true, false, ◌+◌, ◌<◌, ◌≤◌, ◌^◌, ◌++◌, ◌↔◌, List, IsTrue, length, OnOk, slice_index};
 ghost use Rattle.et_graph.specs.Graph.{IsReached};
 ghost use Rattle.et_graph.specs.Listing.{death_pairs};
 ghost use Rattle.et_state.specs.History.{flush_lines};
@@ -8,6 +8,7 @@ ghost use Rattle.et_run.specs.Run.{due_lines, due_state, last_lines};
 ghost use Rattle.et_stamps.specs.Listed.{AreListed};
 ghost use Rattle.et_merlin.specs.Kept.{Settles};
 ghost use Rattle.et_merlin.specs.Stamping.{HasStamps};
+ghost use Rattle.et_merlin.specs.Visits.{due_visits, last_visits};
 
 use crate::guest::StampedGuest;
 use et_base::{End, NoMemory, Steps, TraceLine};
@@ -52,6 +53,7 @@ fn report<G: StampedGuest, L: Ledger>(
     requires room { G.has_places room.old (G.graph_of (G.state machine.old)).made }
     ensures lines { (deaths : List (ℕ × ℕ)) → AreListed (G.graph_of (G.state machine.old)) (slice_index stamps.now) deaths → OnOk result (buffer.new.items ≡ buffer.old.items ++ text (flush_lines e deaths)) }
     ensures state { (here : ℕ → Bool) → ((o : ℕ) → IsTrue (here o) ↔ IsReached (G.graph_of (G.state machine.old)) o) → OnOk result (G.state machine.new ≡ G.flushed_of here (G.state machine.old)) }
+    ensures visits { (here : ℕ → Bool) → ((o : ℕ) → IsTrue (here o) ↔ IsReached (G.graph_of (G.state machine.old)) o) → OnOk result (visits.new ≤ visits.old + G.flush_visits_of here (G.state machine.old)) }
     ensures graph { OnOk result (Settles true (G.graph_of (G.state machine.old)) (G.graph_of (G.state machine.new))) }
     ensures clock { OnOk result (G.clock_of (G.state machine.new) ≡ G.clock_of (G.state machine.old)) }
     ensures sound { OnOk result (G.is_sound code.now (G.state machine.new)) }
@@ -77,6 +79,7 @@ pub fn settle<G: StampedGuest, L: Ledger>(
     requires room { G.has_places room.old (G.graph_of (G.state machine.old)).made }
     ensures lines { (deaths : List (ℕ × ℕ)) → AreListed (G.graph_of (G.state machine.old)) (slice_index stamps.now) deaths → OnOk result (buffer.new.items ≡ buffer.old.items ++ text (due_lines due (flush_lines e deaths))) }
     ensures state { (here : ℕ → Bool) → ((o : ℕ) → IsTrue (here o) ↔ IsReached (G.graph_of (G.state machine.old)) o) → OnOk result (G.state machine.new ≡ due_state due (G.flushed_of here (G.state machine.old)) (G.state machine.old)) }
+    ensures visits { (here : ℕ → Bool) → ((o : ℕ) → IsTrue (here o) ↔ IsReached (G.graph_of (G.state machine.old)) o) → OnOk result (visits.new ≤ visits.old + due_visits due (G.flush_visits_of here (G.state machine.old))) }
     ensures graph { OnOk result (Settles due (G.graph_of (G.state machine.old)) (G.graph_of (G.state machine.new))) }
     ensures clock { OnOk result (G.clock_of (G.state machine.new) ≡ G.clock_of (G.state machine.old)) }
     ensures sound { OnOk result (G.is_sound code.now (G.state machine.new)) }
@@ -103,7 +106,8 @@ pub fn conclude<G: StampedGuest, L: Ledger>(
     requires sound { G.is_sound code.now (G.state machine.old) }
     requires stamps { HasStamps (G.graph_of (G.state machine.old)) stamps.now }
     requires room { G.has_places room.old (G.graph_of (G.state machine.old)).made }
-    ensures { (deaths : List (ℕ × ℕ)) → (due ≡ false → AreListed (G.graph_of (G.state machine.old)) (slice_index stamps.now) deaths) → OnOk result (buffer.new.items ≡ buffer.old.items ++ text (last_lines due end.now e (flush_lines e deaths))) }
+    ensures visits { (here : ℕ → Bool) → (due ≡ false → (o : ℕ) → IsTrue (here o) ↔ IsReached (G.graph_of (G.state machine.old)) o) → OnOk result (visits.new ≤ visits.old + last_visits due (G.flush_visits_of here (G.state machine.old))) }
+    ensures lines { (deaths : List (ℕ × ℕ)) → (due ≡ false → AreListed (G.graph_of (G.state machine.old)) (slice_index stamps.now) deaths) → OnOk result (buffer.new.items ≡ buffer.old.items ++ text (last_lines due end.now e (flush_lines e deaths))) }
 {
     if !due {
         report(code, e, machine, stamps, room, buffer, visits)?;

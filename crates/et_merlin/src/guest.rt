@@ -1,5 +1,5 @@
 //! What is run.
-ghost use Rattle.std.specs.Prelude.{◌≡◌, ℕ, Bool, ◌<◌, ◌^◌, ◌↔◌, List, All, length, IfOk, OnOk, IsTrue, slice_index};
+ghost use Rattle.std.specs.Prelude.{◌≡◌, ℕ, Bool, ◌+◌, ◌-◌, ◌<◌, ◌≤◌, ◌^◌, ◌↔◌, List, All, length, IfOk, OnOk, IsTrue, slice_index};
 ghost use Rattle.et_graph.specs.Graph.{Graph, IsReached};
 ghost use Rattle.et_graph.specs.Listing.{death_pairs};
 ghost use Rattle.et_state.specs.Outcome.{Outcome};
@@ -42,6 +42,9 @@ pub trait StampedGuest {
 
     /// What a flush leaves, where the test says of each object whether it is reached.
     ghost flushed_of: { (ℕ → Bool) → State → State };
+
+    /// How many visits such a flush makes at most.
+    ghost flush_visits_of: { (ℕ → Bool) → State → ℕ };
 
     /// The number of events so far.
     ghost clock_of: { State → ℕ };
@@ -101,6 +104,7 @@ pub trait StampedGuest {
         ensures deaths { OnOk result (AreListed (graph_of (state self.old)) (slice_index stamps.now) (deaths_of room.new)) }
         ensures room { OnOk result (has_places room.new (graph_of (state self.old)).made) }
         ensures state { (here : ℕ → Bool) → ((o : ℕ) → IsTrue (here o) ↔ IsReached (graph_of (state self.old)) o) → OnOk result (state self.new ≡ flushed_of here (state self.old)) }
+        ensures visits { (here : ℕ → Bool) → ((o : ℕ) → IsTrue (here o) ↔ IsReached (graph_of (state self.old)) o) → OnOk result (visits.new ≤ visits.old + flush_visits_of here (state self.old)) }
         ensures graph { OnOk result (IsCleared (graph_of (state self.old)) (graph_of (state self.new))) }
         ensures clock { OnOk result (clock_of (state self.new) ≡ clock_of (state self.old)) }
         ensures sound { OnOk result (is_sound code.now (state self.new)) };
@@ -118,6 +122,7 @@ pub trait StampedGuest {
         requires sound { is_sound code.now (state self.old) }
         ensures answers { IfOk result (λ end. Answers (event_of code.now (state self.old) thread) end (state self.old) (state self.new) out.old out.new) }
         ensures step { IfOk result (λ end. StepsWhereDone end (graph_of (state self.old)) (graph_of (state self.new)) (lost_of self.new)) }
+        ensures visits { IfOk result (λ end. visits.new ≤ visits.old + 8 + ((graph_of (state self.new)).made - (graph_of (state self.old)).made)) }
         ensures sound { OnOk result (is_sound code.now (state self.new)) }
         ensures clock { IfOk result (λ end. TicksWhereDone end (clock_of (state self.old)) (clock_of (state self.new))) }
         ensures named { OnOk result (All (IsNamed (Self.Code.names code.now)) out.old → All (IsNamed (Self.Code.names code.now)) out.new) };

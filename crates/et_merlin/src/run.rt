@@ -1,5 +1,5 @@
 //! The whole run.
-ghost use Rattle.std.specs.Prelude.{◌≡◌, ℕ, Bool, ◌≤◌, [], All, IfOk, OnErr, IsErrOf};
+ghost use Rattle.std.specs.Prelude.{◌≡◌, ℕ, Bool, ◌+◌, ◌≤◌, [], All, IfOk, OnErr, IsErrOf};
 ghost use Rattle.et_io.specs.Faults.{Rose};
 ghost use Rattle.et_graph.specs.Graph.{Graph, nothing_made, Decides};
 ghost use Rattle.et_state.specs.Naming.{IsNamed};
@@ -7,6 +7,7 @@ ghost use Rattle.et_state.specs.Options.{AreOptions};
 ghost use Rattle.et_run.specs.Options.{setting_of};
 ghost use Rattle.et_run.specs.Traced.{WritesTrace, WritesFront};
 ghost use Rattle.et_merlin.specs.Kept.{IsStepTo};
+ghost use Rattle.et_merlin.specs.Visits.{allowed_visits};
 
 use crate::guest::StampedGuest;
 use crate::tracer::Tracer;
@@ -28,7 +29,8 @@ fn first_room<G: StampedGuest>(alloc: Global, objects: u32) -> Result<G::Room, N
 
 /// Runs a guest from its starting state, whose own records are `made` and whose objects are all reached, and writes the
 /// trace of its history to the sink, event by event: one put after each event that has lines. It keeps a stamp for each
-/// object, and searches nothing but at a flush.
+/// object, and searches nothing but at a flush: the visits are at most those that the flushes of the history make, eight
+/// for each event, and one for each object that an event makes.
 ///
 /// `Write` comes only where the sink's count of faults rose. After `Write` and after `NoMemory` the sink took a front
 /// of the trace, and the machine may only be dropped.
@@ -50,6 +52,8 @@ pub fn run_stamped<G: StampedGuest, O: Sink, L: Ledger>(
         WritesTrace reached (setting_of (G.event_of code.now) G.unended_of G.graph_of G.flushed_of (G.Code.names code.now) options.now) (G.state machine.old) made.now ran (O.taken sink.old) (O.taken sink.new)) }
     ensures front { (reached : Graph → ℕ → Bool) → Decides reached → OnErr result (
         WritesFront reached (setting_of (G.event_of code.now) G.unended_of G.graph_of G.flushed_of (G.Code.names code.now) options.now) (G.state machine.old) made.now (O.taken sink.old) (O.taken sink.new)) }
+    ensures visits { (reached : Graph → ℕ → Bool) → Decides reached → IfOk result (λ ran.
+        visits.new ≤ visits.old + allowed_visits reached (setting_of (G.event_of code.now) G.unended_of G.graph_of G.flushed_of (G.Code.names code.now) options.now) G.flush_visits_of (G.state machine.old) made.now ran.event) }
     ensures write { IsErrOf result RunFault.Write → Rose (O.faults sink.old) (O.faults sink.new) }
     ensures never_falls { O.faults sink.old ≤ O.faults sink.new }
 {

@@ -1,5 +1,5 @@
 //! One turn of the run: a flush comes where it is due, then the next event is done, and what it lost and made is stamped.
-ghost use Rattle.std.specs.Prelude.{◌≡◌, ℕ, Bool, false, ◌+◌, ◌<◌, ◌≤◌, ◌^◌, ◌++◌, ◌∷◌, [], All, length, IfOk, OnOk, IfNone, slice_index};
+ghost use Rattle.std.specs.Prelude.{◌≡◌, ℕ, Bool, false, ◌+◌, ◌-◌, ◌<◌, ◌≤◌, ◌^◌, ◌↔◌, ◌++◌, ◌∷◌, [], All, IsTrue, length, IfOk, OnOk, IfNone, slice_index};
 ghost use Rattle.et_base.specs.declared.line.TraceLine.TheVariants.{Header};
 ghost use Rattle.et_graph.specs.Graph.{Graph, IsMade, IsReached, Decides};
 ghost use Rattle.et_state.specs.Naming.{IsNamed, nothing_mentioned, mentions_after, lines_of};
@@ -10,6 +10,7 @@ ghost use Rattle.et_run.specs.Options.{setting_of};
 ghost use Rattle.et_run.specs.Run.{noted, Goes, Turns};
 ghost use Rattle.et_stamps.specs.Listed.{AreListed};
 ghost use Rattle.et_merlin.specs.Stamping.{HasStamps, Stamped, Passes};
+ghost use Rattle.et_merlin.specs.Visits.{TurnVisits};
 
 use crate::flushes::{conclude, settle};
 use crate::guest::StampedGuest;
@@ -54,6 +55,7 @@ fn step<G: StampedGuest, L: Ledger>(
     requires stamps { HasStamps (G.graph_of (G.state machine.old)) stamps.old }
     requires room { G.has_places room.old (G.graph_of (G.state machine.old)).made }
     ensures goes { IfOk result (λ end. Goes (setting_of (G.event_of code.now) G.unended_of G.graph_of G.flushed_of (G.Code.names code.now) options.now) e (G.state machine.old) numbering.old (G.state machine.new) numbering.new buffer.old.items buffer.new.items end) }
+    ensures visits { IfOk result (λ end. visits.new ≤ visits.old + 8 + ((G.graph_of (G.state machine.new)).made - (G.graph_of (G.state machine.old)).made)) }
     ensures stamped { IfOk result (λ end. Stamped end e (G.graph_of (G.state machine.old)) (G.graph_of (G.state machine.new)) stamps.old stamps.new) }
     ensures stamps { OnOk result (HasStamps (G.graph_of (G.state machine.new)) stamps.new) }
     ensures room { OnOk result (G.has_places room.new (G.graph_of (G.state machine.new)).made) }
@@ -137,6 +139,7 @@ impl Tracer {
         ensures turns { (reached : Graph → ℕ → Bool) → Decides reached → (last : ℕ → ℕ) →
             AreListed (G.graph_of (G.state machine.old)) (slice_index self.old.stamps) (let g = G.graph_of (G.state machine.old) in deaths_to (reached g) (is_gone g) (noted (reached g) last e) g.made) →
             IfOk result (λ end. Turns reached (setting_of (G.event_of code.now) G.unended_of G.graph_of G.flushed_of (G.Code.names code.now) options.now) e (G.state machine.old) last self.old.numbering (G.state machine.new) (noted (reached (G.graph_of (G.state machine.old))) last e) self.new.numbering self.old.buffer.items self.new.buffer.items end) }
+        ensures visits { (here : ℕ → Bool) → ((o : ℕ) → IsTrue (here o) ↔ IsReached (G.graph_of (G.state machine.old)) o) → IfOk result (λ end. TurnVisits end (is_flush_point options.now.interval e) (G.flush_visits_of here (G.state machine.old)) (G.graph_of (G.state machine.old)).made (G.graph_of (G.state machine.new)).made visits.old visits.new) }
         ensures passes { IfOk result (λ end. IfNone end (Passes (is_flush_point options.now.interval e) e (G.graph_of (G.state machine.old)) (G.graph_of (G.state machine.new)) (slice_index self.old.stamps) (slice_index self.new.stamps))) }
         ensures stamps { IfOk result (λ end. IfNone end (HasStamps (G.graph_of (G.state machine.new)) self.new.stamps)) }
         ensures room { IfOk result (λ end. IfNone end (G.has_places room.new (G.graph_of (G.state machine.new)).made)) }

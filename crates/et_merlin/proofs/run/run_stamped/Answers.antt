@@ -7,6 +7,8 @@ use Rattle.et_run.specs.Options.{setting_of}
 use Rattle.et_run.proofs.RunLemmas.{running_start, turn_end, front_start, front_nothing, front_now, front_turn, on_any, noted_before}
 use Rattle.et_merlin.specs.Stamping.{HasStamps, Passes}
 use Rattle.et_merlin.proofs.Turns.{told_first, told_made}
+use Rattle.et_merlin.specs.Visits.{TurnVisits}
+use Rattle.et_merlin.proofs.Counts.{none_so_far, more_so_far, last_allowed, passes_grow}
 use Rattle.et_merlin.proofs.Joins.{graphs, graph_first, running_as, listed_here, next_runs, next_told}
 use Rattle.et_merlin.proofs.run.run_stamped.Goals as goal
 
@@ -45,6 +47,11 @@ events-init g c =
           let given = setting_of (G.event_of c.args.code.now) G.unended_of G.graph_of G.flushed_of (g.G.Code.Program.names c.args.code.now) c.args.options.now in
           let start = G.state c.args.machine.now in
           told_first (graphs reached decides given start c.args.made.now) (G.graph_of start) (λ o. get_or c.in-Ok-begin.tracer.stamps o 0) c.requires.first.0 c.requires.first.1 c.in-Ok-begin.ensures.stamps (graph_first reached decides given start c.args.made.now);
+      visits = λ reached decides.
+          let G = g.G.StampedGuest in
+          let given = setting_of (G.event_of c.args.code.now) G.unended_of G.graph_of G.flushed_of (g.G.Code.Program.names c.args.code.now) c.args.options.now in
+          let start = G.state c.args.machine.now in
+          none_so_far reached given G.flush_visits_of start c.args.made.now c.args.visits.now;
       stamps = record {
         few = omega (arith, made);
         places = omega (arith, made, c.in-Ok-begin.ensures.places);
@@ -123,6 +130,17 @@ events-preserved g c =
           next_told reached decides given start c.args.made.now c.events.e _ _ _ _ runs (λ o. get_or c.events.tracer.stamps o 0) told c.in-Ok-turn.next _ _ _ _ _ c.clear.ensures.items c.in-None.is (c.in-Ok-turn.ensures.turns reached decides last listed) (c.events.e + 1) (g.O.Sink.taken c.put_all-in-events.new.sink) (add-one c.events.e)
           (subst (λ b. g.O.Sink.taken c.put_all-in-events.new.sink ≡ with_more (g.O.Sink.taken c.events.sink) b) c.deref-in-events.ensures.value c.in_ok-put_all-2.ensures.ok)
           due (λ o. get_or c.turn.new.self.stamps o 0) passes;
+      visits = λ reached decides.
+          let G = g.G.StampedGuest in
+          let given = setting_of (G.event_of c.args.code.now) G.unended_of G.graph_of G.flushed_of (g.G.Code.Program.names c.args.code.now) c.args.options.now in
+          let start = G.state c.args.machine.now in
+          let s = S c.events.machine in
+          let due = is_flush_point c.args.options.now.interval c.events.e in
+          let passes : Passes due c.events.e (graph c.events.machine) (graph c.turn.new.machine) (λ o. get_or c.events.tracer.stamps o 0) (λ o. get_or c.turn.new.self.stamps o 0) =
+          subst (λ (end : Option End). IfNone end (Passes due c.events.e (graph c.events.machine) (graph c.turn.new.machine) (λ o. get_or c.events.tracer.stamps o 0) (λ o. get_or c.turn.new.self.stamps o 0))) c.in-None.is c.in-Ok-turn.ensures.passes in
+          let turn = subst (λ (end : Option End). TurnVisits end due (G.flush_visits_of (reached (G.graph_of s)) s) (graph c.events.machine).made (graph c.turn.new.machine).made c.events.visits c.turn.new.visits) c.in-None.is (c.in-Ok-turn.ensures.visits (reached (G.graph_of s)) (decides (G.graph_of s))) in
+          more_so_far reached given G.flush_visits_of start c.args.made.now c.events.e s c.args.visits.now c.events.visits (c.events.invariant.visits reached decides) ((c.events.invariant.runs reached decides).state) (S c.turn.new.machine) c.turn.new.visits
+          (passes_grow due c.events.e (graph c.events.machine) (graph c.turn.new.machine) (λ o. get_or c.events.tracer.stamps o 0) (λ o. get_or c.turn.new.self.stamps o 0) passes) turn (c.events.e + 1) (add-one c.events.e);
       stamps = subst (λ (end : Option End). IfNone end (HasStamps (graph c.turn.new.machine) c.turn.new.self.stamps)) c.in-None.is c.in-Ok-turn.ensures.stamps;
       room = subst (λ (end : Option End). IfNone end (g.G.StampedGuest.has_places c.turn.new.room (graph c.turn.new.machine).made)) c.in-None.is c.in-Ok-turn.ensures.room;
       limit = omega arith;
@@ -130,3 +148,14 @@ events-preserved g c =
       sound = subst (λ (end : Option End). IfNone end (g.G.StampedGuest.is_sound c.args.code.now (S c.turn.new.machine))) c.in-None.is c.in-Ok-turn.ensures.sound;
       faults = omega (arith, before, rose);
     }
+
+-- the visits of the whole run
+pub returns-in-Some-clause-visits : goal.returns-in-Some-clause-visits
+returns-in-Some-clause-visits g c reached decides =
+    let G = g.G.StampedGuest in
+    let given = setting_of (G.event_of c.args.code.now) G.unended_of G.graph_of G.flushed_of (g.G.Code.Program.names c.args.code.now) c.args.options.now in
+    let start = G.state c.args.machine.now in
+    let s = G.state c.events.machine in
+    let due = is_flush_point c.args.options.now.interval c.events.e in
+    let turn = subst (λ (end : Option End). TurnVisits end due (G.flush_visits_of (reached (G.graph_of s)) s) (G.graph_of s).made (G.graph_of (G.state c.turn.new.machine)).made c.events.visits c.turn.new.visits) c.in-Some.is (c.in-Ok-turn.ensures.visits (reached (G.graph_of s)) (decides (G.graph_of s))) in
+    last_allowed reached given G.flush_visits_of start c.args.made.now c.events.e s c.args.visits.now c.events.visits (c.events.invariant.visits reached decides) ((c.events.invariant.runs reached decides).state) c.turn.new.visits turn

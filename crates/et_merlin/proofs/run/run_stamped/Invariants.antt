@@ -4,6 +4,7 @@ use Rattle.et_run.specs.Options.{setting_of}
 use Rattle.et_run.proofs.RunLemmas.{Running, noted_before}
 use Rattle.et_merlin.specs.Stamping.{HasStamps}
 use Rattle.et_merlin.specs.Told.{IsTold}
+use Rattle.et_merlin.proofs.Counts.{AreSoFar}
 use Rattle.et_merlin.proofs.Joins.{graphs}
 use Rattle.et_merlin.proofs.run.run_stamped.Given as goal
 
@@ -14,6 +15,7 @@ invariant-events g l =
     record {
       runs : (reached : Graph → ℕ → Bool) → Decides reached → Running reached given (G.state l.fn.machine) l.made l.e (G.state l.machine) (λ o. noted_before reached given (G.state l.fn.machine) l.made o l.e) l.tracer.numbering (g.O.Sink.taken l.fn.sink) (g.O.Sink.taken l.sink);
       told : (reached : Graph → ℕ → Bool) → (decides : Decides reached) → IsTold (graphs reached decides given (G.state l.fn.machine) l.made) l.e (G.graph_of (G.state l.machine)) (λ o. get_or l.tracer.stamps o 0);
+      visits : (reached : Graph → ℕ → Bool) → Decides reached → AreSoFar reached given G.flush_visits_of (G.state l.fn.machine) l.made l.e (G.state l.machine) l.fn.visits l.visits;
       stamps : HasStamps (G.graph_of (G.state l.machine)) l.tracer.stamps;
       room : G.has_places l.room (G.graph_of (G.state l.machine)).made;
       limit : l.e ≤ l.options.limit;
