@@ -119,10 +119,7 @@ fn change_of<L: Ledger>(
             let answer = new_reference_array(machine, program, thread, place);
             Some(make(answer))
         }
-        HeapRow::GetStatic
-        | HeapRow::PutStatic
-        | HeapRow::New
-        | HeapRow::NewMultiArray => None,
+        HeapRow::GetStatic | HeapRow::PutStatic | HeapRow::New | HeapRow::NewMultiArray => None,
     }
 }
 
