@@ -1,0 +1,172 @@
+//! `monitorenter` and `monitorexit`.
+ghost use Rattle.std.specs.Prelude.{◌≡◌, ◌+◌, ◌<◌, ◌≤◌, ◌^◌, List, Some, IfOk, OnErr, length, drop};
+ghost use Rattle.et_heap.specs.Objects.{IsHeld, object_at, with_monitor, with_object_at};
+ghost use Rattle.et_frames.specs.Threads.{operand_of};
+ghost use Rattle.et_machine.specs.State.{kept_of};
+ghost use Rattle.et_machine.specs.Words.{HasFrame, top, with_top, ticked};
+ghost use Rattle.et_machine.specs.Sound.{IsSound};
+ghost use Rattle.et_machine.specs.Moves.{Led};
+ghost use Rattle.et_state.specs.declared.records.Record.{Record};
+ghost use Rattle.et_event.specs.Answered.{EventAnswers};
+ghost use Rattle.et_event.specs.Monitors.{left_once};
+ghost use Rattle.et_event.specs.Sites.{Site};
+ghost use Rattle.et_event.specs.Sound.{IsSoundFor};
+ghost use Rattle.et_event.specs.Sync.{monitor_event};
+ghost use Rattle.et_event.specs.declared.rows.MonitorRow.TheVariants as rows;
+ghost use Rattle.et_parts.specs.Tops.{reference_of};
+ghost use Rattle.et_sync.specs.Moments.{moment};
+
+use crate::waiting::wait_event;
+use et_base::{NoMemory, ObjectId, Steps, ThreadId};
+use et_event::{GuestError, MonitorRow};
+use et_machine::Machine;
+use et_monitors::{Lock, enter_monitor, leave_monitor, may_enter, owns};
+use et_parts::{ill_typed, reference_at, throw_error};
+use et_program::Program;
+use et_state::{EventEnd, Lines};
+use std::sync::ledger::Ledger;
+
+/// The event in which a thread enters the monitor of the object on top of its operands once more.
+fn enter_object<L: Ledger>(
+    machine: &mut Machine,
+    thread: ThreadId,
+    object: ObjectId,
+    next: u32,
+    visits: &mut Steps<L>,
+)
+    requires frame { HasFrame machine.old.guest thread }
+    requires sound { IsSound (kept_of machine.old) }
+    requires clock { machine.old.guest.clock < 2 ^ 40 }
+    requires operand { 0 < length (top machine.old.guest thread).operands }
+    requires held { IsHeld machine.old.heap object }
+    requires count { (object_at machine.old.heap object).monitor.count ≤ 2 ^ 40 }
+    ensures led { Led (kept_of machine.old) (record { heap = with_object_at machine.old.heap object (with_monitor (record { owner = Some thread; count = (object_at machine.old.heap object).monitor.count + 1 }) (object_at machine.old.heap object)); guest = with_top (ticked machine.old.guest) thread (record (top machine.old.guest thread) { pc = next; operands = drop 1 (top machine.old.guest thread).operands }) }) machine.new }
+    ensures visits { visits.new ≤ visits.old + 2 }
+{
+    machine.begin_event();
+    machine.pop(thread);
+    machine.set_pc(thread, next);
+    enter_monitor(machine, thread, &Lock::OfObject(object), visits);
+}
+
+/// The event in which a thread leaves the monitor of the object on top of its operands once.
+fn exit_object<L: Ledger>(
+    machine: &mut Machine,
+    thread: ThreadId,
+    object: ObjectId,
+    next: u32,
+    visits: &mut Steps<L>,
+)
+    requires frame { HasFrame machine.old.guest thread }
+    requires sound { IsSound (kept_of machine.old) }
+    requires clock { machine.old.guest.clock < 2 ^ 40 }
+    requires operand { 0 < length (top machine.old.guest thread).operands }
+    requires held { IsHeld machine.old.heap object }
+    ensures led { Led (kept_of machine.old) (record { heap = with_object_at machine.old.heap object (with_monitor (left_once (object_at machine.old.heap object).monitor) (object_at machine.old.heap object)); guest = with_top (ticked machine.old.guest) thread (record (top machine.old.guest thread) { pc = next; operands = drop 1 (top machine.old.guest thread).operands }) }) machine.new }
+    ensures visits { visits.new ≤ visits.old + 2 }
+{
+    machine.begin_event();
+    machine.pop(thread);
+    machine.set_pc(thread, next);
+    leave_monitor(machine, &Lock::OfObject(object), visits);
+}
+
+/// `monitorenter` of an object, which waits for another owner.
+#[tactic(auto, using(crate::proofs::Monitored::operand_there_is, crate::proofs::Monitored::object_few, crate::proofs::Monitored::entered_answers, crate::proofs::Monitored::waited_answers))]
+fn monitorenter<L: Ledger>(
+    machine: &mut Machine,
+    program: &Program,
+    thread: ThreadId,
+    object: ObjectId,
+    next: u32,
+    visits: &mut Steps<L>,
+) -> EventEnd
+    requires sound { IsSoundFor program.now (kept_of machine.old) }
+    requires frame { HasFrame machine.old.guest thread }
+    requires clock { machine.old.guest.clock < 2 ^ 40 }
+    requires operand { reference_of (operand_of (top machine.old.guest thread) 0) ≡ Some (Some object) }
+    requires held { IsHeld machine.old.heap object }
+    ensures ok { (at : Site) (out : List Record) → at.next ≡ next → EventAnswers (monitor_event (moment program.now machine.old thread) at rows.Enter) result machine.old machine.new out out }
+    ensures visits { visits.new ≤ visits.old + 3 }
+{
+    if !may_enter(machine, thread, &Lock::OfObject(object), visits) {
+        return wait_event(machine);
+    }
+    enter_object(machine, thread, object, next, visits);
+    EventEnd::Done
+}
+
+/// `monitorexit` of an object: one who doesn't own it throws.
+#[tactic(auto, using(crate::proofs::Monitored::operand_there_is, crate::proofs::Monitored::exited_answers))]
+fn monitorexit<L: Ledger>(
+    machine: &mut Machine,
+    program: &Program,
+    thread: ThreadId,
+    object: ObjectId,
+    next: u32,
+    out: &mut Lines,
+    visits: &mut Steps<L>,
+) -> Result<EventEnd, NoMemory>
+    requires sound { IsSoundFor program.now (kept_of machine.old) }
+    requires frame { HasFrame machine.old.guest thread }
+    requires clock { machine.old.guest.clock < 2 ^ 40 }
+    requires operand { reference_of (operand_of (top machine.old.guest thread) 0) ≡ Some (Some object) }
+    requires held { IsHeld machine.old.heap object }
+    ensures ok { IfOk result (λ end. (at : Site) → at.next ≡ next → EventAnswers (monitor_event (moment program.now machine.old thread) at rows.Exit) end machine.old machine.new out.old out.new) }
+    ensures err { OnErr result (machine.new.guest ≡ machine.old.guest) }
+    ensures visits { visits.new ≤ visits.old + 3 }
+{
+    if !owns(machine, thread, &Lock::OfObject(object), visits) {
+        return throw_error(
+            machine,
+            program,
+            thread,
+            GuestError::IllegalMonitorStateException,
+            out,
+        );
+    }
+    exit_object(machine, thread, object, next, visits);
+    Ok(EventEnd::Done)
+}
+
+/// The event of `monitorenter` or `monitorexit` (JVMS 6.5), in front of the pc `next`. Null throws NullPointerException. To
+/// enter the monitor of an object a thread waits for another owner; to leave one that it doesn't own throws
+/// IllegalMonitorStateException. It answers what the table of events says: `Done`, and then the machine keeps the next state,
+/// to which a legal step led, and the records of the event stand behind those that were there; `Waited`, and then only the
+/// clock has gone on; or `IllTyped` or `ObjectLimit`, and then machine and records are as before. It visits three objects at
+/// most. After `NoMemory` the machine may have one object more, to which nothing refers, and there may be its record; all else
+/// is as before.
+#[tactic(auto, using(crate::proofs::Monitored::reference_held, crate::proofs::Monitored::null_each, crate::proofs::Monitored::ill_typed_row))]
+pub fn monitor_row_event<L: Ledger>(
+    program: &Program,
+    machine: &mut Machine,
+    thread: ThreadId,
+    row: MonitorRow,
+    next: u32,
+    out: &mut Lines,
+    visits: &mut Steps<L>,
+) -> Result<EventEnd, NoMemory>
+    requires sound { IsSoundFor program.now (kept_of machine.old) }
+    requires frame { HasFrame machine.old.guest thread }
+    requires clock { machine.old.guest.clock < 2 ^ 40 }
+    ensures ok { IfOk result (λ end. (at : Site) → at.next ≡ next → EventAnswers (monitor_event (moment program.now machine.old thread) at row) end machine.old machine.new out.old out.new) }
+    ensures err { OnErr result (machine.new.guest ≡ machine.old.guest) }
+    ensures visits { visits.new ≤ visits.old + 3 }
+{
+    let Some(reference) = reference_at(machine, thread, 0) else {
+        return Ok(ill_typed(machine, thread));
+    };
+    let Some(object) = reference else {
+        return throw_error(
+            machine,
+            program,
+            thread,
+            GuestError::NullPointerException,
+            out,
+        );
+    };
+    match row {
+        MonitorRow::Enter => Ok(monitorenter(machine, program, thread, object, next, visits)),
+        MonitorRow::Exit => monitorexit(machine, program, thread, object, next, out, visits),
+    }
+}

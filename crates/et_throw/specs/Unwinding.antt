@@ -1,0 +1,56 @@
+-- Where an exception is unwound.
+use Rattle.std.specs.Prelude.{◌≡◌, ℕ, ◌+◌, ◌<◌, ◌^◌, Bool, true, false, List, [], ◌∷◌, length, Option, Some, None, if◌then◌else◌, unwrap_or}
+use Rattle.et_program.specs.Entries.{Linked}
+use Rattle.et_frames.specs.Threads.{with_pending, with_top_of, without_top}
+use Rattle.et_frames.specs.Roots.{frame_roots}
+use Rattle.et_heap.specs.Objects.{IsHeld, new_object, has_room}
+use Rattle.et_machine.specs.declared.class_state.ClassState.TheVariants.{Failed}
+use Rattle.et_machine.specs.State.{Kept, MachineState, kept_of}
+use Rattle.et_machine.specs.Words.{HasFrame, thread_at, with_thread, top, ticked, begun, steps_guest, with_class_state, with_new_object}
+use Rattle.et_state.specs.declared.records.Record.{Record}
+use Rattle.et_state.specs.declared.records.Record.TheVariants.{Unwind}
+use Rattle.et_event.specs.Moments.{Moment, Doing, frame_of, begins, told}
+use Rattle.et_event.specs.Monitors as table
+use Rattle.et_event.specs.Sound.{IsSoundFor}
+use Rattle.et_event.specs.Throw.{dropped, handled}
+use Rattle.et_monitors.specs.Locks.{owns_at, leaving}
+
+abbrev pub moment : Linked → MachineState → ℕ → Moment
+moment p m t = record { program = p; before = kept_of m; thread = t }
+
+-- a thread with a frame in which an exception is to be unwound, in a sound state
+pub record Unwinds (p : Linked) (m : MachineState) (t o : ℕ) : Type 0 where
+  pub sound : IsSoundFor p (kept_of m)
+  pub clock : m.guest.clock < 2 ^ 40
+  pub frame : HasFrame m.guest t
+  pub pending : (thread_at m.guest t).pending ≡ Some o
+  pub held : IsHeld m.heap o
+
+-- the monitor of a lock is left once, where the thread owns it
+abbrev pub leaving_if_owned : ℕ → Option table.Lock → MachineState → MachineState
+leaving_if_owned t None m = m
+leaving_if_owned t (Some lock) m = if owns_at t lock m then leaving lock m else m
+
+-- the frame of an initializer is dropped; one whose <clinit> was entered gives a record
+abbrev pub initializer_left : Moment → Bool → ℕ → Doing
+initializer_left e true o = told (Unwind (begins e).state.guest.clock e.thread (unwrap_or (frame_of e).method 0) o) (dropped e (begins e))
+initializer_left e false o = dropped e (begins e)
+
+-- the state in which the handler at a pc has caught an exception
+abbrev pub handled_state : MachineState → ℕ → ℕ → ℕ → Kept
+handled_state m t o handler = record { heap = m.heap; guest = with_thread (ticked m.guest) t (with_pending None (with_top_of (thread_at m.guest t) (handled (top m.guest t) handler o))) }
+
+-- the records of such a frame
+abbrev pub unwind_records : MachineState → ℕ → Bool → ℕ → List Record
+unwind_records m t true o = Unwind (m.guest.clock + 1) t (unwrap_or (top m.guest t).method 0) o ∷ []
+unwind_records m t false o = []
+
+-- an event has begun, the frame was dropped, and the class failed
+abbrev pub initializer_dropped : ℕ → ℕ → MachineState → MachineState
+initializer_dropped t class m =
+    steps_guest (begun m) (with_class_state (with_thread (ticked m.guest) t (without_top (thread_at m.guest t))) class Failed) (frame_roots (top m.guest t))
+
+-- an object is made where it fits, and nothing has changed where it does not
+abbrev pub IsMade : ℕ → ℕ → Option ℕ → MachineState → MachineState → Type 0
+IsMade class slots (Some o) m m' = (has_room m.heap 1 slots ≡ true) × (o ≡ length m.heap) × (m' ≡ with_new_object m (new_object class 0 slots))
+IsMade class slots None m m' = (has_room m.heap 1 slots ≡ false) × (m' ≡ m)

@@ -1,0 +1,176 @@
+//! Initializers that fail (JVMS 5.5).
+ghost use Rattle.std.specs.Prelude.{◌≡◌, ◌+◌, ◌<◌, ◌≤◌, ◌^◌, true, Some, IfOk, OnErr, length};
+ghost use Rattle.et_base.specs.declared.value.Value.TheVariants.{Ref};
+ghost use Rattle.et_heap.specs.Objects.{IsHeld, object_at, slot_of, with_slot};
+ghost use Rattle.et_heap.specs.Refs.{refs_of_value};
+ghost use Rattle.et_machine.specs.State.{kept_of};
+ghost use Rattle.et_machine.specs.Words.{HasFrame, thread_at, top, steps_object};
+ghost use Rattle.et_machine.specs.Sound.{IsSound};
+ghost use Rattle.et_machine.specs.declared.class_state.ClassState.TheVariants as states;
+ghost use Rattle.et_program.specs.Entries.{Linked, class_at};
+ghost use Rattle.et_event.specs.Answered.{EventAnswers};
+ghost use Rattle.et_event.specs.Errors.{class_called as called, error_class};
+ghost use Rattle.et_event.specs.declared.errors.GuestError.TheVariants as errors;
+ghost use Rattle.et_event.specs.Initialization.{with_state};
+ghost use Rattle.et_event.specs.Moments.{fits, ends};
+ghost use Rattle.et_event.specs.Throw.{failed, replaced};
+ghost use Rattle.et_throw.specs.Unwinding.{Unwinds, IsMade, moment, initializer_left, initializer_dropped};
+
+use crate::records::{tell_error, tell_unwind};
+use et_base::{ClassId, NoMemory, ObjectId, Steps, ThreadId, Value};
+use et_event::GuestError;
+use et_heap::MakeFault;
+use et_machine::{ClassState, Machine};
+use et_parts::class_called;
+use et_program::Program;
+use et_state::{EventEnd, Lines};
+use std::sync::ledger::Ledger;
+
+/// An event begins in which the frame of an initializer is dropped, and its class fails.
+fn drop_initializer(machine: &mut Machine, thread: ThreadId, class: ClassId)
+    requires frame { HasFrame machine.old.guest thread }
+    requires clock { machine.old.guest.clock < 2 ^ 40 }
+    requires small { length (top machine.old.guest thread).locals + length (top machine.old.guest thread).operands < 2 ^ 17 }
+    requires class { class < length machine.old.guest.classes }
+    ensures new { machine.new ≡ initializer_dropped thread class machine.old }
+    ensures few { length machine.new.lost ≤ 2 ^ 17 }
+{
+    machine.begin_event();
+    machine.drop_frame(thread);
+    machine.set_class_state(class, ClassState::Failed);
+}
+
+/// The event in which an initializer fails by an Error, which stays pending.
+fn fail_by_error(
+    machine: &mut Machine,
+    thread: ThreadId,
+    class: ClassId,
+    exception: ObjectId,
+    tells: bool,
+    out: &mut Lines,
+) -> Result<EventEnd, NoMemory>
+    requires frame { HasFrame machine.old.guest thread }
+    requires sound { IsSound (kept_of machine.old) }
+    requires clock { machine.old.guest.clock < 2 ^ 40 }
+    requires fits { fits machine.old.heap ≡ true }
+    requires small { length (top machine.old.guest thread).locals + length (top machine.old.guest thread).operands < 2 ^ 17 }
+    requires class { class < length machine.old.guest.classes }
+    ensures ok { IfOk result (λ end. (p : Linked) → EventAnswers (ends (with_state class states.Failed (initializer_left (moment p machine.old thread) tells exception))) end machine.old machine.new out.old out.new) }
+    ensures err { OnErr result (machine.new.guest ≡ machine.old.guest) }
+{
+    tell_unwind(machine, thread, exception, tells, out)?;
+    drop_initializer(machine, thread, class);
+    Ok(EventEnd::Done)
+}
+
+/// How many slots an instance of a class has.
+fn slots_of(program: &Program, class: ClassId) -> u32
+    ensures { result ≡ (class_at program.now class).info.slots }
+{
+    if class.number() < program.class_count() {
+        program.class(class).slots
+    } else {
+        0
+    }
+}
+
+/// Makes an object; `None`, and nothing is done, exactly where it doesn't fit. After `NoMemory` the machine is as before.
+fn make(machine: &mut Machine, class: ClassId, slots: u32) -> Result<Option<ObjectId>, NoMemory>
+    ensures ok { IfOk result (λ made. IsMade class slots made machine.old machine.new) }
+    ensures err { OnErr result (machine.new ≡ machine.old) }
+{
+    match machine.heap.make_object(class, slots) {
+        Ok(object) => Ok(Some(object)),
+        Err(MakeFault::Full) => Ok(None),
+        Err(MakeFault::NoMemory) => Err(NoMemory),
+    }
+}
+
+/// Writes the cause of an exception, where it has a slot for it. It visits one object at most.
+fn write_cause<L: Ledger>(
+    machine: &mut Machine,
+    error: ObjectId,
+    slots: u32,
+    cause: ObjectId,
+    visits: &mut Steps<L>,
+)
+    requires held { IsHeld machine.old.heap error }
+    requires slots { length (object_at machine.old.heap error).slots ≡ slots }
+    requires lost { length machine.old.lost ≤ 2 ^ 17 }
+    ensures new { machine.new ≡ steps_object machine.old error (with_slot 1 (Ref cause) (object_at machine.old.heap error)) (refs_of_value (slot_of (object_at machine.old.heap error) 1)) }
+    ensures few { length machine.new.lost ≤ 2 ^ 17 + 1 }
+    ensures visits { visits.new ≤ visits.old + 1 }
+{
+    if slots > 1 {
+        machine.set_slot(error, 1, Value::Ref(cause), visits);
+    }
+}
+
+/// The event in which an initializer fails by what is no Error: a new ExceptionInInitializerError is pending then, with it as
+/// cause.
+fn fail_by_exception<L: Ledger>(
+    machine: &mut Machine,
+    program: &Program,
+    thread: ThreadId,
+    class: ClassId,
+    exception: ObjectId,
+    tells: bool,
+    out: &mut Lines,
+    visits: &mut Steps<L>,
+) -> Result<EventEnd, NoMemory>
+    requires frame { HasFrame machine.old.guest thread }
+    requires sound { IsSound (kept_of machine.old) }
+    requires clock { machine.old.guest.clock < 2 ^ 40 }
+    requires small { length (top machine.old.guest thread).locals + length (top machine.old.guest thread).operands < 2 ^ 17 }
+    requires class { class < length machine.old.guest.classes }
+    requires pending { (thread_at machine.old.guest thread).pending ≡ Some exception }
+    ensures ok { IfOk result (λ end. EventAnswers (ends (replaced (moment program.now machine.old thread) exception (with_state class states.Failed (initializer_left (moment program.now machine.old thread) tells exception)))) end machine.old machine.new out.old out.new) }
+    ensures err { OnErr result (machine.new.guest ≡ machine.old.guest) }
+    ensures visits { visits.new ≤ visits.old + 1 }
+{
+    let error_class = class_called(
+        program,
+        GuestError::ExceptionInInitializerError.class_name(),
+    );
+    let slots = slots_of(program, error_class);
+    let Some(error) = make(machine, error_class, slots)? else {
+        return Ok(EventEnd::ObjectLimit);
+    };
+    tell_unwind(machine, thread, exception, tells, out)?;
+    tell_error(machine, thread, error, error_class, slots, exception, out)?;
+    drop_initializer(machine, thread, class);
+    write_cause(machine, error, slots, exception, visits);
+    machine.throw(thread, error);
+    Ok(EventEnd::Done)
+}
+
+/// The event in which the initializer of a class fails: its frame is dropped, the class has failed, and an exception that is no
+/// Error is replaced. It tells of the frame where `<clinit>` was entered.
+pub(crate) fn fail_event<L: Ledger>(
+    machine: &mut Machine,
+    program: &Program,
+    thread: ThreadId,
+    class: ClassId,
+    exception: ObjectId,
+    thrown: ClassId,
+    tells: bool,
+    out: &mut Lines,
+    visits: &mut Steps<L>,
+) -> Result<EventEnd, NoMemory>
+    requires unwinds { Unwinds program.now machine.old thread exception }
+    requires small { length (top machine.old.guest thread).locals + length (top machine.old.guest thread).operands < 2 ^ 17 }
+    requires class { class < length program.now.classes }
+    requires thrown { thrown ≡ (object_at machine.old.heap exception).class }
+    requires known { thrown < length program.now.classes }
+    ensures ok { IfOk result (λ end. EventAnswers (ends (failed (moment program.now machine.old thread) class exception (initializer_left (moment program.now machine.old thread) tells exception))) end machine.old machine.new out.old out.new) }
+    ensures err { OnErr result (machine.new.guest ≡ machine.old.guest) }
+    ensures visits { visits.new ≤ visits.old + 1 }
+{
+    if program.is_subclass(thrown, class_called(program, b"java/lang/Error")) {
+        fail_by_error(machine, thread, class, exception, tells, out)
+    } else {
+        fail_by_exception(
+            machine, program, thread, class, exception, tells, out, visits,
+        )
+    }
+}

@@ -1,0 +1,104 @@
+//! The handler of an exception (JVMS 2.10, 4.7.3).
+ghost use Rattle.std.specs.Prelude.{◌≡◌, ◌<◌, Some, length, find, option_map};
+ghost use Rattle.std.specs.Option.{option_copied};
+ghost use Rattle.et_pool.specs.Looks.{class_name_at};
+ghost use Rattle.et_code.specs.declared.body.TableRow.{TableRow as Row};
+ghost use Rattle.et_machine.specs.Words.{HasFrame, top};
+ghost use Rattle.et_event.specs.Throw.{is_above_or_same, catches_name, catches as catches_there, handler_of};
+ghost use Rattle.et_place.specs.Places.{Runs};
+ghost use Rattle.et_place.specs.Pools.{slots_of};
+ghost use Rattle.et_throw.specs.Interfaces.{KnowsInterfaces};
+
+use crate::frames::{method_of, table_of};
+use et_base::{ClassId, ThreadId};
+use et_class::flags::{INTERFACE, has};
+use et_code::TableRow;
+use et_machine::Machine;
+use et_pool::Pool;
+use et_program::Program;
+
+/// Whether a class is the other one, or has it as a superclass.
+fn is_at_or_below(program: &Program, class: ClassId, above: ClassId) -> bool
+    requires class { class < length program.now.classes }
+    requires above { above < length program.now.classes }
+    requires interfaces { KnowsInterfaces program.now }
+    ensures { result ≡ is_above_or_same program.now class (Some above) }
+{
+    let interface = has(program.class(above).flags, INTERFACE);
+    class == above || (!interface && program.is_subclass(class, above))
+}
+
+/// Whether a catch type of this name catches an exception of a class. An interface, and what is no class of the program,
+/// catches nothing.
+fn is_caught_by(program: &Program, class: ClassId, name: Option<&[u8]>) -> bool
+    requires class { class < length program.now.classes }
+    requires interfaces { KnowsInterfaces program.now }
+    ensures { result ≡ catches_name program.now class (option_map (λ s. s.now) name.entry) }
+{
+    let Some(name) = name else {
+        return false;
+    };
+    match program.resolve_class(name) {
+        Ok(above) => is_at_or_below(program, class, above),
+        Err(_) => false,
+    }
+}
+
+/// The name of a class in a pool.
+fn class_name(pool: Option<&Pool>, index: u16) -> Option<&[u8]>
+    ensures { option_map (λ s. s.now) result ≡ class_name_at (slots_of (option_copied pool.entry)) index }
+{
+    match pool {
+        Some(pool) => pool.class_name(index),
+        None => None,
+    }
+}
+
+/// Whether a row of an exception table handles an exception of a class at a pc.
+fn catches(program: &Program, pool: Option<&Pool>, pc: u32, class: ClassId, row: TableRow) -> bool
+    requires class { class < length program.now.classes }
+    requires interfaces { KnowsInterfaces program.now }
+    ensures { result ≡ catches_there program.now (slots_of (option_copied pool.entry)) pc class row }
+{
+    row.start as u32 <= pc
+        && pc < row.end as u32
+        && (row.catch == 0 || is_caught_by(program, class, class_name(pool, row.catch)))
+}
+
+/// Where the first of these rows that handles an exception of a class at a pc has its handler.
+fn first_handler(
+    program: &Program,
+    pool: Option<&Pool>,
+    pc: u32,
+    class: ClassId,
+    rows: &[TableRow],
+) -> Option<u32>
+    requires class { class < length program.now.classes }
+    requires interfaces { KnowsInterfaces program.now }
+    ensures { result ≡ option_map (λ (row : Row). row.handler) (find (catches_there program.now (slots_of (option_copied pool.entry)) pc class) rows.now) }
+{
+    let row = rows
+        .iter()
+        .find(|row| catches(program, pool, pc, class, **row))?;
+    Some(row.handler as u32)
+}
+
+/// Where the handler of an exception of a class begins in the method that a frame runs: that of the first row of its
+/// exception table whose range has the pc, and which catches all, or the class or one above it.
+#[tactic(auto, using(crate::proofs::Handling::handler_found))]
+pub(crate) fn handler(
+    program: &Program,
+    machine: &Machine,
+    thread: ThreadId,
+    class: ClassId,
+) -> Option<u32>
+    requires frame { HasFrame machine.now.guest thread }
+    requires runs { Runs program.now (top machine.now.guest thread) }
+    requires class { class < length program.now.classes }
+    requires interfaces { KnowsInterfaces program.now }
+    ensures { result ≡ option_map (λ (row : Row). row.handler) (handler_of program.now (top machine.now.guest thread) class) }
+{
+    let method = method_of(program, machine, thread);
+    let pool = program.pool(method.class);
+    first_handler(program, pool, machine.pc(thread), class, table_of(method))
+}

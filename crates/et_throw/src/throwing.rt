@@ -1,0 +1,89 @@
+//! `athrow`.
+ghost use Rattle.std.specs.Prelude.{◌≡◌, ◌+◌, ◌<◌, ◌≤◌, ◌^◌, Some, IfOk, OnErr};
+ghost use Rattle.et_heap.specs.Objects.{IsHeld};
+ghost use Rattle.et_frames.specs.Threads.{with_pending};
+ghost use Rattle.et_machine.specs.State.{kept_of};
+ghost use Rattle.et_machine.specs.Words.{HasFrame, thread_at, with_thread, ticked};
+ghost use Rattle.et_machine.specs.Sound.{IsSound};
+ghost use Rattle.et_machine.specs.Moves.{Led};
+ghost use Rattle.et_event.specs.Answered.{EventAnswers};
+ghost use Rattle.et_event.specs.Sound.{IsSoundFor};
+ghost use Rattle.et_event.specs.Throw.{throw, is_throwable};
+ghost use Rattle.et_throw.specs.Unwinding.{moment};
+
+use et_base::{NoMemory, ObjectId, Steps, ThreadId};
+use et_event::GuestError;
+use et_machine::Machine;
+use et_parts::{class_called, ill_typed, reference_at, throw_error};
+use et_program::Program;
+use et_state::{EventEnd, Lines};
+use std::sync::ledger::Ledger;
+
+/// The event in which an object that stands on top of the operands becomes pending.
+fn throw_object(machine: &mut Machine, thread: ThreadId, exception: ObjectId)
+    requires frame { HasFrame machine.old.guest thread }
+    requires sound { IsSound (kept_of machine.old) }
+    requires clock { machine.old.guest.clock < 2 ^ 40 }
+    requires held { IsHeld machine.old.heap exception }
+    ensures { Led (kept_of machine.old) (record { heap = machine.old.heap; guest = with_thread (ticked machine.old.guest) thread (with_pending (Some exception) (thread_at machine.old.guest thread)) }) machine.new }
+{
+    machine.begin_event();
+    machine.throw(thread, exception);
+}
+
+/// Whether an object is a Throwable. It visits the object.
+fn is_exception<L: Ledger>(
+    program: &Program,
+    machine: &Machine,
+    thread: ThreadId,
+    exception: ObjectId,
+    visits: &mut Steps<L>,
+) -> bool
+    requires sound { IsSoundFor program.now (kept_of machine.now) }
+    requires held { IsHeld machine.now.heap exception }
+    ensures value { result ≡ is_throwable (moment program.now machine.now thread) exception }
+    ensures visits { visits.new ≡ visits.old + 1 }
+{
+    let _thread = thread;
+    let class = machine.heap.class_of(exception, visits);
+    program.is_subclass(class, class_called(program, b"java/lang/Throwable"))
+}
+
+/// The event of `athrow` (JVMS 6.5): the Throwable on top of the operands becomes pending, and the frame stays as it is. Null
+/// throws NullPointerException; what is no Throwable has no meaning. It answers what the table of events says: `Done`, and
+/// then the machine keeps the next state, to which a legal step led, and the records of the event stand behind those that were
+/// there; or `IllTyped` or `ObjectLimit`, and then machine and records are as before. It visits one object at most. After
+/// `NoMemory` the machine may have one object more, to which nothing refers, and there may be its record; all else is as before.
+#[tactic(auto, using(crate::proofs::Thrown::reference_held, crate::proofs::Thrown::thrown_by_null, crate::proofs::Thrown::thrown_answers, crate::proofs::Thrown::no_throwable, crate::proofs::Thrown::nothing_thrown))]
+pub fn athrow_event<L: Ledger>(
+    program: &Program,
+    machine: &mut Machine,
+    thread: ThreadId,
+    out: &mut Lines,
+    visits: &mut Steps<L>,
+) -> Result<EventEnd, NoMemory>
+    requires sound { IsSoundFor program.now (kept_of machine.old) }
+    requires clock { machine.old.guest.clock < 2 ^ 40 }
+    requires frame { HasFrame machine.old.guest thread }
+    ensures ok { IfOk result (λ end. EventAnswers (throw (moment program.now machine.old thread)) end machine.old machine.new out.old out.new) }
+    ensures err { OnErr result (machine.new.guest ≡ machine.old.guest) }
+    ensures visits { visits.new ≤ visits.old + 6 }
+{
+    let Some(reference) = reference_at(machine, thread, 0) else {
+        return Ok(ill_typed(machine, thread));
+    };
+    let Some(exception) = reference else {
+        return throw_error(
+            machine,
+            program,
+            thread,
+            GuestError::NullPointerException,
+            out,
+        );
+    };
+    if !is_exception(program, machine, thread, exception, visits) {
+        return Ok(ill_typed(machine, thread));
+    }
+    throw_object(machine, thread, exception);
+    Ok(EventEnd::Done)
+}

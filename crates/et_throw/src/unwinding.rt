@@ -1,0 +1,217 @@
+//! The turn in which an exception is unwound.
+ghost use Rattle.std.specs.Prelude.{◌≡◌, ◌+◌, ◌<◌, ◌≤◌, ◌^◌, IfOk, OnErr, length};
+ghost use Rattle.et_heap.specs.Objects.{IsHeld, object_at};
+ghost use Rattle.et_frames.specs.declared.stage.Stage.TheVariants as stages;
+ghost use Rattle.et_frames.specs.declared.stage.Turn.TheVariants as turns;
+ghost use Rattle.et_frames.specs.Threads.{turn_of};
+ghost use Rattle.et_machine.specs.State.{kept_of};
+ghost use Rattle.et_machine.specs.Words.{HasFrame, thread_at, top};
+ghost use Rattle.et_machine.specs.Sound.{IsSound};
+ghost use Rattle.et_event.specs.Answered.{EventAnswers};
+ghost use Rattle.et_event.specs.Event.{event};
+ghost use Rattle.et_event.specs.Sites.{method_of as method_in};
+ghost use Rattle.et_event.specs.Sound.{IsSoundFor};
+ghost use Rattle.et_event.specs.Throw.{unwound, unwinds};
+ghost use Rattle.et_event.specs.Monitors.{lock_in as lock_in_frame};
+ghost use Rattle.et_monitors.specs.Locks.{locks_of, HasSome};
+ghost use Rattle.et_place.specs.Places.{Runs};
+ghost use Rattle.et_throw.specs.Interfaces.{KnowsInterfaces};
+ghost use Rattle.et_throw.specs.Unwinding.{Unwinds, moment, leaving_if_owned};
+
+use crate::catching::catch_event;
+use crate::failing::fail_event;
+use crate::frames::{frame_is_small, method_of};
+use crate::handlers::handler;
+use crate::records::unwind_record;
+use et_base::{ClassId, NoMemory, ObjectId, Steps, ThreadId};
+use et_frames::Stage;
+use et_machine::Machine;
+use et_monitors::{Lock, leave_monitor, lock_in, owns};
+use et_parts::ill_typed;
+use et_program::Program;
+use et_state::{EventEnd, Lines};
+use std::sync::ledger::Ledger;
+
+/// Leaves the monitor of a lock once, where a thread owns it. It visits three objects at most.
+fn leave_if_owned<L: Ledger>(
+    machine: &mut Machine,
+    thread: ThreadId,
+    lock: &Option<Lock>,
+    visits: &mut Steps<L>,
+)
+    requires { HasSome machine.old (locks_of lock.now) }
+    ensures new { machine.new ≡ leaving_if_owned thread (locks_of lock.now) machine.old }
+    ensures visits { visits.new ≤ visits.old + 3 }
+{
+    if let Some(lock) = lock {
+        if owns(machine, thread, lock, visits) {
+            leave_monitor(machine, lock, visits);
+        }
+    }
+}
+
+/// The event in which the frame of a method is dropped, and its monitor left.
+fn unwind_frame<L: Ledger>(
+    machine: &mut Machine,
+    program: &Program,
+    thread: ThreadId,
+    exception: ObjectId,
+    lock: &Option<Lock>,
+    out: &mut Lines,
+    visits: &mut Steps<L>,
+) -> Result<EventEnd, NoMemory>
+    requires frame { HasFrame machine.old.guest thread }
+    requires sound { IsSound (kept_of machine.old) }
+    requires clock { machine.old.guest.clock < 2 ^ 40 }
+    requires small { length (top machine.old.guest thread).locals + length (top machine.old.guest thread).operands < 2 ^ 17 }
+    requires there { HasSome machine.old (locks_of lock.now) }
+    requires lock { locks_of lock.now ≡ lock_in_frame (top machine.old.guest thread).stage (method_in program.now (top machine.old.guest thread)) (top machine.old.guest thread).lock }
+    ensures ok { IfOk result (λ end. EventAnswers (unwound (moment program.now machine.old thread) exception) end machine.old machine.new out.old out.new) }
+    ensures err { OnErr result (machine.new.guest ≡ machine.old.guest) }
+    ensures visits { visits.new ≤ visits.old + 3 }
+{
+    out.push(unwind_record(machine, thread, exception))?;
+    machine.begin_event();
+    leave_if_owned(machine, thread, lock, visits);
+    machine.drop_frame(thread);
+    Ok(EventEnd::Done)
+}
+
+/// The lock that the frame of a method holds.
+#[tactic(auto, using(et_monitors::proofs::There::frame_lock_there))]
+fn lock_of_frame(program: &Program, machine: &Machine, thread: ThreadId) -> Option<Lock>
+    requires sound { IsSoundFor program.now (kept_of machine.now) }
+    requires frame { HasFrame machine.now.guest thread }
+    requires runs { Runs program.now (top machine.now.guest thread) }
+    ensures is { locks_of result ≡ lock_in_frame (top machine.now.guest thread).stage (method_in program.now (top machine.now.guest thread)) (top machine.now.guest thread).lock }
+    ensures there { HasSome machine.now (locks_of result) }
+{
+    let method = method_of(program, machine, thread);
+    lock_in(machine.stage(thread), method, machine.lock(thread))
+}
+
+/// The turn in the frame of a method: a handler is entered, or the frame is dropped.
+#[tactic(auto, using(crate::proofs::Turns::by_some, crate::proofs::Turns::by_none))]
+fn unwind_method<L: Ledger>(
+    machine: &mut Machine,
+    program: &Program,
+    thread: ThreadId,
+    exception: ObjectId,
+    thrown: ClassId,
+    out: &mut Lines,
+    visits: &mut Steps<L>,
+) -> Result<EventEnd, NoMemory>
+    requires unwinds { Unwinds program.now machine.old thread exception }
+    requires runs { Runs program.now (top machine.old.guest thread) }
+    requires thrown { thrown ≡ (object_at machine.old.heap exception).class }
+    requires known { thrown < length program.now.classes }
+    requires interfaces { KnowsInterfaces program.now }
+    ensures ok { IfOk result (λ end. EventAnswers (unwinds (moment program.now machine.old thread) exception stages.Plain) end machine.old machine.new out.old out.new) }
+    ensures err { OnErr result (machine.new.guest ≡ machine.old.guest) }
+    ensures visits { visits.new ≤ visits.old + 3 }
+{
+    frame_is_small(program, machine, thread);
+    match handler(program, machine, thread, thrown) {
+        Some(pc) => Ok(catch_event(machine, thread, exception, pc)),
+        None => {
+            let lock = lock_of_frame(program, machine, thread);
+            unwind_frame(machine, program, thread, exception, &lock, out, visits)
+        }
+    }
+}
+
+/// The turn in the `<clinit>` of a class: a handler is entered, or the initializer fails.
+#[tactic(auto, using(crate::proofs::Turns::by_some, crate::proofs::Turns::by_none))]
+fn unwind_clinit<L: Ledger>(
+    machine: &mut Machine,
+    program: &Program,
+    thread: ThreadId,
+    class: ClassId,
+    exception: ObjectId,
+    thrown: ClassId,
+    out: &mut Lines,
+    visits: &mut Steps<L>,
+) -> Result<EventEnd, NoMemory>
+    requires unwinds { Unwinds program.now machine.old thread exception }
+    requires runs { Runs program.now (top machine.old.guest thread) }
+    requires class { class < length program.now.classes }
+    requires thrown { thrown ≡ (object_at machine.old.heap exception).class }
+    requires known { thrown < length program.now.classes }
+    requires interfaces { KnowsInterfaces program.now }
+    ensures ok { IfOk result (λ end. EventAnswers (unwinds (moment program.now machine.old thread) exception (stages.Clinit class)) end machine.old machine.new out.old out.new) }
+    ensures err { OnErr result (machine.new.guest ≡ machine.old.guest) }
+    ensures visits { visits.new ≤ visits.old + 1 }
+{
+    frame_is_small(program, machine, thread);
+    match handler(program, machine, thread, thrown) {
+        Some(pc) => Ok(catch_event(machine, thread, exception, pc)),
+        None => fail_event(
+            machine, program, thread, class, exception, thrown, true, out, visits,
+        ),
+    }
+}
+
+/// The class of what is thrown.
+fn class_of<L: Ledger>(machine: &Machine, exception: ObjectId, visits: &mut Steps<L>) -> ClassId
+    requires { IsHeld machine.now.heap exception }
+    ensures class { result ≡ (object_at machine.now.heap exception).class }
+    ensures visits { visits.new ≡ visits.old + 1 }
+{
+    machine.heap.class_of(exception, visits)
+}
+
+/// The turn in which this exception is pending, by what the topmost frame is for.
+fn unwind_event<L: Ledger>(
+    program: &Program,
+    machine: &mut Machine,
+    thread: ThreadId,
+    exception: ObjectId,
+    out: &mut Lines,
+    visits: &mut Steps<L>,
+) -> Result<EventEnd, NoMemory>
+    requires unwinds { Unwinds program.now machine.old thread exception }
+    requires interfaces { KnowsInterfaces program.now }
+    ensures ok { IfOk result (λ end. EventAnswers (unwinds (moment program.now machine.old thread) exception (top machine.old.guest thread).stage) end machine.old machine.new out.old out.new) }
+    ensures err { OnErr result (machine.new.guest ≡ machine.old.guest) }
+    ensures visits { visits.new ≤ visits.old + 4 }
+{
+    let thrown = class_of(machine, exception, visits);
+    match machine.stage(thread) {
+        Stage::Plain => unwind_method(machine, program, thread, exception, thrown, out, visits),
+        Stage::Before(class) => fail_event(
+            machine, program, thread, class, exception, thrown, false, out, visits,
+        ),
+        Stage::Clinit(class) => unwind_clinit(
+            machine, program, thread, class, exception, thrown, out, visits,
+        ),
+    }
+}
+
+/// The event of a thread whose turn is to unwind the exception that is pending (JVMS 2.10, and 5.5 for initializers): a
+/// handler of the topmost frame is entered, or the frame is dropped, its monitor left once where the thread owns it, and the
+/// class of an initializer has failed. It answers what the table of events says: `Done`, and then the machine keeps the next
+/// state, to which a legal step led, and the records of the event stand behind those that were there; or, and then machine and
+/// records are as before, `IllTyped` where the exception doesn't fit in the frame of the handler, or `ObjectLimit` where a new
+/// ExceptionInInitializerError doesn't fit. It visits six objects at most. After `NoMemory` the machine may have one object
+/// more, to which nothing refers, and there may be some of the records; all else is as before.
+#[tactic(auto, using(crate::proofs::Turning::unwinds_frame, crate::proofs::Turns::turn_ill_typed))]
+pub fn unwinding_event<L: Ledger>(
+    program: &Program,
+    machine: &mut Machine,
+    thread: ThreadId,
+    out: &mut Lines,
+    visits: &mut Steps<L>,
+) -> Result<EventEnd, NoMemory>
+    requires sound { IsSoundFor program.now (kept_of machine.old) }
+    requires clock { machine.old.guest.clock < 2 ^ 40 }
+    requires turn { turn_of (thread_at machine.old.guest thread) ≡ turns.Unwind }
+    requires interfaces { KnowsInterfaces program.now }
+    ensures event { IfOk result (λ end. EventAnswers (event program.now (kept_of machine.old) thread) end machine.old machine.new out.old out.new) }
+    ensures err { OnErr result (machine.new.guest ≡ machine.old.guest) }
+    ensures visits { visits.new ≤ visits.old + 6 }
+{
+    let Some(exception) = machine.pending(thread) else {
+        return Ok(ill_typed(machine, thread));
+    };
+    unwind_event(program, machine, thread, exception, out, visits)
+}
