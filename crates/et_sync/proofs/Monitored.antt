@@ -1,5 +1,5 @@
 -- `monitorenter` and `monitorexit`.
-use Rattle.std.proofs.Common.{◌≡◌, ℕ, ◌+◌, ◌<◌, ◌≤◌, ◌^◌, Bool, true, false, List, [], ◌∷◌, length, get_or, drop, Option, Some, None, refl, sym, ◌∙◌, ap, subst, Contains, append-nil, arith}
+use Rattle.std.proofs.Common.{◌≡◌, ℕ, ◌+◌, ◌<◌, ◌≤◌, ◌^◌, Bool, true, false, List, [], ◌∷◌, length, get_or, drop, Some, None, refl, sym, ◌∙◌, ap, subst, Contains, append-nil, arith}
 use Rattle.std.specs.Prelude.{Result, Ok, Err, IfOk}
 use Rattle.std.proofs.lemmas.List.{length-set}
 use Rattle.et_base.specs.declared.value.Value.{Value}
@@ -26,7 +26,7 @@ use Rattle.et_event.specs.declared.rows.MonitorRow.TheVariants.{Enter, Exit}
 use Rattle.et_event.specs.Answered.{EventAnswers}
 use Rattle.et_event.specs.Checks.{Reference, with_reference, not_null, throws_unless, waits_unless}
 use Rattle.et_event.specs.Heap.{leaving}
-use Rattle.et_event.specs.Moments.{Moment, begins, frame_of, ill_typed, goes, throws, waits}
+use Rattle.et_event.specs.Moments.{Moment, begins, ill_typed, goes, throws, waits}
 use Rattle.et_event.specs.Monitors.{OfObject, owns, may_enter, entered, left, left_once}
 use Rattle.et_event.specs.Sites.{Site}
 use Rattle.et_event.specs.Sound.{IsSoundFor}

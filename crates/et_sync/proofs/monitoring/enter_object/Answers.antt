@@ -1,4 +1,4 @@
-use Rattle.std.proofs.Common.{◌≡◌, ◌≤◌, ◌^◌, sym, subst}
+use Rattle.std.proofs.Common.{◌≤◌, ◌^◌, sym, subst}
 use Rattle.et_heap.specs.Objects.{Objects, IsHeld, object_at}
 use Rattle.et_sync.proofs.Monitored.{changed_led, heap_same, once_more}
 use Rattle.et_sync.proofs.monitoring.enter_object.Goals as goal
