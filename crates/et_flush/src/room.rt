@@ -1,5 +1,5 @@
 //! The room of a flush, and the flush.
-ghost use Rattle.std.specs.Prelude.{◌≡◌, ℕ, ◌+◌, ◌*◌, ◌^◌, ◌<◌, ◌≤◌, ◌↔◌, true, Bool, length, map, slice_index, All, Contains, OnOk, OnErr, Some};
+ghost use Rattle.std.specs.Prelude.{◌≡◌, ℕ, ◌+◌, ◌*◌, ◌<◌, ◌≤◌, ◌↔◌, true, Bool, length, map, slice_index, Contains, OnOk, OnErr, Some};
 ghost use Rattle.et_graph.specs.Graph.{IsReached};
 ghost use Rattle.et_heap.specs.Objects.{IsHeld, object_at, made_count, held_count};
 ghost use Rattle.et_heap.specs.Remaining.{remaining};
@@ -83,7 +83,6 @@ impl FlushRoom {
         requires slots { ArePairsHeld heap.old }
         requires referents { (u o : ℕ) → (object_at heap.old u).referent ≡ Some o → IsHeld heap.old o }
         requires stamps { length heap.old ≤ length stamps.now }
-        requires events { All (λ t. t ≤ 2 ^ 40) stamps.now }
         requires places { made_count heap.old ≤ self.old.places }
         ensures deaths { AreListed (heap_graph heap.old roots.now) (slice_index stamps.now) self.new.deaths }
         ensures heap { (here : ℕ → Bool) → ((o : ℕ) → IsHeld heap.old o → (here o ≡ true) ↔ IsReached (heap_graph heap.old roots.now) o) → heap.new ≡ remaining here 0 heap.old }
@@ -117,7 +116,6 @@ pub fn flush<L: Ledger>(
     requires slots { ArePairsHeld heap.old }
     requires referents { (u o : ℕ) → (object_at heap.old u).referent ≡ Some o → IsHeld heap.old o }
     requires stamps { length heap.old ≤ length stamps.now }
-    requires events { All (λ t. t ≤ 2 ^ 40) stamps.now }
     requires places { made_count heap.old ≤ room.old.places }
     ensures deaths { AreListed (heap_graph heap.old roots.now) (slice_index stamps.now) room.new.deaths }
     ensures count { result ≡ length room.new.deaths }

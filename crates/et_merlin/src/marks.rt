@@ -8,7 +8,8 @@ use et_stamps::Stamps;
 
 /// Writes this stamp for each of the objects.
 fn stamp_each(stamps: &mut Stamps, objects: &[ObjectId], event: u64)
-    requires { (o : ℕ) → Contains objects.now o → o < length stamps.old }
+    requires places { (o : ℕ) → Contains objects.now o → o < length stamps.old }
+    requires event { event ≤ 2 ^ 40 }
     ensures long { length stamps.new ≡ length stamps.old }
     ensures each { (o : ℕ) → Contains objects.now o → slice_index stamps.new o ≡ event }
     ensures others { (o : ℕ) → ¬ Contains objects.now o → slice_index stamps.new o ≡ slice_index stamps.old o }
@@ -22,6 +23,7 @@ fn stamp_each(stamps: &mut Stamps, objects: &[ObjectId], event: u64)
 fn stamp_new(stamps: &mut Stamps, before: u32, made: u32, event: u64)
     requires places { made < length stamps.old }
     requires more { before ≤ made }
+    requires event { event ≤ 2 ^ 40 }
     ensures long { length stamps.new ≡ length stamps.old }
     ensures each { (o : ℕ) → before < o → o ≤ made → slice_index stamps.new o ≡ event }
     ensures others { (o : ℕ) → (o ≤ before) ⊎ (made < o) → slice_index stamps.new o ≡ slice_index stamps.old o }
@@ -40,7 +42,7 @@ pub fn restamp<G: StampedGuest>(
     stamps: &mut Stamps,
     room: &mut G::Room,
 ) -> Result<(), NoMemory>
-    requires clock { e < 2 ^ 41 }
+    requires clock { e < 2 ^ 40 }
     requires more { before ≤ (G.graph_of (G.state machine.now)).made }
     requires lost { (o : ℕ) → Contains (G.lost_of machine.now) o → o ≤ (G.graph_of (G.state machine.now)).made }
     ensures stamps { OnOk result (Restamps e before (G.graph_of (G.state machine.now)).made (G.lost_of machine.now) (slice_index stamps.old) (slice_index stamps.new)) }

@@ -1,11 +1,12 @@
 //! A stamp for each object.
-ghost use Rattle.std.specs.Prelude.{◌≡◌, ◌<◌, ◌≤◌, ℕ, [], length, OnOk, slice_index, slice_set};
+ghost use Rattle.std.specs.Prelude.{◌≡◌, ◌<◌, ◌≤◌, ◌^◌, ℕ, [], length, All, OnOk, slice_index, slice_set};
 
 use et_base::{NoMemory, ObjectId};
 use std::alloc::Global;
 use std::marker::Model;
 
-/// A stamp for each object. A contract sees it as a list, in which the stamp of each object stands at its number.
+/// A stamp for each object: the number of an event, 2^40 at most. A contract sees it as a list, in which the stamp of each
+/// object stands at its number.
 #[derive(Drop)]
 pub struct Stamps {
     stamps: Vec<u64>,
@@ -16,7 +17,11 @@ impl Model for Stamps {
 
     ghost Value = { List ℕ };
 
+    ghost use Rattle.std.specs.Prelude.{◌≤◌, ◌^◌, All};
+
     ghost view = { λ s. s.stamps.items };
+
+    ghost invariant = { λ s. All (λ t. t ≤ 2 ^ 40) s.stamps.items };
 }
 
 impl Stamps {
@@ -43,7 +48,8 @@ impl Stamps {
 
     /// Writes the stamp of an object that has a place.
     pub fn set(&mut self, object: ObjectId, event: u64)
-        requires { object < length self.old }
+        requires place { object < length self.old }
+        requires event { event ≤ 2 ^ 40 }
         ensures { self.new ≡ slice_set self.old object event }
     {
         self.stamps[object.number() as usize] = event;
@@ -59,7 +65,8 @@ impl Stamps {
 
     /// The stamps by the numbers of the objects.
     pub fn as_slice(&self) -> &[u64]
-        ensures { result.now ≡ self.now }
+        ensures value { result.now ≡ self.now }
+        ensures events { All (λ t. t ≤ 2 ^ 40) result.now }
     {
         self.stamps.as_slice()
     }

@@ -3,8 +3,8 @@ use Rattle.et_merlin.specs.Stamping.{Restamps}
 use Rattle.et_merlin.proofs.Marking.{restamps_from}
 use Rattle.et_merlin.proofs.marks.restamp.Goals as goal
 
-pub stamp_each-requires : goal.stamp_each-requires
-stamp_each-requires g c = λ o h.
+pub stamp_each-requires-clause-places : goal.stamp_each-requires-clause-places
+stamp_each-requires-clause-places g c = λ o h.
     let m = c.requires.lost o (subst (λ (os : List ℕ). Contains os o) c.lost.ensures h) in
     let long = c.in_ok-grow.ensures.long in
     omega (arith, m, long, c.made-made.ensures)
