@@ -5,3 +5,4 @@ pub mod Dying
 pub mod Sweeping
 pub mod Working
 pub mod Reaching
+pub mod Leaving

@@ -3,6 +3,7 @@
 #![tactic(auto)]
 
 mod deaths;
+mod machine;
 mod order;
 mod room;
 mod search;
@@ -11,6 +12,7 @@ mod times;
 mod within;
 mod work;
 
+pub use machine::flush_machine;
 pub use room::{FlushRoom, flush};
 pub use times::NOW;
 

@@ -1,0 +1,44 @@
+use Rattle.std.proofs.Common.{◌≡◌, ℕ, ◌+◌, ◌*◌, ◌≤◌, Contains, sym, ◌∙◌, ap, subst}
+use Rattle.et_graph.proofs.Walks.{is_reached}
+use Rattle.et_heap.specs.Objects.{Objects, IsHeld, held_count}
+use Rattle.et_heap.specs.Refs.{pairs_of}
+use Rattle.et_heap.specs.Remaining.{remaining}
+use Rattle.et_machine.specs.State.{MachineState, kept_of}
+use Rattle.et_machine.specs.Roots.{graph_of}
+use Rattle.et_machine.specs.Sound.{IsSound}
+use Rattle.et_machine.proofs.Wholes.{sound_flushed}
+use Rattle.et_stamps.specs.Cleared.{IsCleared}
+use Rattle.et_flush.specs.Flushes.{cleared_from}
+use Rattle.et_flush.proofs.Leaving.{cleared, told, tells_reached}
+use Rattle.et_flush.proofs.machine.flush_machine.Given as given
+use Rattle.et_flush.proofs.machine.flush_machine.Goals as goal
+
+same_heap : (g : given.Over) (c : goal.After-flush g) → c.machine.inside.heap ≡ c.args.machine.now.heap
+same_heap g c = ap (λ (m : MachineState). m.heap) c.machine.view_is
+
+pub flush-requires-clause-slots : goal.flush-requires-clause-slots
+flush-requires-clause-slots g c =
+    subst (λ (h : Objects). (u o : ℕ) → Contains (pairs_of h) (u, o) → IsHeld h o) (sym (ap (λ (m : MachineState). m.heap) c.machine.view_is)) c.requires.sound.slots
+
+pub returns-clause-machine : goal.returns-clause-machine
+returns-clause-machine g c here tells =
+    ap (λ (m : MachineState). record m { heap = c.flush.new.heap }) c.machine.view_is
+    ∙ ap (λ (h : Objects). record c.args.machine.now { heap = h })
+    (c.flush.ensures.heap here (told c.args.machine.now c.machine.inside.heap c.roots.new.room here (same_heap g c) c.in_ok-roots.ensures tells) ∙ ap (λ (h : Objects). remaining here 0 h) (same_heap g c))
+
+pub returns-clause-graph : goal.returns-clause-graph
+returns-clause-graph g c =
+    let m = c.args.machine.now in
+    let here = is_reached (graph_of (kept_of m)) in
+    subst (λ (x : MachineState). IsCleared (graph_of (kept_of m)) (graph_of (kept_of x))) (sym (returns-clause-machine g c here (tells_reached m))) (cleared (kept_of m) here c.requires.sound (tells_reached m))
+
+pub returns-clause-sound : goal.returns-clause-sound
+returns-clause-sound g c =
+    let m = c.args.machine.now in
+    let here = is_reached (graph_of (kept_of m)) in
+    subst (λ (x : MachineState). IsSound (kept_of x)) (sym (returns-clause-machine g c here (tells_reached m))) (sound_flushed (kept_of m) here c.requires.sound (tells_reached m))
+
+pub returns-clause-visits : goal.returns-clause-visits
+returns-clause-visits g c here tells =
+    subst (λ (h : Objects). c.flush.new.visits ≤ c.args.visits.now + 2 * held_count h + cleared_from here 0 h) (same_heap g c)
+    (c.flush.ensures.visits here (told c.args.machine.now c.machine.inside.heap c.roots.new.room here (same_heap g c) c.in_ok-roots.ensures tells))

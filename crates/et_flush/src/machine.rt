@@ -1,0 +1,44 @@
+//! The flush of a machine.
+ghost use Rattle.std.specs.Prelude.{◌≡◌, ℕ, ◌+◌, ◌*◌, ◌<◌, ◌≤◌, ◌↔◌, true, Bool, length, slice_index, OnOk, OnErr};
+ghost use Rattle.et_graph.specs.Graph.{IsReached};
+ghost use Rattle.et_heap.specs.Objects.{IsHeld, held_count};
+ghost use Rattle.et_heap.specs.Remaining.{remaining};
+ghost use Rattle.et_machine.specs.State.{kept_of};
+ghost use Rattle.et_machine.specs.Roots.{graph_of};
+ghost use Rattle.et_machine.specs.Sound.{IsSound};
+ghost use Rattle.et_stamps.specs.Listed.{AreListed};
+ghost use Rattle.et_stamps.specs.Cleared.{IsCleared};
+ghost use Rattle.et_flush.specs.Flushes.{cleared_from};
+
+use crate::room::{FlushRoom, flush};
+use et_base::{NoMemory, Steps};
+use et_heap::RootList;
+use et_machine::Machine;
+use et_stamps::Stamps;
+use std::sync::ledger::Ledger;
+
+/// The flush of a machine: its roots are listed, and its heap is flushed from them. Nothing else of it changes. After
+/// `NoMemory`, which comes before the flush and only while the roots are listed, machine and room are as before.
+pub fn flush_machine<L: Ledger>(
+    machine: &mut Machine,
+    stamps: &Stamps,
+    roots: &mut RootList,
+    room: &mut FlushRoom,
+    visits: &mut Steps<L>,
+) -> Result<(), NoMemory>
+    requires sound { IsSound (kept_of machine.old) }
+    requires stamps { length machine.old.heap ≤ length stamps.now }
+    requires places { (graph_of (kept_of machine.old)).made ≤ room.old.places }
+    ensures deaths { OnOk result (AreListed (graph_of (kept_of machine.old)) (slice_index stamps.now) room.new.deaths) }
+    ensures machine { (here : ℕ → Bool) → ((o : ℕ) → IsHeld machine.old.heap o → (here o ≡ true) ↔ IsReached (graph_of (kept_of machine.old)) o) → OnOk result (machine.new ≡ record machine.old { heap = remaining here 0 machine.old.heap }) }
+    ensures graph { OnOk result (IsCleared (graph_of (kept_of machine.old)) (graph_of (kept_of machine.new))) }
+    ensures sound { OnOk result (IsSound (kept_of machine.new)) }
+    ensures visits { (here : ℕ → Bool) → ((o : ℕ) → IsHeld machine.old.heap o → (here o ≡ true) ↔ IsReached (graph_of (kept_of machine.old)) o) → visits.new ≤ visits.old + 2 * held_count machine.old.heap + cleared_from here 0 machine.old.heap }
+    ensures places { room.new.places ≡ room.old.places }
+    ensures err { OnErr result (machine.new ≡ machine.old) }
+    ensures err_room { OnErr result (room.new ≡ room.old) }
+{
+    machine.roots(roots)?;
+    flush(&mut machine.heap, roots, stamps, room, visits);
+    Ok(())
+}
