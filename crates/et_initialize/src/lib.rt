@@ -14,3 +14,4 @@ pub use begins::{begin_class_event, wait_event};
 pub use limits::quiet_fits;
 pub use needs::{Need, need_of};
 pub use quiet::set_quietly;
+pub use steps::initialization_event;
