@@ -7,3 +7,4 @@ mod Counting
 mod Beginning
 mod Preparing
 mod Stepping
+mod Turning

@@ -264,10 +264,10 @@ quiet_within e d₀ c b has lt quiet member =
     all_true (λ k. is_quiet_state e.program k (state_of d₀ k)) (class_at e.program b).init_order
     (λ j m. at_true (λ k. is_quiet_state e.program k (state_of d₀ k)) (class_at e.program c).init_order j quiet (has.orders c b j lt member m))
 
-true_false : true ≡ false → ⊥
+pub true_false : true ≡ false → ⊥
 true_false e = cc
 
-blocker_state : (e : Moment) (d₀ d : Doing) (b : ℕ) → IsInOrder e.program → is_ready e d₀ b ≡ false → Turns e d₀ d → state_of d b ≡ state_of d₀ b
+pub blocker_state : (e : Moment) (d₀ d : Doing) (b : ℕ) → IsInOrder e.program → is_ready e d₀ b ≡ false → Turns e d₀ d → state_of d b ≡ state_of d₀ b
 blocker_state e d₀ d b has blocked t = elim (t.each b) [
   | inl same ↦ same
   | inr v ↦ absurd (true_false (sym (quiet_within e d₀ v.by b has v.within v.quiet v.member) ∙ (sym (ap (λ (s : ClassState). is_ready_state e d₀ b s) v.was) ∙ blocked)))

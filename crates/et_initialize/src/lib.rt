@@ -1,5 +1,5 @@
 //! The initialization of classes (JVMS 5.5, 4.7.2, 2.9): what an event needs of a class, quiet classes with their constants,
-//! and the events in which an initializer begins.
+//! the events in which an initializer begins, and its turns before `<clinit>`.
 #![tactic(auto)]
 
 mod begins;
@@ -14,3 +14,4 @@ pub use begins::{begin_class_event, wait_event};
 pub use limits::quiet_fits;
 pub use needs::{Need, need_of};
 pub use quiet::set_quietly;
+pub use steps::initialization_event;

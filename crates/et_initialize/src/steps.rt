@@ -10,16 +10,16 @@ ghost use Rattle.et_event.specs.Answered.{EventAnswers};
 ghost use Rattle.et_heap.specs.Objects.{has_room};
 ghost use Rattle.et_program.specs.Entries.{class_at};
 ghost use Rattle.et_event.specs.Errors.{error_class};
-ghost use Rattle.et_event.specs.Moments.{begins, fits, throws};
+ghost use Rattle.et_event.specs.Moments.{begins, fits, throws, ends as ending};
 ghost use Rattle.et_event.specs.Sites.{body_of};
 ghost use Rattle.et_event.specs.Sound.{IsSoundFor};
-ghost use Rattle.et_event.specs.Initialization.{is_ready as ready, prepared, quietly_if_untouched, state_of, with_state, constants_set, begins_class, enters_clinit};
+ghost use Rattle.et_event.specs.Initialization.{is_ready as ready, prepared, quietly_if_untouched, state_of, with_state, constants_set, begins_class, enters_clinit, initialized, initialization_step};
 ghost use Rattle.et_initialize.specs.Programs.{IsInOrder};
 ghost use Rattle.et_initialize.specs.Under.{moment, so_far, ComesTo, IsReady};
 
-use crate::begins::initializer;
+use crate::begins::{MOST_FRAMES, initializer, wait_event};
 use crate::constants::{make_object, slots_of};
-use crate::limits::prepared_fit;
+use crate::limits::{prepared_class_fits, prepared_fit};
 use crate::needs::{Need, need_of};
 use crate::quiet::{set_constants, set_quietly};
 use et_base::{ClassId, MethodId, NoMemory, ThreadId};
@@ -265,4 +265,123 @@ fn begin_blocker(
     set_constants(program, machine, thread, class, out)?;
     machine.enter_frame(thread, initializer(alloc, class))?;
     Ok(EventEnd::Done)
+}
+
+/// The event in which a class begins for which an initializer waits, after the quiet ones among these classes became done, or
+/// StackOverflowError is thrown.
+fn begin_after(
+    program: &Program,
+    machine: &mut Machine,
+    alloc: Global,
+    thread: ThreadId,
+    classes: &[ClassId],
+    class: ClassId,
+    out: &mut Lines,
+) -> Result<EventEnd, NoMemory>
+    requires program { IsInOrder program.now }
+    requires class { class < length program.now.classes }
+    requires classes { All (λ c. c < length program.now.classes) classes.now }
+    requires sound { IsSoundFor program.now (kept_of machine.old) }
+    requires clock { machine.old.guest.clock < 2 ^ 40 }
+    requires frame { HasFrame machine.old.guest thread }
+    requires ready { list_all (ready (moment program.now machine.old thread) (begins (moment program.now machine.old thread))) classes.now ≡ true }
+    requires untouched { state_of (prepared (moment program.now machine.old thread) classes.now (begins (moment program.now machine.old thread))) class ≡ states.Untouched }
+    ensures { IfOk result (λ end. EventAnswers (begins_class (moment program.now machine.old thread) class (prepared (moment program.now machine.old thread) classes.now (begins (moment program.now machine.old thread)))) end machine.old machine.new out.old out.new) }
+{
+    if machine.frames(thread) >= MOST_FRAMES {
+        let error = GuestError::StackOverflowError;
+        return throw_after(program, machine, alloc, thread, classes, error, out);
+    }
+    if !prepared_class_fits(program, machine, alloc, classes, class)? {
+        return Ok(EventEnd::ObjectLimit);
+    }
+    begin_blocker(program, machine, alloc, thread, classes, class, out)
+}
+
+/// The event of an initializer that waits for a class, after the quiet ones among those before it became done.
+fn blocked_event(
+    program: &Program,
+    machine: &mut Machine,
+    alloc: Global,
+    thread: ThreadId,
+    classes: &[ClassId],
+    blocker: ClassId,
+    out: &mut Lines,
+) -> Result<EventEnd, NoMemory>
+    requires program { IsInOrder program.now }
+    requires class { blocker < length program.now.classes }
+    requires classes { All (λ c. c < length program.now.classes) classes.now }
+    requires sound { IsSoundFor program.now (kept_of machine.old) }
+    requires clock { machine.old.guest.clock < 2 ^ 40 }
+    requires frame { HasFrame machine.old.guest thread }
+    requires ready { list_all (ready (moment program.now machine.old thread) (begins (moment program.now machine.old thread))) classes.now ≡ true }
+    requires blocked { ready (moment program.now machine.old thread) (begins (moment program.now machine.old thread)) blocker ≡ false }
+    ensures { IfOk result (λ end. EventAnswers (initialized (moment program.now machine.old thread) (prepared (moment program.now machine.old thread) classes.now (begins (moment program.now machine.old thread))) blocker ending) end machine.old machine.new out.old out.new) }
+{
+    match need_of(program, machine, thread, blocker) {
+        Need::Begins => begin_after(program, machine, alloc, thread, classes, blocker, out),
+        Need::Failed => {
+            let error = GuestError::NoClassDefFoundError;
+            throw_after(program, machine, alloc, thread, classes, error, out)
+        }
+        Need::Waits => Ok(wait_event(machine, thread)),
+        Need::Ready | Need::Quiet => unreachable!(),
+    }
+}
+
+/// The event of an initializer that waits for nothing: `<clinit>` is entered, or the class is done.
+fn enter_event(
+    program: &Program,
+    machine: &mut Machine,
+    alloc: Global,
+    thread: ThreadId,
+    class: ClassId,
+    classes: &[ClassId],
+    out: &mut Lines,
+) -> Result<EventEnd, NoMemory>
+    requires program { IsInOrder program.now }
+    requires class { class < length program.now.classes }
+    requires classes { All (λ c. c < length program.now.classes) classes.now }
+    requires sound { IsSoundFor program.now (kept_of machine.old) }
+    requires clock { machine.old.guest.clock < 2 ^ 40 }
+    requires frame { HasFrame machine.old.guest thread }
+    requires stage { (top machine.old.guest thread).stage ≡ stages.Before class }
+    requires ready { list_all (ready (moment program.now machine.old thread) (begins (moment program.now machine.old thread))) classes.now ≡ true }
+    ensures { IfOk result (λ end. EventAnswers (enters_clinit (moment program.now machine.old thread) class (class_at program.now class).info.clinit (prepared (moment program.now machine.old thread) classes.now (begins (moment program.now machine.old thread)))) end machine.old machine.new out.old out.new) }
+{
+    if !prepared_fit(program, machine, alloc, classes, 0, 0)? {
+        return Ok(EventEnd::ObjectLimit);
+    }
+    match program.class(class).clinit {
+        Some(clinit) => enter(program, machine, thread, class, clinit, classes, out),
+        None => finish(program, machine, thread, class, classes, out),
+    }
+}
+
+/// The event of an initializer that has not entered `<clinit>` yet (JVMS 5.5): the quiet ones among its prerequisites become
+/// done up to the first for which it has to wait, and that is needed; where there is none, `<clinit>` is entered, or the class
+/// is done. After `NoMemory` the event may be half done, and machine and records may only be dropped.
+pub fn initialization_event(
+    program: &Program,
+    machine: &mut Machine,
+    alloc: Global,
+    thread: ThreadId,
+    class: ClassId,
+    out: &mut Lines,
+) -> Result<EventEnd, NoMemory>
+    requires program { IsInOrder program.now }
+    requires sound { IsSoundFor program.now (kept_of machine.old) }
+    requires clock { machine.old.guest.clock < 2 ^ 40 }
+    requires frame { HasFrame machine.old.guest thread }
+    requires stage { (top machine.old.guest thread).stage ≡ stages.Before class }
+    ensures { IfOk result (λ end. EventAnswers (initialization_step (moment program.now machine.old thread) class) end machine.old machine.new out.old out.new) }
+{
+    let classes = program.class(class).prerequisites.as_slice();
+    let count = ready_count(program, machine, thread, classes);
+    if count == classes.len() {
+        return enter_event(program, machine, alloc, thread, class, classes, out);
+    }
+    let blocker = classes[count];
+    let before = &classes[..count];
+    blocked_event(program, machine, alloc, thread, before, blocker, out)
 }
