@@ -1,0 +1,12 @@
+pub mod Lists
+pub mod Classes
+pub mod Elements
+pub mod Ascending
+pub mod Supers
+pub mod Above
+pub mod Marks
+pub mod Files
+pub mod Typed
+pub mod Static
+pub mod Order
+pub mod Programs

@@ -1,0 +1,109 @@
+-- What holds of each element of lists that are put together.
+use Rattle.std.proofs.Common.{◌≡◌, ℕ, zero, suc, ◌+◌, ◌<◌, ◌==◌, Bool, true, false, cond, List, [], ◌∷◌, ◌++◌, length, reverse, refl, sym, subst, inl, inr, arith, Contains}
+use Rattle.std.specs.Prelude.{All}
+use Rattle.std.specs.List.{slice_index_or, list_any, flat_map}
+use Rattle.std.proofs.lemmas.List.Elements.{All-nil, All-cons, All-head, All-tail, All-append, All-push, All-contains, All-contains_itself, Contains-append_left, Contains-append_right}
+use Rattle.std.proofs.lemmas.List.Sorted.{All-permutation, IsPermutation-reverse}
+use Rattle.std.proofs.lemmas.List.{reverse-reverse}
+use Rattle.std.proofs.lemmas.Bool.{eqb-true}
+use Rattle.et_graph.proofs.Lists.{Contains-none, Contains-here, Contains-cons, any_contains}
+use Rattle.et_link.specs.Slots.{places_from}
+use Rattle.et_set.specs.Ancestry.{added, added_all}
+use Rattle.et_link.specs.MembersOf.{numbered}
+
+module _ (P : ℕ → Type 0) where
+  either : (b : Bool) (xs ys : List ℕ) → All P xs → All P ys → All P (cond b xs ys)
+  either true xs ys h g = h
+  either false xs ys h g = g
+
+  pub all_added : (seen xs : List ℕ) → All P seen → All P xs → All P (added_all seen xs)
+  all_added seen [] h g = h
+  all_added seen (x ∷ xs) h g =
+      all_added (added seen x) xs (either (list_any (λ y. x == y) seen) seen (seen ++ x ∷ []) h (All-push P seen x h (All-head P x xs g))) (All-tail P x xs g)
+
+  pub all_flat : (f : ℕ → List ℕ) (xs : List ℕ) → All (λ i. All P (f i)) xs → All P (flat_map f xs)
+  all_flat f [] h = All-nil P
+  all_flat f (x ∷ xs) h = All-append P (f x) (flat_map f xs) (All-head (λ i. All P (f i)) x xs h) (all_flat f xs (All-tail (λ i. All P (f i)) x xs h))
+
+-- element i of a list has number k + i
+pub all_numbered : {X Y : Type 0} (P : Y → Type 0) (f : ℕ → X → List Y) (k : ℕ) (xs : List X) → ((i : ℕ) (x : X) → i < length xs → slice_index_or xs i x ≡ x → All P (f (k + i) x)) → All P (numbered f k xs)
+all_numbered P f k [] h = All-nil P
+all_numbered P f k (x ∷ xs) h =
+    All-append P (f k x) (numbered f (k + 1) xs)
+    (subst (λ (j : ℕ). All P (f j x)) (let e : k + 0 ≡ k = omega arith in e) (h 0 x (omega arith) refl))
+    (all_numbered P f (k + 1) xs (λ i y lt is. subst (λ (j : ℕ). All P (f j y)) (let e : k + suc i ≡ k + 1 + i = omega arith in e) (h (suc i) y (omega arith) is)))
+
+-- the place of an element that passes a test, where the list starts at place n
+pub all_places : {X : Type 0} (P : ℕ → Type 0) (t : X → Bool) (n : ℕ) (xs : List X) → ((i : ℕ) (x : X) → i < length xs → slice_index_or xs i x ≡ x → t x ≡ true → P (n + i)) → All P (places_from t n xs)
+all_places P t n [] h = All-nil P
+all_places {X} P t n (x ∷ xs) h = by (t x) refl (all_places P t (n + 1) xs (λ i y lt is e. subst P (let s : n + suc i ≡ n + 1 + i = omega arith in s) (h (suc i) y (omega arith) is e)))
+  where
+    by : (b : Bool) → t x ≡ b → All P (places_from t (n + 1) xs) → All P (cond b (n ∷ places_from t (n + 1) xs) (places_from t (n + 1) xs))
+    by true e r = All-cons P n (places_from t (n + 1) xs) (subst P (let s : n + 0 ≡ n = omega arith in s) (h 0 x (omega arith) refl e)) r
+    by false e r = r
+
+-- places ascend
+abbrev pub Ascends : List ℕ → Type 0
+Ascends xs = (i j : ℕ) → i < j → j < length xs → slice_index_or xs i 0 < slice_index_or xs j 0
+
+ascends_behind : (k : ℕ) (ys : List ℕ) → All (λ m. k < m) ys → Ascends ys → Ascends (k ∷ ys)
+ascends_behind k ys low h zero zero lt l = absurd (omega arith)
+ascends_behind k ys low h zero (suc j) lt l = low j 0 (omega arith)
+ascends_behind k ys low h (suc i) zero lt l = absurd (omega arith)
+ascends_behind k ys low h (suc i) (suc j) lt l = h i j (omega arith) (omega arith)
+
+pub places_ascend : {X : Type 0} (t : X → Bool) (n : ℕ) (xs : List X) → Ascends (places_from t n xs)
+places_ascend t n [] = λ i j lt l. absurd (omega arith)
+places_ascend {X} t n (x ∷ xs) = by (t x) (all_places (λ m. n < m) t (n + 1) xs (λ i y lt is e. omega arith)) (places_ascend t (n + 1) xs)
+  where
+    by : (b : Bool) → All (λ m. n < m) (places_from t (n + 1) xs) → Ascends (places_from t (n + 1) xs) → Ascends (cond b (n ∷ places_from t (n + 1) xs) (places_from t (n + 1) xs))
+    by true low h = ascends_behind n (places_from t (n + 1) xs) low h
+    by false low h = h
+
+-- WHAT LISTS HAVE that are put together
+
+pub all_before : {X : Type 0} (P : X → Type 0) (xs ys : List X) → All P (xs ++ ys) → All P xs
+all_before P [] ys h = All-nil P
+all_before P (x ∷ xs) ys h = All-cons P x xs (All-head P x (xs ++ ys) h) (all_before P xs ys (All-tail P x (xs ++ ys) h))
+
+added_has : (seen : List ℕ) (x : ℕ) → Contains (added seen x) x
+added_has seen x = by (list_any (λ y. x == y) seen) refl
+  where
+    by : (b : Bool) → list_any (λ y. x == y) seen ≡ b → Contains (cond b seen (seen ++ x ∷ [])) x
+    by true e = any_contains (λ y. x == y) x (λ y t. sym (eqb-true x y t)) seen e
+    by false e = Contains-append_right seen (x ∷ []) x (Contains-here x [])
+
+added_keeps : (seen : List ℕ) (y x : ℕ) → Contains seen x → Contains (added seen y) x
+added_keeps seen y x h = by (list_any (λ z. y == z) seen)
+  where
+    by : (b : Bool) → Contains (cond b seen (seen ++ y ∷ [])) x
+    by true = h
+    by false = Contains-append_left seen (y ∷ []) x h
+
+all_keep : (seen xs : List ℕ) (x : ℕ) → Contains seen x → Contains (added_all seen xs) x
+all_keep seen [] x h = h
+all_keep seen (y ∷ ys) x h = all_keep (added seen y) ys x (added_keeps seen y x h)
+
+pub added_all_has : (seen xs : List ℕ) (x : ℕ) → Contains xs x → Contains (added_all seen xs) x
+added_all_has seen [] x h = absurd (Contains-none x h)
+added_all_has seen (y ∷ ys) x h =
+    elim (Contains-cons y ys x h) [
+      | inl e ↦ all_keep (added seen y) ys x (subst (λ (z : ℕ). Contains (added seen y) z) e (added_has seen y))
+      | inr d ↦ added_all_has (added seen y) ys x d
+    ]
+
+pub flat_has : (f : ℕ → List ℕ) (xs : List ℕ) (t x : ℕ) → Contains xs t → Contains (f t) x → Contains (flat_map f xs) x
+flat_has f [] t x h c = absurd (Contains-none t h)
+flat_has f (y ∷ ys) t x h c =
+    elim (Contains-cons y ys t h) [
+      | inl e ↦ Contains-append_left (f y) (flat_map f ys) x (subst (λ (z : ℕ). Contains (f z) x) (sym e) c)
+      | inr d ↦ Contains-append_right (f y) (flat_map f ys) x (flat_has f ys t x d c)
+    ]
+
+pub reverse_all : (P : ℕ → Type 0) (xs : List ℕ) → All P xs → All P (reverse xs)
+reverse_all P xs h = All-permutation P xs (reverse xs) (IsPermutation-reverse xs) h
+
+pub reverse_has : (xs : List ℕ) (x : ℕ) → Contains xs x → Contains (reverse xs) x
+reverse_has xs x h =
+    let each : All (Contains (reverse xs)) (reverse (reverse xs)) = reverse_all (Contains (reverse xs)) (reverse xs) (All-contains_itself (reverse xs)) in
+    All-contains (Contains (reverse xs)) xs x (subst (λ (ys : List ℕ). All (Contains (reverse xs)) ys) (reverse-reverse xs) each) h

@@ -1,0 +1,4 @@
+//! What holds of every linked program, that calls of the machine ask (JVMS 5.3, 5.5).
+#![tactic(auto)]
+
+pub mod laws;
