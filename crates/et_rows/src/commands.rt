@@ -206,6 +206,21 @@ fn other_words_are_no_command(rt: HostRuntime) -> Result<(), Fail> {
 }
 
 #[test]
+fn a_failed_write_is_no_want_of_memory(rt: HostRuntime) -> Result<(), Fail> {
+    let alloc = rt.alloc();
+    for line in ["curve T", "replay --mark-sweep 120 T"] {
+        let mut files = files_with(alloc, "T", FIVE)?;
+        let mut out = MemSink::begin(alloc, 1000);
+        let mut err = MemSink::begin(alloc, 1000);
+        out.fail_at(1)?;
+        let status = answer(alloc, line, &mut files, &mut out, &mut err)?;
+        assert_eq!(rt; status, Status::WriteFault);
+        assert!(rt; out.bytes().is_empty());
+    }
+    Ok(())
+}
+
+#[test]
 fn a_failing_write_leaves_a_front(rt: HostRuntime) -> Result<(), Fail> {
     let alloc = rt.alloc();
     let mut files = files_with(alloc, "Box.txt", LISTING)?;
