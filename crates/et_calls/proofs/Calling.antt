@@ -25,14 +25,12 @@ use Rattle.et_event.specs.Monitors.{Lock, OfObject, OfClass, lock_for, may_enter
 use Rattle.et_event.specs.Sites.{Site}
 use Rattle.et_monitors.specs.Locks.{may_enter_some_at}
 use Rattle.et_calls.proofs.Coming.{moment}
-use Rattle.et_calls.proofs.Passing.{length_arguments}
-use Rattle.et_calls.specs.Arguments.{arguments_in}
-use Rattle.et_calls.specs.Rows.{AnswersUnless, InvokeAnswers, is_left, is_without_code}
+use Rattle.et_builtins.proofs.Standing.{length_arguments}
+use Rattle.et_builtins.specs.Arguments.{arguments_in}
+use Rattle.et_calls.specs.Rows.{AnswersUnless, InvokeAnswers, is_left}
 use Rattle.et_calls.specs.Plans.{planned}
 use Rattle.et_calls.specs.declared.plans.CallPlan.{CallPlan}
 use Rattle.et_calls.specs.declared.plans.CallPlan.TheVariants.{Enters}
-use Rattle.et_calls.specs.BuiltIns.{does_nothing}
-use Rattle.et_calls.proofs.Built.{nothing_answers, passed_over}
 
 open_is : (p : Linked) (t : ℕ) (m : MachineState) (lock : Option Lock) → may_enter_some (moment p t m) (begins (moment p t m)) lock ≡ may_enter_some_at t lock m
 open_is p t m None = refl
@@ -78,46 +76,30 @@ called_is p t m at count method le =
 
 pub code_answers : (p : Linked) (t : ℕ) (m m' : MachineState) (out out' : List Record) (end : EventEnd) (at : Site) (count method : ℕ) (body : Body) → count ≤ length (top m.guest t).operands → (method_at p method).code ≡ Some body
     → EventAnswers (enters_code (moment p t m) (begins (moment p t m)) (taking (moment p t m) count) method (arguments_of (moment p t m) count) body) end m m' out out'
-    → AnswersUnless (is_left (moment p t m) (Enters method count)) (enters_method (moment p t m) at (begins (moment p t m)) (arguments_of (moment p t m) count) method) (Some end) m m' out out'
-code_answers p t m m' out out' end at count method body le code a = (
-  ap (λ (c : Option Body). is_without_code (method_at p method) c && not (does_nothing (moment p t m) method count)) code,
-  subst (λ (o : Outcome Kept). EventAnswers o end m m' out out') (sym (called_is p t m at count method le ∙ ap (λ (c : Option Body). called (moment p t m) at count method c) code)) a,
-)
+    → EventAnswers (enters_method (moment p t m) at (begins (moment p t m)) (arguments_of (moment p t m) count) method) end m m' out out'
+code_answers p t m m' out out' end at count method body le code a =
+    subst (λ (o : Outcome Kept). EventAnswers o end m m' out out') (sym (called_is p t m at count method le ∙ ap (λ (c : Option Body). called (moment p t m) at count method c) code)) a
 
 abbrev codeless : Moment → Site → ℕ → ℕ → Bool → Outcome Kept
 codeless e at count method may =
     throws_unless e (begins e) UnsatisfiedLinkError may (built_in_event e at (begins e) (arguments_of e count) (method_at e.program method))
 
-pub no_code_answers : (p : Linked) (t : ℕ) (m m' : MachineState) (out out' : List Record) (end : Option EventEnd) (at : Site) (count method : ℕ) → count ≤ length (top m.guest t).operands → (method_at p method).code ≡ None
-    → AnswersUnless (not (has (method_at p method).flags NATIVE) && not (does_nothing (moment p t m) method count)) (codeless (moment p t m) at count method (not (has (method_at p method).flags NATIVE))) end m m' out out'
-    → AnswersUnless (is_left (moment p t m) (Enters method count)) (enters_method (moment p t m) at (begins (moment p t m)) (arguments_of (moment p t m) count) method) end m m' out out'
+pub no_code_answers : (p : Linked) (t : ℕ) (m m' : MachineState) (out out' : List Record) (end : EventEnd) (at : Site) (count method : ℕ) → count ≤ length (top m.guest t).operands → (method_at p method).code ≡ None
+    → EventAnswers (codeless (moment p t m) at count method (not (has (method_at p method).flags NATIVE))) end m m' out out'
+    → EventAnswers (enters_method (moment p t m) at (begins (moment p t m)) (arguments_of (moment p t m) count) method) end m m' out out'
 no_code_answers p t m m' out out' end at count method le code a =
-    subst (λ (b : Bool). AnswersUnless b (enters_method (moment p t m) at (begins (moment p t m)) (arguments_of (moment p t m) count) method) end m m' out out') (sym (ap (λ (c : Option Body). is_without_code (method_at p method) c && not (does_nothing (moment p t m) method count)) code))
-    (subst (λ (o : Outcome Kept). AnswersUnless (not (has (method_at p method).flags NATIVE) && not (does_nothing (moment p t m) method count)) o end m m' out out') (sym (called_is p t m at count method le ∙ ap (λ (c : Option Body). called (moment p t m) at count method c) code)) a)
+    subst (λ (o : Outcome Kept). EventAnswers o end m m' out out') (sym (called_is p t m at count method le ∙ ap (λ (c : Option Body). called (moment p t m) at count method c) code)) a
 
--- a native method, a constructor, and any other
+-- a native method, and another one
 
 pub native_answers : (p : Linked) (t : ℕ) (m m' : MachineState) (out out' : List Record) (end : EventEnd) (at : Site) (count method : ℕ) → has (method_at p method).flags NATIVE ≡ true
-    → EventAnswers (throws (moment p t m) UnsatisfiedLinkError (begins (moment p t m))) end m m' out out'
-    → AnswersUnless (not (has (method_at p method).flags NATIVE) && not (does_nothing (moment p t m) method count)) (codeless (moment p t m) at count method (not (has (method_at p method).flags NATIVE))) (Some end) m m' out out'
-native_answers p t m m' out out' end at count method native a = (
-  ap (λ (b : Bool). not b && not (does_nothing (moment p t m) method count)) native,
-  subst (λ (b : Bool). EventAnswers (codeless (moment p t m) at count method (not b)) end m m' out out') (sym native) a,
-)
+    → EventAnswers (throws (moment p t m) UnsatisfiedLinkError (begins (moment p t m))) end m m' out out' → EventAnswers (codeless (moment p t m) at count method (not (has (method_at p method).flags NATIVE))) end m m' out out'
+native_answers p t m m' out out' end at count method native a = subst (λ (b : Bool). EventAnswers (codeless (moment p t m) at count method (not b)) end m m' out out') (sym native) a
 
-pub constructor_answers : (p : Linked) (t : ℕ) (m m' : MachineState) (out : List Record) (at : Site) (count method next : ℕ) → count ≤ length (top m.guest t).operands → has (method_at p method).flags NATIVE ≡ false
-    → does_nothing (moment p t m) method count ≡ true → at.next ≡ next
-    → Led (kept_of m) (record { heap = m.heap; guest = with_top (ticked m.guest) t (passed_over count next (top m.guest t)) }) m'
-    → AnswersUnless (not (has (method_at p method).flags NATIVE) && not (does_nothing (moment p t m) method count)) (codeless (moment p t m) at count method (not (has (method_at p method).flags NATIVE))) (Some ends.Done) m m' out out
-constructor_answers p t m m' out at count method next le native does same led = (
-  ap (λ (b : Bool). not b && not (does_nothing (moment p t m) method count)) native ∙ ap (λ (b : Bool). true && not b) does,
-  subst (λ (b : Bool). EventAnswers (codeless (moment p t m) at count method (not b)) ends.Done m m' out out) (sym native) (nothing_answers p t m m' out at method count next le does same led),
-)
-
-pub other_answers : (p : Linked) (t : ℕ) (m : MachineState) (out : List Record) (at : Site) (count method : ℕ) → has (method_at p method).flags NATIVE ≡ false → does_nothing (moment p t m) method count ≡ false
-    → AnswersUnless (not (has (method_at p method).flags NATIVE) && not (does_nothing (moment p t m) method count)) (codeless (moment p t m) at count method (not (has (method_at p method).flags NATIVE))) None m m out out
-other_answers p t m out at count method native does =
-    (ap (λ (b : Bool). not b && not (does_nothing (moment p t m) method count)) native ∙ ap (λ (b : Bool). true && not b) does, refl, refl)
+pub other_answers : (p : Linked) (t : ℕ) (m m' : MachineState) (out out' : List Record) (end : EventEnd) (at : Site) (count method : ℕ) → has (method_at p method).flags NATIVE ≡ false
+    → EventAnswers (built_in_event (moment p t m) at (begins (moment p t m)) (arguments_of (moment p t m) count) (method_at p method)) end m m' out out'
+    → EventAnswers (codeless (moment p t m) at count method (not (has (method_at p method).flags NATIVE))) end m m' out out'
+other_answers p t m m' out out' end at count method native a = subst (λ (b : Bool). EventAnswers (codeless (moment p t m) at count method (not b)) end m m' out out') (sym native) a
 
 -- BY THE PLAN
 

@@ -44,13 +44,13 @@ use Rattle.et_monitors.proofs.Keeping.{monitor_on_way}
 use Rattle.et_monitors.proofs.There.{there_later, few_later}
 use Rattle.et_parts.proofs.Throwing.{ends_fit}
 use Rattle.et_calls.proofs.Coming.{moment, came_begin}
-use Rattle.et_calls.specs.Arguments.{arguments_in}
+use Rattle.et_builtins.specs.Arguments.{arguments_in}
 use Rattle.et_calls.specs.Entering.{taken_by, pushed_by}
 use Rattle.et_calls.specs.Ways.{Came}
 
 -- THE ARGUMENTS ARE TAKEN
 
-refs_taken : (xs : List Value) (n o : ℕ) → Contains (refs_of (take n xs)) o → Contains (refs_of xs) o
+pub refs_taken : (xs : List Value) (n o : ℕ) → Contains (refs_of (take n xs)) o → Contains (refs_of xs) o
 refs_taken xs zero o c = absurd (Contains-none o c)
 refs_taken [] (suc n) o c = absurd (Contains-none o c)
 refs_taken (x ∷ xs) (suc n) o c = elim (Contains-append_cases (refs_of_value x) (refs_of (take n xs)) o c) [
@@ -58,7 +58,7 @@ refs_taken (x ∷ xs) (suc n) o c = elim (Contains-append_cases (refs_of_value x
   | inr d ↦ Contains-append_right (refs_of_value x) (refs_of xs) o (refs_taken xs n o d)
 ]
 
-operand_rooted : (f : FrameState) (o : ℕ) → Contains (refs_of f.operands) o → Contains (frame_roots f) o
+pub operand_rooted : (f : FrameState) (o : ℕ) → Contains (refs_of f.operands) o → Contains (frame_roots f) o
 operand_rooted f o c = Contains-append_right (refs_of f.locals) _ o (Contains-append_left (refs_of f.operands) _ o c)
 
 came_taken : (p : Linked) (t count : ℕ) (m : MachineState) → IsSound (kept_of m) → HasFrame m.guest t
@@ -116,7 +116,7 @@ slots_set (Some y ∷ heap) zero x h = refl
 slots_set (z ∷ heap) (suc o) x h =
     sum_by-cons slots_in z (set heap o (Some (with_monitor x (found (at heap o))))) ∙ (ap (λ (n : ℕ). slots_in z + n) (slots_set heap o x h) ∙ sym (sum_by-cons slots_in z heap))
 
-fits_locked : (e : Moment) (lock : Option Lock) (d : Doing) (m : MachineState) → kept_of m ≡ d.state → HasSome m lock → fits (entered_some e lock d).state.heap ≡ fits d.state.heap
+pub fits_locked : (e : Moment) (lock : Option Lock) (d : Doing) (m : MachineState) → kept_of m ≡ d.state → HasSome m lock → fits (entered_some e lock d).state.heap ≡ fits d.state.heap
 fits_locked e None d m kept has = refl
 fits_locked e (Some (OfClass c)) d m kept has = refl
 fits_locked e (Some (OfObject o)) d m kept has =
@@ -179,12 +179,12 @@ commutes e None f d = refl
 commutes e (Some (OfObject o)) f d = refl
 commutes e (Some (OfClass c)) f d = refl
 
-entered_clock : (e : Moment) (lock : Option Lock) (d : Doing) → (entered_some e lock d).state.guest.clock ≡ d.state.guest.clock
+pub entered_clock : (e : Moment) (lock : Option Lock) (d : Doing) → (entered_some e lock d).state.guest.clock ≡ d.state.guest.clock
 entered_clock e None d = refl
 entered_clock e (Some (OfObject o)) d = refl
 entered_clock e (Some (OfClass c)) d = refl
 
-entered_records : (e : Moment) (lock : Option Lock) (d : Doing) → (entered_some e lock d).records ≡ d.records
+pub entered_records : (e : Moment) (lock : Option Lock) (d : Doing) → (entered_some e lock d).records ≡ d.records
 entered_records e None d = refl
 entered_records e (Some (OfObject o)) d = refl
 entered_records e (Some (OfClass c)) d = refl

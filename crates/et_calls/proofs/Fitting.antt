@@ -3,6 +3,7 @@ use Rattle.std.proofs.Common.{◌≡◌, ℕ, zero, suc, ◌+◌, ◌-◌, ◌<�
 use Rattle.std.specs.Prelude.{option_map, option_and_then, sum_by, ◌==◌, nat_le, if◌then◌else◌}
 use Rattle.std.specs.Option.{option_map_or}
 use Rattle.std.proofs.lemmas.List.Sums.{sum_by-cons}
+use Rattle.std.proofs.lemmas.Bool.{and_parts, leb-true}
 use Rattle.std.proofs.lemmas.Bool.Decides.{nat_tests}
 use Rattle.std.proofs.lemmas.List.{length-reverse, length-drop}
 use Rattle.et_base.specs.declared.value.Value.{Value}
@@ -14,7 +15,9 @@ use Rattle.et_event.specs.declared.rows.Operand.TheVariants as operand
 use Rattle.et_event.specs.Calls.{are_of, are_arguments, arguments_of, begin_with, call_fits, entry_count}
 use Rattle.et_event.specs.Kinds.{kind_of, kind_of_letter, returned_width}
 use Rattle.et_event.specs.Moments.{Moment, frame_of}
-use Rattle.et_calls.specs.Arguments.{are_of_types, are_passed, arguments_in, fitting, is_passing}
+use Rattle.et_frames.specs.Threads.{FrameState}
+use Rattle.et_builtins.specs.Arguments.{arguments_in}
+use Rattle.et_calls.specs.Arguments.{are_of_types, are_passed, fitting, is_passing}
 use Rattle.et_calls.specs.Types.{returned_in}
 
 -- THE PARTS OF A DESCRIPTOR
@@ -188,3 +191,14 @@ passes_by e static d shape depth count is some passes =
     let s : Shaped (method_type d) shape = shaped (method_type d) shape is in
     let n : count ≡ entry_count static s.type = some_counted (nat_le (counted shape static) depth) (counted shape static) count some ∙ counted_is d shape static s in
     sym (ap (λ (b : Bool). if b then Some count else None) passes) ∙ fitting_is e static d s.type count s.is n
+
+-- what is returned fits then
+
+pub passing_room : (f : FrameState) (static : Bool) (d : List ℕ) (count : ℕ) → is_passing f static d count ≡ true → length (drop count f.operands) + returned_width (returned_in d) ≤ f.room
+passing_room f static [] count e = cc
+passing_room f static (a ∷ s) count e =
+    let left : length (drop count f.operands) ≡ length f.operands - count = length-drop count f.operands in
+    let h : length f.operands - count + returned_width (returned_in (a ∷ s)) ≤ f.room =
+    leb-true (length f.operands - count + returned_width (returned_in (a ∷ s))) f.room
+    (and_parts (are_passed static s (arguments_in f count)) (nat_le (length f.operands - count + returned_width (returned_in (a ∷ s))) f.room) e).1 in
+    omega arith

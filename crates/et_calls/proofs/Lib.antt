@@ -7,6 +7,6 @@ mod Leaving
 mod Passing
 mod Fitting
 mod Planning
-mod Entered
+pub mod Entered
 mod Calling
-mod Built
+mod Choosing

@@ -14,32 +14,6 @@ use Rattle.et_event.specs.Calls.{are_of, begin_with, is_empty}
 use Rattle.et_event.specs.Kinds.{kind_of}
 use Rattle.et_calls.specs.Arguments.{entries_in, are_of_types, are_passed}
 
--- WHERE AN ARGUMENT STANDS
-
-length_taken : (xs : List Value) (n : ℕ) → n ≤ length xs → length (take n xs) ≡ n
-length_taken xs zero le = refl
-length_taken [] (suc n) le = absurd (omega arith)
-length_taken (x ∷ xs) (suc n) le = let h : length (take n xs) ≡ n = length_taken xs n (omega arith) in omega arith
-
-pub length_arguments : (ops : List Value) (count : ℕ) → count ≤ length ops → length (reverse (take count ops)) ≡ count
-length_arguments ops count le = length-reverse (take count ops) ∙ length_taken ops count le
-
-pub argument_there : (ops : List Value) (count j : ℕ) → count ≤ length ops → j < count → get_or (reverse (take count ops)) j Unset ≡ get_or ops (count - 1 - j) Unset
-argument_there ops count j le lt =
-    let n : length (take count ops) ≡ count = length_taken ops count le in
-    let small : j < length (take count ops) = omega arith in
-    get_or-reverse (take count ops) j Unset small
-    ∙ (ap (λ (k : ℕ). get_or (take count ops) (k - 1 - j) Unset) n ∙ get_or-take count ops (count - 1 - j) Unset (omega arith))
-
-past : (xs : List Value) (j : ℕ) → length xs ≤ j → get_or xs j Unset ≡ Unset
-past [] zero le = refl
-past [] (suc j) le = refl
-past (x ∷ xs) zero le = absurd (omega arith)
-past (x ∷ xs) (suc j) le = past xs j (omega arith)
-
-pub argument_past : (ops : List Value) (count j : ℕ) → count ≤ length ops → count ≤ j → get_or (reverse (take count ops)) j Unset ≡ Unset
-argument_past ops count j le past_end = past (reverse (take count ops)) j (let n : length (reverse (take count ops)) ≡ count = length_arguments ops count le in omega arith)
-
 -- ONE ARGUMENT
 
 begins_here : (kind : Option Operand) (g : List Value → Bool) (vs : List Value) → begin_with kind g vs ≡ option_map_or (λ n. g (drop n vs)) (entries_in kind (get_or vs 0 Unset) (get_or vs 1 Unset)) false

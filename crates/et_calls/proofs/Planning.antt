@@ -25,18 +25,6 @@ use Rattle.et_event.specs.Sites.{Member, Site, member_of, names_interface}
 use Rattle.et_event.specs.Sound.{IsSoundFor}
 use Rattle.et_parts.specs.Tops.{IsIn}
 
-abbrev pub reference_in : Value → Option ℕ
-reference_in (Ref o) = Some o
-reference_in v = None
-
-pub first_is : (vs : List Value) → first_reference vs ≡ reference_in (get_or vs 0 Unset)
-first_is [] = refl
-first_is (Ref o ∷ vs) = refl
-first_is (v ∷ vs) = refl
-
-pub reference_held : (m : MachineState) (t o : ℕ) → IsSound (kept_of m) → HasFrame m.guest t → IsIn (top m.guest t) (Ref o) → IsHeld m.heap o
-reference_held m t o sound has there = sound.roots o (top_root m.guest t o has (there o (Contains-here o [])))
-
 there_is : (x : Option ObjectState) → is_there x → x ≡ Some (found x)
 there_is None h = absurd h
 there_is (Some x) h = refl

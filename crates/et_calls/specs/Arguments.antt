@@ -10,11 +10,8 @@ use Rattle.et_event.specs.declared.rows.Operand.TheVariants as operand
 use Rattle.et_event.specs.Moments.{Moment}
 use Rattle.et_event.specs.Kinds.{returned_width}
 use Rattle.et_event.specs.Calls.{are_of, begin_with, entry_count, call_fits}
+use Rattle.et_builtins.specs.Arguments.{arguments_in}
 use Rattle.et_calls.specs.Types.{returned_in}
-
--- the topmost entries of a frame, as arguments in their order
-abbrev pub arguments_in : FrameState → ℕ → List Value
-arguments_in f count = reverse (take count f.operands)
 
 -- how many entries the value of a kind takes that begins with this entry and the next; none where it is of another kind
 abbrev pub entries_in : Option Operand → Value → Value → Option ℕ

@@ -1,5 +1,4 @@
 pub mod Arguments
-pub mod BuiltIns
 pub mod Entering
 pub mod Plans
 pub mod Returned

@@ -1,15 +1,17 @@
 -- What an invoke comes to, as a plan.
-use Rattle.std.specs.Prelude.{◌≡◌, ℕ, ◌<◌, ◌≤◌, length, Result, Ok, Err}
+use Rattle.std.specs.Prelude.{◌≡◌, ℕ, ◌+◌, ◌<◌, ◌≤◌, true, length, drop, Result, Ok, Err}
 use Rattle.et_machine.specs.State.{Kept}
 use Rattle.et_machine.specs.declared.class_state.ClassState.TheVariants.{Untouched}
-use Rattle.et_program.specs.Entries.{method_at}
+use Rattle.et_program.specs.Entries.{method_at, is_static}
 use Rattle.et_state.specs.Outcome.{Outcome}
 use Rattle.et_event.specs.declared.rows.CallKind.TheVariants.{Static}
 use Rattle.et_event.specs.declared.errors.GuestError.{GuestError}
 use Rattle.et_event.specs.Calls.{arguments_of, dispatched, enters_method}
 use Rattle.et_event.specs.Moments.{Moment, begins, frame_of, ill_typed, throws, waits}
 use Rattle.et_event.specs.Initialization.{state_of}
+use Rattle.et_event.specs.Kinds.{returned_width}
 use Rattle.et_event.specs.Sites.{Site}
+use Rattle.et_event.specs.Sound.{returned_of}
 use Rattle.et_calls.specs.declared.plans.CallPlan.{CallPlan}
 use Rattle.et_calls.specs.declared.plans.CallPlan.TheVariants.{IllTyped, Throws, Waits, Initializes, Enters}
 
@@ -21,10 +23,15 @@ planned e at Waits = waits e
 planned e at (Initializes method count) = dispatched e at Static (arguments_of e count) 0 method
 planned e at (Enters method count) = enters_method e at (begins e) (arguments_of e count) method
 
--- the method is one of the program, and the arguments are there; a class that is initialized first is untouched
+-- what the method returns will fit once its arguments are taken
+abbrev pub HasRoom : Moment → ℕ → ℕ → Type 0
+HasRoom e method count = length (drop count (frame_of e).operands) + returned_width (returned_of (method_at e.program method)) ≤ (frame_of e).room
+
+-- the method is one of the program, the arguments are there, and what it returns will fit; a class that is initialized first is
+-- untouched, and its method static
 abbrev pub IsPlan : Moment → CallPlan → Type 0
-IsPlan e (Initializes method count) = (method < length e.program.methods) × (count ≤ length (frame_of e).operands) × (state_of (begins e) (method_at e.program method).class ≡ Untouched)
-IsPlan e (Enters method count) = (method < length e.program.methods) × (count ≤ length (frame_of e).operands)
+IsPlan e (Initializes method count) = (method < length e.program.methods) × (count ≤ length (frame_of e).operands) × (state_of (begins e) (method_at e.program method).class ≡ Untouched) × (is_static e.program method ≡ true)
+IsPlan e (Enters method count) = (method < length e.program.methods) × (count ≤ length (frame_of e).operands) × HasRoom e method count
 IsPlan e plan = Unit {0}
 
 -- what was resolved, or the error that is thrown

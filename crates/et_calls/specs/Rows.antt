@@ -1,13 +1,9 @@
 -- What a call that does the rows of calls answers.
-use Rattle.std.specs.Prelude.{◌≡◌, Bool, true, false, not, ◌&&◌, List, Option, Some, None}
-use Rattle.et_class.specs.Names.{has}
-use Rattle.et_class.specs.declared.flags.TheConstants.{NATIVE}
-use Rattle.et_code.specs.Bodies.{Body}
+use Rattle.std.specs.Prelude.{◌≡◌, Bool, true, false, List, Option, Some, None}
 use Rattle.et_machine.specs.declared.class_state.ClassState.{ClassState}
 use Rattle.et_machine.specs.declared.class_state.ClassState.TheVariants.{Untouched}
 use Rattle.et_machine.specs.State.{Kept, MachineState}
 use Rattle.et_program.specs.Entries.{method_at}
-use Rattle.et_program.specs.declared.info.MethodInfo.{MethodInfo}
 use Rattle.et_state.specs.declared.records.Record.{Record}
 use Rattle.et_state.specs.declared.ends.EventEnd.{EventEnd}
 use Rattle.et_state.specs.Outcome.{Outcome}
@@ -20,25 +16,16 @@ use Rattle.et_event.specs.Moments.{Moment, begins}
 use Rattle.et_event.specs.Sites.{Site}
 use Rattle.et_calls.specs.declared.plans.CallPlan.{CallPlan}
 use Rattle.et_calls.specs.declared.plans.CallPlan.TheVariants.{IllTyped, Throws, Waits, Initializes, Enters}
-use Rattle.et_calls.specs.BuiltIns.{does_nothing}
 use Rattle.et_calls.specs.Plans.{planned}
-
--- no code and not native: a built-in method, or an abstract one
-abbrev pub is_without_code : MethodInfo → Option Body → Bool
-is_without_code m None = not (has m.flags NATIVE)
-is_without_code m (Some body) = false
-
-abbrev pub is_built_in : MethodInfo → Bool
-is_built_in m = is_without_code m m.code
 
 abbrev pub is_untouched : ClassState → Bool
 is_untouched Untouched = true
 is_untouched other = false
 
--- a plan that is left to others: a class is untouched, or a method without code is done that does something
+-- a plan that is left to others: a class is untouched
 abbrev pub is_left : Moment → CallPlan → Bool
 is_left e (Initializes method count) = is_untouched (state_of (begins e) (method_at e.program method).class)
-is_left e (Enters method count) = is_built_in (method_at e.program method) && not (does_nothing e method count)
+is_left e (Enters method count) = false
 is_left e IllTyped = false
 is_left e (Throws error) = false
 is_left e Waits = false

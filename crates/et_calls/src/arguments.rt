@@ -5,32 +5,18 @@ ghost use Rattle.et_base.specs.declared.value.Value.TheVariants.{Unset};
 ghost use Rattle.et_pool.specs.Descriptors.{method_type};
 ghost use Rattle.et_machine.specs.State.{kept_of};
 ghost use Rattle.et_machine.specs.Words.{HasFrame, top};
-ghost use Rattle.et_parts.specs.Tops.{IsIn};
 ghost use Rattle.et_program.specs.Entries.{Linked};
-ghost use Rattle.et_calls.specs.Arguments.{arguments_in, are_of_types, are_passed, entries_in as entries_among, fitting, is_passing};
+ghost use Rattle.et_event.specs.Kinds.{returned_width as width_returned};
+ghost use Rattle.et_calls.specs.Types.{returned_in};
+ghost use Rattle.et_builtins.specs.Arguments.{arguments_in};
+ghost use Rattle.et_calls.specs.Arguments.{are_of_types, are_passed, entries_in as entries_among, fitting, is_passing};
 
-use crate::frames::operands_are_few;
 use crate::types::{behind_type, kind_of, returned_type, returned_width};
 use et_base::{ThreadId, Value};
+use et_builtins::{argument_at, operands_are_few};
 use et_event::Operand;
 use et_machine::Machine;
-use et_parts::operand_at;
 use et_pool::descriptor::method_shape;
-
-/// The entry of the arguments that stands so far behind the first of them; `Unset` behind the last.
-#[tactic(auto, using(crate::proofs::Passing::argument_there, crate::proofs::Passing::argument_past, et_parts::proofs::Groups::unset_is_in))]
-pub(crate) fn argument_at(machine: &Machine, thread: ThreadId, count: u32, j: u32) -> Value
-    requires frame { HasFrame machine.now.guest thread }
-    requires operands { count ≤ length (top machine.now.guest thread).operands }
-    ensures there { IsIn (top machine.now.guest thread) result }
-    ensures value { result ≡ slice_index_or (arguments_in (top machine.now.guest thread) count) j Unset }
-{
-    if j < count {
-        operand_at(machine, thread, count - 1 - j)
-    } else {
-        Value::Unset
-    }
-}
 
 /// How many entries the value of a kind takes that begins with this entry and the next; `None` where it is of another kind.
 fn entries_in(kind: Option<Operand>, first: Value, next: Value) -> Option<u32>
@@ -161,6 +147,7 @@ pub(crate) fn fitting_call(
     requires frame { HasFrame machine.now.guest thread }
     ensures value { (p : Linked) → result ≡ fitting (record { program = p; before = kept_of machine.now; thread = thread }) is_static (method_type descriptor.now) }
     ensures operands { IfSome result (λ count. count ≤ length (top machine.now.guest thread).operands) }
+    ensures room { IfSome result (λ count. length (drop count (top machine.now.guest thread).operands) + width_returned (returned_in descriptor.now) ≤ (top machine.now.guest thread).room) }
 {
     let shape = method_shape(descriptor)?;
     operands_are_few(machine, thread);

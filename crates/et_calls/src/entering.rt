@@ -14,9 +14,8 @@ ghost use Rattle.et_event.specs.Calls.{arguments_of, enters_method, taking};
 ghost use Rattle.et_event.specs.declared.errors.GuestError.TheVariants as errors;
 ghost use Rattle.et_state.specs.Outcome.{Outcome};
 ghost use Rattle.et_event.specs.Sites.{Site};
-ghost use Rattle.et_calls.specs.Rows.{AnswersUnless, is_left};
-ghost use Rattle.et_calls.specs.BuiltIns.{does_nothing as nothing_done};
-ghost use Rattle.et_calls.specs.declared.plans.CallPlan.TheVariants as plans;
+ghost use Rattle.et_sound.specs.Programs.{HasMachineSlots};
+ghost use Rattle.et_calls.specs.Plans.{HasRoom};
 ghost use Rattle.et_event.specs.BuiltIns.{built_in_event};
 ghost use Rattle.et_event.specs.Checks.{frame_fits, throws_unless};
 ghost use Rattle.et_event.specs.Frames.{enters_code, frame_entered, method_frame, receiver_of as receiver_in};
@@ -24,14 +23,11 @@ ghost use Rattle.et_event.specs.Moments.{begins, ends, fits};
 ghost use Rattle.et_event.specs.Monitors.{lock_for as lock_for_method};
 ghost use Rattle.et_event.specs.Sound.{IsSoundFor};
 ghost use Rattle.et_monitors.specs.Locks.{HasSome, IsSomeFewTimes, entering_some, locks_of};
-ghost use Rattle.et_calls.specs.Arguments.{arguments_in};
+ghost use Rattle.et_builtins.specs.Arguments.{arguments_in};
 ghost use Rattle.et_calls.specs.Entering.{pushed_by};
 
-use crate::arguments::argument_at;
-use crate::builtins::{answer, is_constructor};
-use crate::frames::operands_are_few;
-use crate::plans::receiver;
 use et_base::{MethodId, NoMemory, ObjectId, Steps, ThreadId, Value};
+use et_builtins::{argument_at, built_in_method_event, operands_are_few, receiver};
 use et_class::flags::{NATIVE, STATIC, SYNCHRONIZED, has};
 use et_code::Code;
 use et_event::GuestError;
@@ -45,8 +41,8 @@ use smallvec::SmallVec;
 use std::alloc::Global;
 use std::sync::ledger::Ledger;
 
-/// The arguments of a call, in the order of the locals.
-fn arguments(
+/// The arguments of a call, in the order of the locals (JVMS 2.6.1).
+pub fn arguments(
     alloc: Global,
     machine: &Machine,
     thread: ThreadId,
@@ -119,7 +115,7 @@ fn number_of(receiver: &Option<ObjectId>) -> u32
 }
 
 /// The frame of a method that is called with these arguments (JVMS 2.6), which are so many entries.
-fn new_frame(
+pub fn new_frame(
     method: MethodId,
     info: &MethodInfo,
     code: &Code,
@@ -255,19 +251,8 @@ fn enter_code<L: Ledger>(
     )
 }
 
-/// Whether a method without code is a built-in constructor that is called on an object.
-fn does_nothing(machine: &Machine, thread: ThreadId, info: &MethodInfo, count: u32) -> bool
-    requires frame { HasFrame machine.now.guest thread }
-    requires sound { IsSound (kept_of machine.now) }
-    requires operands { count ≤ length (top machine.now.guest thread).operands }
-    ensures { (p : Linked) (method : ℕ) → info.now ≡ method_at p method → result ≡ nothing_done (record { program = p; before = kept_of machine.now; thread = thread }) method count }
-{
-    is_constructor(info) && receiver(machine, thread, count).is_some()
-}
-
-/// The event of a method without code: a native one throws (JVMS 2.11.8), and a built-in constructor without parameters does
-/// nothing. `None`, and nothing is done, where it is another one.
-fn codeless_event(
+/// The event of a method without code: a native one throws (JVMS 2.11.8), and another one is built in or abstract.
+fn codeless_event<L: Ledger>(
     machine: &mut Machine,
     program: &Program,
     thread: ThreadId,
@@ -276,36 +261,29 @@ fn codeless_event(
     count: u32,
     next: u32,
     out: &mut Lines,
-) -> Result<Option<EventEnd>, NoMemory>
+    visits: &mut Steps<L>,
+) -> Result<EventEnd, NoMemory>
     requires frame { HasFrame machine.old.guest thread }
-    requires sound { IsSound (kept_of machine.old) }
+    requires sound { IsSoundFor program.now (kept_of machine.old) }
     requires clock { machine.old.guest.clock < 2 ^ 40 }
     requires operands { count ≤ length (top machine.old.guest thread).operands }
+    requires method { method < length program.now.methods }
     requires info { info.now ≡ method_at program.now method }
-    ensures ok { IfOk result (λ end. (at : Site) → at.next ≡ next → AnswersUnless (not (has_flag (method_at program.now method).flags NATIVE_FLAG) && not (nothing_done (record { program = program.now; before = kept_of machine.old; thread = thread }) method count)) (throws_unless (record { program = program.now; before = kept_of machine.old; thread = thread }) (begins (record { program = program.now; before = kept_of machine.old; thread = thread })) errors.UnsatisfiedLinkError (not (has_flag (method_at program.now method).flags NATIVE_FLAG)) (built_in_event (record { program = program.now; before = kept_of machine.old; thread = thread }) at (begins (record { program = program.now; before = kept_of machine.old; thread = thread })) (arguments_of (record { program = program.now; before = kept_of machine.old; thread = thread }) count) (method_at program.now method))) end machine.old machine.new out.old out.new) }
-    ensures err { OnErr result (machine.new.guest ≡ machine.old.guest) }
+    requires room { HasRoom (record { program = program.now; before = kept_of machine.old; thread = thread }) method count }
+    requires slots { HasMachineSlots program.now }
+    ensures ok { IfOk result (λ end. (at : Site) → at.next ≡ next → EventAnswers (throws_unless (record { program = program.now; before = kept_of machine.old; thread = thread }) (begins (record { program = program.now; before = kept_of machine.old; thread = thread })) errors.UnsatisfiedLinkError (not (has_flag (method_at program.now method).flags NATIVE_FLAG)) (built_in_event (record { program = program.now; before = kept_of machine.old; thread = thread }) at (begins (record { program = program.now; before = kept_of machine.old; thread = thread })) (arguments_of (record { program = program.now; before = kept_of machine.old; thread = thread }) count) (method_at program.now method))) end machine.old machine.new out.old out.new) }
+    ensures visits { visits.new ≤ visits.old + 3 }
 {
     if has(info.flags, NATIVE) {
-        let end = throw_error(
-            machine,
-            program,
-            thread,
-            GuestError::UnsatisfiedLinkError,
-            out,
-        )?;
-        return Ok(Some(end));
+        let error = GuestError::UnsatisfiedLinkError;
+        return throw_error(machine, program, thread, error, out);
     }
-    if !does_nothing(machine, thread, info, count) {
-        return Ok(None);
-    }
-    operands_are_few(machine, thread);
-    answer(machine, thread, count, &[], next);
-    Ok(Some(EventEnd::Done))
+    built_in_method_event(program, machine, thread, method, count, next, out, visits)
 }
 
-/// The event in which a selected method is entered in front of the pc `next`, or throws since it is native and not built in,
-/// or is a built-in constructor without parameters. `None`, and nothing is done, where it is another method without code. It
-/// visits three objects at most. After `NoMemory` the event may have begun, and the machine is not to be used.
+/// The event in which a selected method is entered in front of the pc `next` (JVMS 2.6, 2.11.8, 2.11.10): one without code is
+/// done, where it is built in, and else throws. It visits three objects at most. After `NoMemory` the event may have begun, and
+/// the machine is not to be used.
 pub fn enter_event<L: Ledger>(
     alloc: Global,
     machine: &mut Machine,
@@ -316,23 +294,24 @@ pub fn enter_event<L: Ledger>(
     next: u32,
     out: &mut Lines,
     visits: &mut Steps<L>,
-) -> Result<Option<EventEnd>, NoMemory>
+) -> Result<EventEnd, NoMemory>
     requires frame { HasFrame machine.old.guest thread }
     requires sound { IsSoundFor program.now (kept_of machine.old) }
     requires clock { machine.old.guest.clock < 2 ^ 40 }
     requires operands { count ≤ length (top machine.old.guest thread).operands }
     requires method { method < length program.now.methods }
-    ensures ok { IfOk result (λ end. (at : Site) → at.next ≡ next → AnswersUnless (is_left (record { program = program.now; before = kept_of machine.old; thread = thread }) (plans.Enters method count)) (enters_method (record { program = program.now; before = kept_of machine.old; thread = thread }) at (begins (record { program = program.now; before = kept_of machine.old; thread = thread })) (arguments_of (record { program = program.now; before = kept_of machine.old; thread = thread }) count) method) end machine.old machine.new out.old out.new) }
+    requires room { HasRoom (record { program = program.now; before = kept_of machine.old; thread = thread }) method count }
+    requires slots { HasMachineSlots program.now }
+    ensures ok { IfOk result (λ end. (at : Site) → at.next ≡ next → EventAnswers (enters_method (record { program = program.now; before = kept_of machine.old; thread = thread }) at (begins (record { program = program.now; before = kept_of machine.old; thread = thread })) (arguments_of (record { program = program.now; before = kept_of machine.old; thread = thread }) count) method) end machine.old machine.new out.old out.new) }
     ensures visits { visits.new ≤ visits.old + 3 }
 {
     let info = program.method(method);
     match &info.code {
-        Some(code) => {
-            let end = enter_code(
-                alloc, machine, program, thread, method, info, code, count, out, visits,
-            )?;
-            Ok(Some(end))
-        }
-        None => codeless_event(machine, program, thread, method, info, count, next, out),
+        Some(code) => enter_code(
+            alloc, machine, program, thread, method, info, code, count, out, visits,
+        ),
+        None => codeless_event(
+            machine, program, thread, method, info, count, next, out, visits,
+        ),
     }
 }

@@ -86,13 +86,3 @@ pub(crate) fn resume(machine: &mut Machine, program: &Program, thread: ThreadId,
     give(machine, thread, values);
     machine.set_pc(thread, next);
 }
-
-/// A frame has no more operands than it has room for, and that is for fewer than 65,536.
-pub(crate) fn operands_are_few(machine: &Machine, thread: ThreadId)
-    requires { HasFrame machine.now.guest thread }
-    ensures few { length (top machine.now.guest thread).operands < 2 ^ 16 }
-    ensures fits { length (top machine.now.guest thread).operands ≤ (top machine.now.guest thread).room }
-{
-    let _room = machine.room(thread);
-    let _depth = machine.depth(thread);
-}

@@ -2,7 +2,6 @@
 #![tactic(auto)]
 
 mod arguments;
-mod builtins;
 mod entering;
 mod frames;
 mod plans;
@@ -11,6 +10,6 @@ mod returns;
 mod rows;
 mod types;
 
-pub use entering::enter_event;
+pub use entering::{arguments as call_arguments, enter_event, new_frame};
 pub use plans::{CallPlan, invoke_plan};
-pub use rows::call_row_event;
+pub use rows::{call_row_event, plan_event};

@@ -1,5 +1,5 @@
 //! What an invoke comes to (JVMS 6.5, the invokes; 5.4.3), found out without a change.
-ghost use Rattle.std.specs.Prelude.{◌≡◌, ℕ, ◌+◌, ◌<◌, ◌≤◌, ◌^◌, IfOk, IfSome, codes, length};
+ghost use Rattle.std.specs.Prelude.{◌≡◌, ℕ, ◌+◌, ◌<◌, ◌≤◌, ◌^◌, true, IfOk, IfSome, codes, length};
 ghost use Rattle.et_heap.specs.Objects.{IsHeld};
 ghost use Rattle.et_machine.specs.Sound.{IsSound};
 ghost use Rattle.et_machine.specs.Words.{HasFrame, top};
@@ -18,11 +18,12 @@ ghost use Rattle.et_event.specs.Moments.{Moment, begins, frame_of};
 ghost use Rattle.et_event.specs.Sites.{Site, natural};
 ghost use Rattle.et_event.specs.Initialization.{state_of};
 ghost use Rattle.et_event.specs.Sound.{IsSoundFor};
-ghost use Rattle.et_calls.specs.Arguments.{arguments_in};
-ghost use Rattle.et_calls.specs.Plans.{planned, IsPlan, resolving};
+ghost use Rattle.et_builtins.specs.Arguments.{arguments_in};
+ghost use Rattle.et_calls.specs.Plans.{planned, HasRoom, IsPlan, resolving};
 
-use crate::arguments::{argument_at, fitting_call};
-use et_base::{ClassId, MethodId, ObjectId, Steps, ThreadId, Value};
+use crate::arguments::fitting_call;
+use et_base::{ClassId, MethodId, Steps, ThreadId};
+use et_builtins::receiver;
 use et_class::flags::{STATIC, has};
 use et_event::{CallKind, GuestError};
 use et_machine::{ClassState, Machine};
@@ -45,24 +46,9 @@ pub enum CallPlan {
     Enters { method: MethodId, count: u32 },
 }
 
-/// The object on which a method is called: the first argument.
-#[tactic(auto, using(crate::proofs::Planning::first_is, crate::proofs::Planning::reference_held))]
-pub(crate) fn receiver(machine: &Machine, thread: ThreadId, count: u32) -> Option<ObjectId>
-    requires frame { HasFrame machine.now.guest thread }
-    requires operands { count ≤ length (top machine.now.guest thread).operands }
-    requires sound { IsSound (kept_of machine.now) }
-    ensures value { result ≡ first_reference (arguments_in (top machine.now.guest thread) count) }
-    ensures held { IfSome result (λ o. IsHeld machine.now.heap o) }
-{
-    match argument_at(machine, thread, count, 0) {
-        Value::Ref(o) => Some(o),
-        _ => None,
-    }
-}
-
 /// The selected method is entered, or the error of the selection is thrown.
 fn selected(answer: Result<MethodId, LinkError>, count: u32) -> CallPlan
-    ensures within { (e : Moment) → IfOk answer (λ m. m < length e.program.methods) → count ≤ length (frame_of e).operands → IsPlan e result }
+    ensures within { (e : Moment) → IfOk answer (λ m. m < length e.program.methods) → IfOk answer (λ m. HasRoom e m count) → count ≤ length (frame_of e).operands → IsPlan e result }
     ensures plan { (e : Moment) (at : Site) → selected_in e (begins e) answer (enters_method e at (begins e) (arguments_of e count)) ≡ planned e at result }
 {
     match answer {
@@ -85,6 +71,7 @@ fn virtual_plan<L: Ledger>(
     requires sound { IsSoundFor program.now (kept_of machine.now) }
     requires operands { count ≤ length (top machine.now.guest thread).operands }
     requires method { method < length program.now.methods }
+    requires room { HasRoom (record { program = program.now; before = kept_of machine.now; thread = thread }) method count }
     ensures plan { (at : Site) (named : ℕ) → dispatched (record { program = program.now; before = kept_of machine.now; thread = thread }) at kinds.Virtual (arguments_of (record { program = program.now; before = kept_of machine.now; thread = thread }) count) named method ≡ planned (record { program = program.now; before = kept_of machine.now; thread = thread }) at result }
     ensures within { IsPlan (record { program = program.now; before = kept_of machine.now; thread = thread }) result }
     ensures visits { visits.new ≤ visits.old + 1 }
@@ -113,6 +100,7 @@ fn interface_plan<L: Ledger>(
     requires sound { IsSoundFor program.now (kept_of machine.now) }
     requires operands { count ≤ length (top machine.now.guest thread).operands }
     requires method { method < length program.now.methods }
+    requires room { HasRoom (record { program = program.now; before = kept_of machine.now; thread = thread }) method count }
     ensures plan { (at : Site) (named : ℕ) → dispatched (record { program = program.now; before = kept_of machine.now; thread = thread }) at kinds.Interface (arguments_of (record { program = program.now; before = kept_of machine.now; thread = thread }) count) named method ≡ planned (record { program = program.now; before = kept_of machine.now; thread = thread }) at result }
     ensures within { IsPlan (record { program = program.now; before = kept_of machine.now; thread = thread }) result }
     ensures visits { visits.new ≤ visits.old + 1 }
@@ -166,6 +154,7 @@ fn special_plan<L: Ledger>(
     requires current { current < length program.now.classes }
     requires named { named < length program.now.classes }
     requires method { method < length program.now.methods }
+    requires room { HasRoom (record { program = program.now; before = kept_of machine.now; thread = thread }) method count }
     ensures plan { (at : Site) → at.class ≡ current → dispatched (record { program = program.now; before = kept_of machine.now; thread = thread }) at kinds.Special (arguments_of (record { program = program.now; before = kept_of machine.now; thread = thread }) count) named method ≡ planned (record { program = program.now; before = kept_of machine.now; thread = thread }) at result }
     ensures within { IsPlan (record { program = program.now; before = kept_of machine.now; thread = thread }) result }
     ensures visits { visits.new ≤ visits.old + 1 }
@@ -194,6 +183,8 @@ fn static_plan(
     requires sound { IsSoundFor program.now (kept_of machine.now) }
     requires operands { count ≤ length (top machine.now.guest thread).operands }
     requires method { method < length program.now.methods }
+    requires room { HasRoom (record { program = program.now; before = kept_of machine.now; thread = thread }) method count }
+    requires is_static { is_static program.now method ≡ true }
     ensures plan { (at : Site) (named : ℕ) → dispatched (record { program = program.now; before = kept_of machine.now; thread = thread }) at kinds.Static (arguments_of (record { program = program.now; before = kept_of machine.now; thread = thread }) count) named method ≡ planned (record { program = program.now; before = kept_of machine.now; thread = thread }) at result }
     ensures within { IsPlan (record { program = program.now; before = kept_of machine.now; thread = thread }) result }
 {
@@ -204,7 +195,7 @@ fn static_plan(
 /// The plan of `invokestatic` where the class of the method is in this state.
 fn state_plan(state: ClassState, thread: ThreadId, method: MethodId, count: u32) -> CallPlan
     ensures plan { (e : Moment) (at : Site) (class named : ℕ) → e.thread ≡ thread → (method_at e.program method).class ≡ class → state_of (begins e) class ≡ state → dispatched e at kinds.Static (arguments_of e count) named method ≡ planned e at result }
-    ensures within { (e : Moment) → method < length e.program.methods → count ≤ length (frame_of e).operands → state_of (begins e) (method_at e.program method).class ≡ state → IsPlan e result }
+    ensures within { (e : Moment) → method < length e.program.methods → HasRoom e method count → count ≤ length (frame_of e).operands → state_of (begins e) (method_at e.program method).class ≡ state → is_static e.program method ≡ true → IsPlan e result }
 {
     match state {
         ClassState::Done => CallPlan::Enters { method, count },
@@ -236,6 +227,8 @@ fn dispatch_plan<L: Ledger>(
     requires current { current < length program.now.classes }
     requires named { named < length program.now.classes }
     requires method { method < length program.now.methods }
+    requires room { HasRoom (record { program = program.now; before = kept_of machine.now; thread = thread }) method count }
+    requires is_static { is_as (calls_static kind) (is_static program.now method) ≡ true }
     ensures plan { (at : Site) → at.class ≡ current → dispatched (record { program = program.now; before = kept_of machine.now; thread = thread }) at kind (arguments_of (record { program = program.now; before = kept_of machine.now; thread = thread }) count) named method ≡ planned (record { program = program.now; before = kept_of machine.now; thread = thread }) at result }
     ensures within { IsPlan (record { program = program.now; before = kept_of machine.now; thread = thread }) result }
     ensures visits { visits.new ≤ visits.old + 1 }
@@ -275,6 +268,7 @@ fn resolved_plan<L: Ledger>(
     requires current { current < length program.now.classes }
     requires named { named < length program.now.classes }
     requires method { method < length program.now.methods }
+    requires room { HasRoom (record { program = program.now; before = kept_of machine.now; thread = thread }) method count }
     ensures plan { (at : Site) → at.class ≡ current → throws_unless (record { program = program.now; before = kept_of machine.now; thread = thread }) (begins (record { program = program.now; before = kept_of machine.now; thread = thread })) errors.IncompatibleClassChangeError (is_as (calls_static kind) (is_static program.now method)) (dispatched (record { program = program.now; before = kept_of machine.now; thread = thread }) at kind (arguments_of (record { program = program.now; before = kept_of machine.now; thread = thread }) count) named method) ≡ planned (record { program = program.now; before = kept_of machine.now; thread = thread }) at result }
     ensures within { IsPlan (record { program = program.now; before = kept_of machine.now; thread = thread }) result }
     ensures visits { visits.new ≤ visits.old + 1 }
@@ -296,6 +290,7 @@ fn resolve(
 ) -> Result<(ClassId, MethodId), GuestError>
     ensures value { (e : Moment) (go : ℕ → ℕ → Outcome Kept) → e.program ≡ program.now → resolved e (begins e) (resolve_class e.program member.now.owner.now) (λ owner. resolved e (begins e) (resolve_method e.program owner by_interface member.now.name.now member.now.descriptor.now) (go owner)) ≡ resolving e result go }
     ensures within { IfOk result (λ x. (x.0 < length program.now.classes) × (x.1 < length program.now.methods)) }
+    ensures same { IfOk result (λ x. (method_at program.now x.1).descriptor ≡ member.now.descriptor.now) }
 {
     let owner = match program.resolve_class(member.owner) {
         Ok(owner) => owner,

@@ -20,9 +20,10 @@ ghost use Rattle.et_calls.specs.Returned.{FitsBelow, IsValueIn, entries_returned
 ghost use Rattle.et_calls.specs.Stages.{IsClassIn};
 ghost use Rattle.et_calls.specs.Ways.{Came};
 
-use crate::frames::{method_of, operands_are_few, resume};
+use crate::frames::{method_of, resume};
 use crate::returned::returned_values;
 use et_base::{MethodId, NoMemory, Steps, ThreadId, Value};
+use et_builtins::operands_are_few;
 use et_event::{GuestError, Operand};
 use et_frames::Stage;
 use et_machine::{ClassState, Machine};

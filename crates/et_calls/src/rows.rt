@@ -13,6 +13,7 @@ ghost use Rattle.et_event.specs.Calls.{invoke};
 ghost use Rattle.et_event.specs.Moments.{Moment, waits};
 ghost use Rattle.et_event.specs.Sites.{Site, natural};
 ghost use Rattle.et_event.specs.Sound.{IsSoundFor};
+ghost use Rattle.et_sound.specs.Programs.{HasMachineSlots};
 ghost use Rattle.et_calls.specs.Plans.{IsPlan, planned};
 ghost use Rattle.et_calls.specs.Rows.{AnswersUnless, CallAnswers, InvokeAnswers, is_left};
 
@@ -39,8 +40,9 @@ fn wait(machine: &mut Machine) -> EventEnd
     EventEnd::Waited
 }
 
-/// The event of a plan in front of the pc `next`; `None`, and nothing is done, where it is left to others. It visits three objects at most.
-fn plan_event<L: Ledger>(
+/// The event of a plan in front of the pc `next`; `None`, and nothing is done, exactly where the class of a static method is
+/// untouched. It visits three objects at most. After `NoMemory` the event may have begun, and the machine is not to be used.
+pub fn plan_event<L: Ledger>(
     alloc: Global,
     machine: &mut Machine,
     program: &Program,
@@ -53,6 +55,7 @@ fn plan_event<L: Ledger>(
     requires frame { HasFrame machine.old.guest thread }
     requires sound { IsSoundFor program.now (kept_of machine.old) }
     requires clock { machine.old.guest.clock < 2 ^ 40 }
+    requires slots { HasMachineSlots program.now }
     requires plan { IsPlan (record { program = program.now; before = kept_of machine.old; thread = thread }) plan }
     ensures ok { IfOk result (λ end. (at : Site) → at.next ≡ next → AnswersUnless (is_left (record { program = program.now; before = kept_of machine.old; thread = thread }) plan) (planned (record { program = program.now; before = kept_of machine.old; thread = thread }) at plan) end machine.old machine.new out.old out.new) }
     ensures visits { visits.new ≤ visits.old + 3 }
@@ -66,9 +69,10 @@ fn plan_event<L: Ledger>(
         CallPlan::Waits => Ok(Some(wait(machine))),
         CallPlan::Initializes { .. } => Ok(None),
         CallPlan::Enters { method, count } => {
-            enter_event(
+            let end = enter_event(
                 alloc, machine, program, thread, method, count, next, out, visits,
-            )
+            )?;
+            Ok(Some(end))
         }
     }
 }
@@ -87,6 +91,7 @@ fn invoke_event<L: Ledger>(
     requires frame { HasFrame machine.old.guest thread }
     requires sound { IsSoundFor program.now (kept_of machine.old) }
     requires clock { machine.old.guest.clock < 2 ^ 40 }
+    requires slots { HasMachineSlots program.now }
     requires class { place.now.class < length program.now.classes }
     requires index { natural place.now.instr.first < 2 ^ 16 }
     ensures ok { IfOk result (λ end. InvokeAnswers (record { program = program.now; before = kept_of machine.old; thread = thread }) (site_at place.now) (invoke (record { program = program.now; before = kept_of machine.old; thread = thread }) (site_at place.now) kind) end machine.old machine.new out.old out.new) }
@@ -100,8 +105,8 @@ fn invoke_event<L: Ledger>(
 
 /// The event of an invoke or a return at the place where a thread stands (JVMS 2.11.8, 6.5 invokevirtual, invokespecial,
 /// invokestatic, invokeinterface, ireturn, lreturn, areturn, return). It answers what the table of events says. `None`, and
-/// nothing is done, exactly where an invoke comes to a class that is untouched, or selects a method without code that is neither
-/// native nor a built-in constructor without parameters. It visits four objects at most. After `NoMemory` the event may have begun, and the machine is not to be used.
+/// nothing is done, exactly where an invoke comes to a class that is untouched. It visits four objects at most. After `NoMemory`
+/// the event may have begun, and the machine is not to be used.
 pub fn call_row_event<L: Ledger>(
     alloc: Global,
     machine: &mut Machine,
@@ -115,6 +120,7 @@ pub fn call_row_event<L: Ledger>(
     requires turn { turn_of (thread_at machine.old.guest thread) ≡ turns.Instruction }
     requires sound { IsSoundFor program.now (kept_of machine.old) }
     requires clock { machine.old.guest.clock < 2 ^ 40 }
+    requires slots { HasMachineSlots program.now }
     requires place { IsPlace program.now (top machine.old.guest thread) place.now }
     requires row { place.now.row ≡ rows.Call row }
     ensures ok { IfOk result (λ end. CallAnswers (record { program = program.now; before = kept_of machine.old; thread = thread }) (site_at place.now) row end machine.old machine.new out.old out.new) }

@@ -6,6 +6,7 @@ use Rattle.et_base.specs.declared.value.Value.{Value}
 use Rattle.et_base.specs.declared.value.Value.TheVariants.{Unset, Ref}
 use Rattle.et_class.specs.Names.{has}
 use Rattle.et_class.specs.declared.flags.TheConstants.{ABSTRACT}
+use Rattle.et_program.specs.Members.{is_subclass}
 use Rattle.et_program.specs.declared.info.MethodInfo.{MethodInfo}
 use Rattle.et_heap.specs.Objects.{object_at, slot_of, with_referent, with_object_at}
 use Rattle.et_frames.specs.Threads.{new_thread, thread_with, most_threads}
@@ -15,8 +16,9 @@ use Rattle.et_state.specs.Outcome.{Outcome}
 use Rattle.et_event.specs.declared.rows.BuiltIn.{BuiltIn}
 use Rattle.et_event.specs.declared.rows.BuiltIn.TheVariants.{Nothing, SetMessage, SetMessageAndCause, GetMessage, GetCause, SetTarget, Start, Join, SetReferent, GetReferent, ClearReferent}
 use Rattle.et_event.specs.declared.errors.GuestError.TheVariants.{AbstractMethodError, IllegalThreadStateException, OutOfMemoryError}
-use Rattle.et_event.specs.Moments.{Moment, Doing, frame_of, with_guest, with_frame, slot_written, goes, throws}
-use Rattle.et_event.specs.Checks.{Reference, value_of, throws_unless, waits_unless}
+use Rattle.et_event.specs.Moments.{Moment, Doing, frame_of, with_guest, with_frame, class_of, slot_written, goes, throws}
+use Rattle.et_event.specs.Errors.{class_called}
+use Rattle.et_event.specs.Checks.{Reference, value_of, ill_typed_unless, throws_unless, waits_unless}
 use Rattle.et_event.specs.Kinds.{or_zero}
 use Rattle.et_event.specs.declared.rows.Operand.TheVariants as operand
 use Rattle.et_event.specs.Sites.{Site}
@@ -87,15 +89,27 @@ abbrev pub has_ended : Doing → Option ℕ → Bool
 has_ended d None = true
 has_ended d (Some k) = (thread_at d.state.guest k).ended
 
+-- what uses the slots of a Throwable or of a Thread, or starts a thread, is done on such an object; selection finds it on no
+-- other
+abbrev pub done_on : Moment → Doing → List ℕ → ℕ → Outcome Kept → Outcome Kept
+done_on e d name o go = ill_typed_unless e (is_subclass e.program (class_of d o) (class_called e.program name)) go
+
+abbrev pub on_throwable : Moment → Doing → ℕ → Outcome Kept → Outcome Kept
+on_throwable e d o go = done_on e d (codes "java/lang/Throwable") o go
+
+abbrev pub on_thread : Moment → Doing → ℕ → Outcome Kept → Outcome Kept
+on_thread e d o go = done_on e d (codes "java/lang/Thread") o go
+
 abbrev pub built_in_row : Moment → Site → Doing → List Value → ℕ → BuiltIn → Outcome Kept
 built_in_row e at d arguments o Nothing = goes (answering e at arguments [] d)
-built_in_row e at d arguments o SetMessage = goes (slot_written e o 0 (argument arguments 1) (answering e at arguments [] d))
+built_in_row e at d arguments o SetMessage = on_throwable e d o (goes (slot_written e o 0 (argument arguments 1) (answering e at arguments [] d)))
 built_in_row e at d arguments o SetMessageAndCause =
-    goes (slot_written e o 1 (argument arguments 2) (slot_written e o 0 (argument arguments 1) (answering e at arguments [] d)))
-built_in_row e at d arguments o GetMessage = goes (answering e at arguments (reference_in d o 0 ∷ []) d)
-built_in_row e at d arguments o GetCause = goes (answering e at arguments (reference_in d o 1 ∷ []) d)
-built_in_row e at d arguments o SetTarget = goes (slot_written e o 0 (argument arguments 1) (answering e at arguments [] d))
-built_in_row e at d arguments o Start = starts e d o (goes (with_thread_for o (answering e at arguments [] d))) (thread_with d.state.guest.threads o)
+    on_throwable e d o (goes (slot_written e o 1 (argument arguments 2) (slot_written e o 0 (argument arguments 1) (answering e at arguments [] d))))
+built_in_row e at d arguments o GetMessage = on_throwable e d o (goes (answering e at arguments (reference_in d o 0 ∷ []) d))
+built_in_row e at d arguments o GetCause = on_throwable e d o (goes (answering e at arguments (reference_in d o 1 ∷ []) d))
+built_in_row e at d arguments o SetTarget = on_thread e d o (goes (slot_written e o 0 (argument arguments 1) (answering e at arguments [] d)))
+built_in_row e at d arguments o Start =
+    on_thread e d o (starts e d o (goes (with_thread_for o (answering e at arguments [] d))) (thread_with d.state.guest.threads o))
 built_in_row e at d arguments o Join = waits_unless e (has_ended d (thread_with d.state.guest.threads o)) (goes (answering e at arguments [] d))
 built_in_row e at d arguments o SetReferent = goes (with_referent_of o (reference_of (argument arguments 1)) (answering e at arguments [] d))
 built_in_row e at d arguments o GetReferent = goes (answering e at arguments (value_of (object_at d.state.heap o).referent ∷ []) d)

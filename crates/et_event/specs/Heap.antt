@@ -202,7 +202,7 @@ arrays_made e class (n ∷ []) d = array_made e class n d
 arrays_made e class (n ∷ m ∷ more) d =
     filled e (next_object d) (arrays_made e (element_class (class_at e.program class).info.element) (m ∷ more)) n (array_made e class n d)
 
-abbrev naturals : List ℤ → List ℕ
+abbrev pub naturals : List ℤ → List ℕ
 naturals [] = []
 naturals (n ∷ ns) = natural n ∷ naturals ns
 

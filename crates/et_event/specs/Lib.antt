@@ -16,6 +16,5 @@ pub mod Throw
 pub mod Sync
 pub mod Event
 pub mod Start
-pub mod Allowed
 pub mod Sound
 pub mod Answered

@@ -122,8 +122,9 @@ IsStaged p f (Before c) None = (c < length p.classes) × IsEmpty f × (f.lock �
 IsStaged p f (Clinit c) (Some m) = (c < length p.classes) × RunsMethod p f m × (f.lock ≡ None) × IsVoid p f
 IsStaged p f (Clinit c) None = ⊥
 
--- the frame stands at a call of what the frame above runs, and what that returns will fit
+-- the frame runs a method, stands at a call of what the frame above runs, and what that returns will fit
 pub record IsCaller (p : Linked) (f above : FrameState) : Type 0 where
+  pub runs : f.method ≡ None → ⊥
   pub decoded : Instr × ℕ
   pub at : decoded_at p f ≡ Ok decoded
   pub kind : CallKind

@@ -32,7 +32,7 @@ use Rattle.et_event.specs.Initialization.{state_of, with_state, constant_set, fi
 use Rattle.et_initialize.specs.Programs.{IsStaticOf, HasConstants, IsInOrder}
 use Rattle.et_initialize.specs.Under.{IsReady, HasMadeStrings}
 use Rattle.et_initialize.proofs.Strings.{by_interned, object_listed}
-use Rattle.et_initialize.proofs.Setting.{written_state, follows_field, slot_class, apart_slots, unset_marked, done_step, ready_done, ready_order, threads_order}
+use Rattle.et_initialize.proofs.Setting.{written_state, follows_field, slot_class, apart_slots, unset_marked, done_step, ready_done, ready_order, threads_order, monitors_order}
 
 nothing_more : (s k : Kept) (lost l : List ℕ) → l ≡ [] → IsUnderWay s k (lost ++ l) → IsUnderWay s k lost
 nothing_more s k lost l e w = subst (λ (os : List ℕ). IsUnderWay s k os) (append-nil lost) (subst (λ (os : List ℕ). IsUnderWay s k (lost ++ os)) e w)
@@ -173,3 +173,6 @@ quietly_ready e c d has lt ready = ready_order e (class_at e.program c).init_ord
 
 pub quietly_threads : (e : Moment) (c : ℕ) (d : Doing) → (quietly_done e c d).state.guest.threads ≡ d.state.guest.threads
 quietly_threads e c d = threads_order e (class_at e.program c).init_order d
+
+pub quietly_monitors : (e : Moment) (c : ℕ) (d : Doing) → (quietly_done e c d).state.guest.class_monitors ≡ d.state.guest.class_monitors
+quietly_monitors e c d = monitors_order e (class_at e.program c).init_order d

@@ -3,8 +3,8 @@ mod Setting
 mod Running
 pub mod Legal
 pub mod Records
-mod Counting
-mod Beginning
-mod Preparing
-mod Stepping
+pub mod Counting
+pub mod Beginning
+pub mod Preparing
+pub mod Stepping
 mod Turning

@@ -24,7 +24,7 @@ use Rattle.et_initialize.specs.Texts.{CountedAll}
 use Rattle.et_initialize.specs.Under.{moment, so_far, ComesTo, IsReady, HasMadeStrings}
 use Rattle.et_initialize.proofs.Running.{at, came, known}
 use Rattle.et_initialize.proofs.Setting.{Grown, grown_none, grown_then, fits_grown, fold_rest, grown_order, done_step, state_changed, state_set, follows_each}
-use Rattle.et_initialize.proofs.Legal.{quietly_made, quietly_ready, quietly_threads}
+use Rattle.et_initialize.proofs.Legal.{quietly_made, quietly_ready, quietly_threads, quietly_monitors}
 use Rattle.et_initialize.proofs.Counting.{done_is}
 use Rattle.et_initialize.proofs.Records.{behind, behind_quietly}
 
@@ -58,6 +58,10 @@ made_prepared e ks d s lost has all ready made =
 pub threads_prepared : (e : Moment) (ks : List ℕ) (d : Doing) → (prepared e ks d).state.guest.threads ≡ d.state.guest.threads
 threads_prepared e [] d = refl
 threads_prepared e (k ∷ ks) d = threads_prepared e ks (pre_step e d k) ∙ by_state (λ y. y.state.guest.threads ≡ d.state.guest.threads) e d k (λ un. quietly_threads e k d) refl
+
+pub monitors_prepared : (e : Moment) (ks : List ℕ) (d : Doing) → (prepared e ks d).state.guest.class_monitors ≡ d.state.guest.class_monitors
+monitors_prepared e [] d = refl
+monitors_prepared e (k ∷ ks) d = monitors_prepared e ks (pre_step e d k) ∙ by_state (λ y. y.state.guest.class_monitors ≡ d.state.guest.class_monitors) e d k (λ un. quietly_monitors e k d) refl
 
 pub grown_prepared : (e : Moment) (ks : List ℕ) (d : Doing) → Grown d.state.heap (prepared e ks d).state.heap
 grown_prepared e [] d = grown_none d.state.heap

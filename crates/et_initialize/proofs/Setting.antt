@@ -55,11 +55,12 @@ pub record Follows (W : ℕ → Type 0) (d d' : Doing) : Type 0 where
   pub others : (j : ℕ) → (W j → ⊥) → static_at d'.state.guest j ≡ static_at d.state.guest j
   pub classes : d'.state.guest.classes ≡ d.state.guest.classes
   pub threads : d'.state.guest.threads ≡ d.state.guest.threads
+  pub monitors : d'.state.guest.class_monitors ≡ d.state.guest.class_monitors
   pub heap : Grown d.state.heap d'.state.heap
   pub strings : ((o : ℕ) → Contains (objects_of d.state.guest.interned) o → o < length d.state.heap) → (o : ℕ) → Contains (objects_of d'.state.guest.interned) o → o < length d'.state.heap
 
 pub follows_none : (W : ℕ → Type 0) (d : Doing) → Follows W d d
-follows_none W d = record { statics = refl; others = λ j n. refl; classes = refl; threads = refl; heap = grown_none d.state.heap; strings = λ h. h }
+follows_none W d = record { statics = refl; others = λ j n. refl; classes = refl; threads = refl; monitors = refl; heap = grown_none d.state.heap; strings = λ h. h }
 
 pub follows_then : (W : ℕ → Type 0) (a b c : Doing) → Follows W a b → Follows W b c → Follows W a c
 follows_then W a b c f g = record {
@@ -67,12 +68,13 @@ follows_then W a b c f g = record {
   others = λ j n. g.others j n ∙ f.others j n;
   classes = g.classes ∙ f.classes;
   threads = g.threads ∙ f.threads;
+  monitors = g.monitors ∙ f.monitors;
   heap = grown_then a.state.heap b.state.heap c.state.heap f.heap g.heap;
   strings = λ h. g.strings (f.strings h);
 }
 
 pub follows_less : (V W : ℕ → Type 0) (a b : Doing) → ((j : ℕ) → V j → W j) → Follows V a b → Follows W a b
-follows_less V W a b sub f = record { statics = f.statics; others = λ j n. f.others j (λ v. n (sub j v)); classes = f.classes; threads = f.threads; heap = f.heap; strings = f.strings }
+follows_less V W a b sub f = record { statics = f.statics; others = λ j n. f.others j (λ v. n (sub j v)); classes = f.classes; threads = f.threads; monitors = f.monitors; heap = f.heap; strings = f.strings }
 
 -- a record changes no state
 pub written_state : (e : Moment) (i : ℕ) (v : Value) (d : Doing) → (static_written e i v d).state ≡ (with_guest (with_static d.state.guest i v) d).state
@@ -87,7 +89,7 @@ abbrev pub Slot : ℕ → ℕ → Type 0
 Slot i j = j ≡ i
 
 follows_state : (W : ℕ → Type 0) (a b c : Doing) → b.state ≡ c.state → Follows W a c → Follows W a b
-follows_state W a b c e f = subst (λ (k : Kept). Follows W a (record { state = k; records = b.records })) (sym e) (record { statics = f.statics; others = f.others; classes = f.classes; threads = f.threads; heap = f.heap; strings = f.strings })
+follows_state W a b c e f = subst (λ (k : Kept). Follows W a (record { state = k; records = b.records })) (sym e) (record { statics = f.statics; others = f.others; classes = f.classes; threads = f.threads; monitors = f.monitors; heap = f.heap; strings = f.strings })
 
 follows_written : (e : Moment) (i : ℕ) (v : Value) (d : Doing) → Follows (Slot i) d (static_written e i v d)
 follows_written e i v d = follows_state (Slot i) d (static_written e i v d) (with_guest (with_static d.state.guest i v) d) (written_state e i v d) (record {
@@ -95,6 +97,7 @@ follows_written e i v d = follows_state (Slot i) d (static_written e i v d) (wit
   others = λ j n. get_or-set_other d.state.guest.statics i j v Unset n;
   classes = refl;
   threads = refl;
+  monitors = refl;
   heap = grown_none d.state.heap;
   strings = λ h. h;
 })
@@ -105,6 +108,7 @@ follows_making W e bytes d = record {
   others = λ j n. refl;
   classes = refl;
   threads = refl;
+  monitors = refl;
   heap = record { rest = _; is = refl };
   strings = λ h o c.
       let long : length (making e bytes d).state.heap ≡ length d.state.heap + 1 = length_push d.state.heap _ in
@@ -303,3 +307,14 @@ threads_done e c Failed d = refl
 pub threads_order : (e : Moment) (ks : List ℕ) (d : Doing) → (fold (done_step e) d ks).state.guest.threads ≡ d.state.guest.threads
 threads_order e [] d = refl
 threads_order e (k ∷ ks) d = threads_order e ks (done_step e d k) ∙ threads_done e k (state_of d k) d
+
+-- AND THE MONITORS OF CLASSES
+monitors_done : (e : Moment) (c : ℕ) (x : ClassState) (d : Doing) → (class_done e c x d).state.guest.class_monitors ≡ d.state.guest.class_monitors
+monitors_done e c Untouched d = (follows_each e (class_at e.program c).info.constants (with_state c Done d)).monitors
+monitors_done e c (Begun t) d = refl
+monitors_done e c Done d = refl
+monitors_done e c Failed d = refl
+
+pub monitors_order : (e : Moment) (ks : List ℕ) (d : Doing) → (fold (done_step e) d ks).state.guest.class_monitors ≡ d.state.guest.class_monitors
+monitors_order e [] d = refl
+monitors_order e (k ∷ ks) d = monitors_order e ks (done_step e d k) ∙ monitors_done e k (state_of d k) d

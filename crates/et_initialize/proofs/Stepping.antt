@@ -42,7 +42,7 @@ use Rattle.et_initialize.proofs.Setting.{fits_grown, follows_each}
 use Rattle.et_initialize.proofs.Running.{marked}
 use Rattle.et_initialize.proofs.Legal.{made_none, ready_first, made_constants}
 use Rattle.et_initialize.proofs.Records.{behind, behind_constants}
-use Rattle.et_initialize.proofs.Preparing.{ready_prepared, made_prepared, threads_prepared, behind_prepared}
+use Rattle.et_initialize.proofs.Preparing.{ready_prepared, made_prepared, threads_prepared, behind_prepared, monitors_prepared}
 use Rattle.et_initialize.proofs.Beginning.{strings_led, few, begin_overflows}
 
 -- what was done as the prerequisites were prepared
@@ -72,7 +72,7 @@ prepared_fits p t ks m m₁ out e fit =
     let two : fits (prepared (moment p n t) ks (so_far n out)).state.heap ≡ true = subst (λ (r : List Record). fits (prepared q ks (record { state = d.state; records = r })).state.heap ≡ true) (append-nil out) one in
     ap (λ (x : MachineState). fits (prepared (moment p x t) ks (so_far x out)).state.heap) e ∙ two
 
-made_after : (p : Linked) (t : ℕ) (ks : List ℕ) (m : MachineState) → IsInOrder p → All (λ k. k < length p.classes) ks → IsSoundFor p (kept_of m) → HasMadeStrings (kept_of m) (after p m t ks).state []
+pub made_after : (p : Linked) (t : ℕ) (ks : List ℕ) (m : MachineState) → IsInOrder p → All (λ k. k < length p.classes) ks → IsSoundFor p (kept_of m) → HasMadeStrings (kept_of m) (after p m t ks).state []
 made_after p t ks m has all sound = made_prepared (moment p m t) ks (begins (moment p m t)) (kept_of m) [] has all (ready_first p (kept_of m) sound) (made_none (kept_of m) sound.held)
 
 pub ready_after : (p : Linked) (t : ℕ) (ks : List ℕ) (m : MachineState) → IsInOrder p → All (λ k. k < length p.classes) ks → IsSoundFor p (kept_of m) → IsReady p (after p m t ks).state
@@ -80,6 +80,9 @@ ready_after p t ks m has all sound = ready_prepared (moment p m t) ks (begins (m
 
 pub threads_after : (p : Linked) (t : ℕ) (ks : List ℕ) (m : MachineState) → (after p m t ks).state.guest.threads ≡ m.guest.threads
 threads_after p t ks m = threads_prepared (moment p m t) ks (begins (moment p m t))
+
+pub monitors_after : (p : Linked) (t : ℕ) (ks : List ℕ) (m : MachineState) → (after p m t ks).state.guest.class_monitors ≡ m.guest.class_monitors
+monitors_after p t ks m = monitors_prepared (moment p m t) ks (begins (moment p m t))
 
 pub has_frame_on : (g g' : GuestState) (t : ℕ) → g'.threads ≡ g.threads → HasFrame g t → HasFrame g' t
 has_frame_on g g' t e has = record {

@@ -19,14 +19,15 @@ pub fn begin()
     ensures made { (s : Kept) → IsSound s → HasMadeStrings s (later s) [] }
 {}
 
-/// Quiet classes become done: the state stays ready for others, and the event under way. The threads stay as they are, and
-/// no more than the classes, the static fields and the strings changes of the guest.
-#[tactic(auto, using(crate::proofs::Legal::quietly_threads))]
+/// Quiet classes become done: the state stays ready for others, and the event under way. The threads and the monitors of
+/// classes stay as they are, and no more than the classes, the static fields and the strings changes of the guest.
+#[tactic(auto, using(crate::proofs::Legal::quietly_threads, crate::proofs::Legal::quietly_monitors))]
 pub fn quietly()
     ensures ready { (e : Moment) (c : ℕ) (d : Doing) → IsInOrder e.program → c < length e.program.classes → IsReady e.program d.state → IsReady e.program (quietly_done e c d).state }
     ensures made { (e : Moment) (c : ℕ) (d : Doing) (s : Kept) (lost : List ℕ) → IsInOrder e.program → c < length e.program.classes → IsReady e.program d.state →
         HasMadeStrings s d.state lost → HasMadeStrings s (quietly_done e c d).state lost }
     ensures threads { (e : Moment) (c : ℕ) (d : Doing) → (quietly_done e c d).state.guest.threads ≡ d.state.guest.threads }
+    ensures monitors { (e : Moment) (c : ℕ) (d : Doing) → (quietly_done e c d).state.guest.class_monitors ≡ d.state.guest.class_monitors }
 {}
 
 /// The records stand behind those that were there.

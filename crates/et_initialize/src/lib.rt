@@ -11,7 +11,7 @@ mod quiet;
 mod steps;
 
 pub use begins::{begin_class_event, wait_event};
-pub use limits::quiet_fits;
+pub use limits::{prepared_fit, quiet_fits};
 pub use needs::{Need, need_of};
 pub use quiet::set_quietly;
-pub use steps::initialization_event;
+pub use steps::{begin_prepared, initialization_event, throw_after};

@@ -238,9 +238,9 @@ fn count_prepared(
     Ok(())
 }
 
-/// Whether what these classes make, as the quiet ones become done, fits together with so many objects and slots besides.
-/// Nothing is changed.
-pub(crate) fn prepared_fit(
+/// Whether what these classes make, as the quiet ones become done, fits together with so many objects and slots besides
+/// (JVMS 5.5, 4.7.2). Nothing is changed.
+pub fn prepared_fit(
     program: &Program,
     machine: &Machine,
     alloc: Global,

@@ -114,8 +114,9 @@ fn frame_size(method: &MethodInfo) -> (u16, u16)
     }
 }
 
-/// An event begins, in which the quiet ones among these classes become done. All fits.
-fn begin_prepared(
+/// An event begins, in which the quiet ones among these classes become done (JVMS 5.5). All fits. After `NoMemory` the event
+/// is half done, and machine and records may only be dropped.
+pub fn begin_prepared(
     program: &Program,
     machine: &mut Machine,
     thread: ThreadId,
@@ -214,8 +215,9 @@ fn throw_prepared(
     Ok(EventEnd::Done)
 }
 
-/// The event in which an error is thrown, after the quiet ones among these classes became done.
-fn throw_after(
+/// The event in which an error is thrown, after the quiet ones among these classes became done (JVMS 5.5, 2.10). After
+/// `NoMemory` the event may be half done, and machine and records may only be dropped.
+pub fn throw_after(
     program: &Program,
     machine: &mut Machine,
     alloc: Global,

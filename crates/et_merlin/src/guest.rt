@@ -1,5 +1,5 @@
 //! What is run.
-ghost use Rattle.std.specs.Prelude.{◌≡◌, ℕ, Bool, ◌+◌, ◌-◌, ◌<◌, ◌≤◌, ◌^◌, ◌↔◌, List, All, length, IfOk, OnOk, IsTrue, slice_index};
+ghost use Rattle.std.specs.Prelude.{◌≡◌, ℕ, Bool, ◌+◌, ◌-◌, ◌<◌, ◌≤◌, ◌^◌, ◌↔◌, List, All, length, IfOk, OnOk, IsTrue, Contains, slice_index};
 ghost use Rattle.et_graph.specs.Graph.{Graph, IsReached};
 ghost use Rattle.et_graph.specs.Listing.{death_pairs};
 ghost use Rattle.et_state.specs.Outcome.{Outcome};
@@ -109,7 +109,7 @@ pub trait StampedGuest {
         ensures clock { OnOk result (clock_of (state self.new) ≡ clock_of (state self.old)) }
         ensures sound { OnOk result (is_sound code.now (state self.new)) };
 
-    /// The event of a thread.
+    /// The event of a thread that has not ended.
     fn event<L: Ledger>(
         &mut self,
         alloc: Global,
@@ -120,6 +120,7 @@ pub trait StampedGuest {
     ) -> Result<EventEnd, NoMemory>
         requires clock { clock_of (state self.old) < 2 ^ 40 }
         requires sound { is_sound code.now (state self.old) }
+        requires thread { Contains (unended_of (state self.old)) thread }
         ensures answers { IfOk result (λ end. Answers (event_of code.now (state self.old) thread) end (state self.old) (state self.new) out.old out.new) }
         ensures step { IfOk result (λ end. StepsWhereDone end (graph_of (state self.old)) (graph_of (state self.new)) (lost_of self.new)) }
         ensures visits { IfOk result (λ end. visits.new ≤ visits.old + 8 + ((graph_of (state self.new)).made - (graph_of (state self.old)).made)) }

@@ -1,8 +1,8 @@
 mod Answering
-mod Keeping
-mod Going
+pub mod Keeping
+pub mod Going
 mod Shapes
-mod Sounding
-mod Naming
+pub mod Sounding
+pub mod Naming
 mod Ticking
 mod Standing

@@ -45,6 +45,13 @@ impl Model for Program {
 }
 
 impl Program {
+    /// Does nothing. Its contract is what holds of each program: what its tables name is in them.
+    pub fn names_what_it_has(&self)
+        ensures { IsTabled self.now }
+    {
+        let _ = &self.classes;
+    }
+
     /// The program of these tables. The only error is want of memory.
     pub fn of(alloc: Global, tables: Tables) -> Result<Program, NoMemory>
         requires { IsTabled (shown_tables tables) }

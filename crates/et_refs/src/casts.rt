@@ -30,7 +30,7 @@ use et_program::Program;
 use std::sync::ledger::Ledger;
 
 /// The name of the class that an instruction has as its operand.
-pub(crate) fn class_named<'a>(place: &Place<'a>) -> Result<&'a [u8], Refusal>
+pub fn class_named<'a>(place: &Place<'a>) -> Result<&'a [u8], Refusal>
     requires { natural place.now.instr.first < 2 ^ 16 }
     ensures { (e : Moment) (go : List ℕ → Outcome Kept) → with_class e (operand_class (site_at place.now)) go ≡ decided e result (λ name. go name.now) }
 {

@@ -74,7 +74,7 @@ fn give_value(machine: &mut Machine, thread: ThreadId, value: Value)
 }
 
 /// Takes so many operands, puts a value in their place, and sets the pc.
-fn replace_top(machine: &mut Machine, thread: ThreadId, taken: u32, value: Value, next: u32)
+pub fn replace_top(machine: &mut Machine, thread: ThreadId, taken: u32, value: Value, next: u32)
     requires frame { HasFrame machine.old.guest thread }
     requires operands { taken ≤ length (top machine.old.guest thread).operands }
     requires lost { length machine.old.lost + taken ≤ lost_room }
@@ -99,7 +99,7 @@ fn put_value(machine: &mut Machine, thread: ThreadId, next: u32, x: Exchange)
 }
 
 /// The number of a reference in a record; 0 is null.
-fn number_of(value: Value) -> u32
+pub fn number_of(value: Value) -> u32
     ensures { result ≡ number_in value }
 {
     match value {
@@ -186,7 +186,7 @@ fn write_slot<L: Ledger>(
 }
 
 /// How many bytes an element of an array of a class takes.
-fn width_in(program: &Program, class: ClassId) -> u64
+pub fn width_in(program: &Program, class: ClassId) -> u64
     ensures value { result ≡ width_of_element (class_at program.now class).info.element }
     ensures small { result ≤ 8 }
 {
@@ -198,7 +198,7 @@ fn width_in(program: &Program, class: ClassId) -> u64
 }
 
 /// How many bytes an array takes.
-fn array_size(elements: u32, width: u64) -> u64
+pub fn array_size(elements: u32, width: u64) -> u64
     requires { width ≤ 8 }
     ensures { result ≡ bytes_of elements width }
 {

@@ -13,7 +13,7 @@ use et_event::GuestError;
 use et_program::Program;
 
 /// The event has no meaning unless this holds.
-pub(crate) fn ill_typed_unless(holds: bool) -> Result<(), Refusal>
+pub fn ill_typed_unless(holds: bool) -> Result<(), Refusal>
     ensures is { (e : Moment) (go : Outcome Kept) → ill_unless e holds go ≡ decided e result (λ (u : Unit {0}). go) }
     ensures holds { IfOk result (λ (u : Unit {0}). holds ≡ true) }
 {
@@ -25,7 +25,7 @@ pub(crate) fn ill_typed_unless(holds: bool) -> Result<(), Refusal>
 }
 
 /// The machine throws this error unless this holds.
-pub(crate) fn throws_unless(error: GuestError, holds: bool) -> Result<(), Refusal>
+pub fn throws_unless(error: GuestError, holds: bool) -> Result<(), Refusal>
     ensures is { (e : Moment) (go : Outcome Kept) → throwing_unless e (begins e) error holds go ≡ decided e result (λ (u : Unit {0}). go) }
     ensures holds { IfOk result (λ (u : Unit {0}). holds ≡ true) }
 {
@@ -48,7 +48,7 @@ pub(crate) fn not_null(reference: Option<ObjectId>) -> Result<ObjectId, Refusal>
 }
 
 /// The class of a name (JVMS 5.4.3.1).
-pub(crate) fn resolve(program: &Program, name: &[u8]) -> Result<ClassId, Refusal>
+pub fn resolve(program: &Program, name: &[u8]) -> Result<ClassId, Refusal>
     ensures is { (s : Kept) (t : ℕ) (go : ℕ → Outcome Kept) → resolved_class (record { program = program.now; before = s; thread = t }) (begins (record { program = program.now; before = s; thread = t })) name.now go ≡ decided (record { program = program.now; before = s; thread = t }) result go }
     ensures within { IfOk result (λ c. c < length program.now.classes) }
 {

@@ -41,7 +41,7 @@ use et_program::Program;
 use std::sync::ledger::Ledger;
 
 /// The member that an instruction names, where it is a field.
-fn field_named<'a>(place: &Place<'a>) -> Result<MemberAt<'a>, Refusal>
+pub fn field_named<'a>(place: &Place<'a>) -> Result<MemberAt<'a>, Refusal>
     requires { natural place.now.instr.first < 2 ^ 16 }
     ensures is { (e : Moment) (go : Member → Outcome Kept) → with_field e (member_of (site_at place.now)) go ≡ decided e result (λ m. go (shown_member m)) }
     ensures field { IfOk result (λ m. is_of_field m.descriptor.now ≡ true) }
@@ -56,7 +56,7 @@ fn field_named<'a>(place: &Place<'a>) -> Result<MemberAt<'a>, Refusal>
 }
 
 /// The field that a name and a descriptor mean in a class (JVMS 5.4.3.2).
-fn resolve_field(
+pub fn resolve_field(
     program: &Program,
     owner: ClassId,
     name: &[u8],

@@ -22,7 +22,7 @@ fn kind_of_letter(letter: u8) -> Option<Operand>
 }
 
 /// The operands of a type, by its descriptor. None are floats or doubles.
-pub(crate) fn kind_of(descriptor: &[u8]) -> Option<Operand>
+pub fn kind_of(descriptor: &[u8]) -> Option<Operand>
     ensures { result ≡ descriptor_kind descriptor.now }
 {
     match descriptor {
@@ -43,7 +43,7 @@ fn zero_of(kind: Option<Operand>) -> Value
 }
 
 /// What a slot of a kind gives that holds this: 0 or null where nothing was written to it.
-pub(crate) fn or_zero(kind: Option<Operand>, value: Value) -> Value
+pub fn or_zero(kind: Option<Operand>, value: Value) -> Value
     ensures { result ≡ zero_or kind value }
 {
     match value {
@@ -75,7 +75,7 @@ fn narrowed_int(descriptor: &[u8], n: i32) -> i32
 }
 
 /// What a field keeps of a value (JVMS 6.5, putfield).
-pub(crate) fn narrowed(descriptor: &[u8], value: Value) -> Value
+pub fn narrowed(descriptor: &[u8], value: Value) -> Value
     ensures { result ≡ narrowed_by descriptor.now value }
 {
     match value {
@@ -164,7 +164,7 @@ pub(crate) fn element_width(element: Element) -> u64
 }
 
 /// How many entries a field of a type takes (JVMS 2.6.2), by its descriptor.
-pub(crate) fn width_of(descriptor: &[u8]) -> u32
+pub fn width_of(descriptor: &[u8]) -> u32
     ensures value { result ≡ descriptor_width descriptor.now }
     ensures small { result ≤ 2 }
 {
@@ -175,14 +175,14 @@ pub(crate) fn width_of(descriptor: &[u8]) -> u32
 }
 
 /// The number, where it isn't negative, and else 0.
-pub(crate) fn natural(n: i32) -> u32
+pub fn natural(n: i32) -> u32
     ensures { result ≡ natural_of n }
 {
     if n < 0 { 0 } else { n as u32 }
 }
 
 /// Whether an array may have so many elements.
-pub(crate) fn is_length(n: i32) -> bool
+pub fn is_length(n: i32) -> bool
     ensures { result ≡ int_le (pos 0) n }
 {
     0 <= n

@@ -1,4 +1,4 @@
-//! The instructions on fields, arrays and classes (JVMS 2.11.5), on the machine.
+//! The instructions on fields, arrays and classes (JVMS 2.11.5), on the machine, and the parts of them that other rows share.
 #![tactic(auto)]
 
 mod arrays;
@@ -13,4 +13,11 @@ mod refusals;
 mod rows;
 mod slots;
 
+pub use casts::class_named;
+pub use changes::{array_size, number_of, replace_top, width_in};
+pub use checks::{ill_typed_unless, resolve, throws_unless};
+pub use fields::{field_named, resolve_field};
+pub use kinds::{is_length, kind_of, narrowed, natural, or_zero, width_of};
+pub use operands::{Taken, operands_fit, take_int, take_typed};
+pub use refusals::{Refusal, refuse};
 pub use rows::heap_row_event;

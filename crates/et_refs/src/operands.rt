@@ -23,14 +23,14 @@ use et_parts::{int_at, long_at, reference_at};
 
 /// A value on top, and how many entries it takes.
 #[derive(Clone, Copy)]
-pub(crate) struct Taken {
-    pub(crate) value: Value,
-    pub(crate) width: u32,
+pub struct Taken {
+    pub value: Value,
+    pub width: u32,
 }
 
 /// The int so far below the top.
 #[tactic(auto, using(crate::proofs::Below::int_there, crate::proofs::Below::no_int, crate::proofs::Below::int_deep))]
-pub(crate) fn take_int(machine: &Machine, thread: ThreadId, k: u32) -> Result<i32, Refusal>
+pub fn take_int(machine: &Machine, thread: ThreadId, k: u32) -> Result<i32, Refusal>
     requires { HasFrame machine.now.guest thread }
     ensures is { (e : Moment) (go : ℤ → List Entry → Outcome Kept) → with_int (ill_typed e) (drop k (top machine.now.guest thread).operands) go ≡ decided e result (λ n. go n (drop (k + 1) (top machine.now.guest thread).operands)) }
     ensures deep { IfOk result (λ n. k < length (top machine.now.guest thread).operands) }
@@ -123,7 +123,7 @@ pub(crate) fn take_value(
 }
 
 /// A frame has no more operands than it may.
-pub(crate) fn operands_fit(machine: &Machine, thread: ThreadId)
+pub fn operands_fit(machine: &Machine, thread: ThreadId)
     requires { HasFrame machine.now.guest thread }
     ensures { length (top machine.now.guest thread).operands ≤ (top machine.now.guest thread).room }
 {
@@ -157,11 +157,7 @@ pub(crate) fn type_fits(
 }
 
 /// The value of a type on top.
-pub(crate) fn take_typed(
-    machine: &Machine,
-    thread: ThreadId,
-    descriptor: &[u8],
-) -> Result<Taken, Refusal>
+pub fn take_typed(machine: &Machine, thread: ThreadId, descriptor: &[u8]) -> Result<Taken, Refusal>
     requires frame { HasFrame machine.now.guest thread }
     requires sound { IsSound (kept_of machine.now) }
     requires field { is_field_descriptor descriptor.now ≡ true }

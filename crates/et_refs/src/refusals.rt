@@ -24,7 +24,7 @@ pub enum Refusal {
 
 /// The event that a check refused. After `NoMemory` the machine may have one object more, to which nothing refers, and there
 /// may be its record; all else is as before.
-pub(crate) fn refuse(
+pub fn refuse(
     machine: &mut Machine,
     program: &Program,
     thread: ThreadId,

@@ -85,8 +85,8 @@ lock_of_frame s f (Before c) p held = tt
 lock_of_frame s f (Clinit c) p held = tt
 
 pub returned_sound : (e : Moment) (values : List Value) → IsSoundFor e.program e.before → e.before.guest.clock < 2 ^ 40 → HasFrame e.before.guest e.thread → ((frame_of e).stage ≡ Plain → length values ≤ returned_width (returned_of (method_of e.program (frame_of e))))
-    → ((frame_of e).stage ≡ Plain → (first_frame (rest_of (thread_of e).frames)).method ≡ None → rest_of (thread_of e).frames ≡ []) → KeepsSound e.program (goes (frame_returned e values (begins e)))
-returned_sound e values sound clock has few runs =
+    → KeepsSound e.program (goes (frame_returned e values (begins e)))
+returned_sound e values sound clock has few =
     let p : Linked = e.program in
     let f : FrameState = frame_of e in
     let t : ThreadState = thread_of e in
@@ -104,7 +104,7 @@ returned_sound e values sound clock has few runs =
     let thread : e.thread < length x.state.guest.threads = subst (λ (ts : List ThreadState). e.thread < length ts) (sym on.threads) has.thread in
     let same : thread_at x.state.guest e.thread ≡ t = ap (λ (ts : List ThreadState). slice_index_or ts e.thread no_thread) on.threads in
     let rest : List FrameState = frames_after_return p f.stage values below in
-    let after : AreSoundFrames p rest = returned_frames p f values below frames few runs in
+    let after : AreSoundFrames p rest = returned_frames p f values below frames few in
     let n : length rest ≡ length below = length-resumed p f.stage values below in
     let may : MayBeThread p x.state e.thread (record (thread_at x.state.guest e.thread) { frames = rest }) = may_have_frames p x.state e.thread rest on.well thread after (omega arith) in
     let now : MayBeThread p x.state e.thread (record t { frames = rest }) = subst (λ (z : ThreadState). MayBeThread p x.state e.thread (record z { frames = rest })) same may in

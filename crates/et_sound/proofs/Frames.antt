@@ -91,7 +91,7 @@ staged_still p f (Clinit c) None pc locals operands named there same few h some 
 above_still : (p : Linked) (f : FrameState) (stage : Stage) (below : List FrameState) (pc : ℕ) (locals operands : List Value) → IsAbove p f stage below → IsAbove p (with_parts f pc locals operands) stage below
 above_still p f Plain [] pc locals operands h = h
 above_still p f Plain (g ∷ below) pc locals operands h =
-    record { decoded = h.decoded; at = h.at; kind = h.kind; call = h.call; member = h.member; names = h.names; descriptor = h.descriptor; fits = h.fits }
+    record { runs = h.runs; decoded = h.decoded; at = h.at; kind = h.kind; call = h.call; member = h.member; names = h.names; descriptor = h.descriptor; fits = h.fits }
 above_still p f (Before c) below pc locals operands h = tt
 above_still p f (Clinit c) below pc locals operands h = tt
 
@@ -201,24 +201,21 @@ fewer_frames [] n le = le
 fewer_frames (f ∷ below) n le = omega arith
 
 -- it returns: its caller, if any, runs a method, and what is returned has the width of its type
-returned_to : (p : Linked) (f : FrameState) (stage : Stage) (values : List Value) (below : List FrameState) → IsAbove p f stage below → (stage ≡ Plain → length values ≤ returned_width (returned_of (method_of p f))) → (stage ≡ Plain → (first_frame below).method ≡ None → below ≡ [])
+returned_to : (p : Linked) (f : FrameState) (stage : Stage) (values : List Value) (below : List FrameState) → IsAbove p f stage below → (stage ≡ Plain → length values ≤ returned_width (returned_of (method_of p f)))
     → AreSoundFrames p below → AreSoundFrames p (frames_after_return p stage values below)
-returned_to p f Plain values [] above few runs h = tt
-returned_to p f Plain values (g ∷ below) above few runs h =
-    let some : g.method ≡ None → ⊥ = λ e. not_empty (runs refl e) in
+returned_to p f Plain values [] above few h = tt
+returned_to p f Plain values (g ∷ below) above few h =
+    let some : g.method ≡ None → ⊥ = above.runs in
     let r : RunsSome p g = runs_some p g below some h in
     let there : KeepsFrame p g (record g { pc = above.decoded.1; operands = values ++ g.operands }) =
     behind_keeps p g above.decoded (values ++ g.operands) some r above.at (omega (arith, length-append values g.operands, few refl, above.fits)) in
     subst (λ (pc : ℕ). AreSoundFrames p (record g { pc = pc; operands = values ++ g.operands } ∷ below)) (sym (ap (λ (d : Result (Instr × ℕ) CodeFault). behind_or g.pc d) above.at)) (frames_still p g _ below there h)
-  where
-    not_empty : g ∷ below ≡ [] → ⊥
-    not_empty e = cc
-returned_to p f (Before c) values below above few runs h = h
-returned_to p f (Clinit c) values below above few runs h = h
+returned_to p f (Before c) values below above few h = h
+returned_to p f (Clinit c) values below above few h = h
 
-pub returned_frames : (p : Linked) (f : FrameState) (values : List Value) (below : List FrameState) → AreSoundFrames p (f ∷ below) → (f.stage ≡ Plain → length values ≤ returned_width (returned_of (method_of p f))) → (f.stage ≡ Plain → (first_frame below).method ≡ None → below ≡ [])
+pub returned_frames : (p : Linked) (f : FrameState) (values : List Value) (below : List FrameState) → AreSoundFrames p (f ∷ below) → (f.stage ≡ Plain → length values ≤ returned_width (returned_of (method_of p f)))
     → AreSoundFrames p (frames_after_return p f.stage values below)
-returned_frames p f values below h few runs = returned_to p f f.stage values below h.1 few runs h.2
+returned_frames p f values below h few = returned_to p f f.stage values below h.1 few h.2
 
 pub length-resumed : (p : Linked) (stage : Stage) (values : List Value) (below : List FrameState) → length (frames_after_return p stage values below) ≡ length below
 length-resumed p Plain values [] = refl

@@ -33,7 +33,7 @@ ghost use Rattle.et_frames.specs.declared.stage.Stage.TheVariants as stages;
 ghost use Rattle.et_frames.specs.declared.stage.Turn.TheVariants as turns;
 ghost use Rattle.et_place.specs.declared.places.Place.{Place};
 ghost use Rattle.et_place.specs.Places.{IsPlace, site_at};
-ghost use Rattle.et_frames.specs.Threads.{turn_of, FrameState, ThreadState, most_frames, most_threads, first_frame, rest_of, in_clinit, with_pending, as_entered, as_ended};
+ghost use Rattle.et_frames.specs.Threads.{turn_of, FrameState, ThreadState, most_frames, most_threads, rest_of, in_clinit, with_pending, as_entered, as_ended};
 ghost use Rattle.et_heap.specs.Objects.{ObjectState, IsHeld, object_at, with_object_at, free_monitor, new_object};
 ghost use Rattle.et_machine.specs.declared.class_state.ClassState.{ClassState};
 ghost use Rattle.et_machine.specs.declared.class_state.ClassState.TheVariants as classes;
@@ -226,11 +226,10 @@ pub fn frame_is_dropped()
     ensures { (p : Linked) (frames : List FrameState) → AreSoundFrames p frames → AreSoundFrames p (rest_of frames) }
 {}
 
-/// A frame returns: its caller, which runs a method, gets what is returned and goes on behind its call (JVMS 2.6.4).
+/// A frame returns: its caller gets what is returned and goes on behind its call (JVMS 2.6.4).
 pub fn frame_returns()
     ensures { (p : Linked) (f : FrameState) (values : List Value) (below : List FrameState) → AreSoundFrames p (f ∷ below) →
         (f.stage ≡ stages.Plain → length values ≤ returned_width (returned_of (method_of p f))) →
-        (f.stage ≡ stages.Plain → (first_frame below).method ≡ None → below ≡ []) →
         AreSoundFrames p (frames_after_return p f.stage values below) }
 {}
 
@@ -366,11 +365,10 @@ pub fn entered_frames_keep_well_formed()
         IsWellFormed e.program (frame_entered e m body arguments d).state }
 {}
 
-/// A frame returns what has the width of its type, to a caller that runs a method, and its monitor is left once; an initializer
+/// A frame returns what has the width of its type, and its monitor is left once; an initializer
 /// makes its class done.
 pub fn returns_keep_sound()
     ensures { (e : Moment) (returned : List Value) → IsSoundFor e.program e.before → e.before.guest.clock < 2 ^ 40 → HasFrame e.before.guest e.thread →
         ((frame_of e).stage ≡ stages.Plain → length returned ≤ returned_width (returned_of (method_of e.program (frame_of e)))) →
-        ((frame_of e).stage ≡ stages.Plain → (first_frame (rest_of (thread_of e).frames)).method ≡ None → rest_of (thread_of e).frames ≡ []) →
         KeepsSound e.program (goes (frame_returned e returned (begins e))) }
 {}

@@ -4,7 +4,8 @@ use Rattle.et_base.specs.declared.value.Value.TheVariants.{Unset}
 use Rattle.et_event.specs.declared.rows.Operand.{Operand}
 use Rattle.et_machine.specs.Words.{top}
 use Rattle.et_calls.specs.Arguments.{entries_in}
-use Rattle.et_calls.proofs.Passing.{length_arguments, passing_end, passing_empty, passing_none, passing_refused, passing_more}
+use Rattle.et_builtins.proofs.Standing.{length_arguments}
+use Rattle.et_calls.proofs.Passing.{passing_end, passing_empty, passing_none, passing_refused, passing_more}
 use Rattle.et_calls.proofs.arguments.are_of.Goals as goal
 
 some_left : (s : List ℕ) → false ≡ eqb (length s) 0 → 0 < length s

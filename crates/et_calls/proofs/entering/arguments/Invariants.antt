@@ -1,6 +1,6 @@
 use Rattle.std.proofs.Common.{◌≡◌, take}
 use Rattle.et_machine.specs.Words.{top}
-use Rattle.et_calls.specs.Arguments.{arguments_in}
+use Rattle.et_builtins.specs.Arguments.{arguments_in}
 use Rattle.et_calls.proofs.entering.arguments.Given as goal
 
 abbrev pub invariant-loop-j : goal.invariant-loop-j

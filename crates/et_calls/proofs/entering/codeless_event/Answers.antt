@@ -1,10 +1,24 @@
-use Rattle.std.proofs.Common.{◌≡◌, ◌-◌, ◌≤◌, length, drop, arith}
-use Rattle.std.proofs.lemmas.List.{length-drop}
-use Rattle.et_machine.specs.Words.{top}
+use Rattle.std.proofs.Common.{◌≡◌, true, false, sym, ◌∙◌, ap}
+use Rattle.et_class.specs.Names.{has}
+use Rattle.et_class.specs.declared.flags.TheConstants.{NATIVE}
+use Rattle.et_program.specs.Entries.{method_at}
+use Rattle.et_program.specs.declared.info.MethodInfo.{MethodInfo}
+use Rattle.et_parts.proofs.Answering.{if_ok}
+use Rattle.et_calls.proofs.Calling.{native_answers, other_answers}
 use Rattle.et_calls.proofs.entering.codeless_event.Goals as goal
 
-pub answer-requires-clause-room : goal.answer-requires-clause-room
-answer-requires-clause-room c =
-    let f = top c.args.machine.now.guest c.args.thread in
-    let left : length (drop c.args.count f.operands) ≡ length f.operands - c.args.count = length-drop c.args.count f.operands in
-    let fits : length f.operands ≤ f.room = c.operands_are_few.ensures.fits in omega arith
+pub returns-then-has-clause-ok : goal.returns-then-has-clause-ok
+returns-then-has-clause-ok g c =
+    let p = c.args.program.now in
+    let native : has (method_at p c.args.method).flags NATIVE ≡ true = ap (λ (i : MethodInfo). has i.flags NATIVE) (sym c.requires.info) ∙ (sym c.has.ensures ∙ c.if-has.true) in
+    if_ok c.throw_error.result
+    (λ end a at same. native_answers p c.args.thread c.args.machine.now c.throw_error.new.machine c.args.out.now c.throw_error.new.out end at c.args.count c.args.method native a)
+    c.throw_error.ensures.ok
+
+pub returns-clause-ok : goal.returns-clause-ok
+returns-clause-ok g c =
+    let p = c.args.program.now in
+    let other : has (method_at p c.args.method).flags NATIVE ≡ false = ap (λ (i : MethodInfo). has i.flags NATIVE) (sym c.requires.info) ∙ (sym c.has.ensures ∙ c.if-has.false) in
+    if_ok c.built_in_method_event.result
+    (λ end a at same. other_answers p c.args.thread c.args.machine.now c.built_in_method_event.new.machine c.args.out.now c.built_in_method_event.new.out end at c.args.count c.args.method other (a at same))
+    c.built_in_method_event.ensures.ok

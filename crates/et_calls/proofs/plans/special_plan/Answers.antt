@@ -6,6 +6,7 @@ use Rattle.et_event.specs.Calls.{arguments_of, enters_method, is_of_owner, speci
 use Rattle.et_event.specs.Checks.{selected}
 use Rattle.et_event.specs.Moments.{begins}
 use Rattle.et_calls.proofs.Coming.{moment}
+use Rattle.et_calls.proofs.Choosing.{special_room}
 use Rattle.et_calls.proofs.Planning.{special_selected}
 use Rattle.et_calls.proofs.plans.special_plan.Goals as goal
 
@@ -20,3 +21,8 @@ returns-clause-plan g c = λ at same.
     ∙ (ap (λ (k : ℕ). select_special p c.args.current k c.args.method) (sym c.special_class.ensures.value) ∙ sym c.select_special.ensures.value) in
     special_selected e at args c.args.named c.args.method c.in-Some.receiver (sym c.in-Some.ensures.value) owner
     ∙ (ap (λ (r : Result ℕ LinkError). selected e (begins e) r (enters_method e at (begins e) args)) answer ∙ c.selected.ensures.plan e at)
+
+pub returns-clause-within : goal.returns-clause-within
+returns-clause-within g c =
+    let e = moment c.args.program.now c.args.thread c.args.machine.now in
+    c.selected.ensures.within e c.select_special.ensures.within (special_room e c.args.current c.special_class.result c.args.method c.args.count c.select_special.result c.select_special.ensures.value c.requires.room) c.requires.operands

@@ -1,5 +1,4 @@
 use Rattle.std.proofs.Common.{Some, None, refl, ap, subst}
-use Rattle.et_parts.proofs.Answering.{if_ok}
 use Rattle.et_calls.specs.declared.plans.CallPlan.TheVariants.{Waits, Initializes, Enters}
 use Rattle.et_calls.specs.declared.plans.CallPlan.{CallPlan}
 use Rattle.et_calls.specs.Plans.{IsPlan}
@@ -19,9 +18,7 @@ returns-in-Initializes-clause-ok g c = λ at next.
     let plan = subst (λ (q : CallPlan). IsPlan e q) c.in-Initializes.is c.requires.plan in
     plan_answers e at c.args.plan (Initializes c.in-Initializes.method c.in-Initializes.count) None c.args.machine.now c.args.machine.now c.args.out.now c.args.out.now c.in-Initializes.is (ap is_untouched plan.2, refl, refl)
 
-pub returns-in-Enters-clause-ok : goal.returns-in-Enters-clause-ok
-returns-in-Enters-clause-ok g c =
+pub returns-in_ok-end-in-Enters-clause-ok : goal.returns-in_ok-end-in-Enters-clause-ok
+returns-in_ok-end-in-Enters-clause-ok g c = λ at next.
     let e = moment c.args.program.now c.args.thread c.args.machine.now in
-    if_ok c.enter_event.result
-    (λ end a at next. plan_answers e at c.args.plan (Enters c.in-Enters.method c.in-Enters.count) end c.args.machine.now c.enter_event.new.machine c.args.out.now c.enter_event.new.out c.in-Enters.is (a at next))
-    c.enter_event.ensures.ok
+    plan_answers e at c.args.plan (Enters c.in-Enters.method c.in-Enters.count) (Some c.in_ok-end-in-Enters.end) c.args.machine.now c.enter_event.new.machine c.args.out.now c.enter_event.new.out c.in-Enters.is (refl, c.in_ok-end-in-Enters.ensures.ok at next)

@@ -1,0 +1,5 @@
+pub mod Standing
+mod Tabled
+mod Changing
+mod Slots
+mod Selected

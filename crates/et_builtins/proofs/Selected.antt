@@ -1,0 +1,93 @@
+-- What the table says of a built-in method, by the tests of its receiver.
+use Rattle.std.proofs.Common.{◌≡◌, ℕ, ◌<◌, Bool, true, false, List, length, Option, Some, None, refl, sym, ◌∙◌, ap, subst, arith}
+use Rattle.std.specs.Prelude.{nat_lt}
+use Rattle.std.specs.Option.{is_some}
+use Rattle.std.proofs.lemmas.Bool.Decides.{nat_tests}
+use Rattle.et_frames.specs.Threads.{most_threads}
+use Rattle.et_base.specs.declared.value.Value.{Value}
+use Rattle.et_machine.specs.State.{Kept, MachineState}
+use Rattle.et_state.specs.declared.records.Record.{Record}
+use Rattle.et_state.specs.declared.ends.EventEnd.{EventEnd}
+use Rattle.et_state.specs.Outcome.{Outcome}
+use Rattle.et_program.specs.declared.info.MethodInfo.{MethodInfo}
+use Rattle.et_event.specs.declared.errors.GuestError.TheVariants.{AbstractMethodError, OutOfMemoryError}
+use Rattle.et_event.specs.declared.rows.BuiltIn.{BuiltIn}
+use Rattle.et_event.specs.declared.rows.BuiltIn.TheVariants.{Nothing, SetMessage, SetMessageAndCause, GetMessage, GetCause, SetTarget, Start, Join, SetReferent, GetReferent, ClearReferent}
+use Rattle.et_event.specs.Answered.{EventAnswers}
+use Rattle.et_event.specs.BuiltIns.{built_in_event, built_in_of, built_in_row, done_by, starts}
+use Rattle.et_event.specs.Checks.{ill_typed_unless, throws_unless, waits_unless}
+use Rattle.et_event.specs.Frames.{first_reference}
+use Rattle.et_event.specs.Moments.{Moment, begins, ill_typed, throws, waits}
+use Rattle.et_event.specs.Sites.{Site}
+use Rattle.et_builtins.specs.Rows.{is_fit, row_done}
+
+row_is : (e : Moment) (at : Site) (args : List Value) (o : ℕ) (b : BuiltIn) → built_in_row e at (begins e) args o b ≡ ill_typed_unless e (is_fit e o b) (row_done e at args o b)
+row_is e at args o Nothing = refl
+row_is e at args o SetMessage = refl
+row_is e at args o SetMessageAndCause = refl
+row_is e at args o GetMessage = refl
+row_is e at args o GetCause = refl
+row_is e at args o SetTarget = refl
+row_is e at args o Start = refl
+row_is e at args o Join = refl
+row_is e at args o SetReferent = refl
+row_is e at args o GetReferent = refl
+row_is e at args o ClearReferent = refl
+
+pub fit_answers : (e : Moment) (at : Site) (args : List Value) (o : ℕ) (b : BuiltIn) (end : EventEnd) (m m' : MachineState) (out out' : List Record) → is_fit e o b ≡ true
+    → EventAnswers (row_done e at args o b) end m m' out out' → EventAnswers (built_in_row e at (begins e) args o b) end m m' out out'
+fit_answers e at args o b end m m' out out' fit a =
+    subst (λ (x : Outcome Kept). EventAnswers x end m m' out out') (sym (row_is e at args o b ∙ ap (λ (c : Bool). ill_typed_unless e c (row_done e at args o b)) fit)) a
+
+pub unfit_answers : (e : Moment) (at : Site) (args : List Value) (o : ℕ) (b : BuiltIn) (end : EventEnd) (m m' : MachineState) (out out' : List Record) → is_fit e o b ≡ false
+    → EventAnswers (ill_typed e) end m m' out out' → EventAnswers (built_in_row e at (begins e) args o b) end m m' out out'
+unfit_answers e at args o b end m m' out out' unfit a =
+    subst (λ (x : Outcome Kept). EventAnswers x end m m' out out') (sym (row_is e at args o b ∙ ap (λ (c : Bool). ill_typed_unless e c (row_done e at args o b)) unfit)) a
+
+pub built_in_answers : (e : Moment) (at : Site) (args : List Value) (i : MethodInfo) (o : ℕ) (b : BuiltIn) (end : EventEnd) (m m' : MachineState) (out out' : List Record)
+    → first_reference args ≡ Some o → built_in_of i ≡ Some b → EventAnswers (built_in_row e at (begins e) args o b) end m m' out out' → EventAnswers (built_in_event e at (begins e) args i) end m m' out out'
+built_in_answers e at args i o b end m m' out out' first kind a =
+    subst (λ (x : Outcome Kept). EventAnswers x end m m' out out')
+    (sym (ap (λ (r : Option ℕ). done_by e at (begins e) args r (built_in_of i)) first ∙ ap (λ (k : Option BuiltIn). done_by e at (begins e) args (Some o) k) kind)) a
+
+no_receiver : (e : Moment) (at : Site) (args : List Value) (k : Option BuiltIn) → done_by e at (begins e) args None k ≡ throws e AbstractMethodError (begins e)
+no_receiver e at args None = refl
+no_receiver e at args (Some b) = refl
+
+not_built_in : (e : Moment) (at : Site) (args : List Value) (r : Option ℕ) → done_by e at (begins e) args r None ≡ throws e AbstractMethodError (begins e)
+not_built_in e at args None = refl
+not_built_in e at args (Some o) = refl
+
+pub uncalled_answers : (e : Moment) (at : Site) (args : List Value) (i : MethodInfo) (end : EventEnd) (m m' : MachineState) (out out' : List Record) → first_reference args ≡ None
+    → EventAnswers (throws e AbstractMethodError (begins e)) end m m' out out' → EventAnswers (built_in_event e at (begins e) args i) end m m' out out'
+uncalled_answers e at args i end m m' out out' first a =
+    subst (λ (x : Outcome Kept). EventAnswers x end m m' out out') (sym (ap (λ (r : Option ℕ). done_by e at (begins e) args r (built_in_of i)) first ∙ no_receiver e at args (built_in_of i))) a
+
+pub abstract_answers : (e : Moment) (at : Site) (args : List Value) (i : MethodInfo) (end : EventEnd) (m m' : MachineState) (out out' : List Record) → built_in_of i ≡ None
+    → EventAnswers (throws e AbstractMethodError (begins e)) end m m' out out' → EventAnswers (built_in_event e at (begins e) args i) end m m' out out'
+abstract_answers e at args i end m m' out out' kind a =
+    subst (λ (x : Outcome Kept). EventAnswers x end m m' out out') (sym (ap (λ (k : Option BuiltIn). done_by e at (begins e) args (first_reference args) k) kind ∙ not_built_in e at args (first_reference args))) a
+
+-- START AND JOIN
+
+few_test : (n : ℕ) → n < most_threads → nat_lt n most_threads ≡ true
+few_test n lt = grind (arith, nat_tests)
+
+none_of : (r : Option ℕ) → is_some r ≡ false → r ≡ None
+none_of None h = refl
+none_of (Some k) h = cc
+
+pub started_answers : (e : Moment) (o : ℕ) (go : Outcome Kept) (r : Option ℕ) (end : EventEnd) (m m' : MachineState) (out out' : List Record) → r ≡ None → length e.before.guest.threads < most_threads
+    → EventAnswers go end m m' out out' → EventAnswers (starts e (begins e) o go r) end m m' out out'
+started_answers e o go r end m m' out out' none few a =
+    subst (λ (x : Outcome Kept). EventAnswers x end m m' out out')
+    (sym (ap (λ (q : Option ℕ). starts e (begins e) o go q) none ∙ ap (λ (b : Bool). throws_unless e (begins e) OutOfMemoryError b go) (few_test (length e.before.guest.threads) few))) a
+
+pub none_is : (r : Option ℕ) (b : Bool) → b ≡ is_some r → b ≡ false → r ≡ None
+none_is r b e h = none_of r (sym e ∙ h)
+
+pub joined_answers : (e : Moment) (b : Bool) (go : Outcome Kept) (end : EventEnd) (m m' : MachineState) (out out' : List Record) → b ≡ true → EventAnswers go end m m' out out' → EventAnswers (waits_unless e b go) end m m' out out'
+joined_answers e b go end m m' out out' h a = subst (λ (c : Bool). EventAnswers (waits_unless e c go) end m m' out out') (sym h) a
+
+pub waiting_answers : (e : Moment) (b : Bool) (go : Outcome Kept) (end : EventEnd) (m m' : MachineState) (out out' : List Record) → b ≡ false → EventAnswers (waits e) end m m' out out' → EventAnswers (waits_unless e b go) end m m' out out'
+waiting_answers e b go end m m' out out' h a = subst (λ (c : Bool). EventAnswers (waits_unless e c go) end m m' out out') (sym h) a

@@ -1,0 +1,37 @@
+-- Which built-in method a method without code is, among some rows of the table.
+use Rattle.std.specs.Prelude.{ℕ, List, Option, option_map, find}
+use Rattle.et_program.specs.declared.info.MethodInfo.{MethodInfo}
+use Rattle.et_event.specs.declared.rows.BuiltIn.{BuiltIn}
+use Rattle.et_event.specs.declared.rows.BuiltIn.TheVariants.{Nothing, SetMessage, SetMessageAndCause, GetMessage, GetCause, SetTarget, Start, Join, SetReferent, GetReferent, ClearReferent}
+use Rattle.et_event.specs.BuiltIns.{is_called}
+
+abbrev pub found_in : MethodInfo → List (List ℕ × List ℕ × BuiltIn) → Option BuiltIn
+found_in m rows = option_map (λ (row : List ℕ × List ℕ × BuiltIn). row.2) (find (is_called m) rows)
+
+-- how many entries it answers
+abbrev pub entries_answered : BuiltIn → ℕ
+entries_answered Nothing = 0
+entries_answered SetMessage = 0
+entries_answered SetMessageAndCause = 0
+entries_answered GetMessage = 1
+entries_answered GetCause = 1
+entries_answered SetTarget = 0
+entries_answered Start = 0
+entries_answered Join = 0
+entries_answered SetReferent = 0
+entries_answered GetReferent = 1
+entries_answered ClearReferent = 0
+
+-- how many of the slots that the machine itself uses
+abbrev pub slots_used : BuiltIn → ℕ
+slots_used Nothing = 0
+slots_used SetMessage = 2
+slots_used SetMessageAndCause = 2
+slots_used GetMessage = 2
+slots_used GetCause = 2
+slots_used SetTarget = 1
+slots_used Start = 1
+slots_used Join = 0
+slots_used SetReferent = 0
+slots_used GetReferent = 0
+slots_used ClearReferent = 0

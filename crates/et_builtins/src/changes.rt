@@ -1,0 +1,249 @@
+//! What a built-in method changes once its arguments are taken.
+ghost use Rattle.std.specs.Prelude.{◌≡◌, ◌+◌, ◌<◌, ◌≤◌, ◌^◌, ◌∷◌, [], List, IfOk, OnOk, Contains, None, length, drop, take as first};
+ghost use Rattle.et_heap.specs.Objects.{IsHeld, object_at, slot_of, with_slot, referent_of, with_referent};
+ghost use Rattle.et_heap.specs.Refs.{refs_of, refs_of_value};
+ghost use Rattle.et_frames.specs.Roots.{frame_roots};
+ghost use Rattle.et_frames.specs.Threads.{lost_room, most_threads, thread_with};
+ghost use Rattle.et_machine.specs.State.{Kept, kept_of};
+ghost use Rattle.et_machine.specs.Words.{HasFrame, top, begun, steps_object, steps_top, with_object};
+ghost use Rattle.et_machine.specs.Sound.{IsSound};
+ghost use Rattle.et_machine.specs.Moves.{AreHeld};
+ghost use Rattle.et_program.specs.Entries.{Linked};
+ghost use Rattle.et_state.specs.declared.records.Record.{Record};
+ghost use Rattle.et_event.specs.Answered.{EventAnswers};
+ghost use Rattle.et_event.specs.BuiltIns.{answering, with_referent_of, with_thread_for};
+ghost use Rattle.et_event.specs.Calls.{arguments_of};
+ghost use Rattle.et_event.specs.Moments.{Moment, begins, goes, number_of as number_in, slot_written, updated};
+ghost use Rattle.et_event.specs.Sites.{Site};
+ghost use Rattle.et_parts.specs.Tops.{IsIn};
+ghost use Rattle.et_builtins.specs.Arguments.{moment};
+
+use et_base::{NoMemory, ObjectId, Steps, ThreadId, Value};
+use et_machine::Machine;
+use et_parts::take;
+use et_state::{EventEnd, Lines, Record};
+use std::sync::ledger::Ledger;
+
+/// A method that a thread calls: so many entries are its arguments, and the caller goes on at the pc `next`.
+#[derive(Clone, Copy)]
+pub struct Called {
+    pub thread: ThreadId,
+    pub count: u32,
+    pub next: u32,
+}
+
+/// The event begins, the arguments are taken, and the pc goes on.
+fn pass(machine: &mut Machine, call: &Called)
+    requires frame { HasFrame machine.old.guest call.now.thread }
+    requires clock { machine.old.guest.clock < 2 ^ 40 }
+    requires operands { call.now.count ≤ length (top machine.old.guest call.now.thread).operands }
+    requires small { call.now.count < 2 ^ 16 }
+    ensures new { machine.new ≡ steps_top (begun machine.old) call.now.thread (record (top machine.old.guest call.now.thread) { pc = call.now.next; operands = drop call.now.count (top machine.old.guest call.now.thread).operands }) (refs_of (first call.now.count (top machine.old.guest call.now.thread).operands)) }
+    ensures few { length machine.new.lost ≤ call.now.count }
+{
+    machine.begin_event();
+    take(machine, call.thread, call.count);
+    machine.set_pc(call.thread, call.next);
+}
+
+/// The event in which a method gives nothing.
+pub(crate) fn give_nothing(machine: &mut Machine, call: &Called) -> EventEnd
+    requires frame { HasFrame machine.old.guest call.now.thread }
+    requires sound { IsSound (kept_of machine.old) }
+    requires clock { machine.old.guest.clock < 2 ^ 40 }
+    requires operands { call.now.count ≤ length (top machine.old.guest call.now.thread).operands }
+    requires small { call.now.count < 2 ^ 16 }
+    ensures { (p : Linked) (at : Site) (out : List Record) → at.next ≡ call.now.next → EventAnswers (goes (answering (moment p machine.old call.now.thread) at (arguments_of (moment p machine.old call.now.thread) call.now.count) [] (begins (moment p machine.old call.now.thread)))) result machine.old machine.new out out }
+{
+    pass(machine, call);
+    EventEnd::Done
+}
+
+/// The event in which a method gives a value of one entry.
+pub(crate) fn give(machine: &mut Machine, call: &Called, value: Value) -> EventEnd
+    requires frame { HasFrame machine.old.guest call.now.thread }
+    requires sound { IsSound (kept_of machine.old) }
+    requires clock { machine.old.guest.clock < 2 ^ 40 }
+    requires operands { call.now.count ≤ length (top machine.old.guest call.now.thread).operands }
+    requires small { call.now.count < 2 ^ 16 }
+    requires room { length (drop call.now.count (top machine.old.guest call.now.thread).operands) < (top machine.old.guest call.now.thread).room }
+    requires held { AreHeld machine.old (refs_of_value value) }
+    ensures { (p : Linked) (at : Site) (out : List Record) → at.next ≡ call.now.next → EventAnswers (goes (answering (moment p machine.old call.now.thread) at (arguments_of (moment p machine.old call.now.thread) call.now.count) (value ∷ []) (begins (moment p machine.old call.now.thread)))) result machine.old machine.new out out }
+{
+    pass(machine, call);
+    machine.push(call.thread, value);
+    EventEnd::Done
+}
+
+/// The number of a reference in a record; 0 is null.
+fn number_of(value: Value) -> u32
+    ensures { result ≡ number_in value }
+{
+    match value {
+        Value::Ref(o) => o.number(),
+        Value::Unset | Value::Int(_) | Value::Long(_) | Value::LongHigh | Value::Null => 0,
+    }
+}
+
+/// Tells in the event under way that a value is written to a slot of an object over another, where it is a reference.
+fn tell_update(
+    out: &mut Lines,
+    event: u64,
+    thread: ThreadId,
+    object: ObjectId,
+    slot: u32,
+    old: Value,
+    value: Value,
+) -> Result<(), NoMemory>
+    ensures { OnOk result ((p : Linked) (b s : Kept) → s.guest.clock ≡ event → out.new ≡ (updated (record { program = p; before = b; thread = thread }) object slot old value (record { state = s; records = out.old })).records) }
+{
+    match value {
+        Value::Null | Value::Ref(_) => out.push(Record::Update {
+            event,
+            thread: thread.number(),
+            object: object.number(),
+            slot,
+            old: number_of(old),
+            new: number_of(value),
+        }),
+        Value::Unset | Value::Int(_) | Value::Long(_) | Value::LongHigh => Ok(()),
+    }
+}
+
+/// Writes a slot of an object in the event under way, and tells of it.
+fn write<L: Ledger>(
+    machine: &mut Machine,
+    thread: ThreadId,
+    object: ObjectId,
+    slot: u32,
+    value: Value,
+    out: &mut Lines,
+    visits: &mut Steps<L>,
+) -> Result<(), NoMemory>
+    requires held { IsHeld machine.old.heap object }
+    requires slot { slot < length (object_at machine.old.heap object).slots }
+    requires lost { length machine.old.lost < lost_room }
+    ensures new { OnOk result (machine.new ≡ steps_object machine.old object (with_slot slot value (object_at machine.old.heap object)) (refs_of_value (slot_of (object_at machine.old.heap object) slot))) }
+    ensures told { OnOk result ((p : Linked) (b s : Kept) → s.guest.clock ≡ machine.old.guest.clock → out.new ≡ (updated (record { program = p; before = b; thread = thread }) object slot (slot_of (object_at machine.old.heap object) slot) value (record { state = s; records = out.old })).records) }
+    ensures few { OnOk result (length machine.new.lost ≤ length machine.old.lost + 1) }
+    ensures visits { visits.new ≡ visits.old + 1 }
+{
+    let event = machine.clock();
+    let told = value;
+    let old = machine.set_slot(object, slot, value, visits);
+    tell_update(out, event, thread, object, slot, old, told)
+}
+
+/// The event in which a method writes the first slot of an object. After `NoMemory` the machine may only be dropped.
+pub(crate) fn write_one<L: Ledger>(
+    machine: &mut Machine,
+    call: &Called,
+    object: ObjectId,
+    value: Value,
+    out: &mut Lines,
+    visits: &mut Steps<L>,
+) -> Result<EventEnd, NoMemory>
+    requires frame { HasFrame machine.old.guest call.now.thread }
+    requires sound { IsSound (kept_of machine.old) }
+    requires clock { machine.old.guest.clock < 2 ^ 40 }
+    requires operands { call.now.count ≤ length (top machine.old.guest call.now.thread).operands }
+    requires small { call.now.count < 2 ^ 16 }
+    requires object { Contains (frame_roots (top machine.old.guest call.now.thread)) object }
+    requires held { IsHeld machine.old.heap object }
+    requires slots { 0 < length (object_at machine.old.heap object).slots }
+    requires value { IsIn (top machine.old.guest call.now.thread) value }
+    ensures ok { IfOk result (λ end. (p : Linked) (at : Site) → at.next ≡ call.now.next → EventAnswers (goes (slot_written (moment p machine.old call.now.thread) object 0 value (answering (moment p machine.old call.now.thread) at (arguments_of (moment p machine.old call.now.thread) call.now.count) [] (begins (moment p machine.old call.now.thread))))) end machine.old machine.new out.old out.new) }
+    ensures visits { visits.new ≤ visits.old + 2 }
+{
+    pass(machine, call);
+    write(machine, call.thread, object, 0, value, out, visits)?;
+    Ok(EventEnd::Done)
+}
+
+/// The event in which a method writes the first two slots of an object. After `NoMemory` the machine may only be dropped.
+pub(crate) fn write_two<L: Ledger>(
+    machine: &mut Machine,
+    call: &Called,
+    object: ObjectId,
+    first_value: Value,
+    second_value: Value,
+    out: &mut Lines,
+    visits: &mut Steps<L>,
+) -> Result<EventEnd, NoMemory>
+    requires frame { HasFrame machine.old.guest call.now.thread }
+    requires sound { IsSound (kept_of machine.old) }
+    requires clock { machine.old.guest.clock < 2 ^ 40 }
+    requires operands { call.now.count ≤ length (top machine.old.guest call.now.thread).operands }
+    requires small { call.now.count < 2 ^ 16 }
+    requires object { Contains (frame_roots (top machine.old.guest call.now.thread)) object }
+    requires held { IsHeld machine.old.heap object }
+    requires slots { 2 ≤ length (object_at machine.old.heap object).slots }
+    requires first_value { IsIn (top machine.old.guest call.now.thread) first_value }
+    requires second_value { IsIn (top machine.old.guest call.now.thread) second_value }
+    ensures ok { IfOk result (λ end. (p : Linked) (at : Site) → at.next ≡ call.now.next → EventAnswers (goes (slot_written (moment p machine.old call.now.thread) object 1 second_value (slot_written (moment p machine.old call.now.thread) object 0 first_value (answering (moment p machine.old call.now.thread) at (arguments_of (moment p machine.old call.now.thread) call.now.count) [] (begins (moment p machine.old call.now.thread)))))) end machine.old machine.new out.old out.new) }
+    ensures visits { visits.new ≤ visits.old + 2 }
+{
+    pass(machine, call);
+    write(machine, call.thread, object, 0, first_value, out, visits)?;
+    write(machine, call.thread, object, 1, second_value, out, visits)?;
+    Ok(EventEnd::Done)
+}
+
+/// Sets what an object refers to weakly; a value that is no reference counts as null.
+fn set_referent<L: Ledger>(
+    machine: &mut Machine,
+    object: ObjectId,
+    value: Value,
+    visits: &mut Steps<L>,
+)
+    requires { IsHeld machine.old.heap object }
+    ensures new { machine.new ≡ with_object machine.old object (with_referent (referent_of value) (object_at machine.old.heap object)) }
+    ensures visits { visits.new ≡ visits.old + 1 }
+{
+    machine.heap.set_referent(object, value, visits);
+}
+
+/// The event in which a method sets what an object refers to weakly (`java.lang.ref`). A value
+/// that is no reference counts as null.
+pub(crate) fn write_referent<L: Ledger>(
+    machine: &mut Machine,
+    call: &Called,
+    object: ObjectId,
+    value: Value,
+    visits: &mut Steps<L>,
+) -> EventEnd
+    requires frame { HasFrame machine.old.guest call.now.thread }
+    requires sound { IsSound (kept_of machine.old) }
+    requires clock { machine.old.guest.clock < 2 ^ 40 }
+    requires operands { call.now.count ≤ length (top machine.old.guest call.now.thread).operands }
+    requires small { call.now.count < 2 ^ 16 }
+    requires held { IsHeld machine.old.heap object }
+    requires value { IsIn (top machine.old.guest call.now.thread) value }
+    ensures ok { (p : Linked) (at : Site) (out : List Record) → at.next ≡ call.now.next → EventAnswers (goes (with_referent_of object (referent_of value) (answering (moment p machine.old call.now.thread) at (arguments_of (moment p machine.old call.now.thread) call.now.count) [] (begins (moment p machine.old call.now.thread))))) result machine.old machine.new out out }
+    ensures visits { visits.new ≡ visits.old + 1 }
+{
+    pass(machine, call);
+    set_referent(machine, object, value, visits);
+    EventEnd::Done
+}
+
+/// The event in which a thread is started with its Thread object. After `NoMemory` the machine may only be dropped.
+pub(crate) fn start(
+    machine: &mut Machine,
+    call: &Called,
+    object: ObjectId,
+) -> Result<EventEnd, NoMemory>
+    requires frame { HasFrame machine.old.guest call.now.thread }
+    requires sound { IsSound (kept_of machine.old) }
+    requires clock { machine.old.guest.clock < 2 ^ 40 }
+    requires operands { call.now.count ≤ length (top machine.old.guest call.now.thread).operands }
+    requires small { call.now.count < 2 ^ 16 }
+    requires held { IsHeld machine.old.heap object }
+    requires few { length machine.old.guest.threads < most_threads }
+    requires fresh { thread_with machine.old.guest.threads object ≡ None }
+    ensures { IfOk result (λ end. (p : Linked) (at : Site) (out : List Record) → at.next ≡ call.now.next → EventAnswers (goes (with_thread_for object (answering (moment p machine.old call.now.thread) at (arguments_of (moment p machine.old call.now.thread) call.now.count) [] (begins (moment p machine.old call.now.thread))))) end machine.old machine.new out out) }
+{
+    pass(machine, call);
+    let _thread = machine.start_thread(object)?;
+    Ok(EventEnd::Done)
+}

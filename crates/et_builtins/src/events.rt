@@ -1,0 +1,71 @@
+//! The event of a built-in method without code.
+ghost use Rattle.std.specs.Prelude.{◌≡◌, ◌+◌, ◌<◌, ◌≤◌, ◌^◌, IfOk, length, drop};
+ghost use Rattle.et_machine.specs.State.{kept_of};
+ghost use Rattle.et_machine.specs.Words.{HasFrame, top};
+ghost use Rattle.et_program.specs.Entries.{method_at};
+ghost use Rattle.et_event.specs.Answered.{EventAnswers};
+ghost use Rattle.et_event.specs.BuiltIns.{built_in_event};
+ghost use Rattle.et_event.specs.Calls.{arguments_of};
+ghost use Rattle.et_event.specs.Kinds.{returned_width};
+ghost use Rattle.et_event.specs.Moments.{begins};
+ghost use Rattle.et_event.specs.Sites.{Site};
+ghost use Rattle.et_event.specs.Sound.{IsSoundFor, returned_of};
+ghost use Rattle.et_sound.specs.Programs.{HasMachineSlots};
+
+use crate::arguments::{operands_are_few, receiver};
+use crate::changes::Called;
+use crate::kinds::built_in_of;
+use crate::rows::row_event;
+use et_base::{MethodId, NoMemory, Steps, ThreadId};
+use et_event::GuestError;
+use et_machine::Machine;
+use et_parts::throw_error;
+use et_program::Program;
+use et_state::{EventEnd, Lines};
+use std::sync::ledger::Ledger;
+
+/// The event of a selected method without code, with so many entries as arguments, in front of the pc `next`: a built-in
+/// method is done in this one event and without a frame, and another one throws AbstractMethodError (JVMS 6.5
+/// invokevirtual). It visits three objects at most. After `NoMemory` the event may be half done, and machine and records may
+/// only be dropped.
+pub fn built_in_method_event<L: Ledger>(
+    program: &Program,
+    machine: &mut Machine,
+    thread: ThreadId,
+    method: MethodId,
+    count: u32,
+    next: u32,
+    out: &mut Lines,
+    visits: &mut Steps<L>,
+) -> Result<EventEnd, NoMemory>
+    requires frame { HasFrame machine.old.guest thread }
+    requires sound { IsSoundFor program.now (kept_of machine.old) }
+    requires clock { machine.old.guest.clock < 2 ^ 40 }
+    requires method { method < length program.now.methods }
+    requires operands { count ≤ length (top machine.old.guest thread).operands }
+    requires room { length (drop count (top machine.old.guest thread).operands) + returned_width (returned_of (method_at program.now method)) ≤ (top machine.old.guest thread).room }
+    requires slots { HasMachineSlots program.now }
+    ensures ok { IfOk result (λ end. (at : Site) → at.next ≡ next → EventAnswers (built_in_event (record { program = program.now; before = kept_of machine.old; thread = thread }) at (begins (record { program = program.now; before = kept_of machine.old; thread = thread })) (arguments_of (record { program = program.now; before = kept_of machine.old; thread = thread }) count) (method_at program.now method)) end machine.old machine.new out.old out.new) }
+    ensures visits { visits.new ≤ visits.old + 3 }
+{
+    operands_are_few(machine, thread);
+    let info = program.method(method);
+    let receiver = receiver(machine, thread, count);
+    match (receiver, built_in_of(info)) {
+        (Some(object), Some(built_in)) => {
+            let call = Called {
+                thread,
+                count,
+                next,
+            };
+            row_event(program, machine, &call, object, built_in, out, visits)
+        }
+        (_, _) => throw_error(
+            machine,
+            program,
+            thread,
+            GuestError::AbstractMethodError,
+            out,
+        ),
+    }
+}

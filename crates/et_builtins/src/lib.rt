@@ -1,0 +1,11 @@
+//! The arguments of a call, and the built-in methods without code, which take one event and no frame.
+#![tactic(auto)]
+
+mod arguments;
+mod changes;
+mod events;
+mod kinds;
+mod rows;
+
+pub use arguments::{argument_at, operands_are_few, receiver};
+pub use events::built_in_method_event;

@@ -1,0 +1,274 @@
+//! What each built-in method does (`java.lang.Throwable`, `Thread`, and the weak references of `java.lang.ref`).
+ghost use Rattle.std.specs.Prelude.{◌≡◌, ℕ, ◌+◌, ◌<◌, ◌≤◌, ◌^◌, ◌∷◌, [], true, Some, List, IfOk, IfSome, Contains, length, drop, codes};
+ghost use Rattle.et_heap.specs.Objects.{IsHeld, object_at};
+ghost use Rattle.et_frames.specs.Roots.{frame_roots};
+ghost use Rattle.et_frames.specs.Threads.{thread_with};
+ghost use Rattle.et_machine.specs.State.{kept_of};
+ghost use Rattle.et_machine.specs.Sound.{IsSound};
+ghost use Rattle.et_machine.specs.Words.{HasFrame, top};
+ghost use Rattle.et_program.specs.Entries.{Linked};
+ghost use Rattle.et_state.specs.declared.records.Record.{Record};
+ghost use Rattle.et_event.specs.Answered.{EventAnswers};
+ghost use Rattle.et_event.specs.BuiltIns.{answering, built_in_row as row_of, has_ended as has_ended_in, reference_in, starts, with_thread_for};
+ghost use Rattle.et_event.specs.Calls.{arguments_of};
+ghost use Rattle.et_event.specs.Checks.{value_of, waits_unless};
+ghost use Rattle.et_event.specs.Kinds.{or_zero};
+ghost use Rattle.et_event.specs.Moments.{begins, goes};
+ghost use Rattle.et_event.specs.declared.rows.Operand.TheVariants as operand;
+ghost use Rattle.et_event.specs.Sites.{Site};
+ghost use Rattle.et_event.specs.Sound.{IsSoundFor};
+ghost use Rattle.et_sound.specs.Programs.{HasMachineSlots};
+ghost use Rattle.et_builtins.specs.Arguments.{moment};
+ghost use Rattle.et_builtins.specs.Kinds.{entries_answered, slots_used};
+ghost use Rattle.et_builtins.specs.Rows.{is_fit as fits_row, is_object_of as is_of_class, row_done, uses_thread as is_on_thread, uses_throwable as is_on_throwable};
+
+use crate::arguments::argument_at;
+use crate::changes::{Called, give, give_nothing, start, write_one, write_referent, write_two};
+use et_base::{NoMemory, ObjectId, Steps, Value};
+use et_event::{BuiltIn, GuestError};
+use et_machine::Machine;
+use et_parts::{class_called, ill_typed, throw_error};
+use et_program::Program;
+use et_state::{EventEnd, Lines};
+use std::sync::ledger::Ledger;
+
+/// At most so many threads are ever started.
+const MOST_THREADS: u32 = 64;
+
+/// Whether an object is of the class of this name, or of one below it.
+#[tactic(auto, using(crate::proofs::Slots::class_within))]
+fn is_of<L: Ledger>(
+    program: &Program,
+    machine: &Machine,
+    object: ObjectId,
+    name: &[u8],
+    visits: &mut Steps<L>,
+) -> bool
+    requires sound { IsSoundFor program.now (kept_of machine.now) }
+    requires held { IsHeld machine.now.heap object }
+    ensures value { (t : ℕ) → result ≡ is_of_class (moment program.now machine.now t) object name.now }
+    ensures visits { visits.new ≡ visits.old + 1 }
+{
+    let class = machine.heap.class_of(object, visits);
+    program.is_subclass(class, class_called(program, name))
+}
+
+/// Whether a built-in method uses the slots of a Throwable.
+fn uses_throwable(built_in: BuiltIn) -> bool
+    ensures { result ≡ is_on_throwable built_in }
+{
+    matches!(
+        built_in,
+        BuiltIn::SetMessage | BuiltIn::SetMessageAndCause | BuiltIn::GetMessage | BuiltIn::GetCause
+    )
+}
+
+/// Whether a built-in method uses the slots of a Thread, or its thread.
+fn uses_thread(built_in: BuiltIn) -> bool
+    ensures { result ≡ is_on_thread built_in }
+{
+    matches!(built_in, BuiltIn::SetTarget | BuiltIn::Start)
+}
+
+/// Whether a built-in method may be done on an object: what uses the slots of a Throwable or of a Thread, or starts a thread,
+/// is done on such an object alone.
+fn is_fit<L: Ledger>(
+    program: &Program,
+    machine: &Machine,
+    object: ObjectId,
+    built_in: BuiltIn,
+    visits: &mut Steps<L>,
+) -> bool
+    requires sound { IsSoundFor program.now (kept_of machine.now) }
+    requires slots { HasMachineSlots program.now }
+    requires held { IsHeld machine.now.heap object }
+    ensures value { (t : ℕ) → result ≡ fits_row (moment program.now machine.now t) object built_in }
+    ensures slots { result ≡ true → slots_used built_in ≤ length (object_at machine.now.heap object).slots }
+    ensures visits { visits.new ≤ visits.old + 1 }
+{
+    if uses_throwable(built_in) {
+        return is_of(program, machine, object, b"java/lang/Throwable", visits);
+    }
+    if uses_thread(built_in) {
+        return is_of(program, machine, object, b"java/lang/Thread", visits);
+    }
+    true
+}
+
+/// What a value gives of its kind where that is a reference: null where nothing was written.
+fn or_null(value: Value) -> Value
+    ensures { result ≡ or_zero (Some operand.Reference) value }
+{
+    match value {
+        Value::Unset => Value::Null,
+        Value::Int(_) | Value::Long(_) | Value::LongHigh | Value::Null | Value::Ref(_) => value,
+    }
+}
+
+/// The event in which a method gives the reference in a slot of an object.
+fn give_slot<L: Ledger>(
+    machine: &mut Machine,
+    call: &Called,
+    object: ObjectId,
+    slot: u32,
+    visits: &mut Steps<L>,
+) -> EventEnd
+    requires frame { HasFrame machine.old.guest call.now.thread }
+    requires sound { IsSound (kept_of machine.old) }
+    requires clock { machine.old.guest.clock < 2 ^ 40 }
+    requires operands { call.now.count ≤ length (top machine.old.guest call.now.thread).operands }
+    requires small { call.now.count < 2 ^ 16 }
+    requires room { length (drop call.now.count (top machine.old.guest call.now.thread).operands) < (top machine.old.guest call.now.thread).room }
+    requires held { IsHeld machine.old.heap object }
+    requires slots { slot < length (object_at machine.old.heap object).slots }
+    ensures ok { (p : Linked) (at : Site) (out : List Record) → at.next ≡ call.now.next → EventAnswers (goes (answering (moment p machine.old call.now.thread) at (arguments_of (moment p machine.old call.now.thread) call.now.count) (reference_in (begins (moment p machine.old call.now.thread)) object slot ∷ []) (begins (moment p machine.old call.now.thread)))) result machine.old machine.new out out }
+    ensures visits { visits.new ≡ visits.old + 1 }
+{
+    let value = or_null(machine.heap.slot(object, slot, visits));
+    give(machine, call, value)
+}
+
+/// The event in which a method gives what an object refers to weakly.
+#[tactic(auto, using(crate::proofs::Slots::referent_held))]
+fn give_referent<L: Ledger>(
+    machine: &mut Machine,
+    call: &Called,
+    object: ObjectId,
+    visits: &mut Steps<L>,
+) -> EventEnd
+    requires frame { HasFrame machine.old.guest call.now.thread }
+    requires sound { IsSound (kept_of machine.old) }
+    requires clock { machine.old.guest.clock < 2 ^ 40 }
+    requires operands { call.now.count ≤ length (top machine.old.guest call.now.thread).operands }
+    requires small { call.now.count < 2 ^ 16 }
+    requires room { length (drop call.now.count (top machine.old.guest call.now.thread).operands) < (top machine.old.guest call.now.thread).room }
+    requires held { IsHeld machine.old.heap object }
+    ensures ok { (p : Linked) (at : Site) (out : List Record) → at.next ≡ call.now.next → EventAnswers (goes (answering (moment p machine.old call.now.thread) at (arguments_of (moment p machine.old call.now.thread) call.now.count) (value_of (object_at machine.old.heap object).referent ∷ []) (begins (moment p machine.old call.now.thread)))) result machine.old machine.new out out }
+    ensures visits { visits.new ≡ visits.old + 1 }
+{
+    let value = machine.heap.referent(object, visits);
+    give(machine, call, value)
+}
+
+/// The event in which a thread is started, once for each object, and at most 64 in all.
+fn start_event(
+    program: &Program,
+    machine: &mut Machine,
+    call: &Called,
+    object: ObjectId,
+    out: &mut Lines,
+) -> Result<EventEnd, NoMemory>
+    requires frame { HasFrame machine.old.guest call.now.thread }
+    requires sound { IsSound (kept_of machine.old) }
+    requires clock { machine.old.guest.clock < 2 ^ 40 }
+    requires operands { call.now.count ≤ length (top machine.old.guest call.now.thread).operands }
+    requires small { call.now.count < 2 ^ 16 }
+    requires held { IsHeld machine.old.heap object }
+    ensures { IfOk result (λ end. (at : Site) → at.next ≡ call.now.next → EventAnswers (starts (moment program.now machine.old call.now.thread) (begins (moment program.now machine.old call.now.thread)) object (goes (with_thread_for object (answering (moment program.now machine.old call.now.thread) at (arguments_of (moment program.now machine.old call.now.thread) call.now.count) [] (begins (moment program.now machine.old call.now.thread))))) (thread_with machine.old.guest.threads object)) end machine.old machine.new out.old out.new) }
+{
+    if machine.thread_of(object).is_some() {
+        let error = GuestError::IllegalThreadStateException;
+        return throw_error(machine, program, call.thread, error, out);
+    }
+    if machine.started() >= MOST_THREADS {
+        let error = GuestError::OutOfMemoryError;
+        return throw_error(machine, program, call.thread, error, out);
+    }
+    start(machine, call, object)
+}
+
+/// Whether the thread of a Thread object has ended; also where there is none.
+#[tactic(auto, using(crate::proofs::Slots::thread_within))]
+fn has_ended(machine: &Machine, object: ObjectId) -> bool
+    ensures { (p : Linked) (t : ℕ) → result ≡ has_ended_in (begins (moment p machine.now t)) (thread_with machine.now.guest.threads object) }
+{
+    match machine.thread_of(object) {
+        Some(thread) => machine.is_ended(thread),
+        None => true,
+    }
+}
+
+/// The event in which a thread waits for the end of another, and goes on once that has ended.
+fn join_event(machine: &mut Machine, call: &Called, object: ObjectId) -> EventEnd
+    requires frame { HasFrame machine.old.guest call.now.thread }
+    requires sound { IsSound (kept_of machine.old) }
+    requires clock { machine.old.guest.clock < 2 ^ 40 }
+    requires operands { call.now.count ≤ length (top machine.old.guest call.now.thread).operands }
+    requires small { call.now.count < 2 ^ 16 }
+    ensures { (p : Linked) (at : Site) (out : List Record) → at.next ≡ call.now.next → EventAnswers (waits_unless (moment p machine.old call.now.thread) (has_ended_in (begins (moment p machine.old call.now.thread)) (thread_with machine.old.guest.threads object)) (goes (answering (moment p machine.old call.now.thread) at (arguments_of (moment p machine.old call.now.thread) call.now.count) [] (begins (moment p machine.old call.now.thread))))) result machine.old machine.new out out }
+{
+    if has_ended(machine, object) {
+        return give_nothing(machine, call);
+    }
+    machine.begin_event();
+    EventEnd::Waited
+}
+
+/// The event of a built-in method on an object for which it is fit.
+fn fit_row_event<L: Ledger>(
+    program: &Program,
+    machine: &mut Machine,
+    call: &Called,
+    object: ObjectId,
+    built_in: BuiltIn,
+    out: &mut Lines,
+    visits: &mut Steps<L>,
+) -> Result<EventEnd, NoMemory>
+    requires frame { HasFrame machine.old.guest call.now.thread }
+    requires sound { IsSound (kept_of machine.old) }
+    requires clock { machine.old.guest.clock < 2 ^ 40 }
+    requires operands { call.now.count ≤ length (top machine.old.guest call.now.thread).operands }
+    requires small { call.now.count < 2 ^ 16 }
+    requires room { length (drop call.now.count (top machine.old.guest call.now.thread).operands) + entries_answered built_in ≤ (top machine.old.guest call.now.thread).room }
+    requires object { Contains (frame_roots (top machine.old.guest call.now.thread)) object }
+    requires held { IsHeld machine.old.heap object }
+    requires slots { slots_used built_in ≤ length (object_at machine.old.heap object).slots }
+    ensures ok { IfOk result (λ end. (at : Site) → at.next ≡ call.now.next → EventAnswers (row_done (moment program.now machine.old call.now.thread) at (arguments_of (moment program.now machine.old call.now.thread) call.now.count) object built_in) end machine.old machine.new out.old out.new) }
+    ensures visits { visits.new ≤ visits.old + 2 }
+{
+    let value = argument_at(machine, call.thread, call.count, 1);
+    match built_in {
+        BuiltIn::Nothing => Ok(give_nothing(machine, call)),
+        BuiltIn::SetMessage => write_one(machine, call, object, value, out, visits),
+        BuiltIn::SetTarget => write_one(machine, call, object, value, out, visits),
+        BuiltIn::SetMessageAndCause => {
+            let cause = argument_at(machine, call.thread, call.count, 2);
+            write_two(machine, call, object, value, cause, out, visits)
+        }
+        BuiltIn::GetMessage => Ok(give_slot(machine, call, object, 0, visits)),
+        BuiltIn::GetCause => Ok(give_slot(machine, call, object, 1, visits)),
+        BuiltIn::Start => start_event(program, machine, call, object, out),
+        BuiltIn::Join => Ok(join_event(machine, call, object)),
+        BuiltIn::SetReferent => Ok(write_referent(machine, call, object, value, visits)),
+        BuiltIn::GetReferent => Ok(give_referent(machine, call, object, visits)),
+        BuiltIn::ClearReferent => Ok(write_referent(machine, call, object, Value::Null, visits)),
+    }
+}
+
+/// The event of a built-in method on an object.
+pub(crate) fn row_event<L: Ledger>(
+    program: &Program,
+    machine: &mut Machine,
+    call: &Called,
+    object: ObjectId,
+    built_in: BuiltIn,
+    out: &mut Lines,
+    visits: &mut Steps<L>,
+) -> Result<EventEnd, NoMemory>
+    requires frame { HasFrame machine.old.guest call.now.thread }
+    requires sound { IsSoundFor program.now (kept_of machine.old) }
+    requires program_slots { HasMachineSlots program.now }
+    requires clock { machine.old.guest.clock < 2 ^ 40 }
+    requires operands { call.now.count ≤ length (top machine.old.guest call.now.thread).operands }
+    requires small { call.now.count < 2 ^ 16 }
+    requires room { length (drop call.now.count (top machine.old.guest call.now.thread).operands) + entries_answered built_in ≤ (top machine.old.guest call.now.thread).room }
+    requires object { Contains (frame_roots (top machine.old.guest call.now.thread)) object }
+    requires held { IsHeld machine.old.heap object }
+    ensures ok { IfOk result (λ end. (at : Site) → at.next ≡ call.now.next → EventAnswers (row_of (moment program.now machine.old call.now.thread) at (begins (moment program.now machine.old call.now.thread)) (arguments_of (moment program.now machine.old call.now.thread) call.now.count) object built_in) end machine.old machine.new out.old out.new) }
+    ensures visits { visits.new ≤ visits.old + 3 }
+{
+    if is_fit(program, machine, object, built_in, visits) {
+        return fit_row_event(program, machine, call, object, built_in, out, visits);
+    }
+    Ok(ill_typed(machine, call.thread))
+}
