@@ -1,0 +1,6 @@
+mod Words
+mod Ways
+mod Members
+mod Rows
+mod Calls
+mod Turns

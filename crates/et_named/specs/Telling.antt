@@ -1,0 +1,30 @@
+-- What an event tells.
+use Rattle.std.specs.Prelude.{◌≡◌, ℕ, ◌+◌, ◌<◌, List, All, length}
+use Rattle.et_program.specs.Entries.{Linked, class_at, method_at}
+use Rattle.et_program.specs.declared.info.Element.TheVariants.{Class}
+use Rattle.et_machine.specs.State.{Kept}
+use Rattle.et_state.specs.Naming.{Names, IsNamed}
+use Rattle.et_state.specs.Outcome.{Outcome}
+use Rattle.et_state.specs.Outcome as outcome
+
+-- the names of the classes and methods of a program
+abbrev pub names_of : Linked → Names
+names_of p = record {
+  class_count = length p.classes;
+  method_count = length p.methods;
+  class_name = λ c. (class_at p c).info.name;
+  method_class = λ m. (method_at p m).class;
+  method_name = λ m. (method_at p m).name;
+  method_descriptor = λ m. (method_at p m).descriptor;
+}
+
+-- arrays have elements of classes of the program
+abbrev pub HasElementClasses : Linked → Type 0
+HasElementClasses p = (c k : ℕ) → c < length p.classes → (class_at p c).info.element ≡ Class k → k < length p.classes
+
+-- where the event was done, or the thread waited, the clock went on by one, and what the records name is of the program
+abbrev pub IsTold : Linked → Kept → Outcome Kept → Type 0
+IsTold p s (outcome.Goes next records) = (next.guest.clock ≡ s.guest.clock + 1) × All (IsNamed (names_of p)) records
+IsTold p s (outcome.Waits next) = next.guest.clock ≡ s.guest.clock + 1
+IsTold p s (outcome.IllTyped method pc) = Unit {0}
+IsTold p s outcome.ObjectLimit = Unit {0}
