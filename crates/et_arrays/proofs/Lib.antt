@@ -1,0 +1,12 @@
+pub mod Making
+pub mod Legal
+pub mod Finishing
+pub mod Stacking
+pub mod Descending
+pub mod Ascending
+pub mod Resolving
+pub mod Starting
+pub mod Answering
+pub mod Placed
+pub mod Behind
+pub mod Adding

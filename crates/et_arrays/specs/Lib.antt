@@ -1,0 +1,4 @@
+pub mod Counts
+pub mod Legal
+pub mod Filling
+pub mod Events

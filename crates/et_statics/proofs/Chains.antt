@@ -1,0 +1,53 @@
+-- The rows in parts: what goes on behind each check.
+use Rattle.std.proofs.Common.{◌≡◌, ℕ, ◌++◌, ◌∷◌, List}
+use Rattle.et_base.specs.declared.value.Value.{Value}
+use Rattle.et_base.specs.declared.value.Value.TheVariants.{Ref}
+use Rattle.et_program.specs.Entries.{field_at}
+use Rattle.et_machine.specs.State.{Kept}
+use Rattle.et_machine.specs.Words.{static_at}
+use Rattle.et_state.specs.Outcome.{Outcome}
+use Rattle.et_event.specs.declared.errors.GuestError.TheVariants.{IncompatibleClassChangeError, InstantiationError}
+use Rattle.et_event.specs.Moments.{Moment, frame_of, begins, next_object, instance_made, static_written, ill_typed, ends}
+use Rattle.et_event.specs.Checks.{with_value, entries_of, ill_typed_unless, throws_unless}
+use Rattle.et_event.specs.Heap.{leaving, field_fits, resolved_field, resolved_class, is_static_field, may_be_made}
+use Rattle.et_event.specs.Initialization.{initialized}
+use Rattle.et_event.specs.Kinds.{kind_of, kind_of_field, or_zero, narrowed}
+use Rattle.et_event.specs.Sites.{Site, Member}
+use Rattle.std.specs.Prelude.{nat_le, ◌+◌, length}
+
+-- GETSTATIC
+
+abbrev pub got : Moment → Site → Member → ℕ → Outcome Kept
+got e at m f =
+    initialized e (begins e) (field_at e.program f).class (λ d. ends (leaving e at (entries_of (or_zero (kind_of m.descriptor) (static_at d.state.guest (field_at e.program f).slot)) ++ (frame_of e).operands) d))
+
+abbrev pub gets_field : Moment → Site → Member → Outcome Kept
+gets_field e at m = resolved_field e (begins e) m (λ f. throws_unless e (begins e) IncompatibleClassChangeError (is_static_field e.program f) (got e at m f))
+
+abbrev pub gets : Moment → Site → Member → Outcome Kept
+gets e at m = ill_typed_unless e (field_fits e (frame_of e).operands m) (gets_field e at m)
+
+-- PUTSTATIC
+
+abbrev pub put : Moment → Site → Member → Value → List Value → ℕ → Outcome Kept
+put e at m v below f = initialized e (begins e) (field_at e.program f).class (λ d. ends (static_written e (field_at e.program f).slot (narrowed m.descriptor v) (leaving e at below d)))
+
+abbrev pub puts_field : Moment → Site → Member → Value → List Value → Outcome Kept
+puts_field e at m v below = resolved_field e (begins e) m (λ f. throws_unless e (begins e) IncompatibleClassChangeError (is_static_field e.program f) (put e at m v below f))
+
+abbrev pub puts : Moment → Site → Member → Outcome Kept
+puts e at m = with_value (kind_of_field m.descriptor) (ill_typed e) (frame_of e).operands (puts_field e at m)
+
+-- NEW
+
+abbrev pub made_of : Moment → Site → ℕ → Outcome Kept
+made_of e at class = initialized e (begins e) class (λ d. ends (leaving e at (Ref (next_object d) ∷ (frame_of e).operands) (instance_made e class d)))
+
+abbrev pub makes_class : Moment → Site → ℕ → Outcome Kept
+makes_class e at class = throws_unless e (begins e) InstantiationError (may_be_made e.program class) (made_of e at class)
+
+abbrev pub makes_named : Moment → Site → List ℕ → Outcome Kept
+makes_named e at name = resolved_class e (begins e) name (makes_class e at)
+
+abbrev pub makes_fitting : Moment → Site → List ℕ → Outcome Kept
+makes_fitting e at name = ill_typed_unless e (nat_le (1 + length (frame_of e).operands) (frame_of e).room) (makes_named e at name)

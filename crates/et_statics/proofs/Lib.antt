@@ -1,0 +1,6 @@
+pub mod Basics
+pub mod Leaving
+pub mod Chains
+pub mod Fitting
+pub mod Carrying
+pub mod Quiet
