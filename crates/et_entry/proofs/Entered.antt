@@ -1,0 +1,241 @@
+-- A thread without a frame enters a method, once the classes that this needs are initialized: a legal step.
+use Rattle.std.proofs.Common.{◌≡◌, ℕ, zero, suc, ◌+◌, ◌-◌, ◌<◌, ◌≤◌, ◌&&◌, Bool, true, false, List, [], ◌∷◌, ◌++◌, length, get_or, set, Option, Some, None, refl, sym, ◌∙◌, ap, subst, arith, inl, inr, Contains, option_to_list, append_assoc, append-nil}
+use Rattle.std.specs.Prelude.{nat_le, unwrap_or, sum_by, if◌then◌else◌}
+use Rattle.std.proofs.lemmas.List.{length-set}
+use Rattle.std.proofs.lemmas.List.Sums.{sum_by-cons}
+use Rattle.std.proofs.lemmas.List.Elements.{Contains-append_cases}
+use Rattle.et_base.specs.declared.value.Value.{Value}
+use Rattle.et_class.specs.Names.{has as has_flag}
+use Rattle.et_class.specs.declared.flags.TheConstants.{SYNCHRONIZED}
+use Rattle.et_code.specs.Bodies.{Body}
+use Rattle.et_graph.proofs.Lists.{Contains-none, Contains-cons}
+use Rattle.et_heap.specs.declared.monitor.Monitor.{Monitor}
+use Rattle.et_heap.specs.Objects.{ObjectState, Objects, IsHeld, at, found, is_there, object_at, slots_in, made_count, slot_count, most_objects, most_slots, with_monitor}
+use Rattle.et_heap.specs.Refs.{refs_of}
+use Rattle.et_frames.specs.Roots.{frame_roots}
+use Rattle.et_frames.specs.Threads.{FrameState, ThreadState, no_thread, entered_by, ended_roots, locals_with}
+use Rattle.et_machine.specs.State.{Kept, MachineState, kept_of}
+use Rattle.et_machine.specs.Words.{thread_at}
+use Rattle.et_machine.specs.Roots.{roots_of, numbers_from}
+use Rattle.et_machine.specs.Interned.{objects_of}
+use Rattle.et_machine.specs.Moves.{IsOnWay, Led}
+use Rattle.et_machine.proofs.Places.{ended_root, refs_of-locals_with, string_root}
+use Rattle.et_machine.proofs.UnderWay.{root_is_reached}
+use Rattle.et_machine.proofs.Calls.{on_enter_frame, on_set_entered}
+use Rattle.et_machine.proofs.Steps.{led, root_there}
+use Rattle.et_program.specs.Entries.{Linked, method_at, is_static}
+use Rattle.et_state.specs.declared.records.Record.{Record}
+use Rattle.et_state.specs.declared.records.Record.TheVariants.{Enter}
+use Rattle.et_state.specs.declared.ends.EventEnd.{EventEnd}
+use Rattle.et_state.specs.declared.ends.EventEnd.TheVariants as ends
+use Rattle.et_state.specs.Outcome.{Outcome}
+use Rattle.et_event.specs.Answered.{EventAnswers}
+use Rattle.et_event.specs.Calls.{entering, entry_arguments}
+use Rattle.et_event.specs.Frames.{first_reference, frame_entered, method_frame, receiver_of}
+use Rattle.et_event.specs.Moments.{Moment, Doing, told, with_thread_state, ends as ending, fits}
+use Rattle.et_event.specs.Monitors.{Lock, OfObject, OfClass, entered_some, lock_for}
+use Rattle.et_monitors.specs.Locks.{HasSome, entering_some, monitor_at}
+use Rattle.et_monitors.proofs.Keeping.{monitor_on_way, entered_is}
+use Rattle.et_monitors.proofs.There.{there_later}
+use Rattle.et_parts.proofs.Throwing.{ends_fit, ends_full}
+use Rattle.et_initialize.specs.Under.{moment, HasMadeStrings}
+use Rattle.et_entry.specs.Entering.{base, first_pushed, given_up}
+use Rattle.et_entry.specs.Fresh.{IsFresh, IsArgument}
+use Rattle.et_entry.proofs.Fresh.{fresh_on}
+use Rattle.et_entry.proofs.Thrown.{entry_root, started_given_up}
+
+-- so far the event has come to d: it initialized classes, and did nothing else
+pub record HasInitialized (m : MachineState) (d : Doing) : Type 0 where
+  pub made : HasMadeStrings (kept_of m) d.state []
+  pub threads : d.state.guest.threads ≡ m.guest.threads
+  pub monitors : d.state.guest.class_monitors ≡ m.guest.class_monitors
+
+-- HOW AN EVENT ENDS each of whose new objects is in a root place
+
+in_range : (k n o : ℕ) → Contains (numbers_from k n) o → (k ≤ o) × (o < k + n)
+in_range k zero o c = absurd (Contains-none o c)
+in_range k (suc n) o c = elim (Contains-cons k (numbers_from (k + 1) n) o c) [
+  | inl e ↦ (omega arith, omega arith)
+  | inr d ↦ let h = in_range (k + 1) n o d in let low = h.0 in let high = h.1 in (omega arith, omega arith)
+]
+
+strings_led : (s k : Kept) (m : MachineState) → IsOnWay s m → kept_of m ≡ k → length s.heap ≤ length k.heap → ((o : ℕ) → length s.heap ≤ o → o < length k.heap → Contains (roots_of k.guest) o) → Led s k m
+strings_led s k m w e grown roots = led s k m w (λ o c.
+    let range = in_range (length s.heap) (length (kept_of m).heap - length s.heap) o c in
+    let low = range.0 in
+    let high = range.1 in
+    let same : length (kept_of m).heap ≡ length k.heap = ap (λ (x : Kept). length x.heap) e in
+    let at : Contains (roots_of k.guest) o = roots o low (omega arith) in
+    root_is_reached (kept_of m) o (subst (λ (x : Kept). Contains (roots_of x.guest) o) (sym e) at)) e
+
+-- WHAT THE NEW FRAME HOLDS: its arguments and its lock
+
+frame_holds : (p : Linked) (method : ℕ) (body : Body) (vs : List Value) (H : ℕ → Type 0) → ((o : ℕ) → Contains (refs_of vs) o → H o) → ((o : ℕ) → Contains (option_to_list (method_frame p method body vs).lock) o → H o)
+    → (o : ℕ) → Contains (frame_roots (method_frame p method body vs)) o → H o
+frame_holds p method body vs H held locked o c =
+    elim (Contains-append_cases (refs_of (locals_with body.max_locals vs)) _ o c) [
+      | inl d ↦ held o (subst (λ (os : List ℕ). Contains os o) (refs_of-locals_with body.max_locals vs ∙ append-nil (refs_of vs)) d)
+      | inr d ↦ locked o d
+    ]
+
+first_in : (argument : Option ℕ) (o : ℕ) → Contains (option_to_list (first_reference (entry_arguments argument))) o → argument ≡ Some o
+first_in None o c = absurd (Contains-none o c)
+first_in (Some r) o c = elim (Contains-cons r [] o c) [ inl e ↦ ap (λ (k : ℕ). Some k) e | inr d ↦ absurd (Contains-none o d) ]
+
+passed : (argument : Option ℕ) (o : ℕ) → Contains (refs_of (entry_arguments argument)) o → argument ≡ Some o
+passed None o c = absurd (Contains-none o c)
+passed (Some r) o c = elim (Contains-cons r [] o c) [ inl e ↦ ap (λ (k : ℕ). Some k) e | inr d ↦ absurd (Contains-none o d) ]
+
+received_in : (static : Bool) (argument : Option ℕ) (o : ℕ) → Contains (option_to_list (if static then None else first_reference (entry_arguments argument))) o → argument ≡ Some o
+received_in true argument o c = absurd (Contains-none o c)
+received_in false argument o c = first_in argument o c
+
+slot_in : (b static : Bool) (argument : Option ℕ) (o : ℕ) → Contains (option_to_list (if b then (if static then None else first_reference (entry_arguments argument)) else None)) o → argument ≡ Some o
+slot_in true static argument o c = received_in static argument o c
+slot_in false static argument o c = absurd (Contains-none o c)
+
+new_frame_held : (p : Linked) (t method : ℕ) (body : Body) (argument : Option ℕ) (m : MachineState) (d : Doing) → IsFresh m.guest t → HasInitialized m d → IsArgument m.guest t argument
+    → (o : ℕ) → Contains (frame_roots (method_frame p method body (entry_arguments argument))) o → IsHeld d.state.heap o
+new_frame_held p t method body argument m d fresh done there =
+    let on : IsFresh d.state.guest t = fresh_on m.guest d.state.guest t done.threads fresh in
+    let held : (o : ℕ) → argument ≡ Some o → IsHeld d.state.heap o = λ o e.
+    done.made.way.sound.roots o (ended_root d.state.guest t o on.unended.thread on.unended.unended (subst (λ (ts : List ThreadState). Contains (ended_roots (get_or ts t no_thread)) o) (sym done.threads) (there o e))) in
+    frame_holds p method body (entry_arguments argument) (λ o. IsHeld d.state.heap o) (λ o c. held o (passed argument o c))
+    (λ o c. held o (slot_in (has_flag (method_at p method).flags SYNCHRONIZED) (is_static p method) argument o c))
+
+-- A MONITOR IS ENTERED
+
+locked : (s : Kept) (t : ℕ) (lock : Option Lock) (m : MachineState) → IsOnWay s m → HasSome m lock → IsOnWay s (entering_some t lock m)
+locked s t None m w has = w
+locked s t (Some l) m w has = monitor_on_way s m l (record { owner = Some t; count = (monitor_at m l).count + 1 }) w has
+
+locked_strings : (t : ℕ) (lock : Option Lock) (m : MachineState) → (entering_some t lock m).guest.interned ≡ m.guest.interned
+locked_strings t None m = refl
+locked_strings t (Some (OfObject o)) m = refl
+locked_strings t (Some (OfClass c)) m = refl
+
+locked_length : (t : ℕ) (lock : Option Lock) (m : MachineState) → length (entering_some t lock m).heap ≡ length m.heap
+locked_length t None m = refl
+locked_length t (Some (OfObject o)) m = length-set m.heap o (Some (with_monitor (record { owner = Some t; count = (monitor_at m (OfObject o)).count + 1 }) (object_at m.heap o)))
+locked_length t (Some (OfClass c)) m = refl
+
+-- .. which leaves room for as many objects
+slots_set : (heap : Objects) (o : ℕ) (x : Monitor) → is_there (at heap o) → sum_by slots_in (set heap o (Some (with_monitor x (found (at heap o))))) ≡ sum_by slots_in heap
+slots_set [] o x h = refl
+slots_set (None ∷ heap) zero x h = absurd h
+slots_set (Some y ∷ heap) zero x h = refl
+slots_set (z ∷ heap) (suc o) x h =
+    sum_by-cons slots_in z (set heap o (Some (with_monitor x (found (at heap o))))) ∙ (ap (λ (n : ℕ). slots_in z + n) (slots_set heap o x h) ∙ sym (sum_by-cons slots_in z heap))
+
+fits_locked : (e : Moment) (lock : Option Lock) (d : Doing) (m : MachineState) → kept_of m ≡ d.state → HasSome m lock → fits (entered_some e lock d).state.heap ≡ fits d.state.heap
+fits_locked e None d m kept has = refl
+fits_locked e (Some (OfClass c)) d m kept has = refl
+fits_locked e (Some (OfObject o)) d m kept has =
+    let held : is_there (at d.state.heap o) = subst (λ (k : Kept). is_there (at k.heap o)) kept has in
+    let x : Monitor = record { owner = Some e.thread; count = (object_at d.state.heap o).monitor.count + 1 } in
+    let y : Option ObjectState = Some (with_monitor x (object_at d.state.heap o)) in
+    ap (λ (n : ℕ). nat_le (n - 1) most_objects && nat_le (slot_count (set d.state.heap o y)) most_slots) (length-set d.state.heap o y)
+    ∙ ap (λ (n : ℕ). nat_le (made_count d.state.heap) most_objects && nat_le n most_slots) (slots_set d.state.heap o x held)
+
+commutes : (e : Moment) (lock : Option Lock) (f : FrameState) (d : Doing)
+    → entered_some e lock (with_thread_state e (entered_by f (thread_at d.state.guest e.thread)) d)
+    ≡ with_thread_state e (entered_by f (thread_at (entered_some e lock d).state.guest e.thread)) (entered_some e lock d)
+commutes e None f d = refl
+commutes e (Some (OfObject o)) f d = refl
+commutes e (Some (OfClass c)) f d = refl
+
+entered_clock : (e : Moment) (lock : Option Lock) (d : Doing) → (entered_some e lock d).state.guest.clock ≡ d.state.guest.clock
+entered_clock e None d = refl
+entered_clock e (Some (OfObject o)) d = refl
+entered_clock e (Some (OfClass c)) d = refl
+
+entered_records : (e : Moment) (lock : Option Lock) (d : Doing) → (entered_some e lock d).records ≡ d.records
+entered_records e None d = refl
+entered_records e (Some (OfObject o)) d = refl
+entered_records e (Some (OfClass c)) d = refl
+
+-- THE STEP
+
+entered_way : (t : ℕ) (f : FrameState) (lock : Option Lock) (m : MachineState) (d : Doing) → IsFresh m.guest t → HasInitialized m d → ((o : ℕ) → Contains (frame_roots f) o → IsHeld d.state.heap o) → HasSome (base m d) lock
+    → IsOnWay (kept_of m) (entering_some t lock (first_pushed (base m d) t f))
+entered_way t f lock m d fresh done held has =
+    let s : Kept = kept_of m in
+    let n : MachineState = base m d in
+    let on : IsFresh n.guest t = fresh_on m.guest n.guest t done.threads fresh in
+    let gives : IsOnWay s (given_up n t) =
+    on_set_entered s n t done.made.way on.unended (λ o c. root_there s (kept_of n) o (entry_root m.guest t o fresh (subst (λ (ts : List ThreadState). Contains (option_to_list (get_or ts t no_thread).entry) o) done.threads c))) in
+    let pushes : IsOnWay s (first_pushed n t f) = on_enter_frame s (given_up n t) t f gives (started_given_up n t on) held in
+    locked s t lock (first_pushed n t f) pushes (there_later n (first_pushed n t f) lock refl refl has)
+
+entered_led : (t : ℕ) (f : FrameState) (lock : Option Lock) (m m₃ : MachineState) (d : Doing) → IsFresh m.guest t → HasInitialized m d → ((o : ℕ) → Contains (frame_roots f) o → IsHeld d.state.heap o) → HasSome (base m d) lock
+    → m₃ ≡ entering_some t lock (first_pushed (base m d) t f) → Led (kept_of m) (kept_of (entering_some t lock (first_pushed (base m d) t f))) m₃
+entered_led t f lock m m₃ d fresh done held has e =
+    let s : Kept = kept_of m in
+    let n : MachineState = first_pushed (base m d) t f in
+    let z : MachineState = entering_some t lock n in
+    let long : length z.heap ≡ length d.state.heap = locked_length t lock n in
+    let grown = done.made.grown in
+    strings_led s (kept_of z) m₃ (subst (λ (y : MachineState). IsOnWay s y) (sym e) (entered_way t f lock m d fresh done held has)) (ap (λ (y : MachineState). kept_of y) e) (omega (arith, long, grown))
+    (λ o low high. string_root z.guest o (subst (λ (texts : List (List ℕ × ℕ)). Contains (objects_of texts) o) (sym (locked_strings t lock n)) (done.made.made o low (omega (arith, long, high)))))
+
+-- THE EVENT
+
+pub method_entered : (p : Linked) (t method : ℕ) (body : Body) (argument : Option ℕ) (lock : Option Lock) (m m₂ m₃ : MachineState) (d : Doing) (out out₂ out₃ : List Record) → IsFresh m.guest t → HasInitialized m d → fits d.state.heap ≡ true → IsArgument m.guest t argument
+    → lock ≡ lock_for (method_at p method) (receiver_of p method (entry_arguments argument)) → HasSome m₂ lock → m₂ ≡ base m d → out₂ ≡ out ++ d.records
+    → m₃ ≡ entering_some t lock (first_pushed m₂ t (method_frame p method body (entry_arguments argument)))
+    → out₃ ≡ out₂ ++ Enter m₂.guest.clock t method (unwrap_or (receiver_of p method (entry_arguments argument)) 0) ∷ []
+    → EventAnswers (ending (frame_entered (moment p m t) method body (entry_arguments argument) (entering (moment p m t) d))) ends.Done m m₃ out out₃
+method_entered p t method body argument lock m m₂ m₃ d out out₂ out₃ fresh done room there held has e₂ r₂ e₃ r₃ =
+    let e : Moment = moment p m t in
+    let s : Kept = kept_of m in
+    let n : MachineState = base m d in
+    let vs : List Value = entry_arguments argument in
+    let f : FrameState = method_frame p method body vs in
+    let number : ℕ = unwrap_or (receiver_of p method vs) 0 in
+    let d₁ : Doing = entering e d in
+    let has₁ : HasSome n lock = subst (λ (z : MachineState). HasSome z lock) e₂ has in
+    let z : MachineState = entering_some t lock (first_pushed n t f) in
+    let is : m₃ ≡ z = e₃ ∙ ap (λ (y : MachineState). entering_some t lock (first_pushed y t f)) e₂ in
+    let led₁ : Led s (kept_of z) m₃ = entered_led t f lock m m₃ d fresh done (new_frame_held p t method body argument m d fresh done there) has₁ is in
+    let x : Doing = entered_some e lock d₁ in
+    let y : Doing = with_thread_state e (entered_by f (thread_at x.state.guest t)) x in
+    let same : kept_of z ≡ y.state =
+    ap (λ (w : Doing). w.state) (sym (entered_is e lock (first_pushed n t f) d.records)) ∙ ap (λ (w : Doing). w.state) (commutes e lock f d₁) in
+    let all : Doing = told (Enter x.state.guest.clock t method number) y in
+    let fit : fits all.state.heap ≡ true = fits_locked e lock d₁ (given_up n t) refl (there_later n (given_up n t) lock refl refl has₁) ∙ room in
+    let last : ℕ → List Record = λ k. Enter k t method number ∷ [] in
+    let records : out₃ ≡ out ++ all.records =
+    r₃ ∙ (ap (λ (k : ℕ). out₂ ++ last k) (ap (λ (w : MachineState). w.guest.clock) e₂)
+    ∙ (ap (λ (rs : List Record). rs ++ last d.state.guest.clock) r₂
+    ∙ (append_assoc out d.records (last d.state.guest.clock)
+    ∙ (ap (λ (k : ℕ). out ++ (d.records ++ last k)) (sym (entered_clock e lock d₁))
+    ∙ ap (λ (rs : List Record). out ++ (rs ++ last x.state.guest.clock)) (sym (entered_records e lock d₁)))))) in
+    let answers : EventAnswers (ending all) ends.Done m m₃ out out₃ =
+    subst (λ (o : Outcome Kept). EventAnswers o ends.Done m m₃ out out₃) (sym (ends_fit all fit)) (subst (λ (k : Kept). Led s k m₃) same led₁, records) in
+    subst (λ (l : Option Lock). EventAnswers (ending (told (Enter (entered_some e l d₁).state.guest.clock t method number) (with_thread_state e (entered_by f (thread_at (entered_some e l d₁).state.guest t)) (entered_some e l d₁)))) ends.Done m m₃ out out₃) held answers
+
+-- .. with what stood in the entry slot
+pub entry_entered : (p : Linked) (t method : ℕ) (body : Body) (argument entry : Option ℕ) (m m₃ : MachineState) (d : Doing) (out out₃ : List Record) (end : EventEnd) → argument ≡ entry
+    → EventAnswers (ending (frame_entered (moment p m t) method body (entry_arguments argument) (entering (moment p m t) d))) end m m₃ out out₃
+    → EventAnswers (ending (frame_entered (moment p m t) method body (entry_arguments entry) (entering (moment p m t) d))) end m m₃ out out₃
+entry_entered p t method body argument entry m m₃ d out out₃ end same a =
+    subst (λ (x : Option ℕ). EventAnswers (ending (frame_entered (moment p m t) method body (entry_arguments x) (entering (moment p m t) d))) end m m₃ out out₃) same a
+
+-- .. where it doesn't fit
+
+abbrev frame_with : Moment → ℕ → Body → Option ℕ → Doing → Option Lock → Doing
+frame_with e method body argument d l =
+    told (Enter (entered_some e l d).state.guest.clock e.thread method (unwrap_or (receiver_of e.program method (entry_arguments argument)) 0))
+    (with_thread_state e (entered_by (method_frame e.program method body (entry_arguments argument)) (thread_at (entered_some e l d).state.guest e.thread)) (entered_some e l d))
+
+pub method_unfit : (p : Linked) (t method : ℕ) (body : Body) (argument : Option ℕ) (lock : Option Lock) (m : MachineState) (d : Doing) (out : List Record) → fits d.state.heap ≡ false
+    → lock ≡ lock_for (method_at p method) (receiver_of p method (entry_arguments argument)) → HasSome (base m d) lock
+    → EventAnswers (ending (frame_entered (moment p m t) method body (entry_arguments argument) (entering (moment p m t) d))) ends.ObjectLimit m m out out
+method_unfit p t method body argument lock m d out room held has =
+    let e : Moment = moment p m t in
+    let n : MachineState = base m d in
+    let d₁ : Doing = entering e d in
+    let all : Doing = frame_with e method body argument d₁ lock in
+    let fit : fits all.state.heap ≡ false = fits_locked e lock d₁ (given_up n t) refl (there_later n (given_up n t) lock refl refl has) ∙ room in
+    subst (λ (l : Option Lock). EventAnswers (ending (frame_with e method body argument d₁ l)) ends.ObjectLimit m m out out) held
+    (subst (λ (o : Outcome Kept). EventAnswers o ends.ObjectLimit m m out out) (sym (ends_full all fit)) (refl, refl))

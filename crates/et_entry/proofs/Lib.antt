@@ -1,0 +1,7 @@
+mod Fresh
+mod Thrown
+mod Entered
+mod Coming
+mod Monitors
+mod Quiet
+mod Running

@@ -1,0 +1,4 @@
+mod Called
+mod Entered
+mod Initial
+mod Thrown
