@@ -1,0 +1,16 @@
+use Rattle.std.proofs.Common.{◌≡◌}
+use Rattle.et_event.specs.Heap.{heap_event}
+use Rattle.et_place.specs.Places.{site_at}
+use Rattle.et_refs.specs.Refusals.{moment}
+use Rattle.et_turns.proofs.Answering.{class_not_left, class_answered}
+use Rattle.et_turns.proofs.heap.class_event.Goals as goal
+
+pub unreachable-requires : goal.unreachable-requires
+unreachable-requires c =
+    class_not_left (heap_event (moment c.args.program.now c.args.machine.now c.args.thread) (site_at c.args.place.now) c.args.row) c.args.row c.in_ok-end.end c.args.machine.now c.class_row_event.new.machine c.args.out.now c.class_row_event.new.out
+    c.in-None.is c.requires.needs c.in_ok-end.ensures
+
+pub returns : goal.returns
+returns c =
+    class_answered (heap_event (moment c.args.program.now c.args.machine.now c.args.thread) (site_at c.args.place.now) c.args.row) c.args.row c.in_ok-end.end c.in-Some.end c.args.machine.now c.class_row_event.new.machine c.args.out.now c.class_row_event.new.out
+    c.in-Some.is c.in_ok-end.ensures
