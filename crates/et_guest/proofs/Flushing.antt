@@ -1,0 +1,47 @@
+-- What a flush leaves, for each test that says what is reached.
+use Rattle.std.proofs.Common.{◌≡◌, ℕ, ◌+◌, ◌*◌, ◌≤◌, arith, Bool, true, false, Result, Ok, Err, sym, ap, subst, rules}
+use Rattle.std.specs.Prelude.{◌↔◌, IsTrue, OnOk}
+use Rattle.et_graph.specs.Graph.{Graph, IsReached}
+use Rattle.et_heap.specs.Objects.{IsHeld, held_count}
+use Rattle.et_flush.specs.Flushes.{cleared_from}
+use Rattle.et_heap.specs.Remaining.{remaining}
+use Rattle.et_machine.specs.Roots.{graph_of}
+use Rattle.et_machine.specs.State.{Kept, MachineState, kept_of}
+use Rattle.et_program.specs.Entries.{Linked}
+use Rattle.et_event.specs.Sound.{IsSoundFor}
+use Rattle.et_guest.specs.Guests.{IsSoundRun, flush_visits_of}
+use Rattle.et_guest.specs.Histories.{flushed_of}
+
+is_now : (b : Bool) → IsTrue b → b ≡ true
+is_now b t = search (rules, t)
+
+now_is : (b : Bool) → b ≡ true → IsTrue b
+now_is b e = search (rules, e)
+
+true_is : (b : Bool) → IsTrue b ↔ (b ≡ true)
+true_is b = (λ t. is_now b t, λ e. now_is b e)
+
+-- a test of what is reached, as an equation
+pub test_is : (g : Graph) (here : ℕ → Bool) → ((o : ℕ) → IsTrue (here o) ↔ IsReached g o) → (o : ℕ) → (here o ≡ true) ↔ IsReached g o
+test_is g here h o = (λ e. (h o).0 ((true_is (here o)).1 e), λ r. (true_is (here o)).0 ((h o).1 r))
+
+pub any_ok : {A E : Type 0} (r : Result A E) (P : Type 0) → P → OnOk r P
+any_ok (Ok a) P h = h
+any_ok (Err e) P h = tt
+
+pub on_ok_map : {A E : Type 0} (r : Result A E) (P Q : Type 0) → OnOk r P → (P → Q) → OnOk r Q
+on_ok_map (Ok a) P Q h go = go h
+on_ok_map (Err e) P Q h go = tt
+
+pub kept_flushed : (here : ℕ → Bool) (m m' : MachineState) → m' ≡ record m { heap = remaining here 0 m.heap } → kept_of m' ≡ flushed_of here (kept_of m)
+kept_flushed here m m' e = ap (λ (x : MachineState). kept_of x) e
+
+pub clock_flushed : (here : ℕ → Bool) (m m' : MachineState) → m' ≡ record m { heap = remaining here 0 m.heap } → m'.guest.clock ≡ m.guest.clock
+clock_flushed here m m' e = ap (λ (x : MachineState). x.guest.clock) e
+
+pub run_flushed : (p : Linked) (here : ℕ → Bool) (m m' : MachineState) → m' ≡ record m { heap = remaining here 0 m.heap } → IsSoundRun p (kept_of m) → IsSoundFor p (flushed_of here (kept_of m)) → IsSoundRun p (kept_of m')
+run_flushed p here m m' e run sound =
+    record { tabled = run.tabled; runnable = run.runnable; state = subst (λ (s : Kept). IsSoundFor p s) (sym (kept_flushed here m m' e)) sound }
+
+pub times_flushed : (here : ℕ → Bool) (m : MachineState) (old new : ℕ) → new ≤ old + 2 * held_count m.heap + cleared_from here 0 m.heap → new ≤ old + flush_visits_of here (kept_of m)
+times_flushed here m old new le = omega (arith, le)

@@ -1,0 +1,5 @@
+mod Answering
+mod Counting
+mod Unended
+mod Flushing
+mod Starting

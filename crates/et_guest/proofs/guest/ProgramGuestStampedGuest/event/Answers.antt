@@ -1,0 +1,10 @@
+use Rattle.std.proofs.Common.{◌≡◌, subst}
+use Rattle.std.specs.Prelude.{All, OnOk}
+use Rattle.et_program.specs.Entries.{Linked}
+use Rattle.et_state.specs.Naming.{IsNamed}
+use Rattle.et_named.specs.Telling.{names_of}
+use Rattle.et_guest.proofs.guest.ProgramGuestStampedGuest.event.Goals as goal
+
+pub returns-clause-named : goal.returns-clause-named
+returns-clause-named g c =
+    subst (λ (p : Linked). OnOk c.machine_event.result (All (IsNamed (names_of p)) c.args.out.now → All (IsNamed (names_of p)) c.machine_event.new.out)) c.program.ensures c.machine_event.ensures.named

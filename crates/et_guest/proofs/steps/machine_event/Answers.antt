@@ -1,0 +1,45 @@
+use Rattle.std.proofs.Common.{◌≡◌}
+use Rattle.et_machine.specs.State.{Kept, kept_of}
+use Rattle.et_event.specs.Event.{event}
+use Rattle.et_named.specs.Telling.{IsTold}
+use Rattle.et_guest.proofs.Answering.{on_ok, if_ok, answers, steps, ticks, named, element_classes}
+use Rattle.et_guest.proofs.Unended.{unended_thread}
+use Rattle.et_guest.proofs.steps.machine_event.Goals as goal
+
+pub turn_event-requires-clause-thread : goal.turn_event-requires-clause-thread
+turn_event-requires-clause-thread g c = unended_thread c.args.machine.now.guest c.args.thread c.requires.thread
+
+pub returns-clause-answers : goal.returns-clause-answers
+returns-clause-answers g c =
+    if_ok c.turn_event.result _ _ c.turn_event.ensures.event (λ end h. answers (event c.args.program.now (kept_of c.args.machine.now) c.args.thread) end c.args.machine.now c.turn_event.new.machine c.args.out.now c.turn_event.new.out h)
+
+pub returns-clause-step : goal.returns-clause-step
+returns-clause-step g c =
+    if_ok c.turn_event.result _ _ c.turn_event.ensures.event (λ end h. steps (event c.args.program.now (kept_of c.args.machine.now) c.args.thread) end c.args.machine.now c.turn_event.new.machine c.args.out.now c.turn_event.new.out h)
+
+pub returns-clause-sound : goal.returns-clause-sound
+returns-clause-sound g c =
+    let p = c.args.program.now in
+    let s : Kept = kept_of c.args.machine.now in
+    let t = c.args.thread in
+    on_ok c.turn_event.result _ _ c.turn_event.ensures.event (λ end h.
+    record {
+      tabled = c.requires.sound.tabled;
+      runnable = c.requires.sound.runnable;
+      state = c.answers_are_sound.ensures p (event p s t) end c.args.machine.now c.turn_event.new.machine c.args.out.now c.turn_event.new.out h c.requires.sound.state
+          (c.events_keep_sound.ensures p s t c.requires.sound.state c.requires.clock (unended_thread c.args.machine.now.guest t c.requires.thread) c.requires.sound.runnable.steady);
+    })
+
+pub returns-clause-clock : goal.returns-clause-clock
+returns-clause-clock g c =
+    let p = c.args.program.now in
+    let s : Kept = kept_of c.args.machine.now in
+    let told : IsTold p s (event p s c.args.thread) = c.events_are_told.ensures p s c.args.thread c.requires.sound.state c.requires.sound.tabled c.requires.sound.runnable.steady.makes (element_classes p c.requires.sound.runnable.elements) in
+    if_ok c.turn_event.result _ _ c.turn_event.ensures.event (λ end h. ticks p (event p s c.args.thread) end c.args.machine.now c.turn_event.new.machine c.args.out.now c.turn_event.new.out told h)
+
+pub returns-clause-named : goal.returns-clause-named
+returns-clause-named g c =
+    let p = c.args.program.now in
+    let s : Kept = kept_of c.args.machine.now in
+    let told : IsTold p s (event p s c.args.thread) = c.events_are_told.ensures p s c.args.thread c.requires.sound.state c.requires.sound.tabled c.requires.sound.runnable.steady.makes (element_classes p c.requires.sound.runnable.elements) in
+    on_ok c.turn_event.result _ _ c.turn_event.ensures.event (λ end h. named p (event p s c.args.thread) end c.args.machine.now c.turn_event.new.machine c.args.out.now c.turn_event.new.out told h)

@@ -1,0 +1,137 @@
+//! The machine of a linked program, as the run with stamps knows it.
+ghost use Rattle.std.specs.Prelude.{◌≡◌, ◌≤◌};
+ghost use Rattle.et_event.specs.Event.{event};
+ghost use Rattle.et_guest.specs.Guests.{IsSoundRun, flush_visits_of};
+ghost use Rattle.et_guest.specs.Histories.{unended_of, flushed_of};
+ghost use Rattle.et_machine.specs.Roots.{graph_of as graph_kept};
+ghost use Rattle.et_machine.specs.State.{Kept, kept_of};
+
+use crate::named::NamedProgram;
+use crate::room::GuestRoom;
+use crate::steps::{machine_event, machine_flush};
+use crate::threads::{nth_unended, unended_count};
+use et_base::{NoMemory, ObjectId, Steps, ThreadId};
+use et_graph::Death;
+use et_machine::Machine;
+use et_merlin::StampedGuest;
+use et_stamps::Stamps;
+use et_state::{EventEnd, Lines};
+use std::alloc::Global;
+use std::marker::Model;
+use std::sync::ledger::Ledger;
+
+/// The machine of a linked program. A contract sees it as that machine.
+#[derive(Drop)]
+pub struct ProgramGuest {
+    machine: Machine,
+}
+
+impl Model for ProgramGuest {
+    ghost use Rattle.et_machine.specs.State.{MachineState};
+
+    ghost Value = { MachineState };
+
+    ghost view = { λ g. g.machine };
+}
+
+impl ProgramGuest {
+    /// Of a machine.
+    pub fn of(machine: Machine) -> ProgramGuest
+        ensures { result ≡ machine }
+    {
+        ProgramGuest { machine }
+    }
+}
+
+impl StampedGuest for ProgramGuest {
+    type Code = NamedProgram;
+
+    type Room = GuestRoom;
+
+    ghost State = { Kept };
+
+    ghost state = { λ m. kept_of m };
+
+    ghost event_of = { event };
+
+    ghost unended_of = { unended_of };
+
+    ghost graph_of = { graph_kept };
+
+    ghost flushed_of = { flushed_of };
+
+    ghost flush_visits_of = { flush_visits_of };
+
+    ghost clock_of = { λ s. s.guest.clock };
+
+    ghost is_sound = { IsSoundRun };
+
+    ghost lost_of = { λ m. m.lost };
+
+    ghost has_places = { λ r n. n ≤ r.places };
+
+    ghost deaths_of = { λ r. r.deaths };
+
+    fn unended(&self) -> usize {
+        unended_count(&self.machine)
+    }
+
+    fn unended_at(&self, k: usize) -> ThreadId {
+        nth_unended(&self.machine, k)
+    }
+
+    fn made(&self) -> u32 {
+        self.machine.heap.count()
+    }
+
+    fn lost(&self) -> &[ObjectId] {
+        self.machine.lost()
+    }
+
+    fn begin_room(alloc: Global) -> GuestRoom {
+        GuestRoom::begin(alloc)
+    }
+
+    fn grow_room(room: &mut GuestRoom, objects: u32) -> Result<(), NoMemory> {
+        room.grow(objects)
+    }
+
+    fn deaths(room: &GuestRoom) -> &[Death] {
+        room.deaths()
+    }
+
+    fn flush<L: Ledger>(
+        &mut self,
+        code: &NamedProgram,
+        stamps: &Stamps,
+        room: &mut GuestRoom,
+        visits: &mut Steps<L>,
+    ) -> Result<(), NoMemory> {
+        machine_flush(
+            code.program(),
+            &mut self.machine,
+            stamps,
+            &mut room.roots,
+            &mut room.room,
+            visits,
+        )
+    }
+
+    fn event<L: Ledger>(
+        &mut self,
+        alloc: Global,
+        code: &NamedProgram,
+        thread: ThreadId,
+        out: &mut Lines,
+        visits: &mut Steps<L>,
+    ) -> Result<EventEnd, NoMemory> {
+        machine_event(
+            alloc,
+            code.program(),
+            &mut self.machine,
+            thread,
+            out,
+            visits,
+        )
+    }
+}

@@ -1,0 +1,58 @@
+//! The names of a linked program.
+ghost use Rattle.std.specs.Prelude.{◌≡◌};
+ghost use Rattle.et_named.specs.Telling.{names_of};
+
+use et_base::{ClassId, MethodId};
+use et_program::Program as Linked;
+use et_run::Program;
+use std::marker::Model;
+
+/// A linked program, of which a trace names the classes and methods. A contract sees it as the program.
+#[derive(Drop)]
+pub struct NamedProgram {
+    program: Linked,
+}
+
+impl Model for NamedProgram {
+    ghost use Rattle.et_program.specs.Entries.{Linked};
+
+    ghost Value = { Linked };
+
+    ghost view = { λ p. p.program };
+}
+
+impl NamedProgram {
+    /// Of a program.
+    pub fn of(program: Linked) -> NamedProgram
+        ensures { result ≡ program }
+    {
+        NamedProgram { program }
+    }
+
+    /// The program.
+    pub fn program(&self) -> &Linked
+        ensures { result.now ≡ self.now }
+    {
+        &self.program
+    }
+}
+
+impl Program for NamedProgram {
+    ghost names = { names_of };
+
+    fn class_name(&self, class: ClassId) -> &[u8] {
+        self.program.class(class).name.as_slice()
+    }
+
+    fn method_class(&self, method: MethodId) -> ClassId {
+        self.program.method(method).class
+    }
+
+    fn method_name(&self, method: MethodId) -> &[u8] {
+        self.program.method(method).name.as_slice()
+    }
+
+    fn method_descriptor(&self, method: MethodId) -> &[u8] {
+        self.program.method(method).descriptor.as_slice()
+    }
+}

@@ -1,0 +1,93 @@
+//! The run of a linked program.
+ghost use Rattle.std.specs.Prelude.{◌≡◌, ℕ, Bool, ◌+◌, ◌≤◌, IfOk, OnErr, IsErrOf};
+ghost use Rattle.et_event.specs.Sound.{IsSoundFor};
+ghost use Rattle.et_event.specs.Start.{start, start_records};
+ghost use Rattle.et_graph.specs.Graph.{Graph, Decides};
+ghost use Rattle.et_guest.specs.Guests.{flush_visits_of};
+ghost use Rattle.et_guest.specs.Histories.{setting};
+ghost use Rattle.et_io.specs.Faults.{Rose};
+ghost use Rattle.et_machine.specs.State.{kept_of};
+ghost use Rattle.et_merlin.specs.Visits.{allowed_visits};
+ghost use Rattle.et_program.specs.Tables.{IsTabled};
+ghost use Rattle.et_run.specs.Traced.{WritesTrace, WritesFront};
+ghost use Rattle.et_state.specs.Options.{AreOptions};
+ghost use Rattle.et_turns.specs.Runs.{IsRunnable};
+
+use crate::guest::ProgramGuest;
+use crate::named::NamedProgram;
+use et_base::{NoMemory, Steps};
+use et_begin::{begin, start_lines};
+use et_io::{RunFault, Sink};
+use et_machine::Machine;
+use et_merlin::run_stamped;
+use et_program::Program;
+use et_run::Ran;
+use et_state::{Lines, Options};
+use std::alloc::Global;
+use std::sync::ledger::Ledger;
+
+/// The machine in its first state, and the records of that.
+fn first(alloc: Global, program: &Program) -> Result<(Machine, Lines), NoMemory>
+    ensures state { IfOk result (λ x. kept_of x.0 ≡ start program.now) }
+    ensures records { IfOk result (λ x. x.1 ≡ start_records program.now) }
+{
+    let machine = begin(alloc, program)?;
+    let made = start_lines(alloc, program)?;
+    Ok((machine, made))
+}
+
+/// The run of a machine that is in the first state of the program, with these records.
+fn run_from<O: Sink, L: Ledger>(
+    alloc: Global,
+    code: &NamedProgram,
+    options: &Options,
+    machine: Machine,
+    made: &Lines,
+    sink: &mut O,
+    visits: &mut Steps<L>,
+) -> Result<Ran, RunFault>
+    requires options { AreOptions options.now }
+    requires runnable { IsRunnable code.now }
+    requires sound { IsSoundFor code.now (start code.now) }
+    requires tabled { IsTabled code.now }
+    requires state { kept_of machine ≡ start code.now }
+    requires records { made.now ≡ start_records code.now }
+    ensures trace { (reached : Graph → ℕ → Bool) → Decides reached → IfOk result (λ ran. WritesTrace reached (setting code.now options.now) (kept_of machine) made.now ran (O.taken sink.old) (O.taken sink.new)) }
+    ensures front { (reached : Graph → ℕ → Bool) → Decides reached → OnErr result (WritesFront reached (setting code.now options.now) (kept_of machine) made.now (O.taken sink.old) (O.taken sink.new)) }
+    ensures visits { (reached : Graph → ℕ → Bool) → Decides reached → IfOk result (λ ran. visits.new ≤ visits.old + allowed_visits reached (setting code.now options.now) flush_visits_of (kept_of machine) made.now ran.event) }
+    ensures write { IsErrOf result RunFault.Write → Rose (O.faults sink.old) (O.faults sink.new) }
+    ensures never_falls { O.faults sink.old ≤ O.faults sink.new }
+{
+    let mut guest = ProgramGuest::of(machine);
+    run_stamped(alloc, code, options, &mut guest, made, sink, visits)
+}
+
+/// Runs a linked program from its first state, and writes the trace of its history to the sink. The machine keeps a stamp for
+/// each object, and searches nothing but at a flush: the visits of objects are at most those of the history's flushes, eight
+/// for each event, and one for each object that an event makes.
+///
+/// `Write` comes only where the sink's count of faults rose. After `Write` and after `NoMemory` the sink took a front of the
+/// trace.
+pub fn run_program<O: Sink, L: Ledger>(
+    alloc: Global,
+    code: &NamedProgram,
+    options: &Options,
+    sink: &mut O,
+    visits: &mut Steps<L>,
+) -> Result<Ran, RunFault>
+    requires options { AreOptions options.now }
+    requires runnable { IsRunnable code.now }
+    requires start { IsSoundFor code.now (start code.now) }
+    ensures trace { (reached : Graph → ℕ → Bool) → Decides reached → IfOk result (λ ran. WritesTrace reached (setting code.now options.now) (start code.now) (start_records code.now) ran (O.taken sink.old) (O.taken sink.new)) }
+    ensures front { (reached : Graph → ℕ → Bool) → Decides reached → OnErr result (WritesFront reached (setting code.now options.now) (start code.now) (start_records code.now) (O.taken sink.old) (O.taken sink.new)) }
+    ensures visits { (reached : Graph → ℕ → Bool) → Decides reached → IfOk result (λ ran. visits.new ≤ visits.old + allowed_visits reached (setting code.now options.now) flush_visits_of (start code.now) (start_records code.now) ran.event) }
+    ensures write { IsErrOf result RunFault.Write → Rose (O.faults sink.old) (O.faults sink.new) }
+    ensures never_falls { O.faults sink.old ≤ O.faults sink.new }
+{
+    let program = code.program();
+    program.names_what_it_has();
+    match first(alloc, program) {
+        Ok((machine, made)) => run_from(alloc, code, options, machine, &made, sink, visits),
+        Err(_) => Err(RunFault::NoMemory),
+    }
+}
