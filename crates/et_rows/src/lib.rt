@@ -12,3 +12,5 @@ mod linking;
 mod round_trip;
 #[cfg(test)]
 mod runs;
+#[cfg(test)]
+mod traces;

@@ -1,5 +1,6 @@
-//! Class files that don't link, and class files that link and can't be run yet.
+//! Class files that don't link, and class files that link and are run.
 
+use crate::first_path::TRACE;
 use crate::runs::is_answered;
 use et_asm::assemble;
 use et_io::MemFiles;
@@ -133,26 +134,19 @@ fn each_file_is_read_before_any_is_linked(rt: HostRuntime) -> Result<(), Fail> {
 }
 
 #[test]
-fn what_links_and_is_not_run_yet(rt: HostRuntime) -> Result<(), Fail> {
+fn what_links_is_run(rt: HostRuntime) -> Result<(), Fail> {
     let alloc = rt.alloc();
     let mut files = all_files(alloc)?;
-    let rows: [(&str, &[u8]); 4] = [
-        ("trace Upper.class", b"elephant: not yet Upper.class\n"),
-        (
-            "trace Use.class Bad.class",
-            b"elephant: not yet Bad.class\n",
-        ),
-        (
-            "trace Box.class Bad.class",
-            b"elephant: not yet Bad.class\n",
-        ),
-        (
-            "trace Upper.class Near.class Box.class",
-            b"elephant: not yet Near.class\n",
-        ),
+    let upper = b"H 1 0\nC 1 [Ljava/lang/String;\nA 0 0 1 1 24 0\nC 2 p/Upper\n\
+        N 1 2 main ([Ljava/lang/String;)V\nM 1 0 1 0\nE 2 0 1\nF 3 1\nD 1 1\nZ 3 0\n";
+    let rows: [(&str, &[u8]); 3] = [
+        ("trace Upper.class", upper),
+        // Classes that are not touched say nothing.
+        ("trace Box.class Bad.class", TRACE),
+        ("trace Upper.class Near.class Box.class", upper),
     ];
-    for (line, refusal) in rows {
-        is_answered(&rt, alloc, &mut files, line, Status::NotYet, b"", refusal)?;
+    for (line, trace) in rows {
+        is_answered(&rt, alloc, &mut files, line, Status::Done, trace, b"")?;
     }
     Ok(())
 }

@@ -1,31 +1,47 @@
--- THE ONE CLASS that runs, or the one fault that keeps classes from being linked.
-use Rattle.std.proofs.Common.{◌≡◌, inl, inr, ℕ, List, [], ◌∷◌, length, map, None, Result, Ok, Err, refl, ◌∙◌, ap, subst}
+-- THE ONE PROGRAM of classes, or the one fault that keeps them from being linked; and what the program has, so that it may
+-- be run.
+use Rattle.std.proofs.Common.{◌≡◌, inl, inr, ℕ, ◌<◌, List, length, map, Result, Ok, Err, sym, ◌∙◌, ap, subst}
+use Rattle.std.specs.Prelude.{All}
+use Rattle.std.proofs.lemmas.List.{length-map}
+use Rattle.std.proofs.lemmas.List.Elements.{All-map}
 use Rattle.et_class.specs.declared.class.ClassFile.{ClassFile}
 use Rattle.et_class.specs.Layout.{ClassOf}
 use Rattle.et_class.specs.Classes.{class_of}
-use Rattle.et_link.specs.Loaded.{loaded_class}
+use Rattle.et_link.specs.Loaded.{LoadedClass, loaded_class}
 use Rattle.et_program.specs.Entries.{Linked}
 use Rattle.et_link.specs.LinkFaults.{IsLinkable, RefusesLink}
+use Rattle.et_link.specs.ProgramOf.{IsProgramOf}
 use Rattle.et_link.specs.Refusals.{LinkIs}
 use Rattle.et_link.specs.declared.fault.LinkFaultKind.{LinkFaultKind}
 use Rattle.et_link.specs.declared.fault.LinkFault.TheVariants as link
-use Rattle.et_single.specs.MainClass.{MainClass}
+use Rattle.et_begin.specs.ClassNames.{HasClassName}
+use Rattle.et_event.specs.Sound.{IsSoundFor}
+use Rattle.et_event.specs.Start.{start}
+use Rattle.et_promises.specs.Programs.{IsOfFile, KeepRules, KeepsPromises}
+use Rattle.et_turns.specs.Runs.{IsRunnable}
 use Rattle.et_top.specs.Faults.{Fault, LinkFault}
-use Rattle.et_top.specs.Loaded.{IsLinked, class_that_runs, or_not_yet}
+use Rattle.et_top.specs.Loaded.{IsLinked, HasItsFile}
 use Rattle.et_top.specs.Told.{Cause, File, Reading, Memory, Other, IsCause}
 
 or_fault : Result Linked (LinkFaultKind × ℕ) → LinkFaultKind × ℕ → LinkFaultKind × ℕ
 or_fault (Ok p) f = f
 or_fault (Err g) f = g
 
-module _ (classes : List ClassOf) (one : (answer other : Result Linked (LinkFaultKind × ℕ)) → LinkIs (map loaded_class classes) answer → LinkIs (map loaded_class classes) other → answer ≡ other) (program : Result MainClass Fault) where
+or_program : Result Linked (LinkFaultKind × ℕ) → Linked → Linked
+or_program (Ok p) q = p
+or_program (Err f) q = q
+
+module _ (classes : List ClassOf) (one : (answer other : Result Linked (LinkFaultKind × ℕ)) → LinkIs (map loaded_class classes) answer → LinkIs (map loaded_class classes) other → answer ≡ other) (program : Result Linked Fault) where
   not_both : (kind : LinkFaultKind) (name : List ℕ) → IsLinkable (map loaded_class classes) → RefusesLink (map loaded_class classes) (link.At kind name) → ⊥
   not_both kind name linkable (k, at, is) = linkable kind k at.inside at.shows
 
-  -- classes that link have no fault, and so the one that runs is the program
-  pub linked_found : IsLinkable (map loaded_class classes) → IsLinked (Ok classes) program → program ≡ or_not_yet (class_that_runs classes)
-  linked_found linkable (inl (kind, (name, refuses, e))) = absurd (not_both kind name linkable refuses)
-  linked_found linkable (inr (links, e)) = e
+  -- classes that link have no fault, and one program
+  pub linked_found : (p : Linked) → IsLinkable (map loaded_class classes) → IsProgramOf (map loaded_class classes) p → IsLinked (Ok classes) program → program ≡ Ok p
+  unfolding or_program
+  linked_found p linkable of (inl (kind, (name, refuses, e))) = absurd (not_both kind name linkable refuses)
+  linked_found p linkable of (inr (links, (q, its, e))) =
+      let same : q ≡ p = ap (λ x. or_program x p) (one (Ok q) (Ok p) (links, its) (linkable, of)) in
+      e ∙ ap (λ x. Ok x) same
 
   -- .. and classes with a fault have no other, and don't link
   pub link_fault_found : (kind : LinkFaultKind) (name : List ℕ) → RefusesLink (map loaded_class classes) (link.At kind name) → IsLinked (Ok classes) program → program ≡ Err (LinkFault kind name)
@@ -39,14 +55,53 @@ module _ (classes : List ClassOf) (one : (answer other : Result Linked (LinkFaul
   link_fault_found kind name refuses (inr (linkable, e)) = absurd (not_both kind name linkable refuses)
 
 -- classes that were not read make no program
-pub program_not_read : (read : Type 0) (classes : Result (List ClassOf) Fault) (cause : Cause) (program : Result MainClass Fault) → IsCause read classes cause → IsLinked classes program → IsCause read program cause
+pub program_not_read : (read : Type 0) (classes : Result (List ClassOf) Fault) (cause : Cause) (program : Result Linked Fault) → IsCause read classes cause → IsLinked classes program → IsCause read program cause
 program_not_read read classes (File fault) program e is = subst (λ c. IsLinked c program) e is
 program_not_read read classes Reading program h is = h
 program_not_read read classes Memory program h is = tt
 program_not_read read classes Other program h is = absurd h
 
--- the classes are none or several
-pub none_runs : (classes : List ClassFile) → (length classes ≡ 1 → ⊥) → None ≡ class_that_runs (map class_of classes)
-none_runs [] h = refl
-none_runs (c ∷ []) h = absurd (h refl)
-none_runs (c ∷ d ∷ classes) h = refl
+-- WHAT A PROGRAM HAS
+
+-- the classes that were read are those of files
+of_files : (classes : List ClassFile) → All HasItsFile classes → All IsOfFile (map class_of classes)
+of_files classes all = All-map IsOfFile class_of classes all
+
+keeps_rules : (classes : List ClassFile) → All HasItsFile classes → ((classes : List ClassOf) → All IsOfFile classes → KeepRules (map loaded_class classes)) → KeepRules (map loaded_class (map class_of classes))
+keeps_rules classes all keep = keep (map class_of classes) (of_files classes all)
+
+-- what a program promises is what its run asks
+may_run : (p : Linked) → KeepsPromises p → IsRunnable p
+may_run p k = record {
+  steady = record {
+    makes = k.makes;
+    slots = k.slots;
+    initializers = k.initializers;
+    machine_slots = k.machine_slots;
+    methods = k.methods;
+    arrays = k.arrays;
+    errors = k.errors;
+    owners = k.owners;
+    rules = k.rules;
+    run = k.run;
+  };
+  interfaces = k.interfaces;
+  elements = k.elements;
+  order = k.order;
+}
+
+-- the program of classes that were read may be run
+pub program_runs : (classes : List ClassFile) (p : Linked) → 0 < length classes → All HasItsFile classes
+    → ((classes : List ClassOf) → All IsOfFile classes → KeepRules (map loaded_class classes))
+    → ((files : List LoadedClass) (p : Linked) → 0 < length files → KeepRules files → IsLinkable files → IsProgramOf files p → KeepsPromises p)
+    → IsLinkable (map loaded_class (map class_of classes)) → IsProgramOf (map loaded_class (map class_of classes)) p → IsRunnable p
+program_runs classes p some all keep run linkable is =
+    let many : length (map loaded_class (map class_of classes)) ≡ length classes = length-map (map class_of classes) loaded_class ∙ length-map classes class_of in
+    may_run p (run (map loaded_class (map class_of classes)) p (subst (λ n. 0 < n) (sym many) some) (keeps_rules classes all keep) linkable is)
+
+-- .. and its first state is sound
+pub program_starts : (classes : List ClassFile) (p : Linked) → All HasItsFile classes
+    → ((classes : List ClassOf) → All IsOfFile classes → KeepRules (map loaded_class classes))
+    → ((files : List LoadedClass) (p : Linked) → All HasClassName files → IsProgramOf files p → IsSoundFor p (start p))
+    → IsProgramOf (map loaded_class (map class_of classes)) p → IsSoundFor p (start p)
+program_starts classes p all keep sound is = sound (map loaded_class (map class_of classes)) p (keeps_rules classes all keep).names is

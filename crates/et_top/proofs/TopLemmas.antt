@@ -1,5 +1,5 @@
 -- Lemmas on the top call's parts.
-use Rattle.std.proofs.Common.{◌≡◌, ℕ, inl, inr, Bool, List, [], Option, Some, None, Result, Ok, Err, refl, sym, ◌∙◌, ap, subst, append-nil}
+use Rattle.std.proofs.Common.{◌≡◌, ℕ, ◌+◌, ◌≤◌, inl, inr, Bool, List, [], Option, Some, None, Result, Ok, Err, refl, sym, ◌∙◌, ap, subst, append-nil}
 use Rattle.std.specs.Prelude.{OnErr, OnOk}
 use Rattle.et_base.specs.declared.value.End.{End}
 use Rattle.et_base.specs.declared.value.End.TheVariants as ends
@@ -9,11 +9,13 @@ use Rattle.et_io.specs.declared.putting.RunFault.{RunFault}
 use Rattle.et_io.specs.declared.putting.RunFault.TheVariants as write
 use Rattle.et_state.specs.declared.options.Options.{Options}
 use Rattle.et_run.specs.declared.options.Ran.{Ran}
-use Rattle.et_run.specs.Traced.{WritesTrace}
-use Rattle.et_single.specs.MainClass.{MainClass}
-use Rattle.et_single.specs.Machine.{start, start_records}
-use Rattle.et_single.specs.Runs.{setting_of}
-use Rattle.et_top.specs.Faults.{Fault, Absent, TooLong, BadClass, BadText, BadTrace, LinkFault, NotYet, status_of_fault}
+use Rattle.et_run.specs.Traced.{WritesTrace, WritesFront}
+use Rattle.et_program.specs.Entries.{Linked}
+use Rattle.et_event.specs.Start.{start, start_records}
+use Rattle.et_guest.specs.Histories.{setting}
+use Rattle.et_guest.specs.Guests.{flush_visits_of}
+use Rattle.et_merlin.specs.Visits.{allowed_visits}
+use Rattle.et_top.specs.Faults.{Fault, Absent, TooLong, BadClass, BadText, BadTrace, LinkFault, status_of_fault}
 use Rattle.et_io.specs.Files.{Held}
 use Rattle.et_words.specs.Command.{Asked}
 use Rattle.et_words.specs.Asked.{asked_by}
@@ -25,7 +27,7 @@ use Rattle.et_top.specs.declared.status.Status.TheVariants as status
 use Rattle.et_top.specs.declared.refusal.Refusal.{Refusal}
 use Rattle.et_top.specs.declared.refusal.Refusal.TheVariants as refusal
 use Rattle.et_top.specs.Refusals.{status_of}
-use Rattle.et_top.specs.Told.{Cause, File, Reading, Other, IsCause, cause_of, status_of_writing}
+use Rattle.et_top.specs.Told.{Cause, File, Reading, Other, IsCause, cause_of, refusal_of, status_of_writing}
 
 -- nothing of a piece was taken
 pub front_nothing : (taken : Option (List ℕ)) (piece : List ℕ) → TakesFront taken taken piece
@@ -34,21 +36,30 @@ front_nothing (Some xs) piece = (piece, record { front = []; parts = refl; taken
 
 -- A HISTORY THAT WAS RUN
 
-module _ (reached : Graph → ℕ → Bool) (before after : Option (List ℕ)) (read written : Type 0) (main : MainClass) (options : Options) where
-  history : (ran : Ran) (end : End) (answer : Status) → ran.end ≡ end → answer ≡ status_of_end end → WritesTrace reached (setting_of main options) start start_records ran before after → WritesHistory reached before after main options (status_of_end end)
-  history ran end answer e is w = record { ran = ran; ended = ap status_of_end (sym e); wrote = w }
+module _ (reached : Graph → ℕ → Bool) (before after : Option (List ℕ)) (old new : ℕ) (read written : Type 0) (program : Linked) (options : Options) where
+  -- the counter allows for the visits of a history that ended so
+  abbrev Counts : Ran → Type 0
+  Counts ran = new ≤ old + allowed_visits reached (setting program options) flush_visits_of (start program) (start_records program) ran.event
 
-  pub history_gives : (ran : Ran) (answer : Status) → answer ≡ status_of_end ran.end → WritesTrace reached (setting_of main options) start start_records ran before after → Gives reached before after read written (Traces main options) answer
-  history_gives ran answer is w = subst (Gives reached before after read written (Traces main options)) (sym is) (by ran.end refl)
+  history : (ran : Ran) (end : End) (answer : Status) → ran.end ≡ end → answer ≡ status_of_end end → WritesTrace reached (setting program options) (start program) (start_records program) ran before after → Counts ran → WritesHistory reached before after old new program options (status_of_end end)
+  history ran end answer e is w v = record { ran = ran; ended = ap status_of_end (sym e); wrote = w; visits = v }
+
+  pub history_gives : (ran : Ran) (answer : Status) → answer ≡ status_of_end ran.end → WritesTrace reached (setting program options) (start program) (start_records program) ran before after → Counts ran → Gives reached before after old new read written (Traces program options) answer
+  history_gives ran answer is w v = subst (Gives reached before after old new read written (Traces program options)) (sym is) (by ran.end refl)
     where
-      by : (end : End) → ran.end ≡ end → Gives reached before after read written (Traces main options) (status_of_end end)
-      by ends.Finished e = history ran ends.Finished status.Done e refl w
-      by ends.EventLimit e = history ran ends.EventLimit status.Done e refl w
-      by (ends.IllTyped t m p) e = history ran (ends.IllTyped t m p) status.IllTyped e refl w
-      by ends.ObjectLimit e = history ran ends.ObjectLimit status.ObjectLimit e refl w
+      by : (end : End) → ran.end ≡ end → Gives reached before after old new read written (Traces program options) (status_of_end end)
+      by ends.Finished e = history ran ends.Finished status.Done e refl w v
+      by ends.EventLimit e = history ran ends.EventLimit status.Done e refl w v
+      by (ends.IllTyped t m p) e = history ran (ends.IllTyped t m p) status.IllTyped e refl w v
+      by ends.ObjectLimit e = history ran ends.ObjectLimit status.ObjectLimit e refl w v
+
+  -- a history that was not run to its end left a front of its trace
+  pub front_gives : (fault : RunFault) (answer : Status) → answer ≡ status_of (refusal_of fault) → WritesFront reached (setting program options) (start program) (start_records program) before after → ((fault ≡ write.Write) → written) → Gives reached before after old new read written (Traces program options) answer
+  front_gives write.Write answer is front rose = subst (Gives reached before after old new read written (Traces program options)) (sym is) (rose refl, front)
+  front_gives write.NoMemory answer is front rose = subst (Gives reached before after old new read written (Traces program options)) (sym is) front
 
   -- what is given where no read can fail is given where one can
-  pub history_more : (answer : Status) → Gives reached before after ⊥ written (Traces main options) answer → Gives reached before after read written (Traces main options) answer
+  pub history_more : (answer : Status) → Gives reached before after old new ⊥ written (Traces program options) answer → Gives reached before after old new read written (Traces program options) answer
   history_more status.Done h = h
   history_more status.IllTyped h = h
   history_more status.ObjectLimit h = h
@@ -62,26 +73,25 @@ module _ (reached : Graph → ℕ → Bool) (before after : Option (List ℕ)) (
   history_more status.BadText h = absurd h
   history_more status.BadTrace h = absurd h
   history_more status.LinkFault h = absurd h
-  history_more status.NotYet h = absurd h
 
 -- A TEXT THAT WAS WRITTEN
 
-pub writing_gives : (reached : Graph → ℕ → Bool) (before after : Option (List ℕ)) (read written : Type 0) (text : (Graph → ℕ → Bool) → List ℕ) (wrote : Result (Unit {0}) RunFault)
+pub writing_gives : (reached : Graph → ℕ → Bool) (before after : Option (List ℕ)) (old new : ℕ) (read written : Type 0) (text : (Graph → ℕ → Bool) → List ℕ) (wrote : Result (Unit {0}) RunFault)
     → OnOk wrote (after ≡ with_more before (text reached)) → OnErr wrote (TakesFront before after (text reached)) → ((wrote ≡ Err write.Write) → written)
-    → Gives reached before after read written (Writes text) (status_of_writing wrote)
-writing_gives reached before after read written text (Ok done) ok err rose = ok
-writing_gives reached before after read written text (Err write.Write) ok err rose = (rose refl, err)
-writing_gives reached before after read written text (Err write.NoMemory) ok err rose = err
+    → Gives reached before after old new read written (Writes text) (status_of_writing wrote)
+writing_gives reached before after old new read written text (Ok done) ok err rose = ok
+writing_gives reached before after old new read written text (Err write.Write) ok err rose = (rose refl, err)
+writing_gives reached before after old new read written text (Err write.NoMemory) ok err rose = err
 
 -- .. where that is what is defined
-pub text_gives : {A : Type 0} (reached : Graph → ℕ → Bool) (before after : Option (List ℕ)) (read written : Type 0) (text : (Graph → ℕ → Bool) → A → List ℕ) (found : Result A Fault) (a : A) (d : Defined) (wrote : Result (Unit {0}) RunFault) (answer : Status)
+pub text_gives : {A : Type 0} (reached : Graph → ℕ → Bool) (before after : Option (List ℕ)) (old new : ℕ) (read written : Type 0) (text : (Graph → ℕ → Bool) → A → List ℕ) (found : Result A Fault) (a : A) (d : Defined) (wrote : Result (Unit {0}) RunFault) (answer : Status)
     → d ≡ writes text found → found ≡ Ok a → answer ≡ status_of_writing wrote
     → OnOk wrote (after ≡ with_more before (text reached a)) → OnErr wrote (TakesFront before after (text reached a)) → ((wrote ≡ Err write.Write) → written)
-    → Gives reached before after read written d answer
-text_gives reached before after read written text found a d wrote answer is was how ok err rose =
-    subst (λ x. Gives reached before after read written x answer) (sym (is ∙ ap (writes text) was))
-    (subst (Gives reached before after read written (Writes (λ test. text test a))) (sym how)
-    (writing_gives reached before after read written (λ test. text test a) wrote ok err rose))
+    → Gives reached before after old new read written d answer
+text_gives reached before after old new read written text found a d wrote answer is was how ok err rose =
+    subst (λ x. Gives reached before after old new read written x answer) (sym (is ∙ ap (writes text) was))
+    (subst (Gives reached before after old new read written (Writes (λ test. text test a))) (sym how)
+    (writing_gives reached before after old new read written (λ test. text test a) wrote ok err rose))
 
 -- WHAT WAS REFUSED BEFORE ANYTHING WAS WRITTEN
 
@@ -90,33 +100,32 @@ abbrev IsLoaded : Defined → Type 0
 IsLoaded Usage = ⊥
 IsLoaded (Refused fault) = Unit {0}
 IsLoaded (Writes text) = Unit {0}
-IsLoaded (Traces main options) = Unit {0}
+IsLoaded (Traces program options) = Unit {0}
 
-module _ (reached : Graph → ℕ → Bool) (taken : Option (List ℕ)) (read written : Type 0) where
-  reading_gives : (d : Defined) → IsLoaded d → read → Gives reached taken taken read written d status.ReadFault
+module _ (reached : Graph → ℕ → Bool) (taken : Option (List ℕ)) (old new : ℕ) (read written : Type 0) where
+  reading_gives : (d : Defined) → IsLoaded d → read → Gives reached taken taken old new read written d status.ReadFault
   reading_gives Usage loaded h = absurd loaded
   reading_gives (Refused fault) loaded h = (refl, inr (inl (refl, h)))
   reading_gives (Writes text) loaded h = (h, refl)
-  reading_gives (Traces main options) loaded h = (h, refl)
+  reading_gives (Traces program options) loaded h = (h, refl)
 
-  pub memory_gives : (d : Defined) → Gives reached taken taken read written d status.NoMemory
+  pub memory_gives : (d : Defined) → Gives reached taken taken old new read written d status.NoMemory
   memory_gives Usage = (refl, inr refl)
   memory_gives (Refused fault) = (refl, inr (inr refl))
   memory_gives (Writes text) = front_nothing taken (text reached)
-  memory_gives (Traces main options) = λ e end last. front_nothing taken _
+  memory_gives (Traces program options) = λ e end last. front_nothing taken _
 
-  file_gives : (fault : Fault) (answer : Status) → answer ≡ status_of_fault fault → Gives reached taken taken read written (Refused fault) answer
+  file_gives : (fault : Fault) (answer : Status) → answer ≡ status_of_fault fault → Gives reached taken taken old new read written (Refused fault) answer
   file_gives fault answer is = (refl, inl is)
 
   -- a file is refused for what it was found to have
-  by_cause : (d : Defined) (r : Refusal) → IsLoaded d → ((fault : Fault) → cause_of r ≡ File fault → d ≡ Refused fault) → (cause_of r ≡ Reading → read) → (cause_of r ≡ Other → ⊥) → Gives reached taken taken read written d (status_of r)
-  by_cause d (refusal.Absent path) loaded file reads other = subst (λ x. Gives reached taken taken read written x status.Absent) (sym (file Absent refl)) (file_gives Absent status.Absent refl)
-  by_cause d (refusal.TooLong path) loaded file reads other = subst (λ x. Gives reached taken taken read written x status.TooLong) (sym (file TooLong refl)) (file_gives TooLong status.TooLong refl)
-  by_cause d (refusal.BadClass path kind offset) loaded file reads other = subst (λ x. Gives reached taken taken read written x status.BadClass) (sym (file (BadClass kind offset) refl)) (file_gives (BadClass kind offset) status.BadClass refl)
-  by_cause d (refusal.BadText path kind line) loaded file reads other = subst (λ x. Gives reached taken taken read written x status.BadText) (sym (file (BadText kind line) refl)) (file_gives (BadText kind line) status.BadText refl)
-  by_cause d (refusal.BadTrace path kind line) loaded file reads other = subst (λ x. Gives reached taken taken read written x status.BadTrace) (sym (file (BadTrace kind line) refl)) (file_gives (BadTrace kind line) status.BadTrace refl)
-  by_cause d (refusal.LinkFault kind class) loaded file reads other = subst (λ x. Gives reached taken taken read written x status.LinkFault) (sym (file (LinkFault kind class) refl)) (file_gives (LinkFault kind class) status.LinkFault refl)
-  by_cause d (refusal.NotYet path) loaded file reads other = subst (λ x. Gives reached taken taken read written x status.NotYet) (sym (file NotYet refl)) (file_gives NotYet status.NotYet refl)
+  by_cause : (d : Defined) (r : Refusal) → IsLoaded d → ((fault : Fault) → cause_of r ≡ File fault → d ≡ Refused fault) → (cause_of r ≡ Reading → read) → (cause_of r ≡ Other → ⊥) → Gives reached taken taken old new read written d (status_of r)
+  by_cause d (refusal.Absent path) loaded file reads other = subst (λ x. Gives reached taken taken old new read written x status.Absent) (sym (file Absent refl)) (file_gives Absent status.Absent refl)
+  by_cause d (refusal.TooLong path) loaded file reads other = subst (λ x. Gives reached taken taken old new read written x status.TooLong) (sym (file TooLong refl)) (file_gives TooLong status.TooLong refl)
+  by_cause d (refusal.BadClass path kind offset) loaded file reads other = subst (λ x. Gives reached taken taken old new read written x status.BadClass) (sym (file (BadClass kind offset) refl)) (file_gives (BadClass kind offset) status.BadClass refl)
+  by_cause d (refusal.BadText path kind line) loaded file reads other = subst (λ x. Gives reached taken taken old new read written x status.BadText) (sym (file (BadText kind line) refl)) (file_gives (BadText kind line) status.BadText refl)
+  by_cause d (refusal.BadTrace path kind line) loaded file reads other = subst (λ x. Gives reached taken taken old new read written x status.BadTrace) (sym (file (BadTrace kind line) refl)) (file_gives (BadTrace kind line) status.BadTrace refl)
+  by_cause d (refusal.LinkFault kind class) loaded file reads other = subst (λ x. Gives reached taken taken old new read written x status.LinkFault) (sym (file (LinkFault kind class) refl)) (file_gives (LinkFault kind class) status.LinkFault refl)
   by_cause d (refusal.ReadFault path) loaded file reads other = reading_gives d loaded (reads refl)
   by_cause d refusal.NoMemory loaded file reads other = memory_gives d
   by_cause d refusal.Usage loaded file reads other = absurd (other refl)
@@ -137,23 +146,23 @@ module _ (reached : Graph → ℕ → Bool) (taken : Option (List ℕ)) (read wr
   writes_loaded text (Err fault) = tt
   writes_loaded text (Ok a) = tt
 
-  traces_loaded : (options : Options) (found : Result MainClass Fault) → IsLoaded (traces options found)
+  traces_loaded : (options : Options) (found : Result Linked Fault) → IsLoaded (traces options found)
   traces_loaded options (Err fault) = tt
-  traces_loaded options (Ok main) = tt
+  traces_loaded options (Ok program) = tt
 
-  pub refused_text : {A : Type 0} (text : (Graph → ℕ → Bool) → A → List ℕ) (found : Result A Fault) (r : Refusal) (d : Defined) (answer : Status) → d ≡ writes text found → IsCause read found (cause_of r) → answer ≡ status_of r → Gives reached taken taken read written d answer
+  pub refused_text : {A : Type 0} (text : (Graph → ℕ → Bool) → A → List ℕ) (found : Result A Fault) (r : Refusal) (d : Defined) (answer : Status) → d ≡ writes text found → IsCause read found (cause_of r) → answer ≡ status_of r → Gives reached taken taken old new read written d answer
   refused_text text found r d answer e is how =
-      subst (Gives reached taken taken read written d) (sym how)
+      subst (Gives reached taken taken old new read written d) (sym how)
       (by_cause d r (subst IsLoaded (sym e) (writes_loaded text found)) (λ fault c. e ∙ ap (writes text) (cause_file found (cause_of r) fault is c))
       (cause_reads found (cause_of r) is) (cause_other found (cause_of r) is))
 
-  pub refused_trace : (options : Options) (found : Result MainClass Fault) (r : Refusal) (d : Defined) (answer : Status) → d ≡ traces options found → IsCause read found (cause_of r) → answer ≡ status_of r → Gives reached taken taken read written d answer
+  pub refused_trace : (options : Options) (found : Result Linked Fault) (r : Refusal) (d : Defined) (answer : Status) → d ≡ traces options found → IsCause read found (cause_of r) → answer ≡ status_of r → Gives reached taken taken old new read written d answer
   refused_trace options found r d answer e is how =
-      subst (Gives reached taken taken read written d) (sym how)
+      subst (Gives reached taken taken old new read written d) (sym how)
       (by_cause d r (subst IsLoaded (sym e) (traces_loaded options found)) (λ fault c. e ∙ ap (traces options) (cause_file found (cause_of r) fault is c))
       (cause_reads found (cause_of r) is) (cause_other found (cause_of r) is))
 
-  pub usage_gives : (answer : Status) → answer ≡ status.Usage → Gives reached taken taken read written Usage answer
+  pub usage_gives : (answer : Status) → answer ≡ status.Usage → Gives reached taken taken old new read written Usage answer
   usage_gives answer is = (refl, inl is)
 
 -- the command that was read is what the words ask for

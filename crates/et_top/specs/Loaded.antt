@@ -3,16 +3,19 @@
 use Rattle.std.specs.Prelude.{◌≡◌, ℕ, ◌⊎◌, nat_lt, if◌then◌else◌, List, [], ◌∷◌, length, map, Option, None, Some, Result, Ok, Err}
 use Rattle.et_base.specs.declared.line.TraceLine.{TraceLine}
 use Rattle.et_class.specs.Layout.{ClassOf}
-use Rattle.et_class.specs.Classes.{IsClassFile, HasFault}
+use Rattle.et_class.specs.Classes.{IsClassFile, HasFault, class_of}
+use Rattle.et_class.specs.declared.class.ClassFile.{ClassFile}
 use Rattle.et_text.specs.Text.{IsTextOf, IsTraceFault}
 use Rattle.et_items.specs.Marks.{MarksAre, IsFirst}
 use Rattle.et_asm.specs.Listings.{marks_of, bytes_of as class_file_of}
 use Rattle.et_link.specs.Loaded.{loaded_class}
 use Rattle.et_link.specs.LinkFaults.{IsLinkable, RefusesLink}
+use Rattle.et_link.specs.ProgramOf.{IsProgramOf as IsLinkOf}
 use Rattle.et_link.specs.declared.fault.LinkFaultKind.{LinkFaultKind}
 use Rattle.et_link.specs.declared.fault.LinkFault.TheVariants as link
-use Rattle.et_single.specs.MainClass.{MainClass, main_class}
-use Rattle.et_top.specs.Faults.{Fault, Absent, TooLong, BadClass, BadText, BadTrace, LinkFault, NotYet}
+use Rattle.et_program.specs.Entries.{Linked}
+use Rattle.et_promises.specs.Programs.{IsOfFile}
+use Rattle.et_top.specs.Faults.{Fault, Absent, TooLong, BadClass, BadText, BadTrace, LinkFault}
 
 -- the most bytes that are read of a class file or a listing, and of a trace
 abbrev pub most_of_class : ℕ
@@ -33,7 +36,11 @@ IsClassOf (Ok bytes) class =
     ((fault : ℕ × ℕ) × HasFault bytes fault × (class ≡ Err (BadClass fault.1 fault.0)))
     ⊎ ((c : ClassOf) × IsClassFile bytes c × (class ≡ Ok c))
 
--- .. and the same of a trace
+-- the class was read of the bytes of a file
+abbrev pub HasItsFile : ClassFile → Type 0
+HasItsFile class = IsOfFile (class_of class)
+
+-- the bytes are those of this trace, or they have this first fault; exactly one of the two is the case
 abbrev pub IsTraceOf : Result (List ℕ) Fault → Result (List TraceLine) Fault → Type 0
 IsTraceOf (Err fault) trace = trace ≡ Err fault
 IsTraceOf (Ok bytes) trace =
@@ -63,23 +70,14 @@ AreClassesOf [] classes = classes ≡ Ok []
 AreClassesOf (file ∷ files) classes =
     (first : Result ClassOf Fault) × IsClassOf (bytes_of most_of_class file) first × AreFirstAnd first (AreClassesOf files) classes
 
--- the class that runs, where the classes are one, and it has the form of those that run
-abbrev pub class_that_runs : List ClassOf → Option MainClass
-class_that_runs (c ∷ []) = main_class c
-class_that_runs _ = None
-
-abbrev pub or_not_yet : Option MainClass → Result MainClass Fault
-or_not_yet None = Err NotYet
-or_not_yet (Some main) = Ok main
-
--- the classes link, and this is the one that runs; or this is the fault that keeps them from being linked; exactly one of
--- the two is the case (JVMS 5.3, 5.4)
-abbrev pub IsLinked : Result (List ClassOf) Fault → Result MainClass Fault → Type 0
+-- the classes link, and this is their program; or this is the fault that keeps them from being linked; exactly one of the
+-- two is the case (JVMS 5.3, 5.4)
+abbrev pub IsLinked : Result (List ClassOf) Fault → Result Linked Fault → Type 0
 IsLinked (Err fault) program = program ≡ Err fault
 IsLinked (Ok classes) program =
     ((kind : LinkFaultKind) × ((name : List ℕ) × RefusesLink (map loaded_class classes) (link.At kind name) × (program ≡ Err (LinkFault kind name))))
-    ⊎ (IsLinkable (map loaded_class classes) × (program ≡ or_not_yet (class_that_runs classes)))
+    ⊎ (IsLinkable (map loaded_class classes) × ((p : Linked) × IsLinkOf (map loaded_class classes) p × (program ≡ Ok p)))
 
 -- the program of the files: their classes, linked
-abbrev pub IsProgramOf : List (Option (List ℕ)) → Result MainClass Fault → Type 0
+abbrev pub IsProgramOf : List (Option (List ℕ)) → Result Linked Fault → Type 0
 IsProgramOf files program = (classes : Result (List ClassOf) Fault) × AreClassesOf files classes × IsLinked classes program

@@ -18,4 +18,3 @@ number_of status.IllTyped = 10
 number_of status.ObjectLimit = 11
 number_of status.BadText = 12
 number_of status.TooLong = 13
-number_of status.NotYet = 14

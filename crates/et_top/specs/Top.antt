@@ -1,5 +1,5 @@
 -- What the words and the files that are held define, and what the program may answer.
-use Rattle.std.specs.Prelude.{◌≡◌, ℕ, ◌⊎◌, Bool, List, map, Option, Some, None, option_map, filter_map, Result, Ok, Err}
+use Rattle.std.specs.Prelude.{◌≡◌, ℕ, ◌+◌, ◌≤◌, ◌⊎◌, Bool, List, map, Option, Some, None, option_map, filter_map, Result, Ok, Err}
 use Rattle.et_base.specs.declared.line.TraceLine.{TraceLine}
 use Rattle.et_base.specs.declared.value.End.{End}
 use Rattle.et_base.specs.declared.value.End.TheVariants as ends
@@ -17,9 +17,11 @@ use Rattle.et_replay.specs.declared.model.Kind.TheVariants as kind
 use Rattle.et_replay.specs.declared.model.Policy.{Policy}
 use Rattle.et_words.specs.declared.command.Models.{Models}
 use Rattle.et_words.specs.Command as words
-use Rattle.et_single.specs.MainClass.{MainClass}
-use Rattle.et_single.specs.Machine.{start, start_records}
-use Rattle.et_single.specs.Runs.{setting_of}
+use Rattle.et_program.specs.Entries.{Linked}
+use Rattle.et_event.specs.Start.{start, start_records}
+use Rattle.et_guest.specs.Histories.{setting}
+use Rattle.et_guest.specs.Guests.{flush_visits_of}
+use Rattle.et_merlin.specs.Visits.{allowed_visits}
 use Rattle.et_top.specs.Faults.{Fault, status_of_fault}
 use Rattle.et_top.specs.Loaded.{bytes_of, most_of_class, most_of_trace, IsListingOf, IsTraceOf, IsProgramOf}
 use Rattle.et_top.specs.declared.status.Status.{Status}
@@ -31,11 +33,11 @@ pub data Defined : Type 0 where
   Usage : Defined
   Refused : Fault → Defined
   Writes : (text : (Graph → ℕ → Bool) → List ℕ) → Defined
-  Traces : (main : MainClass) → (options : Options) → Defined
+  Traces : (program : Linked) → (options : Options) → Defined
 
-abbrev pub traces : Options → Result MainClass Fault → Defined
+abbrev pub traces : Options → Result Linked Fault → Defined
 traces options (Err fault) = Refused fault
-traces options (Ok main) = Traces main options
+traces options (Ok program) = Traces program options
 
 abbrev pub writes : {A : Type 0} → ((Graph → ℕ → Bool) → A → List ℕ) → Result A Fault → Defined
 writes text (Err fault) = Refused fault
@@ -54,7 +56,7 @@ policies_of asked kinds = filter_map (policy_of asked) kinds
 abbrev pub IsAskedDefined : List Kind → Option words.Asked → Held → Defined → Type 0
 IsAskedDefined kinds None held d = d ≡ Usage
 IsAskedDefined kinds (Some (words.Trace options paths)) held d =
-    (program : Result MainClass Fault) × IsProgramOf (map held paths) program × (d ≡ traces options program)
+    (program : Result Linked Fault) × IsProgramOf (map held paths) program × (d ≡ traces options program)
 IsAskedDefined kinds (Some (words.Assemble path)) held d =
     (class : Result (List ℕ) Fault) × IsListingOf (bytes_of most_of_class (held path)) class × (d ≡ writes (λ reached bytes. bytes) class)
 IsAskedDefined kinds (Some (words.Replay asked path)) held d =
@@ -74,17 +76,19 @@ status_of_end ends.EventLimit = status.Done
 status_of_end (ends.IllTyped thread method pc) = status.IllTyped
 status_of_end ends.ObjectLimit = status.ObjectLimit
 
-module _ (reached : Graph → ℕ → Bool) (before after : Option (List ℕ)) where
-  -- the history of the class ended so, and out took its trace, no more and no less
-  pub record WritesHistory (main : MainClass) (options : Options) (answer : Status) : Type 0 where
+module _ (reached : Graph → ℕ → Bool) (before after : Option (List ℕ)) (old new : ℕ) where
+  -- the history of the program ended so, and out took its trace, no more and no less; and objects were visited no more often
+  -- than the history allows, by a counter that was old and is new
+  pub record WritesHistory (program : Linked) (options : Options) (answer : Status) : Type 0 where
     pub ran : Ran
     pub ended : answer ≡ status_of_end ran.end
-    pub wrote : WritesTrace reached (setting_of main options) start start_records ran before after
+    pub wrote : WritesTrace reached (setting program options) (start program) (start_records program) ran before after
+    pub visits : new ≤ old + allowed_visits reached (setting program options) flush_visits_of (start program) (start_records program) ran.event
 
   -- THE ANSWER where the files and out tell what they hold and took. `read` and `written` say that the count of faults
   -- of the files and of out rose in this call. Each answer has what is defined; but a fault of reading or writing comes
   -- where its count rose, and want of memory anywhere. Where nothing is defined to be written nothing was taken; after
-  -- a fault of writing and want of memory a front of what is.
+  -- a fault of writing and want of memory a front of what is. The visits of objects are counted in the run of a history.
   abbrev pub Gives : (read written : Type 0) → Defined → Status → Type 0
   Gives read written Usage answer = (after ≡ before) × ((answer ≡ status.Usage) ⊎ (answer ≡ status.NoMemory))
   Gives read written (Refused fault) answer =
@@ -94,10 +98,10 @@ module _ (reached : Graph → ℕ → Bool) (before after : Option (List ℕ)) w
   Gives read written (Writes text) status.WriteFault = written × TakesFront before after (text reached)
   Gives read written (Writes text) status.NoMemory = TakesFront before after (text reached)
   Gives read written (Writes text) answer = ⊥
-  Gives read written (Traces main options) status.Done = WritesHistory main options status.Done
-  Gives read written (Traces main options) status.IllTyped = WritesHistory main options status.IllTyped
-  Gives read written (Traces main options) status.ObjectLimit = WritesHistory main options status.ObjectLimit
-  Gives read written (Traces main options) status.ReadFault = read × (after ≡ before)
-  Gives read written (Traces main options) status.WriteFault = written × WritesFront reached (setting_of main options) start start_records before after
-  Gives read written (Traces main options) status.NoMemory = WritesFront reached (setting_of main options) start start_records before after
-  Gives read written (Traces main options) answer = ⊥
+  Gives read written (Traces program options) status.Done = WritesHistory program options status.Done
+  Gives read written (Traces program options) status.IllTyped = WritesHistory program options status.IllTyped
+  Gives read written (Traces program options) status.ObjectLimit = WritesHistory program options status.ObjectLimit
+  Gives read written (Traces program options) status.ReadFault = read × (after ≡ before)
+  Gives read written (Traces program options) status.WriteFault = written × WritesFront reached (setting program options) (start program) (start_records program) before after
+  Gives read written (Traces program options) status.NoMemory = WritesFront reached (setting program options) (start program) (start_records program) before after
+  Gives read written (Traces program options) answer = ⊥

@@ -12,7 +12,7 @@ use crate::answers::{refuse, written};
 use crate::load_listing::load_listing;
 use crate::load_trace::load_trace;
 use crate::models::replay_trace;
-use crate::programs::{load_program, run_main};
+use crate::programs::{load_program, run};
 use crate::status::Status;
 use et_base::Steps;
 use et_io::{Files, Sink, put_all};
@@ -35,13 +35,13 @@ pub fn trace<F: Files, O: Sink, E: Sink, L: Ledger>(
     requires options { AreOptions options.now }
     requires some { 0 < length paths.now }
     ensures gives { (held : Held) → F.holds files.old ≡ Some held → (kinds : List Kind) (d : Defined) → IsAskedDefined kinds (Some (words.Trace options.now (map string_bytes paths.now))) held d → (reached : Graph → ℕ → Bool) → Decides reached →
-        Gives reached (O.taken out.old) (O.taken out.new) (Rose (F.faults files.old) (F.faults files.new)) (Rose (O.faults out.old) (O.faults out.new)) d result }
+        Gives reached (O.taken out.old) (O.taken out.new) visits.old visits.new (Rose (F.faults files.old) (F.faults files.new)) (Rose (O.faults out.old) (O.faults out.new)) d result }
     ensures usage { result ≡ Status.Usage → ⊥ }
     ensures read_fault { result ≡ Status.ReadFault → Rose (F.faults files.old) (F.faults files.new) }
     ensures write_fault { result ≡ Status.WriteFault → Rose (O.faults out.old) (O.faults out.new) }
 {
     match load_program(alloc, paths, files) {
-        Ok(main) => run_main(alloc, &main, options, out, err, visits),
+        Ok(program) => run(alloc, &program, options, out, err, visits),
         Err(refusal) => refuse(alloc, err, &refusal),
     }
 }
@@ -54,8 +54,8 @@ pub fn assemble<F: Files, O: Sink, E: Sink>(
     out: &mut O,
     err: &mut E,
 ) -> Status
-    ensures gives { (held : Held) → F.holds files.old ≡ Some held → (kinds : List Kind) (d : Defined) → IsAskedDefined kinds (Some (words.Assemble path.now)) held d → (reached : Graph → ℕ → Bool) → Decides reached →
-        Gives reached (O.taken out.old) (O.taken out.new) (Rose (F.faults files.old) (F.faults files.new)) (Rose (O.faults out.old) (O.faults out.new)) d result }
+    ensures gives { (held : Held) → F.holds files.old ≡ Some held → (kinds : List Kind) (d : Defined) → IsAskedDefined kinds (Some (words.Assemble path.now)) held d → (reached : Graph → ℕ → Bool) → Decides reached → (old new : ℕ) →
+        Gives reached (O.taken out.old) (O.taken out.new) old new (Rose (F.faults files.old) (F.faults files.new)) (Rose (O.faults out.old) (O.faults out.new)) d result }
     ensures usage { result ≡ Status.Usage → ⊥ }
     ensures read_fault { result ≡ Status.ReadFault → Rose (F.faults files.old) (F.faults files.new) }
     ensures write_fault { result ≡ Status.WriteFault → Rose (O.faults out.old) (O.faults out.new) }
@@ -74,8 +74,8 @@ pub fn curve<F: Files, O: Sink, E: Sink>(
     out: &mut O,
     err: &mut E,
 ) -> Status
-    ensures gives { (held : Held) → F.holds files.old ≡ Some held → (kinds : List Kind) (d : Defined) → IsAskedDefined kinds (Some (words.Curve path.now)) held d → (reached : Graph → ℕ → Bool) → Decides reached →
-        Gives reached (O.taken out.old) (O.taken out.new) (Rose (F.faults files.old) (F.faults files.new)) (Rose (O.faults out.old) (O.faults out.new)) d result }
+    ensures gives { (held : Held) → F.holds files.old ≡ Some held → (kinds : List Kind) (d : Defined) → IsAskedDefined kinds (Some (words.Curve path.now)) held d → (reached : Graph → ℕ → Bool) → Decides reached → (old new : ℕ) →
+        Gives reached (O.taken out.old) (O.taken out.new) old new (Rose (F.faults files.old) (F.faults files.new)) (Rose (O.faults out.old) (O.faults out.new)) d result }
     ensures usage { result ≡ Status.Usage → ⊥ }
     ensures read_fault { result ≡ Status.ReadFault → Rose (F.faults files.old) (F.faults files.new) }
     ensures write_fault { result ≡ Status.WriteFault → Rose (O.faults out.old) (O.faults out.new) }
@@ -97,8 +97,8 @@ pub fn replay<F: Files, O: Sink, E: Sink>(
     models: Vec<Box<dyn HeapModel>>,
 ) -> Status
     requires new { All (λ b. is_new b) models.items }
-    ensures gives { (held : Held) → F.holds files.old ≡ Some held → (d : Defined) → IsAskedDefined (map (λ b. kind_of b) models.items) (Some (words.Replay asked.now path.now)) held d → (reached : Graph → ℕ → Bool) → Decides reached →
-        Gives reached (O.taken out.old) (O.taken out.new) (Rose (F.faults files.old) (F.faults files.new)) (Rose (O.faults out.old) (O.faults out.new)) d result }
+    ensures gives { (held : Held) → F.holds files.old ≡ Some held → (d : Defined) → IsAskedDefined (map (λ b. kind_of b) models.items) (Some (words.Replay asked.now path.now)) held d → (reached : Graph → ℕ → Bool) → Decides reached → (old new : ℕ) →
+        Gives reached (O.taken out.old) (O.taken out.new) old new (Rose (F.faults files.old) (F.faults files.new)) (Rose (O.faults out.old) (O.faults out.new)) d result }
     ensures usage { result ≡ Status.Usage → ⊥ }
     ensures read_fault { result ≡ Status.ReadFault → Rose (F.faults files.old) (F.faults files.new) }
     ensures write_fault { result ≡ Status.WriteFault → Rose (O.faults out.old) (O.faults out.new) }

@@ -5,7 +5,7 @@ ghost use Rattle.et_io.specs.Files.{Held};
 ghost use Rattle.et_class.specs.Layout.{ClassOf};
 ghost use Rattle.et_class.specs.Classes.{class_of, HasItsParts};
 ghost use Rattle.et_top.specs.Faults.{Fault};
-ghost use Rattle.et_top.specs.Loaded.{bytes_of, most_of_class, IsClassOf, AreClassesOf};
+ghost use Rattle.et_top.specs.Loaded.{bytes_of, most_of_class, IsClassOf, AreClassesOf, HasItsFile};
 ghost use Rattle.et_top.specs.Told.{Tells, IsReading, IsFileRefusal, IsOfBytes, cause_of, classes_of};
 
 use crate::files::read_file;
@@ -22,6 +22,7 @@ const MOST_CLASS_BYTES: u64 = 1_048_576;
 fn class_in<'a>(alloc: Global, path: &'a str, bytes: &[u8]) -> Result<ClassFile, Refusal<'a>>
     ensures tells { (class : Result ClassOf Fault) → IsClassOf (Ok bytes.now) class → Tells ⊥ class_of class result }
     ensures parts { IfOk result HasItsParts }
+    ensures of_file { IfOk result HasItsFile }
     ensures bytes { IfErr result (λ refusal. IsOfBytes (cause_of refusal)) }
 {
     exactly_one();
@@ -40,6 +41,7 @@ fn load_class<'a, F: Files>(
 ) -> Result<ClassFile, Refusal<'a>>
     ensures tells { (held : Held) → F.holds files.old ≡ Some held → (class : Result ClassOf Fault) → IsClassOf (bytes_of most_of_class (held path.now)) class → Tells (Rose (F.faults files.old) (F.faults files.new)) class_of class result }
     ensures parts { IfOk result HasItsParts }
+    ensures of_file { IfOk result HasItsFile }
     ensures fault { IfErr result (λ refusal. IsReading (cause_of refusal) → Rose (F.faults files.old) (F.faults files.new)) }
     ensures file { IfErr result (λ refusal. IsFileRefusal (cause_of refusal)) }
     ensures never_falls { F.faults files.old ≤ F.faults files.new }
@@ -59,6 +61,7 @@ pub fn load_classes<'a, F: Files>(
 ) -> Result<Vec<ClassFile>, Refusal<'a>>
     ensures tells { (held : Held) → F.holds files.old ≡ Some held → (classes : Result (List ClassOf) Fault) → AreClassesOf (map held (map string_bytes paths.now)) classes → Tells (Rose (F.faults files.old) (F.faults files.new)) classes_of classes result }
     ensures parts { IfOk result (λ classes. All HasItsParts classes.items) }
+    ensures of_files { IfOk result (λ classes. All HasItsFile classes.items) }
     ensures count { IfOk result (λ classes. length classes.items ≡ length paths.now) }
     ensures fault { IfErr result (λ refusal. IsReading (cause_of refusal) → Rose (F.faults files.old) (F.faults files.new)) }
     ensures file { IfErr result (λ refusal. IsFileRefusal (cause_of refusal)) }

@@ -72,8 +72,6 @@ pub enum Refusal<'a> {
         kind: LinkFaultKind,
         class: Name,
     },
-    #[error("elephant: not yet {0}")]
-    NotYet(&'a str),
 }
 
 impl Refusal<'_> {
@@ -97,7 +95,6 @@ impl Refusal<'_> {
             Refusal::ObjectLimit => Status::ObjectLimit,
             Refusal::TooLong(_) => Status::TooLong,
             Refusal::LinkFault { .. } => Status::LinkFault,
-            Refusal::NotYet(_) => Status::NotYet,
         }
     }
 }

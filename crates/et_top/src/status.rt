@@ -31,8 +31,6 @@ pub enum Status {
     BadText,
     /// A file is longer than is read: 1,048,576 bytes of a class file or a listing, 268,435,456 of a trace.
     TooLong,
-    /// The classes of the files link, and can't be run yet.
-    NotYet,
 }
 
 impl Status {
@@ -54,7 +52,6 @@ impl Status {
             Status::ObjectLimit => 11,
             Status::BadText => 12,
             Status::TooLong => 13,
-            Status::NotYet => 14,
         }
     }
 }

@@ -31,7 +31,7 @@ fn perform<F: Files, O: Sink, E: Sink, L: Ledger>(
     requires new { All (λ b. is_new b) models.items }
     requires range { AreInRange command.now }
     ensures gives { (held : Held) → F.holds files.old ≡ Some held → (d : Defined) → IsAskedDefined (map (λ b. kind_of b) models.items) (Some (asked_by command.now)) held d → (reached : Graph → ℕ → Bool) → Decides reached →
-        Gives reached (O.taken out.old) (O.taken out.new) (Rose (F.faults files.old) (F.faults files.new)) (Rose (O.faults out.old) (O.faults out.new)) d result }
+        Gives reached (O.taken out.old) (O.taken out.new) visits.old visits.new (Rose (F.faults files.old) (F.faults files.new)) (Rose (O.faults out.old) (O.faults out.new)) d result }
     ensures usage { result ≡ Status.Usage → ⊥ }
     ensures read_fault { result ≡ Status.ReadFault → Rose (F.faults files.old) (F.faults files.new) }
     ensures write_fault { result ≡ Status.WriteFault → Rose (O.faults out.old) (O.faults out.new) }
@@ -52,8 +52,8 @@ fn perform<F: Files, O: Sink, E: Sink, L: Ledger>(
 /// All that the program does. The words are those behind the program's name; the command's output goes to out, and a
 /// line for each refusal to err. The models are new.
 ///
-/// - `trace` reads the class files at the paths in their order, links them (JVMS 5.3, 5.4), runs the class from its
-///   starting state by the options, and writes the trace of its history.
+/// - `trace` reads the class files at the paths in their order, links them (JVMS 5.3, 5.4), runs their program from its
+///   first state by the options, and writes the trace of its history. The counter tells how often objects were visited.
 /// - `asm` reads a listing and writes its class file.
 /// - `replay` reads a trace and writes a line for each of the models whose kind is asked for, in their order: what it
 ///   reports of the trace. The other models are dropped.
@@ -73,7 +73,7 @@ pub fn elephant<F: Files, O: Sink, E: Sink, L: Ledger>(
 ) -> Status
     requires new { All (λ b. is_new b) models.items }
     ensures answers { (held : Held) → F.holds files.old ≡ Some held → (d : Defined) → IsDefined (map (λ b. kind_of b) models.items) (map string_bytes words.now) held d → (reached : Graph → ℕ → Bool) → Decides reached →
-        Gives reached (O.taken out.old) (O.taken out.new) (Rose (F.faults files.old) (F.faults files.new)) (Rose (O.faults out.old) (O.faults out.new)) d result }
+        Gives reached (O.taken out.old) (O.taken out.new) visits.old visits.new (Rose (F.faults files.old) (F.faults files.new)) (Rose (O.faults out.old) (O.faults out.new)) d result }
     ensures usage { result ≡ Status.Usage → command (map string_bytes words.now) ≡ None }
     ensures no_command { command (map string_bytes words.now) ≡ None → (result ≡ Status.Usage) ⊎ (result ≡ Status.NoMemory) }
     ensures read_fault { result ≡ Status.ReadFault → Rose (F.faults files.old) (F.faults files.new) }

@@ -6,16 +6,16 @@ use Rattle.et_top.proofs.TopLemmas.{text_gives, refused_text}
 use Rattle.et_top.proofs.commands.assemble.Goals as goal
 
 pub returns-in-Ok-clause-gives : goal.returns-in-Ok-clause-gives
-returns-in-Ok-clause-gives g c held told kinds d defined reached decides =
+returns-in-Ok-clause-gives g c held told kinds d defined reached decides old new =
     let before = g.O.Sink.taken c.args.out.now in
     let after = g.O.Sink.taken c.put_all.new.sink in
     let read = Rose (g.F.Files.faults c.args.files.now) (g.F.Files.faults c.load_listing.new.files) in
     let written = Rose (g.O.Sink.faults c.args.out.now) (g.O.Sink.faults c.put_all.new.sink) in
-    text_gives reached before after read written _ defined.0 c.in-Ok.bytes.items d c.put_all.result c.written.result defined.2 (c.in-Ok.ensures.tells held told defined.0 defined.1) c.written.ensures
+    text_gives reached before after old new read written _ defined.0 c.in-Ok.bytes.items d c.put_all.result c.written.result defined.2 (c.in-Ok.ensures.tells held told defined.0 defined.1) c.written.ensures
     (subst (λ bytes. OnOk c.put_all.result (after ≡ with_more before bytes)) c.as_slice.ensures.value c.put_all.ensures.ok)
     (subst (λ bytes. OnErr c.put_all.result (TakesFront before after bytes)) c.as_slice.ensures.value c.put_all.ensures.err) c.put_all.ensures.write
 
 pub returns-in-Err-clause-gives : goal.returns-in-Err-clause-gives
-returns-in-Err-clause-gives g c held told kinds d defined reached decides =
-    refused_text reached (g.O.Sink.taken c.args.out.now) (Rose (g.F.Files.faults c.args.files.now) (g.F.Files.faults c.load_listing.new.files)) (Rose (g.O.Sink.faults c.args.out.now) (g.O.Sink.faults c.args.out.now))
+returns-in-Err-clause-gives g c held told kinds d defined reached decides old new =
+    refused_text reached (g.O.Sink.taken c.args.out.now) old new (Rose (g.F.Files.faults c.args.files.now) (g.F.Files.faults c.load_listing.new.files)) (Rose (g.O.Sink.faults c.args.out.now) (g.O.Sink.faults c.args.out.now))
     _ defined.0 c.in-Err.refusal d c.refuse.result defined.2 (c.in-Err.ensures.tells held told defined.0 defined.1) c.refuse.ensures

@@ -7,14 +7,16 @@ use Rattle.et_top.proofs.commands.trace.Goals as goal
 pub returns-in-Ok-clause-gives : goal.returns-in-Ok-clause-gives
 returns-in-Ok-clause-gives g c held told kinds d defined reached decides =
     let before = g.O.Sink.taken c.args.out.now in
-    let after = g.O.Sink.taken c.run_main.new.out in
+    let after = g.O.Sink.taken c.run.new.out in
+    let old = c.args.visits.now in
+    let new = c.run.new.visits in
     let read = Rose (g.F.Files.faults c.args.files.now) (g.F.Files.faults c.load_program.new.files) in
-    let written = Rose (g.O.Sink.faults c.args.out.now) (g.O.Sink.faults c.run_main.new.out) in
+    let written = Rose (g.O.Sink.faults c.args.out.now) (g.O.Sink.faults c.run.new.out) in
     let is = defined.2 ∙ ap (traces c.args.options.now) (c.in-Ok.ensures.tells held told defined.0 defined.1) in
-    subst (λ x. Gives reached before after read written x c.run_main.result) (sym is)
-    (history_more reached before after read written c.in-Ok.main c.args.options.now c.run_main.result (c.run_main.ensures.gives reached decides))
+    subst (λ x. Gives reached before after old new read written x c.run.result) (sym is)
+    (history_more reached before after old new read written c.in-Ok.program c.args.options.now c.run.result (c.run.ensures.gives reached decides))
 
 pub returns-in-Err-clause-gives : goal.returns-in-Err-clause-gives
 returns-in-Err-clause-gives g c held told kinds d defined reached decides =
-    refused_trace reached (g.O.Sink.taken c.args.out.now) (Rose (g.F.Files.faults c.args.files.now) (g.F.Files.faults c.load_program.new.files)) (Rose (g.O.Sink.faults c.args.out.now) (g.O.Sink.faults c.args.out.now))
+    refused_trace reached (g.O.Sink.taken c.args.out.now) c.args.visits.now c.args.visits.now (Rose (g.F.Files.faults c.args.files.now) (g.F.Files.faults c.load_program.new.files)) (Rose (g.O.Sink.faults c.args.out.now) (g.O.Sink.faults c.args.out.now))
     c.args.options.now defined.0 c.in-Err.refusal d c.refuse.result defined.2 (c.in-Err.ensures.tells held told defined.0 defined.1) c.refuse.ensures

@@ -4,7 +4,7 @@ use Rattle.et_io.specs.Files.{Held}
 use Rattle.et_class.specs.Layout.{ClassOf}
 use Rattle.et_class.specs.Classes.{class_of, HasItsParts}
 use Rattle.et_top.specs.Faults.{Fault}
-use Rattle.et_top.specs.Loaded.{AreClassesOf}
+use Rattle.et_top.specs.Loaded.{AreClassesOf, HasItsFile}
 use Rattle.et_top.proofs.Found.{AreBehind}
 use Rattle.et_top.proofs.load_classes.load_classes.Given as goal
 
@@ -15,4 +15,5 @@ invariant-paths g l = record {
   never_falls : g.F.Files.faults l.fn.files ≤ g.F.Files.faults l.files;
   count : length l.classes.items ≡ l.path-index;
   parts : All HasItsParts l.classes.items;
+  of_files : All HasItsFile l.classes.items;
 }

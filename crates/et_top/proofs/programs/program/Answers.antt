@@ -1,26 +1,38 @@
-use Rattle.std.proofs.Common.{◌≡◌, List, map, sym, ◌∙◌, ap, subst}
+use Rattle.std.proofs.Common.{List, Ok, map, sym, ◌∙◌, ap, subst}
 use Rattle.et_class.specs.declared.class.ClassFile.{ClassFile}
 use Rattle.et_class.specs.Classes.{class_of}
 use Rattle.et_link.specs.Loaded.{LoadedClass, loaded_file, loaded_class}
 use Rattle.et_link.specs.LinkFaults.{IsLinkable, RefusesLink}
+use Rattle.et_link.specs.ProgramOf.{IsProgramOf}
 use Rattle.et_link.specs.declared.fault.LinkFault.TheVariants as link
-use Rattle.et_top.specs.Loaded.{class_that_runs, or_not_yet}
-use Rattle.et_top.proofs.LinkLemmas.{linked_found, link_fault_found}
+use Rattle.et_program.specs.Entries.{Linked}
+use Rattle.et_event.specs.Sound.{IsSoundFor}
+use Rattle.et_event.specs.Start.{start}
+use Rattle.et_turns.specs.Runs.{IsRunnable}
+use Rattle.et_top.proofs.LinkLemmas.{linked_found, link_fault_found, program_runs, program_starts}
 use Rattle.et_top.proofs.programs.program.Goals as goal
 
-pub returns-in-Some-clause-tells : goal.returns-in-Some-clause-tells
-returns-in-Some-clause-tells c program is =
-    let classes = map class_of c.args.classes.items in
-    let runs : c.in-Ok.main ≡ class_that_runs classes = c.in-Ok.ensures ∙ ap (λ (files : List ClassFile). class_that_runs (map class_of files)) c.deref.ensures.value in
-    linked_found classes (c.answers_are_one.ensures (map loaded_class classes)) program (subst IsLinkable (c.files_are_classes.ensures c.args.classes.items c.requires.parts) c.in-Ok-link.ensures.0) is
-    ∙ ap or_not_yet (sym runs ∙ c.in-Some.is)
+pub returns-in-Ok-clause-tells : goal.returns-in-Ok-clause-tells
+returns-in-Ok-clause-tells c program is =
+    let files = c.args.classes.items in
+    let same = c.files_are_classes.ensures files c.requires.parts in
+    linked_found (map class_of files) (c.answers_are_one.ensures (map loaded_class (map class_of files))) program c.in-Ok.program
+    (subst IsLinkable same c.in-Ok.ensures.0) (subst (λ (loaded : List LoadedClass). IsProgramOf loaded c.in-Ok.program) same c.in-Ok.ensures.1) is
+    ∙ ap (λ (p : Linked). Ok p) (sym c.of.ensures)
 
-pub returns-in-Ok-link-clause-tells : goal.returns-in-Ok-link-clause-tells
-returns-in-Ok-link-clause-tells c program is =
-    let classes = map class_of c.args.classes.items in
-    let runs : c.in-Ok.main ≡ class_that_runs classes = c.in-Ok.ensures ∙ ap (λ (files : List ClassFile). class_that_runs (map class_of files)) c.deref.ensures.value in
-    linked_found classes (c.answers_are_one.ensures (map loaded_class classes)) program (subst IsLinkable (c.files_are_classes.ensures c.args.classes.items c.requires.parts) c.in-Ok-link.ensures.0) is
-    ∙ ap or_not_yet (sym runs ∙ c.in-None.is)
+pub returns-in-Ok-clause-runnable : goal.returns-in-Ok-clause-runnable
+returns-in-Ok-clause-runnable c =
+    let files = c.args.classes.items in
+    let same = c.files_are_classes.ensures files c.requires.parts in
+    subst IsRunnable (sym c.of.ensures) (program_runs files c.in-Ok.program c.requires.some c.requires.of_files c.files_keep_rules.ensures c.programs_may_run.ensures
+    (subst IsLinkable same c.in-Ok.ensures.0) (subst (λ (loaded : List LoadedClass). IsProgramOf loaded c.in-Ok.program) same c.in-Ok.ensures.1))
+
+pub returns-in-Ok-clause-start : goal.returns-in-Ok-clause-start
+returns-in-Ok-clause-start c =
+    let files = c.args.classes.items in
+    let same = c.files_are_classes.ensures files c.requires.parts in
+    subst (λ (p : Linked). IsSoundFor p (start p)) (sym c.of.ensures) (program_starts files c.in-Ok.program c.requires.of_files c.files_keep_rules.ensures c.first_state_is_sound.ensures
+    (subst (λ (loaded : List LoadedClass). IsProgramOf loaded c.in-Ok.program) same c.in-Ok.ensures.1))
 
 pub returns-in-Err-At-clause-tells : goal.returns-in-Err-At-clause-tells
 returns-in-Err-At-clause-tells c program is =

@@ -16,4 +16,5 @@ returns-in-Err-clause-answers g c held told d defined reached decides =
     let taken = g.O.Sink.taken c.args.out.now in
     let read = Rose (g.F.Files.faults c.args.files.now) (g.F.Files.faults c.args.files.now) in
     let written = Rose (g.O.Sink.faults c.args.out.now) (g.O.Sink.faults c.args.out.now) in
-    subst (Gives reached taken taken read written d) (sym c.refuse.ensures) (memory_gives reached taken read written d)
+    let visits = c.args.visits.now in
+    subst (Gives reached taken taken visits visits read written d) (sym c.refuse.ensures) (memory_gives reached taken visits visits read written d)

@@ -8,12 +8,12 @@ returns-in-Trace-clause-gives g c held told d defined reached decides =
 
 pub returns-in-Assemble-clause-gives : goal.returns-in-Assemble-clause-gives
 returns-in-Assemble-clause-gives g c held told d defined reached decides =
-    c.assemble.ensures.gives held told [] d (by_arm _ held d _ _ c.in-Assemble.is defined) reached decides
+    c.assemble.ensures.gives held told [] d (by_arm _ held d _ _ c.in-Assemble.is defined) reached decides c.args.visits.now c.args.visits.now
 
 pub returns-in-Replay-clause-gives : goal.returns-in-Replay-clause-gives
 returns-in-Replay-clause-gives g c held told d defined reached decides =
-    c.replay.ensures.gives held told d (by_arm _ held d _ _ c.in-Replay.is defined) reached decides
+    c.replay.ensures.gives held told d (by_arm _ held d _ _ c.in-Replay.is defined) reached decides c.args.visits.now c.args.visits.now
 
 pub returns-in-Curve-clause-gives : goal.returns-in-Curve-clause-gives
 returns-in-Curve-clause-gives g c held told d defined reached decides =
-    c.curve.ensures.gives held told [] d (by_arm _ held d _ _ c.in-Curve.is defined) reached decides
+    c.curve.ensures.gives held told [] d (by_arm _ held d _ _ c.in-Curve.is defined) reached decides c.args.visits.now c.args.visits.now

@@ -1,0 +1,343 @@
+//! Programs of the whole instruction set, and their traces.
+
+use crate::runs::is_answered;
+use et_asm::assemble;
+use et_io::MemFiles;
+use et_top::Status;
+use std::alloc::Global;
+use std::process::Abort;
+use std::test::Fail;
+
+const NODE: &str =
+    "class Node java/lang/Object 0021\nfield next LNode; 0000\nmethod main ([Ljava/lang/String;)V 0009 4 1\n\
+    new Node\nnew Node\ndup2\nputfield Node next LNode;\nswap\nputfield Node next LNode;\nreturn\nend\n";
+
+const CHAIN: &str =
+    "class Chain java/lang/Object 0021\nfield next LChain; 0000\nmethod main ([Ljava/lang/String;)V 0009 4 2\n\
+    new Chain\nastore 1\nnew Chain\ndup\naload 1\nputfield Chain next LChain;\nnew Chain\ndup_x1\nswap\n\
+    putfield Chain next LChain;\naconst_null\nastore 1\nnop\nnop\npop\nreturn\nend\n";
+
+const REV: &str =
+    "class Rev java/lang/Object 0021\nfield next LRev; 0000\nmethod main ([Ljava/lang/String;)V 0009 5 1\n\
+    new java/lang/ref/WeakReference\ndup\nnew Rev\ndup\nnew Rev\nputfield Rev next LRev;\n\
+    invokespecial java/lang/ref/WeakReference <init> (Ljava/lang/Object;)V\nnop\nnop\ndup\n\
+    invokevirtual java/lang/ref/WeakReference get ()Ljava/lang/Object;\nifnull q\nnop\nq:\npop\nreturn\nend\n";
+
+const CLR: &str =
+    "class Clr java/lang/Object 0021\nfield next LClr; 0000\nmethod main ([Ljava/lang/String;)V 0009 5 1\n\
+    new java/lang/ref/WeakReference\ndup\nnew Clr\ndup\nnew Clr\nputfield Clr next LClr;\n\
+    invokespecial java/lang/ref/WeakReference <init> (Ljava/lang/Object;)V\ndup\n\
+    invokevirtual java/lang/ref/WeakReference clear ()V\npop\nreturn\nend\n";
+
+const TWO: &str = "class Two java/lang/Object 0021\nmethod main ([Ljava/lang/String;)V 0009 5 1\n\
+    new java/lang/ref/WeakReference\ndup\nnew java/lang/ref/WeakReference\ndup\nnew Two\n\
+    invokespecial java/lang/ref/WeakReference <init> (Ljava/lang/Object;)V\n\
+    invokespecial java/lang/ref/WeakReference <init> (Ljava/lang/Object;)V\nnop\nnop\n\
+    invokevirtual java/lang/ref/WeakReference get ()Ljava/lang/Object;\npop\nreturn\nend\n";
+
+const DIV: &str =
+    "class Div java/lang/Object 0021\nmethod main ([Ljava/lang/String;)V 0009 4 1\na:\nnew Div\nnew Div\n\
+    iconst_1\niconst_0\nidiv\nb:\npop\nreturn\ncatch a b b java/lang/ArithmeticException\nend\n";
+
+const SYN: &str =
+    "class Syn java/lang/Object 0021\nmethod main ([Ljava/lang/String;)V 0009 1 1\na:\ninvokestatic Syn f ()V\n\
+    b:\nreturn\nh:\npop\nreturn\ncatch a b h *\nend\nmethod f ()V 0029 1 0\ninvokestatic Syn g ()V\nreturn\n\
+    end\nmethod g ()V 0029 1 0\ninvokestatic Syn k ()V\nreturn\nend\nmethod k ()V 0029 1 0\naconst_null\n\
+    athrow\nend\n";
+
+const USE: &str =
+    "class Use java/lang/Object 0021\nmethod main ([Ljava/lang/String;)V 0009 1 1\na:\ngetstatic Bad x I\nb:\n\
+    pop\nreturn\nh:\npop\nc:\ngetstatic Bad x I\nd:\npop\nreturn\nk:\npop\nreturn\ncatch a b h *\n\
+    catch c d k *\nend\n";
+
+const BAD: &str =
+    "class Bad java/lang/Object 0021\nfield x I 0008\nmethod <clinit> ()V 0008 2 0\niconst_1\niconst_0\nidiv\n\
+    pop\nreturn\nend\n";
+
+const DEEP: &str =
+    "class Deep java/lang/Object 0021\nmethod main ([Ljava/lang/String;)V 0009 1 1\ninvokestatic Deep f ()V\n\
+    return\nend\nmethod f ()V 0009 1 0\ninvokestatic Deep f ()V\nreturn\nend\n";
+
+const BIG_OVER: &str =
+    "class Big java/lang/Object 0021\nmethod main ([Ljava/lang/String;)V 0009 1 1\nldc int 67108865\n\
+    anewarray java/lang/Object\npop\nreturn\nend\n";
+
+const ILL: &str =
+    "class Ill java/lang/Object 0021\nmethod main ([Ljava/lang/String;)V 0009 2 1\niadd\nreturn\nend\n";
+
+const STR: &str =
+    "class Str java/lang/Object 0021\nmethod main ([Ljava/lang/String;)V 0009 2 1\nldc string a\nldc string a\n\
+    if_acmpeq q\nnop\nq:\nreturn\nend\n";
+
+const MUL: &str =
+    "class Mul java/lang/Object 0021\nmethod main ([Ljava/lang/String;)V 0009 2 1\niconst_2\niconst_1\n\
+    multianewarray [[I 2\npop\nreturn\nend\n";
+
+const WRK: &str =
+    "class Wrk java/lang/Thread 0021\nfield top Ljava/lang/Object; 0008\nmethod <init> ()V 0001 1 1\naload 0\n\
+    invokespecial java/lang/Thread <init> ()V\nreturn\nend\nmethod run ()V 0001 1 1\ninvokestatic Wrk add ()V\n\
+    return\nend\nmethod add ()V 0029 1 0\nnew java/lang/Object\nputstatic Wrk top Ljava/lang/Object;\nreturn\n\
+    end\nmethod main ([Ljava/lang/String;)V 0009 2 1\nnew Wrk\ndup\ninvokespecial Wrk <init> ()V\n\
+    invokevirtual Wrk start ()V\ninvokestatic Wrk add ()V\nreturn\nend\n";
+
+const SLF: &str = "class Slf java/lang/Thread 0021\nmethod <init> ()V 0001 1 1\naload 0\n\
+    invokespecial java/lang/Thread <init> ()V\nreturn\nend\nmethod run ()V 0001 1 1\naload 0\n\
+    invokevirtual Slf join ()V\nreturn\nend\nmethod main ([Ljava/lang/String;)V 0009 2 1\nnew Slf\ndup\n\
+    invokespecial Slf <init> ()V\ninvokevirtual Slf start ()V\nreturn\nend\n";
+
+const MON: &str =
+    "class Mon java/lang/Object 0021\nmethod main ([Ljava/lang/String;)V 0009 2 1\nnew Mon\nmonitorexit\nreturn\n\
+    end\n";
+
+/// The words, the answer, the trace and the line of the refusal.
+type Row = (&'static str, Status, &'static [u8], &'static [u8]);
+
+/// Files with the class of each listing, by its path.
+fn files_of(alloc: Global, listings: &[(&str, &str)]) -> Result<MemFiles, Fail> {
+    let mut files = MemFiles::begin(alloc);
+    for (path, listing) in listings {
+        let class = assemble(alloc, listing.as_bytes())?;
+        files.hold(path, class.as_slice())?;
+    }
+    Ok(files)
+}
+
+/// Each row is answered so, where the files hold the classes of these listings.
+fn are_answered(
+    rt: &impl Abort,
+    alloc: Global,
+    listings: &[(&str, &str)],
+    rows: &[Row],
+) -> Result<(), Fail> {
+    let mut files = files_of(alloc, listings)?;
+    for (line, status, trace, refusal) in rows {
+        is_answered(rt, alloc, &mut files, line, *status, trace, refusal)?;
+    }
+    Ok(())
+}
+
+#[test]
+fn objects_that_refer_to_each_other(rt: HostRuntime) -> Result<(), Fail> {
+    let listings = [
+        ("Node.class", NODE),
+        ("Chain.class", CHAIN),
+        ("Str.class", STR),
+        ("Mul.class", MUL),
+    ];
+    let rows: [Row; 4] = [
+        (
+            "trace Node.class",
+            Status::Done,
+            b"H 1 0\nC 1 [Ljava/lang/String;\nA 0 0 1 1 24 0\nC 2 Node\nN 1 2 main ([Ljava/lang/String;)V\nM 1 0 1 0\n\
+             A 2 0 2 2 24 0\nA 3 0 3 2 24 0\nU 5 0 2 0 0 3\nU 7 0 3 0 0 2\nE 8 0 1\nF 9 3\nD 1 7\nD 2 6\nD 3 6\nZ 9 0\n",
+            b"",
+        ),
+        (
+            "trace Chain.class",
+            Status::Done,
+            b"H 1 0\nC 1 [Ljava/lang/String;\nA 0 0 1 1 24 0\nC 2 Chain\nN 1 2 main ([Ljava/lang/String;)V\nM 1 0 1 0\n\
+             A 2 0 2 2 24 0\nA 4 0 3 2 24 0\nU 7 0 3 0 0 2\nA 8 0 4 2 24 0\nU 11 0 4 0 0 3\nE 17 0 1\nF 18 4\nD 1 16\n\
+             D 2 15\nD 3 15\nD 4 15\nZ 18 0\n",
+            b"",
+        ),
+        (
+            "trace Str.class",
+            Status::Done,
+            b"H 1 0\nC 1 [Ljava/lang/String;\nA 0 0 1 1 24 0\nC 2 Str\nN 1 2 main ([Ljava/lang/String;)V\nM 1 0 1 0\n\
+             C 3 java/lang/String\nA 2 0 2 3 16 0\nE 5 0 1\nF 6 1\nD 1 4\nZ 6 0\n",
+            b"",
+        ),
+        (
+            "trace Mul.class",
+            Status::Done,
+            b"H 1 0\nC 1 [Ljava/lang/String;\nA 0 0 1 1 24 0\nC 2 Mul\nN 1 2 main ([Ljava/lang/String;)V\nM 1 0 1 0\n\
+             C 3 [[I\nA 4 0 2 3 40 2\nC 4 [I\nA 4 0 3 4 32 1\nU 4 0 2 0 0 3\nA 4 0 4 4 32 1\nU 4 0 2 1 0 4\nE 6 0 1\n\
+             F 7 4\nD 1 5\nD 2 4\nD 3 4\nD 4 4\nZ 7 0\n",
+            b"",
+        ),
+    ];
+    are_answered(&rt, rt.alloc(), &listings, &rows)
+}
+
+#[test]
+fn weak_references(rt: HostRuntime) -> Result<(), Fail> {
+    let listings = [("Rev.class", REV), ("Clr.class", CLR), ("Two.class", TWO)];
+    let rows: [Row; 4] = [
+        (
+            "trace Rev.class",
+            Status::Done,
+            b"H 1 0\nC 1 [Ljava/lang/String;\nA 0 0 1 1 24 0\nC 2 Rev\nN 1 2 main ([Ljava/lang/String;)V\nM 1 0 1 0\n\
+             C 3 java/lang/ref/WeakReference\nA 2 0 2 3 16 0\nA 4 0 3 2 24 0\nA 6 0 4 2 24 0\nU 7 0 3 0 0 4\nE 16 0 1\n\
+             F 17 4\nD 1 15\nD 2 14\nD 3 12\nD 4 12\nZ 17 0\n",
+            b"",
+        ),
+        (
+            "trace Clr.class",
+            Status::Done,
+            b"H 1 0\nC 1 [Ljava/lang/String;\nA 0 0 1 1 24 0\nC 2 Clr\nN 1 2 main ([Ljava/lang/String;)V\nM 1 0 1 0\n\
+             C 3 java/lang/ref/WeakReference\nA 2 0 2 3 16 0\nA 4 0 3 2 24 0\nA 6 0 4 2 24 0\nU 7 0 3 0 0 4\nE 12 0 1\n\
+             F 13 4\nD 1 11\nD 2 10\nD 3 7\nD 4 7\nZ 13 0\n",
+            b"",
+        ),
+        (
+            "trace --flush 10 Rev.class",
+            Status::Done,
+            b"H 1 10\nC 1 [Ljava/lang/String;\nA 0 0 1 1 24 0\nC 2 Rev\nN 1 2 main ([Ljava/lang/String;)V\nM 1 0 1 0\n\
+             C 3 java/lang/ref/WeakReference\nA 2 0 2 3 16 0\nA 4 0 3 2 24 0\nA 6 0 4 2 24 0\nU 7 0 3 0 0 4\nF 10 2\n\
+             D 3 7\nD 4 7\nE 15 0 1\nF 16 2\nD 1 14\nD 2 13\nZ 16 0\n",
+            b"",
+        ),
+        (
+            "trace --flush 10 Two.class",
+            Status::Done,
+            b"H 1 10\nC 1 [Ljava/lang/String;\nA 0 0 1 1 24 0\nC 2 Two\nN 1 2 main ([Ljava/lang/String;)V\nM 1 0 1 0\n\
+             C 3 java/lang/ref/WeakReference\nA 2 0 2 3 16 0\nA 4 0 3 3 16 0\nA 6 0 4 2 16 0\nF 10 2\nD 3 7\nD 4 6\n\
+             E 13 0 1\nF 14 2\nD 1 12\nD 2 10\nZ 14 0\n",
+            b"",
+        ),
+    ];
+    are_answered(&rt, rt.alloc(), &listings, &rows)
+}
+
+#[test]
+fn exceptions(rt: HostRuntime) -> Result<(), Fail> {
+    let listings = [
+        ("Div.class", DIV),
+        ("Syn.class", SYN),
+        ("Use.class", USE),
+        ("Bad.class", BAD),
+        ("Mon.class", MON),
+    ];
+    let rows: [Row; 4] = [
+        (
+            "trace Div.class",
+            Status::Done,
+            b"H 1 0\nC 1 [Ljava/lang/String;\nA 0 0 1 1 24 0\nC 2 Div\nN 1 2 main ([Ljava/lang/String;)V\nM 1 0 1 0\n\
+             A 2 0 2 2 16 0\nA 3 0 3 2 16 0\nC 3 java/lang/ArithmeticException\nA 6 0 4 3 32 0\nE 9 0 1\nF 10 4\nD 1 8\n\
+             D 2 6\nD 3 6\nD 4 7\nZ 10 0\n",
+            b"",
+        ),
+        (
+            "trace Syn.class",
+            Status::Done,
+            b"H 1 0\nC 1 [Ljava/lang/String;\nA 0 0 1 1 24 0\nC 2 Syn\nN 1 2 main ([Ljava/lang/String;)V\nM 1 0 1 0\n\
+             N 2 2 f ()V\nM 2 0 2 0\nN 3 2 g ()V\nM 3 0 3 0\nN 4 2 k ()V\nM 4 0 4 0\nC 3 java/lang/NullPointerException\n\
+             A 6 0 2 3 32 0\nX 7 0 4 2\nX 8 0 3 2\nX 9 0 2 2\nE 12 0 1\nF 13 2\nD 1 11\nD 2 10\nZ 13 0\n",
+            b"",
+        ),
+        (
+            "trace Use.class Bad.class",
+            Status::Done,
+            b"H 1 0\nC 1 [Ljava/lang/String;\nA 0 0 1 1 24 0\nC 2 Use\nN 1 2 main ([Ljava/lang/String;)V\nM 1 0 1 0\n\
+             C 3 Bad\nN 2 3 <clinit> ()V\nM 3 0 2 0\nC 4 java/lang/ArithmeticException\nA 6 0 2 4 32 0\nX 7 0 2 2\n\
+             C 5 java/lang/ExceptionInInitializerError\nA 7 0 3 5 32 0\nU 7 0 3 1 0 2\n\
+             C 6 java/lang/NoClassDefFoundError\nA 10 0 4 6 32 0\nE 13 0 1\nF 14 4\nD 1 12\nD 2 8\nD 3 8\nD 4 11\n\
+             Z 14 0\n",
+            b"",
+        ),
+        (
+            "trace Mon.class",
+            Status::Done,
+            b"H 1 0\nC 1 [Ljava/lang/String;\nA 0 0 1 1 24 0\nC 2 Mon\nN 1 2 main ([Ljava/lang/String;)V\nM 1 0 1 0\n\
+             A 2 0 2 2 16 0\nC 3 java/lang/IllegalMonitorStateException\nA 3 0 3 3 32 0\nX 4 0 1 3\nF 5 3\nD 1 3\nD 2 3\n\
+             D 3 4\nZ 5 0\n",
+            b"",
+        ),
+    ];
+    are_answered(&rt, rt.alloc(), &listings, &rows)
+}
+
+#[test]
+fn one_object_too_many(rt: HostRuntime) -> Result<(), Fail> {
+    let listings = [("BigOver.class", BIG_OVER)];
+    let rows: [Row; 1] = [(
+        "trace BigOver.class",
+        Status::ObjectLimit,
+        b"H 1 0\nC 1 [Ljava/lang/String;\nA 0 0 1 1 24 0\nC 2 Big\nN 1 2 main ([Ljava/lang/String;)V\nM 1 0 1 0\n\
+             F 2 0\nZ 2 3\n",
+        b"elephant: object limit\n",
+    )];
+    are_answered(&rt, rt.alloc(), &listings, &rows)
+}
+
+#[test]
+fn an_event_without_a_meaning(rt: HostRuntime) -> Result<(), Fail> {
+    let listings = [("Ill.class", ILL)];
+    let rows: [Row; 1] = [(
+        "trace Ill.class",
+        Status::IllTyped,
+        b"H 1 0\nC 1 [Ljava/lang/String;\nA 0 0 1 1 24 0\nC 2 Ill\nN 1 2 main ([Ljava/lang/String;)V\nM 1 0 1 0\n\
+             F 1 0\nZ 1 2\n",
+        b"elephant: ill typed 0 Ill main ([Ljava/lang/String;)V 0\n",
+    )];
+    are_answered(&rt, rt.alloc(), &listings, &rows)
+}
+
+#[test]
+fn threads_in_turns(rt: HostRuntime) -> Result<(), Fail> {
+    let listings = [("Wrk.class", WRK), ("Slf.class", SLF)];
+    let rows: [Row; 3] = [
+        (
+            "trace --quantum 1 Wrk.class",
+            Status::Done,
+            b"H 1 0\nC 1 [Ljava/lang/String;\nA 0 0 1 1 24 0\nC 2 Wrk\nN 1 2 main ([Ljava/lang/String;)V\nM 1 0 1 0\n\
+             A 2 0 2 2 24 0\nN 2 2 <init> ()V\nM 4 0 2 2\nE 7 0 2\nN 3 2 run ()V\nM 9 1 3 2\nN 4 2 add ()V\nM 10 0 4 0\n\
+             C 3 java/lang/Object\nA 12 0 3 3 16 0\nU 14 0 0 0 0 3\nE 16 0 4\nM 17 1 4 0\nE 18 0 1\nA 19 1 4 3 16 0\n\
+             U 21 1 0 0 3 4\nE 22 1 4\nE 23 1 3\nF 24 3\nD 1 17\nD 2 23\nD 3 20\nZ 24 0\n",
+            b"",
+        ),
+        (
+            "trace --words 0,1,1 Wrk.class",
+            Status::Done,
+            b"H 1 0\nC 1 [Ljava/lang/String;\nA 0 0 1 1 24 0\nC 2 Wrk\nN 1 2 main ([Ljava/lang/String;)V\nM 1 0 1 0\n\
+             A 2 0 2 2 24 0\nN 2 2 <init> ()V\nM 4 0 2 2\nE 7 0 2\nN 3 2 add ()V\nM 9 0 3 0\nN 4 2 run ()V\nM 10 1 4 2\n\
+             C 3 java/lang/Object\nA 12 0 3 3 16 0\nU 15 0 0 0 0 3\nE 18 0 3\nM 19 1 3 0\nA 20 1 4 3 16 0\nE 21 0 1\n\
+             U 22 1 0 0 3 4\nE 23 1 3\nE 25 1 4\nF 26 3\nD 1 20\nD 2 25\nD 3 21\nZ 26 0\n",
+            b"",
+        ),
+        (
+            "trace --quantum 1 --limit 14 Slf.class",
+            Status::Done,
+            b"H 1 0\nC 1 [Ljava/lang/String;\nA 0 0 1 1 24 0\nC 2 Slf\nN 1 2 main ([Ljava/lang/String;)V\nM 1 0 1 0\n\
+             A 2 0 2 2 24 0\nN 2 2 <init> ()V\nM 4 0 2 2\nE 7 0 2\nN 3 2 run ()V\nM 9 1 3 2\nE 10 0 1\nF 14 1\nD 1 9\n\
+             Z 14 1\n",
+            b"",
+        ),
+    ];
+    are_answered(&rt, rt.alloc(), &listings, &rows)
+}
+
+/// Calls to the most frames, whose exception leaves each of them.
+fn deep_trace(alloc: Global) -> Result<String, Fail> {
+    let mut trace = String::from_str(
+        alloc,
+        "H 1 0\nC 1 [Ljava/lang/String;\nA 0 0 1 1 24 0\nC 2 Deep\nN 1 2 main ([Ljava/lang/String;)V\n\
+         M 1 0 1 0\nN 2 2 f ()V\n",
+    )?;
+    for event in 2..1025 {
+        trace.push_str(&format!(in alloc; "M {event} 0 2 0\n")?)?;
+    }
+    trace.push_str("C 3 java/lang/StackOverflowError\nA 1025 0 2 3 32 0\n")?;
+    for event in 1026..2049 {
+        trace.push_str(&format!(in alloc; "X {event} 0 2 2\n")?)?;
+    }
+    trace.push_str("X 2049 0 1 2\nF 2050 2\nD 1 2048\nD 2 2049\nZ 2050 0\n")?;
+    Ok(trace)
+}
+
+#[test]
+fn the_most_frames(rt: HostRuntime) -> Result<(), Fail> {
+    let alloc = rt.alloc();
+    let mut files = files_of(alloc, &[("Deep.class", DEEP)])?;
+    let trace = deep_trace(alloc)?;
+    let line = "trace Deep.class";
+    is_answered(
+        &rt,
+        alloc,
+        &mut files,
+        line,
+        Status::Done,
+        trace.as_bytes(),
+        b"",
+    )
+}

@@ -1,5 +1,0 @@
-mod Instructions
-mod HeldLemmas
-mod EventLemmas
-mod MainLemmas
-mod RunLemmas
