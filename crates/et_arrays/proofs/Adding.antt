@@ -26,11 +26,10 @@ use Rattle.et_state.specs.declared.ends.EventEnd.TheVariants as endings
 use Rattle.et_state.specs.Outcome.{Outcome}
 use Rattle.et_event.specs.Answered.{EventAnswers}
 use Rattle.et_event.specs.Heap.{leaving, arrays_made, naturals}
-use Rattle.et_event.specs.Moments.{Moment, Doing, begins, next_object, fits}
+use Rattle.et_event.specs.Moments.{Moment, moment, Doing, begins, next_object, fits}
 use Rattle.et_event.specs.Sites.{Site, natural}
 use Rattle.et_parts.proofs.Taking.{replaced, length_dropped}
 use Rattle.et_parts.proofs.Throwing.{ends_fit, ends_full}
-use Rattle.et_refs.specs.Refusals.{moment}
 use Rattle.et_refs.proofs.Leading.{moves_held}
 use Rattle.et_arrays.specs.Counts.{naturals_of}
 use Rattle.et_arrays.specs.Events.{arrays_added}

@@ -8,7 +8,4 @@ mod filling;
 pub mod laws;
 mod lengths;
 
-pub use counts::arrays_fit;
 pub use events::multi_array_event;
-pub use filling::{Filling, fill, open_array};
-pub use lengths::{are_lengths, take_lengths};

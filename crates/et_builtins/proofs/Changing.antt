@@ -25,11 +25,10 @@ use Rattle.et_state.specs.declared.ends.EventEnd.TheVariants as endings
 use Rattle.et_event.specs.Answered.{EventAnswers}
 use Rattle.et_event.specs.BuiltIns.{answering, with_referent_of, with_thread_for}
 use Rattle.et_event.specs.Calls.{arguments_of}
-use Rattle.et_event.specs.Moments.{Moment, Doing, begins, goes, slot_written, updated}
+use Rattle.et_event.specs.Moments.{Moment, moment, Doing, begins, goes, slot_written, updated}
 use Rattle.et_event.specs.Sites.{Site}
 use Rattle.et_parts.specs.Tops.{IsIn}
 use Rattle.et_parts.proofs.Taking.{replaced, moves_replaced}
-use Rattle.et_builtins.specs.Arguments.{moment}
 use Rattle.et_builtins.proofs.Standing.{length_arguments}
 
 -- THE ARGUMENTS ARE TAKEN

@@ -12,37 +12,22 @@ use Rattle.et_state.specs.Outcome.{Outcome}
 use Rattle.et_program.specs.declared.info.MethodInfo.{MethodInfo}
 use Rattle.et_event.specs.declared.errors.GuestError.TheVariants.{AbstractMethodError, OutOfMemoryError}
 use Rattle.et_event.specs.declared.rows.BuiltIn.{BuiltIn}
-use Rattle.et_event.specs.declared.rows.BuiltIn.TheVariants.{Nothing, SetMessage, SetMessageAndCause, GetMessage, GetCause, SetTarget, Start, Join, SetReferent, GetReferent, ClearReferent}
 use Rattle.et_event.specs.Answered.{EventAnswers}
-use Rattle.et_event.specs.BuiltIns.{built_in_event, built_in_of, built_in_row, done_by, starts}
+use Rattle.et_event.specs.BuiltIns.{built_in_event, built_in_of, built_in_row, done_by, is_fit, row_done, starts}
 use Rattle.et_event.specs.Checks.{ill_typed_unless, throws_unless, waits_unless}
 use Rattle.et_event.specs.Frames.{first_reference}
 use Rattle.et_event.specs.Moments.{Moment, begins, ill_typed, throws, waits}
 use Rattle.et_event.specs.Sites.{Site}
-use Rattle.et_builtins.specs.Rows.{is_fit, row_done}
 
-row_is : (e : Moment) (at : Site) (args : List Value) (o : ℕ) (b : BuiltIn) → built_in_row e at (begins e) args o b ≡ ill_typed_unless e (is_fit e o b) (row_done e at args o b)
-row_is e at args o Nothing = refl
-row_is e at args o SetMessage = refl
-row_is e at args o SetMessageAndCause = refl
-row_is e at args o GetMessage = refl
-row_is e at args o GetCause = refl
-row_is e at args o SetTarget = refl
-row_is e at args o Start = refl
-row_is e at args o Join = refl
-row_is e at args o SetReferent = refl
-row_is e at args o GetReferent = refl
-row_is e at args o ClearReferent = refl
-
-pub fit_answers : (e : Moment) (at : Site) (args : List Value) (o : ℕ) (b : BuiltIn) (end : EventEnd) (m m' : MachineState) (out out' : List Record) → is_fit e o b ≡ true
-    → EventAnswers (row_done e at args o b) end m m' out out' → EventAnswers (built_in_row e at (begins e) args o b) end m m' out out'
+pub fit_answers : (e : Moment) (at : Site) (args : List Value) (o : ℕ) (b : BuiltIn) (end : EventEnd) (m m' : MachineState) (out out' : List Record) → is_fit e (begins e) o b ≡ true
+    → EventAnswers (row_done e at (begins e) args o b) end m m' out out' → EventAnswers (built_in_row e at (begins e) args o b) end m m' out out'
 fit_answers e at args o b end m m' out out' fit a =
-    subst (λ (x : Outcome Kept). EventAnswers x end m m' out out') (sym (row_is e at args o b ∙ ap (λ (c : Bool). ill_typed_unless e c (row_done e at args o b)) fit)) a
+    subst (λ (x : Outcome Kept). EventAnswers x end m m' out out') (sym (ap (λ (c : Bool). ill_typed_unless e c (row_done e at (begins e) args o b)) fit)) a
 
-pub unfit_answers : (e : Moment) (at : Site) (args : List Value) (o : ℕ) (b : BuiltIn) (end : EventEnd) (m m' : MachineState) (out out' : List Record) → is_fit e o b ≡ false
+pub unfit_answers : (e : Moment) (at : Site) (args : List Value) (o : ℕ) (b : BuiltIn) (end : EventEnd) (m m' : MachineState) (out out' : List Record) → is_fit e (begins e) o b ≡ false
     → EventAnswers (ill_typed e) end m m' out out' → EventAnswers (built_in_row e at (begins e) args o b) end m m' out out'
 unfit_answers e at args o b end m m' out out' unfit a =
-    subst (λ (x : Outcome Kept). EventAnswers x end m m' out out') (sym (row_is e at args o b ∙ ap (λ (c : Bool). ill_typed_unless e c (row_done e at args o b)) unfit)) a
+    subst (λ (x : Outcome Kept). EventAnswers x end m m' out out') (sym (ap (λ (c : Bool). ill_typed_unless e c (row_done e at (begins e) args o b)) unfit)) a
 
 pub built_in_answers : (e : Moment) (at : Site) (args : List Value) (i : MethodInfo) (o : ℕ) (b : BuiltIn) (end : EventEnd) (m m' : MachineState) (out out' : List Record)
     → first_reference args ≡ Some o → built_in_of i ≡ Some b → EventAnswers (built_in_row e at (begins e) args o b) end m m' out out' → EventAnswers (built_in_event e at (begins e) args i) end m m' out out'

@@ -16,16 +16,15 @@ use Rattle.et_program.specs.Members.{is_subclass}
 use Rattle.et_program.specs.declared.info.Element.{Element}
 use Rattle.et_program.specs.declared.info.Element.TheVariants.{NoArray}
 use Rattle.et_event.specs.declared.rows.Operand.TheVariants as operand
-use Rattle.et_event.specs.BuiltIns.{reference_of}
+use Rattle.et_event.specs.BuiltIns.{is_fit, is_object_of, reference_of, uses_thread, uses_throwable}
 use Rattle.et_event.specs.Checks.{value_of}
 use Rattle.et_event.specs.Errors.{class_called}
 use Rattle.et_event.specs.Kinds.{or_zero}
 use Rattle.et_event.specs.Sound.{IsSoundFor, IsSoundObject, slots_by}
-use Rattle.et_event.specs.Moments.{Moment}
+use Rattle.et_event.specs.Moments.{Moment, Doing}
 use Rattle.et_event.specs.declared.rows.BuiltIn.{BuiltIn}
 use Rattle.et_event.specs.declared.rows.BuiltIn.TheVariants.{Nothing, SetMessage, SetMessageAndCause, GetMessage, GetCause, SetTarget, Start, Join, SetReferent, GetReferent, ClearReferent}
 use Rattle.et_builtins.specs.Kinds.{slots_used}
-use Rattle.et_builtins.specs.Rows.{is_fit, is_object_of, uses_thread, uses_throwable}
 use Rattle.et_sound.specs.Programs.{HasMachineSlots, KeepsFree, KeepsTarget}
 
 there_is : (x : Option ObjectState) → is_there x → x ≡ Some (found x)
@@ -111,44 +110,20 @@ thread_within o xs k e = let h : k < 0 + length xs = subst (λ (r : Option ℕ).
 
 -- THE CLASS OF THE RECEIVER
 
-pub throwable_fit : (e : Moment) (o : ℕ) (b : BuiltIn) → uses_throwable b ≡ true → is_fit e o b ≡ is_object_of e o (codes "java/lang/Throwable")
-throwable_fit e o SetMessage h = refl
-throwable_fit e o SetMessageAndCause h = refl
-throwable_fit e o GetMessage h = refl
-throwable_fit e o GetCause h = refl
-throwable_fit e o Nothing h = cc
-throwable_fit e o SetTarget h = cc
-throwable_fit e o Start h = cc
-throwable_fit e o Join h = cc
-throwable_fit e o SetReferent h = cc
-throwable_fit e o GetReferent h = cc
-throwable_fit e o ClearReferent h = cc
+abbrev by_thread : Moment → Doing → ℕ → Bool → Bool
+by_thread e d o c = if c then is_object_of e d o (codes "java/lang/Thread") else true
 
-pub thread_fit : (e : Moment) (o : ℕ) (b : BuiltIn) → uses_thread b ≡ true → is_fit e o b ≡ is_object_of e o (codes "java/lang/Thread")
-thread_fit e o SetTarget h = refl
-thread_fit e o Start h = refl
-thread_fit e o SetMessage h = cc
-thread_fit e o SetMessageAndCause h = cc
-thread_fit e o GetMessage h = cc
-thread_fit e o GetCause h = cc
-thread_fit e o Nothing h = cc
-thread_fit e o Join h = cc
-thread_fit e o SetReferent h = cc
-thread_fit e o GetReferent h = cc
-thread_fit e o ClearReferent h = cc
+pub throwable_fit : (e : Moment) (d : Doing) (o : ℕ) (b : BuiltIn) → uses_throwable b ≡ true → is_fit e d o b ≡ is_object_of e d o (codes "java/lang/Throwable")
+throwable_fit e d o b h = ap (λ (c : Bool). if c then is_object_of e d o (codes "java/lang/Throwable") else by_thread e d o (uses_thread b)) h
 
-pub other_fit : (e : Moment) (o : ℕ) (b : BuiltIn) → uses_throwable b ≡ false → uses_thread b ≡ false → is_fit e o b ≡ true
-other_fit e o SetTarget h k = cc
-other_fit e o Start h k = cc
-other_fit e o SetMessage h k = cc
-other_fit e o SetMessageAndCause h k = cc
-other_fit e o GetMessage h k = cc
-other_fit e o GetCause h k = cc
-other_fit e o Nothing h k = refl
-other_fit e o Join h k = refl
-other_fit e o SetReferent h k = refl
-other_fit e o GetReferent h k = refl
-other_fit e o ClearReferent h k = refl
+not_throwable_fit : (e : Moment) (d : Doing) (o : ℕ) (b : BuiltIn) → uses_throwable b ≡ false → is_fit e d o b ≡ by_thread e d o (uses_thread b)
+not_throwable_fit e d o b h = ap (λ (c : Bool). if c then is_object_of e d o (codes "java/lang/Throwable") else by_thread e d o (uses_thread b)) h
+
+pub thread_fit : (e : Moment) (d : Doing) (o : ℕ) (b : BuiltIn) → uses_throwable b ≡ false → uses_thread b ≡ true → is_fit e d o b ≡ is_object_of e d o (codes "java/lang/Thread")
+thread_fit e d o b h k = not_throwable_fit e d o b h ∙ ap (λ (c : Bool). by_thread e d o c) k
+
+pub other_fit : (e : Moment) (d : Doing) (o : ℕ) (b : BuiltIn) → uses_throwable b ≡ false → uses_thread b ≡ false → is_fit e d o b ≡ true
+other_fit e d o b h k = not_throwable_fit e d o b h ∙ ap (λ (c : Bool). by_thread e d o c) k
 
 pub throwable_used : (b : BuiltIn) (n : ℕ) → uses_throwable b ≡ true → 2 ≤ n → slots_used b ≤ n
 throwable_used SetMessage n h le = le

@@ -2,13 +2,7 @@
 use Rattle.std.specs.Prelude.{ℕ, List, take, reverse}
 use Rattle.et_base.specs.declared.value.Value.{Value}
 use Rattle.et_frames.specs.Threads.{FrameState}
-use Rattle.et_machine.specs.State.{MachineState, kept_of}
-use Rattle.et_program.specs.Entries.{Linked}
-use Rattle.et_event.specs.Moments.{Moment}
 
 -- the topmost entries of a frame, as arguments in their order
 abbrev pub arguments_in : FrameState → ℕ → List Value
 arguments_in f count = reverse (take count f.operands)
-
-abbrev pub moment : Linked → MachineState → ℕ → Moment
-moment p m t = record { program = p; before = kept_of m; thread = t }

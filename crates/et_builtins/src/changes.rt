@@ -13,10 +13,9 @@ ghost use Rattle.et_state.specs.declared.records.Record.{Record};
 ghost use Rattle.et_event.specs.Answered.{EventAnswers};
 ghost use Rattle.et_event.specs.BuiltIns.{answering, with_referent_of, with_thread_for};
 ghost use Rattle.et_event.specs.Calls.{arguments_of};
-ghost use Rattle.et_event.specs.Moments.{Moment, begins, goes, number_of as number_in, slot_written, updated};
+ghost use Rattle.et_event.specs.Moments.{Moment, moment, begins, goes, number_of as number_in, slot_written, updated};
 ghost use Rattle.et_event.specs.Sites.{Site};
 ghost use Rattle.et_parts.specs.Tops.{IsIn};
-ghost use Rattle.et_builtins.specs.Arguments.{moment};
 
 use et_base::{NoMemory, ObjectId, Steps, ThreadId, Value};
 use et_machine::Machine;

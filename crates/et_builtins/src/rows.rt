@@ -9,18 +9,16 @@ ghost use Rattle.et_machine.specs.Words.{HasFrame, top};
 ghost use Rattle.et_program.specs.Entries.{Linked};
 ghost use Rattle.et_state.specs.declared.records.Record.{Record};
 ghost use Rattle.et_event.specs.Answered.{EventAnswers};
-ghost use Rattle.et_event.specs.BuiltIns.{answering, built_in_row as row_of, has_ended as has_ended_in, reference_in, starts, with_thread_for};
+ghost use Rattle.et_event.specs.BuiltIns.{answering, built_in_row as row_of, has_ended as has_ended_in, is_fit as fits_row, is_object_of as is_of_class, reference_in, row_done, starts, uses_thread as is_on_thread, uses_throwable as is_on_throwable, with_thread_for};
 ghost use Rattle.et_event.specs.Calls.{arguments_of};
 ghost use Rattle.et_event.specs.Checks.{value_of, waits_unless};
 ghost use Rattle.et_event.specs.Kinds.{or_zero};
-ghost use Rattle.et_event.specs.Moments.{begins, goes};
+ghost use Rattle.et_event.specs.Moments.{moment, begins, goes};
 ghost use Rattle.et_event.specs.declared.rows.Operand.TheVariants as operand;
 ghost use Rattle.et_event.specs.Sites.{Site};
 ghost use Rattle.et_event.specs.Sound.{IsSoundFor};
 ghost use Rattle.et_sound.specs.Programs.{HasMachineSlots};
-ghost use Rattle.et_builtins.specs.Arguments.{moment};
 ghost use Rattle.et_builtins.specs.Kinds.{entries_answered, slots_used};
-ghost use Rattle.et_builtins.specs.Rows.{is_fit as fits_row, is_object_of as is_of_class, row_done, uses_thread as is_on_thread, uses_throwable as is_on_throwable};
 
 use crate::arguments::argument_at;
 use crate::changes::{Called, give, give_nothing, start, write_one, write_referent, write_two};
@@ -46,7 +44,7 @@ fn is_of<L: Ledger>(
 ) -> bool
     requires sound { IsSoundFor program.now (kept_of machine.now) }
     requires held { IsHeld machine.now.heap object }
-    ensures value { (t : ℕ) → result ≡ is_of_class (moment program.now machine.now t) object name.now }
+    ensures value { (t : ℕ) → result ≡ is_of_class (moment program.now machine.now t) (begins (moment program.now machine.now t)) object name.now }
     ensures visits { visits.new ≡ visits.old + 1 }
 {
     let class = machine.heap.class_of(object, visits);
@@ -82,7 +80,7 @@ fn is_fit<L: Ledger>(
     requires sound { IsSoundFor program.now (kept_of machine.now) }
     requires slots { HasMachineSlots program.now }
     requires held { IsHeld machine.now.heap object }
-    ensures value { (t : ℕ) → result ≡ fits_row (moment program.now machine.now t) object built_in }
+    ensures value { (t : ℕ) → result ≡ fits_row (moment program.now machine.now t) (begins (moment program.now machine.now t)) object built_in }
     ensures slots { result ≡ true → slots_used built_in ≤ length (object_at machine.now.heap object).slots }
     ensures visits { visits.new ≤ visits.old + 1 }
 {
@@ -223,7 +221,7 @@ fn fit_row_event<L: Ledger>(
     requires object { Contains (frame_roots (top machine.old.guest call.now.thread)) object }
     requires held { IsHeld machine.old.heap object }
     requires slots { slots_used built_in ≤ length (object_at machine.old.heap object).slots }
-    ensures ok { IfOk result (λ end. (at : Site) → at.next ≡ call.now.next → EventAnswers (row_done (moment program.now machine.old call.now.thread) at (arguments_of (moment program.now machine.old call.now.thread) call.now.count) object built_in) end machine.old machine.new out.old out.new) }
+    ensures ok { IfOk result (λ end. (at : Site) → at.next ≡ call.now.next → EventAnswers (row_done (moment program.now machine.old call.now.thread) at (begins (moment program.now machine.old call.now.thread)) (arguments_of (moment program.now machine.old call.now.thread) call.now.count) object built_in) end machine.old machine.new out.old out.new) }
     ensures visits { visits.new ≤ visits.old + 2 }
 {
     let value = argument_at(machine, call.thread, call.count, 1);

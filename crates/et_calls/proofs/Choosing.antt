@@ -1,5 +1,5 @@
 -- Methods that are resolved and selected have the descriptor by which they are looked for.
-use Rattle.std.proofs.Common.{◌≡◌, ℕ, suc, ◌+◌, ◌-◌, ◌≤◌, ◌&&◌, Bool, true, false, List, [], ◌∷◌, length, drop, get_or, Option, Some, None, refl, sym, ◌∙◌, ap, subst, arith}
+use Rattle.std.proofs.Common.{◌≡◌, ℕ, suc, ◌+◌, ◌-◌, ◌≤◌, Bool, true, false, List, [], ◌∷◌, length, drop, get_or, Option, Some, None, refl, sym, subst, arith}
 use Rattle.std.specs.Prelude.{Result, Ok, Err, IfOk, IfSome, if◌then◌else◌, not, ◌||◌, ◌==◌, codes}
 use Rattle.std.specs.List.{position_from, filter_map, cons_option}
 use Rattle.std.specs.Option.{option_or, ok_or}
@@ -14,7 +14,6 @@ use Rattle.et_program.specs.declared.errors.LinkError.{LinkError}
 use Rattle.et_program.specs.declared.errors.LinkError.TheVariants.{NoSuchMethod, IncompatibleClassChange, AbstractMethod}
 use Rattle.et_event.specs.Moments.{Moment, frame_of}
 use Rattle.et_event.specs.Kinds.{returned_width}
-use Rattle.et_event.specs.Sound.{returned_of}
 use Rattle.et_calls.specs.Plans.{HasRoom}
 use Rattle.et_calls.specs.Types.{returned_in}
 

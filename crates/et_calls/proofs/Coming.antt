@@ -22,16 +22,13 @@ use Rattle.et_program.specs.Entries.{Linked}
 use Rattle.et_event.specs.Frames.{behind, resumed, frames_after_return}
 use Rattle.et_event.specs.Calls.{class_done_by}
 use Rattle.et_event.specs.Initialization.{with_state}
-use Rattle.et_event.specs.Moments.{Moment, Doing, begins, with_guest}
+use Rattle.et_event.specs.Moments.{moment, Doing, begins, with_guest}
 use Rattle.et_calls.proofs.Returning.{then_thread, started_after}
 use Rattle.et_calls.specs.Ways.{Came}
 
-abbrev pub moment : Linked → ℕ → MachineState → Moment
-moment p t m = record { program = p; before = kept_of m; thread = t }
-
-pub came_begin : (p : Linked) (t : ℕ) (m m' : MachineState) → IsSound (kept_of m) → m' ≡ begun m → Came (kept_of m) (begins (moment p t m)) m'
+pub came_begin : (p : Linked) (t : ℕ) (m m' : MachineState) → IsSound (kept_of m) → m' ≡ begun m → Came (kept_of m) (begins (moment p m t)) m'
 came_begin p t m m' sound e =
-    subst (λ (z : MachineState). Came (kept_of m) (begins (moment p t m)) z) (sym e)
+    subst (λ (z : MachineState). Came (kept_of m) (begins (moment p m t)) z) (sym e)
     (record { kept = refl; way = on_begin_event m sound; made = refl })
 
 pub came_class : (s : Kept) (d : Doing) (m m' : MachineState) (c : ℕ) → Came s d m → m' ≡ guest_in m (with_class_state m.guest c Done) → Came s (with_state c Done d) m'

@@ -1,8 +1,7 @@
 -- The event in which a method with code is entered.
-use Rattle.std.proofs.Common.{◌≡◌, ℕ, zero, suc, ◌+◌, ◌-◌, ◌<◌, ◌≤◌, ◌&&◌, Bool, true, false, List, [], ◌∷◌, ◌++◌, length, set, take, reverse, replicate, Option, Some, None, refl, sym, ◌∙◌, ap, subst, arith, Contains, get_or-set_same, inl, inr, option_to_list, append-nil}
-use Rattle.std.specs.Prelude.{nat_le, nat_lt, unwrap_or, sum_by, if◌then◌else◌}
+use Rattle.std.proofs.Common.{◌≡◌, ℕ, zero, suc, ◌+◌, ◌-◌, ◌<◌, ◌≤◌, Bool, true, false, List, [], ◌∷◌, ◌++◌, length, set, take, reverse, replicate, Option, Some, None, refl, sym, ◌∙◌, ap, subst, arith, Contains, get_or-set_same, inl, inr, option_to_list, append-nil}
+use Rattle.std.specs.Prelude.{nat_le, nat_lt, unwrap_or, if◌then◌else◌}
 use Rattle.std.proofs.lemmas.List.{length-set, reverse-append}
-use Rattle.std.proofs.lemmas.List.Sums.{sum_by-cons}
 use Rattle.std.proofs.lemmas.Grind.{flat_map-append}
 use Rattle.std.proofs.lemmas.List.Elements.{Contains-append_left, Contains-append_right, Contains-append_cases}
 use Rattle.std.proofs.lemmas.Bool.Decides.{nat_tests}
@@ -10,8 +9,7 @@ use Rattle.et_base.specs.declared.value.Value.{Value}
 use Rattle.et_base.specs.declared.value.Value.TheVariants.{Unset, Ref}
 use Rattle.et_code.specs.Bodies.{Body}
 use Rattle.et_graph.proofs.Lists.{Contains-none}
-use Rattle.et_heap.specs.declared.monitor.Monitor.{Monitor}
-use Rattle.et_heap.specs.Objects.{ObjectState, Objects, IsHeld, at, found, is_there, object_at, slots_in, made_count, slot_count, most_objects, most_slots, with_monitor}
+use Rattle.et_heap.specs.Objects.{IsHeld, object_at, with_monitor}
 use Rattle.et_heap.specs.Refs.{refs_of_value, refs_of}
 use Rattle.et_frames.specs.declared.stage.Stage.TheVariants.{Plain}
 use Rattle.et_frames.specs.Roots.{frame_roots}
@@ -20,7 +18,7 @@ use Rattle.et_machine.specs.State.{Kept, MachineState, kept_of}
 use Rattle.et_machine.specs.Words.{thread_at, with_thread, top, with_top, HasFrame, begun, steps_top, steps_thread}
 use Rattle.et_machine.specs.Sound.{IsSound}
 use Rattle.et_machine.specs.Moves.{WasThere, AreHeld}
-use Rattle.et_machine.proofs.Places.{frame_pops, guest_top, top_root, refs_of-locals_with}
+use Rattle.et_machine.proofs.Places.{frame_pops, guest_top, top_root}
 use Rattle.et_machine.proofs.UnderWay.{law_guest}
 use Rattle.et_machine.proofs.Calls.{on_enter_frame}
 use Rattle.et_machine.proofs.Steps.{led_plain, root_there}
@@ -37,13 +35,14 @@ use Rattle.et_event.specs.declared.errors.GuestError.TheVariants.{StackOverflowE
 use Rattle.et_event.specs.Calls.{taking}
 use Rattle.et_event.specs.Checks.{frame_fits, throws_unless}
 use Rattle.et_event.specs.Frames.{first_reference, frame_entered, lock_slot, method_frame, receiver_of}
-use Rattle.et_event.specs.Moments.{Moment, Doing, begins, told, with_thread_state, ends as ending, fits, throws}
+use Rattle.et_event.specs.Moments.{Moment, moment, Doing, begins, told, with_thread_state, ends as ending, fits, throws}
 use Rattle.et_event.specs.Monitors.{Lock, OfObject, OfClass, entered_some, lock_for}
 use Rattle.et_monitors.specs.Locks.{HasSome, IsSomeFewTimes, entering_some, monitor_at}
 use Rattle.et_monitors.proofs.Keeping.{monitor_on_way}
+use Rattle.et_monitors.proofs.Entering.{fits_locked, commutes, entered_clock, entered_records, frame_holds}
 use Rattle.et_monitors.proofs.There.{there_later, few_later}
 use Rattle.et_parts.proofs.Throwing.{ends_fit}
-use Rattle.et_calls.proofs.Coming.{moment, came_begin}
+use Rattle.et_calls.proofs.Coming.{came_begin}
 use Rattle.et_builtins.specs.Arguments.{arguments_in}
 use Rattle.et_calls.specs.Entering.{taken_by, pushed_by}
 use Rattle.et_calls.specs.Ways.{Came}
@@ -62,12 +61,12 @@ pub operand_rooted : (f : FrameState) (o : ℕ) → Contains (refs_of f.operands
 operand_rooted f o c = Contains-append_right (refs_of f.locals) _ o (Contains-append_left (refs_of f.operands) _ o c)
 
 came_taken : (p : Linked) (t count : ℕ) (m : MachineState) → IsSound (kept_of m) → HasFrame m.guest t
-    → Came (kept_of m) (taking (moment p t m) count (begins (moment p t m))) (steps_top (begun m) t (popped count (top m.guest t)) (refs_of (take count (top m.guest t).operands)))
+    → Came (kept_of m) (taking (moment p m t) count (begins (moment p m t))) (steps_top (begun m) t (popped count (top m.guest t)) (refs_of (take count (top m.guest t).operands)))
 came_taken p t count m sound has =
     let f : FrameState = top m.guest t in
     let s : Kept = kept_of m in
     let b : MachineState = begun m in
-    let came : Came s (begins (moment p t m)) b = came_begin p t m b sound refl in
+    let came : Came s (begins (moment p m t)) b = came_begin p t m b sound refl in
     record {
       kept = refl;
       way = law_guest s (kept_of b) [] (with_top b.guest t (popped count f)) (refs_of (take count f.operands)) came.way
@@ -108,24 +107,6 @@ came_locked s e d lock m m' came has is =
       made = came.made;
     }
 
--- .. which leaves room for as many objects
-slots_set : (heap : Objects) (o : ℕ) (x : Monitor) → is_there (at heap o) → sum_by slots_in (set heap o (Some (with_monitor x (found (at heap o))))) ≡ sum_by slots_in heap
-slots_set [] o x h = refl
-slots_set (None ∷ heap) zero x h = absurd h
-slots_set (Some y ∷ heap) zero x h = refl
-slots_set (z ∷ heap) (suc o) x h =
-    sum_by-cons slots_in z (set heap o (Some (with_monitor x (found (at heap o))))) ∙ (ap (λ (n : ℕ). slots_in z + n) (slots_set heap o x h) ∙ sym (sum_by-cons slots_in z heap))
-
-pub fits_locked : (e : Moment) (lock : Option Lock) (d : Doing) (m : MachineState) → kept_of m ≡ d.state → HasSome m lock → fits (entered_some e lock d).state.heap ≡ fits d.state.heap
-fits_locked e None d m kept has = refl
-fits_locked e (Some (OfClass c)) d m kept has = refl
-fits_locked e (Some (OfObject o)) d m kept has =
-    let held : is_there (at d.state.heap o) = subst (λ (k : Kept). is_there (at k.heap o)) kept has in
-    let x : Monitor = record { owner = Some e.thread; count = (object_at d.state.heap o).monitor.count + 1 } in
-    let y : Option ObjectState = Some (with_monitor x (object_at d.state.heap o)) in
-    ap (λ (n : ℕ). nat_le (n - 1) most_objects && nat_le (slot_count (set d.state.heap o y)) most_slots) (length-set d.state.heap o y)
-    ∙ ap (λ (n : ℕ). nat_le (made_count d.state.heap) most_objects && nat_le n most_slots) (slots_set d.state.heap o x held)
-
 -- THE NEW FRAME
 
 refs_append : (xs ys : List Value) → refs_of (xs ++ ys) ≡ refs_of xs ++ refs_of ys
@@ -138,15 +119,6 @@ refs_reversed (x ∷ xs) o c =
     elim (Contains-append_cases (refs_of (reverse xs)) (refs_of (x ∷ [])) o (subst (λ (os : List ℕ). Contains os o) (refs_append (reverse xs) (x ∷ [])) c')) [
       | inl d ↦ Contains-append_right (refs_of_value x) (refs_of xs) o (refs_reversed xs o d)
       | inr d ↦ Contains-append_left (refs_of_value x) (refs_of xs) o (subst (λ (os : List ℕ). Contains os o) (append-nil (refs_of_value x)) d)
-    ]
-
--- what a new frame holds: its arguments and its lock
-frame_holds : (p : Linked) (method : ℕ) (body : Body) (vs : List Value) (H : ℕ → Type 0) → ((o : ℕ) → Contains (refs_of vs) o → H o) → ((o : ℕ) → Contains (option_to_list (method_frame p method body vs).lock) o → H o)
-    → (o : ℕ) → Contains (frame_roots (method_frame p method body vs)) o → H o
-frame_holds p method body vs H held locked o c =
-    elim (Contains-append_cases (refs_of (locals_with body.max_locals vs)) _ o c) [
-      | inl d ↦ held o (subst (λ (os : List ℕ). Contains os o) (refs_of-locals_with body.max_locals vs ∙ append-nil (refs_of vs)) d)
-      | inr d ↦ locked o d
     ]
 
 first_in : (vs : List Value) (o : ℕ) → Contains (option_to_list (first_reference vs)) o → Contains (refs_of vs) o
@@ -172,23 +144,6 @@ new_frame_held p t count method body m sound has =
 
 -- ALL OF IT
 
-commutes : (e : Moment) (lock : Option Lock) (f : FrameState) (d : Doing)
-    → entered_some e lock (with_thread_state e (entered_by f (thread_at d.state.guest e.thread)) d)
-    ≡ with_thread_state e (entered_by f (thread_at (entered_some e lock d).state.guest e.thread)) (entered_some e lock d)
-commutes e None f d = refl
-commutes e (Some (OfObject o)) f d = refl
-commutes e (Some (OfClass c)) f d = refl
-
-pub entered_clock : (e : Moment) (lock : Option Lock) (d : Doing) → (entered_some e lock d).state.guest.clock ≡ d.state.guest.clock
-entered_clock e None d = refl
-entered_clock e (Some (OfObject o)) d = refl
-entered_clock e (Some (OfClass c)) d = refl
-
-pub entered_records : (e : Moment) (lock : Option Lock) (d : Doing) → (entered_some e lock d).records ≡ d.records
-entered_records e None d = refl
-entered_records e (Some (OfObject o)) d = refl
-entered_records e (Some (OfClass c)) d = refl
-
 pub started_taken : (m : MachineState) (t count : ℕ) → HasFrame m.guest t → t < length (taken_by m t count).guest.threads
 started_taken m t count has = subst (λ (n : ℕ). t < n) (sym (length-set m.guest.threads t (with_top_of (thread_at m.guest t) (popped count (top m.guest t))))) has.thread
 
@@ -196,9 +151,9 @@ pub method_entered : (p : Linked) (t count method : ℕ) (body : Body) (lock : O
     → lock ≡ lock_for (method_at p method) (receiver_of p method (arguments_in (top m.guest t) count)) → HasSome m lock
     → m' ≡ entering_some t lock (pushed_by m t count (method_frame p method body (arguments_in (top m.guest t) count)))
     → out' ≡ out ++ Enter (m.guest.clock + 1) t method (unwrap_or (receiver_of p method (arguments_in (top m.guest t) count)) 0) ∷ []
-    → EventAnswers (ending (frame_entered (moment p t m) method body (arguments_in (top m.guest t) count) (taking (moment p t m) count (begins (moment p t m))))) ends.Done m m' out out'
+    → EventAnswers (ending (frame_entered (moment p m t) method body (arguments_in (top m.guest t) count) (taking (moment p m t) count (begins (moment p m t))))) ends.Done m m' out out'
 method_entered p t count method body lock m m' out out' sound has room held there is told_out =
-    let e : Moment = moment p t m in
+    let e : Moment = moment p m t in
     let s : Kept = kept_of m in
     let vs : List Value = arguments_in (top m.guest t) count in
     let f : FrameState = method_frame p method body vs in
@@ -288,13 +243,13 @@ few_test : (n : ℕ) → n < most_frames → nat_lt n most_frames ≡ true
 few_test n lt = grind (arith, nat_tests)
 
 pub full_answers : (p : Linked) (t : ℕ) (go : Outcome Kept) (m m' : MachineState) (out out' : List Record) (end : EventEnd) → most_frames ≤ length (thread_at m.guest t).frames
-    → EventAnswers (throws (moment p t m) StackOverflowError (begins (moment p t m))) end m m' out out' → EventAnswers (frame_fits (moment p t m) (begins (moment p t m)) go) end m m' out out'
+    → EventAnswers (throws (moment p m t) StackOverflowError (begins (moment p m t))) end m m' out out' → EventAnswers (frame_fits (moment p m t) (begins (moment p m t)) go) end m m' out out'
 full_answers p t go m m' out out' end le a =
     subst (λ (o : Outcome Kept). EventAnswers o end m m' out out')
-    (sym (ap (λ (b : Bool). throws_unless (moment p t m) (begins (moment p t m)) StackOverflowError b go) (full_test (length (thread_at m.guest t).frames) le))) a
+    (sym (ap (λ (b : Bool). throws_unless (moment p m t) (begins (moment p m t)) StackOverflowError b go) (full_test (length (thread_at m.guest t).frames) le))) a
 
 pub few_answers : (p : Linked) (t : ℕ) (go : Outcome Kept) (m m' : MachineState) (out out' : List Record) (end : EventEnd) → length (thread_at m.guest t).frames < most_frames
-    → EventAnswers go end m m' out out' → EventAnswers (frame_fits (moment p t m) (begins (moment p t m)) go) end m m' out out'
+    → EventAnswers go end m m' out out' → EventAnswers (frame_fits (moment p m t) (begins (moment p m t)) go) end m m' out out'
 few_answers p t go m m' out out' end lt a =
     subst (λ (o : Outcome Kept). EventAnswers o end m m' out out')
-    (sym (ap (λ (b : Bool). throws_unless (moment p t m) (begins (moment p t m)) StackOverflowError b go) (few_test (length (thread_at m.guest t).frames) lt))) a
+    (sym (ap (λ (b : Bool). throws_unless (moment p m t) (begins (moment p m t)) StackOverflowError b go) (few_test (length (thread_at m.guest t).frames) lt))) a

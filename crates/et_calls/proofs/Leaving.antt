@@ -29,12 +29,12 @@ use Rattle.et_event.specs.Answered.{EventAnswers}
 use Rattle.et_event.specs.Calls.{class_done_by, frame_returned, return, returned_by}
 use Rattle.et_event.specs.Checks.{throws_unless}
 use Rattle.et_event.specs.Kinds.{returned_width}
-use Rattle.et_event.specs.Moments.{Moment, Doing, begins, later, told, with_thread_state, goes, ill_typed, throws}
+use Rattle.et_event.specs.Moments.{Moment, moment, Doing, begins, later, told, with_thread_state, goes, ill_typed, throws}
 use Rattle.et_event.specs.Monitors.{Lock, OfObject, OfClass, lock_in, left_once, left_some, owns_some}
 use Rattle.et_event.specs.Sites.{method_of}
 use Rattle.et_event.specs.Sound.{IsSoundFor, AreSoundFrames, IsAbove, IsStaged}
 use Rattle.et_event.specs.declared.rows.Operand.{Operand}
-use Rattle.et_calls.proofs.Coming.{moment, after_return, came_after_return}
+use Rattle.et_calls.proofs.Coming.{after_return, came_after_return}
 use Rattle.et_calls.proofs.Values.{by_values, entries_are_in, return_is, width_returned}
 use Rattle.et_calls.specs.Returned.{FitsBelow, IsValueIn, entries_returned, returned_values, returning}
 use Rattle.et_calls.specs.Types.{returned_in}
@@ -61,10 +61,10 @@ abbrev left_by : Moment → List Value → Doing → Doing
 left_by e values x =
     told (Exit x.state.guest.clock e.thread (unwrap_or (top e.before.guest e.thread).method 0)) (with_thread_state e (after_return e.program values (thread_at e.before.guest e.thread)) x)
 
-left_answers : (p : Linked) (t : ℕ) (values : List Value) (m m' : MachineState) (out out' : List Record) (x : Doing) → Beside (begins (moment p t m)) x
-    → Came (kept_of m) (with_thread_state (moment p t m) (after_return p values (thread_at m.guest t)) x) m'
+left_answers : (p : Linked) (t : ℕ) (values : List Value) (m m' : MachineState) (out out' : List Record) (x : Doing) → Beside (begins (moment p m t)) x
+    → Came (kept_of m) (with_thread_state (moment p m t) (after_return p values (thread_at m.guest t)) x) m'
     → out' ≡ out ++ Exit (m.guest.clock + 1) t (unwrap_or (top m.guest t).method 0) ∷ []
-    → EventAnswers (goes (left_by (moment p t m) values x)) ends.Done m m' out out'
+    → EventAnswers (goes (left_by (moment p m t) values x)) ends.Done m m' out out'
 left_answers p t values m m' out out' x beside came e = (
   led_plain (kept_of m) _ m' came.way came.made came.kept,
   e ∙ (ap (λ (n : ℕ). out ++ Exit n t (unwrap_or (top m.guest t).method 0) ∷ []) (sym beside.clock)
@@ -73,16 +73,16 @@ left_answers p t values m m' out out' x beside came e = (
 
 pub frame_left : (p : Linked) (t : ℕ) (value : Option Value) (lock : Option Lock) (m m₂ m₃ : MachineState) (out out' : List Record) → HasFrame m.guest t → IsValueIn (top m.guest t) value
     → lock_in (top m.guest t).stage (method_of p (top m.guest t)) (top m.guest t).lock ≡ lock
-    → Came (kept_of m) (class_done_by (top m.guest t).stage (left_some lock (begins (moment p t m)))) m₂ → m₂.guest.threads ≡ m.guest.threads
+    → Came (kept_of m) (class_done_by (top m.guest t).stage (left_some lock (begins (moment p m t)))) m₂ → m₂.guest.threads ≡ m.guest.threads
     → m₃ ≡ steps_thread m₂ t (after_return p (entries_returned value) (thread_at m₂.guest t)) (frame_roots (top m₂.guest t))
     → out' ≡ out ++ Exit (m.guest.clock + 1) t (unwrap_or (top m.guest t).method 0) ∷ []
-    → EventAnswers (goes (frame_returned (moment p t m) (entries_returned value) (begins (moment p t m)))) ends.Done m m₃ out out'
+    → EventAnswers (goes (frame_returned (moment p m t) (entries_returned value) (begins (moment p m t)))) ends.Done m m₃ out out'
 frame_left p t value lock m m₂ m₃ out out' has there held came same e o =
-    let d : Doing = begins (moment p t m) in
+    let d : Doing = begins (moment p m t) in
     let stage : Stage = (top m.guest t).stage in
     let x : Doing = class_done_by stage (left_some lock d) in
     let came₃ = came_after_return (kept_of m) x p t (entries_returned value) m₂ m₃ came has same (entries_are_in (top m.guest t) value there) e in
-    subst (λ (l : Option Lock). EventAnswers (goes (left_by (moment p t m) (entries_returned value) (class_done_by stage (left_some l d)))) ends.Done m m₃ out out') (sym held)
+    subst (λ (l : Option Lock). EventAnswers (goes (left_by (moment p m t) (entries_returned value) (class_done_by stage (left_some l d)))) ends.Done m m₃ out out') (sym held)
     (left_answers p t (entries_returned value) m m₃ out out' x (done_beside stage d (left_some lock d) (left_beside lock d)) came₃ o)
 
 -- THE MONITOR THAT IS LEFT
@@ -127,7 +127,7 @@ begun_left e m m₁ m₂ lock before sound has e₁ e₂ =
       lost = ap (λ (z : MachineState). z.lost) is ∙ left_lost (begun m) lock;
     }
 
-owned_is : (p : Linked) (t : ℕ) (m : MachineState) (lock : Option Lock) → owns_some (moment p t m) (begins (moment p t m)) lock ≡ owns_some_at t lock m
+owned_is : (p : Linked) (t : ℕ) (m : MachineState) (lock : Option Lock) → owns_some (moment p m t) (begins (moment p m t)) lock ≡ owns_some_at t lock m
 owned_is p t m None = refl
 owned_is p t m (Some (OfObject o)) = refl
 owned_is p t m (Some (OfClass c)) = refl
@@ -138,36 +138,36 @@ abbrev returns_by : Moment → Option Value → Bool → Outcome Kept
 returns_by e value owned = throws_unless e (begins e) IllegalMonitorStateException owned (goes (frame_returned e (entries_returned value) (begins e)))
 
 returning_is : (p : Linked) (t : ℕ) (value : Option Value) (m : MachineState) (lock : Option Lock) (b : Bool) → lock ≡ lock_in (top m.guest t).stage (method_of p (top m.guest t)) (top m.guest t).lock
-    → owns_some_at t lock m ≡ b → returning (moment p t m) value ≡ returns_by (moment p t m) value b
+    → owns_some_at t lock m ≡ b → returning (moment p m t) value ≡ returns_by (moment p m t) value b
 returning_is p t value m lock b held owned =
-    ap (λ (l : Option Lock). returns_by (moment p t m) value (owns_some (moment p t m) (begins (moment p t m)) l)) (sym held)
-    ∙ ap (λ (c : Bool). returns_by (moment p t m) value c) (owned_is p t m lock ∙ owned)
+    ap (λ (l : Option Lock). returns_by (moment p m t) value (owns_some (moment p m t) (begins (moment p m t)) l)) (sym held)
+    ∙ ap (λ (c : Bool). returns_by (moment p m t) value c) (owned_is p t m lock ∙ owned)
 
 pub owned_answers : (p : Linked) (t : ℕ) (value : Option Value) (m m' : MachineState) (out out' : List Record) (end : EventEnd) (lock : Option Lock) → lock ≡ lock_in (top m.guest t).stage (method_of p (top m.guest t)) (top m.guest t).lock
-    → owns_some_at t lock m ≡ true → EventAnswers (goes (frame_returned (moment p t m) (entries_returned value) (begins (moment p t m)))) end m m' out out'
-    → EventAnswers (returning (moment p t m) value) end m m' out out'
+    → owns_some_at t lock m ≡ true → EventAnswers (goes (frame_returned (moment p m t) (entries_returned value) (begins (moment p m t)))) end m m' out out'
+    → EventAnswers (returning (moment p m t) value) end m m' out out'
 owned_answers p t value m m' out out' end lock held owned a =
     subst (λ (o : Outcome Kept). EventAnswers o end m m' out out') (sym (returning_is p t value m lock true held owned)) a
 
 pub unowned_answers : (p : Linked) (t : ℕ) (value : Option Value) (m m' : MachineState) (out out' : List Record) (end : EventEnd) (lock : Option Lock) → lock ≡ lock_in (top m.guest t).stage (method_of p (top m.guest t)) (top m.guest t).lock
-    → owns_some_at t lock m ≡ false → EventAnswers (throws (moment p t m) IllegalMonitorStateException (begins (moment p t m))) end m m' out out'
-    → EventAnswers (returning (moment p t m) value) end m m' out out'
+    → owns_some_at t lock m ≡ false → EventAnswers (throws (moment p m t) IllegalMonitorStateException (begins (moment p m t))) end m m' out out'
+    → EventAnswers (returning (moment p m t) value) end m m' out out'
 unowned_answers p t value m m' out out' end lock held owned a =
     subst (λ (o : Outcome Kept). EventAnswers o end m m' out out') (sym (returning_is p t value m lock false held owned)) a
 
 -- the values that are returned, and where they aren't there
 
 pub returned_answers : (p : Linked) (t : ℕ) (kind : Option Operand) (value : Option Value) (m m' : MachineState) (out out' : List Record) (end : EventEnd)
-    → returned_values kind (returned_by (moment p t m)) (top m.guest t).operands ≡ Some value → EventAnswers (returning (moment p t m) value) end m m' out out'
-    → EventAnswers (return (moment p t m) kind) end m m' out out'
+    → returned_values kind (returned_by (moment p m t)) (top m.guest t).operands ≡ Some value → EventAnswers (returning (moment p m t) value) end m m' out out'
+    → EventAnswers (return (moment p m t) kind) end m m' out out'
 returned_answers p t kind value m m' out out' end e a =
-    subst (λ (o : Outcome Kept). EventAnswers o end m m' out out') (sym (return_is (moment p t m) kind ∙ ap (λ (v : Option (Option Value)). by_values (ill_typed (moment p t m)) (returning (moment p t m)) v) e)) a
+    subst (λ (o : Outcome Kept). EventAnswers o end m m' out out') (sym (return_is (moment p m t) kind ∙ ap (λ (v : Option (Option Value)). by_values (ill_typed (moment p m t)) (returning (moment p m t)) v) e)) a
 
 pub refused_answers : (p : Linked) (t : ℕ) (kind : Option Operand) (m : MachineState) (out : List Record) (end : EventEnd)
-    → returned_values kind (returned_by (moment p t m)) (top m.guest t).operands ≡ None → end ≡ ill_typed_end m t
-    → EventAnswers (return (moment p t m) kind) end m m out out
+    → returned_values kind (returned_by (moment p m t)) (top m.guest t).operands ≡ None → end ≡ ill_typed_end m t
+    → EventAnswers (return (moment p m t) kind) end m m out out
 refused_answers p t kind m out end e is =
-    subst (λ (o : Outcome Kept). EventAnswers o end m m out out) (sym (return_is (moment p t m) kind ∙ ap (λ (v : Option (Option Value)). by_values (ill_typed (moment p t m)) (returning (moment p t m)) v) e))
+    subst (λ (o : Outcome Kept). EventAnswers o end m m out out) (sym (return_is (moment p m t) kind ∙ ap (λ (v : Option (Option Value)). by_values (ill_typed (moment p m t)) (returning (moment p m t)) v) e))
     (ill_typed_answers p t m m out end refl is)
 
 -- WHAT SOUND STATES GIVE

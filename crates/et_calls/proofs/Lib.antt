@@ -2,7 +2,6 @@ mod Walking
 mod Returning
 mod Values
 mod Coming
-mod Sizes
 mod Leaving
 mod Passing
 mod Fitting

@@ -1,14 +1,9 @@
 -- The receiver of a call, and what is selected.
-use Rattle.std.proofs.Common.{◌≡◌, ℕ, ◌<◌, Bool, true, false, List, [], ◌∷◌, length, get_or, Option, Some, None, refl, ◌∙◌, ap}
+use Rattle.std.proofs.Common.{◌≡◌, ℕ, ◌<◌, Bool, true, false, List, length, Option, Some, None, refl, ◌∙◌, ap}
 use Rattle.std.specs.Prelude.{if◌then◌else◌}
 use Rattle.et_base.specs.declared.value.Value.{Value}
-use Rattle.et_base.specs.declared.value.Value.TheVariants.{Unset, Ref}
-use Rattle.et_graph.proofs.Lists.{Contains-here}
 use Rattle.et_heap.specs.Objects.{ObjectState, IsHeld, at, found, is_there, object_at}
 use Rattle.et_machine.specs.State.{Kept, MachineState, kept_of}
-use Rattle.et_machine.specs.Sound.{IsSound}
-use Rattle.et_machine.specs.Words.{HasFrame, top}
-use Rattle.et_machine.proofs.Places.{top_root}
 use Rattle.et_program.specs.Entries.{Linked, is_static}
 use Rattle.et_program.specs.Resolution.{resolve_class, resolve_method, select, select_special}
 use Rattle.et_event.specs.declared.errors.GuestError.TheVariants.{IncompatibleClassChangeError, NullPointerException}
@@ -23,7 +18,6 @@ use Rattle.et_event.specs.Frames.{first_reference}
 use Rattle.et_event.specs.Moments.{Moment, begins, class_of, ill_typed, throws}
 use Rattle.et_event.specs.Sites.{Member, Site, member_of, names_interface}
 use Rattle.et_event.specs.Sound.{IsSoundFor}
-use Rattle.et_parts.specs.Tops.{IsIn}
 
 there_is : (x : Option ObjectState) → is_there x → x ≡ Some (found x)
 there_is None h = absurd h

@@ -4,51 +4,24 @@ ghost use Rattle.et_code.specs.Decoding.{instruction_at};
 ghost use Rattle.et_machine.specs.Words.{HasFrame, top, steps_top};
 ghost use Rattle.et_program.specs.Entries.{method_at};
 ghost use Rattle.et_event.specs.Frames.{behind as behind_of, behind_or};
-ghost use Rattle.et_event.specs.Sites.{body_of, method_of as method_in};
-ghost use Rattle.et_place.specs.Places.{Runs};
+ghost use Rattle.et_event.specs.Sites.{body_of};
 
 use et_base::{MethodId, ThreadId, Value};
-use et_code::{Code, decode};
+use et_code::decode;
 use et_machine::Machine;
 use et_parts::give;
-use et_program::{MethodInfo, Program};
+use et_place::code_of;
+use et_program::Program;
 
-/// The method that a thread runs.
-pub(crate) fn method_of<'a>(
-    program: &'a Program,
-    machine: &Machine,
-    thread: ThreadId,
-) -> &'a MethodInfo
-    requires frame { HasFrame machine.now.guest thread }
-    requires runs { Runs program.now (top machine.now.guest thread) }
-    ensures method { result.now ≡ method_in program.now (top machine.now.guest thread) }
-    ensures class { result.now.class < length program.now.classes }
-{
-    let method = machine.frame_method(thread).unwrap_or(MethodId::new(0));
-    program.method(method)
-}
-
-/// The bytes of code, of which there are fewer than 65,536 (JVMS 4.7.3).
-fn bytes_of(code: &Code) -> &[u8]
-    ensures bytes { result.now ≡ code.now.code }
-    ensures few { length result.now < 2 ^ 16 }
-{
-    et_code::laws::kept_code();
-    code.raw().code.as_slice()
-}
-
-/// The code of a method; there is none where it is abstract, native or built in.
-fn code_of(program: &Program, method: MethodId) -> &[u8]
+/// The code of the method of this number; it is empty where there is no such method, and where that has none.
+fn code_at(program: &Program, method: MethodId) -> &[u8]
     ensures bytes { result.now ≡ (body_of (method_at program.now method).code).code }
     ensures few { length result.now < 2 ^ 16 }
 {
     if method.number() >= program.method_count() {
         return b"";
     }
-    match &program.method(method).code {
-        Some(code) => bytes_of(code),
-        None => b"",
-    }
+    code_of(program.method(method))
 }
 
 /// The pc behind the instruction at a pc; where there is none, that pc.
@@ -72,7 +45,7 @@ fn behind(program: &Program, machine: &Machine, thread: ThreadId) -> u32
     ensures { result ≡ behind_of program.now (top machine.now.guest thread) }
 {
     let method = machine.frame_method(thread).unwrap_or(MethodId::new(0));
-    behind_at(code_of(program, method), machine.pc(thread))
+    behind_at(code_at(program, method), machine.pc(thread))
 }
 
 /// The frame gets what a call returns, and goes on behind it.

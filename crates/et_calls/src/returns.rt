@@ -20,7 +20,7 @@ ghost use Rattle.et_calls.specs.Returned.{FitsBelow, IsValueIn, entries_returned
 ghost use Rattle.et_calls.specs.Stages.{IsClassIn};
 ghost use Rattle.et_calls.specs.Ways.{Came};
 
-use crate::frames::{method_of, resume};
+use crate::frames::resume;
 use crate::returned::returned_values;
 use et_base::{MethodId, NoMemory, Steps, ThreadId, Value};
 use et_builtins::operands_are_few;
@@ -29,6 +29,7 @@ use et_frames::Stage;
 use et_machine::{ClassState, Machine};
 use et_monitors::{Lock, leave_some, lock_in, owns_some};
 use et_parts::{ill_typed, throw_error};
+use et_place::method_of;
 use et_program::{MethodInfo, Program};
 use et_state::{EventEnd, Lines, Record};
 use std::sync::ledger::Ledger;

@@ -23,12 +23,11 @@ use Rattle.et_event.specs.Answered.{EventAnswers}
 use Rattle.et_event.specs.Calls.{enters_first, entering, entry_arguments}
 use Rattle.et_event.specs.Checks.{frame_fits, throws_unless, waits_unless}
 use Rattle.et_event.specs.Frames.{by_code, enters_code, first_reference, frame_entered, receiver_of}
-use Rattle.et_event.specs.Moments.{Moment, Doing, begins, ends as ending, throws, waits}
+use Rattle.et_event.specs.Moments.{Moment, moment, Doing, begins, ends as ending, throws, waits}
 use Rattle.et_event.specs.Sound.{IsSoundFor}
 use Rattle.et_event.specs.Monitors.{Lock, OfObject, OfClass, lock_for, may_enter_some}
 use Rattle.et_monitors.specs.Locks.{HasSome, may_enter_some_at}
 use Rattle.et_monitors.proofs.There.{method_lock_there}
-use Rattle.et_initialize.specs.Under.{moment}
 use Rattle.et_entry.specs.Fresh.{IsArgument, IsFresh}
 
 -- an answer to the same outcome

@@ -1,28 +1,23 @@
 -- A thread without a frame enters a method, once the classes that this needs are initialized: a legal step.
-use Rattle.std.proofs.Common.{◌≡◌, ℕ, zero, suc, ◌+◌, ◌-◌, ◌<◌, ◌≤◌, ◌&&◌, Bool, true, false, List, [], ◌∷◌, ◌++◌, length, get_or, set, Option, Some, None, refl, sym, ◌∙◌, ap, subst, arith, inl, inr, Contains, option_to_list, append_assoc, append-nil}
-use Rattle.std.specs.Prelude.{nat_le, unwrap_or, sum_by, if◌then◌else◌}
+use Rattle.std.proofs.Common.{◌≡◌, ℕ, ◌+◌, ◌-◌, Bool, true, false, List, [], ◌∷◌, ◌++◌, length, get_or, set, Option, Some, None, refl, sym, ◌∙◌, ap, subst, arith, inl, inr, Contains, option_to_list, append_assoc}
+use Rattle.std.specs.Prelude.{unwrap_or, if◌then◌else◌}
 use Rattle.std.proofs.lemmas.List.{length-set}
-use Rattle.std.proofs.lemmas.List.Sums.{sum_by-cons}
-use Rattle.std.proofs.lemmas.List.Elements.{Contains-append_cases}
 use Rattle.et_base.specs.declared.value.Value.{Value}
 use Rattle.et_class.specs.Names.{has as has_flag}
 use Rattle.et_class.specs.declared.flags.TheConstants.{SYNCHRONIZED}
 use Rattle.et_code.specs.Bodies.{Body}
 use Rattle.et_graph.proofs.Lists.{Contains-none, Contains-cons}
-use Rattle.et_heap.specs.declared.monitor.Monitor.{Monitor}
-use Rattle.et_heap.specs.Objects.{ObjectState, Objects, IsHeld, at, found, is_there, object_at, slots_in, made_count, slot_count, most_objects, most_slots, with_monitor}
+use Rattle.et_heap.specs.Objects.{IsHeld, object_at, with_monitor}
 use Rattle.et_heap.specs.Refs.{refs_of}
 use Rattle.et_frames.specs.Roots.{frame_roots}
-use Rattle.et_frames.specs.Threads.{FrameState, ThreadState, no_thread, entered_by, ended_roots, locals_with}
+use Rattle.et_frames.specs.Threads.{FrameState, ThreadState, no_thread, entered_by, ended_roots}
 use Rattle.et_machine.specs.State.{Kept, MachineState, kept_of}
 use Rattle.et_machine.specs.Words.{thread_at}
-use Rattle.et_machine.specs.Roots.{roots_of, numbers_from}
 use Rattle.et_machine.specs.Interned.{objects_of}
 use Rattle.et_machine.specs.Moves.{IsOnWay, Led}
-use Rattle.et_machine.proofs.Places.{ended_root, refs_of-locals_with, string_root}
-use Rattle.et_machine.proofs.UnderWay.{root_is_reached}
+use Rattle.et_machine.proofs.Places.{ended_root, string_root}
 use Rattle.et_machine.proofs.Calls.{on_enter_frame, on_set_entered}
-use Rattle.et_machine.proofs.Steps.{led, root_there}
+use Rattle.et_machine.proofs.Steps.{root_there}
 use Rattle.et_program.specs.Entries.{Linked, method_at, is_static}
 use Rattle.et_state.specs.declared.records.Record.{Record}
 use Rattle.et_state.specs.declared.records.Record.TheVariants.{Enter}
@@ -32,14 +27,16 @@ use Rattle.et_state.specs.Outcome.{Outcome}
 use Rattle.et_event.specs.Answered.{EventAnswers}
 use Rattle.et_event.specs.Calls.{entering, entry_arguments}
 use Rattle.et_event.specs.Frames.{first_reference, frame_entered, method_frame, receiver_of}
-use Rattle.et_event.specs.Moments.{Moment, Doing, told, with_thread_state, ends as ending, fits}
+use Rattle.et_event.specs.Moments.{Moment, moment, Doing, told, with_thread_state, ends as ending, fits}
 use Rattle.et_event.specs.Monitors.{Lock, OfObject, OfClass, entered_some, lock_for}
 use Rattle.et_monitors.specs.Locks.{HasSome, entering_some, monitor_at}
 use Rattle.et_monitors.proofs.Keeping.{monitor_on_way, entered_is}
+use Rattle.et_monitors.proofs.Entering.{fits_locked, commutes, entered_clock, entered_records, frame_holds}
 use Rattle.et_monitors.proofs.There.{there_later}
 use Rattle.et_parts.proofs.Throwing.{ends_fit, ends_full}
-use Rattle.et_initialize.specs.Under.{moment, HasMadeStrings}
-use Rattle.et_entry.specs.Entering.{base, first_pushed, given_up}
+use Rattle.et_initialize.specs.Under.{HasMadeStrings, base}
+use Rattle.et_initialize.proofs.Beginning.{strings_led}
+use Rattle.et_entry.specs.Entering.{first_pushed, given_up}
 use Rattle.et_entry.specs.Fresh.{IsFresh, IsArgument}
 use Rattle.et_entry.proofs.Fresh.{fresh_on}
 use Rattle.et_entry.proofs.Thrown.{entry_root, started_given_up}
@@ -50,33 +47,7 @@ pub record HasInitialized (m : MachineState) (d : Doing) : Type 0 where
   pub threads : d.state.guest.threads ≡ m.guest.threads
   pub monitors : d.state.guest.class_monitors ≡ m.guest.class_monitors
 
--- HOW AN EVENT ENDS each of whose new objects is in a root place
-
-in_range : (k n o : ℕ) → Contains (numbers_from k n) o → (k ≤ o) × (o < k + n)
-in_range k zero o c = absurd (Contains-none o c)
-in_range k (suc n) o c = elim (Contains-cons k (numbers_from (k + 1) n) o c) [
-  | inl e ↦ (omega arith, omega arith)
-  | inr d ↦ let h = in_range (k + 1) n o d in let low = h.0 in let high = h.1 in (omega arith, omega arith)
-]
-
-strings_led : (s k : Kept) (m : MachineState) → IsOnWay s m → kept_of m ≡ k → length s.heap ≤ length k.heap → ((o : ℕ) → length s.heap ≤ o → o < length k.heap → Contains (roots_of k.guest) o) → Led s k m
-strings_led s k m w e grown roots = led s k m w (λ o c.
-    let range = in_range (length s.heap) (length (kept_of m).heap - length s.heap) o c in
-    let low = range.0 in
-    let high = range.1 in
-    let same : length (kept_of m).heap ≡ length k.heap = ap (λ (x : Kept). length x.heap) e in
-    let at : Contains (roots_of k.guest) o = roots o low (omega arith) in
-    root_is_reached (kept_of m) o (subst (λ (x : Kept). Contains (roots_of x.guest) o) (sym e) at)) e
-
 -- WHAT THE NEW FRAME HOLDS: its arguments and its lock
-
-frame_holds : (p : Linked) (method : ℕ) (body : Body) (vs : List Value) (H : ℕ → Type 0) → ((o : ℕ) → Contains (refs_of vs) o → H o) → ((o : ℕ) → Contains (option_to_list (method_frame p method body vs).lock) o → H o)
-    → (o : ℕ) → Contains (frame_roots (method_frame p method body vs)) o → H o
-frame_holds p method body vs H held locked o c =
-    elim (Contains-append_cases (refs_of (locals_with body.max_locals vs)) _ o c) [
-      | inl d ↦ held o (subst (λ (os : List ℕ). Contains os o) (refs_of-locals_with body.max_locals vs ∙ append-nil (refs_of vs)) d)
-      | inr d ↦ locked o d
-    ]
 
 first_in : (argument : Option ℕ) (o : ℕ) → Contains (option_to_list (first_reference (entry_arguments argument))) o → argument ≡ Some o
 first_in None o c = absurd (Contains-none o c)
@@ -118,41 +89,6 @@ locked_length : (t : ℕ) (lock : Option Lock) (m : MachineState) → length (en
 locked_length t None m = refl
 locked_length t (Some (OfObject o)) m = length-set m.heap o (Some (with_monitor (record { owner = Some t; count = (monitor_at m (OfObject o)).count + 1 }) (object_at m.heap o)))
 locked_length t (Some (OfClass c)) m = refl
-
--- .. which leaves room for as many objects
-slots_set : (heap : Objects) (o : ℕ) (x : Monitor) → is_there (at heap o) → sum_by slots_in (set heap o (Some (with_monitor x (found (at heap o))))) ≡ sum_by slots_in heap
-slots_set [] o x h = refl
-slots_set (None ∷ heap) zero x h = absurd h
-slots_set (Some y ∷ heap) zero x h = refl
-slots_set (z ∷ heap) (suc o) x h =
-    sum_by-cons slots_in z (set heap o (Some (with_monitor x (found (at heap o))))) ∙ (ap (λ (n : ℕ). slots_in z + n) (slots_set heap o x h) ∙ sym (sum_by-cons slots_in z heap))
-
-fits_locked : (e : Moment) (lock : Option Lock) (d : Doing) (m : MachineState) → kept_of m ≡ d.state → HasSome m lock → fits (entered_some e lock d).state.heap ≡ fits d.state.heap
-fits_locked e None d m kept has = refl
-fits_locked e (Some (OfClass c)) d m kept has = refl
-fits_locked e (Some (OfObject o)) d m kept has =
-    let held : is_there (at d.state.heap o) = subst (λ (k : Kept). is_there (at k.heap o)) kept has in
-    let x : Monitor = record { owner = Some e.thread; count = (object_at d.state.heap o).monitor.count + 1 } in
-    let y : Option ObjectState = Some (with_monitor x (object_at d.state.heap o)) in
-    ap (λ (n : ℕ). nat_le (n - 1) most_objects && nat_le (slot_count (set d.state.heap o y)) most_slots) (length-set d.state.heap o y)
-    ∙ ap (λ (n : ℕ). nat_le (made_count d.state.heap) most_objects && nat_le n most_slots) (slots_set d.state.heap o x held)
-
-commutes : (e : Moment) (lock : Option Lock) (f : FrameState) (d : Doing)
-    → entered_some e lock (with_thread_state e (entered_by f (thread_at d.state.guest e.thread)) d)
-    ≡ with_thread_state e (entered_by f (thread_at (entered_some e lock d).state.guest e.thread)) (entered_some e lock d)
-commutes e None f d = refl
-commutes e (Some (OfObject o)) f d = refl
-commutes e (Some (OfClass c)) f d = refl
-
-entered_clock : (e : Moment) (lock : Option Lock) (d : Doing) → (entered_some e lock d).state.guest.clock ≡ d.state.guest.clock
-entered_clock e None d = refl
-entered_clock e (Some (OfObject o)) d = refl
-entered_clock e (Some (OfClass c)) d = refl
-
-entered_records : (e : Moment) (lock : Option Lock) (d : Doing) → (entered_some e lock d).records ≡ d.records
-entered_records e None d = refl
-entered_records e (Some (OfObject o)) d = refl
-entered_records e (Some (OfClass c)) d = refl
 
 -- THE STEP
 

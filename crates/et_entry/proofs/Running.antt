@@ -20,9 +20,8 @@ use Rattle.et_event.specs.Calls.{enters_first, enters_main, enters_run, entry_ca
 use Rattle.et_event.specs.Checks.{ill_typed_unless, resolved, selected}
 use Rattle.et_event.specs.Errors.{class_called, error_of}
 use Rattle.et_event.specs.Event.{event, does_turn}
-use Rattle.et_event.specs.Moments.{Moment, begins, class_of, ill_typed, thread_of, throws}
+use Rattle.et_event.specs.Moments.{Moment, moment, begins, class_of, ill_typed, thread_of, throws}
 use Rattle.et_event.specs.Sound.{IsSoundFor}
-use Rattle.et_initialize.specs.Under.{moment}
 use Rattle.et_entry.specs.Fresh.{IsFresh}
 use Rattle.et_entry.proofs.Coming.{object_argument}
 

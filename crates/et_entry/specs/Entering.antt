@@ -2,9 +2,7 @@
 use Rattle.std.specs.Prelude.{ℕ, [], option_to_list}
 use Rattle.et_frames.specs.Threads.{FrameState, as_entered, entered_by}
 use Rattle.et_machine.specs.State.{MachineState}
-use Rattle.et_machine.specs.Words.{thread_at, begun, steps_thread}
-use Rattle.et_event.specs.Moments.{Doing}
-use Rattle.et_initialize.specs.Under.{with_kept}
+use Rattle.et_machine.specs.Words.{thread_at, steps_thread}
 
 -- the thread counts as entered, and its entry slot is empty
 abbrev pub given_up : MachineState → ℕ → MachineState
@@ -13,7 +11,3 @@ given_up m t = steps_thread m t (as_entered (thread_at m.guest t)) (option_to_li
 -- .. and a frame was put on top
 abbrev pub first_pushed : MachineState → ℕ → FrameState → MachineState
 first_pushed m t f = steps_thread (given_up m t) t (entered_by f (thread_at (given_up m t).guest t)) []
-
--- a machine whose event has come to what was done, and lost nothing
-abbrev pub base : MachineState → Doing → MachineState
-base m d = with_kept (begun m) d.state

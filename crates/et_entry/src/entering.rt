@@ -5,10 +5,9 @@ ghost use Rattle.et_program.specs.Entries.{method_at};
 ghost use Rattle.et_event.specs.Answered.{EventAnswers};
 ghost use Rattle.et_event.specs.Calls.{enters_first, entering, entry_arguments};
 ghost use Rattle.et_event.specs.Frames.{enters_code, frame_entered, receiver_of as receiver_in};
-ghost use Rattle.et_event.specs.Moments.{begins, ends};
+ghost use Rattle.et_event.specs.Moments.{moment, begins, ends};
 ghost use Rattle.et_event.specs.Monitors.{lock_for as lock_for_method};
 ghost use Rattle.et_event.specs.Sound.{IsSoundFor};
-ghost use Rattle.et_initialize.specs.Under.{moment};
 ghost use Rattle.et_monitors.specs.Locks.{HasSome, locks_of};
 ghost use Rattle.et_entry.specs.Fresh.{IsArgument, IsFresh};
 

@@ -7,14 +7,13 @@ ghost use Rattle.et_event.specs.Answered.{EventAnswers};
 ghost use Rattle.et_event.specs.Calls.{enters_first, enters_main, entering, entry_arguments};
 ghost use Rattle.et_event.specs.Frames.{enters_code, frame_entered};
 ghost use Rattle.et_event.specs.Initialization.{quietly_done};
-ghost use Rattle.et_event.specs.Moments.{begins, ends, fits};
+ghost use Rattle.et_event.specs.Moments.{moment, begins, ends, fits};
 ghost use Rattle.et_event.specs.Monitors.{lock_for as lock_for_method};
 ghost use Rattle.et_event.specs.Sound.{IsSoundFor};
 ghost use Rattle.et_sound.specs.Programs.{HasMethods};
 ghost use Rattle.et_initialize.specs.Programs.{IsInOrder};
-ghost use Rattle.et_initialize.specs.Under.{moment};
 ghost use Rattle.et_monitors.specs.Locks.{locks_of};
-ghost use Rattle.et_entry.specs.Entering.{base};
+ghost use Rattle.et_initialize.specs.Under.{base};
 ghost use Rattle.et_entry.specs.Fresh.{IsFresh};
 
 use crate::entering::method_event;

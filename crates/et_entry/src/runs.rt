@@ -6,7 +6,7 @@ ghost use Rattle.et_event.specs.Answered.{EventAnswers};
 ghost use Rattle.et_event.specs.Calls.{enters_run};
 ghost use Rattle.et_event.specs.Errors.{class_called};
 ghost use Rattle.et_event.specs.Sound.{IsSoundFor};
-ghost use Rattle.et_initialize.specs.Under.{moment};
+ghost use Rattle.et_event.specs.Moments.{moment};
 ghost use Rattle.et_entry.specs.Fresh.{IsFresh};
 ghost use Rattle.et_entry.specs.Runs.{planned, IsPlan};
 

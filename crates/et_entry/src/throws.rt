@@ -7,8 +7,7 @@ ghost use Rattle.et_machine.specs.Sound.{IsSound};
 ghost use Rattle.et_event.specs.declared.errors.GuestError.TheVariants as errors;
 ghost use Rattle.et_event.specs.Answered.{EventAnswers};
 ghost use Rattle.et_event.specs.Checks.{throws_unless};
-ghost use Rattle.et_event.specs.Moments.{Moment, Doing, begins, throws};
-ghost use Rattle.et_initialize.specs.Under.{moment};
+ghost use Rattle.et_event.specs.Moments.{Moment, moment, Doing, begins, throws};
 ghost use Rattle.et_entry.specs.Fresh.{IsFresh};
 
 use et_base::{NoMemory, ThreadId};

@@ -1,6 +1,6 @@
 -- THE BUILT-IN METHODS WITHOUT CODE. Each takes one event and no frame: its arguments are taken, what it gives is pushed,
 -- and the pc goes on.
-use Rattle.std.specs.Prelude.{ℕ, ◌&&◌, nat_lt, Bool, true, if◌then◌else◌, List, [], ◌∷◌, ◌++◌, length, drop, codes, Option, Some, None, option_map, slice_index_or, find}
+use Rattle.std.specs.Prelude.{ℕ, ◌&&◌, nat_lt, Bool, true, false, if◌then◌else◌, List, [], ◌∷◌, ◌++◌, length, drop, codes, Option, Some, None, option_map, slice_index_or, find}
 use Rattle.std.specs.Str.{bytes_eq}
 use Rattle.et_base.specs.declared.value.Value.{Value}
 use Rattle.et_base.specs.declared.value.Value.TheVariants.{Unset, Ref}
@@ -89,31 +89,47 @@ abbrev pub has_ended : Doing → Option ℕ → Bool
 has_ended d None = true
 has_ended d (Some k) = (thread_at d.state.guest k).ended
 
--- what uses the slots of a Throwable or of a Thread, or starts a thread, is done on such an object; selection finds it on no
--- other
-abbrev pub done_on : Moment → Doing → List ℕ → ℕ → Outcome Kept → Outcome Kept
-done_on e d name o go = ill_typed_unless e (is_subclass e.program (class_of d o) (class_called e.program name)) go
+-- it uses the slots of a Throwable, or those of a Thread or its thread
+abbrev pub uses_throwable : BuiltIn → Bool
+uses_throwable SetMessage = true
+uses_throwable SetMessageAndCause = true
+uses_throwable GetMessage = true
+uses_throwable GetCause = true
+uses_throwable other = false
 
-abbrev pub on_throwable : Moment → Doing → ℕ → Outcome Kept → Outcome Kept
-on_throwable e d o go = done_on e d (codes "java/lang/Throwable") o go
+abbrev pub uses_thread : BuiltIn → Bool
+uses_thread SetTarget = true
+uses_thread Start = true
+uses_thread other = false
 
-abbrev pub on_thread : Moment → Doing → ℕ → Outcome Kept → Outcome Kept
-on_thread e d o go = done_on e d (codes "java/lang/Thread") o go
+-- an object of a class or of one below it
+abbrev pub is_object_of : Moment → Doing → ℕ → List ℕ → Bool
+is_object_of e d o name = is_subclass e.program (class_of d o) (class_called e.program name)
+
+-- the receiver is of the class whose slots or thread the method uses; selection finds the method on no other
+abbrev pub is_fit : Moment → Doing → ℕ → BuiltIn → Bool
+is_fit e d o b =
+    if uses_throwable b then is_object_of e d o (codes "java/lang/Throwable")
+    else (if uses_thread b then is_object_of e d o (codes "java/lang/Thread") else true)
+
+-- what is done then
+abbrev pub row_done : Moment → Site → Doing → List Value → ℕ → BuiltIn → Outcome Kept
+row_done e at d arguments o Nothing = goes (answering e at arguments [] d)
+row_done e at d arguments o SetMessage = goes (slot_written e o 0 (argument arguments 1) (answering e at arguments [] d))
+row_done e at d arguments o SetMessageAndCause =
+    goes (slot_written e o 1 (argument arguments 2) (slot_written e o 0 (argument arguments 1) (answering e at arguments [] d)))
+row_done e at d arguments o GetMessage = goes (answering e at arguments (reference_in d o 0 ∷ []) d)
+row_done e at d arguments o GetCause = goes (answering e at arguments (reference_in d o 1 ∷ []) d)
+row_done e at d arguments o SetTarget = goes (slot_written e o 0 (argument arguments 1) (answering e at arguments [] d))
+row_done e at d arguments o Start =
+    starts e d o (goes (with_thread_for o (answering e at arguments [] d))) (thread_with d.state.guest.threads o)
+row_done e at d arguments o Join = waits_unless e (has_ended d (thread_with d.state.guest.threads o)) (goes (answering e at arguments [] d))
+row_done e at d arguments o SetReferent = goes (with_referent_of o (reference_of (argument arguments 1)) (answering e at arguments [] d))
+row_done e at d arguments o GetReferent = goes (answering e at arguments (value_of (object_at d.state.heap o).referent ∷ []) d)
+row_done e at d arguments o ClearReferent = goes (with_referent_of o None (answering e at arguments [] d))
 
 abbrev pub built_in_row : Moment → Site → Doing → List Value → ℕ → BuiltIn → Outcome Kept
-built_in_row e at d arguments o Nothing = goes (answering e at arguments [] d)
-built_in_row e at d arguments o SetMessage = on_throwable e d o (goes (slot_written e o 0 (argument arguments 1) (answering e at arguments [] d)))
-built_in_row e at d arguments o SetMessageAndCause =
-    on_throwable e d o (goes (slot_written e o 1 (argument arguments 2) (slot_written e o 0 (argument arguments 1) (answering e at arguments [] d))))
-built_in_row e at d arguments o GetMessage = on_throwable e d o (goes (answering e at arguments (reference_in d o 0 ∷ []) d))
-built_in_row e at d arguments o GetCause = on_throwable e d o (goes (answering e at arguments (reference_in d o 1 ∷ []) d))
-built_in_row e at d arguments o SetTarget = on_thread e d o (goes (slot_written e o 0 (argument arguments 1) (answering e at arguments [] d)))
-built_in_row e at d arguments o Start =
-    on_thread e d o (starts e d o (goes (with_thread_for o (answering e at arguments [] d))) (thread_with d.state.guest.threads o))
-built_in_row e at d arguments o Join = waits_unless e (has_ended d (thread_with d.state.guest.threads o)) (goes (answering e at arguments [] d))
-built_in_row e at d arguments o SetReferent = goes (with_referent_of o (reference_of (argument arguments 1)) (answering e at arguments [] d))
-built_in_row e at d arguments o GetReferent = goes (answering e at arguments (value_of (object_at d.state.heap o).referent ∷ []) d)
-built_in_row e at d arguments o ClearReferent = goes (with_referent_of o None (answering e at arguments [] d))
+built_in_row e at d arguments o b = ill_typed_unless e (is_fit e d o b) (row_done e at d arguments o b)
 
 -- the event of a selected method without code; one that is no built-in is abstract
 abbrev pub done_by : Moment → Site → Doing → List Value → Option ℕ → Option BuiltIn → Outcome Kept

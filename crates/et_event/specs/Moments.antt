@@ -4,7 +4,7 @@ use Rattle.et_base.specs.declared.value.Value.{Value}
 use Rattle.et_base.specs.declared.value.Value.TheVariants.{Unset, Int, Long, LongHigh, Null, Ref}
 use Rattle.et_heap.specs.Objects.{ObjectState, Objects, new_object, object_at, slot_of, with_slot, with_object_at, made_count, slot_count, most_objects, most_slots}
 use Rattle.et_frames.specs.Threads.{FrameState, ThreadState, top_of, with_pending, as_entered, has_frame}
-use Rattle.et_machine.specs.State.{GuestState, Kept}
+use Rattle.et_machine.specs.State.{GuestState, Kept, MachineState, kept_of}
 use Rattle.et_machine.specs.Words.{thread_at, with_thread, with_top, static_at, with_static, ticked}
 use Rattle.et_program.specs.Entries.{Linked, class_at}
 use Rattle.et_program.specs.declared.info.Element.{Element}
@@ -20,6 +20,10 @@ pub record Moment : Type 0 where
   pub program : Linked
   pub before : Kept
   pub thread : ℕ
+
+-- .. of the event that a machine does next
+abbrev pub moment : Linked → MachineState → ℕ → Moment
+moment p m t = record { program = p; before = kept_of m; thread = t }
 
 -- the thread and its topmost frame, before the event
 abbrev pub thread_of : Moment → ThreadState

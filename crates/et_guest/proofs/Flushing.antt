@@ -1,11 +1,10 @@
 -- What a flush leaves, for each test that says what is reached.
-use Rattle.std.proofs.Common.{◌≡◌, ℕ, ◌+◌, ◌*◌, ◌≤◌, arith, Bool, true, false, Result, Ok, Err, sym, ap, subst, rules}
+use Rattle.std.proofs.Common.{◌≡◌, ℕ, ◌+◌, ◌*◌, ◌≤◌, arith, Bool, true, Result, Ok, Err, sym, ap, subst, rules}
 use Rattle.std.specs.Prelude.{◌↔◌, IsTrue, OnOk}
 use Rattle.et_graph.specs.Graph.{Graph, IsReached}
-use Rattle.et_heap.specs.Objects.{IsHeld, held_count}
+use Rattle.et_heap.specs.Objects.{held_count}
 use Rattle.et_flush.specs.Flushes.{cleared_from}
 use Rattle.et_heap.specs.Remaining.{remaining}
-use Rattle.et_machine.specs.Roots.{graph_of}
 use Rattle.et_machine.specs.State.{Kept, MachineState, kept_of}
 use Rattle.et_program.specs.Entries.{Linked}
 use Rattle.et_event.specs.Sound.{IsSoundFor}

@@ -1,20 +1,19 @@
 -- The first state: the step to it, and its records.
-use Rattle.std.proofs.Common.{◌≡◌, ℕ, zero, suc, ◌+◌, ◌<◌, ◌≤◌, ◌⊎◌, List, [], ◌∷◌, ◌++◌, length, Option, Some, None, refl, sym, ap, subst, ◌∙◌, arith, Contains, inl, inr}
+use Rattle.std.proofs.Common.{◌≡◌, ℕ, zero, suc, ◌+◌, ◌<◌, ◌≤◌, List, [], ◌∷◌, ◌++◌, length, Option, Some, None, refl, sym, ap, subst, arith, Contains, inl, inr}
 use Rattle.std.specs.Prelude.{All, IfSome, unwrap_or, codes, replicate, slice_index}
 use Rattle.std.specs.Str.{bytes_eq}
 use Rattle.std.proofs.lemmas.List.Elements.{All-nil, All-cons, All-get_or}
 use Rattle.et_base.specs.declared.value.Value.TheVariants.{Unset}
 use Rattle.et_graph.proofs.Lists.{Contains-here, Contains-none, Contains-cons}
-use Rattle.et_graph.specs.Graph.{Graph, nothing_made, IsMade, IsReached}
-use Rattle.et_graph.specs.Steps.{Step, IsDraft, IsLegalStep}
+use Rattle.et_graph.specs.Graph.{Graph, nothing_made}
+use Rattle.et_graph.specs.Steps.{Step, IsLegalStep}
 use Rattle.et_heap.specs.Refs.{refs_of}
 use Rattle.et_program.specs.Entries.{Linked, ClassEntry, no_method}
 use Rattle.et_program.specs.Members.{class_named}
 use Rattle.et_program.specs.Tables.{IsTabled}
 use Rattle.et_program.specs.declared.info.MethodInfo.{MethodInfo}
 use Rattle.et_program.proofs.PlaceLemmas.{position_within}
-use Rattle.et_machine.specs.Roots.{graph_of, roots_of}
-use Rattle.et_state.specs.declared.records.Record.{Record}
+use Rattle.et_machine.specs.Roots.{graph_of}
 use Rattle.et_state.specs.declared.records.Record.TheVariants.{Alloc}
 use Rattle.et_state.specs.Naming.{IsNamed}
 use Rattle.et_event.specs.Start.{argument_class, start, start_records}

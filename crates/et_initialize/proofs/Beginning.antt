@@ -18,13 +18,13 @@ use Rattle.et_state.specs.declared.ends.EventEnd.TheVariants as ends
 use Rattle.et_state.specs.Outcome.{Outcome, Goes, ObjectLimit}
 use Rattle.et_event.specs.declared.errors.GuestError.TheVariants.{StackOverflowError}
 use Rattle.et_event.specs.Checks.{throws_unless}
-use Rattle.et_event.specs.Moments.{Moment, Doing, begins, fits, ends as ending, throws}
+use Rattle.et_event.specs.Moments.{Moment, moment, Doing, begins, fits, ends as ending, throws}
 use Rattle.et_event.specs.Answered.{EventAnswers}
 use Rattle.et_event.specs.Sound.{IsSoundFor}
 use Rattle.et_event.specs.Initialization.{with_state, constants_set, begun_by, begins_class, initializer_frame}
 use Rattle.et_parts.proofs.Throwing.{ends_fit, ends_full}
 use Rattle.et_initialize.specs.Programs.{IsInOrder}
-use Rattle.et_initialize.specs.Under.{moment, so_far, with_kept, ComesTo, IsReady, HasMadeStrings}
+use Rattle.et_initialize.specs.Under.{so_far, with_kept, ComesTo, IsReady, HasMadeStrings}
 use Rattle.et_initialize.proofs.Setting.{follows_each}
 use Rattle.et_initialize.proofs.Running.{marked}
 use Rattle.et_initialize.proofs.Legal.{made_none, ready_first, made_constants}

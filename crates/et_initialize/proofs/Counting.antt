@@ -27,12 +27,11 @@ use Rattle.et_program.specs.Entries.{Linked, class_at, field_at}
 use Rattle.et_program.specs.declared.info.FieldInfo.{FieldInfo}
 use Rattle.et_event.specs.Errors.{class_called}
 use Rattle.et_event.specs.Kinds.{narrowed}
-use Rattle.et_event.specs.Moments.{Moment, Doing, begins, fits, static_written}
+use Rattle.et_event.specs.Moments.{Moment, moment, Doing, begins, fits, static_written}
 use Rattle.et_event.specs.Sites.{LoadedConstant, AnInt, ALong, AString, pool_of}
 use Rattle.et_event.specs.Strings.{interned, string_object}
 use Rattle.et_event.specs.Initialization.{state_of, with_state, constant_set, field_set, constants_set, class_done}
 use Rattle.et_initialize.specs.Texts.{text_of, has_text, string_slots, has_room_for, is_known, Counted, AreKnown, BecameDone, CountedAll}
-use Rattle.et_initialize.specs.Under.{moment}
 use Rattle.et_initialize.proofs.Strings.{Strings, making, makes, has_made, by_interned}
 use Rattle.et_initialize.proofs.Setting.{written_state, follows_each, state_changed, state_set, done_step}
 

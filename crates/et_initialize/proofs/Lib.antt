@@ -1,5 +1,5 @@
 mod Strings
-mod Setting
+pub mod Setting
 mod Running
 pub mod Legal
 pub mod Records
@@ -8,3 +8,4 @@ pub mod Beginning
 pub mod Preparing
 pub mod Stepping
 mod Turning
+pub mod Needing

@@ -14,14 +14,14 @@ use Rattle.et_machine.specs.Words.{class_state_at}
 use Rattle.et_program.specs.Entries.{Linked, class_at}
 use Rattle.et_state.specs.declared.records.Record.{Record}
 use Rattle.et_state.specs.Outcome.{Outcome}
-use Rattle.et_event.specs.Moments.{Moment, Doing, begins, fits}
+use Rattle.et_event.specs.Moments.{Moment, moment, Doing, begins, fits}
 use Rattle.et_event.specs.Initialization.{state_of, with_state, class_done, quietly_done, quietly_if_untouched, prepared, is_quiet, is_quiet_state, is_ready, is_ready_state, needed, initialized}
 use Rattle.et_initialize.specs.declared.needs.Need.{Need}
 use Rattle.et_initialize.specs.declared.needs.Need.TheVariants.{Ready, Waits, Quiet, Begins}
 use Rattle.et_initialize.specs.Needs.{need_by, need_of, met}
 use Rattle.et_initialize.specs.Programs.{IsInOrder}
 use Rattle.et_initialize.specs.Texts.{CountedAll}
-use Rattle.et_initialize.specs.Under.{moment, so_far, ComesTo, IsReady, HasMadeStrings}
+use Rattle.et_initialize.specs.Under.{so_far, ComesTo, IsReady, HasMadeStrings}
 use Rattle.et_initialize.proofs.Running.{at, came, known}
 use Rattle.et_initialize.proofs.Setting.{Grown, grown_none, grown_then, fits_grown, fold_rest, grown_order, done_step, state_changed, state_set, follows_each}
 use Rattle.et_initialize.proofs.Legal.{quietly_made, quietly_ready, quietly_threads, quietly_monitors}

@@ -30,14 +30,14 @@ use Rattle.et_state.specs.Outcome.{Outcome}
 use Rattle.et_event.specs.declared.errors.GuestError.{GuestError}
 use Rattle.et_event.specs.declared.errors.GuestError.TheVariants.{StackOverflowError}
 use Rattle.et_event.specs.Errors.{error_class}
-use Rattle.et_event.specs.Moments.{Moment, Doing, frame_of, begins, fits, next_object, instance_made, pending_now, entry_given_up, with_thread_state, with_frame, told, ends as ending, throws}
+use Rattle.et_event.specs.Moments.{Moment, moment, Doing, frame_of, begins, fits, next_object, instance_made, pending_now, entry_given_up, with_thread_state, with_frame, told, ends as ending, throws}
 use Rattle.et_event.specs.Answered.{EventAnswers}
 use Rattle.et_event.specs.Sound.{IsSoundFor, AreSoundFrames, IsStaged}
 use Rattle.et_event.specs.Sites.{body_of}
 use Rattle.et_event.specs.Initialization.{with_state, prepared, constants_set, begun_by, begins_class, initializer_frame, enters_clinit}
 use Rattle.et_parts.proofs.Throwing.{ends_fit, ends_full}
 use Rattle.et_initialize.specs.Programs.{IsInOrder}
-use Rattle.et_initialize.specs.Under.{moment, so_far, with_kept, ComesTo, IsReady, HasMadeStrings}
+use Rattle.et_initialize.specs.Under.{so_far, with_kept, ComesTo, IsReady, HasMadeStrings}
 use Rattle.et_initialize.proofs.Setting.{fits_grown, follows_each}
 use Rattle.et_initialize.proofs.Running.{marked}
 use Rattle.et_initialize.proofs.Legal.{made_none, ready_first, made_constants}
@@ -222,9 +222,9 @@ throws_is : (e : Moment) (error : GuestError) (d : Doing) → 0 < length (thread
 throws_is e error d h = ap (λ (x : Doing). ending (pending_now e (next_object d) (instance_made e (error_class e.program error) x))) (not_given_up e d h)
 
 -- one object more fits exactly where there is room for it
-pub one_fits : (heap : Objects) (class slots : ℕ) → 0 < length heap → fits (heap ++ Some (new_object class 0 slots) ∷ []) ≡ has_room heap 1 slots
-one_fits heap class slots some =
-    let y : Option ObjectState = Some (new_object class 0 slots) in
+pub one_fits : (heap : Objects) (class elements slots : ℕ) → 0 < length heap → fits (heap ++ Some (new_object class elements slots) ∷ []) ≡ has_room heap 1 slots
+one_fits heap class elements slots some =
+    let y : Option ObjectState = Some (new_object class elements slots) in
     let long : length (heap ++ y ∷ []) ≡ length heap + 1 = length_push heap y in
     let number : length (heap ++ y ∷ []) - 1 ≡ length heap - 1 + 1 = omega (arith, long) in
     let size : slots_in y ≡ slots = length-replicate slots Unset in
@@ -280,7 +280,7 @@ error_thrown p t error ks m m₂ m₃ m₄ out out₂ out₃ class slots o has a
     let last : Record = Alloc d.state.guest.clock t k (error_class p error) (16 + 8 * (class_at p (error_class p error)).info.slots) 0 in
     let records : out₃ ≡ out ++ made_of.records = one ∙ (two ∙ (ap (λ (l : List Record). l ++ last ∷ []) r₂ ∙ append_assoc out d.records (last ∷ []))) in
     let some : 0 < length d.state.heap = let room₀ = sound.held.room in omega (arith, room₀, grown) in
-    let fit : fits made_of.state.heap ≡ true = ap (λ (z : Kept). fits z.heap) (sym kept) ∙ (one_fits d.state.heap class slots some ∙ room) in
+    let fit : fits made_of.state.heap ≡ true = ap (λ (z : Kept). fits z.heap) (sym kept) ∙ (one_fits d.state.heap class 0 slots some ∙ room) in
     let has_one : 0 < length (thread_at d.state.guest t).frames = subst (λ (z : ThreadState). 0 < length z.frames) (sym was) frame.frame in
     subst (λ (z : Outcome Kept). EventAnswers z ends.Done m m₄ out out₃) (sym (throws_is e error d has_one ∙ ends_fit made_of fit)) (subst (λ (z : Kept). Led s z m₄) kept led, records)
   where
@@ -296,7 +296,7 @@ error_full p t error ks m out class slots some frame name size room =
     let was : thread_at d.state.guest t ≡ thread_at m.guest t = ap (λ (ts : List ThreadState). get_or ts t no_thread) (threads_after p t ks m) in
     let has_one : 0 < length (thread_at d.state.guest t).frames = subst (λ (z : ThreadState). 0 < length z.frames) (sym was) frame.frame in
     let slots_are : slots ≡ (class_at p (error_class p error)).info.slots = size ∙ ap (λ (c : ℕ). (class_at p c).info.slots) name in
-    let fit : fits (thrown e error d).state.heap ≡ false = one_fits d.state.heap (error_class p error) (class_at p (error_class p error)).info.slots some ∙ (ap (λ (i : ℕ). has_room d.state.heap 1 i) (sym slots_are) ∙ room) in
+    let fit : fits (thrown e error d).state.heap ≡ false = one_fits d.state.heap (error_class p error) 0 (class_at p (error_class p error)).info.slots some ∙ (ap (λ (i : ℕ). has_room d.state.heap 1 i) (sym slots_are) ∙ room) in
     subst (λ (z : Outcome Kept). EventAnswers z ends.ObjectLimit m m out out) (sym (throws_is e error d has_one ∙ ends_full (thrown e error d) fit)) (refl, refl)
 
 pub fits_less : (heap : Objects) (slots : ℕ) → has_room heap 1 slots ≡ true → fits heap ≡ true

@@ -11,7 +11,7 @@ use Rattle.et_program.specs.Entries.{Linked, class_at}
 use Rattle.et_state.specs.declared.records.Record.{Record}
 use Rattle.et_state.specs.declared.ends.EventEnd.{EventEnd}
 use Rattle.et_state.specs.Outcome.{Outcome}
-use Rattle.et_event.specs.Moments.{Moment, Doing, begins, ends as ending}
+use Rattle.et_event.specs.Moments.{Moment, moment, Doing, begins, ends as ending}
 use Rattle.et_event.specs.Answered.{EventAnswers}
 use Rattle.et_event.specs.Sound.{IsSoundFor}
 use Rattle.et_event.specs.Initialization.{prepared, enters_clinit, is_quiet, is_ready, is_ready_state, initialized, initialization_step, step_by}
@@ -19,7 +19,6 @@ use Rattle.et_initialize.specs.declared.needs.Need.{Need}
 use Rattle.et_initialize.specs.declared.needs.Need.TheVariants.{Ready, Waits, Quiet, Begins}
 use Rattle.et_initialize.specs.Needs.{need_by, need_of, met}
 use Rattle.et_initialize.specs.Programs.{IsInOrder}
-use Rattle.et_initialize.specs.Under.{moment}
 use Rattle.et_initialize.proofs.Preparing.{true_false, blocked, blocker_state, turns_none, turns_prepared, all_pass, first_fails}
 use Rattle.et_initialize.proofs.Stepping.{after}
 

@@ -3,16 +3,13 @@ use Rattle.std.specs.Prelude.{◌≡◌, ℕ, ◌<◌, ◌≤◌, ◌⊎◌, Lis
 use Rattle.et_base.specs.declared.value.Value.TheVariants.{Unset}
 use Rattle.et_machine.specs.declared.class_state.ClassState.TheVariants.{Untouched}
 use Rattle.et_machine.specs.State.{Kept, MachineState, kept_of}
-use Rattle.et_machine.specs.Words.{class_state_at, static_at}
+use Rattle.et_machine.specs.Words.{begun, class_state_at, static_at}
 use Rattle.et_machine.specs.Interned.{objects_of}
 use Rattle.et_machine.specs.Roots.{roots_of}
 use Rattle.et_machine.specs.Moves.{IsUnderWay}
 use Rattle.et_program.specs.Entries.{Linked, field_at}
 use Rattle.et_state.specs.declared.records.Record.{Record}
-use Rattle.et_event.specs.Moments.{Moment, Doing}
-
-abbrev pub moment : Linked → MachineState → ℕ → Moment
-moment p m t = record { program = p; before = kept_of m; thread = t }
+use Rattle.et_event.specs.Moments.{Doing}
 
 -- what the machine keeps, and these records
 abbrev pub so_far : MachineState → List Record → Doing
@@ -21,6 +18,10 @@ so_far m out = record { state = kept_of m; records = out }
 -- a machine that keeps something else, and has lost nothing more
 abbrev pub with_kept : MachineState → Kept → MachineState
 with_kept m k = record { heap = k.heap; guest = k.guest; lost = m.lost }
+
+-- a machine whose event has come to what was done, and lost nothing
+abbrev pub base : MachineState → Doing → MachineState
+base m d = with_kept (begun m) d.state
 
 -- machine and records are those of what was done
 abbrev pub ComesTo : Doing → MachineState → MachineState → List Record → Type 0

@@ -10,11 +10,10 @@ ghost use Rattle.et_machine.specs.Words.{thread_at, class_state_at};
 ghost use Rattle.et_machine.specs.Sound.{IsSound};
 ghost use Rattle.et_machine.specs.Moves.{Led};
 ghost use Rattle.et_event.specs.Answered.{EventAnswers};
-ghost use Rattle.et_event.specs.Moments.{begins, waits, fits};
+ghost use Rattle.et_event.specs.Moments.{moment, begins, waits, fits};
 ghost use Rattle.et_event.specs.Sound.{IsSoundFor};
 ghost use Rattle.et_event.specs.Initialization.{begun_by, begins_class, constants_set, with_state, initializer_frame};
 ghost use Rattle.et_initialize.specs.Programs.{IsInOrder};
-ghost use Rattle.et_initialize.specs.Under.{moment};
 
 use crate::limits::constants_fit;
 use crate::quiet::set_constants;

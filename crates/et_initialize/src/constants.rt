@@ -9,11 +9,11 @@ ghost use Rattle.et_machine.specs.Interned.{object_of, objects_of};
 ghost use Rattle.et_program.specs.Entries.{class_at, field_at};
 ghost use Rattle.et_event.specs.Errors.{class_called};
 ghost use Rattle.et_event.specs.Kinds.{narrowed_int};
-ghost use Rattle.et_event.specs.Moments.{fits};
+ghost use Rattle.et_event.specs.Moments.{moment, fits};
 ghost use Rattle.et_event.specs.Sites.{AString, constant_at, pool_of};
 ghost use Rattle.et_event.specs.Strings.{interned, string_object};
 ghost use Rattle.et_event.specs.Initialization.{constant_set, field_set};
-ghost use Rattle.et_initialize.specs.Under.{moment, so_far, with_kept, ComesTo};
+ghost use Rattle.et_initialize.specs.Under.{so_far, with_kept, ComesTo};
 
 use et_base::{ClassId, FieldId, NoMemory, ObjectId, ThreadId, Value, to_byte, to_char, to_short};
 use et_heap::MakeFault;

@@ -1,9 +1,8 @@
 //! What an event does that needs a class.
 ghost use Rattle.std.specs.Prelude.{◌≡◌, ℕ, ◌<◌, length};
-ghost use Rattle.et_event.specs.Moments.{begins};
+ghost use Rattle.et_event.specs.Moments.{moment, begins};
 ghost use Rattle.et_event.specs.Initialization.{is_quiet as quiet, is_quiet_state as quiet_state};
 ghost use Rattle.et_initialize.specs.Needs.{need_of as needed};
-ghost use Rattle.et_initialize.specs.Under.{moment};
 
 use et_base::{ClassId, ThreadId};
 use et_machine::{ClassState, Machine};

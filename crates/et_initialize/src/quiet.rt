@@ -4,10 +4,10 @@ ghost use Rattle.et_base.specs.declared.value.Value.TheVariants.{Unset};
 ghost use Rattle.et_frames.specs.Threads.{lost_room};
 ghost use Rattle.et_machine.specs.State.{kept_of};
 ghost use Rattle.et_machine.specs.Words.{static_at};
-ghost use Rattle.et_event.specs.Moments.{fits};
+ghost use Rattle.et_event.specs.Moments.{moment, fits};
 ghost use Rattle.et_event.specs.Initialization.{constants_set, class_done, quietly_done, state_of};
 ghost use Rattle.et_initialize.specs.Programs.{IsInOrder};
-ghost use Rattle.et_initialize.specs.Under.{moment, so_far, ComesTo, IsReady, class_of_slot};
+ghost use Rattle.et_initialize.specs.Under.{so_far, ComesTo, IsReady, class_of_slot};
 
 use crate::constants::set_field;
 use et_base::{ClassId, NoMemory, ThreadId};

@@ -10,12 +10,12 @@ ghost use Rattle.et_event.specs.Answered.{EventAnswers};
 ghost use Rattle.et_heap.specs.Objects.{has_room};
 ghost use Rattle.et_program.specs.Entries.{class_at};
 ghost use Rattle.et_event.specs.Errors.{error_class};
-ghost use Rattle.et_event.specs.Moments.{begins, fits, throws, ends as ending};
+ghost use Rattle.et_event.specs.Moments.{moment, begins, fits, throws, ends as ending};
 ghost use Rattle.et_event.specs.Sites.{body_of};
 ghost use Rattle.et_event.specs.Sound.{IsSoundFor};
 ghost use Rattle.et_event.specs.Initialization.{is_ready as ready, prepared, quietly_if_untouched, state_of, with_state, constants_set, begins_class, enters_clinit, initialized, initialization_step};
 ghost use Rattle.et_initialize.specs.Programs.{IsInOrder};
-ghost use Rattle.et_initialize.specs.Under.{moment, so_far, ComesTo, IsReady};
+ghost use Rattle.et_initialize.specs.Under.{so_far, ComesTo, IsReady};
 
 use crate::begins::{MOST_FRAMES, initializer, wait_event};
 use crate::constants::{make_object, slots_of};

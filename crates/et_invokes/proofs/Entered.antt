@@ -33,7 +33,7 @@ use Rattle.et_event.specs.Answered.{EventAnswers}
 use Rattle.et_event.specs.Calls.{arguments_of, taking}
 use Rattle.et_event.specs.Checks.{frame_fits, throws_unless, waits_unless}
 use Rattle.et_event.specs.Frames.{enters_code, frame_entered, first_reference, method_frame, receiver_of}
-use Rattle.et_event.specs.Moments.{Moment, Doing, told, with_thread_state, fits, throws, ends as ending}
+use Rattle.et_event.specs.Moments.{Moment, moment, Doing, told, with_thread_state, fits, throws, ends as ending}
 use Rattle.et_event.specs.Monitors.{Lock, OfObject, OfClass, entered_some, is_open_to, lock_for, may_enter_some}
 use Rattle.et_event.specs.Sound.{IsSoundFor}
 use Rattle.et_monitors.specs.Locks.{HasSome, IsSomeFewTimes, IsFewTimes, entering_some, may_enter_some_at, monitor_at}
@@ -43,7 +43,7 @@ use Rattle.et_parts.proofs.Throwing.{ends_fit, ends_full}
 use Rattle.et_builtins.specs.Arguments.{arguments_in}
 use Rattle.et_calls.proofs.Entered.{new_frame_held, operand_rooted, refs_taken}
 use Rattle.et_initialize.specs.Programs.{IsInOrder}
-use Rattle.et_initialize.specs.Under.{moment, so_far}
+use Rattle.et_initialize.specs.Under.{so_far}
 use Rattle.et_initialize.proofs.Beginning.{strings_led}
 use Rattle.et_initialize.proofs.Stepping.{after, base, base_threads, has_frame_on, made_after, monitors_after, threads_after, top_on}
 use Rattle.et_invokes.specs.Entering.{taken_on, pushed_on}

@@ -1,4 +1,3 @@
 mod Called
 mod Entered
 mod Initial
-mod Thrown

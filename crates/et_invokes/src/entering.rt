@@ -14,14 +14,13 @@ ghost use Rattle.et_event.specs.Calls.{arguments_of, enters_method, taking};
 ghost use Rattle.et_event.specs.Checks.{frame_fits};
 ghost use Rattle.et_event.specs.Frames.{enters_code, frame_entered};
 ghost use Rattle.et_event.specs.Initialization.{is_ready as ready, prepared};
-ghost use Rattle.et_event.specs.Moments.{begins, fits, ends as ending};
+ghost use Rattle.et_event.specs.Moments.{moment, begins, fits, ends as ending};
 ghost use Rattle.et_event.specs.Monitors.{lock_for as lock_for_method};
 ghost use Rattle.et_event.specs.Sites.{Site};
 ghost use Rattle.et_event.specs.Sound.{IsSoundFor};
 ghost use Rattle.et_monitors.specs.Locks.{HasSome, IsSomeFewTimes, entering_some, locks_of};
 ghost use Rattle.et_sound.specs.Programs.{HasMethods};
 ghost use Rattle.et_initialize.specs.Programs.{IsInOrder};
-ghost use Rattle.et_initialize.specs.Under.{moment};
 ghost use Rattle.et_invokes.specs.Entering.{pushed_on};
 
 use et_base::{ClassId, MethodId, NoMemory, Steps, ThreadId};

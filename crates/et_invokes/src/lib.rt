@@ -3,7 +3,5 @@
 
 mod calls;
 mod entering;
-mod throws;
 
 pub use calls::call_event;
-pub use throws::throw_at_entry;

@@ -1,2 +1,3 @@
 pub mod Keeping
 pub mod There
+pub mod Entering

@@ -1,15 +1,15 @@
 -- What calls, returns, unwinding and initialization tell.
-use Rattle.std.proofs.Common.{◌≡◌, ℕ, ◌+◌, ◌<◌, ◌==◌, Bool, true, false, List, [], ◌∷◌, ◌++◌, length, Option, Some, None, Result, Ok, refl}
-use Rattle.std.specs.Prelude.{IfSome, not, ◌&&◌, if◌then◌else◌, codes, unwrap_or, nat_lt, find, take_while}
+use Rattle.std.proofs.Common.{◌≡◌, ℕ, ◌<◌, ◌==◌, true, false, List, [], ◌∷◌, length, Option, Some, None, Result, Ok, refl}
+use Rattle.std.specs.Prelude.{IfSome, not, codes, unwrap_or, nat_lt, find, take_while}
 use Rattle.std.proofs.lemmas.List.Elements.{All-get_or}
 use Rattle.et_base.specs.declared.value.Value.{Value}
-use Rattle.et_base.specs.declared.value.Value.TheVariants.{Unset, Ref}
+use Rattle.et_base.specs.declared.value.Value.TheVariants.{Ref}
 use Rattle.et_pool.specs.Descriptors.{MethodType, method_type}
 use Rattle.et_class.specs.Names.{has}
 use Rattle.et_class.specs.declared.flags.TheConstants.{NATIVE}
 use Rattle.et_code.specs.Bodies.{Body}
 use Rattle.et_code.specs.declared.body.TableRow.{TableRow}
-use Rattle.et_program.specs.Entries.{Linked, ClassEntry, no_method, no_class, class_at, method_at, is_static}
+use Rattle.et_program.specs.Entries.{ClassEntry, no_method, no_class, class_at, method_at, is_static}
 use Rattle.et_program.specs.Members.{is_subclass}
 use Rattle.et_program.specs.Tables.{IsInfoWithin}
 use Rattle.et_program.specs.Resolution.{resolve_class, resolve_method, select, select_special}
@@ -17,7 +17,7 @@ use Rattle.et_program.specs.declared.info.MethodInfo.{MethodInfo}
 use Rattle.et_program.specs.declared.errors.LinkError.{LinkError}
 use Rattle.et_frames.specs.declared.stage.Stage.{Stage}
 use Rattle.et_frames.specs.declared.stage.Stage.TheVariants.{Plain, Before, Clinit}
-use Rattle.et_frames.specs.Threads.{FrameState, ThreadState, entered_by, as_entered, without_top, with_pending, rest_of, thread_with, most_threads, in_clinit, new_thread}
+use Rattle.et_frames.specs.Threads.{FrameState, ThreadState, entered_by, as_entered, without_top, rest_of, thread_with, most_threads, in_clinit, new_thread}
 use Rattle.et_machine.specs.declared.class_state.ClassState.TheVariants.{Done, Failed}
 use Rattle.et_machine.specs.State.{Kept}
 use Rattle.et_machine.specs.Words.{thread_at, with_new_thread}
@@ -31,19 +31,19 @@ use Rattle.et_event.specs.declared.rows.CallRow.{CallRow}
 use Rattle.et_event.specs.declared.rows.CallRow.TheVariants as row
 use Rattle.et_event.specs.declared.rows.Operand.{Operand}
 use Rattle.et_event.specs.declared.errors.GuestError.TheVariants as errors
-use Rattle.et_event.specs.BuiltIns.{built_in_of, argument, answering, reference_in, with_referent_of, reference_of, starts, with_thread_for, has_ended, on_throwable, on_thread, built_in_row, done_by, built_in_event}
-use Rattle.et_event.specs.Calls.{is_static_call, call_fits, with_type, with_method, taking, enters_method, is_of_owner, special_class, dispatched, is_as, arguments_of, entry_count, invoke, with_returned, class_done_by, frame_returned, returned_by, return, call_event, entering, entry_arguments, enters_first, enters_main, enters_run, entry_call}
-use Rattle.et_event.specs.Checks.{selected, ill_typed_unless, entries_of, value_of}
+use Rattle.et_event.specs.BuiltIns.{built_in_of, argument, answering, reference_in, with_referent_of, reference_of, starts, with_thread_for, has_ended, built_in_row, done_by, built_in_event}
+use Rattle.et_event.specs.Calls.{is_static_call, call_fits, with_type, with_method, taking, enters_method, is_of_owner, special_class, dispatched, is_as, invoke, with_returned, class_done_by, frame_returned, returned_by, return, call_event, entering, entry_arguments, enters_first, enters_run, entry_call}
+use Rattle.et_event.specs.Checks.{selected, ill_typed_unless, entries_of}
 use Rattle.et_event.specs.Errors.{class_called, error_class}
-use Rattle.et_event.specs.Frames.{first_reference, receiver_of, frame_entered, method_frame, enters_code, by_code, enters, frames_after_return}
-use Rattle.et_event.specs.Initialization.{with_state, initialized, prepared, is_ready, enters_clinit, step_by, initialization_step}
+use Rattle.et_event.specs.Frames.{first_reference, receiver_of, frame_entered, method_frame, by_code, enters, frames_after_return}
+use Rattle.et_event.specs.Initialization.{with_state, prepared, is_ready, enters_clinit, step_by, initialization_step}
 use Rattle.et_event.specs.Kinds.{may_return}
-use Rattle.et_event.specs.Moments.{Moment, Doing, class_of, frame_of, thread_of, begins, told, with_guest, with_frame, with_thread_state, next_object, instance_made, slot_written, pending_now, ill_typed, ends, goes, throws}
+use Rattle.et_event.specs.Moments.{Moment, Doing, class_of, frame_of, thread_of, begins, told, with_frame, with_thread_state, next_object, instance_made, slot_written, ill_typed, ends, goes, throws}
 use Rattle.et_event.specs.Monitors.{Lock, lock_for, lock_in, may_enter_some, entered_some, owns, owns_some, left, left_some}
 use Rattle.et_event.specs.Sites.{Site, Member, member_of, names_interface, method_of, body_of}
 use Rattle.et_event.specs.Sound.{IsStaged}
-use Rattle.et_event.specs.Throw.{handled, caught, left_if_owned, dropped, is_error, replaced, failed, unwound, unwound_clinit, by_handler, handler_of, unwinds, unwinding_step}
-use Rattle.et_named.proofs.Members.{class_below, method_below, selected_method_below, special_method_below}
+use Rattle.et_event.specs.Throw.{caught, left_if_owned, dropped, is_error, replaced, failed, unwound, unwound_clinit, by_handler, handler_of, unwinds, unwinding_step}
+use Rattle.et_named.proofs.Members.{method_below, selected_method_below, special_method_below}
 use Rattle.et_named.proofs.Words.{Tells, IsMethodOf, if_case, begun, guest_told, thread_told, frame_told, state_told, record_told, enter_named, exit_named, unwind_named, instance_told, slot_told, referent_told, entered_some_told, left_told, left_some_told, pending_told, prepared_told}
 use Rattle.et_named.proofs.Ways.{Told, goes_told, ends_told, throws_told, unless_ill_typed, unless_thrown, where_resolved, where_not_null, unless_waiting, where_frame_fits, any_value, initialized_told}
 use Rattle.et_named.proofs.Rows.{Knows}

@@ -1,7 +1,7 @@
 -- What resolution and selection find is of the program.
-use Rattle.std.proofs.Common.{◌≡◌, ℕ, ◌<◌, Bool, true, false, List, [], ◌∷◌, length, Option, Some, None, Result, Ok, Err, refl, sym, subst}
-use Rattle.std.specs.Prelude.{◌&&◌, ◌||◌, ◌==◌, not, if◌then◌else◌, All, IfSome, IfOk, codes}
-use Rattle.std.specs.List.{list_any, filter_map, cons_option}
+use Rattle.std.proofs.Common.{◌≡◌, ℕ, ◌<◌, Bool, true, false, List, [], ◌∷◌, length, Option, Some, None, Result, Ok, Err, subst}
+use Rattle.std.specs.Prelude.{◌||◌, ◌==◌, not, if◌then◌else◌, All, IfSome, IfOk, codes}
+use Rattle.std.specs.List.{filter_map, cons_option}
 use Rattle.std.specs.Option.{option_or, ok_or}
 use Rattle.std.specs.Str.{bytes_eq}
 use Rattle.std.proofs.lemmas.List.Elements.{All-nil, All-cons, All-head}
@@ -10,7 +10,7 @@ use Rattle.et_program.specs.Members.{class_named, lineage, method_in, is_method,
 use Rattle.et_program.specs.Resolution.{resolve_class, resolve_method, selected_above, selected, selectable_in, is_selectable, select_from, select, select_special, special_start}
 use Rattle.et_program.specs.declared.errors.LinkError.{LinkError}
 use Rattle.et_program.specs.declared.errors.LinkError.TheVariants.{NoClassDefFound, NoSuchMethod, IncompatibleClassChange, AbstractMethod}
-use Rattle.et_program.proofs.PlaceLemmas.{position_within, method_within}
+use Rattle.et_program.proofs.PlaceLemmas.{position_within}
 
 abbrev Below : ℕ → Option ℕ → Type 0
 Below n o = IfSome o (λ k. k < n)

@@ -1,14 +1,13 @@
 -- What the rows tell that enter and leave no frame.
-use Rattle.std.proofs.Common.{◌≡◌, ℕ, zero, suc, ◌+◌, ◌<◌, ◌==◌, Bool, true, false, List, [], ◌∷◌, ◌++◌, length, Option, Some, None, Result, Ok, refl, sym, ◌∙◌, ap, subst, arith}
+use Rattle.std.proofs.Common.{◌≡◌, ℕ, zero, suc, ◌+◌, ◌<◌, List, [], ◌∷◌, length, Option, Some, None, refl, arith}
 use Rattle.std.specs.Int.{w32, w64}
-use Rattle.std.specs.Prelude.{ℤ, pos, int_le, not, nat_le, nat_lt, if◌then◌else◌, codes, unwrap_or, All, IfSome}
+use Rattle.std.specs.Prelude.{ℤ, pos, int_le, not, nat_le, nat_lt, unwrap_or, All, IfSome}
 use Rattle.std.specs.List.{list_all}
 use Rattle.std.proofs.lemmas.List.Elements.{All-get_or}
 use Rattle.et_base.specs.declared.value.Value.{Value}
-use Rattle.et_base.specs.declared.value.Value.TheVariants.{Unset, Int, Long, LongHigh, Null, Ref}
-use Rattle.et_code.specs.declared.instr.Instr.{Instr}
+use Rattle.et_base.specs.declared.value.Value.TheVariants.{Int, Long, LongHigh, Ref}
 use Rattle.et_pool.specs.Descriptors.{is_field_descriptor}
-use Rattle.et_program.specs.Entries.{Linked, ClassEntry, no_class, class_at, field_at}
+use Rattle.et_program.specs.Entries.{ClassEntry, no_class, class_at, field_at}
 use Rattle.et_program.specs.Members.{is_base_array, base_array, is_subclass}
 use Rattle.et_program.specs.Types.{passes}
 use Rattle.et_program.specs.Resolution.{resolve_class, resolve_field}
@@ -29,13 +28,13 @@ use Rattle.et_event.specs.declared.rows.Number.{Number}
 use Rattle.et_event.specs.declared.rows.Number.TheVariants as number
 use Rattle.et_event.specs.declared.errors.GuestError.TheVariants as errors
 use Rattle.et_event.specs.Checks.{Reference}
-use Rattle.et_event.specs.Heap.{naturals, field_fits, is_static_field, element_of, length_of, passes_element, may_be_made, leaving, with_field, with_class, with_holder, with_element, resolved_class, resolved_field, get_static, put_static, get_field, put_field, load_element, store_element, array_length, new_instance, new_array_of, new_array, new_reference_array, with_lengths, element_class, filled, arrays_made, new_multi_array, cast, check_cast, tested, instance_of, heap_event}
+use Rattle.et_event.specs.Heap.{naturals, field_fits, is_static_field, element_of, length_of, passes_element, may_be_made, leaving, with_field, with_class, with_holder, with_element, resolved_class, resolved_field, get_static, put_static, get_field, put_field, load_element, store_element, array_length, new_instance, new_array_of, new_array, new_reference_array, with_lengths, element_class, filled, arrays_made, new_multi_array, cast, tested, heap_event}
 use Rattle.et_event.specs.Moments.{Moment, Doing, class_of, frame_of, thread_of, begins, next_object, instance_made, array_made, slot_written, static_written, pending_now, with_frame, with_thread_state, ill_typed, ends, goes}
 use Rattle.et_event.specs.Kinds.{narrowed, are_elements, in_bounds, is_array, kept_element, kind_of_elements}
-use Rattle.et_event.specs.Monitors.{Lock, OfObject, may_enter, owns, entered, left}
+use Rattle.et_event.specs.Monitors.{OfObject, may_enter, owns, entered, left}
 use Rattle.et_event.specs.Plain.{on_frame, constant, divided, quotient, divides, put}
 use Rattle.et_event.specs.Sites.{Site, Member, LoadedConstant, AnInt, ALong, AString, member_of, class_operand, natural}
-use Rattle.et_event.specs.Strings.{interned, string_object}
+use Rattle.et_event.specs.Strings.{interned}
 use Rattle.et_event.specs.Sync.{monitor_event, end_of_thread}
 use Rattle.et_event.specs.Throw.{is_throwable, throw}
 use Rattle.et_named.specs.Telling.{HasElementClasses}

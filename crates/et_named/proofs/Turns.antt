@@ -1,6 +1,6 @@
 -- What each turn of a thread tells.
-use Rattle.std.proofs.Common.{◌≡◌, ℕ, zero, suc, ◌<◌, Bool, true, false, List, [], ◌∷◌, length, Option, Some, None, Result, Ok, Err, refl, sym, subst, arith}
-use Rattle.std.specs.Prelude.{if◌then◌else◌, is_some, codes, unwrap_or, slice_index_or}
+use Rattle.std.proofs.Common.{◌≡◌, ℕ, zero, suc, ◌<◌, Bool, true, false, List, [], ◌∷◌, length, Option, Some, None, Result, Ok, Err, refl, arith}
+use Rattle.std.specs.Prelude.{if◌then◌else◌, is_some, unwrap_or, slice_index_or}
 use Rattle.et_code.specs.declared.instr.Instr.{Instr}
 use Rattle.et_code.specs.declared.instr.CodeFault.{CodeFault}
 use Rattle.et_program.specs.Entries.{Linked}
@@ -11,12 +11,9 @@ use Rattle.et_frames.specs.declared.stage.Turn.{Turn}
 use Rattle.et_frames.specs.declared.stage.Turn.TheVariants.{Unwind, EndThread, Entry, Initialize, Instruction}
 use Rattle.et_frames.specs.Threads.{FrameState, ThreadState, no_thread, first_frame, has_frame, is_before, top_of, turn_of}
 use Rattle.et_machine.specs.State.{Kept}
-use Rattle.et_machine.specs.Words.{thread_at}
-use Rattle.et_state.specs.Outcome.{Outcome}
 use Rattle.et_event.specs.declared.rows.Row.{Row}
 use Rattle.et_event.specs.declared.rows.Row.TheVariants as row
-use Rattle.et_event.specs.declared.errors.GuestError.{GuestError}
-use Rattle.et_event.specs.Event.{does, by_row, by_instruction, instruction, initializes, does_turn, event}
+use Rattle.et_event.specs.Event.{does, by_row, by_instruction, initializes, does_turn, event}
 use Rattle.et_event.specs.Moments.{Moment, thread_of, frame_of}
 use Rattle.et_event.specs.Plain.{after}
 use Rattle.et_event.specs.Sites.{Site, site_of, decoded_at, pool_index, constant_at}

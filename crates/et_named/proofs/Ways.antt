@@ -1,10 +1,10 @@
 -- How an event goes on and ends, and what each way tells.
-use Rattle.std.proofs.Common.{◌≡◌, ℕ, ◌+◌, ◌<◌, ◌==◌, Bool, true, false, ltb, List, [], ◌∷◌, length, Option, Some, None, Result, Ok, Err, refl}
-use Rattle.std.specs.Prelude.{ℤ, if◌then◌else◌, codes, IfOk}
+use Rattle.std.proofs.Common.{◌≡◌, ℕ, ◌<◌, ◌==◌, Bool, true, false, ltb, List, [], ◌∷◌, length, Option, Some, None, Result, Ok, Err, refl}
+use Rattle.std.specs.Prelude.{ℤ, codes}
 use Rattle.et_base.specs.declared.value.Value.{Value}
 use Rattle.et_base.specs.declared.value.Value.TheVariants.{Unset, Int, Long, LongHigh, Null, Ref}
 use Rattle.et_program.specs.declared.errors.LinkError.{LinkError}
-use Rattle.et_frames.specs.Threads.{FrameState, most_frames}
+use Rattle.et_frames.specs.Threads.{most_frames}
 use Rattle.et_machine.specs.declared.class_state.ClassState.{ClassState}
 use Rattle.et_machine.specs.declared.class_state.ClassState.TheVariants.{Untouched, Begun, Done, Failed}
 use Rattle.et_machine.specs.State.{Kept}
@@ -18,9 +18,9 @@ use Rattle.et_event.specs.declared.rows.Operand.TheVariants as operand
 use Rattle.et_event.specs.Checks.{Reference, value_of, with_int, with_long, with_reference, with_value, ill_typed_unless, resolved, throws_unless, not_null, waits_unless, frame_fits}
 use Rattle.et_event.specs.Errors.{class_called, error_class, error_of}
 use Rattle.et_event.specs.Initialization.{state_of, is_quiet, quietly_done, begun_by, begins_class, needed, initialized}
-use Rattle.et_event.specs.Moments.{Moment, Doing, begins, next_object, instance_made, entry_given_up, pending_now, fits, goes, ends, throws, waits}
-use Rattle.et_named.specs.Telling.{names_of, IsTold}
-use Rattle.et_named.proofs.Words.{Tells, if_case, begun, instance_told, pending_told, given_up_told, quietly_told, begun_by_told}
+use Rattle.et_event.specs.Moments.{Moment, Doing, next_object, instance_made, entry_given_up, pending_now, fits, goes, ends, throws, waits}
+use Rattle.et_named.specs.Telling.{IsTold}
+use Rattle.et_named.proofs.Words.{Tells, if_case, instance_told, pending_told, given_up_told, quietly_told, begun_by_told}
 
 -- what the machine itself makes is of classes of the program
 pub record KnowsErrors (e : Moment) : Type 0 where

@@ -5,7 +5,7 @@ use Rattle.std.specs.Int.{w32, w64}
 use Rattle.std.specs.Option.{option_map}
 use Rattle.et_base.specs.declared.value.Value.{Value}
 use Rattle.et_base.specs.declared.value.Value.TheVariants.{Unset, Int, Long, LongHigh, Null, Ref}
-use Rattle.et_machine.specs.State.{Kept, MachineState, kept_of}
+use Rattle.et_machine.specs.State.{Kept, MachineState}
 use Rattle.et_machine.specs.Words.{top}
 use Rattle.et_state.specs.Outcome.{Outcome}
 use Rattle.et_state.specs.declared.records.Record.{Record}
@@ -18,7 +18,7 @@ use Rattle.et_event.specs.declared.rows.Number.TheVariants as number
 use Rattle.et_event.specs.declared.rows.Division.{Division}
 use Rattle.et_event.specs.Answered.{EventAnswers}
 use Rattle.et_event.specs.Checks.{with_int, with_long}
-use Rattle.et_event.specs.Moments.{Moment, frame_of, begins, ill_typed, throws}
+use Rattle.et_event.specs.Moments.{Moment, moment, frame_of, begins, ill_typed, throws}
 use Rattle.et_event.specs.Sites.{Site}
 use Rattle.et_event.specs.Plain.{put, on_frame, divided, divides, quotient}
 use Rattle.et_ops.specs.declared.divisions.Divided.TheVariants as ends
@@ -93,25 +93,22 @@ divides_by : (e : Moment) (at : Site) (n : Number) (o : Division) → divides e 
 divides_by e at number.Int o = ints e at o (frame_of e).operands
 divides_by e at number.Long o = longs e at o (frame_of e).operands
 
-abbrev moment : Linked → ℕ → MachineState → Moment
-moment p t m = record { program = p; before = kept_of m; thread = t }
-
 -- WHAT A DIVISION ANSWERS
 
 done : (p : Linked) (at : Site) (q : Option (Option (List Value))) (t : ℕ) (m m' : MachineState) (out : List Record)
-    → DividesFrame at.next q ends.Done t m m' → EventAnswers (outcome_of (moment p t m) at q) event_ends.Done m m' out out
+    → DividesFrame at.next q ends.Done t m m' → EventAnswers (outcome_of (moment p m t) at q) event_ends.Done m m' out out
 done p at None t m m' out h = absurd h
 done p at (Some None) t m m' out h = absurd h
 done p at (Some (Some ops)) t m m' out h = steps_done p (put at.next ops (top m.guest t)) t m m' out h
 
 refused : (p : Linked) (at : Site) (q : Option (Option (List Value))) (t : ℕ) (m m' : MachineState) (out : List Record) (end : EventEnd)
-    → DividesFrame at.next q ends.IllTyped t m m' → end ≡ ill_typed_end m' t → EventAnswers (outcome_of (moment p t m) at q) end m m' out out
+    → DividesFrame at.next q ends.IllTyped t m m' → end ≡ ill_typed_end m' t → EventAnswers (outcome_of (moment p m t) at q) end m m' out out
 refused p at None t m m' out end h e = ill_typed_answers p t m m' out end h e
 refused p at (Some None) t m m' out end h e = absurd h
 refused p at (Some (Some ops)) t m m' out end h e = steps_refused p (put at.next ops (top m.guest t)) t m m' out end h e
 
 by_zero : (p : Linked) (at : Site) (q : Option (Option (List Value))) (t : ℕ) (m m' : MachineState)
-    → DividesFrame at.next q ends.ByZero t m m' → outcome_of (moment p t m) at q ≡ throws (moment p t m) ArithmeticException (begins (moment p t m))
+    → DividesFrame at.next q ends.ByZero t m m' → outcome_of (moment p m t) at q ≡ throws (moment p m t) ArithmeticException (begins (moment p m t))
 by_zero p at None t m m' h = absurd h
 by_zero p at (Some None) t m m' h = refl
 by_zero p at (Some (Some ops)) t m m' h = absurd h
@@ -128,20 +125,20 @@ zero_same pc (Some None) t m m' h = h
 zero_same pc (Some (Some ops)) t m m' h = absurd h
 
 pub division_done : (p : Linked) (at : Site) (n : Number) (o : Division) (t : ℕ) (m m' : MachineState) (out : List Record)
-    → DividesFrame at.next (quotients n o (top m.guest t).operands) ends.Done t m m' → EventAnswers (divides (moment p t m) at n o) event_ends.Done m m' out out
+    → DividesFrame at.next (quotients n o (top m.guest t).operands) ends.Done t m m' → EventAnswers (divides (moment p m t) at n o) event_ends.Done m m' out out
 division_done p at n o t m m' out h =
-    subst (λ (x : Outcome Kept). EventAnswers x event_ends.Done m m' out out) (sym (divides_by (moment p t m) at n o)) (done p at (quotients n o (top m.guest t).operands) t m m' out h)
+    subst (λ (x : Outcome Kept). EventAnswers x event_ends.Done m m' out out) (sym (divides_by (moment p m t) at n o)) (done p at (quotients n o (top m.guest t).operands) t m m' out h)
 
 pub division_refused : (p : Linked) (at : Site) (n : Number) (o : Division) (t : ℕ) (m m' : MachineState) (out : List Record) (end : EventEnd)
-    → DividesFrame at.next (quotients n o (top m.guest t).operands) ends.IllTyped t m m' → end ≡ ill_typed_end m' t → EventAnswers (divides (moment p t m) at n o) end m m' out out
+    → DividesFrame at.next (quotients n o (top m.guest t).operands) ends.IllTyped t m m' → end ≡ ill_typed_end m' t → EventAnswers (divides (moment p m t) at n o) end m m' out out
 division_refused p at n o t m m' out end h e =
-    subst (λ (x : Outcome Kept). EventAnswers x end m m' out out) (sym (divides_by (moment p t m) at n o)) (refused p at (quotients n o (top m.guest t).operands) t m m' out end h e)
+    subst (λ (x : Outcome Kept). EventAnswers x end m m' out out) (sym (divides_by (moment p m t) at n o)) (refused p at (quotients n o (top m.guest t).operands) t m m' out end h e)
 
 pub division_throws : (p : Linked) (at : Site) (n : Number) (o : Division) (t : ℕ) (m m₁ m₂ : MachineState) (out out' : List Record) (end : EventEnd)
     → DividesFrame at.next (quotients n o (top m.guest t).operands) ends.ByZero t m m₁
-    → EventAnswers (throws (moment p t m₁) ArithmeticException (begins (moment p t m₁))) end m₁ m₂ out out' → EventAnswers (divides (moment p t m) at n o) end m m₂ out out'
+    → EventAnswers (throws (moment p m₁ t) ArithmeticException (begins (moment p m₁ t))) end m₁ m₂ out out' → EventAnswers (divides (moment p m t) at n o) end m m₂ out out'
 division_throws p at n o t m m₁ m₂ out out' end h thrown =
     let q = quotients n o (top m.guest t).operands in
-    let is = divides_by (moment p t m) at n o ∙ by_zero p at q t m m₁ h in
-    let here = subst (λ (x : MachineState). EventAnswers (throws (moment p t x) ArithmeticException (begins (moment p t x))) end x m₂ out out') (zero_same at.next q t m m₁ h) thrown in
+    let is = divides_by (moment p m t) at n o ∙ by_zero p at q t m m₁ h in
+    let here = subst (λ (x : MachineState). EventAnswers (throws (moment p x t) ArithmeticException (begins (moment p x t))) end x m₂ out out') (zero_same at.next q t m m₁ h) thrown in
     subst (λ (x : Outcome Kept). EventAnswers x end m m₂ out out') (sym is) here

@@ -31,7 +31,7 @@ use Rattle.et_state.specs.declared.ends.EventEnd.TheVariants as ends
 use Rattle.et_state.specs.Outcome.{Outcome, Goes, ObjectLimit}
 use Rattle.et_program.specs.Entries.{Linked, class_at}
 use Rattle.et_event.specs.Errors.{class_called}
-use Rattle.et_event.specs.Moments.{Moment, Doing, frame_of, begins, instance_made, next_object, with_frame, ends as ending, fits, ill_typed}
+use Rattle.et_event.specs.Moments.{Moment, moment, Doing, frame_of, begins, instance_made, next_object, with_frame, ends as ending, fits, ill_typed}
 use Rattle.et_event.specs.Moments.{with_guest as doing_with}
 use Rattle.et_event.specs.Checks.{ill_typed_unless}
 use Rattle.et_event.specs.Sites.{Site, AString}
@@ -41,9 +41,6 @@ use Rattle.et_event.specs.Answered.{EventAnswers}
 use Rattle.et_parts.specs.Making.{MakesObject}
 use Rattle.et_parts.proofs.Answering.{ill_typed_end, ill_typed_answers}
 use Rattle.et_parts.proofs.Throwing.{ends_fit, ends_full}
-
-abbrev moment : Linked → ℕ → MachineState → Moment
-moment p t m = record { program = p; before = kept_of m; thread = t }
 
 abbrev Strings : Type 0
 Strings = List (List ℕ × ℕ)
@@ -167,38 +164,38 @@ loads_old e at bytes o lt some =
     ∙ ap (λ (r : Option ℕ). ending (with_frame e (stepped at.next (unwrap_or r 0) (frame_of e)) (begins e))) some)
 
 pub string_refused : (p : Linked) (at : Site) (bytes : List ℕ) (t : ℕ) (m : MachineState) (out : List Record) (end : EventEnd) → (top m.guest t).room ≤ length (top m.guest t).operands → end ≡ ill_typed_end m t
-    → EventAnswers (constant (moment p t m) at (Some (AString bytes))) end m m out out
+    → EventAnswers (constant (moment p m t) at (Some (AString bytes))) end m m out out
 string_refused p at bytes t m out end le e =
-    let e₀ = moment p t m in
+    let e₀ = moment p m t in
     let is : constant e₀ at (Some (AString bytes)) ≡ ill_typed e₀ =
     ap (λ (b : Bool). ill_typed_unless e₀ b (ending (loading e₀ at.next bytes (interned e₀ bytes (begins e₀))))) (le-ltb (length (top m.guest t).operands) (top m.guest t).room le) in
     subst (λ (x : Outcome Kept). EventAnswers x end m m out out) (sym is) (ill_typed_answers p t m m out end refl e)
 
 pub string_known : (p : Linked) (at : Site) (bytes : List ℕ) (o t : ℕ) (m m' : MachineState) (out : List Record) → length (top m.guest t).operands < (top m.guest t).room → fits m.heap ≡ true
     → object_of m.guest.interned bytes ≡ Some o → Led (kept_of m) (record { heap = m.heap; guest = with_top (ticked m.guest) t (stepped at.next o (top m.guest t)) }) m'
-    → EventAnswers (constant (moment p t m) at (Some (AString bytes))) ends.Done m m' out out
+    → EventAnswers (constant (moment p m t) at (Some (AString bytes))) ends.Done m m' out out
 string_known p at bytes o t m m' out lt fit some led =
-    let e = moment p t m in
+    let e = moment p m t in
     let d : Doing = with_frame e (stepped at.next o (frame_of e)) (begins e) in
     let is : constant e at (Some (AString bytes)) ≡ Goes d.state d.records = loads_old e at bytes o lt some ∙ ends_fit d fit in
     subst (λ (x : Outcome Kept). EventAnswers x ends.Done m m' out out) (sym is) (led, sym (append-nil out))
 
 pub string_full : (p : Linked) (at : Site) (bytes : List ℕ) (t : ℕ) (m m₁ : MachineState) (out out' : List Record) → length (top m.guest t).operands < (top m.guest t).room → object_of m.guest.interned bytes ≡ None
-    → MakesObject (instance_made (moment p t m) (class_called p (codes "java/lang/String")) (begins (moment p t m))) None m m₁ out out'
-    → EventAnswers (constant (moment p t m) at (Some (AString bytes))) ends.ObjectLimit m m₁ out out'
+    → MakesObject (instance_made (moment p m t) (class_called p (codes "java/lang/String")) (begins (moment p m t))) None m m₁ out out'
+    → EventAnswers (constant (moment p m t) at (Some (AString bytes))) ends.ObjectLimit m m₁ out out'
 string_full p at bytes t m m₁ out out' lt none made =
-    let e = moment p t m in
+    let e = moment p m t in
     let is : constant e at (Some (AString bytes)) ≡ ObjectLimit = loads_new e at bytes lt none ∙ ends_full (loading e at.next bytes (making e bytes)) made.0 in
     subst (λ (x : Outcome Kept). EventAnswers x ends.ObjectLimit m m₁ out out') (sym is) (made.1, made.2)
 
 pub string_made : (p : Linked) (at : Site) (bytes : List ℕ) (o t : ℕ) (m m₁ m₂ m₃ m₄ m₅ : MachineState) (out out' : List Record) → IsSound (kept_of m) → HasFrame m.guest t
     → length (top m.guest t).operands < (top m.guest t).room → object_of m.guest.interned bytes ≡ None
-    → MakesObject (instance_made (moment p t m) (class_called p (codes "java/lang/String")) (begins (moment p t m))) (Some o) m m₁ out out'
+    → MakesObject (instance_made (moment p m t) (class_called p (codes "java/lang/String")) (begins (moment p m t))) (Some o) m m₁ out out'
     → m₂ ≡ with_guest m₁ (with_string m₁.guest bytes o) → m₃ ≡ begun m₂
     → m₄ ≡ steps_top m₃ t (pushed (Ref o) (top m₃.guest t)) [] → m₅ ≡ steps_top m₄ t (at_pc at.next (top m₄.guest t)) []
-    → EventAnswers (constant (moment p t m) at (Some (AString bytes))) ends.Done m m₅ out out'
+    → EventAnswers (constant (moment p m t) at (Some (AString bytes))) ends.Done m m₅ out out'
 string_made p at bytes o t m m₁ m₂ m₃ m₄ m₅ out out' sound has lt none made e₂ e₃ e₄ e₅ =
-    let e : Moment = moment p t m in
+    let e : Moment = moment p m t in
     let n : ℕ = length m.heap in
     let class : ℕ = class_called p (codes "java/lang/String") in
     let d : Doing = with_frame e (stepped at.next n (frame_of e)) (making e bytes) in

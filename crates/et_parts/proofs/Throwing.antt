@@ -21,12 +21,9 @@ use Rattle.et_state.specs.Outcome.{Outcome, Goes, ObjectLimit}
 use Rattle.et_program.specs.Entries.{Linked, class_at}
 use Rattle.et_event.specs.declared.errors.GuestError.{GuestError}
 use Rattle.et_event.specs.Errors.{error_class}
-use Rattle.et_event.specs.Moments.{Moment, Doing, with_thread_state, begins, instance_made, pending_now, entry_given_up, next_object, ends as ending, fits, throws}
+use Rattle.et_event.specs.Moments.{Moment, moment, Doing, with_thread_state, begins, instance_made, pending_now, entry_given_up, next_object, ends as ending, fits, throws}
 use Rattle.et_event.specs.Answered.{EventAnswers}
 use Rattle.et_parts.specs.Making.{MakesObject}
-
-abbrev moment : Linked → ℕ → MachineState → Moment
-moment p t m = record { program = p; before = kept_of m; thread = t }
 
 -- HOW AN EVENT ENDS THAT MADE SOMETHING
 
@@ -49,9 +46,9 @@ not_given_up e d h = ap (λ (b : Bool). if b then d else with_thread_state e (as
 abbrev thrown : Moment → GuestError → Doing
 thrown e error = pending_now e (next_object (begins e)) (instance_made e (error_class e.program error) (begins e))
 
-throws_is : (p : Linked) (t : ℕ) (m : MachineState) (error : GuestError) → HasFrame m.guest t → throws (moment p t m) error (begins (moment p t m)) ≡ ending (thrown (moment p t m) error)
+throws_is : (p : Linked) (t : ℕ) (m : MachineState) (error : GuestError) → HasFrame m.guest t → throws (moment p m t) error (begins (moment p m t)) ≡ ending (thrown (moment p m t) error)
 throws_is p t m error has =
-    let e = moment p t m in
+    let e = moment p m t in
     ap (λ (d : Doing). ending (pending_now e (next_object (begins e)) (instance_made e (error_class e.program error) d))) (not_given_up e (begins e) has.frame)
 
 -- THE EVENT
@@ -81,11 +78,11 @@ thrown_led m t class slots m₁ m₂ m₃ sound has e₁ e₂ e₃ =
     (ap (λ (z : MachineState). length z.heap) is ∙ length_push m.heap (Some y)) (subst (λ (z : Kept). IsReached (graph_of z) n) (sym kept) reached) kept
 
 pub thrown_answers : (p : Linked) (t : ℕ) (error : GuestError) (o : ℕ) (m m₁ m₂ m₃ : MachineState) (out out' : List Record) → IsSound (kept_of m) → HasFrame m.guest t
-    → MakesObject (instance_made (moment p t m) (error_class p error) (begins (moment p t m))) (Some o) m m₁ out out' → m₂ ≡ begun m₁
+    → MakesObject (instance_made (moment p m t) (error_class p error) (begins (moment p m t))) (Some o) m m₁ out out' → m₂ ≡ begun m₁
     → m₃ ≡ steps_thread m₂ t (with_pending (Some o) (thread_at m₂.guest t)) (option_to_list (thread_at m₂.guest t).pending)
-    → EventAnswers (throws (moment p t m) error (begins (moment p t m))) ends.Done m m₃ out out'
+    → EventAnswers (throws (moment p m t) error (begins (moment p m t))) ends.Done m m₃ out out'
 thrown_answers p t error o m m₁ m₂ m₃ out out' sound has made e₂ e₃ =
-    let e : Moment = moment p t m in
+    let e : Moment = moment p m t in
     let is : throws e error (begins e) ≡ Goes (thrown e error).state (thrown e error).records = throws_is p t m error has ∙ ends_fit (thrown e error) made.0 in
     let at : m₃ ≡ steps_thread m₂ t (with_pending (Some (length m.heap)) (thread_at m₂.guest t)) (option_to_list (thread_at m₂.guest t).pending) =
     e₃ ∙ ap (λ (k : ℕ). steps_thread m₂ t (with_pending (Some k) (thread_at m₂.guest t)) (option_to_list (thread_at m₂.guest t).pending)) made.1 in
@@ -93,23 +90,23 @@ thrown_answers p t error o m m₁ m₂ m₃ out out' sound has made e₂ e₃ =
     (thrown_led m t (error_class p error) (class_at p (error_class p error)).info.slots m₁ m₂ m₃ sound has made.2 e₂ at, made.3)
 
 pub unmade_answers : (p : Linked) (t : ℕ) (error : GuestError) (m m₁ : MachineState) (out out' : List Record) → HasFrame m.guest t
-    → MakesObject (instance_made (moment p t m) (error_class p error) (begins (moment p t m))) None m m₁ out out'
-    → EventAnswers (throws (moment p t m) error (begins (moment p t m))) ends.ObjectLimit m m₁ out out'
+    → MakesObject (instance_made (moment p m t) (error_class p error) (begins (moment p m t))) None m m₁ out out'
+    → EventAnswers (throws (moment p m t) error (begins (moment p m t))) ends.ObjectLimit m m₁ out out'
 unmade_answers p t error m m₁ out out' has made =
-    let e : Moment = moment p t m in
+    let e : Moment = moment p m t in
     let is : throws e error (begins e) ≡ ObjectLimit = throws_is p t m error has ∙ ends_full (thrown e error) made.0 in
     subst (λ (x : Outcome Kept). EventAnswers x ends.ObjectLimit m m₁ out out') (sym is) (made.1, made.2)
 
 -- .. of the class that has the name
 pub thrown_by_name : (p : Linked) (t : ℕ) (error : GuestError) (class o : ℕ) (m m₁ m₂ m₃ : MachineState) (out out' : List Record) → IsSound (kept_of m) → HasFrame m.guest t → class ≡ error_class p error
-    → MakesObject (instance_made (moment p t m) class (begins (moment p t m))) (Some o) m m₁ out out' → m₂ ≡ begun m₁
+    → MakesObject (instance_made (moment p m t) class (begins (moment p m t))) (Some o) m m₁ out out' → m₂ ≡ begun m₁
     → m₃ ≡ steps_thread m₂ t (with_pending (Some o) (thread_at m₂.guest t)) (option_to_list (thread_at m₂.guest t).pending)
-    → EventAnswers (throws (moment p t m) error (begins (moment p t m))) ends.Done m m₃ out out'
+    → EventAnswers (throws (moment p m t) error (begins (moment p m t))) ends.Done m m₃ out out'
 thrown_by_name p t error class o m m₁ m₂ m₃ out out' sound has name made e₂ e₃ =
-    thrown_answers p t error o m m₁ m₂ m₃ out out' sound has (subst (λ (k : ℕ). MakesObject (instance_made (moment p t m) k (begins (moment p t m))) (Some o) m m₁ out out') name made) e₂ e₃
+    thrown_answers p t error o m m₁ m₂ m₃ out out' sound has (subst (λ (k : ℕ). MakesObject (instance_made (moment p m t) k (begins (moment p m t))) (Some o) m m₁ out out') name made) e₂ e₃
 
 pub unmade_by_name : (p : Linked) (t : ℕ) (error : GuestError) (class : ℕ) (m m₁ : MachineState) (out out' : List Record) → HasFrame m.guest t → class ≡ error_class p error
-    → MakesObject (instance_made (moment p t m) class (begins (moment p t m))) None m m₁ out out'
-    → EventAnswers (throws (moment p t m) error (begins (moment p t m))) ends.ObjectLimit m m₁ out out'
+    → MakesObject (instance_made (moment p m t) class (begins (moment p m t))) None m m₁ out out'
+    → EventAnswers (throws (moment p m t) error (begins (moment p m t))) ends.ObjectLimit m m₁ out out'
 unmade_by_name p t error class m m₁ out out' has name made =
-    unmade_answers p t error m m₁ out out' has (subst (λ (k : ℕ). MakesObject (instance_made (moment p t m) k (begins (moment p t m))) None m m₁ out out') name made)
+    unmade_answers p t error m m₁ out out' has (subst (λ (k : ℕ). MakesObject (instance_made (moment p m t) k (begins (moment p m t))) None m m₁ out out') name made)

@@ -11,12 +11,10 @@ use Rattle.et_machine.specs.State.{Kept}
 use Rattle.et_machine.specs.Words.{thread_at, top}
 use Rattle.et_event.specs.declared.rows.Row.{Row}
 use Rattle.et_event.specs.Event.{event, does, does_turn, by_instruction, by_row}
-use Rattle.et_event.specs.Moments.{Moment, ill_typed}
+use Rattle.et_event.specs.Moments.{ill_typed}
 use Rattle.et_event.specs.Sites.{decoded_at, site_of}
 use Rattle.et_event.specs.Table.{row_of}
-
-abbrev moment : Linked → Kept → ℕ → Moment
-moment p s t = record { program = p; before = s; thread = t }
+use Rattle.et_place.proofs.Answering.{moment}
 
 by_turn : (p : Linked) (s : Kept) (t : ℕ) → turn_of (thread_at s.guest t) ≡ turns.Instruction → event p s t ≡ by_instruction (moment p s t) (decoded_at p (top s.guest t))
 unfolding event

@@ -16,12 +16,8 @@ use et_items::numbers::{u8_at, u16_at};
 use et_machine::Machine;
 use et_program::{MethodInfo, Program};
 
-/// The method that a thread runs.
-pub(crate) fn method_of<'a>(
-    program: &'a Program,
-    machine: &Machine,
-    thread: ThreadId,
-) -> &'a MethodInfo
+/// The method that the topmost frame of a thread runs.
+pub fn method_of<'a>(program: &'a Program, machine: &Machine, thread: ThreadId) -> &'a MethodInfo
     requires frame { HasFrame machine.now.guest thread }
     requires runs { Runs program.now (top machine.now.guest thread) }
     ensures method { result.now ≡ method_in program.now (top machine.now.guest thread) }
@@ -40,8 +36,8 @@ fn bytes_of(code: &Code) -> &[u8]
     code.raw().code.as_slice()
 }
 
-/// The code of a method; there is none where it is abstract, native or built in.
-pub(crate) fn code_of(method: &MethodInfo) -> &[u8]
+/// The code of a method, borrowed; it is empty where the method is abstract, native or built in.
+pub fn code_of(method: &MethodInfo) -> &[u8]
     ensures bytes { result.now ≡ (body_of method.now.code).code }
     ensures few { length result.now < 2 ^ 16 }
 {

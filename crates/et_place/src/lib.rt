@@ -6,5 +6,6 @@ pub mod laws;
 mod members;
 mod places;
 
+pub use codes::{code_of, method_of};
 pub use members::{MemberAt, class_operand, member_at, names_interface};
 pub use places::{Place, place_of};

@@ -14,12 +14,11 @@ use Rattle.et_state.specs.declared.ends.EventEnd.TheVariants as endings
 use Rattle.et_state.specs.Outcome.{Outcome, Goes}
 use Rattle.et_event.specs.Answered.{EventAnswers}
 use Rattle.et_event.specs.Heap.{leaving}
-use Rattle.et_event.specs.Moments.{Moment, Doing, begins, next_object, array_made, slot_written, updated, goes, ends}
+use Rattle.et_event.specs.Moments.{Moment, moment, Doing, begins, next_object, array_made, slot_written, updated, goes, ends}
 use Rattle.et_event.specs.Sites.{Site}
 use Rattle.et_parts.specs.Making.{MakesObject}
 use Rattle.et_parts.proofs.Taking.{replaced}
 use Rattle.et_parts.proofs.Throwing.{ends_fit}
-use Rattle.et_refs.specs.Refusals.{moment}
 use Rattle.et_refs.proofs.Leading.{make_led}
 
 -- WRITING

@@ -1,14 +1,10 @@
 -- What the checks of an event come to: an answer with which it goes on, or what the first of them says that refuses.
-use Rattle.std.specs.Prelude.{ℕ, Result, Ok, Err}
-use Rattle.et_program.specs.Entries.{Linked}
-use Rattle.et_machine.specs.State.{Kept, MachineState, kept_of}
+use Rattle.std.specs.Prelude.{Result, Ok, Err}
+use Rattle.et_machine.specs.State.{Kept}
 use Rattle.et_state.specs.Outcome.{Outcome}
 use Rattle.et_event.specs.Moments.{Moment, begins, ill_typed, throws}
 use Rattle.et_refs.specs.declared.refusals.Refusal.{Refusal}
 use Rattle.et_refs.specs.declared.refusals.Refusal.TheVariants.{IllTyped, Throws}
-
-abbrev pub moment : Linked → MachineState → ℕ → Moment
-moment p m t = record { program = p; before = kept_of m; thread = t }
 
 abbrev pub refused : Moment → Refusal → Outcome Kept
 refused e IllTyped = ill_typed e

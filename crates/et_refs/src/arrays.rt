@@ -4,13 +4,13 @@ ghost use Rattle.et_machine.specs.State.{Kept, kept_of};
 ghost use Rattle.et_machine.specs.Words.{HasFrame, top};
 ghost use Rattle.et_program.specs.Entries.{class_at};
 ghost use Rattle.et_event.specs.Heap.{new_array_of, new_array as base_type_array, new_reference_array as reference_array};
-ghost use Rattle.et_event.specs.Moments.{Moment, frame_of};
+ghost use Rattle.et_event.specs.Moments.{Moment, moment, frame_of};
 ghost use Rattle.et_event.specs.Sites.{Site, natural as natural_of};
 ghost use Rattle.et_event.specs.Sound.{IsSoundFor};
 ghost use Rattle.et_place.specs.Places.{site_at};
 ghost use Rattle.et_refs.specs.Changes.{MayMake, added};
 ghost use Rattle.et_program.specs.Members.{base_array};
-ghost use Rattle.et_refs.specs.Refusals.{moment, decided};
+ghost use Rattle.et_refs.specs.Refusals.{decided};
 ghost use Rattle.et_refs.specs.Slots.{AreElementsWithin};
 
 use crate::casts::class_named;

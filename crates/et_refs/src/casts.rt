@@ -11,12 +11,12 @@ ghost use Rattle.et_state.specs.Outcome.{Outcome};
 ghost use Rattle.et_program.specs.Types.{passes as passing};
 ghost use Rattle.et_event.specs.Checks.{Reference, entries_of};
 ghost use Rattle.et_event.specs.Heap.{leaving, with_class, check_cast as check_casting, cast as casting, instance_of as instance_testing, tested as testing, truth as truth_of};
-ghost use Rattle.et_event.specs.Moments.{Moment, begins, goes};
+ghost use Rattle.et_event.specs.Moments.{Moment, moment, begins, goes};
 ghost use Rattle.et_event.specs.Sites.{Site, class_operand as operand_class, natural};
 ghost use Rattle.et_event.specs.Sound.{IsSoundFor};
 ghost use Rattle.et_place.specs.Places.{site_at};
 ghost use Rattle.et_refs.specs.Changes.{IsNamed, MayExchange, exchanged, left};
-ghost use Rattle.et_refs.specs.Refusals.{moment, decided};
+ghost use Rattle.et_refs.specs.Refusals.{decided};
 
 use crate::changes::Exchange;
 use crate::checks::{resolve, throws_unless};

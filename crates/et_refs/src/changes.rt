@@ -11,11 +11,10 @@ ghost use Rattle.et_machine.specs.Moves.{Led};
 ghost use Rattle.et_program.specs.Entries.{class_at, Linked};
 ghost use Rattle.et_event.specs.Answered.{EventAnswers};
 ghost use Rattle.et_event.specs.Checks.{entries_of};
-ghost use Rattle.et_event.specs.Moments.{Moment, begins, array_made, array_size as bytes_of, element_width as width_of_element, number_of as number_in, updated};
+ghost use Rattle.et_event.specs.Moments.{Moment, moment, begins, array_made, array_size as bytes_of, element_width as width_of_element, number_of as number_in, updated};
 ghost use Rattle.et_parts.specs.Making.{MakesObject};
 ghost use Rattle.et_place.specs.Places.{site_at};
 ghost use Rattle.et_refs.specs.Changes.{changed, stored, added, MayExchange, MayStore, MayMake, MayChange};
-ghost use Rattle.et_refs.specs.Refusals.{moment};
 
 use crate::kinds::element_width;
 use crate::slots::{SlotAt, slot_value};

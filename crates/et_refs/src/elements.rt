@@ -16,7 +16,8 @@ ghost use Rattle.et_event.specs.Sites.{Site, natural as natural_of};
 ghost use Rattle.et_event.specs.Sound.{IsSoundFor};
 ghost use Rattle.et_place.specs.Places.{site_at};
 ghost use Rattle.et_refs.specs.Changes.{IsNamed, MayExchange, MayStore, exchanged, stored};
-ghost use Rattle.et_refs.specs.Refusals.{moment, decided};
+ghost use Rattle.et_event.specs.Moments.{moment};
+ghost use Rattle.et_refs.specs.Refusals.{decided};
 ghost use Rattle.et_refs.specs.Slots.{IsSlotAt, IsElementWithin, AreElementsWithin};
 
 use crate::casts::passes;

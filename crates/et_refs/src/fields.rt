@@ -16,13 +16,13 @@ ghost use Rattle.et_event.specs.declared.errors.GuestError.TheVariants.{Incompat
 ghost use Rattle.et_event.specs.Checks.{entries_of, resolved, throws_unless as throwing_unless};
 ghost use Rattle.et_event.specs.Heap.{with_field, resolved_field, is_static_field, with_holder, get_field, put_field};
 ghost use Rattle.et_event.specs.Kinds.{kind_of as descriptor_kind, or_zero as zero_or};
-ghost use Rattle.et_event.specs.Moments.{Moment, begins};
+ghost use Rattle.et_event.specs.Moments.{Moment, moment, begins};
 ghost use Rattle.et_event.specs.Sites.{Member, member_of, natural};
 ghost use Rattle.et_event.specs.Sound.{IsSoundFor, HasField};
 ghost use Rattle.et_place.specs.Members.{shown_member};
 ghost use Rattle.et_place.specs.Places.{site_at};
 ghost use Rattle.et_refs.specs.Changes.{IsNamed, MayExchange, MayStore, exchanged, stored};
-ghost use Rattle.et_refs.specs.Refusals.{moment, decided};
+ghost use Rattle.et_refs.specs.Refusals.{decided};
 ghost use Rattle.et_refs.specs.Slots.{IsInstanceField, IsSlotAt};
 
 use crate::changes::{Exchange, Store};

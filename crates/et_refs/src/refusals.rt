@@ -4,7 +4,8 @@ ghost use Rattle.et_machine.specs.State.{kept_of};
 ghost use Rattle.et_machine.specs.Words.{HasFrame};
 ghost use Rattle.et_machine.specs.Sound.{IsSound};
 ghost use Rattle.et_event.specs.Answered.{EventAnswers};
-ghost use Rattle.et_refs.specs.Refusals.{moment, refused};
+ghost use Rattle.et_event.specs.Moments.{moment};
+ghost use Rattle.et_refs.specs.Refusals.{refused};
 
 use et_base::{NoMemory, ThreadId};
 use et_event::GuestError;

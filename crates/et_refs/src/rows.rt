@@ -7,12 +7,12 @@ ghost use Rattle.et_machine.specs.Words.{HasFrame, top};
 ghost use Rattle.et_event.specs.declared.rows.Row.TheVariants as row_kinds;
 ghost use Rattle.et_event.specs.Answered.{EventAnswers};
 ghost use Rattle.et_event.specs.Heap.{heap_event};
-ghost use Rattle.et_event.specs.Moments.{Moment};
+ghost use Rattle.et_event.specs.Moments.{Moment, moment};
 ghost use Rattle.et_event.specs.Sites.{Site, natural};
 ghost use Rattle.et_event.specs.Sound.{IsSoundFor};
 ghost use Rattle.et_place.specs.Places.{IsPlace, site_at};
 ghost use Rattle.et_refs.specs.Changes.{MayExchange, MayStore, MayMake, MayChange, exchanged, stored, added, changed};
-ghost use Rattle.et_refs.specs.Refusals.{moment, decided};
+ghost use Rattle.et_refs.specs.Refusals.{decided};
 ghost use Rattle.et_refs.specs.Rows.{HeapAnswers, is_done};
 ghost use Rattle.et_refs.specs.Slots.{AreElementsWithin};
 

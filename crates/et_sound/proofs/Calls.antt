@@ -9,7 +9,7 @@ use Rattle.et_program.specs.Entries.{Linked, method_at}
 use Rattle.et_heap.specs.Objects.{IsHeld}
 use Rattle.et_frames.specs.declared.stage.Stage.{Stage}
 use Rattle.et_frames.specs.declared.stage.Stage.TheVariants.{Plain, Before, Clinit}
-use Rattle.et_frames.specs.Threads.{FrameState, ThreadState, no_thread, first_frame, rest_of, entered_by, most_frames}
+use Rattle.et_frames.specs.Threads.{FrameState, ThreadState, no_thread, rest_of, entered_by, most_frames}
 use Rattle.et_machine.specs.declared.class_state.ClassState.TheVariants.{Done}
 use Rattle.et_machine.specs.State.{Kept}
 use Rattle.et_machine.specs.Words.{thread_at, HasFrame}

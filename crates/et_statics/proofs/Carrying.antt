@@ -1,6 +1,5 @@
 -- Once the class is initialized, the event that does an access is a legal step.
-use Rattle.std.proofs.Common.{◌≡◌, ℕ, zero, suc, ◌+◌, ◌*◌, ◌<◌, ◌≤◌, Bool, true, false, List, [], ◌∷◌, ◌++◌, length, take, drop, get_or, Option, Some, None, refl, sym, ◌∙◌, ap, subst, arith, inl, inr, Contains, append_assoc}
-use Rattle.std.specs.Prelude.{slice_index_or}
+use Rattle.std.proofs.Common.{◌≡◌, ℕ, ◌+◌, ◌*◌, ◌<◌, true, false, List, [], ◌∷◌, ◌++◌, length, take, drop, Option, Some, refl, sym, ◌∙◌, ap, subst, arith, inl, inr, Contains, append_assoc}
 use Rattle.std.proofs.lemmas.Bool.{cases_eq}
 use Rattle.std.proofs.lemmas.List.{length_push}
 use Rattle.std.proofs.lemmas.List.Elements.{Contains-append_left, Contains-append_right}
@@ -10,9 +9,9 @@ use Rattle.et_graph.proofs.Lists.{Contains-none, Contains-here, Contains-cons}
 use Rattle.et_heap.specs.Objects.{ObjectState, IsHeld, new_object, has_room}
 use Rattle.et_heap.specs.Refs.{refs_of_value, refs_of}
 use Rattle.et_heap.proofs.HeapLists.{held_within}
-use Rattle.et_frames.specs.Threads.{FrameState, ThreadState}
+use Rattle.et_frames.specs.Threads.{FrameState}
 use Rattle.et_frames.specs.Roots.{frame_roots}
-use Rattle.et_machine.specs.State.{GuestState, Kept, MachineState, kept_of}
+use Rattle.et_machine.specs.State.{Kept, MachineState, kept_of}
 use Rattle.et_machine.specs.Words.{top, with_top, HasFrame, static_at, with_static, steps_top, with_new_object}
 use Rattle.et_machine.specs.Roots.{roots_of}
 use Rattle.et_machine.specs.Sound.{IsSound}
@@ -29,7 +28,7 @@ use Rattle.et_event.specs.Answered.{EventAnswers}
 use Rattle.et_event.specs.Checks.{entries_of}
 use Rattle.et_event.specs.Heap.{leaving}
 use Rattle.et_event.specs.Kinds.{or_zero}
-use Rattle.et_event.specs.Moments.{Moment, Doing, frame_of, fits, updated}
+use Rattle.et_event.specs.Moments.{Moment, moment, Doing, frame_of, fits, updated}
 use Rattle.et_event.specs.Sites.{Site}
 use Rattle.et_event.specs.Sound.{is_of_kind}
 use Rattle.et_event.specs.declared.rows.Operand.{Operand}
@@ -38,14 +37,17 @@ use Rattle.et_parts.proofs.Throwing.{ends_fit, ends_full}
 use Rattle.et_refs.proofs.Leading.{moves_held, entries_refer}
 use Rattle.et_refs.proofs.Reading.{read_refers}
 use Rattle.et_sound.specs.WellFormed.{IsWellFormed}
-use Rattle.et_initialize.specs.Under.{moment, HasMadeStrings}
-use Rattle.et_statics.proofs.Basics.{strings_led, room_fits, written_state, has_frame_on, top_on, one_fits}
+use Rattle.et_initialize.specs.Under.{HasMadeStrings, base}
+use Rattle.et_initialize.proofs.Beginning.{strings_led}
+use Rattle.et_initialize.proofs.Counting.{room_fits}
+use Rattle.et_initialize.proofs.Setting.{written_state}
+use Rattle.et_initialize.proofs.Stepping.{has_frame_on, top_on, one_fits}
 use Rattle.et_statics.specs.declared.accesses.Read.{Read}
 use Rattle.et_statics.specs.declared.accesses.Write.{Write}
 use Rattle.et_statics.specs.declared.accesses.Access.{Access}
 use Rattle.et_statics.specs.declared.accesses.Access.TheVariants as access
 use Rattle.et_statics.specs.declared.accesses.Wanted.{Wanted}
-use Rattle.et_statics.specs.Accesses.{with_access, accessed, objects_in, slots_in, MayAccess, MayRead, MayWrite, MayWant, CanAccess, Accesses, reads, writes, makes, replaces, base}
+use Rattle.et_statics.specs.Accesses.{with_access, accessed, objects_in, slots_in, MayAccess, MayRead, MayWrite, MayWant, CanAccess, Accesses, reads, writes, replaces}
 
 -- so far the event has come to d: it initialized classes, and did nothing else
 pub record HasInitialized (p : Linked) (m : MachineState) (d : Doing) : Type 0 where

@@ -1,5 +1,5 @@
 -- The rows in parts: what goes on behind each check.
-use Rattle.std.proofs.Common.{◌≡◌, ℕ, ◌++◌, ◌∷◌, List}
+use Rattle.std.proofs.Common.{ℕ, ◌++◌, ◌∷◌, List}
 use Rattle.et_base.specs.declared.value.Value.{Value}
 use Rattle.et_base.specs.declared.value.Value.TheVariants.{Ref}
 use Rattle.et_program.specs.Entries.{field_at}

@@ -1,4 +1,3 @@
-pub mod Basics
 pub mod Leaving
 pub mod Chains
 pub mod Fitting

@@ -8,13 +8,12 @@ use Rattle.et_class.specs.declared.flags.TheConstants.{STATIC}
 use Rattle.et_heap.specs.Objects.{has_room, new_object}
 use Rattle.et_heap.specs.Refs.{refs_of_value, refs_of}
 use Rattle.et_frames.specs.Threads.{FrameState}
-use Rattle.et_machine.specs.State.{Kept, MachineState, kept_of}
-use Rattle.et_machine.specs.Words.{top, begun, static_at, with_static, steps_guest, steps_top, with_new_object}
+use Rattle.et_machine.specs.State.{Kept, MachineState}
+use Rattle.et_machine.specs.Words.{top, static_at, with_static, steps_guest, steps_top, with_new_object}
 use Rattle.et_program.specs.Entries.{Linked, class_at, field_at}
 use Rattle.et_state.specs.declared.records.Record.{Record}
 use Rattle.et_state.specs.declared.records.Record.TheVariants.{Alloc}
 use Rattle.et_state.specs.Outcome.{Outcome}
-use Rattle.et_event.specs.declared.rows.Operand.{Operand}
 use Rattle.et_event.specs.Checks.{entries_of}
 use Rattle.et_event.specs.Heap.{leaving}
 use Rattle.et_event.specs.Initialization.{initialized}
@@ -23,7 +22,6 @@ use Rattle.et_event.specs.Moments.{Moment, Doing, frame_of, begins, next_object,
 use Rattle.et_event.specs.Sites.{Site}
 use Rattle.et_event.specs.Sound.{is_of_kind}
 use Rattle.et_parts.specs.Tops.{IsIn}
-use Rattle.et_initialize.specs.Under.{with_kept}
 use Rattle.et_statics.specs.declared.accesses.Read.{Read}
 use Rattle.et_statics.specs.declared.accesses.Write.{Write}
 use Rattle.et_statics.specs.declared.accesses.Access.{Access}
@@ -53,10 +51,6 @@ abbrev pub slots_in : Linked → ℕ → Access → ℕ
 slots_in p class (access.Read x) = 0
 slots_in p class (access.Write x) = 0
 slots_in p class access.Make = (class_at p class).info.slots
-
--- a machine whose event has come to what was done, and lost nothing
-abbrev pub base : MachineState → Doing → MachineState
-base m d = with_kept (begun m) d.state
 
 -- WHAT HOLDS OF AN ACCESS
 

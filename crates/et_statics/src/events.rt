@@ -5,13 +5,13 @@ ghost use Rattle.et_machine.specs.State.{kept_of};
 ghost use Rattle.et_machine.specs.Words.{HasFrame, top};
 ghost use Rattle.et_event.specs.Answered.{EventAnswers};
 ghost use Rattle.et_event.specs.Initialization.{quietly_done};
-ghost use Rattle.et_event.specs.Moments.{begins, fits};
+ghost use Rattle.et_event.specs.Moments.{moment, begins, fits};
 ghost use Rattle.et_event.specs.Sound.{IsSoundFor};
 ghost use Rattle.et_place.specs.Places.{site_at};
-ghost use Rattle.et_refs.specs.Refusals.{moment};
 ghost use Rattle.et_sound.specs.Programs.{HasInitializers, MakesSound};
 ghost use Rattle.et_initialize.specs.Programs.{IsInOrder};
-ghost use Rattle.et_statics.specs.Accesses.{MayWant, base, objects_in, slots_in, accessed, wanted as wanting};
+ghost use Rattle.et_initialize.specs.Under.{base};
+ghost use Rattle.et_statics.specs.Accesses.{MayWant, objects_in, slots_in, accessed, wanted as wanting};
 
 use crate::accesses::{Wanted, carry_out, objects_made, slots_made};
 use et_base::{NoMemory, ThreadId};

@@ -6,12 +6,12 @@ ghost use Rattle.et_state.specs.Outcome.{Outcome};
 ghost use Rattle.et_event.specs.declared.errors.GuestError.TheVariants.{IncompatibleClassChangeError};
 ghost use Rattle.et_event.specs.Checks.{ill_typed_unless as ill_unless, throws_unless as throwing_unless};
 ghost use Rattle.et_event.specs.Heap.{resolved_field, is_static_field, get_static, put_static};
-ghost use Rattle.et_event.specs.Moments.{Moment, begins};
+ghost use Rattle.et_event.specs.Moments.{Moment, moment, begins};
 ghost use Rattle.et_event.specs.Sites.{natural};
 ghost use Rattle.et_event.specs.Sound.{IsSoundFor};
 ghost use Rattle.et_place.specs.Members.{shown_member};
 ghost use Rattle.et_place.specs.Places.{site_at};
-ghost use Rattle.et_refs.specs.Refusals.{moment, decided};
+ghost use Rattle.et_refs.specs.Refusals.{decided};
 ghost use Rattle.et_sound.specs.Programs.{HasSlots};
 ghost use Rattle.et_statics.specs.Accesses.{IsStaticField, MayWant, wanted};
 

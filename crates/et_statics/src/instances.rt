@@ -4,7 +4,8 @@ ghost use Rattle.et_machine.specs.Words.{HasFrame, top};
 ghost use Rattle.et_event.specs.Heap.{may_be_made as may_make, new_instance};
 ghost use Rattle.et_event.specs.Sites.{natural};
 ghost use Rattle.et_place.specs.Places.{site_at};
-ghost use Rattle.et_refs.specs.Refusals.{moment, decided};
+ghost use Rattle.et_event.specs.Moments.{moment};
+ghost use Rattle.et_refs.specs.Refusals.{decided};
 ghost use Rattle.et_statics.specs.Accesses.{MayWant, wanted};
 
 use crate::accesses::{Access, Wanted};

@@ -23,9 +23,9 @@ use Rattle.et_event.specs.declared.rows.BuiltIn.{BuiltIn}
 use Rattle.et_event.specs.declared.rows.Operand.TheVariants as operand
 use Rattle.et_event.specs.declared.rows.BuiltIn.TheVariants as built_in
 use Rattle.et_event.specs.declared.errors.GuestError.TheVariants.{AbstractMethodError, IllegalThreadStateException, OutOfMemoryError}
-use Rattle.et_event.specs.BuiltIns.{built_ins, is_called, built_in_of, argument, answering, reference_in, with_referent_of, reference_of, starts, with_thread_for, has_ended, done_on, built_in_row, done_by, built_in_event}
+use Rattle.et_event.specs.BuiltIns.{built_ins, is_called, built_in_of, argument, answering, reference_in, with_referent_of, reference_of, starts, with_thread_for, has_ended, is_object_of, built_in_row, done_by, built_in_event}
 use Rattle.et_event.specs.Calls.{begin_with, is_empty, are_arguments}
-use Rattle.et_event.specs.Checks.{value_of}
+use Rattle.et_event.specs.Checks.{value_of, ill_typed_unless}
 use Rattle.et_event.specs.Errors.{class_called}
 use Rattle.et_event.specs.Frames.{first_reference}
 use Rattle.et_event.specs.Kinds.{kind_of, returned_width}
@@ -244,7 +244,7 @@ module _ (e : Moment) (at : Site) (arguments : List Value) (o : ℕ) where
   class_within b is = (object_is_sound e.program (begins e).state o (going e at is.here).well is.held).0.class
 
   -- it is of this class
-  on_class : (name : List ℕ) (go : Outcome Kept) → (is_subclass e.program (class_of (begins e) o) (class_called e.program name) ≡ true → KeepsSound e.program go) → KeepsSound e.program (done_on e (begins e) name o go)
+  on_class : (name : List ℕ) (go : Outcome Kept) → (is_subclass e.program (class_of (begins e) o) (class_called e.program name) ≡ true → KeepsSound e.program go) → KeepsSound e.program (ill_typed_unless e (is_object_of e (begins e) o name) go)
   on_class name go h = unless_ill_typed e.program e (is_subclass e.program (class_of (begins e) o) (class_called e.program name)) go h
 
   -- a slot is written that the machine uses

@@ -26,7 +26,7 @@ use Rattle.et_event.specs.declared.rows.MonitorRow.TheVariants.{Enter, Exit}
 use Rattle.et_event.specs.Answered.{EventAnswers}
 use Rattle.et_event.specs.Checks.{Reference, with_reference, not_null, throws_unless, waits_unless}
 use Rattle.et_event.specs.Heap.{leaving}
-use Rattle.et_event.specs.Moments.{Moment, begins, ill_typed, goes, throws, waits}
+use Rattle.et_event.specs.Moments.{Moment, moment, begins, ill_typed, goes, throws, waits}
 use Rattle.et_event.specs.Monitors.{OfObject, owns, may_enter, entered, left, left_once}
 use Rattle.et_event.specs.Sites.{Site}
 use Rattle.et_event.specs.Sound.{IsSoundFor}
@@ -36,7 +36,6 @@ use Rattle.et_monitors.proofs.Keeping.{monitor_on_way}
 use Rattle.et_monitors.proofs.There.{few_times}
 use Rattle.et_parts.specs.Tops.{reference_of}
 use Rattle.et_parts.proofs.Answering.{ill_typed_answers, ill_typed_end}
-use Rattle.et_sync.specs.Moments.{moment}
 
 -- THE REFERENCE ON TOP
 

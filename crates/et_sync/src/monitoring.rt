@@ -14,7 +14,7 @@ ghost use Rattle.et_event.specs.Sound.{IsSoundFor};
 ghost use Rattle.et_event.specs.Sync.{monitor_event};
 ghost use Rattle.et_event.specs.declared.rows.MonitorRow.TheVariants as rows;
 ghost use Rattle.et_parts.specs.Tops.{reference_of};
-ghost use Rattle.et_sync.specs.Moments.{moment};
+ghost use Rattle.et_event.specs.Moments.{moment};
 
 use crate::waiting::wait_event;
 use et_base::{NoMemory, ObjectId, Steps, ThreadId};

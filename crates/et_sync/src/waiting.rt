@@ -5,8 +5,7 @@ ghost use Rattle.et_machine.specs.Sound.{IsSound};
 ghost use Rattle.et_program.specs.Entries.{Linked};
 ghost use Rattle.et_state.specs.declared.records.Record.{Record};
 ghost use Rattle.et_event.specs.Answered.{EventAnswers};
-ghost use Rattle.et_event.specs.Moments.{waits};
-ghost use Rattle.et_sync.specs.Moments.{moment};
+ghost use Rattle.et_event.specs.Moments.{moment, waits};
 
 use et_machine::Machine;
 use et_state::EventEnd;

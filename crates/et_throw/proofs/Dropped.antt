@@ -16,14 +16,14 @@ use Rattle.et_state.specs.declared.records.Record.{Record}
 use Rattle.et_state.specs.declared.records.Record.TheVariants.{Unwind}
 use Rattle.et_state.specs.declared.ends.EventEnd.TheVariants as ends
 use Rattle.et_event.specs.Answered.{EventAnswers}
-use Rattle.et_event.specs.Moments.{Moment, Doing, begins, told, goes}
+use Rattle.et_event.specs.Moments.{Moment, moment, Doing, begins, told, goes}
 use Rattle.et_event.specs.Monitors.{Lock, OfObject, OfClass, left, lock_in}
 use Rattle.et_event.specs.Sites.{method_of}
 use Rattle.et_event.specs.Throw.{left_if_owned, dropped, unwound}
 use Rattle.et_monitors.specs.Locks.{HasSome, doing, owns_at, leaving}
 use Rattle.et_monitors.proofs.Keeping.{monitor_on_way, left_is}
 use Rattle.et_monitors.proofs.There.{there_later}
-use Rattle.et_throw.specs.Unwinding.{moment, leaving_if_owned}
+use Rattle.et_throw.specs.Unwinding.{leaving_if_owned}
 
 -- THE MONITOR
 

@@ -33,10 +33,10 @@ use Rattle.et_event.specs.declared.errors.GuestError.TheVariants.{ExceptionInIni
 use Rattle.et_event.specs.Answered.{EventAnswers}
 use Rattle.et_event.specs.Errors.{error_class}
 use Rattle.et_event.specs.Initialization.{with_state}
-use Rattle.et_event.specs.Moments.{Doing, fits, number_of, ends as ending}
+use Rattle.et_event.specs.Moments.{moment, Doing, fits, number_of, ends as ending}
 use Rattle.et_event.specs.Throw.{replaced}
 use Rattle.et_parts.proofs.Throwing.{ends_fit, ends_full}
-use Rattle.et_throw.specs.Unwinding.{moment, initializer_left, initializer_dropped, unwind_records, IsMade}
+use Rattle.et_throw.specs.Unwinding.{initializer_left, initializer_dropped, unwind_records, IsMade}
 use Rattle.et_throw.proofs.Caught.{roots_are_few}
 use Rattle.et_throw.proofs.Turning.{pending_held}
 

@@ -22,11 +22,10 @@ use Rattle.et_state.specs.Outcome.{Outcome}
 use Rattle.et_event.specs.declared.errors.GuestError.TheVariants.{NullPointerException}
 use Rattle.et_event.specs.Answered.{EventAnswers}
 use Rattle.et_event.specs.Checks.{Reference, with_reference, not_null, ill_typed_unless}
-use Rattle.et_event.specs.Moments.{Moment, begins, ill_typed, goes, pending_now, throws}
+use Rattle.et_event.specs.Moments.{Moment, moment, begins, ill_typed, goes, pending_now, throws}
 use Rattle.et_event.specs.Throw.{throw, is_throwable}
 use Rattle.et_parts.specs.Tops.{reference_of}
 use Rattle.et_parts.proofs.Answering.{ill_typed_answers, ill_typed_end}
-use Rattle.et_throw.specs.Unwinding.{moment}
 
 -- THE REFERENCE ON TOP
 

@@ -14,10 +14,9 @@ use Rattle.et_state.specs.declared.ends.EventEnd.{EventEnd}
 use Rattle.et_state.specs.Outcome.{Outcome}
 use Rattle.et_event.specs.Answered.{EventAnswers}
 use Rattle.et_event.specs.Event.{event, does_turn}
-use Rattle.et_event.specs.Moments.{Moment}
+use Rattle.et_event.specs.Moments.{Moment, moment}
 use Rattle.et_event.specs.Throw.{by_handler, caught, unwinding_step, unwinds}
 use Rattle.et_parts.proofs.Answering.{ill_typed_answers, ill_typed_end}
-use Rattle.et_throw.specs.Unwinding.{moment}
 
 -- A HANDLER OR NONE
 

@@ -15,9 +15,6 @@ use Rattle.et_event.specs.Sound.{IsSoundFor}
 use Rattle.et_event.specs.Throw.{dropped, handled}
 use Rattle.et_monitors.specs.Locks.{owns_at, leaving}
 
-abbrev pub moment : Linked → MachineState → ℕ → Moment
-moment p m t = record { program = p; before = kept_of m; thread = t }
-
 -- a thread with a frame in which an exception is to be unwound, in a sound state
 pub record Unwinds (p : Linked) (m : MachineState) (t o : ℕ) : Type 0 where
   pub sound : IsSoundFor p (kept_of m)

@@ -8,7 +8,8 @@ ghost use Rattle.et_program.specs.Entries.{Linked};
 ghost use Rattle.et_state.specs.declared.records.Record.{Record};
 ghost use Rattle.et_event.specs.Answered.{EventAnswers};
 ghost use Rattle.et_event.specs.Throw.{caught};
-ghost use Rattle.et_throw.specs.Unwinding.{moment, handled_state};
+ghost use Rattle.et_event.specs.Moments.{moment};
+ghost use Rattle.et_throw.specs.Unwinding.{handled_state};
 
 use et_base::{ObjectId, ThreadId, Value};
 use et_machine::Machine;

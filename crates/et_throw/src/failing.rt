@@ -12,9 +12,9 @@ ghost use Rattle.et_event.specs.Answered.{EventAnswers};
 ghost use Rattle.et_event.specs.Errors.{class_called as called, error_class};
 ghost use Rattle.et_event.specs.declared.errors.GuestError.TheVariants as errors;
 ghost use Rattle.et_event.specs.Initialization.{with_state};
-ghost use Rattle.et_event.specs.Moments.{fits, ends};
+ghost use Rattle.et_event.specs.Moments.{moment, fits, ends};
 ghost use Rattle.et_event.specs.Throw.{failed, replaced};
-ghost use Rattle.et_throw.specs.Unwinding.{Unwinds, IsMade, moment, initializer_left, initializer_dropped};
+ghost use Rattle.et_throw.specs.Unwinding.{Unwinds, IsMade, initializer_left, initializer_dropped};
 
 use crate::records::{tell_error, tell_unwind};
 use et_base::{ClassId, NoMemory, ObjectId, Steps, ThreadId, Value};

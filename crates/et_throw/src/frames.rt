@@ -1,28 +1,14 @@
-//! The method that the topmost frame of a thread runs.
+//! How much the topmost frame of a thread has, and the exception table of its method.
 ghost use Rattle.std.specs.Prelude.{◌≡◌, ◌+◌, ◌<◌, ◌^◌, length};
 ghost use Rattle.et_machine.specs.Words.{HasFrame, top};
-ghost use Rattle.et_event.specs.Sites.{body_of, method_of as method_in};
+ghost use Rattle.et_event.specs.Sites.{body_of};
 ghost use Rattle.et_place.specs.Places.{Runs};
 
-use et_base::{MethodId, ThreadId};
+use et_base::ThreadId;
 use et_code::{Code, TableRow};
 use et_machine::Machine;
+use et_place::method_of;
 use et_program::{MethodInfo, Program};
-
-/// The method that a frame runs.
-pub(crate) fn method_of<'a>(
-    program: &'a Program,
-    machine: &Machine,
-    thread: ThreadId,
-) -> &'a MethodInfo
-    requires frame { HasFrame machine.now.guest thread }
-    requires runs { Runs program.now (top machine.now.guest thread) }
-    ensures method { result.now ≡ method_in program.now (top machine.now.guest thread) }
-    ensures class { result.now.class < length program.now.classes }
-{
-    let method = machine.frame_method(thread).unwrap_or(MethodId::new(0));
-    program.method(method)
-}
 
 /// The exception table of code.
 fn table_in(code: &Code) -> &[TableRow]

@@ -9,11 +9,12 @@ ghost use Rattle.et_place.specs.Places.{Runs};
 ghost use Rattle.et_place.specs.Pools.{slots_of};
 ghost use Rattle.et_throw.specs.Interfaces.{KnowsInterfaces};
 
-use crate::frames::{method_of, table_of};
+use crate::frames::table_of;
 use et_base::{ClassId, ThreadId};
 use et_class::flags::{INTERFACE, has};
 use et_code::TableRow;
 use et_machine::Machine;
+use et_place::method_of;
 use et_pool::Pool;
 use et_program::Program;
 

@@ -9,7 +9,7 @@ ghost use Rattle.et_machine.specs.Moves.{Led};
 ghost use Rattle.et_event.specs.Answered.{EventAnswers};
 ghost use Rattle.et_event.specs.Sound.{IsSoundFor};
 ghost use Rattle.et_event.specs.Throw.{throw, is_throwable};
-ghost use Rattle.et_throw.specs.Unwinding.{moment};
+ghost use Rattle.et_event.specs.Moments.{moment};
 
 use et_base::{NoMemory, ObjectId, Steps, ThreadId};
 use et_event::GuestError;

@@ -1,5 +1,5 @@
 -- What the calls that do the rows answer, where the row is theirs.
-use Rattle.std.proofs.Common.{◌≡◌, Bool, true, false, List, Option, Some, None, refl, sym, subst}
+use Rattle.std.proofs.Common.{◌≡◌, Bool, true, false, List, Option, Some, None, refl, subst}
 use Rattle.et_machine.specs.State.{Kept, MachineState}
 use Rattle.et_state.specs.declared.records.Record.{Record}
 use Rattle.et_state.specs.declared.ends.EventEnd.{EventEnd}
@@ -8,9 +8,6 @@ use Rattle.et_event.specs.Answered.{EventAnswers}
 use Rattle.et_event.specs.declared.rows.HeapRow.{HeapRow}
 use Rattle.et_event.specs.declared.rows.HeapRow.TheVariants as row
 use Rattle.et_event.specs.declared.rows.Row.{Row}
-use Rattle.et_event.specs.Heap.{heap_event}
-use Rattle.et_event.specs.Moments.{Moment}
-use Rattle.et_event.specs.Sites.{Site}
 use Rattle.et_ops.specs.Rows.{is_plain, PlainAnswers}
 use Rattle.et_refs.specs.Rows.{is_done, HeapAnswers}
 use Rattle.et_statics.specs.Rows.{needs_class, ClassAnswers}

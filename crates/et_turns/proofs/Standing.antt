@@ -9,7 +9,6 @@ use Rattle.et_frames.specs.declared.stage.Turn.TheVariants.{Unwind, EndThread, E
 use Rattle.et_frames.specs.Threads.{FrameState, ThreadState, no_thread, has_frame, is_before, top_of, turn_of}
 use Rattle.et_machine.specs.State.{Kept, GuestState}
 use Rattle.et_machine.specs.Words.{HasFrame, thread_at, top}
-use Rattle.et_state.specs.Outcome.{Outcome}
 use Rattle.et_event.specs.Event.{initializes, does_turn, event}
 use Rattle.et_event.specs.Initialization.{initialization_step}
 use Rattle.et_event.specs.Moments.{Moment}

@@ -9,7 +9,7 @@ ghost use Rattle.et_frames.specs.Threads.{turn_of};
 ghost use Rattle.et_machine.specs.State.{kept_of};
 ghost use Rattle.et_machine.specs.Words.{HasFrame, thread_at, top};
 ghost use Rattle.et_place.specs.Places.{IsPlace, site_at};
-ghost use Rattle.et_refs.specs.Refusals.{moment};
+ghost use Rattle.et_event.specs.Moments.{moment};
 ghost use Rattle.et_refs.specs.Rows.{is_done as done_by_refs};
 ghost use Rattle.et_refs.specs.Slots.{AreElementsWithin};
 ghost use Rattle.et_statics.specs.Rows.{needs_class as wants_class};

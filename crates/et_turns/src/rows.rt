@@ -9,7 +9,7 @@ ghost use Rattle.et_machine.specs.State.{kept_of};
 ghost use Rattle.et_machine.specs.Words.{thread_at, top};
 ghost use Rattle.et_ops.specs.Rows.{is_plain};
 ghost use Rattle.et_place.specs.Places.{IsPlace, site_at};
-ghost use Rattle.et_refs.specs.Refusals.{moment};
+ghost use Rattle.et_event.specs.Moments.{moment};
 ghost use Rattle.et_turns.specs.Runs.{IsRunnable};
 
 use crate::heap::heap_event;

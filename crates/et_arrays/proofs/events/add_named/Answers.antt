@@ -3,7 +3,7 @@ use Rattle.et_machine.specs.State.{kept_of}
 use Rattle.et_machine.specs.Words.{top}
 use Rattle.et_event.specs.Sites.{natural}
 use Rattle.et_place.specs.Places.{site_at}
-use Rattle.et_refs.specs.Refusals.{moment}
+use Rattle.et_event.specs.Moments.{moment}
 use Rattle.et_arrays.specs.Events.{arrays_added}
 use Rattle.et_arrays.proofs.Answering.{answers_as}
 use Rattle.et_arrays.proofs.events.add_named.Goals as goal

@@ -1,8 +1,7 @@
 use Rattle.std.proofs.Common.{◌∙◌, ap}
 use Rattle.et_machine.specs.State.{kept_of}
-use Rattle.et_event.specs.Moments.{Moment, Doing, fits}
+use Rattle.et_event.specs.Moments.{Moment, moment, Doing, fits}
 use Rattle.et_arrays.specs.declared.filling.Filling.{Filling}
-use Rattle.et_refs.specs.Refusals.{moment}
 use Rattle.et_arrays.proofs.Starting.{start_fits, start_filling, started}
 use Rattle.et_arrays.proofs.events.make_arrays.Goals as goal
 

@@ -1,5 +1,5 @@
 use Rattle.et_place.specs.Places.{site_at}
-use Rattle.et_refs.specs.Refusals.{moment}
+use Rattle.et_event.specs.Moments.{moment}
 use Rattle.et_arrays.proofs.Answering.{answers_as}
 use Rattle.et_arrays.proofs.Placed.{some_dimension, with_name, without_name}
 use Rattle.et_arrays.proofs.events.multi_array_event.Goals as goal

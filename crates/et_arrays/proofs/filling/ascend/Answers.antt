@@ -1,6 +1,5 @@
 use Rattle.std.proofs.Common.{rules, ◌≡◌, ◌<◌, ◌^◌, ◌++◌, ◌∷◌, [], arith, length}
-use Rattle.et_event.specs.Moments.{Moment}
-use Rattle.et_refs.specs.Refusals.{moment}
+use Rattle.et_event.specs.Moments.{Moment, moment}
 use Rattle.et_arrays.specs.Counts.{naturals_of}
 use Rattle.et_arrays.specs.Filling.{lower}
 use Rattle.et_arrays.proofs.Ascending.{parent_there, slot_there, ascended, ascended_fillings}

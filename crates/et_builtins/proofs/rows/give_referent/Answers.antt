@@ -5,8 +5,7 @@ use Rattle.et_event.specs.Answered.{EventAnswers}
 use Rattle.et_event.specs.BuiltIns.{answering}
 use Rattle.et_event.specs.Calls.{arguments_of}
 use Rattle.et_event.specs.Checks.{value_of}
-use Rattle.et_event.specs.Moments.{begins, goes}
-use Rattle.et_builtins.specs.Arguments.{moment}
+use Rattle.et_event.specs.Moments.{moment, begins, goes}
 use Rattle.et_builtins.proofs.Slots.{referent_is}
 use Rattle.et_builtins.proofs.rows.give_referent.Goals as goal
 

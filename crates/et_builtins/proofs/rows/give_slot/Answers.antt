@@ -6,8 +6,7 @@ use Rattle.et_event.specs.Answered.{EventAnswers}
 use Rattle.et_event.specs.BuiltIns.{answering}
 use Rattle.et_event.specs.Calls.{arguments_of}
 use Rattle.et_event.specs.Kinds.{or_zero}
-use Rattle.et_event.specs.Moments.{begins, goes}
-use Rattle.et_builtins.specs.Arguments.{moment}
+use Rattle.et_event.specs.Moments.{moment, begins, goes}
 use Rattle.et_builtins.proofs.Slots.{slot_or_null_held}
 use Rattle.et_builtins.proofs.rows.give_slot.Goals as goal
 

@@ -1,12 +1,12 @@
 use Rattle.std.proofs.Common.{length, sym, ◌∙◌}
 use Rattle.et_heap.specs.Objects.{object_at}
-use Rattle.et_builtins.specs.Arguments.{moment}
+use Rattle.et_event.specs.Moments.{moment, begins}
 use Rattle.et_builtins.proofs.Slots.{other_fit, other_used, thread_fit, thread_slots, thread_used, throwable_fit, throwable_slots, throwable_used}
 use Rattle.et_builtins.proofs.rows.is_fit.Goals as goal
 
 pub returns-then-uses_throwable-clause-value : goal.returns-then-uses_throwable-clause-value
 returns-then-uses_throwable-clause-value g c = λ t.
-    c.is_of.ensures.value t ∙ sym (throwable_fit (moment c.args.program.now c.args.machine.now t) c.args.object c.args.built_in (sym c.uses_throwable.ensures ∙ c.if-uses_throwable.true))
+    c.is_of.ensures.value t ∙ sym (throwable_fit (moment c.args.program.now c.args.machine.now t) (begins (moment c.args.program.now c.args.machine.now t)) c.args.object c.args.built_in (sym c.uses_throwable.ensures ∙ c.if-uses_throwable.true))
 
 pub returns-then-uses_throwable-clause-slots : goal.returns-then-uses_throwable-clause-slots
 returns-then-uses_throwable-clause-slots g c = λ h.
@@ -15,7 +15,7 @@ returns-then-uses_throwable-clause-slots g c = λ h.
 
 pub returns-then-uses_thread-clause-value : goal.returns-then-uses_thread-clause-value
 returns-then-uses_thread-clause-value g c = λ t.
-    c.is_of-then-uses_thread.ensures.value t ∙ sym (thread_fit (moment c.args.program.now c.args.machine.now t) c.args.object c.args.built_in (sym c.uses_thread.ensures ∙ c.if-uses_thread.true))
+    c.is_of-then-uses_thread.ensures.value t ∙ sym (thread_fit (moment c.args.program.now c.args.machine.now t) (begins (moment c.args.program.now c.args.machine.now t)) c.args.object c.args.built_in (sym c.uses_throwable.ensures ∙ c.if-uses_throwable.false) (sym c.uses_thread.ensures ∙ c.if-uses_thread.true))
 
 pub returns-then-uses_thread-clause-slots : goal.returns-then-uses_thread-clause-slots
 returns-then-uses_thread-clause-slots g c = λ h.
@@ -24,7 +24,7 @@ returns-then-uses_thread-clause-slots g c = λ h.
 
 pub returns-clause-value : goal.returns-clause-value
 returns-clause-value g c = λ t.
-    sym (other_fit (moment c.args.program.now c.args.machine.now t) c.args.object c.args.built_in (sym c.uses_throwable.ensures ∙ c.if-uses_throwable.false) (sym c.uses_thread.ensures ∙ c.if-uses_thread.false))
+    sym (other_fit (moment c.args.program.now c.args.machine.now t) (begins (moment c.args.program.now c.args.machine.now t)) c.args.object c.args.built_in (sym c.uses_throwable.ensures ∙ c.if-uses_throwable.false) (sym c.uses_thread.ensures ∙ c.if-uses_thread.false))
 
 pub returns-clause-slots : goal.returns-clause-slots
 returns-clause-slots g c = λ h.

@@ -4,8 +4,7 @@ use Rattle.et_machine.proofs.Steps.{waited_led}
 use Rattle.et_state.specs.declared.ends.EventEnd.TheVariants as ends
 use Rattle.et_event.specs.BuiltIns.{answering, has_ended}
 use Rattle.et_event.specs.Calls.{arguments_of}
-use Rattle.et_event.specs.Moments.{begins, goes}
-use Rattle.et_builtins.specs.Arguments.{moment}
+use Rattle.et_event.specs.Moments.{moment, begins, goes}
 use Rattle.et_builtins.proofs.Selected.{joined_answers, waiting_answers}
 use Rattle.et_builtins.proofs.rows.join_event.Goals as goal
 

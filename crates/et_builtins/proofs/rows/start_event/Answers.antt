@@ -2,9 +2,8 @@ use Rattle.std.proofs.Common.{◌≡◌, ◌<◌, [], length, None, arith, sym, 
 use Rattle.et_frames.specs.Threads.{most_threads, thread_with}
 use Rattle.et_event.specs.BuiltIns.{answering, with_thread_for}
 use Rattle.et_event.specs.Calls.{arguments_of}
-use Rattle.et_event.specs.Moments.{begins, goes}
+use Rattle.et_event.specs.Moments.{moment, begins, goes}
 use Rattle.et_parts.proofs.Answering.{if_ok}
-use Rattle.et_builtins.specs.Arguments.{moment}
 use Rattle.et_builtins.proofs.Selected.{none_is, started_answers}
 use Rattle.et_builtins.proofs.rows.start_event.Goals as goal
 

@@ -8,11 +8,10 @@ use Rattle.et_state.specs.declared.records.Record.TheVariants.{Enter}
 use Rattle.et_state.specs.declared.ends.EventEnd.TheVariants as ends
 use Rattle.et_event.specs.Frames.{frame_entered, method_frame, receiver_of}
 use Rattle.et_event.specs.Calls.{taking}
-use Rattle.et_event.specs.Moments.{begins, ends as ending}
+use Rattle.et_event.specs.Moments.{moment, begins, ends as ending}
 use Rattle.et_monitors.specs.Locks.{entering_some, locks_of}
 use Rattle.et_builtins.specs.Arguments.{arguments_in}
 use Rattle.et_calls.specs.Entering.{pushed_by}
-use Rattle.et_calls.proofs.Coming.{moment}
 use Rattle.et_calls.proofs.Entered.{few_answers, method_entered}
 use Rattle.et_calls.proofs.entering.enter_free.Goals as goal
 
@@ -21,7 +20,7 @@ returns-clause-ok g c =
     let p = c.args.program.now in
     let t = c.args.thread in
     let m = c.args.machine.now in
-    let e = moment p t m in
+    let e = moment p m t in
     let count = c.args.count in
     let method = c.args.method in
     let body = c.args.code.now in

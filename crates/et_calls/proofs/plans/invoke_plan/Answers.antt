@@ -7,13 +7,13 @@ use Rattle.et_event.specs.declared.errors.GuestError.{GuestError}
 use Rattle.et_event.specs.Calls.{is_static_call}
 use Rattle.et_calls.specs.Arguments.{fitting}
 use Rattle.et_calls.specs.Plans.{resolving}
-use Rattle.et_calls.proofs.Coming.{moment}
 use Rattle.et_calls.proofs.Planning.{checks, fitted, invoke_is, resolves}
 use Rattle.et_calls.proofs.plans.invoke_plan.Goals as goal
+use Rattle.et_event.specs.Moments.{moment}
 
 pub returns-in_default-fitting_call-clause-plan : goal.returns-in_default-fitting_call-clause-plan
 returns-in_default-fitting_call-clause-plan g c =
-    let e = moment c.args.program.now c.args.thread c.args.machine.now in
+    let e = moment c.args.program.now c.args.machine.now c.args.thread in
     let at = site_at c.args.place.now in
     let member = shown_member c.in-Some.member in
     let none : fitting e (is_static_call c.args.kind) (method_type member.descriptor) ≡ None =
@@ -22,7 +22,7 @@ returns-in_default-fitting_call-clause-plan g c =
 
 pub returns-in-Ok-clause-plan : goal.returns-in-Ok-clause-plan
 returns-in-Ok-clause-plan g c =
-    let e = moment c.args.program.now c.args.thread c.args.machine.now in
+    let e = moment c.args.program.now c.args.machine.now c.args.thread in
     let at = site_at c.args.place.now in
     let member = shown_member c.in-Some.member in
     let count = c.in-Some-fitting_call.count in
@@ -36,7 +36,7 @@ returns-in-Ok-clause-plan g c =
 
 pub returns-in-Err-clause-plan : goal.returns-in-Err-clause-plan
 returns-in-Err-clause-plan g c =
-    let e = moment c.args.program.now c.args.thread c.args.machine.now in
+    let e = moment c.args.program.now c.args.machine.now c.args.thread in
     let at = site_at c.args.place.now in
     let member = shown_member c.in-Some.member in
     let count = c.in-Some-fitting_call.count in

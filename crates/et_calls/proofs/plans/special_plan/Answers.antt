@@ -4,15 +4,14 @@ use Rattle.et_program.specs.declared.errors.LinkError.{LinkError}
 use Rattle.et_program.specs.Resolution.{select_special}
 use Rattle.et_event.specs.Calls.{arguments_of, enters_method, is_of_owner, special_class}
 use Rattle.et_event.specs.Checks.{selected}
-use Rattle.et_event.specs.Moments.{begins}
-use Rattle.et_calls.proofs.Coming.{moment}
+use Rattle.et_event.specs.Moments.{moment, begins}
 use Rattle.et_calls.proofs.Choosing.{special_room}
 use Rattle.et_calls.proofs.Planning.{special_selected}
 use Rattle.et_calls.proofs.plans.special_plan.Goals as goal
 
 pub returns-clause-plan : goal.returns-clause-plan
 returns-clause-plan g c = λ at same.
-    let e = moment c.args.program.now c.args.thread c.args.machine.now in
+    let e = moment c.args.program.now c.args.machine.now c.args.thread in
     let p = c.args.program.now in
     let args = arguments_of e c.args.count in
     let owner : is_of_owner e (begins e) c.args.method c.in-Some.receiver ≡ true = search rules in
@@ -24,5 +23,5 @@ returns-clause-plan g c = λ at same.
 
 pub returns-clause-within : goal.returns-clause-within
 returns-clause-within g c =
-    let e = moment c.args.program.now c.args.thread c.args.machine.now in
+    let e = moment c.args.program.now c.args.machine.now c.args.thread in
     c.selected.ensures.within e c.select_special.ensures.within (special_room e c.args.current c.special_class.result c.args.method c.args.count c.select_special.result c.select_special.ensures.value c.requires.room) c.requires.operands

@@ -6,11 +6,10 @@ use Rattle.et_machine.specs.Words.{top}
 use Rattle.et_state.specs.declared.records.Record.{Record}
 use Rattle.et_state.specs.declared.records.Record.TheVariants.{Exit}
 use Rattle.et_event.specs.Calls.{class_done_by}
-use Rattle.et_event.specs.Moments.{begins}
+use Rattle.et_event.specs.Moments.{moment, begins}
 use Rattle.et_event.specs.Monitors.{left_some}
 use Rattle.et_monitors.specs.Locks.{locks_of}
 use Rattle.et_calls.specs.Ways.{Came}
-use Rattle.et_calls.proofs.Coming.{moment}
 use Rattle.et_calls.proofs.Leaving.{frame_left}
 use Rattle.et_calls.proofs.returns.leave_frame.Goals as goal
 
@@ -19,7 +18,7 @@ returns-clause-ok g c =
     let p = c.args.program.now in
     let t = c.args.thread in
     let m = c.args.machine.now in
-    let e = moment p t m in
+    let e = moment p m t in
     let lock = locks_of c.args.lock.now in
     let came = c.begin_return.ensures.came e refl in
     let here : Came (kept_of m) (class_done_by (top m.guest t).stage (left_some lock (begins e))) c.begin_return.new.machine = subst (λ (stage : Stage). Came (kept_of m) (class_done_by stage (left_some lock (begins e))) c.begin_return.new.machine) c.stage-stage.ensures came in

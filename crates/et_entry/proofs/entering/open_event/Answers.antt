@@ -1,7 +1,6 @@
 use Rattle.std.proofs.Common.{sym, ap, append-nil}
 use Rattle.et_machine.specs.State.{MachineState}
-use Rattle.et_event.specs.Moments.{begins}
-use Rattle.et_initialize.specs.Under.{moment}
+use Rattle.et_event.specs.Moments.{moment, begins}
 use Rattle.et_monitors.specs.Locks.{HasSome, locks_of}
 use Rattle.et_monitors.proofs.There.{there_later}
 use Rattle.et_entry.proofs.Entered.{method_entered}

@@ -1,4 +1,6 @@
-use Rattle.et_entry.proofs.Quiet.{on_ok, begin_lost, begin_ready, quiet_came, quiet_fit}
+use Rattle.et_initialize.proofs.Beginning.{begin_lost, begin_ready}
+use Rattle.et_initialize.proofs.Counting.{on_ok}
+use Rattle.et_initialize.proofs.Needing.{quiet_came, quiet_fit}
 use Rattle.et_entry.proofs.mains.begin_quietly.Goals as goal
 
 pub set_quietly-requires-clause-ready : goal.set_quietly-requires-clause-ready

@@ -1,7 +1,7 @@
 use Rattle.std.proofs.Common.{ap}
 use Rattle.et_program.specs.declared.info.MethodInfo.{MethodInfo}
 use Rattle.et_initialize.specs.declared.needs.Need.TheVariants.{Waits}
-use Rattle.et_initialize.specs.Under.{moment}
+use Rattle.et_event.specs.Moments.{moment}
 use Rattle.et_entry.proofs.Coming.{alike}
 use Rattle.et_entry.proofs.Quiet.{main_met}
 use Rattle.et_entry.proofs.mains.main_event.Goals as goal

@@ -7,7 +7,8 @@ use Rattle.et_entry.proofs.Coming.{entry_argument}
 use Rattle.et_entry.proofs.Entered.{entry_entered, method_entered}
 use Rattle.et_entry.proofs.Fresh.{fresh_on}
 use Rattle.et_entry.proofs.Monitors.{static_lock}
-use Rattle.et_entry.proofs.Quiet.{base_lost, base_monitors, base_threads, class_lock_few, class_lock_there, quiet, quietly_initialized, quiet_room}
+use Rattle.et_initialize.proofs.Needing.{quiet}
+use Rattle.et_entry.proofs.Quiet.{base_lost, base_monitors, base_threads, class_lock_few, class_lock_there, quietly_initialized, quiet_room}
 use Rattle.et_entry.proofs.mains.open_quiet_event.Goals as goal
 
 pub begin_quietly-requires-clause-fits : goal.begin_quietly-requires-clause-fits

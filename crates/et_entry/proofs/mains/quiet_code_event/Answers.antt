@@ -1,14 +1,14 @@
 use Rattle.std.proofs.Common.{false, true, refl, sym, ◌∙◌}
 use Rattle.et_machine.specs.Words.{thread_at}
 use Rattle.et_event.specs.Calls.{entry_arguments}
-use Rattle.et_event.specs.Moments.{begins}
-use Rattle.et_initialize.specs.Under.{moment}
+use Rattle.et_event.specs.Moments.{moment, begins}
 use Rattle.et_initialize.proofs.Legal.{quietly_threads}
 use Rattle.et_monitors.specs.Locks.{locks_of}
 use Rattle.et_entry.proofs.Coming.{alike, answers_alike, open_is, waits_is}
 use Rattle.et_entry.proofs.Fresh.{fresh_on}
 use Rattle.et_entry.proofs.Monitors.{static_lock_is}
-use Rattle.et_entry.proofs.Quiet.{class_lock_there, quiet, quiet_may}
+use Rattle.et_initialize.proofs.Needing.{quiet}
+use Rattle.et_entry.proofs.Quiet.{class_lock_there, quiet_may}
 use Rattle.et_entry.proofs.mains.quiet_code_event.Goals as goal
 
 pub may_enter_some-requires : goal.may_enter_some-requires

@@ -1,5 +1,5 @@
 use Rattle.std.proofs.Common.{Some, subst}
-use Rattle.et_initialize.specs.Under.{moment}
+use Rattle.et_event.specs.Moments.{moment}
 use Rattle.et_entry.specs.Runs.{IsPlan}
 use Rattle.et_entry.specs.declared.runs.RunPlan.{RunPlan}
 use Rattle.et_entry.proofs.Coming.{object_argument}

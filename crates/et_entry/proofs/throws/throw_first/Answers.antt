@@ -1,7 +1,6 @@
 use Rattle.std.proofs.Common.{ℕ, List, Option, ◌∙◌, ap, subst}
 use Rattle.et_event.specs.Errors.{class_called}
-use Rattle.et_event.specs.Moments.{begins, instance_made}
-use Rattle.et_initialize.specs.Under.{moment}
+use Rattle.et_event.specs.Moments.{moment, begins, instance_made}
 use Rattle.et_parts.specs.Making.{MakesObject}
 use Rattle.et_entry.proofs.Thrown.{thrown_answers}
 use Rattle.et_entry.proofs.throws.throw_first.Goals as goal

@@ -1,6 +1,7 @@
 use Rattle.std.proofs.Common.{◌≡◌, ℕ, List, None, length, rules, ap, ◌∙◌}
 use Rattle.et_machine.specs.Interned.{text_of}
-use Rattle.et_initialize.specs.Under.{moment, so_far}
+use Rattle.et_event.specs.Moments.{moment}
+use Rattle.et_initialize.specs.Under.{so_far}
 use Rattle.et_initialize.proofs.Strings.{no_text, made_string}
 use Rattle.et_initialize.proofs.constants.make_string.Goals as goal
 

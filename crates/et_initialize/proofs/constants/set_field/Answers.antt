@@ -1,6 +1,6 @@
 use Rattle.std.proofs.Common.{◌≡◌, None, rules}
 use Rattle.std.specs.Prelude.{slice_get}
-use Rattle.et_initialize.specs.Under.{moment}
+use Rattle.et_event.specs.Moments.{moment}
 use Rattle.et_initialize.proofs.Strings.{no_pool_field}
 use Rattle.et_initialize.proofs.constants.set_field.Goals as goal
 

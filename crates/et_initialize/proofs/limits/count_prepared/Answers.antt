@@ -1,9 +1,8 @@
 use Rattle.std.proofs.Common.{◌≡◌, ◌≤◌, ℕ, List, length, take, subst, arith}
 use Rattle.std.proofs.lemmas.List.{take_all}
-use Rattle.et_event.specs.Moments.{begins}
+use Rattle.et_event.specs.Moments.{moment, begins}
 use Rattle.et_event.specs.Initialization.{prepared}
 use Rattle.et_initialize.specs.Texts.{CountedAll}
-use Rattle.et_initialize.specs.Under.{moment}
 use Rattle.et_initialize.proofs.Preparing.{counted_more}
 use Rattle.et_initialize.proofs.limits.count_prepared.Goals as goal
 

@@ -1,9 +1,8 @@
 use Rattle.std.proofs.Common.{◌≡◌, ◌<◌, ℕ, true, All, length}
 use Rattle.std.specs.List.{list_all}
-use Rattle.et_event.specs.Moments.{begins}
+use Rattle.et_event.specs.Moments.{moment, begins}
 use Rattle.et_event.specs.Initialization.{is_ready}
 use Rattle.et_initialize.specs.Texts.{CountedAll}
-use Rattle.et_initialize.specs.Under.{moment}
 use Rattle.et_initialize.proofs.Preparing.{pre_first}
 use Rattle.et_initialize.proofs.limits.count_prepared.Given as goal
 

@@ -1,8 +1,7 @@
 use Rattle.std.proofs.Common.{◌≡◌, ℕ, List, length, sym, ap, subst, ◌∙◌, rules}
-use Rattle.et_event.specs.Moments.{Doing, begins}
+use Rattle.et_event.specs.Moments.{moment, Doing, begins}
 use Rattle.et_event.specs.Initialization.{prepared, constants_set, with_state}
 use Rattle.et_initialize.specs.Texts.{CountedAll, has_room_for}
-use Rattle.et_initialize.specs.Under.{moment}
 use Rattle.et_initialize.proofs.Counting.{counted_none, counted_room, counted_marked, room_fits}
 use Rattle.et_initialize.proofs.limits.prepared_class_fits.Goals as goal
 

@@ -1,8 +1,7 @@
 use Rattle.std.proofs.Common.{◌≡◌, ℕ, List, length, sym, ap, subst, ◌∙◌, rules}
-use Rattle.et_event.specs.Moments.{begins}
+use Rattle.et_event.specs.Moments.{moment, begins}
 use Rattle.et_event.specs.Initialization.{prepared}
 use Rattle.et_initialize.specs.Texts.{CountedAll, has_room_for}
-use Rattle.et_initialize.specs.Under.{moment}
 use Rattle.et_initialize.proofs.Counting.{counted_none, counted_room}
 use Rattle.et_initialize.proofs.limits.prepared_fit.Goals as goal
 

@@ -1,9 +1,8 @@
 use Rattle.std.proofs.Common.{◌≡◌, ℕ, List, length, sym, ap, subst, ◌∙◌, rules}
 use Rattle.std.specs.Prelude.{fold}
-use Rattle.et_event.specs.Moments.{begins}
+use Rattle.et_event.specs.Moments.{moment, begins}
 use Rattle.et_event.specs.Initialization.{quietly_done}
 use Rattle.et_initialize.specs.Texts.{CountedAll, has_room_for}
-use Rattle.et_initialize.specs.Under.{moment}
 use Rattle.et_initialize.proofs.Setting.{done_step}
 use Rattle.et_initialize.proofs.Counting.{counted_none, counted_room}
 use Rattle.et_initialize.proofs.limits.quiet_fits.Goals as goal

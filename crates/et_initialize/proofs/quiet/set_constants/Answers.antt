@@ -3,9 +3,9 @@ use Rattle.std.specs.Prelude.{fold}
 use Rattle.et_frames.specs.Threads.{lost_room}
 use Rattle.et_machine.specs.State.{MachineState}
 use Rattle.et_program.specs.Entries.{ClassInfoOf, class_at}
-use Rattle.et_event.specs.Moments.{fits}
+use Rattle.et_event.specs.Moments.{moment, fits}
 use Rattle.et_event.specs.Initialization.{field_set}
-use Rattle.et_initialize.specs.Under.{moment, so_far}
+use Rattle.et_initialize.specs.Under.{so_far}
 use Rattle.et_initialize.proofs.Running.{field_can, field_has_room, field_came}
 use Rattle.et_initialize.proofs.quiet.set_constants.Goals as goal
 

@@ -1,7 +1,8 @@
 use Rattle.std.proofs.Common.{take}
 use Rattle.std.specs.Prelude.{fold}
 use Rattle.et_event.specs.Initialization.{field_set}
-use Rattle.et_initialize.specs.Under.{moment, so_far, ComesTo}
+use Rattle.et_event.specs.Moments.{moment}
+use Rattle.et_initialize.specs.Under.{so_far, ComesTo}
 use Rattle.et_initialize.proofs.quiet.set_constants.Given as goal
 
 abbrev pub invariant-loop-k : goal.invariant-loop-k

@@ -1,6 +1,7 @@
 use Rattle.std.proofs.Common.{take}
 use Rattle.std.specs.Prelude.{fold}
-use Rattle.et_initialize.specs.Under.{moment, so_far, ComesTo}
+use Rattle.et_event.specs.Moments.{moment}
+use Rattle.et_initialize.specs.Under.{so_far, ComesTo}
 use Rattle.et_initialize.proofs.Setting.{done_step}
 use Rattle.et_initialize.proofs.quiet.set_quietly.Given as goal
 

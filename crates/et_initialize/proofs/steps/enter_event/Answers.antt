@@ -1,7 +1,7 @@
 use Rattle.std.proofs.Common.{ℕ, ◌<◌, length, Option, IfSome, sym, ap, subst, ◌∙◌}
 use Rattle.et_program.specs.Entries.{ClassInfoOf}
 use Rattle.et_event.specs.Initialization.{enters_clinit}
-use Rattle.et_initialize.specs.Under.{moment}
+use Rattle.et_event.specs.Moments.{moment}
 use Rattle.et_initialize.proofs.Counting.{room_fits}
 use Rattle.et_initialize.proofs.Stepping.{after, clinit_full}
 use Rattle.et_initialize.proofs.Turning.{answers_alike}

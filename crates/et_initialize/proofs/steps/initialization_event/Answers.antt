@@ -1,7 +1,7 @@
 use Rattle.std.proofs.Common.{ℕ, ◌<◌, length, sym, ap, subst, ◌∙◌}
 use Rattle.std.proofs.lemmas.List.Elements.{All-take}
 use Rattle.et_program.specs.Entries.{ClassInfoOf}
-use Rattle.et_initialize.specs.Under.{moment}
+use Rattle.et_event.specs.Moments.{moment}
 use Rattle.et_initialize.proofs.Stepping.{waiting}
 use Rattle.et_initialize.proofs.Turning.{answers_alike, all_within, all_ready, before_all, blocker_fails, step_on, step_blocked}
 use Rattle.et_initialize.proofs.steps.initialization_event.Goals as goal

@@ -1,4 +1,5 @@
-use Rattle.et_initialize.specs.Under.{moment, so_far, ComesTo}
+use Rattle.et_event.specs.Moments.{moment}
+use Rattle.et_initialize.specs.Under.{so_far, ComesTo}
 use Rattle.et_initialize.proofs.Preparing.{pre_first}
 use Rattle.et_initialize.proofs.steps.prepare.Given as goal
 

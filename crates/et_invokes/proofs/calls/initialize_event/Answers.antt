@@ -4,18 +4,17 @@ use Rattle.et_machine.specs.Words.{class_state_at}
 use Rattle.et_program.specs.Entries.{method_at}
 use Rattle.et_program.specs.declared.info.MethodInfo.{MethodInfo}
 use Rattle.et_event.specs.Initialization.{state_of}
-use Rattle.et_event.specs.Moments.{begins}
+use Rattle.et_event.specs.Moments.{moment, begins}
 use Rattle.et_initialize.specs.Needs.{need_of}
 use Rattle.et_parts.proofs.Answering.{if_ok}
 use Rattle.et_invokes.proofs.Called.{one_ready}
 use Rattle.et_invokes.proofs.Initial.{begins_answers, loud_need, quiet_answers, quiet_need}
-use Rattle.et_invokes.proofs.Thrown.{moment}
 use Rattle.et_invokes.proofs.calls.initialize_event.Goals as goal
 
 pub enter_after-requires-clause-ready : goal.enter_after-requires-clause-ready
 enter_after-requires-clause-ready g c =
     let p = c.args.program.now in
-    let e = moment p c.args.thread c.args.machine.now in
+    let e = moment p c.args.machine.now c.args.thread in
     let class : c.method.result.now.class ≡ (method_at p c.args.method).class = ap (λ (i : MethodInfo). i.class) c.method.ensures.value in
     let un : state_of (begins e) c.method.result.now.class ≡ Untouched = ap (λ (k : ℕ). class_state_at c.args.machine.now.guest k) class ∙ c.requires.plan.2 in
     one_ready e c.method.result.now.class (begins e) un (quiet_need e c.method.result.now.class c.need_of.result un c.need_of.ensures c.in-Quiet.is)
@@ -30,7 +29,7 @@ pub returns-in-Quiet-clause-ok : goal.returns-in-Quiet-clause-ok
 returns-in-Quiet-clause-ok g c =
     let p = c.args.program.now in
     let m = c.args.machine.now in
-    let e = moment p c.args.thread m in
+    let e = moment p m c.args.thread in
     let class : c.method.result.now.class ≡ (method_at p c.args.method).class = ap (λ (i : MethodInfo). i.class) c.method.ensures.value in
     let un : state_of (begins e) (method_at p c.args.method).class ≡ Untouched = c.requires.plan.2 in
     let need : c.need_of.result ≡ need_of e (begins e) (method_at p c.args.method).class = c.need_of.ensures ∙ ap (λ (k : ℕ). need_of e (begins e) k) class in
@@ -43,7 +42,7 @@ pub returns-in_default-clause-ok : goal.returns-in_default-clause-ok
 returns-in_default-clause-ok g c =
     let p = c.args.program.now in
     let m = c.args.machine.now in
-    let e = moment p c.args.thread m in
+    let e = moment p m c.args.thread in
     let class : c.method.result.now.class ≡ (method_at p c.args.method).class = ap (λ (i : MethodInfo). i.class) c.method.ensures.value in
     let un : state_of (begins e) (method_at p c.args.method).class ≡ Untouched = c.requires.plan.2 in
     let need : c.need_of.result ≡ need_of e (begins e) (method_at p c.args.method).class = c.need_of.ensures ∙ ap (λ (k : ℕ). need_of e (begins e) k) class in

@@ -7,9 +7,8 @@ use Rattle.et_state.specs.Outcome.{Outcome}
 use Rattle.et_machine.specs.State.{Kept}
 use Rattle.et_event.specs.declared.errors.GuestError.{GuestError}
 use Rattle.et_event.specs.Answered.{EventAnswers}
-use Rattle.et_event.specs.Moments.{throws}
+use Rattle.et_event.specs.Moments.{moment, throws}
 use Rattle.et_parts.proofs.Answering.{if_ok}
-use Rattle.et_initialize.specs.Under.{moment}
 use Rattle.et_initialize.proofs.Stepping.{after}
 use Rattle.et_invokes.proofs.Called.{code_called, error_by, none_called}
 use Rattle.et_invokes.proofs.entering.enter_after.Goals as goal

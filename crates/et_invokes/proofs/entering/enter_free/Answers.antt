@@ -3,11 +3,10 @@ use Rattle.et_frames.specs.Threads.{most_frames}
 use Rattle.et_machine.specs.Words.{thread_at}
 use Rattle.et_event.specs.Calls.{arguments_of, taking}
 use Rattle.et_event.specs.Frames.{frame_entered}
-use Rattle.et_event.specs.Moments.{ends as ending}
+use Rattle.et_event.specs.Moments.{moment, ends as ending}
 use Rattle.et_state.specs.declared.ends.EventEnd.TheVariants as ends
 use Rattle.et_monitors.specs.Locks.{locks_of}
 use Rattle.et_parts.proofs.Answering.{if_ok}
-use Rattle.et_initialize.specs.Under.{moment}
 use Rattle.et_initialize.proofs.Counting.{room_fits}
 use Rattle.et_initialize.proofs.Stepping.{after}
 use Rattle.et_invokes.proofs.Entered.{few_after, full_after, prepared_full}

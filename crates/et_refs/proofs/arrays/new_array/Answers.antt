@@ -5,7 +5,7 @@ use Rattle.et_program.specs.Members.{base_array}
 use Rattle.et_event.specs.Heap.{new_array_of}
 use Rattle.et_event.specs.Sites.{natural}
 use Rattle.et_place.specs.Places.{site_at}
-use Rattle.et_refs.specs.Refusals.{moment}
+use Rattle.et_event.specs.Moments.{moment}
 use Rattle.et_refs.specs.Changes.{added}
 use Rattle.et_refs.proofs.Chains.{refusing, makes_base, whatever}
 use Rattle.et_refs.proofs.arrays.new_array.Goals as goal

@@ -4,7 +4,7 @@ use Rattle.et_machine.specs.State.{kept_of}
 use Rattle.et_machine.specs.Words.{top}
 use Rattle.et_event.specs.Heap.{new_array_of}
 use Rattle.et_place.specs.Places.{site_at}
-use Rattle.et_refs.specs.Refusals.{moment}
+use Rattle.et_event.specs.Moments.{moment}
 use Rattle.et_refs.specs.Changes.{added}
 use Rattle.et_refs.proofs.Chains.{refusing, makes_named, makes_resolved, makes, whatever}
 use Rattle.et_refs.proofs.arrays.new_reference_array.Goals as goal

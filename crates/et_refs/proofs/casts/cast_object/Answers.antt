@@ -4,10 +4,9 @@ use Rattle.et_heap.specs.Objects.{object_at}
 use Rattle.et_machine.specs.State.{kept_of}
 use Rattle.et_program.specs.Types.{passes}
 use Rattle.et_event.specs.declared.errors.GuestError.TheVariants.{ClassCastException}
-use Rattle.et_event.specs.Moments.{begins}
+use Rattle.et_event.specs.Moments.{moment, begins}
 use Rattle.et_event.specs.Checks.{throws_unless}
 use Rattle.et_refs.specs.Changes.{left}
-use Rattle.et_refs.specs.Refusals.{moment}
 use Rattle.et_refs.proofs.Chains.{refusing, casts}
 use Rattle.et_refs.proofs.casts.cast_object.Goals as goal
 

@@ -5,7 +5,7 @@ use Rattle.et_machine.specs.State.{kept_of}
 use Rattle.et_program.specs.Types.{passes}
 use Rattle.et_event.specs.Heap.{truth}
 use Rattle.et_refs.specs.Changes.{left}
-use Rattle.et_refs.specs.Refusals.{moment}
+use Rattle.et_event.specs.Moments.{moment}
 use Rattle.et_refs.proofs.Chains.{refusing, tests, truth_left}
 use Rattle.et_refs.proofs.casts.test_object.Goals as goal
 

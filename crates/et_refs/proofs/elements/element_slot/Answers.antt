@@ -1,11 +1,10 @@
 use Rattle.std.proofs.Common.{rules, ◌≡◌, Bool, true, Err, ◌∙◌, ap}
 use Rattle.et_event.specs.declared.errors.GuestError.TheVariants.{ArrayIndexOutOfBoundsException}
-use Rattle.et_event.specs.Moments.{begins}
+use Rattle.et_event.specs.Moments.{moment, begins}
 use Rattle.et_event.specs.Checks.{ill_typed_unless, throws_unless}
 use Rattle.et_event.specs.Heap.{element_of, length_of}
 use Rattle.et_event.specs.Kinds.{are_elements, in_bounds}
 use Rattle.et_event.specs.Sites.{natural}
-use Rattle.et_refs.specs.Refusals.{moment}
 use Rattle.et_refs.proofs.Chains.{refusing, elements_there, indexed}
 use Rattle.et_refs.proofs.elements.element_slot.Goals as goal
 

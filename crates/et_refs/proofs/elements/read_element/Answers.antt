@@ -2,10 +2,9 @@ use Rattle.std.proofs.Common.{rules, ◌≡◌, ◌++◌, ℤ, Err, drop, sym, �
 use Rattle.std.specs.Int.{w32}
 use Rattle.et_base.specs.declared.value.Value.{Value}
 use Rattle.et_machine.specs.Words.{top}
-use Rattle.et_event.specs.Moments.{begins, goes}
+use Rattle.et_event.specs.Moments.{moment, begins, goes}
 use Rattle.et_event.specs.Checks.{entries_of}
 use Rattle.et_event.specs.Heap.{leaving}
-use Rattle.et_refs.specs.Refusals.{moment}
 use Rattle.et_refs.specs.Changes.{exchanged}
 use Rattle.et_refs.proofs.Chains.{refusing, loads_index, loads, loaded}
 use Rattle.et_refs.proofs.May.{may_put}

@@ -1,11 +1,10 @@
 use Rattle.std.proofs.Common.{rules, ◌≡◌, ◌++◌, Bool, true, Err, drop, sym, ◌∙◌, ap, arith, lit≤}
 use Rattle.et_base.specs.declared.value.Value.{Value}
 use Rattle.et_machine.specs.Words.{top}
-use Rattle.et_event.specs.Moments.{begins, goes}
+use Rattle.et_event.specs.Moments.{moment, begins, goes}
 use Rattle.et_event.specs.Checks.{entries_of, ill_typed_unless}
 use Rattle.et_event.specs.Heap.{leaving, element_of}
 use Rattle.et_event.specs.Kinds.{is_array}
-use Rattle.et_refs.specs.Refusals.{moment}
 use Rattle.et_refs.specs.Changes.{exchanged}
 use Rattle.et_refs.proofs.Chains.{refusing, measures, measures_array, measured}
 use Rattle.et_refs.proofs.May.{may_put}

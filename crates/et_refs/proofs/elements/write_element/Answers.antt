@@ -5,10 +5,9 @@ use Rattle.et_heap.specs.Refs.{refs_of_value}
 use Rattle.et_machine.specs.Words.{top}
 use Rattle.et_machine.proofs.Places.{top_root}
 use Rattle.et_event.specs.declared.errors.GuestError.TheVariants.{ArrayStoreException}
-use Rattle.et_event.specs.Moments.{begins, slot_written, goes}
+use Rattle.et_event.specs.Moments.{moment, begins, slot_written, goes}
 use Rattle.et_event.specs.Checks.{throws_unless}
 use Rattle.et_event.specs.Heap.{leaving, passes_element, element_of}
-use Rattle.et_refs.specs.Refusals.{moment}
 use Rattle.et_refs.specs.Changes.{stored}
 use Rattle.et_refs.proofs.Chains.{refusing, stores_value, stores_index, stores, stores_tested, kept}
 use Rattle.et_refs.proofs.Reading.{element_refers}

@@ -2,7 +2,7 @@ use Rattle.std.proofs.Common.{rules, ◌≡◌, Err, sym, ◌∙◌, ap}
 use Rattle.et_machine.specs.State.{kept_of}
 use Rattle.et_program.specs.declared.info.FieldInfo.{FieldInfo}
 use Rattle.et_program.specs.Entries.{field_at}
-use Rattle.et_refs.specs.Refusals.{moment}
+use Rattle.et_event.specs.Moments.{moment}
 use Rattle.et_refs.proofs.Chains.{refusing, slot_held_by}
 use Rattle.et_refs.proofs.fields.field_slot.Goals as goal
 

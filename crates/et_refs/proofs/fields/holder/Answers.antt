@@ -1,5 +1,5 @@
 use Rattle.std.proofs.Common.{rules, ◌≡◌, Err}
-use Rattle.et_refs.specs.Refusals.{moment}
+use Rattle.et_event.specs.Moments.{moment}
 use Rattle.et_refs.proofs.Chains.{refusing, held_by}
 use Rattle.et_refs.proofs.fields.holder.Goals as goal
 

@@ -1,12 +1,11 @@
 use Rattle.std.proofs.Common.{rules, ◌≡◌, ◌++◌, Err, drop, sym, ◌∙◌, ap, arith, lit≤}
 use Rattle.et_base.specs.declared.value.Value.{Value}
 use Rattle.et_machine.specs.Words.{top}
-use Rattle.et_event.specs.Moments.{begins, goes}
+use Rattle.et_event.specs.Moments.{moment, begins, goes}
 use Rattle.et_event.specs.Checks.{entries_of}
 use Rattle.et_event.specs.Heap.{leaving}
 use Rattle.et_place.specs.Members.{shown_member}
 use Rattle.et_place.specs.Places.{site_at}
-use Rattle.et_refs.specs.Refusals.{moment}
 use Rattle.et_refs.specs.Changes.{exchanged}
 use Rattle.et_refs.proofs.Chains.{refusing, gets, gets_fitting, gets_slot, got}
 use Rattle.et_refs.proofs.fields.read_field.Goals as goal

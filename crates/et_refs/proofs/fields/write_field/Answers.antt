@@ -2,11 +2,10 @@ use Rattle.std.proofs.Common.{rules, ◌≡◌, ◌+◌, Err, drop, sym, ◌∙�
 use Rattle.et_base.specs.declared.value.Value.{Value}
 use Rattle.et_heap.specs.Refs.{refs_of_value}
 use Rattle.et_machine.specs.Words.{top}
-use Rattle.et_event.specs.Moments.{begins, slot_written, goes}
+use Rattle.et_event.specs.Moments.{moment, begins, slot_written, goes}
 use Rattle.et_event.specs.Heap.{leaving}
 use Rattle.et_place.specs.Members.{shown_member}
 use Rattle.et_place.specs.Places.{site_at}
-use Rattle.et_refs.specs.Refusals.{moment}
 use Rattle.et_refs.specs.Changes.{stored}
 use Rattle.et_refs.proofs.Chains.{refusing, puts, puts_value, puts_slot, put}
 use Rattle.et_refs.proofs.Reading.{kept_refers}

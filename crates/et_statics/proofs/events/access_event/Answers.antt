@@ -2,11 +2,10 @@ use Rattle.std.proofs.Common.{sym, subst}
 use Rattle.et_machine.specs.State.{Kept}
 use Rattle.et_state.specs.Outcome.{Outcome}
 use Rattle.et_event.specs.Answered.{EventAnswers}
-use Rattle.et_event.specs.Moments.{begins}
+use Rattle.et_event.specs.Moments.{moment, begins}
 use Rattle.et_place.specs.Places.{site_at}
-use Rattle.et_refs.specs.Refusals.{moment}
 use Rattle.et_statics.specs.Accesses.{accessed}
-use Rattle.et_statics.proofs.Quiet.{needs_met}
+use Rattle.et_initialize.proofs.Needing.{needs_met}
 use Rattle.et_statics.proofs.events.access_event.Goals as goal
 
 pub returns-in-Waits : goal.returns-in-Waits

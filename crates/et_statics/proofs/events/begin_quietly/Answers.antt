@@ -1,5 +1,6 @@
-use Rattle.et_statics.proofs.Basics.{on_ok, begin_lost}
-use Rattle.et_statics.proofs.Quiet.{begin_ready, quiet_came, quiet_fit}
+use Rattle.et_initialize.proofs.Beginning.{begin_lost, begin_ready}
+use Rattle.et_initialize.proofs.Counting.{on_ok}
+use Rattle.et_initialize.proofs.Needing.{quiet_came, quiet_fit}
 use Rattle.et_statics.proofs.events.begin_quietly.Goals as goal
 
 pub set_quietly-requires-clause-ready : goal.set_quietly-requires-clause-ready

@@ -2,9 +2,10 @@ use Rattle.std.proofs.Common.{◌≡◌, ◌∙◌, ℕ, Bool, true, false, sym,
 use Rattle.et_heap.specs.Objects.{has_room}
 use Rattle.et_place.specs.Places.{site_at}
 use Rattle.et_statics.specs.Accesses.{objects_in, slots_in}
-use Rattle.et_statics.proofs.Basics.{has_frame_on}
+use Rattle.et_initialize.proofs.Needing.{quiet}
+use Rattle.et_initialize.proofs.Stepping.{has_frame_on}
 use Rattle.et_statics.proofs.Carrying.{can_access, accessed_answers, access_full, base_threads}
-use Rattle.et_statics.proofs.Quiet.{quiet, quietly_initialized, room_asked}
+use Rattle.et_statics.proofs.Quiet.{quietly_initialized, room_asked}
 use Rattle.et_statics.proofs.events.quiet_event.Goals as goal
 
 pub carry_out-requires-clause-frame : goal.carry_out-requires-clause-frame

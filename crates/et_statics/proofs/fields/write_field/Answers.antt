@@ -6,7 +6,7 @@ use Rattle.et_program.specs.declared.info.FieldInfo.{FieldInfo}
 use Rattle.et_event.specs.Kinds.{narrowed}
 use Rattle.et_place.specs.Members.{shown_member}
 use Rattle.et_place.specs.Places.{site_at}
-use Rattle.et_refs.specs.Refusals.{moment}
+use Rattle.et_event.specs.Moments.{moment}
 use Rattle.et_refs.proofs.Chains.{refusing}
 use Rattle.et_statics.specs.declared.accesses.Access.TheVariants as access
 use Rattle.et_statics.specs.Accesses.{wanted}

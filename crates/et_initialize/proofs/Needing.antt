@@ -1,0 +1,72 @@
+-- What an event does that needs a class, by its need; and an event in which quiet classes become done.
+use Rattle.std.proofs.Common.{◌≡◌, ℕ, Bool, true, false, List, ◌++◌, refl, sym, ◌∙◌, ap, subst, append-nil}
+use Rattle.std.specs.Prelude.{◌==◌, if◌then◌else◌}
+use Rattle.et_machine.specs.declared.class_state.ClassState.{ClassState}
+use Rattle.et_machine.specs.declared.class_state.ClassState.TheVariants.{Untouched, Begun, Done, Failed}
+use Rattle.et_machine.specs.State.{Kept, MachineState}
+use Rattle.et_machine.specs.Words.{begun}
+use Rattle.et_program.specs.Entries.{Linked}
+use Rattle.et_state.specs.declared.records.Record.{Record}
+use Rattle.et_state.specs.Outcome.{Outcome}
+use Rattle.et_event.specs.Initialization.{state_of, is_quiet, needed, quietly_done}
+use Rattle.et_event.specs.Moments.{Moment, moment, Doing, begins, fits}
+use Rattle.et_initialize.specs.declared.needs.Need.{Need}
+use Rattle.et_initialize.specs.declared.needs.Need.TheVariants.{Ready, Waits, Quiet, Begins}
+use Rattle.et_initialize.specs.Needs.{need_by, need_of, met}
+use Rattle.et_initialize.specs.Under.{so_far, ComesTo, base}
+use Rattle.et_initialize.proofs.Records.{behind, behind_quietly}
+
+-- what the classes come to, with the records that were there
+abbrev pub quiet : Linked → ℕ → MachineState → ℕ → Doing
+quiet p t m c = quietly_done (moment p m t) c (begins (moment p m t))
+
+pub quiet_came : (p : Linked) (t c : ℕ) (m m₁ m₂ : MachineState) (out out₂ : List Record) → m₁ ≡ begun m → ComesTo (quietly_done (moment p m₁ t) c (so_far m₁ out)) m₁ m₂ out₂
+    → (m₂ ≡ base m (quiet p t m c)) × (out₂ ≡ out ++ (quiet p t m c).records)
+quiet_came p t c m m₁ m₂ out out₂ e h =
+    let q = moment p m t in
+    let d = begins q in
+    let n = begun m in
+    let a : ComesTo (quietly_done (moment p n t) c (so_far n out)) n m₂ out₂ = subst (λ (x : MachineState). ComesTo (quietly_done (moment p x t) c (so_far x out)) x m₂ out₂) e h in
+    let b : ComesTo (quietly_done q c (behind out d)) n m₂ out₂ = subst (λ (r : List Record). ComesTo (quietly_done q c (record { state = d.state; records = r })) n m₂ out₂) (sym (append-nil out)) a in
+    subst (λ (x : Doing). ComesTo x n m₂ out₂) (behind_quietly out q c d) b
+
+pub quiet_fit : (p : Linked) (t c : ℕ) (m m₁ : MachineState) (out : List Record) → m₁ ≡ begun m → fits (quiet p t m c).state.heap ≡ true → fits (quietly_done (moment p m₁ t) c (so_far m₁ out)).state.heap ≡ true
+quiet_fit p t c m m₁ out e fit =
+    let q = moment p m t in
+    let d = begins q in
+    let n = begun m in
+    let one : fits (quietly_done q c (behind out d)).state.heap ≡ true = ap (λ (x : Doing). fits x.state.heap) (behind_quietly out q c d) ∙ fit in
+    let two : fits (quietly_done (moment p n t) c (so_far n out)).state.heap ≡ true = subst (λ (r : List Record). fits (quietly_done q c (record { state = d.state; records = r })).state.heap ≡ true) (append-nil out) one in
+    ap (λ (x : MachineState). fits (quietly_done (moment p x t) c (so_far x out)).state.heap) e ∙ two
+
+-- WHAT IS NEEDED
+
+ready_or_waits : (e : Moment) (d : Doing) (c : ℕ) (go : Doing → Outcome Kept) (b : Bool) → (if b then go d else met e d c go Waits) ≡ met e d c go (if b then Ready else Waits)
+ready_or_waits e d c go true = refl
+ready_or_waits e d c go false = refl
+
+quiet_or_begins : (e : Moment) (d : Doing) (c : ℕ) (go : Doing → Outcome Kept) (b : Bool) → (if b then go (quietly_done e c d) else met e d c go Begins) ≡ met e d c go (if b then Quiet else Begins)
+quiet_or_begins e d c go true = refl
+quiet_or_begins e d c go false = refl
+
+needed_by : (e : Moment) (d : Doing) (c : ℕ) (s : ClassState) (go : Doing → Outcome Kept) → needed e d c s go ≡ met e d c go (need_by e d c s)
+needed_by e d c Untouched go = quiet_or_begins e d c go (is_quiet e d c)
+needed_by e d c (Begun t) go = ready_or_waits e d c go (t == e.thread)
+needed_by e d c Done go = refl
+needed_by e d c Failed go = refl
+
+pub needs_met : (e : Moment) (d : Doing) (c : ℕ) (go : Doing → Outcome Kept) (n k : Need) → n ≡ need_of e d c → n ≡ k → needed e d c (state_of d c) go ≡ met e d c go k
+needs_met e d c go n k is at = needed_by e d c (state_of d c) go ∙ ap (λ (x : Need). met e d c go x) (sym is ∙ at)
+
+not_begins : (b : Bool) → (if b then Ready else Waits) ≡ Begins → ⊥
+not_begins true e = cc
+not_begins false e = cc
+
+begins_untouched : (e : Moment) (d : Doing) (c : ℕ) (s : ClassState) → need_by e d c s ≡ Begins → s ≡ Untouched
+begins_untouched e d c Untouched h = refl
+begins_untouched e d c (Begun t) h = absurd (not_begins (t == e.thread) h)
+begins_untouched e d c Done h = cc
+begins_untouched e d c Failed h = cc
+
+pub untouched : (e : Moment) (d : Doing) (c : ℕ) (n : Need) → n ≡ need_of e d c → n ≡ Begins → state_of d c ≡ Untouched
+untouched e d c n is at = begins_untouched e d c (state_of d c) (sym is ∙ at)
