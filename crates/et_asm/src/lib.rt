@@ -13,8 +13,6 @@ mod labels;
 pub mod laws;
 mod order;
 mod symbols;
-#[cfg(test)]
-mod tests;
 mod uses;
 
 pub use assembling::assemble;

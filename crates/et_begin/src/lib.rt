@@ -3,7 +3,5 @@
 
 mod first;
 pub mod laws;
-#[cfg(test)]
-mod tests;
 
 pub use first::{begin, start_lines};

@@ -16,10 +16,6 @@ mod members;
 mod methods;
 mod names;
 mod reading;
-#[cfg(test)]
-mod samples;
-#[cfg(test)]
-mod tests;
 
 pub use class::{ClassFile, read_class};
 pub use fault::{

@@ -13,8 +13,6 @@ pub mod opcode;
 mod rules;
 mod starts;
 mod switches;
-#[cfg(test)]
-mod tests;
 
 pub use body::{CODE, CheckFault, Code, RawCode, TableRow, UNSUPPORTED};
 pub use check::check_code;

@@ -15,6 +15,3 @@ mod work;
 pub use machine::flush_machine;
 pub use room::{FlushRoom, flush};
 pub use times::NOW;
-
-#[cfg(test)]
-mod tests;

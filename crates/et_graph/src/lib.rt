@@ -12,6 +12,3 @@ mod within;
 
 pub use book::{GraphStep, StampBook};
 pub use objects::Death;
-
-#[cfg(test)]
-mod tests;

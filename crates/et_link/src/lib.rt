@@ -14,11 +14,7 @@ mod names;
 mod outlines;
 mod reading;
 mod refusal;
-#[cfg(test)]
-mod samples;
 mod slots;
-#[cfg(test)]
-mod tests;
 
 pub use fault::{LinkFault, LinkFaultKind};
 pub use linking::link;

@@ -10,6 +10,3 @@ mod threads;
 pub use class_state::ClassState;
 pub use et_frames::{NewFrame, Stage, Turn};
 pub use machine::Machine;
-
-#[cfg(test)]
-mod tests;

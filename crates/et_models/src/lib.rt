@@ -15,6 +15,3 @@ mod tables;
 pub use generational::Generational;
 pub use mark_sweep::MarkSweep;
 pub use semi_space::SemiSpace;
-
-#[cfg(test)]
-mod tests;

@@ -9,8 +9,6 @@ pub mod laws;
 mod look;
 mod reading;
 pub mod tags;
-#[cfg(test)]
-mod tests;
 mod text;
 
 pub use fault::PoolFault;

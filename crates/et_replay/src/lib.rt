@@ -15,8 +15,3 @@ pub use curve::curve_lines;
 pub use item::{Item, Timeline};
 pub use model::{Fed, HeapModel, Kind, Policy, Report};
 pub use replaying::replay;
-
-#[cfg(test)]
-mod tests;
-#[cfg(test)]
-mod tests_of_timeline;

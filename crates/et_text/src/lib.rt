@@ -20,8 +20,3 @@ pub use reader::TextReader;
 pub use reading::read_line;
 pub use trace::Trace;
 pub use writing::write_line;
-
-#[cfg(test)]
-mod tests;
-#[cfg(test)]
-mod tests_of_reading;

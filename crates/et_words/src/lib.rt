@@ -5,7 +5,5 @@ mod command;
 mod numbers;
 mod options;
 mod split;
-#[cfg(test)]
-mod tests;
 
 pub use command::{Command, Generations, Models, read_words};

@@ -1,0 +1,22 @@
+use Rattle.std.proofs.Common.{List, [], ◌∷◌, refl}
+use Rattle.et_graph.specs.Edit.{Edit}
+use Rattle.et_graph.proofs.Legality.{row, tested_steps}
+use Rattle.et_tests.proofs.graphs.a_cycle_dies_whole.Goals as goal
+
+-- the table
+abbrev edits : List Edit
+edits =
+    row (1 ∷ []) [] (1 ∷ []) [] []
+    ∷ row [] (1 ∷ []) (1 ∷ []) [] []
+    ∷ row (2 ∷ []) [] (1 ∷ 2 ∷ []) [] []
+    ∷ row (3 ∷ []) [] (1 ∷ 2 ∷ 3 ∷ []) [] []
+    ∷ row [] [] (1 ∷ 2 ∷ 3 ∷ 2 ∷ 3 ∷ []) [] []
+    ∷ row [] (3 ∷ 2 ∷ []) (1 ∷ 2 ∷ 3 ∷ []) [] ((2, 3) ∷ [])
+    ∷ row [] (3 ∷ 2 ∷ []) (1 ∷ 3 ∷ 2 ∷ []) [] []
+    ∷ row [] (2 ∷ 3 ∷ []) (1 ∷ []) [] ((3, 2) ∷ [])
+    ∷ row [] (1 ∷ []) [] [] []
+    ∷ row [] [] [] [] []
+    ∷ []
+
+pub play-requires-clause-legal : goal.play-requires-clause-legal
+play-requires-clause-legal g c = tested_steps [] edits refl

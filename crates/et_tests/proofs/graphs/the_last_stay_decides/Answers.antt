@@ -1,0 +1,16 @@
+use Rattle.std.proofs.Common.{List, [], ◌∷◌, refl}
+use Rattle.et_graph.specs.Edit.{Edit}
+use Rattle.et_graph.proofs.Legality.{row, tested_steps}
+use Rattle.et_tests.proofs.graphs.the_last_stay_decides.Goals as goal
+
+-- the table
+abbrev edits : List Edit
+edits =
+    row (1 ∷ 2 ∷ []) [] (1 ∷ []) [] ((1, 2) ∷ [])
+    ∷ row [] (2 ∷ []) (1 ∷ []) ((1, 2) ∷ []) []
+    ∷ row [] [] (1 ∷ 2 ∷ []) [] []
+    ∷ row [] (2 ∷ []) (1 ∷ []) [] []
+    ∷ []
+
+pub play-requires-clause-legal : goal.play-requires-clause-legal
+play-requires-clause-legal g c = tested_steps [] edits refl

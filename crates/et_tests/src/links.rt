@@ -1,0 +1,208 @@
+//! Small sets of classes: the fault that each has, and what calls and fields of their classes mean (JVMS 5.4.3, 6.5).
+
+use crate::link_files::{
+    BAD, BOTH, BOX, GRID, LEFT, LOOP, LOWER, NEAR, NONE, ONE, OPEN, RIGHT, SUB, TEXT, TOP, UPPER,
+};
+use et_base::{ClassId, MethodId};
+use et_class::{ClassFault, ClassFile, read_class};
+use et_link::{LinkFault, LinkFaultKind, link};
+use et_program::{LinkError, Program};
+use std::alloc::Global;
+use std::process::Abort;
+use std::test::Fail;
+
+fn read_all(alloc: Global, sources: &[&[u8]]) -> Result<Vec<ClassFile>, ClassFault> {
+    let mut files = Vec::new(alloc);
+    for source in sources {
+        let file = read_class(alloc, source)?;
+        files.push(file)?;
+    }
+    Ok(files)
+}
+
+fn link_all(
+    rt: &impl Abort,
+    alloc: Global,
+    sources: &[&[u8]],
+) -> Result<Result<Program, LinkFault>, ClassFault> {
+    let files = read_all(alloc, sources)?;
+    assert!(rt; files.len() > 0);
+    Ok(link(alloc, files))
+}
+
+/// The files have a fault of this kind, at this class.
+fn refuses(
+    rt: &impl Abort,
+    alloc: Global,
+    sources: &[&[u8]],
+    kind: LinkFaultKind,
+    class: &[u8],
+) -> Result<(), ClassFault> {
+    match link_all(rt, alloc, sources)? {
+        Err(
+            LinkFault::At {
+                kind: found,
+                class: name,
+            },
+        ) => {
+            assert_eq!(rt; found, kind);
+            assert_eq!(rt; name.as_slice(), class);
+        }
+        Err(LinkFault::NoMemory) => panic!(rt; "no memory"),
+        Ok(_) => panic!(rt; "linked"),
+    }
+    Ok(())
+}
+
+#[test]
+fn faults_of_names(rt: HostRuntime) -> Result<(), Fail> {
+    let alloc = rt.alloc();
+    refuses(&rt, alloc, &[&BOX, &BOX], LinkFaultKind::Duplicate, b"Box")?;
+    refuses(
+        &rt,
+        alloc,
+        &[&BAD, &BOX, &BOX],
+        LinkFaultKind::Duplicate,
+        b"Box",
+    )?;
+    refuses(&rt, alloc, &[&SUB], LinkFaultKind::NoSuper, b"Sub")?;
+    refuses(&rt, alloc, &[&BAD, &SUB], LinkFaultKind::NoSuper, b"Sub")?;
+    refuses(&rt, alloc, &[&LOOP], LinkFaultKind::Cycle, b"Loop")?;
+    refuses(&rt, alloc, &[&TEXT], LinkFaultKind::FinalSuper, b"Text")?;
+    Ok(())
+}
+
+#[test]
+fn faults_of_methods(rt: HostRuntime) -> Result<(), Fail> {
+    let alloc = rt.alloc();
+    refuses(
+        &rt,
+        alloc,
+        &[&UPPER, &LOWER],
+        LinkFaultKind::CrossPackage,
+        b"q/Lower",
+    )?;
+    refuses(&rt, alloc, &[&BAD], LinkFaultKind::NoMain, b"Bad")?;
+    refuses(&rt, alloc, &[&BAD, &BOX], LinkFaultKind::NoMain, b"Bad")?;
+    Ok(())
+}
+
+#[test]
+fn near_redeclares(rt: HostRuntime) -> Result<(), Fail> {
+    let program = link_all(&rt, rt.alloc(), &[&UPPER, &NEAR])??;
+    assert_eq!(rt; program.class_count(), 43);
+    Ok(())
+}
+
+#[test]
+fn one_box(rt: HostRuntime) -> Result<(), Fail> {
+    let program = link_all(&rt, rt.alloc(), &[&BOX])??;
+    // 40 built-in classes, Box, and the arrays of strings
+    assert_eq!(rt; program.class_count(), 42);
+    let class = program.resolve_class(b"Box")?;
+    assert_eq!(rt; class, ClassId::new(40));
+    assert_eq!(rt; program.class(class).name.as_slice(), b"Box".as_slice());
+    let main = program.method(program.main());
+    assert_eq!(rt; main.name.as_slice(), b"main".as_slice());
+    assert_eq!(rt; main.class, class);
+    assert_eq!(rt; program.file_methods(), [program.main()].as_slice());
+    let strings = program.resolve_class(b"[Ljava/lang/String;")?;
+    let string = program.resolve_class(b"java/lang/String")?;
+    assert_eq!(rt; program.array_over(string), Some(strings));
+    assert_eq!(rt; program.array_over(class), None);
+    assert!(rt; program.pool(class).is_some());
+    assert!(rt; program.pool(strings).is_none());
+    let object = program.resolve_class(b"java/lang/Object")?;
+    assert_eq!(rt; program.init_order(class), [object, class].as_slice());
+    assert!(rt; program.passes(strings, object));
+    Ok(())
+}
+
+#[test]
+fn arrays_of_arrays(rt: HostRuntime) -> Result<(), Fail> {
+    let program = link_all(&rt, rt.alloc(), &[&GRID])??;
+    let rows = program.resolve_class(b"[I")?;
+    let grid = program.resolve_class(b"[[I")?;
+    assert_eq!(rt; program.base_array(10), Some(rows));
+    assert_eq!(rt; program.array_over(rows), Some(grid));
+    assert_eq!(rt; program.base_array(4), None);
+    Ok(())
+}
+
+fn class_of(program: &Program, method: Result<MethodId, LinkError>) -> Result<ClassId, LinkError>
+    requires { IfOk method (λ m. m < length program.now.methods) }
+{
+    let method = method?;
+    Ok(program.method(method).class)
+}
+
+ghost use Rattle.std.specs.Prelude.{◌<◌, length, IfOk};
+
+#[test]
+fn diamonds(rt: HostRuntime) -> Result<(), Fail> {
+    let sources: [&[u8]; 5] = [&BOTH, &ONE, &TOP, &LEFT, &RIGHT];
+    let program = link_all(&rt, rt.alloc(), &sources)??;
+    let both = program.resolve_class(b"Both")?;
+    let one = program.resolve_class(b"One")?;
+    let top = program.resolve_class(b"Top")?;
+    let left = program.resolve_class(b"Left")?;
+    // several are maximally specific: the first is resolved, and none is selected (5.4.3.3, 6.5)
+    let method = program.resolve_method(both, false, b"m", b"()V")?;
+    assert_eq!(rt; program.method(method).class, top);
+    assert_eq!(rt;
+        program.select(both, method, false),
+        Err(LinkError::IncompatibleClassChange)
+    );
+    // Left is below Top
+    let found = program.resolve_method(one, false, b"m", b"()V");
+    assert_eq!(rt; class_of(&program, found), Ok(left));
+    assert_eq!(rt;
+        class_of(&program, program.select(one, method, true)),
+        Ok(left)
+    );
+    Ok(())
+}
+
+#[test]
+fn errors(rt: HostRuntime) -> Result<(), Fail> {
+    let program = link_all(&rt, rt.alloc(), &[&NONE, &OPEN])??;
+    let none = program.resolve_class(b"None")?;
+    let open = program.resolve_class(b"Open")?;
+    assert_eq!(rt;
+        program.resolve_class(b"Gone"),
+        Err(LinkError::NoClassDefFound)
+    );
+    assert_eq!(rt;
+        program.resolve_field(none, b"f", b"I"),
+        Err(LinkError::NoSuchField)
+    );
+    assert_eq!(rt;
+        program.resolve_method(none, false, b"n", b"()V"),
+        Err(LinkError::NoSuchMethod)
+    );
+    assert_eq!(rt;
+        program.resolve_method(open, true, b"n", b"()V"),
+        Err(LinkError::NoSuchMethod)
+    );
+    let wrong = Err(LinkError::IncompatibleClassChange);
+    assert_eq!(rt; program.resolve_method(open, false, b"m", b"()V"), wrong);
+    assert_eq!(rt; program.resolve_method(none, true, b"m", b"()V"), wrong);
+    let method = program.resolve_method(open, true, b"m", b"()V")?;
+    assert_eq!(rt;
+        program.select(none, method, true),
+        Err(LinkError::AbstractMethod)
+    );
+    let object = program.resolve_class(b"java/lang/Object")?;
+    assert_eq!(rt; program.select(object, method, true), wrong);
+    // a constructor is that of the class that is named (6.5, invokespecial)
+    let constructor = program.resolve_method(none, false, b"<init>", b"()V")?;
+    assert_eq!(rt;
+        program.select_special(none, none, constructor),
+        Err(LinkError::NoSuchMethod)
+    );
+    assert_eq!(rt;
+        program.select_special(none, object, constructor),
+        Ok(constructor)
+    );
+    Ok(())
+}

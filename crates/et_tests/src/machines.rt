@@ -1,0 +1,113 @@
+//! A machine with one thread, whose frame is entered and left again.
+use et_base::{ClassId, MethodId, NoMemory, ObjectId, ThreadId, Value};
+use et_frames::{NewFrame, Stage, Turn};
+use et_heap::RootList;
+use et_machine::{ClassState, Machine};
+use smallvec::SmallVec;
+use std::alloc::Global;
+use std::process::Abort;
+use std::test::Fail;
+
+fn first(alloc: Global) -> Result<Machine, NoMemory> {
+    let classes = vec![in alloc; ClassState::Untouched; 2]?;
+    let statics = vec![in alloc; Value::Null; 1]?;
+    Machine::begin(alloc, ClassId::new(7), classes, statics)
+}
+
+fn frame(alloc: Global) -> Result<NewFrame, NoMemory> {
+    Ok(NewFrame {
+        method: Some(MethodId::new(3)),
+        stage: Stage::Plain,
+        lock: None,
+        max_stack: 2,
+        max_locals: 3,
+        arguments: SmallVec::from_slice(alloc, &[Value::Int(5)])?,
+    })
+}
+
+fn listed(machine: &Machine, alloc: Global) -> Result<Vec<ObjectId>, NoMemory> {
+    let mut room = RootList::begin(alloc);
+    machine.roots(&mut room)?;
+    Ok(Vec::from_slice(alloc, room.as_slice())?)
+}
+
+#[test]
+fn the_first_state(rt: HostRuntime) -> Result<(), Fail> {
+    let machine = first(rt.alloc())?;
+    assert_eq!(rt; machine.clock(), 0);
+    assert_eq!(rt; machine.started(), 1);
+    assert_eq!(rt; machine.turn(ThreadId::new(0)), Turn::Entry);
+    assert_eq!(rt;
+        machine.entry_slot(ThreadId::new(0)),
+        Some(ObjectId::new(1))
+    );
+    assert_eq!(rt; machine.unended(0), Some(ThreadId::new(0)));
+    assert_eq!(rt; machine.unended(1), None);
+    assert!(rt; machine.heap.is_held(ObjectId::new(1)));
+    assert_eq!(rt;
+        listed(&machine, rt.alloc())?.as_slice(),
+        [ObjectId::new(1)].as_slice()
+    );
+    Ok(())
+}
+
+#[test]
+fn strings_of_constants(rt: HostRuntime) -> Result<(), Fail> {
+    let mut machine = first(rt.alloc())?;
+    let o = ObjectId::new(1);
+    assert_eq!(rt; machine.interned(b"ab"), None);
+    assert_eq!(rt; machine.text_of(o), None);
+    machine.intern(b"ab", o)?;
+    assert_eq!(rt; machine.interned(b"ab"), Some(o));
+    assert_eq!(rt; machine.interned(b"a"), None);
+    assert_eq!(rt; machine.text_of(o), Some(b"ab".as_slice()));
+    assert_eq!(rt; listed(&machine, rt.alloc())?.as_slice(), [o, o].as_slice());
+    Ok(())
+}
+
+fn work(rt: &impl Abort, machine: &mut Machine, made: NewFrame) -> Result<(), NoMemory> {
+    assert_eq!(rt; machine.started(), 1);
+    assert_eq!(rt; machine.frames(ThreadId::new(0)), 0);
+    assert!(rt; made.arguments.len() <= made.max_locals as usize);
+    machine.enter_frame(ThreadId::new(0), made)?;
+    assert_eq!(rt; machine.started(), 1);
+    assert_eq!(rt; machine.frames(ThreadId::new(0)), 1);
+    assert_eq!(rt; machine.turn(ThreadId::new(0)), Turn::Instruction);
+    assert_eq!(rt; machine.depth(ThreadId::new(0)), 0);
+    assert_eq!(rt; machine.room(ThreadId::new(0)), 2);
+    machine.push(ThreadId::new(0), Value::Null);
+    assert_eq!(rt; machine.started(), 1);
+    assert_eq!(rt; machine.frames(ThreadId::new(0)), 1);
+    assert_eq!(rt; machine.depth(ThreadId::new(0)), 1);
+    assert_eq!(rt; machine.operand(ThreadId::new(0), 0), Value::Null);
+    assert_eq!(rt; machine.locals(ThreadId::new(0)), 3);
+    assert_eq!(rt; machine.local(ThreadId::new(0), 0), Value::Int(5));
+    assert_eq!(rt; machine.local(ThreadId::new(0), 2), Value::Unset);
+    Ok(())
+}
+
+#[test]
+fn a_frame(rt: HostRuntime) -> Result<(), Fail> {
+    let mut machine = first(rt.alloc())?;
+    let made = frame(rt.alloc())?;
+    work(&rt, &mut machine, made)?;
+    Ok(())
+}
+
+fn two_threads(rt: &impl Abort, machine: &mut Machine) -> Result<(), NoMemory> {
+    let o = ObjectId::new(1);
+    assert_eq!(rt; machine.started(), 1);
+    assert_eq!(rt; machine.thread_of(o), None);
+    let second = machine.start_thread(o)?;
+    assert_eq!(rt; second.number(), 1);
+    assert_eq!(rt; machine.thread_of(o), Some(second));
+    assert_eq!(rt; machine.unended(1), Some(second));
+    Ok(())
+}
+
+#[test]
+fn a_second_thread(rt: HostRuntime) -> Result<(), Fail> {
+    let mut machine = first(rt.alloc())?;
+    two_threads(&rt, &mut machine)?;
+    Ok(())
+}

@@ -1,0 +1,121 @@
+//! A whole trace, replayed.
+ghost use Rattle.std.specs.Prelude.{◌≤◌, ℕ, [], length};
+ghost use Rattle.et_replay.specs.Items.{made};
+ghost use Rattle.et_replay.specs.declared.model.Policy.{Policy};
+
+use et_io::MemSink;
+use et_models::{Generational, MarkSweep, SemiSpace};
+use et_replay::{HeapModel, Kind, Policy, Timeline, replay, timeline};
+use et_text::TextReader;
+use std::alloc::Global;
+use std::process::Abort;
+use std::test::Fail;
+
+/// Object 1 refers to object 3 and dies with it at event 5; the others die at the end.
+const TRACE: &str = "H 1 0
+C 1 P
+A 1 0 1 1 24 0
+A 2 0 2 1 24 0
+A 3 0 3 1 24 0
+U 4 0 1 0 0 3
+A 6 0 4 1 24 0
+A 7 0 5 1 24 0
+F 8 5
+D 1 5
+D 2 7
+D 3 5
+D 4 7
+D 5 7
+Z 8 0
+";
+
+fn replay_both(
+    alloc: Global,
+    items: &Timeline,
+    mark_sweep: MarkSweep,
+    semi_space: SemiSpace,
+    sink: &mut MemSink,
+) -> Result<u32, Fail>
+    requires first { (policy : Policy) × (objects : ℕ) × (length (made items.now) ≤ objects) × ⟦<MarkSweep as HeapModel>⟧.stands_for mark_sweep policy objects [] }
+    requires second { (policy : Policy) × (objects : ℕ) × (length (made items.now) ≤ objects) × ⟦<SemiSpace as HeapModel>⟧.stands_for semi_space policy objects [] }
+{
+    let mut models: Vec<Box<dyn HeapModel>> = Vec::new(alloc);
+    models.push(Box::new(alloc, mark_sweep)?)?;
+    models.push(Box::new(alloc, semi_space)?)?;
+    Ok(replay(alloc, items, models, sink)?)
+}
+
+#[test]
+fn one_goes_on_where_another_is_exhausted(rt: HostRuntime) -> Result<(), Fail> {
+    let alloc = rt.alloc();
+    let mut reader = TextReader::begin(alloc);
+    reader.feed(TRACE.as_bytes())?;
+    let trace = reader.finish()?;
+    let items = timeline(alloc, &trace)?;
+    let mut mark_sweep = MarkSweep::begin(alloc);
+    mark_sweep.set_policy(
+        Policy {
+            kind: Kind::MarkSweep,
+            first: 96,
+            second: 0,
+        },
+        items.objects(),
+    )?;
+    let mut semi_space = SemiSpace::begin(alloc);
+    semi_space.set_policy(
+        Policy {
+            kind: Kind::SemiSpace,
+            first: 100,
+            second: 0,
+        },
+        items.objects(),
+    )?;
+    let mut sink = MemSink::begin(alloc, 7);
+    let lines = replay_both(alloc, &items, mark_sweep, semi_space, &mut sink)?;
+    assert_eq!(rt; lines, 2);
+    let wanted = "mark-sweep capacity=96 collections=1 marked=48 swept=48 peak=96
+semispace capacity=100 collections=1 copied=48 freed=0 peak=48 exhausted=3
+";
+    assert_eq!(rt; sink.bytes(), wanted.as_bytes());
+    Ok(())
+}
+
+fn replay_generations(
+    alloc: Global,
+    items: &Timeline,
+    nursery: u64,
+    old: u64,
+    sink: &mut MemSink,
+) -> Result<u32, Fail> {
+    let mut model = Generational::begin(alloc);
+    model.set_policy(
+        Policy {
+            kind: Kind::Generational,
+            first: nursery,
+            second: old,
+        },
+        items.objects(),
+    )?;
+    let mut models: Vec<Box<dyn HeapModel>> = Vec::new(alloc);
+    models.push(Box::new(alloc, model)?)?;
+    Ok(replay(alloc, items, models, sink)?)
+}
+
+#[test]
+fn the_old_space_keeps_what_a_dead_object_refers_to(rt: HostRuntime) -> Result<(), Fail> {
+    let alloc = rt.alloc();
+    let mut reader = TextReader::begin(alloc);
+    reader.feed(TRACE.as_bytes())?;
+    let trace = reader.finish()?;
+    let items = timeline(alloc, &trace)?;
+    let mut sink = MemSink::begin(alloc, 7);
+    let roomy = replay_generations(alloc, &items, 48, 200, &mut sink)?;
+    let narrow = replay_generations(alloc, &items, 23, 48, &mut sink)?;
+    assert_eq!(rt; roomy, 1);
+    assert_eq!(rt; narrow, 1);
+    let wanted = "generational nursery=48 old=200 minor=2 major=0 promoted=96 swept=0 peak=120
+generational nursery=23 old=48 minor=0 major=1 promoted=0 swept=0 peak=48 exhausted=3
+";
+    assert_eq!(rt; sink.bytes(), wanted.as_bytes());
+    Ok(())
+}
