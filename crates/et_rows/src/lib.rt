@@ -3,11 +3,15 @@
 #![tactic(auto)]
 
 #[cfg(test)]
+mod checks;
+#[cfg(test)]
 mod commands;
 #[cfg(test)]
 mod first_path;
 #[cfg(test)]
 mod linking;
+#[cfg(test)]
+mod programs;
 #[cfg(test)]
 mod round_trip;
 #[cfg(test)]
