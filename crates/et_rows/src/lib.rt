@@ -7,6 +7,10 @@ mod checks;
 #[cfg(test)]
 mod commands;
 #[cfg(test)]
+mod errors;
+#[cfg(test)]
+mod examples;
+#[cfg(test)]
 mod first_path;
 #[cfg(test)]
 mod linking;

@@ -1,0 +1,434 @@
+//! Each exception and error that the machine itself throws: caught by a handler of its class, and the end of its thread.
+
+use crate::programs::{BEGIN, HEAD, Part, Wanted, are_thrown, is_run, joined, library};
+use et_io::MemFiles;
+use et_top::Status;
+use std::alloc::Global;
+use std::process::Abort;
+use std::test::Fail;
+
+/// The listing of `T` whose `main` does this, with a handler of this class or with none.
+fn listing_of(alloc: Global, code: &str, catch: &str) -> Result<String, Fail> {
+    Ok(format!(in alloc;
+        "{HEAD}method main ([Ljava/lang/String;)V 0009 4 1\na:\n{code}b:\nreturn\nh:\npop\nreturn\n{catch}end\n\
+         method f ()V 0009 1 0\ninvokestatic T f ()V\nreturn\nend\n"
+    )?)
+}
+
+/// The trace up to the exception, and from there on where it is caught and where it isn't.
+#[derive(Clone, Copy)]
+struct Traces<'a> {
+    options: &'a str,
+    before: &'a str,
+    caught: &'a str,
+    uncaught: &'a str,
+}
+
+/// This code throws an exception of this class, once caught and once not, with these traces.
+fn is_thrown(
+    rt: &impl Abort,
+    alloc: Global,
+    files: &mut MemFiles,
+    name: &str,
+    code: &str,
+    traces: &Traces<'_>,
+) -> Result<(), Fail> {
+    let handler = format!(in alloc; "catch a b h java/lang/{name}\n")?;
+    for (catch, rest) in [(handler.as_str(), traces.caught), ("", traces.uncaught)] {
+        let listing = listing_of(alloc, code, catch)?;
+        let trace = format!(in alloc; "{BEGIN}{}{rest}", traces.before)?;
+        let wanted = Wanted {
+            status: Status::Done,
+            trace: &trace,
+            refusal: "",
+        };
+        is_run(rt, alloc, files, &listing, traces.options, wanted)?;
+    }
+    Ok(())
+}
+
+/// The class, in `java/lang`; the code; the trace up to the exception, where it is caught, and where it isn't.
+type Row = (
+    &'static str,
+    &'static str,
+    &'static str,
+    &'static str,
+    &'static str,
+);
+
+const ERRORS: [Row; 16] = [
+    (
+        "AbstractMethodError",
+        "new Low\ninvokevirtual Abs work ()V\n",
+        "C 3 Low\nA 2 0 2 3 16 0\nC 4 java/lang/AbstractMethodError\nA 3 0 3 4 32 0\n",
+        "E 6 0 1\nF 7 3\nD 1 5\nD 2 3\nD 3 4\nZ 7 0\n",
+        "X 4 0 1 3\nF 5 3\nD 1 3\nD 2 3\nD 3 4\nZ 5 0\n",
+    ),
+    (
+        "ArithmeticException",
+        "lconst_1\nlconst_0\nlrem\npop2\n",
+        "C 3 java/lang/ArithmeticException\nA 4 0 2 3 32 0\n",
+        "E 7 0 1\nF 8 2\nD 1 6\nD 2 5\nZ 8 0\n",
+        "X 5 0 1 2\nF 6 2\nD 1 4\nD 2 5\nZ 6 0\n",
+    ),
+    (
+        "ArrayIndexOutOfBoundsException",
+        "iconst_1\nnewarray boolean\niconst_1\nbaload\npop\n",
+        "C 3 [Z\nA 3 0 2 3 32 1\nC 4 java/lang/ArrayIndexOutOfBoundsException\nA 5 0 3 4 32 0\n",
+        "E 8 0 1\nF 9 3\nD 1 7\nD 2 5\nD 3 6\nZ 9 0\n",
+        "X 6 0 1 3\nF 7 3\nD 1 5\nD 2 5\nD 3 6\nZ 7 0\n",
+    ),
+    (
+        "ArrayStoreException",
+        "iconst_1\nanewarray java/lang/String\niconst_0\nnew Lib\naastore\n",
+        "A 3 0 2 1 32 1\nC 3 Lib\nA 5 0 3 3 24 0\nC 4 java/lang/ArrayStoreException\nA 6 0 4 4 32 0\n",
+        "E 9 0 1\nF 10 4\nD 1 8\nD 2 6\nD 3 6\nD 4 7\nZ 10 0\n",
+        "X 7 0 1 4\nF 8 4\nD 1 6\nD 2 6\nD 3 6\nD 4 7\nZ 8 0\n",
+    ),
+    (
+        "ClassCastException",
+        "new Lib\ncheckcast java/lang/Runnable\npop\n",
+        "C 3 Lib\nA 2 0 2 3 24 0\nC 4 java/lang/ClassCastException\nA 3 0 3 4 32 0\n",
+        "E 6 0 1\nF 7 3\nD 1 5\nD 2 3\nD 3 4\nZ 7 0\n",
+        "X 4 0 1 3\nF 5 3\nD 1 3\nD 2 3\nD 3 4\nZ 5 0\n",
+    ),
+    (
+        "ExceptionInInitializerError",
+        "getstatic Bad s I\npop\n",
+        "C 3 Bad\nN 2 3 <clinit> ()V\nM 3 0 2 0\nC 4 java/lang/ArithmeticException\nA 6 0 2 4 32 0\n\
+         X 7 0 2 2\nC 5 java/lang/ExceptionInInitializerError\nA 7 0 3 5 32 0\nU 7 0 3 1 0 2\n",
+        "E 10 0 1\nF 11 3\nD 1 9\nD 2 8\nD 3 8\nZ 11 0\n",
+        "X 8 0 1 3\nF 9 3\nD 1 7\nD 2 8\nD 3 8\nZ 9 0\n",
+    ),
+    (
+        "IllegalMonitorStateException",
+        "aload_0\nmonitorexit\n",
+        "C 3 java/lang/IllegalMonitorStateException\nA 3 0 2 3 32 0\n",
+        "E 6 0 1\nF 7 2\nD 1 5\nD 2 4\nZ 7 0\n",
+        "X 4 0 1 2\nF 5 2\nD 1 3\nD 2 4\nZ 5 0\n",
+    ),
+    (
+        "IllegalThreadStateException",
+        "new java/lang/Thread\ndup\ninvokevirtual java/lang/Thread start ()V\n\
+         invokevirtual java/lang/Thread start ()V\n",
+        "C 3 java/lang/Thread\nA 2 0 2 3 24 0\nC 4 java/lang/IllegalThreadStateException\n\
+         A 5 0 3 4 32 0\n",
+        "E 8 0 1\nN 2 3 run ()V\nM 10 1 2 2\nE 14 1 2\nF 15 3\nD 1 7\nD 2 14\nD 3 6\nZ 15 0\n",
+        "X 6 0 1 3\nN 2 3 run ()V\nM 8 1 2 2\nE 12 1 2\nF 13 3\nD 1 5\nD 2 12\nD 3 6\nZ 13 0\n",
+    ),
+    (
+        "IncompatibleClassChangeError",
+        "new Lib\ngetfield Lib s I\npop\n",
+        "C 3 Lib\nA 2 0 2 3 24 0\nC 4 java/lang/IncompatibleClassChangeError\nA 3 0 3 4 32 0\n",
+        "E 6 0 1\nF 7 3\nD 1 5\nD 2 3\nD 3 4\nZ 7 0\n",
+        "X 4 0 1 3\nF 5 3\nD 1 3\nD 2 3\nD 3 4\nZ 5 0\n",
+    ),
+    (
+        "InstantiationError",
+        "new java/lang/Runnable\npop\n",
+        "C 3 java/lang/InstantiationError\nA 2 0 2 3 32 0\n",
+        "E 5 0 1\nF 6 2\nD 1 4\nD 2 3\nZ 6 0\n",
+        "X 3 0 1 2\nF 4 2\nD 1 2\nD 2 3\nZ 4 0\n",
+    ),
+    (
+        "NegativeArraySizeException",
+        "iconst_m1\nnewarray long\npop\n",
+        "C 3 java/lang/NegativeArraySizeException\nA 3 0 2 3 32 0\n",
+        "E 6 0 1\nF 7 2\nD 1 5\nD 2 4\nZ 7 0\n",
+        "X 4 0 1 2\nF 5 2\nD 1 3\nD 2 4\nZ 5 0\n",
+    ),
+    (
+        "NoClassDefFoundError",
+        "new Gone\npop\n",
+        "C 3 java/lang/NoClassDefFoundError\nA 2 0 2 3 32 0\n",
+        "E 5 0 1\nF 6 2\nD 1 4\nD 2 3\nZ 6 0\n",
+        "X 3 0 1 2\nF 4 2\nD 1 2\nD 2 3\nZ 4 0\n",
+    ),
+    (
+        "NoSuchFieldError",
+        "getstatic Lib none I\npop\n",
+        "C 3 java/lang/NoSuchFieldError\nA 2 0 2 3 32 0\n",
+        "E 5 0 1\nF 6 2\nD 1 4\nD 2 3\nZ 6 0\n",
+        "X 3 0 1 2\nF 4 2\nD 1 2\nD 2 3\nZ 4 0\n",
+    ),
+    (
+        "NoSuchMethodError",
+        "invokestatic Lib none ()V\n",
+        "C 3 java/lang/NoSuchMethodError\nA 2 0 2 3 32 0\n",
+        "E 5 0 1\nF 6 2\nD 1 4\nD 2 3\nZ 6 0\n",
+        "X 3 0 1 2\nF 4 2\nD 1 2\nD 2 3\nZ 4 0\n",
+    ),
+    (
+        "NullPointerException",
+        "aconst_null\narraylength\npop\n",
+        "C 3 java/lang/NullPointerException\nA 3 0 2 3 32 0\n",
+        "E 6 0 1\nF 7 2\nD 1 5\nD 2 4\nZ 7 0\n",
+        "X 4 0 1 2\nF 5 2\nD 1 3\nD 2 4\nZ 5 0\n",
+    ),
+    (
+        "UnsatisfiedLinkError",
+        "new Lib\ninvokevirtual Lib bare ()V\n",
+        "C 3 Lib\nA 2 0 2 3 24 0\nC 4 java/lang/UnsatisfiedLinkError\nA 3 0 3 4 32 0\n",
+        "E 6 0 1\nF 7 3\nD 1 5\nD 2 3\nD 3 4\nZ 7 0\n",
+        "X 4 0 1 3\nF 5 3\nD 1 3\nD 2 3\nD 3 4\nZ 5 0\n",
+    ),
+];
+
+#[test]
+fn each_error_caught_and_uncaught(rt: HostRuntime) -> Result<(), Fail> {
+    let alloc = rt.alloc();
+    let mut files = library(alloc)?;
+    for (name, code, before, caught, uncaught) in ERRORS {
+        let traces = Traces {
+            options: "",
+            before,
+            caught,
+            uncaught,
+        };
+        is_thrown(&rt, alloc, &mut files, name, code, &traces)?;
+    }
+    Ok(())
+}
+
+/// Calls up to the most frames, and the exception that leaves all of them but `main`.
+const FRAMES: [Part; 2] = [
+    ("N 2 2 f ()V\n", "M", 2, 1025, "0 2 0"),
+    (
+        "C 3 java/lang/StackOverflowError\nA 1025 0 2 3 32 0\n",
+        "X",
+        1026,
+        2049,
+        "0 2 2",
+    ),
+];
+
+#[test]
+fn a_frame_too_many(rt: HostRuntime) -> Result<(), Fail> {
+    let alloc = rt.alloc();
+    let mut files = library(alloc)?;
+    let before = joined(alloc, &FRAMES)?;
+    let traces = Traces {
+        options: "",
+        before: &before,
+        caught: "E 2051 0 1\nF 2052 2\nD 1 2050\nD 2 2049\nZ 2052 0\n",
+        uncaught: "X 2049 0 1 2\nF 2050 2\nD 1 2048\nD 2 2049\nZ 2050 0\n",
+    };
+    is_thrown(
+        &rt,
+        alloc,
+        &mut files,
+        "StackOverflowError",
+        "invokestatic T f ()V\n",
+        &traces,
+    )
+}
+
+/// The trace of the 64 threads that are made, of which the last is not started any more.
+fn threads_made(alloc: Global) -> Result<String, Fail> {
+    let mut trace = String::from_str(alloc, "C 3 java/lang/Thread\n")?;
+    let mut event = 2u32;
+    for object in 2..66 {
+        trace.push_str(&format!(in alloc; "A {event} 0 {object} 3 24 0\n")?)?;
+        event = event.saturating_add(3);
+    }
+    trace.push_str("C 4 java/lang/OutOfMemoryError\nA 192 0 66 4 32 0\n")?;
+    Ok(trace)
+}
+
+/// The trace from where `main` is left: the other threads run one after another, the first of them entered at this event.
+fn threads_run(
+    alloc: Global,
+    leaving: &str,
+    first: u32,
+    ending: &str,
+    end: &str,
+) -> Result<String, Fail> {
+    let mut trace = String::from_str(alloc, leaving)?;
+    let mut deaths = String::from_str(alloc, ending)?;
+    let mut event = first;
+    let mut object = 2u32;
+    for thread in 1..64 {
+        trace.push_str(&format!(in alloc; "M {event} {thread} 2 {object}\n")?)?;
+        event = event.saturating_add(4);
+        trace.push_str(&format!(in alloc; "E {event} {thread} 2\n")?)?;
+        deaths.push_str(&format!(in alloc; "D {object} {event}\n")?)?;
+        event = event.saturating_add(2);
+        object = object.saturating_add(1);
+    }
+    trace.push_str(&deaths)?;
+    trace.push_str("D 65 192\nD 66 193\n")?;
+    trace.push_str(end)?;
+    Ok(trace)
+}
+
+#[test]
+fn a_thread_too_many(rt: HostRuntime) -> Result<(), Fail> {
+    let alloc = rt.alloc();
+    let mut files = library(alloc)?;
+    let before = threads_made(alloc)?;
+    let caught = threads_run(
+        alloc,
+        "E 195 0 1\nN 2 3 run ()V\n",
+        197,
+        "F 574 66\nD 1 194\n",
+        "Z 574 0\n",
+    )?;
+    let uncaught = threads_run(
+        alloc,
+        "X 193 0 1 66\nN 2 3 run ()V\n",
+        195,
+        "F 572 66\nD 1 192\n",
+        "Z 572 0\n",
+    )?;
+    let traces = Traces {
+        options: "--quantum 1000000 ",
+        before: &before,
+        caught: &caught,
+        uncaught: &uncaught,
+    };
+    let code = "c:\nnew java/lang/Thread\ninvokevirtual java/lang/Thread start ()V\ngoto c\n";
+    is_thrown(&rt, alloc, &mut files, "OutOfMemoryError", code, &traces)
+}
+
+/// Other instructions that throw them (JVMS 6.5), and the traces behind the entry of `main`.
+const OTHERS: [(&str, &str); 27] = [
+    // ArithmeticException.
+    (
+        "4 1\niconst_1\niconst_0\nirem\npop\nreturn\nend\n",
+        "C 3 java/lang/ArithmeticException\nA 4 0 2 3 32 0\nX 5 0 1 2\nF 6 2\nD 1 4\nD 2 5\nZ 6 0\n",
+    ),
+    (
+        "4 1\nlconst_1\nlconst_0\nldiv\npop2\nreturn\nend\n",
+        "C 3 java/lang/ArithmeticException\nA 4 0 2 3 32 0\nX 5 0 1 2\nF 6 2\nD 1 4\nD 2 5\nZ 6 0\n",
+    ),
+    // ArrayIndexOutOfBoundsException.
+    (
+        "4 1\niconst_2\nnewarray long\niconst_m1\nlconst_0\nlastore\nreturn\nend\n",
+        "C 3 [J\nA 3 0 2 3 40 2\nC 4 java/lang/ArrayIndexOutOfBoundsException\nA 6 0 3 4 32 0\n\
+         X 7 0 1 3\nF 8 3\nD 1 6\nD 2 6\nD 3 7\nZ 8 0\n",
+    ),
+    (
+        "4 1\niconst_0\nanewarray Lib\niconst_0\naaload\npop\nreturn\nend\n",
+        "C 3 [LLib;\nA 3 0 2 3 24 0\nC 4 java/lang/ArrayIndexOutOfBoundsException\nA 5 0 3 4 32 0\n\
+         X 6 0 1 3\nF 7 3\nD 1 5\nD 2 5\nD 3 6\nZ 7 0\n",
+    ),
+    // ArrayStoreException.
+    (
+        "4 1\niconst_1\nanewarray [J\niconst_0\niconst_1\nnewarray int\naastore\nreturn\nend\n",
+        "C 3 [[J\nA 3 0 2 3 32 1\nC 4 [I\nA 6 0 3 4 32 1\nC 5 java/lang/ArrayStoreException\n\
+         A 7 0 4 5 32 0\nX 8 0 1 4\nF 9 4\nD 1 7\nD 2 7\nD 3 7\nD 4 8\nZ 9 0\n",
+    ),
+    // ClassCastException.
+    (
+        "4 1\niconst_1\nnewarray int\ncheckcast [Ljava/lang/Object;\npop\nreturn\nend\n",
+        "C 3 [I\nA 3 0 2 3 32 1\nC 4 java/lang/ClassCastException\nA 4 0 3 4 32 0\nX 5 0 1 3\nF 6 3\n\
+         D 1 4\nD 2 4\nD 3 5\nZ 6 0\n",
+    ),
+    // NegativeArraySizeException.
+    (
+        "4 1\niconst_m1\nanewarray Lib\npop\nreturn\nend\n",
+        "C 3 java/lang/NegativeArraySizeException\nA 3 0 2 3 32 0\nX 4 0 1 2\nF 5 2\nD 1 3\nD 2 4\n\
+         Z 5 0\n",
+    ),
+    (
+        "4 1\niconst_0\niconst_m1\nmultianewarray [[I 2\npop\nreturn\nend\n",
+        "C 3 java/lang/NegativeArraySizeException\nA 4 0 2 3 32 0\nX 5 0 1 2\nF 6 2\nD 1 4\nD 2 5\n\
+         Z 6 0\n",
+    ),
+    // NullPointerException.
+    (
+        "4 1\naconst_null\nathrow\nreturn\nend\n",
+        "C 3 java/lang/NullPointerException\nA 3 0 2 3 32 0\nX 4 0 1 2\nF 5 2\nD 1 3\nD 2 4\nZ 5 0\n",
+    ),
+    (
+        "4 1\naconst_null\ngetfield Lib x I\npop\nreturn\nend\n",
+        "C 3 java/lang/NullPointerException\nA 3 0 2 3 32 0\nX 4 0 1 2\nF 5 2\nD 1 3\nD 2 4\nZ 5 0\n",
+    ),
+    (
+        "4 1\naconst_null\niconst_1\nputfield Lib x I\nreturn\nend\n",
+        "C 3 java/lang/NullPointerException\nA 4 0 2 3 32 0\nX 5 0 1 2\nF 6 2\nD 1 4\nD 2 5\nZ 6 0\n",
+    ),
+    (
+        "4 1\naconst_null\niconst_0\nlaload\npop2\nreturn\nend\n",
+        "C 3 java/lang/NullPointerException\nA 4 0 2 3 32 0\nX 5 0 1 2\nF 6 2\nD 1 4\nD 2 5\nZ 6 0\n",
+    ),
+    (
+        "4 1\naconst_null\niconst_0\niconst_0\ncastore\nreturn\nend\n",
+        "C 3 java/lang/NullPointerException\nA 5 0 2 3 32 0\nX 6 0 1 2\nF 7 2\nD 1 5\nD 2 6\nZ 7 0\n",
+    ),
+    (
+        "4 1\naconst_null\nmonitorenter\nreturn\nend\n",
+        "C 3 java/lang/NullPointerException\nA 3 0 2 3 32 0\nX 4 0 1 2\nF 5 2\nD 1 3\nD 2 4\nZ 5 0\n",
+    ),
+    (
+        "4 1\naconst_null\ninvokespecial java/lang/Object <init> ()V\nreturn\nend\n",
+        "C 3 java/lang/NullPointerException\nA 3 0 2 3 32 0\nX 4 0 1 2\nF 5 2\nD 1 3\nD 2 4\nZ 5 0\n",
+    ),
+    (
+        "4 1\naconst_null\ninvokeinterface java/lang/Runnable run ()V\nreturn\nend\n",
+        "C 3 java/lang/NullPointerException\nA 3 0 2 3 32 0\nX 4 0 1 2\nF 5 2\nD 1 3\nD 2 4\nZ 5 0\n",
+    ),
+    // IllegalMonitorStateException.
+    (
+        "4 1\nnew Idle\ninvokevirtual Idle hold ()V\nreturn\nend\n",
+        "C 3 Idle\nA 2 0 2 3 16 0\nN 2 3 hold ()V\nM 3 0 2 2\n\
+         C 4 java/lang/IllegalMonitorStateException\nA 6 0 3 4 32 0\nA 9 0 4 4 32 0\nX 10 0 2 4\n\
+         X 11 0 1 4\nF 12 4\nD 1 10\nD 2 9\nD 3 7\nD 4 11\nZ 12 0\n",
+    ),
+    // NoClassDefFoundError.
+    (
+        "4 1\niconst_0\nputstatic Gone x I\nreturn\nend\n",
+        "C 3 java/lang/NoClassDefFoundError\nA 3 0 2 3 32 0\nX 4 0 1 2\nF 5 2\nD 1 3\nD 2 4\nZ 5 0\n",
+    ),
+    (
+        "4 1\ninvokestatic Gone f ()V\nreturn\nend\n",
+        "C 3 java/lang/NoClassDefFoundError\nA 2 0 2 3 32 0\nX 3 0 1 2\nF 4 2\nD 1 2\nD 2 3\nZ 4 0\n",
+    ),
+    (
+        "4 1\nnew Lib\ninstanceof [LGone;\npop\nreturn\nend\n",
+        "C 3 Lib\nA 2 0 2 3 24 0\nC 4 java/lang/NoClassDefFoundError\nA 3 0 3 4 32 0\nX 4 0 1 3\nF 5 3\n\
+         D 1 3\nD 2 3\nD 3 4\nZ 5 0\n",
+    ),
+    (
+        "4 1\niconst_1\nanewarray [LGone;\npop\nreturn\nend\n",
+        "C 3 java/lang/NoClassDefFoundError\nA 3 0 2 3 32 0\nX 4 0 1 2\nF 5 2\nD 1 3\nD 2 4\nZ 5 0\n",
+    ),
+    // NoSuchMethodError.
+    (
+        "4 1\nnew Imp\ninvokeinterface Ifc none ()V\nreturn\nend\n",
+        "C 3 Imp\nA 2 0 2 3 16 0\nC 4 java/lang/NoSuchMethodError\nA 3 0 3 4 32 0\nX 4 0 1 3\nF 5 3\n\
+         D 1 3\nD 2 3\nD 3 4\nZ 5 0\n",
+    ),
+    // IncompatibleClassChangeError.
+    (
+        "4 1\ninvokestatic interface Lib still ()V\nreturn\nend\n",
+        "C 3 java/lang/IncompatibleClassChangeError\nA 2 0 2 3 32 0\nX 3 0 1 2\nF 4 2\nD 1 2\nD 2 3\n\
+         Z 4 0\n",
+    ),
+    (
+        "4 1\nnew Both\ninvokevirtual Both step ()V\nreturn\nend\n",
+        "C 3 Both\nA 2 0 2 3 16 0\nC 4 java/lang/IncompatibleClassChangeError\nA 3 0 3 4 32 0\n\
+         X 4 0 1 3\nF 5 3\nD 1 3\nD 2 3\nD 3 4\nZ 5 0\n",
+    ),
+    (
+        "4 1\nnew Both\ninvokeinterface One step ()V\nreturn\nend\n",
+        "C 3 Both\nA 2 0 2 3 16 0\nC 4 java/lang/IncompatibleClassChangeError\nA 3 0 3 4 32 0\n\
+         X 4 0 1 3\nF 5 3\nD 1 3\nD 2 3\nD 3 4\nZ 5 0\n",
+    ),
+    // AbstractMethodError.
+    (
+        "4 1\nnew Idle\ninvokeinterface java/lang/Runnable run ()V\nreturn\nend\n",
+        "C 3 Idle\nA 2 0 2 3 16 0\nC 4 java/lang/AbstractMethodError\nA 3 0 3 4 32 0\nX 4 0 1 3\nF 5 3\n\
+         D 1 3\nD 2 3\nD 3 4\nZ 5 0\n",
+    ),
+    // UnsatisfiedLinkError.
+    (
+        "4 1\niconst_0\ninvokestatic Lib take (I)V\nreturn\nend\n",
+        "C 3 java/lang/UnsatisfiedLinkError\nA 3 0 2 3 32 0\nX 4 0 1 2\nF 5 2\nD 1 3\nD 2 4\nZ 5 0\n",
+    ),
+];
+
+#[test]
+fn other_causes(rt: HostRuntime) -> Result<(), Fail> {
+    are_thrown(&rt, rt.alloc(), &OTHERS)
+}
