@@ -1,0 +1,280 @@
+-- Over every history: the states are sound, and what their monitors say agrees with who holds them.
+use Rattle.std.proofs.Common.{◌≡◌, ℕ, zero, suc, ◌+◌, ◌<◌, ◌≤◌, ◌^◌, ◌==◌, ◌↔◌, Bool, true, false, List, [], ◌∷◌, length, get_or, Option, Some, None, refl, sym, ◌∙◌, ap, subst, arith, rules}
+use Rattle.std.specs.Prelude.{◌%◌, if◌then◌else◌, replicate, slice_index, IsSome, IsTrue}
+use Rattle.std.proofs.Math.Nat.{mod-lt}
+use Rattle.std.proofs.lemmas.Bool.{eq-eqb, true≢false}
+use Rattle.std.proofs.lemmas.List.Elements.{Contains-get_or}
+use Rattle.et_base.specs.declared.value.End.{End}
+use Rattle.et_base.specs.declared.value.End.TheVariants.{Finished, EventLimit}
+use Rattle.et_graph.specs.Graph.{Graph, IsReached, Decides}
+use Rattle.et_program.specs.Entries.{Linked}
+use Rattle.et_heap.specs.declared.monitor.Monitor.{Monitor}
+use Rattle.et_heap.specs.Objects.{ObjectState, Objects, IsHeld, is_there, at, found, object_at, free_monitor}
+use Rattle.et_heap.specs.Remaining.{left_place, remaining}
+use Rattle.et_machine.specs.Roots.{graph_of}
+use Rattle.et_machine.specs.State.{Kept}
+use Rattle.et_machine.specs.Words.{class_monitor_at, IsUnended}
+use Rattle.et_machine.proofs.Wholes.{length-remaining, remaining_held}
+use Rattle.et_state.specs.declared.options.Options.{Options}
+use Rattle.et_state.specs.Options.{AreOptions}
+use Rattle.et_state.specs.History.{left_by, is_flush_point}
+use Rattle.et_state.specs.Outcome.{Outcome, state_after, end_by}
+use Rattle.et_state.specs.Outcome as outcome
+use Rattle.et_event.specs.Event.{event}
+use Rattle.et_event.specs.Moments.{Moment, later}
+use Rattle.et_event.specs.Monitors.{Lock, OfObject, OfClass}
+use Rattle.et_event.specs.Sound.{IsSoundMonitor, IsSoundFor}
+use Rattle.et_event.specs.Start.{start}
+use Rattle.et_machine.specs.Sound.{IsSound}
+use Rattle.et_sound.specs.Outcomes.{KeepsSound}
+use Rattle.et_sound.specs.WellFormed.{IsThere}
+use Rattle.et_sound.proofs.Growing.{free_is_sound}
+use Rattle.et_steady.proofs.Turning.{event_sound}
+use Rattle.et_begin.proofs.Flushing.{sound_left}
+use Rattle.et_guest.specs.Guests.{IsSoundRun}
+use Rattle.et_guest.specs.Histories.{unended_of, flushed_of}
+use Rattle.et_exclusion.specs.Holding.{monitor_in}
+use Rattle.et_exclusion.specs.Changing.{KeepsMonitors}
+use Rattle.et_exclusion.specs.Histories.{state_at, settled_at, GoesOn, moment_at, times_held}
+use Rattle.et_exclusion.proofs.Agreeing.{Agrees, IsNew, Excludes, holder, excludes_same, excludes_event}
+use Rattle.et_exclusion.proofs.Events.{event_keeps}
+use Rattle.et_exclusion.proofs.Picking.{unended_thread}
+use Rattle.et_exclusion.proofs.Words.{if_case}
+
+-- MONITORS of a sound state
+
+class_sound : (s : Kept) (p : Linked) (c : ℕ) → IsSoundFor p s → IsSoundMonitor s.guest (class_monitor_at s.guest c)
+class_sound s p c sound = by s.guest.class_monitors c (λ k lt. sound.class_monitors.1 k free_monitor lt)
+  where
+    by : (ms : List Monitor) (k : ℕ) → ((j : ℕ) → j < length ms → IsSoundMonitor s.guest (get_or ms j free_monitor)) → IsSoundMonitor s.guest (get_or ms k free_monitor)
+    by [] k h = free_is_sound s.guest
+    by (m ∷ ms) zero h = h zero (omega arith)
+    by (m ∷ ms) (suc k) h = by ms k (λ j less. h (suc j) (omega arith))
+
+monitor_sound : (s : Kept) (p : Linked) (lock : Lock) → IsSoundFor p s → IsThere s lock → IsSoundMonitor s.guest (monitor_in s lock)
+monitor_sound s p (OfObject o) sound there = by (at s.heap o) refl there
+  where
+    by : (x : Option ObjectState) → at s.heap o ≡ x → is_there x → IsSoundMonitor s.guest (found x).monitor
+    by None e h = absurd h
+    by (Some x) e h = (sound.objects o x e).1
+monitor_sound s p (OfClass c) sound there = class_sound s p c sound
+
+-- A FLUSH
+
+place_monitor : (here : ℕ → Bool) (b : Bool) (x : Option ObjectState) → is_there (left_place here b x) → (found (left_place here b x)).monitor ≡ (found x).monitor
+place_monitor here b None h = absurd h
+place_monitor here true (Some x) h = refl
+place_monitor here false (Some x) h = absurd h
+
+left_monitor : (here : ℕ → Bool) (k : ℕ) (heap : Objects) (o : ℕ) → IsHeld (remaining here k heap) o → (object_at (remaining here k heap) o).monitor ≡ (object_at heap o).monitor
+left_monitor here k [] o h = absurd h
+left_monitor here k (x ∷ xs) zero h = place_monitor here (here k) x h
+left_monitor here k (x ∷ xs) (suc o) h = left_monitor here (k + 1) xs o h
+
+flushed_there : (here : ℕ → Bool) (s : Kept) (lock : Lock) → IsThere (flushed_of here s) lock → IsThere s lock
+flushed_there here s (OfObject o) h = (remaining_held here 0 s.heap o h).0
+flushed_there here s (OfClass c) h = h
+
+flushed_monitor : (here : ℕ → Bool) (s : Kept) (lock : Lock) → IsThere (flushed_of here s) lock → monitor_in (flushed_of here s) lock ≡ monitor_in s lock
+flushed_monitor here s (OfObject o) h = left_monitor here 0 s.heap o h
+flushed_monitor here s (OfClass c) h = refl
+
+flushed_new : (here : ℕ → Bool) (s : Kept) (lock : Lock) → IsNew (flushed_of here s) lock → IsNew s lock
+flushed_new here s (OfObject o) h = subst (λ (n : ℕ). n ≤ o) (length-remaining here 0 s.heap) h
+flushed_new here s (OfClass c) h = h
+
+flushed_excludes : (here : ℕ → Bool) (s : Kept) (lock : Lock) (n : ℕ → ℕ) → Excludes s lock n → Excludes (flushed_of here s) lock n
+flushed_excludes here s lock n h = excludes_same s (flushed_of here s) lock n n (flushed_there here s lock) (flushed_monitor here s lock) (flushed_new here s lock) (λ t. refl) h
+
+-- a test of what is reached, as an equation
+is_now : (b : Bool) → IsTrue b → b ≡ true
+is_now b t = search (rules, t)
+
+now_is : (b : Bool) → b ≡ true → IsTrue b
+now_is b e = search (rules, e)
+
+tells : (g : Graph) (here : ℕ → Bool) → ((o : ℕ) → IsTrue (here o) ↔ IsReached g o) → (o : ℕ) → (here o ≡ true) ↔ IsReached g o
+tells g here h o = (λ e. (h o).0 (now_is (here o) e), λ r. is_now (here o) ((h o).1 r))
+
+-- WHERE A HISTORY GOES ON
+
+record Goes (unended limit : Bool) (last : Option End) : Type 0 where
+  some : unended ≡ false
+  within : limit ≡ false
+  done : last ≡ None
+
+goes_on : (a b : Bool) (x y : End) (z : Option End) → (if a then Some x else (if b then Some y else z)) ≡ None → Goes a b z
+goes_on true b x y z e = absurd (ended e)
+  where
+    ended : Some x ≡ None → ⊥
+    ended q = cc
+goes_on false true x y z e = absurd (ended e)
+  where
+    ended : Some y ≡ None → ⊥
+    ended q = cc
+goes_on false false x y z e = record { some = refl; within = refl; done = e }
+
+-- the thread that is picked was started and has not ended
+picked_unended : (s : Kept) (k : ℕ) → (length (unended_of s) == 0) ≡ false → IsUnended s.guest (slice_index (unended_of s) (k % length (unended_of s)))
+picked_unended s k some = by (length (unended_of s)) refl
+  where
+    us : List ℕ
+    us = unended_of s
+
+    by : (n : ℕ) → length us ≡ n → IsUnended s.guest (slice_index us (k % length us))
+    by zero e = absurd (true≢false (sym (eq-eqb (length us) 0 e) ∙ some))
+    by (suc n) e =
+        let positive : 0 < length us = omega arith in
+        unended_thread s.guest (slice_index us (k % length us)) (Contains-get_or us (k % length us) 0 (mod-lt k positive))
+
+-- THE EVENTS
+
+after_event : (p : Linked) (s : Kept) (thread : ℕ) (x : Outcome Kept) → KeepsMonitors (record { program = p; before = s; thread = thread }) x → IsSoundFor p s → KeepsSound p x → end_by thread x ≡ None
+    → IsSoundFor p (state_after s x) × ((state_after s x).guest.clock ≡ s.guest.clock + 1)
+after_event p s thread (outcome.Goes next records) h sound keeps goes = (keeps h.changes.sound, h.changes.clock)
+after_event p s thread (outcome.Waits next) h sound keeps goes =
+    let held = sound.held in
+    (keeps (subst (λ (x : Kept). IsSound x) (sym h) (record { room = held.room; none = held.none; roots = held.roots; slots = held.slots; referents = held.referents })), ap (λ (x : Kept). x.guest.clock) h)
+after_event p s thread (outcome.IllTyped method pc) h sound keeps goes = absurd (ended goes)
+  where
+    ended : {x : End} → Some x ≡ None → ⊥
+    ended q = cc
+after_event p s thread outcome.ObjectLimit h sound keeps goes = absurd (ended goes)
+  where
+    ended : {x : End} → Some x ≡ None → ⊥
+    ended q = cc
+
+-- THE FIRST STATE: nobody entered a monitor
+unfree : (m : Monitor) → m ≡ free_monitor → Agrees m (λ t. 0)
+unfree m free = record { owner = λ t e. absurd (none_some t (sym (ap (λ (x : Monitor). x.owner) free) ∙ e)); others = λ t ne. refl }
+  where
+    none_some : (i : ℕ) → None ≡ Some i → ⊥
+    none_some i e = cc
+
+all_free : (n c : ℕ) → get_or (replicate n free_monitor) c free_monitor ≡ free_monitor
+all_free zero c = refl
+all_free (suc n) zero = refl
+all_free (suc n) (suc c) = all_free n c
+
+start_monitor : (p : Linked) (lock : Lock) → monitor_in (start p) lock ≡ free_monitor
+start_monitor p (OfObject zero) = refl
+start_monitor p (OfObject (suc zero)) = refl
+start_monitor p (OfObject (suc (suc o))) = refl
+start_monitor p (OfClass c) = all_free _ c
+
+start_excludes : (p : Linked) (lock : Lock) → Excludes (start p) lock (λ t. 0)
+start_excludes p lock = record { there = λ h. unfree (monitor_in (start p) lock) (start_monitor p lock); new = λ h t. refl; one = λ t u a b. absurd (omega arith) }
+
+-- THE HISTORY
+
+record Sound (p : Linked) (options : Options) (e : ℕ) (s : Kept) : Type 0 where
+  state : IsSoundFor p s
+  clock : s.guest.clock ≡ e
+  within : e ≤ options.limit
+
+not_same : (a b : ℕ) → (a == b) ≡ false → a ≡ b → ⊥
+not_same a b e same = true≢false (sym (eq-eqb a b same) ∙ e)
+
+below_limit : (e limit : ℕ) → e ≤ limit → (e ≡ limit → ⊥) → e < limit
+below_limit e limit le ne = omega arith
+
+module _ (reached : Graph → ℕ → Bool) (p : Linked) (options : Options) (pick : ℕ → ℕ) (decides : Decides reached) (run : IsSoundRun p (start p)) (are : AreOptions options) where
+  first_sound : Sound p options 0 (state_at reached p options pick 0)
+  unfolding left_by
+  first_sound = record { state = run.state; clock = refl; within = omega arith }
+
+  settled_sound : (e : ℕ) → Sound p options e (state_at reached p options pick e) → Sound p options e (settled_at reached p options pick e)
+  settled_sound e h =
+      let s : Kept = state_at reached p options pick e in
+      let here : ℕ → Bool = reached (graph_of s) in
+      if_case (Sound p options e) (is_flush_point options.interval e) (flushed_of here s) s
+      (record { state = sound_left p s here h.state (λ o held. tells (graph_of s) here (decides (graph_of s)) o); clock = h.clock; within = h.within }) h
+
+  -- what is known of event e + 1
+  record Next (e : ℕ) : Type 0 where
+    sound : IsSoundFor p (settled_at reached p options pick e)
+    keeps : KeepsMonitors (moment_at reached p options pick e) (event p (settled_at reached p options pick e) (moment_at reached p options pick e).thread)
+    done : end_by (moment_at reached p options pick e).thread (event p (settled_at reached p options pick e) (moment_at reached p options pick e).thread) ≡ None
+    unended : IsUnended (settled_at reached p options pick e).guest (moment_at reached p options pick e).thread
+    below : e < options.limit
+
+  next : (e : ℕ) → Sound p options e (state_at reached p options pick e) → GoesOn reached p options pick e → Next e
+  next e h goes =
+      let s : Kept = settled_at reached p options pick e in
+      let thread : ℕ = (moment_at reached p options pick e).thread in
+      let now : Sound p options e s = settled_sound e h in
+      let on = goes_on (length (unended_of s) == 0) (e == options.limit) Finished EventLimit (end_by thread (event p s thread)) goes in
+      let unended : IsUnended s.guest thread = picked_unended s (pick (suc e)) on.some in
+      record {
+        sound = now.state;
+        keeps = event_keeps p s thread now.state unended run.runnable.steady;
+        done = on.done;
+        unended = unended;
+        below = below_limit e options.limit now.within (not_same e options.limit on.within);
+      }
+
+  next_sound : (e : ℕ) → Sound p options e (state_at reached p options pick e) → GoesOn reached p options pick e → Sound p options (suc e) (state_at reached p options pick (suc e))
+  unfolding left_by
+  next_sound e h goes =
+      let s : Kept = settled_at reached p options pick e in
+      let thread : ℕ = (moment_at reached p options pick e).thread in
+      let now : Sound p options e s = settled_sound e h in
+      let n : Next e = next e h goes in
+      let clock = now.clock in
+      let few : s.guest.clock < 2 ^ 40 = omega (arith, n.below, are.limit) in
+      let after = after_event p s thread (event p s thread) n.keeps now.state (event_sound p s thread now.state few n.unended run.runnable.steady) n.done in
+      let later = after.1 in
+      record { state = after.0; clock = omega arith; within = omega (arith, n.below) }
+
+  all_sound : (e : ℕ) → ((k : ℕ) → k < e → GoesOn reached p options pick k) → Sound p options e (state_at reached p options pick e)
+  all_sound zero goes = first_sound
+  all_sound (suc e) goes = next_sound e (all_sound e (λ k lt. goes k (omega arith))) (goes e (omega arith))
+
+  abbrev times : Lock → ℕ → ℕ → ℕ
+  times lock e t = times_held reached p options pick t lock e
+
+  first_excludes : (lock : Lock) → Excludes (state_at reached p options pick 0) lock (times lock 0)
+  unfolding left_by times_held
+  first_excludes lock = start_excludes p lock
+
+  settled_excludes : (e : ℕ) (lock : Lock) → Excludes (state_at reached p options pick e) lock (times lock e) → Excludes (settled_at reached p options pick e) lock (times lock e)
+  settled_excludes e lock h =
+      let s : Kept = state_at reached p options pick e in
+      if_case (λ (x : Kept). Excludes x lock (times lock e)) (is_flush_point options.interval e) (flushed_of (reached (graph_of s)) s) s (flushed_excludes (reached (graph_of s)) s lock (times lock e) h) h
+
+  next_excludes : (e : ℕ) (lock : Lock) → Next e → Excludes (state_at reached p options pick e) lock (times lock e) → Excludes (state_at reached p options pick (suc e)) lock (times lock (suc e))
+  unfolding left_by times_held
+  next_excludes e lock n h =
+      let m : Moment = moment_at reached p options pick e in
+      excludes_event m (event p (settled_at reached p options pick e) m.thread) lock (times lock e) m.thread n.keeps (λ there. (monitor_sound (settled_at reached p options pick e) p lock n.sound there).owned.1) n.done (settled_excludes e lock h)
+
+  pub all_exclude : (e : ℕ) (lock : Lock) → ((k : ℕ) → k < e → GoesOn reached p options pick k) → Excludes (state_at reached p options pick e) lock (times lock e)
+  all_exclude zero lock goes = first_excludes lock
+  all_exclude (suc e) lock goes =
+      let before : (k : ℕ) → k < e → GoesOn reached p options pick k = λ k lt. goes k (omega arith) in
+      next_excludes e lock (next e (all_sound e before) (goes e (omega arith))) (all_exclude e lock before)
+
+  -- THE LAWS
+
+  owned : (e : ℕ) (lock : Lock) (t : ℕ) → ((k : ℕ) → k < e → GoesOn reached p options pick k) → IsThere (state_at reached p options pick e) lock → (monitor_in (state_at reached p options pick e) lock).owner ≡ Some t → 0 < times lock e t
+  owned e lock t goes there own =
+      let s : Kept = state_at reached p options pick e in
+      let sound = monitor_sound s p lock (all_sound e goes).state there in
+      let some : 0 < (monitor_in s lock).count = sound.owned.0 (subst (λ (o : Option ℕ). IsSome o) (sym own) refl) in
+      let same : times lock e t ≡ (monitor_in s lock).count = ((all_exclude e lock goes).there there).owner t own in
+      omega arith
+
+pub one : (reached : Graph → ℕ → Bool) (p : Linked) (options : Options) (pick : ℕ → ℕ) (e : ℕ) (lock : Lock) (t u : ℕ) → Decides reached → IsSoundRun p (start p) → AreOptions options → ((k : ℕ) → k < e → GoesOn reached p options pick k)
+    → 0 < times_held reached p options pick t lock e → 0 < times_held reached p options pick u lock e → t ≡ u
+one reached p options pick e lock t u decides run are goes a b = (all_exclude reached p options pick decides run are e lock goes).one t u a b
+
+pub owner : (reached : Graph → ℕ → Bool) (p : Linked) (options : Options) (pick : ℕ → ℕ) (e : ℕ) (lock : Lock) (t : ℕ) → Decides reached → IsSoundRun p (start p) → AreOptions options → ((k : ℕ) → k < e → GoesOn reached p options pick k)
+    → IsThere (state_at reached p options pick e) lock → ((monitor_in (state_at reached p options pick e) lock).owner ≡ Some t) ↔ (0 < times_held reached p options pick t lock e)
+owner reached p options pick e lock t decides run are goes there = (
+  λ own. owned reached p options pick decides run are e lock t goes there own,
+  λ holds. holder (monitor_in (state_at reached p options pick e) lock) (λ u. times_held reached p options pick u lock e) t ((all_exclude reached p options pick decides run are e lock goes).there there) holds,
+)
+
+pub count : (reached : Graph → ℕ → Bool) (p : Linked) (options : Options) (pick : ℕ → ℕ) (e : ℕ) (lock : Lock) (t : ℕ) → Decides reached → IsSoundRun p (start p) → AreOptions options → ((k : ℕ) → k < e → GoesOn reached p options pick k)
+    → IsThere (state_at reached p options pick e) lock → (monitor_in (state_at reached p options pick e) lock).owner ≡ Some t → (monitor_in (state_at reached p options pick e) lock).count ≡ times_held reached p options pick t lock e
+count reached p options pick e lock t decides run are goes there own = sym (((all_exclude reached p options pick decides run are e lock goes).there there).owner t own)

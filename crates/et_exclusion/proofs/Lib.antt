@@ -1,0 +1,15 @@
+mod Values
+mod Heaps
+mod Taken
+mod Words
+mod Monitors
+mod Plain
+mod Ways
+mod Rows
+mod Calls
+mod Returns
+mod Turns
+mod Events
+mod Picking
+mod Agreeing
+mod Histories
