@@ -21,4 +21,6 @@ mod round_trip;
 #[cfg(test)]
 mod runs;
 #[cfg(test)]
+mod schedules;
+#[cfg(test)]
 mod traces;

@@ -73,14 +73,14 @@ const MUL: &str =
     "class Mul java/lang/Object 0021\nmethod main ([Ljava/lang/String;)V 0009 2 1\niconst_2\niconst_1\n\
     multianewarray [[I 2\npop\nreturn\nend\n";
 
-const WRK: &str =
+pub const WRK: &str =
     "class Wrk java/lang/Thread 0021\nfield top Ljava/lang/Object; 0008\nmethod <init> ()V 0001 1 1\naload 0\n\
     invokespecial java/lang/Thread <init> ()V\nreturn\nend\nmethod run ()V 0001 1 1\ninvokestatic Wrk add ()V\n\
     return\nend\nmethod add ()V 0029 1 0\nnew java/lang/Object\nputstatic Wrk top Ljava/lang/Object;\nreturn\n\
     end\nmethod main ([Ljava/lang/String;)V 0009 2 1\nnew Wrk\ndup\ninvokespecial Wrk <init> ()V\n\
     invokevirtual Wrk start ()V\ninvokestatic Wrk add ()V\nreturn\nend\n";
 
-const SLF: &str = "class Slf java/lang/Thread 0021\nmethod <init> ()V 0001 1 1\naload 0\n\
+pub const SLF: &str = "class Slf java/lang/Thread 0021\nmethod <init> ()V 0001 1 1\naload 0\n\
     invokespecial java/lang/Thread <init> ()V\nreturn\nend\nmethod run ()V 0001 1 1\naload 0\n\
     invokevirtual Slf join ()V\nreturn\nend\nmethod main ([Ljava/lang/String;)V 0009 2 1\nnew Slf\ndup\n\
     invokespecial Slf <init> ()V\ninvokevirtual Slf start ()V\nreturn\nend\n";
@@ -90,10 +90,10 @@ const MON: &str =
     end\n";
 
 /// The words, the answer, the trace and the line of the refusal.
-type Row = (&'static str, Status, &'static [u8], &'static [u8]);
+pub type Row = (&'static str, Status, &'static [u8], &'static [u8]);
 
 /// Files with the class of each listing, by its path.
-fn files_of(alloc: Global, listings: &[(&str, &str)]) -> Result<MemFiles, Fail> {
+pub fn files_of(alloc: Global, listings: &[(&str, &str)]) -> Result<MemFiles, Fail> {
     let mut files = MemFiles::begin(alloc);
     for (path, listing) in listings {
         let class = assemble(alloc, listing.as_bytes())?;
@@ -103,7 +103,7 @@ fn files_of(alloc: Global, listings: &[(&str, &str)]) -> Result<MemFiles, Fail> 
 }
 
 /// Each row is answered so, where the files hold the classes of these listings.
-fn are_answered(
+pub fn are_answered(
     rt: &impl Abort,
     alloc: Global,
     listings: &[(&str, &str)],
