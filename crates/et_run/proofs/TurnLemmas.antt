@@ -1,25 +1,16 @@
 -- One turn of the loop.
-use Rattle.std.proofs.Common.{◌≡◌, ℕ, suc, Bool, true, false, List, [], ◌∷◌, ◌++◌, Some, None, refl, sym, ◌∙◌, ap, subst, ◌↔◌, if◌then◌else◌, IsTrue, append_assoc, append-nil}
+use Rattle.std.proofs.Common.{◌≡◌, ℕ, suc, Bool, true, false, List, [], ◌∷◌, ◌++◌, Some, None, refl, sym, ◌∙◌, ap, subst, if◌then◌else◌, append_assoc, append-nil}
 use mathlib.Core.Path.{fun_ext}
 use Rattle.std.proofs.lemmas.Grind.{flat_map-append}
 use Rattle.et_base.specs.declared.line.TraceLine.{TraceLine}
 use Rattle.et_base.specs.declared.line.TraceLine.TheVariants.{Finish}
 use Rattle.et_base.specs.declared.value.End.{End}
-use Rattle.et_graph.specs.Graph.{Graph, IsReached, Decides}
+use Rattle.et_graph.specs.Graph.{Graph}
 use Rattle.et_state.specs.Outcome.{state_after, records_of}
 use Rattle.et_state.specs.Naming.{Mentions, mentions_after, lines_of}
 use Rattle.et_state.specs.History.{Setting, is_flush_point, how_of, ending, step_of, settled}
 use Rattle.et_text.specs.Spelling.{text, spelling}
-use Rattle.et_run.specs.Run.{marked, noted, flush_of, due_lines, due_state, last_lines, Goes, Turns}
-
-same_tests : (a b : Bool) → (IsTrue a → IsTrue b) → (IsTrue b → IsTrue a) → a ≡ b
-same_tests true b f g = sym (f refl)
-same_tests false true f g = g refl
-same_tests false false f g = refl
-
--- a mark for each object that is reached is the test itself
-pub here_is : (reached : Graph → ℕ → Bool) → Decides reached → (g : Graph) → (marks : List Bool) → ((o : ℕ) → IsTrue (marked marks o) ↔ IsReached g o) → marked marks ≡ reached g
-here_is reached d g marks h = fun_ext (λ o. same_tests (marked marks o) (reached g o) (λ m. (d g o).1 ((h o).0 m)) (λ m. (h o).1 ((d g o).0 m)))
+use Rattle.et_run.specs.Run.{noted, flush_of, due_lines, due_state, last_lines, Goes, Turns}
 
 -- a flush where it is due leads to the settled state
 settled_is : {S : Type 0} (reached : Graph → ℕ → Bool) (given : Setting S) (s : S) (b : Bool) → due_state b (given.rule.flushed (reached (given.rule.graph s)) s) s ≡ (if b then given.rule.flushed (reached (given.rule.graph s)) s else s)

@@ -1,5 +1,5 @@
 -- The parts of one turn of a run's loop, and what a run leaves. S is what a state is.
-use Rattle.std.specs.Prelude.{◌≡◌, ℕ, suc, Bool, true, false, if◌then◌else◌, List, [], ◌∷◌, ◌++◌, Option, Some, None, slice_index_or}
+use Rattle.std.specs.Prelude.{◌≡◌, ℕ, suc, Bool, true, false, if◌then◌else◌, List, [], ◌∷◌, ◌++◌, Option, Some, None}
 use Rattle.et_base.specs.declared.line.TraceLine.{TraceLine}
 use Rattle.et_base.specs.declared.line.TraceLine.TheVariants.{Finish}
 use Rattle.et_base.specs.declared.value.End.{End}
@@ -9,10 +9,6 @@ use Rattle.et_state.specs.Outcome.{state_after, records_of}
 use Rattle.et_state.specs.Naming.{Mentions, mentions_after, lines_of}
 use Rattle.et_state.specs.History.{Setting, flush_lines, deaths_to, is_gone, is_flush_point, how_of, ending, step_of, settled}
 use Rattle.et_text.specs.Spelling.{text}
-
--- which objects are marked
-abbrev pub marked : List Bool → ℕ → Bool
-marked marks o = slice_index_or marks o false
 
 -- the last event noted for an object, after this event was noted for those that are here
 abbrev pub noted : (ℕ → Bool) → (ℕ → ℕ) → ℕ → ℕ → ℕ

@@ -1,16 +1,13 @@
-//! The run: events in turn, flushes, and the trace, over any guest and any sink.
+//! What a run is, beside its loop: its options and its end, and the names that its trace gives.
 #![tactic(auto)]
 
-mod census;
-mod guest;
 mod naming;
 mod options;
-mod run;
-mod tracer;
+mod program;
+mod schedule;
 
 pub use et_state::{Options, Schedule};
-pub use guest::{Guest, Program};
 pub use naming::Numbering;
 pub use options::Ran;
-pub use run::run_guest;
-pub use tracer::{ended_as, is_due, pick};
+pub use program::Program;
+pub use schedule::{ended_as, is_due, pick};

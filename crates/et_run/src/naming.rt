@@ -4,7 +4,7 @@ ghost use Rattle.et_state.specs.Naming.{IsNamed, nothing_mentioned, with_new, wi
 ghost use Rattle.et_text.specs.Spelling.{text};
 ghost use Rattle.et_run.specs.Naming.{mentions_method, method_lines, new_class, new_method};
 
-use crate::guest::Program;
+use crate::program::Program;
 use et_base::{ClassId, MethodId, Name, NoMemory, TraceLine};
 use et_state::Record;
 use et_text::write_line;

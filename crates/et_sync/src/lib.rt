@@ -8,4 +8,4 @@ mod waiting;
 
 pub use ending::end_event;
 pub use monitoring::monitor_row_event;
-pub use waiting::wait_event;
+

@@ -1,0 +1,40 @@
+//! What a run reads off its options and its end: where flushes come, whose turn it is, and how a Z line spells the end.
+ghost use Rattle.std.specs.Prelude.{◌≡◌};
+ghost use Rattle.et_state.specs.History.{is_flush_point, how_of};
+ghost use Rattle.et_state.specs.Options.{pick_of, AreOptions};
+
+use et_base::End;
+use et_state::{Options, Schedule};
+
+/// Whether a flush follows this event even where it is not the last.
+pub fn is_due(interval: u64, e: u64) -> bool
+    ensures { result ≡ is_flush_point interval e }
+{
+    interval > 0 && e > 0 && e % interval == 0
+}
+
+/// The number that the schedule has for an event.
+pub fn pick(options: &Options, e: u64) -> u64
+    requires { AreOptions options.now }
+    ensures { result ≡ pick_of options.now.schedule e }
+{
+    match &options.schedule {
+        Schedule::Quantum(quantum) => e / *quantum,
+        Schedule::Words(words) => {
+            let list = words.as_slice();
+            list[(e % list.len() as u64) as usize] as u64
+        }
+    }
+}
+
+/// How a Z line spells the end.
+pub fn ended_as(end: &End) -> u8
+    ensures { result ≡ how_of end.now }
+{
+    match end {
+        End::Finished => 0,
+        End::EventLimit => 1,
+        End::IllTyped { .. } => 2,
+        End::ObjectLimit => 3,
+    }
+}
