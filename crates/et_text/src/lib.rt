@@ -15,8 +15,7 @@ mod standing;
 mod trace;
 mod writing;
 
-pub use fault::{LineError, TraceFault};
+pub use fault::TraceFault;
 pub use reader::TextReader;
-pub use reading::read_line;
 pub use trace::Trace;
 pub use writing::write_line;
