@@ -1,7 +1,7 @@
 -- From the lines and the pool of a text to its answer.
 use Rattle.std.proofs.Common.{◌≡◌, ℕ, List, Option, Some, None, map, refl, sym, ap, subst, ◌∙◌}
-use Rattle.et_items.specs.Marks.{Mark, MarksAre, first_from}
-use Rattle.et_items.proofs.Firsts.{found_is_first}
+use Rattle.et_base.specs.Marks.{Mark, MarksAre, first_from}
+use Rattle.et_base.proofs.Firsts.{found_is_first}
 use Rattle.et_listing.specs.declared.entry.Entry.{Entry}
 use Rattle.et_listing.specs.declared.line.Parsed.{Parsed}
 use Rattle.et_listing.specs.Words.{words, lines}

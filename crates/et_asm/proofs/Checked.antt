@@ -1,7 +1,7 @@
 -- The rules of a line, as the assembler checks them.
 use Rattle.std.proofs.Common.{◌≡◌, ℕ, ◌+◌, ◌<◌, ◌≤◌, ◌&&◌, Bool, true, false, cond, List, [], ◌∷◌, ◌++◌, length, get_or, take, drop, Option, None, refl, sym, ap, ◌∙◌, arith, length-take}
 use Rattle.std.specs.Prelude.{nat_le}
-use Rattle.et_items.specs.Marks.{Mark, marked, first_from}
+use Rattle.et_base.specs.Marks.{Mark, marked, first_from}
 use Rattle.et_listing.specs.declared.entry.Entry.{Entry}
 use Rattle.et_listing.specs.declared.line.Parsed.{Parsed}
 use Rattle.et_asm.specs.declared.order.Stage.{Stage}

@@ -1,7 +1,7 @@
 -- What the lines of a listing without faults keep.
 use Rattle.std.proofs.Common.{◌≡◌, ◌+◌, Bool, true, false, cond, List, [], ◌∷◌, ◌++◌, refl, sym, subst, inl, inr, append_assoc, append-nil, None}
 use Rattle.std.proofs.lemmas.Bool.{cases_Bool}
-use Rattle.et_items.specs.Marks.{Mark, MarksAre}
+use Rattle.et_base.specs.Marks.{Mark, MarksAre}
 use Rattle.et_listing.specs.declared.entry.Entry.{Entry}
 use Rattle.et_listing.specs.declared.line.Parsed.{Parsed}
 use Rattle.et_asm.specs.Along.{along_from}

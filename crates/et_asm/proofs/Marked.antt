@@ -1,7 +1,7 @@
 -- Rules, one list after the other.
 use Rattle.std.proofs.Common.{◌≡◌, ℕ, ◌+◌, ◌<◌, ◌≤◌, List, [], ◌++◌, length, get_or, take, drop, Option, refl, sym, ap, ◌∙◌}
-use Rattle.et_items.specs.Marks.{Mark, first_from}
-use Rattle.et_items.proofs.Firsts.{first_from-append}
+use Rattle.et_base.specs.Marks.{Mark, first_from}
+use Rattle.et_base.proofs.Firsts.{first_from-append}
 use Rattle.et_asm.proofs.Taken.{left, left_more, left_none}
 
 pub marks_more : (first : Option (ℕ × ℕ)) (xs ys : List Mark) → first_from (first_from first xs) ys ≡ first_from first (xs ++ ys)

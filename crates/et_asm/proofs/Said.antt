@@ -8,8 +8,8 @@ use Rattle.std.specs.Int.{w16, w32, w64, from_be_bytes}
 use Rattle.std.proofs.lemmas.Int.{to_z-of_z}
 use Rattle.std.proofs.lemmas.List.{map-append}
 use Rattle.std.proofs.lemmas.List.Elements.{All-nil, All-cons, All-append}
-use Rattle.et_items.specs.Marks.{MarksAre}
-use Rattle.et_items.proofs.Spelling.{wide16}
+use Rattle.et_base.specs.Marks.{MarksAre}
+use Rattle.et_base.proofs.Spelling.{wide16}
 use Rattle.et_pool.specs.Entries.{Item}
 use Rattle.et_pool.specs.declared.tags.TheConstants.{STRING}
 use Rattle.et_pool.specs.Looks.{slot_at, utf8_at, class_name_at, string_at, integer_of_slot, long_of_slot, named_by}

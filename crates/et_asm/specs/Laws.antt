@@ -1,7 +1,7 @@
 -- What the definitions mean.
 use Rattle.std.specs.Prelude.{◌≡◌, ℕ, ◌<◌, List, ◌++◌, false, length, take, slice_index_or, AllPairs, None}
 use Rattle.std.specs.List.{flat_map, list_any}
-use Rattle.et_items.specs.Marks.{MarksAre, IsTheOne}
+use Rattle.et_base.specs.Marks.{MarksAre, IsTheOne}
 use Rattle.et_class.specs.Layout.{ClassOf}
 use Rattle.et_class.specs.Classes.{IsClassFile}
 use Rattle.et_listing.specs.declared.entry.Entry.{Entry}

@@ -2,7 +2,7 @@
 use Rattle.std.specs.Prelude.{◌≡◌, ℕ, ◌+◌, ◌*◌, List, [], ◌∷◌, ◌++◌, length, map, count_by, codes, Bool, true, false, not, ◌==◌, ◌&&◌, ◌||◌, nat_le, Option, Some, None, Result, Ok, Err, if◌then◌else◌}
 use Rattle.std.specs.List.{list_all, flat_map}
 use Rattle.std.specs.Global.{Vec}
-use Rattle.et_items.specs.Marks.{Mark, MarksAre, IsFirst}
+use Rattle.et_base.specs.Marks.{Mark, MarksAre, IsFirst}
 use Rattle.et_code.specs.declared.opcode.TheConstants.{GOTO_W}
 use Rattle.et_listing.specs.declared.entry.Entry.{Entry}
 use Rattle.et_listing.specs.declared.entry.Entry.TheVariants as entry

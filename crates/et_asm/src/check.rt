@@ -2,7 +2,7 @@
 
 ghost use Rattle.std.specs.Prelude.{◌≡◌, ◌++◌, ◌+◌, ◌<◌, ◌^◌, [], ◌∷◌, length, IfOk, None, true, codes, map, if◌then◌else◌};
 ghost use Rattle.std.specs.List.{list_all};
-ghost use Rattle.et_items.specs.Marks.{first_from};
+ghost use Rattle.et_base.specs.Marks.{first_from};
 ghost use Rattle.et_listing.specs.Lines.{pairs};
 ghost use Rattle.et_asm.specs.Order.{body_of};
 ghost use Rattle.et_asm.specs.Pool.{parts, constant_entries};
@@ -17,8 +17,8 @@ use crate::instruction::behind;
 use crate::labels::{Labels, define, is_defined, labels_of, place_of};
 use crate::order::{Stage, body_of, is_finished, is_inside, may_stand, opens, step};
 use crate::symbols::{Symbols, index_of, width};
+use et_base::marks::{First, mark};
 use et_code::opcode::GOTO_W;
-use et_items::marks::{First, mark};
 use et_listing::entry::Entry;
 use et_listing::instruction::Instruction;
 use et_listing::line::{Line, LineFault, Parsed};
@@ -148,7 +148,7 @@ fn body_fits(symbols: &Symbols, has_body: bool) -> bool
 }
 
 /// The first broken rule behind the fault that a line has by itself.
-#[tactic(auto, unfolding(et_items::specs::Marks::first_from))]
+#[tactic(auto, unfolding(et_base::specs::Marks::first_from))]
 fn check_fault(first: First, number: usize, fault: Option<LineFault>) -> First
     ensures { result ≡ first_from first (fault_marks number fault) }
 {
@@ -161,7 +161,7 @@ fn check_fault(first: First, number: usize, fault: Option<LineFault>) -> First
 }
 
 /// The first broken rule behind those of every line.
-#[tactic(auto, using(crate::proofs::Marked::marks_more), unfolding(et_items::specs::Marks::first_from))]
+#[tactic(auto, using(crate::proofs::Marked::marks_more), unfolding(et_base::specs::Marks::first_from))]
 fn check_own<'a>(
     first: First,
     symbols: &Symbols<'a>,
@@ -277,7 +277,7 @@ fn reaches<'a>(labels: &Labels<'a>, at: usize, line: &Line<'a>) -> bool
 }
 
 /// The first broken rule behind those of a line of a body.
-#[tactic(auto, unfolding(et_items::specs::Marks::first_from))]
+#[tactic(auto, unfolding(et_base::specs::Marks::first_from))]
 fn check_body_line<'a>(
     first: First,
     labels: &Labels<'a>,

@@ -1,1 +1,4 @@
 pub mod Integers
+pub mod Numbers
+pub mod Steps
+pub mod Marks

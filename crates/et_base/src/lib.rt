@@ -4,9 +4,12 @@
 
 mod ids;
 mod integers;
+pub mod laws;
 mod line;
+pub mod marks;
 mod memory;
 mod name;
+pub mod numbers;
 mod steps;
 mod value;
 mod words;

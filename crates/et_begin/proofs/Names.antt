@@ -2,7 +2,7 @@
 use Rattle.std.proofs.Common.{ℕ, ◌+◌, List, [], ◌∷◌, ◌++◌, length, refl, inl, inr}
 use mathlib.Core.Logic.{⊎_elim}
 use Rattle.std.proofs.lemmas.Bool.{cases_Bool}
-use Rattle.et_items.specs.Marks.{Mark, Breaks}
+use Rattle.et_base.specs.Marks.{Mark, Breaks}
 use Rattle.et_pool.specs.Looks.{end_of}
 use Rattle.et_class.specs.declared.fault.TheConstants.{POOL}
 use Rattle.et_class.specs.declared.flags.TheConstants.{INTERFACE}

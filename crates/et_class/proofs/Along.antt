@@ -2,8 +2,8 @@
 use Rattle.std.proofs.Common.{◌≡◌, ℕ, ◌+◌, ◌<◌, ◌≤◌, List, [], ◌∷◌, ◌++◌, length, map, take, drop, get_or, Option, Bool, true, false, ◌||◌, refl, sym, ap, ◌∙◌, arith, append_assoc, length-append}
 use Rattle.std.specs.List.{flat_map, list_any}
 use Rattle.std.proofs.lemmas.List.{at_drop_more, at_drop_all, take_more, append-nil, map_push}
-use Rattle.et_items.specs.Marks.{Mark, first_from}
-use Rattle.et_items.proofs.Firsts.{first_from-append}
+use Rattle.et_base.specs.Marks.{Mark, first_from}
+use Rattle.et_base.proofs.Firsts.{first_from-append}
 use Rattle.et_class.specs.Along.{along}
 
 or_false : (b : Bool) → (b || false) ≡ b

@@ -4,9 +4,9 @@ use Rattle.std.specs.Prelude.{ok_or, All}
 use Rattle.std.specs.List.{flat_map}
 use Rattle.std.specs.Int.{w16, w32}
 use Rattle.std.proofs.lemmas.Bool.{le-ltb}
-use Rattle.et_items.specs.Numbers.{bytes_at}
-use Rattle.et_items.proofs.Steps.{bind_ok, some_ok}
-use Rattle.et_items.proofs.Spelling.{Reads, Reads-first, Reads-second, wide16, wide32, reads_number, reads_run, in_bytes}
+use Rattle.et_base.specs.Numbers.{bytes_at}
+use Rattle.et_base.proofs.Readings.{bind_ok, some_ok}
+use Rattle.et_base.proofs.Spelling.{Reads, Reads-first, Reads-second, wide16, wide32, reads_number, reads_run, in_bytes}
 use Rattle.et_class.specs.declared.fault.TheConstants.{SHORT, TRAILING}
 use Rattle.et_class.specs.Layout.{AttributeOf, MemberOf, u2, u4, counted, attribute_bytes, member_bytes}
 use Rattle.et_class.specs.Reading.{number, many_at, counted_at, attribute_at, member_at, head_at, HeaderOf, header_at, MembersOf, members_at}

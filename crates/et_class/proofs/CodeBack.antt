@@ -3,9 +3,9 @@ use Rattle.std.proofs.Common.{◌≡◌, ℕ, ◌+◌, ◌^◌, ◌<◌, Bool, c
 use Rattle.std.specs.Prelude.{ok_or}
 use Rattle.std.specs.Int.{w16, w32}
 use Rattle.std.proofs.lemmas.Bool.{le-ltb}
-use Rattle.et_items.specs.Numbers.{bytes_at}
-use Rattle.et_items.proofs.Steps.{bind_ok, some_ok}
-use Rattle.et_items.proofs.Spelling.{Reads, Reads-first, Reads-second, reads_run, in_bytes}
+use Rattle.et_base.specs.Numbers.{bytes_at}
+use Rattle.et_base.proofs.Readings.{bind_ok, some_ok}
+use Rattle.et_base.proofs.Spelling.{Reads, Reads-first, Reads-second, reads_run, in_bytes}
 use Rattle.et_code.specs.declared.body.TableRow.{TableRow}
 use Rattle.et_code.specs.Bodies.{Body}
 use Rattle.et_class.specs.declared.fault.TheConstants.{ATTRIBUTE, SHORT}

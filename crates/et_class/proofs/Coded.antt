@@ -4,14 +4,14 @@ use Rattle.std.specs.Prelude.{ok_or}
 use Rattle.std.specs.List.{flat_map}
 use Rattle.std.specs.Int.{w16, w32}
 use Rattle.std.proofs.lemmas.Bool.{le-ltb, lt-ltb}
-use Rattle.et_items.specs.Numbers.{bytes_at, AreBytes}
-use Rattle.et_items.specs.Steps.{◌>>=◌}
-use Rattle.et_items.proofs.Steps.{by_bind, ok_some, bind_ok}
-use Rattle.et_items.proofs.Spelling.{Reads, Reads-then, in_bytes, run_reads}
+use Rattle.et_base.specs.Numbers.{bytes_at, AreBytes}
+use Rattle.et_base.specs.Steps.{◌>>=◌}
+use Rattle.et_base.proofs.Readings.{by_bind, ok_some, bind_ok}
+use Rattle.et_base.proofs.Spelling.{Reads, Reads-then, in_bytes, run_reads}
 use Rattle.et_pool.specs.Entries.{Item}
 use Rattle.et_code.specs.declared.body.TableRow.{TableRow}
 use Rattle.et_code.specs.Bodies.{Body}
-use Rattle.et_items.specs.Marks.{first_from}
+use Rattle.et_base.specs.Marks.{first_from}
 use Rattle.et_class.specs.declared.fault.TheConstants.{ATTRIBUTE, SHORT}
 use Rattle.et_class.specs.Layout.{AttributeOf, u2, u4, counted, attribute_bytes}
 use Rattle.et_class.specs.Reading.{number, counted_at, attribute_at}

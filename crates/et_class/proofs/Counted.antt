@@ -3,7 +3,7 @@ use Rattle.std.proofs.Common.{◌≡◌, ℕ, suc, ◌-◌, ◌+◌, ◌≤◌, 
 use Rattle.std.proofs.lemmas.List.{append-nil}
 use Rattle.et_class.specs.declared.fault.ClassFault.{ClassFault}
 use Rattle.et_class.specs.declared.fault.ClassFault.TheVariants as fault
-use Rattle.et_items.specs.Steps.{◌>>=◌}
+use Rattle.et_base.specs.Steps.{◌>>=◌}
 use Rattle.et_class.specs.Reading.{IsFault, many_at}
 
 module _ {X : Type 0} (one : ℕ → Result (X × ℕ) (ℕ × ℕ)) where

@@ -1,11 +1,11 @@
 -- The header, and the rules of all parts of a class.
 use Rattle.std.proofs.Common.{◌≡◌, ℕ, ◌+◌, List, [], ◌++◌, length, Option, Some, None, Ok, Err, refl, sym, ap, subst, ◌∙◌, arith}
 use Rattle.std.specs.Int.{w16}
-use Rattle.et_items.specs.Numbers.{AreBytes}
-use Rattle.et_items.specs.Marks.{MarksAre, first_from}
-use Rattle.et_items.proofs.Firsts.{first_from-append, found_is_first}
-use Rattle.et_items.proofs.Steps.{by_bind}
-use Rattle.et_items.proofs.Spelling.{Reads, Reads-then}
+use Rattle.et_base.specs.Numbers.{AreBytes}
+use Rattle.et_base.specs.Marks.{MarksAre, first_from}
+use Rattle.et_base.proofs.Firsts.{first_from-append, found_is_first}
+use Rattle.et_base.proofs.Readings.{by_bind}
+use Rattle.et_base.proofs.Spelling.{Reads, Reads-then}
 use Rattle.et_pool.specs.declared.fault.PoolFault.{PoolFault}
 use Rattle.et_pool.specs.declared.fault.PoolFault.TheVariants as code
 use Rattle.et_pool.specs.Entries.{Item}

@@ -2,9 +2,9 @@
 use Rattle.std.proofs.Common.{◌≡◌, ℕ, suc, ◌+◌, ◌-◌, ◌<◌, ◌≤◌, List, [], ◌∷◌, ◌++◌, length, drop, Bool, true, false, cond, ltb, Option, Some, None, Result, Ok, Err, refl, sym, ap, ◌∙◌, arith}
 use Rattle.std.specs.Prelude.{is_some, option_and_then, ok_or}
 use Rattle.std.specs.Int.{w16, from_be_bytes}
-use Rattle.et_items.specs.Numbers.{AreBytes}
-use Rattle.et_items.specs.Steps.{◌>>=◌}
-use Rattle.et_items.specs.Marks.{marked, first_from}
+use Rattle.et_base.specs.Numbers.{AreBytes}
+use Rattle.et_base.specs.Steps.{◌>>=◌}
+use Rattle.et_base.specs.Marks.{marked, first_from}
 use Rattle.et_pool.specs.Entries.{Item}
 use Rattle.et_pool.specs.Looks.{utf8_at}
 use Rattle.et_class.specs.declared.fault.TheConstants.{ATTRIBUTE, SHORT}

@@ -2,8 +2,8 @@
 use Rattle.std.proofs.Common.{◌≡◌, ℕ, ◌+◌, ◌<◌, Bool, true, false, cond, List, [], ◌∷◌, map, Option, Some, None, refl, sym, ap, ◌∙◌, arith, ◌⊎◌, inl, inr}
 use Rattle.std.specs.Prelude.{option_map}
 use Rattle.std.proofs.lemmas.Bool.{cases_lt, ltb-true, ltb-false}
-use Rattle.et_items.specs.Marks.{Mark, MarksAre, IsFirst, is_before, first_of_two, marked, first_from}
-use Rattle.et_items.proofs.Firsts.{one, found_is_first}
+use Rattle.et_base.specs.Marks.{Mark, MarksAre, IsFirst, is_before, first_of_two, marked, first_from}
+use Rattle.et_base.proofs.Firsts.{one, found_is_first}
 use Rattle.et_class.specs.Codes.{moved}
 
 -- one place and kind before another

@@ -2,8 +2,8 @@
 use Rattle.std.proofs.Common.{◌≡◌, ℕ, ◌+◌, Bool, true, false, cond, ◌||◌, List, [], ◌∷◌, ◌++◌, length, map, Option, Some, None, Result, Ok, Err, refl, sym, ap, ◌∙◌}
 use Rattle.std.specs.Prelude.{option_map, option_and_then, find, is_none}
 use Rattle.std.specs.List.{list_any, flat_map}
-use Rattle.et_items.specs.Marks.{Mark, is_before, marked, first_from}
-use Rattle.et_items.proofs.Firsts.{first_from-append}
+use Rattle.et_base.specs.Marks.{Mark, is_before, marked, first_from}
+use Rattle.et_base.proofs.Firsts.{first_from-append}
 use Rattle.et_pool.specs.Entries.{Item}
 use Rattle.et_pool.specs.Looks.{tag_of_slot}
 use Rattle.et_code.specs.Starts.{starts}

@@ -2,10 +2,10 @@
 use Rattle.std.proofs.Common.{◌≡◌, ℕ, ◌+◌, ◌≤◌, Bool, cond, List, [], ◌++◌, length, Option, Result, Ok, Err, sym, ap, ◌∙◌, arith}
 use Rattle.std.specs.Int.{w16}
 use Rattle.std.proofs.lemmas.Bool.{le-ltb}
-use Rattle.et_items.specs.Numbers.{AreBytes}
-use Rattle.et_items.specs.Marks.{first_from}
-use Rattle.et_items.proofs.Steps.{bind_ok}
-use Rattle.et_items.proofs.Firsts.{first_from-append}
+use Rattle.et_base.specs.Numbers.{AreBytes}
+use Rattle.et_base.specs.Marks.{first_from}
+use Rattle.et_base.proofs.Readings.{bind_ok}
+use Rattle.et_base.proofs.Firsts.{first_from-append}
 use Rattle.et_pool.specs.Entries.{Item}
 use Rattle.et_class.specs.declared.fault.TheConstants.{TRAILING}
 use Rattle.et_class.specs.Layout.{AttributeOf, MemberOf, counted, attribute_bytes, member_bytes}

@@ -1,7 +1,7 @@
 -- Any bytes are those of exactly one class file, or have exactly one first fault.
 use Rattle.std.proofs.Common.{◌≡◌, ℕ, List, Option, Some, None, Result, Ok, Err, refl, sym, ap, subst, ◌∙◌, ◌⊎◌, inl, inr}
-use Rattle.et_items.specs.Marks.{MarksAre, first_from}
-use Rattle.et_items.proofs.Firsts.{one, found_is_first}
+use Rattle.et_base.specs.Marks.{MarksAre, first_from}
+use Rattle.et_base.proofs.Firsts.{one, found_is_first}
 use Rattle.et_pool.specs.Broken.{Broken}
 use Rattle.et_pool.specs.Entries.{Item}
 use Rattle.et_pool.specs.Pools.{IsPool, BreaksPool, PoolIs}

@@ -3,7 +3,7 @@ use Rattle.std.proofs.Common.{◌≡◌, ℕ, zero, suc, ◌+◌, ◌<◌, ◌�
 use Rattle.std.specs.Prelude.{slice_index_or}
 use Rattle.std.specs.List.{flat_map}
 use Rattle.std.proofs.lemmas.Bool.{le-ltb}
-use Rattle.et_items.specs.Marks.{Mark, is_before, marked, first_from}
+use Rattle.et_base.specs.Marks.{Mark, is_before, marked, first_from}
 use Rattle.et_pool.specs.declared.fault.PoolFault.{PoolFault}
 use Rattle.et_pool.specs.declared.fault.PoolFault.TheVariants as pool
 use Rattle.et_pool.specs.Entries.{Item}

@@ -5,9 +5,9 @@ use Rattle.std.specs.Int.{w16, w32}
 use Rattle.std.proofs.lemmas.Bool.{eqb-true, ltb-false}
 use Rattle.std.proofs.lemmas.List.{append-nil}
 use Rattle.std.proofs.lemmas.List.Concat.{flat_map-append}
-use Rattle.et_items.specs.Numbers.{AreBytes}
-use Rattle.et_items.proofs.Steps.{by_bind, by_if}
-use Rattle.et_items.proofs.Spelling.{Reads, Reads-then, Reads-first, Reads-second, in_bytes}
+use Rattle.et_base.specs.Numbers.{AreBytes}
+use Rattle.et_base.proofs.Readings.{by_bind, by_if}
+use Rattle.et_base.proofs.Spelling.{Reads, Reads-then, Reads-first, Reads-second, in_bytes}
 use Rattle.et_pool.specs.Entries.{Item, Text, Word, Wide, Name, Pair, Handle, slots_of, slots_of_item, item_bytes}
 use Rattle.et_pool.specs.Looks.{slot_bytes}
 use Rattle.et_pool.specs.Spelling.{pool_bytes}

@@ -3,9 +3,9 @@ use Rattle.std.proofs.Common.{◌≡◌, ℕ, zero, suc, List, ◌∷◌, ◌++�
 use Rattle.std.specs.Prelude.{ok_or}
 use Rattle.std.specs.List.{flat_map}
 use Rattle.std.specs.Int.{w16, w32}
-use Rattle.et_items.specs.Numbers.{bytes_at, AreBytes}
-use Rattle.et_items.proofs.Steps.{by_bind, ok_some}
-use Rattle.et_items.proofs.Spelling.{Reads, Reads-nothing, Reads-then, wide16, wide32, IsNumber, number_reads, run_reads}
+use Rattle.et_base.specs.Numbers.{bytes_at, AreBytes}
+use Rattle.et_base.proofs.Readings.{by_bind, ok_some}
+use Rattle.et_base.proofs.Spelling.{Reads, Reads-nothing, Reads-then, wide16, wide32, IsNumber, number_reads, run_reads}
 use Rattle.et_class.specs.declared.fault.TheConstants.{SHORT}
 use Rattle.et_class.specs.Layout.{AttributeOf, MemberOf, u2, u4, counted, attribute_bytes, member_bytes}
 use Rattle.et_class.specs.Reading.{number, many_at, counted_at, attribute_at, member_at}

@@ -2,8 +2,8 @@
 use Rattle.std.proofs.Common.{◌≡◌, ℕ, ◌+◌, ◌-◌, ◌<◌, ◌≤◌, List, [], ◌∷◌, ◌++◌, length, map, Option, Result, Ok, Err, refl, sym, ap, ◌∙◌, arith}
 use Rattle.std.specs.List.{flat_map}
 use Rattle.std.proofs.lemmas.List.{map_push}
-use Rattle.et_items.specs.Numbers.{AreBytes}
-use Rattle.et_items.specs.Marks.{Mark, first_from}
+use Rattle.et_base.specs.Numbers.{AreBytes}
+use Rattle.et_base.specs.Marks.{Mark, first_from}
 use Rattle.et_class.specs.declared.fault.ClassFault.{ClassFault}
 use Rattle.et_class.specs.declared.member.Member.{Member}
 use Rattle.et_class.specs.Layout.{MemberOf, member_bytes, member_of, members_of}

@@ -2,9 +2,9 @@
 use Rattle.std.proofs.Common.{◌≡◌, ℕ, zero, suc, ◌^◌, ◌<◌, List, ◌∷◌, length, Result, Ok, Err, refl, subst, arith}
 use Rattle.std.specs.Prelude.{ok_or, All, slice_index_or}
 use Rattle.std.specs.Int.{w16, w32}
-use Rattle.et_items.specs.Numbers.{bytes_at, AreBytes}
-use Rattle.et_items.proofs.Steps.{by_bind, ok_some}
-use Rattle.et_items.proofs.Spelling.{run_reads}
+use Rattle.et_base.specs.Numbers.{bytes_at, AreBytes}
+use Rattle.et_base.proofs.Readings.{by_bind, ok_some}
+use Rattle.et_base.proofs.Spelling.{run_reads}
 use Rattle.et_class.specs.declared.fault.TheConstants.{SHORT}
 use Rattle.et_class.specs.Layout.{AttributeOf, MemberOf}
 use Rattle.et_class.specs.Reading.{number, many_at, counted_at, attribute_at, member_at, HeaderOf, header_at}

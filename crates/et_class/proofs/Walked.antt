@@ -2,8 +2,8 @@
 use Rattle.std.proofs.Common.{◌≡◌, ℕ, zero, suc, ◌+◌, ◌-◌, ◌<◌, ◌≤◌, List, [], ◌∷◌, length, Option, Ok, Err, refl, sym, ap, ◌∙◌, arith}
 use Rattle.std.specs.List.{flat_map}
 use Rattle.std.proofs.lemmas.Bool.{le-ltb, lt-ltb}
-use Rattle.et_items.specs.Marks.{first_from}
-use Rattle.et_items.proofs.Firsts.{first_from-append}
+use Rattle.et_base.specs.Marks.{first_from}
+use Rattle.et_base.proofs.Firsts.{first_from-append}
 use Rattle.et_pool.specs.Entries.{Item}
 use Rattle.et_code.specs.declared.instr.Instr.{Instr}
 use Rattle.et_code.specs.declared.instr.CodeFault.{CodeFault}

@@ -1,6 +1,6 @@
 -- Rules on things that stand one after the other from a place on. The marks of one of them may look at those before it.
 use Rattle.std.specs.Prelude.{ℕ, ◌+◌, List, [], ◌∷◌, ◌++◌, length, Bool}
-use Rattle.et_items.specs.Marks.{Mark}
+use Rattle.et_base.specs.Marks.{Mark}
 
 abbrev pub mark : ℕ → ℕ → Bool → Mark
 mark place kind holds = record { place = place; kind = kind; holds = holds }

@@ -1,6 +1,6 @@
 -- A CLASS FILE, or its first fault.
 use Rattle.std.specs.Prelude.{◌≡◌, ℕ, List, map, Option, None, Result, Ok, Err}
-use Rattle.et_items.specs.Marks.{MarksAre, IsFirst}
+use Rattle.et_base.specs.Marks.{MarksAre, IsFirst}
 use Rattle.et_pool.specs.Entries.{Item, Constants}
 use Rattle.et_class.specs.declared.fault.ClassFault.{ClassFault}
 use Rattle.et_class.specs.declared.member.Member.{Member}

@@ -2,9 +2,9 @@
 use Rattle.std.specs.Prelude.{ℕ, ◌+◌, ◌^◌, ℤ, pos, negsuc, List, [], ◌∷◌, ◌++◌, length, map, Bool, true, false, not, nat_lt, nat_le, int_le, ◌==◌, ◌&&◌, ◌||◌, if◌then◌else◌, Option, Some, None, option_and_then, Result, Ok, Err, ok_or}
 use Rattle.std.specs.List.{flat_map}
 use Rattle.std.specs.Int.{w16, w32}
-use Rattle.et_items.specs.Numbers.{bytes_at}
-use Rattle.et_items.specs.Steps.{◌>>=◌}
-use Rattle.et_items.specs.Marks.{Mark}
+use Rattle.et_base.specs.Numbers.{bytes_at}
+use Rattle.et_base.specs.Steps.{◌>>=◌}
+use Rattle.et_base.specs.Marks.{Mark}
 use Rattle.et_pool.specs.Entries.{Item}
 use Rattle.et_pool.specs.Looks.{utf8_at, class_name_at, member_at as pair_at, name_and_type_at, tag_of_slot}
 use Rattle.et_pool.specs.Descriptors.{is_array, is_floating_array, dimensions}

@@ -3,7 +3,7 @@ use Rattle.std.specs.Prelude.{ℕ, ◌+◌, List, [], ◌∷◌, length, Bool, f
 use Rattle.std.specs.List.{list_any, find}
 use Rattle.std.specs.Int.{w16, from_be_bytes}
 use Rattle.std.specs.Str.{bytes_eq}
-use Rattle.et_items.specs.Marks.{Mark}
+use Rattle.et_base.specs.Marks.{Mark}
 use Rattle.et_pool.specs.declared.tags.TheConstants.{INTEGER, LONG, STRING}
 use Rattle.et_pool.specs.Entries.{Item}
 use Rattle.et_pool.specs.Looks.{utf8_at, tag_at}

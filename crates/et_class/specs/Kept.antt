@@ -2,8 +2,8 @@
 use Rattle.std.specs.Prelude.{ℕ, ◌+◌, List, [], map, Bool, not, is_none, ◌&&◌, if◌then◌else◌, Option, Some, None, option_and_then, Result, Ok, Err}
 use Rattle.std.specs.List.{find}
 use Rattle.std.specs.Int.{w16}
-use Rattle.et_items.specs.Numbers.{number_at}
-use Rattle.et_items.specs.Marks.{first_from}
+use Rattle.et_base.specs.Numbers.{number_at}
+use Rattle.et_base.specs.Marks.{first_from}
 use Rattle.et_pool.specs.Entries.{Item}
 use Rattle.et_pool.specs.Looks.{tag_of_slot}
 use Rattle.et_code.specs.Bodies.{Body}

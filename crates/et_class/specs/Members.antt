@@ -2,7 +2,7 @@
 -- of the second so far.
 use Rattle.std.specs.Prelude.{◌≡◌, ℕ, List, [], map, Bool, Option, None, Result, Ok, Err}
 use Rattle.std.specs.Global.{Vec}
-use Rattle.et_items.specs.Marks.{first_from}
+use Rattle.et_base.specs.Marks.{first_from}
 use Rattle.et_pool.specs.Entries.{Item}
 use Rattle.et_class.specs.declared.fault.ClassFault.{ClassFault}
 use Rattle.et_class.specs.declared.member.Member.{Member}

@@ -1,7 +1,7 @@
 -- The rules on methods (JVMS 4.6) and on their Code attribute (4.7.3).
 use Rattle.std.specs.Prelude.{ℕ, ◌+◌, List, [], ◌∷◌, ◌++◌, Bool, true, false, not, nat_le, ◌&&◌, ◌||◌, if◌then◌else◌, Option, Some, None, option_and_then, option_map, is_some, Result, Ok, Err}
 use Rattle.std.specs.List.{list_any, find}
-use Rattle.et_items.specs.Marks.{Mark}
+use Rattle.et_base.specs.Marks.{Mark}
 use Rattle.et_pool.specs.declared.descriptor.MethodShape.{MethodShape}
 use Rattle.et_pool.specs.Entries.{Item}
 use Rattle.et_pool.specs.Looks.{utf8_at}

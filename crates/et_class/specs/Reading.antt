@@ -2,8 +2,8 @@
 -- broken item there (JVMS 4.1, 4.5, 4.6, 4.7).
 use Rattle.std.specs.Prelude.{◌≡◌, ℕ, zero, suc, List, [], ◌∷◌, length, Option, Result, Ok, Err, ok_or, nat_lt, ◌==◌, ◌||◌, if◌then◌else◌}
 use Rattle.std.specs.Int.{Width, w16, w32}
-use Rattle.et_items.specs.Numbers.{number_at, bytes_at}
-use Rattle.et_items.specs.Steps.{◌>>=◌}
+use Rattle.et_base.specs.Numbers.{number_at, bytes_at}
+use Rattle.et_base.specs.Steps.{◌>>=◌}
 use Rattle.et_pool.specs.Broken as pool
 use Rattle.et_pool.specs.Broken.{Broken}
 use Rattle.et_pool.specs.Entries.{Item}

@@ -1,6 +1,6 @@
 -- THE SECOND PASS: all rules of a class file that the first pass lets through, each marked at its item.
 use Rattle.std.specs.Prelude.{ℕ, ◌+◌, List, [], ◌∷◌, ◌++◌, length, Bool, not, ◌&&◌, ◌||◌, if◌then◌else◌, Option}
-use Rattle.et_items.specs.Marks.{Mark}
+use Rattle.et_base.specs.Marks.{Mark}
 use Rattle.et_pool.specs.Entries.{Item}
 use Rattle.et_pool.specs.Looks.{class_name_at, is_fit_slot, slot_bytes, end_of}
 use Rattle.et_class.specs.declared.fault.TheConstants.{POOL, FLAGS, MEMBER}

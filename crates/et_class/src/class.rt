@@ -1,7 +1,7 @@
 //! A whole class file.
 
 ghost use Rattle.std.specs.Prelude.{◌≡◌, None};
-ghost use Rattle.et_items.specs.Marks.{first_from};
+ghost use Rattle.et_base.specs.Marks.{first_from};
 ghost use Rattle.et_pool.specs.Looks.{tag_of_slot};
 ghost use Rattle.et_class.specs.Lifted.{lifted, place_in};
 ghost use Rattle.et_class.specs.Rules.{pool_marks};
@@ -12,7 +12,7 @@ use crate::flags::{INTERFACE, has};
 use crate::header::{check_header, read_head, read_header};
 use crate::member::{Attribute, Member};
 use crate::members::read_members;
-use et_items::marks::First;
+use et_base::marks::First;
 use et_pool::{Pool, PoolFault, read_pool};
 use std::alloc::Global;
 

@@ -3,7 +3,7 @@
 
 ghost use Rattle.std.specs.Prelude.{◌≡◌, ◌+◌, ◌<◌, ◌^◌, List, [], length, map, is_some, IfOk, option_map};
 ghost use Rattle.std.specs.List.{flat_map};
-ghost use Rattle.et_items.specs.Marks.{first_from};
+ghost use Rattle.et_base.specs.Marks.{first_from};
 ghost use Rattle.et_pool.specs.Looks.{class_name_at, tag_of_slot};
 ghost use Rattle.et_code.specs.Bodies.{body_of};
 ghost use Rattle.et_code.specs.Starts.{starts};
@@ -15,13 +15,13 @@ ghost use Rattle.et_class.specs.Codes.{row_at, code_body_at, index_of, member_na
 use crate::fault::ClassFault;
 use crate::items::{short, u16_item, u32_item};
 use crate::names::{CLINIT, INIT, names_text};
+use et_base::marks::{First, mark};
+use et_base::numbers::run_at;
 use et_code::opcode::{
     ANEWARRAY, CHECKCAST, GETSTATIC, INSTANCEOF, INVOKEINTERFACE, INVOKESPECIAL, MULTIANEWARRAY,
     NEW,
 };
 use et_code::{CODE, Instr, RawCode, TableRow, UNSUPPORTED, decode};
-use et_items::marks::{First, mark};
-use et_items::numbers::run_at;
 use et_pool::Pool;
 use et_pool::descriptor::{dimensions, is_array_name, is_floating_array_name};
 use std::alloc::Global;
@@ -146,7 +146,7 @@ fn names_class_well(instr: &Instr, name: &[u8]) -> bool
 }
 
 /// The first broken rule behind those on the names that an instruction at a place uses.
-#[tactic(auto, unfolding(et_items::specs::Marks::first_from))]
+#[tactic(auto, unfolding(et_base::specs::Marks::first_from))]
 fn check_names_of(first: First, pool: &Pool, place: usize, instr: &Instr) -> First
     ensures { result ≡ first_from first (instruction_marks pool.now.slots place instr.now) }
 {

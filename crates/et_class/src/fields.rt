@@ -3,7 +3,7 @@
 ghost use Rattle.std.specs.Prelude.{◌≡◌, ◌+◌, ◌<◌, ◌^◌, [], ◌||◌, ◌==◌, if◌then◌else◌, length, is_some, option_map};
 ghost use Rattle.std.specs.Int.{w16, from_be_bytes};
 ghost use Rattle.std.specs.List.{flat_map, list_any};
-ghost use Rattle.et_items.specs.Marks.{first_from};
+ghost use Rattle.et_base.specs.Marks.{first_from};
 ghost use Rattle.et_pool.specs.Looks.{utf8_at};
 ghost use Rattle.et_class.specs.Layout.{attribute_of, attributes_of, attribute_bytes, member_of, member_bytes};
 ghost use Rattle.et_class.specs.Along.{along};
@@ -14,9 +14,9 @@ use crate::fault::{ATTRIBUTE, DESCRIPTOR, FLAGS, MEMBER};
 use crate::flags::{FINAL, STATIC, VOLATILE, has, has_one_access};
 use crate::member::{Attribute, Member};
 use crate::names::{CONSTANT_VALUE, STRING_TYPE, first_named, is_utf8, names_some, names_text};
+use et_base::marks::{First, mark};
+use et_base::numbers::u16_at;
 use et_code::UNSUPPORTED;
-use et_items::marks::{First, mark};
-use et_items::numbers::u16_at;
 use et_pool::Pool;
 use et_pool::descriptor::{is_field_descriptor, is_floating_type};
 use et_pool::tags::{INTEGER, LONG, STRING};
@@ -157,7 +157,7 @@ fn check_field_attributes(
 
 /// The first broken rule behind those on a field at a place, which is new or shares its name and
 /// descriptor with an earlier one.
-#[tactic(auto, unfolding(et_items::specs::Marks::first_from))]
+#[tactic(auto, unfolding(et_base::specs::Marks::first_from))]
 pub fn check_field(
     first: First,
     pool: &Pool,

@@ -3,7 +3,7 @@
 ghost use Rattle.std.specs.Prelude.{◌≡◌, ◌+◌, ◌<◌, ◌^◌, [], length};
 ghost use Rattle.std.specs.List.{flat_map};
 ghost use Rattle.std.specs.Int.{w16};
-ghost use Rattle.et_items.specs.Marks.{first_from};
+ghost use Rattle.et_base.specs.Marks.{first_from};
 ghost use Rattle.et_class.specs.Layout.{u2};
 ghost use Rattle.et_class.specs.Reading.{Gives, number, many_at, counted_at, versions_at, head_at, header_at};
 ghost use Rattle.et_class.specs.Along.{along};
@@ -14,7 +14,7 @@ use crate::fault::{ClassFault, FLAGS, MAGIC, MEMBER, POOL, VERSION};
 use crate::flags::{ABSTRACT, FINAL, INTERFACE, has};
 use crate::items::{u16_item, u32_item};
 use crate::names::{OBJECT, names_plain_class, names_this_class};
-use et_items::marks::{First, mark};
+use et_base::marks::{First, mark};
 use et_pool::Pool;
 use std::alloc::Global;
 
@@ -124,7 +124,7 @@ fn check_interfaces(first: First, pool: &Pool, start: usize, interfaces: &[u16])
 }
 
 /// The first broken rule behind those on the header at a place.
-#[tactic(auto, unfolding(et_items::specs::Marks::first_from))]
+#[tactic(auto, unfolding(et_base::specs::Marks::first_from))]
 pub fn check_header(first: First, pool: &Pool, place: usize, header: &Header) -> First
     requires { place + 8 + length (flat_map u2 header.now.interfaces.items) < 2 ^ 64 }
     ensures { result ≡ first_from first (header_marks pool.now.slots place (header_of header.now)) }

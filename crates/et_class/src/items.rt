@@ -6,7 +6,7 @@ ghost use Rattle.et_class.specs.declared.fault.ClassFault.TheVariants.{At};
 ghost use Rattle.et_class.specs.Reading.{Gives, number};
 
 use crate::fault::{ClassFault, SHORT};
-use et_items::numbers;
+use et_base::numbers;
 
 /// The fault of an item that the file ends before.
 pub fn short(offset: usize) -> ClassFault

@@ -1,7 +1,7 @@
 //! What the definitions mean.
 
 ghost use Rattle.std.specs.Prelude.{ℕ, List, ◌↔◌};
-ghost use Rattle.et_items.specs.Numbers.{AreBytes};
+ghost use Rattle.et_base.specs.Numbers.{AreBytes};
 ghost use Rattle.et_class.specs.Layout.{ClassOf};
 ghost use Rattle.et_class.specs.Reading.{IsRead};
 ghost use Rattle.et_class.specs.Spelling.{IsSpelled};

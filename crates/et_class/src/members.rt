@@ -12,7 +12,7 @@ use crate::keys::add_member;
 use crate::member::{Attribute, Member};
 use crate::methods::check_method;
 use crate::reading::{read_attributes, read_member};
-use et_items::marks::First;
+use et_base::marks::First;
 use et_pool::Pool;
 use std::alloc::Global;
 use std::collections::HashSet;

@@ -2,7 +2,7 @@
 
 ghost use Rattle.std.specs.Prelude.{◌≡◌, ◌+◌, ◌<◌, ◌≤◌, ◌^◌, ◌*◌, ℕ, List, [], ◌∷◌, ◌||◌, if◌then◌else◌, length, map, is_some, IfOk, IfSome, option_map, option_and_then, Ok};
 ghost use Rattle.std.specs.List.{flat_map, list_any, find};
-ghost use Rattle.et_items.specs.Marks.{first_from};
+ghost use Rattle.et_base.specs.Marks.{first_from};
 ghost use Rattle.et_pool.specs.Looks.{utf8_at, tag_of_slot};
 ghost use Rattle.et_code.specs.Bodies.{body_of};
 ghost use Rattle.et_class.specs.Layout.{attribute_of, attributes_of, attribute_bytes, member_of, member_bytes};
@@ -18,9 +18,9 @@ use crate::fault::{ATTRIBUTE, ClassFault, DESCRIPTOR, FLAGS, MEMBER};
 use crate::flags::{ABSTRACT, FINAL, NATIVE, PRIVATE, STATIC, SYNCHRONIZED, has, has_one_access};
 use crate::member::{Attribute, Member};
 use crate::names::{CLINIT, CODE_NAME, INIT, first_named, is_utf8, names_some, names_text};
+use et_base::marks::{First, mark};
+use et_base::numbers::{run_at, u16_at, u32_at};
 use et_code::{CODE, CheckFault, Code, RawCode, UNSUPPORTED, check_code};
-use et_items::marks::{First, mark};
-use et_items::numbers::{run_at, u16_at, u32_at};
 use et_pool::Pool;
 use et_pool::descriptor::{MethodShape, method_shape};
 use std::alloc::{AllocError, Global};
@@ -300,7 +300,7 @@ fn check_method_attributes(
 
 /// The first broken rule behind those on a method at a place, which is new or shares its name and
 /// descriptor with an earlier one; and its code where that keeps its own rules.
-#[tactic(auto, unfolding(et_items::specs::Marks::first_from))]
+#[tactic(auto, unfolding(et_base::specs::Marks::first_from))]
 pub fn check_method(
     alloc: Global,
     first: First,

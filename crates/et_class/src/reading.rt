@@ -7,7 +7,7 @@ ghost use Rattle.et_class.specs.Reading.{Gives, many_at, counted_at, attribute_a
 use crate::fault::ClassFault;
 use crate::items::{short, u16_item, u32_item};
 use crate::member::{Attribute, Member};
-use et_items::numbers::run_at;
+use et_base::numbers::run_at;
 use std::alloc::Global;
 
 #[tactic(auto, unfolding(crate::specs::Reading::attribute_at))]

@@ -3,8 +3,8 @@ use Rattle.std.proofs.Common.{◌≡◌, ℕ, ◌+◌, ◌<◌, ◌≤◌, Bool,
 use Rattle.std.specs.List.{flat_map}
 use Rattle.std.proofs.lemmas.List.{at_drop_more, at_drop_all}
 use Rattle.std.proofs.Math.Path.{fun_ext}
-use Rattle.et_items.specs.Marks.{Mark, Breaks, IsUpTo, IsFirst, MarksAre, marked, first_from}
-use Rattle.et_items.proofs.Firsts.{found_is_first, first_from-append}
+use Rattle.et_base.specs.Marks.{Mark, Breaks, IsUpTo, IsFirst, MarksAre, marked, first_from}
+use Rattle.et_base.proofs.Firsts.{found_is_first, first_from-append}
 use Rattle.et_code.specs.declared.instr.CodeFault.{CodeFault}
 use Rattle.et_code.specs.declared.instr.CodeFault.TheVariants as fault
 use Rattle.et_code.specs.declared.instr.Instr.{Instr}

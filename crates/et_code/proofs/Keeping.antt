@@ -2,7 +2,7 @@
 use Rattle.std.proofs.Common.{◌≡◌, ℕ, ◌+◌, Bool, true, false, not, ◌||◌, List, [], ◌∷◌, ◌++◌, length, All, None, Result, Ok, Err, refl, sym, ap, subst, ◌∙◌, rules, inl, inr}
 use Rattle.std.specs.List.{flat_map}
 use Rattle.std.proofs.lemmas.Bool.{cases_eq, ne_eqb}
-use Rattle.et_items.specs.Marks.{Mark, Breaks, MarksAre}
+use Rattle.et_base.specs.Marks.{Mark, Breaks, MarksAre}
 use Rattle.et_code.specs.declared.instr.CodeFault.{CodeFault}
 use Rattle.et_code.specs.declared.instr.CodeFault.TheVariants as fault
 use Rattle.et_code.specs.declared.instr.Instr.{Instr}

@@ -3,7 +3,7 @@
 use Rattle.std.specs.Prelude.{◌≡◌, ℕ, ◌+◌, ◌-◌, ◌^◌, ℤ, pos, negsuc, ◌+ℤ◌, List, [], ◌∷◌, ◌++◌, length, map, slice_index, slice_index_or, Bool, true, false, not, None, Result, Ok, Err, nat_lt, nat_le, int_lt, int_le, ◌==◌, ◌&&◌, ◌||◌, if◌then◌else◌}
 use Rattle.std.specs.List.{list_all, flat_map}
 use Rattle.std.specs.Int.{w32, cast_signed}
-use Rattle.et_items.specs.Marks.{Mark, MarksAre, IsFirst}
+use Rattle.et_base.specs.Marks.{Mark, MarksAre, IsFirst}
 use Rattle.et_code.specs.declared.instr.Instr.{Instr}
 use Rattle.et_code.specs.declared.instr.CodeFault.{CodeFault}
 use Rattle.et_code.specs.declared.instr.CodeFault.TheVariants as fault

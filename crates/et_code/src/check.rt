@@ -2,7 +2,7 @@
 
 ghost use Rattle.std.specs.Prelude.{◌≡◌, ℕ, ◌+◌, ◌*◌, ◌<◌, ◌≤◌, ◌^◌, [], ◌∷◌, length, pos, true, false};
 ghost use Rattle.std.specs.List.{flat_map};
-ghost use Rattle.et_items.specs.Marks.{MarksAre, first_from};
+ghost use Rattle.et_base.specs.Marks.{MarksAre, first_from};
 ghost use Rattle.et_code.specs.Decoding.{TableFits, LookupFits};
 ghost use Rattle.et_code.specs.Bodies.{body_of};
 ghost use Rattle.et_code.specs.Starts.{starts, is_start};
@@ -17,11 +17,11 @@ use crate::rules::{
     may_name, tag_at,
 };
 use crate::starts::start_flags;
-use et_items::marks::{First, mark};
+use et_base::marks::{First, mark};
 use std::alloc::Global;
 
 /// The first broken rule behind those on the operands of an instruction at a place.
-#[tactic(auto, unfolding(et_items::specs::Marks::first_from))]
+#[tactic(auto, unfolding(et_base::specs::Marks::first_from))]
 fn check_operands(first: First, body: &RawCode, tags: &[u8], place: usize, instr: &Instr) -> First
     ensures { result ≡ first_from first (operand_marks (body_of body.now) tags.now place instr.now) }
 {
@@ -35,7 +35,7 @@ fn check_operands(first: First, body: &RawCode, tags: &[u8], place: usize, instr
 }
 
 /// The first broken rule behind those on the array that an instruction at a place makes.
-#[tactic(auto, unfolding(et_items::specs::Marks::first_from))]
+#[tactic(auto, unfolding(et_base::specs::Marks::first_from))]
 fn check_array(first: First, place: usize, instr: &Instr) -> First
     ensures { result ≡ first_from first (array_marks place instr.now) }
 {
@@ -44,7 +44,7 @@ fn check_array(first: First, place: usize, instr: &Instr) -> First
 }
 
 /// The first broken rule behind those on the targets and the keys of an instruction at `pc`.
-#[tactic(auto, unfolding(et_items::specs::Marks::first_from))]
+#[tactic(auto, unfolding(et_base::specs::Marks::first_from))]
 fn check_targets(first: First, body: &RawCode, flags: &[bool], pc: usize, instr: &Instr) -> First
     requires pc { pc < 2 ^ 62 }
     requires table { instr.now.opcode ≡ TABLESWITCH → TableFits body.now.code.items instr.now.table }
@@ -78,7 +78,7 @@ fn check_instruction(
 }
 
 /// The first broken rule behind the one that no instruction stands at `pc`.
-#[tactic(auto, unfolding(et_items::specs::Marks::first_from))]
+#[tactic(auto, unfolding(et_base::specs::Marks::first_from))]
 fn check_no_instruction(
     first: First,
     body: &RawCode,

@@ -8,7 +8,7 @@ ghost use Rattle.et_code.specs.Decoding.{Fits, read, instr, rows_at, row_count, 
 
 use crate::form::{Form, form_behind, form_behind_wide};
 use crate::instr::{CodeFault, Instr};
-use et_items::numbers::{u8_at, u16_at, u32_at};
+use et_base::numbers::{u8_at, u16_at, u32_at};
 
 /// The byte at a place of the code, and the place behind it.
 fn byte(code: &[u8], at: usize) -> Result<(u8, usize), CodeFault>

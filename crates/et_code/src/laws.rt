@@ -1,7 +1,7 @@
 //! What the definitions mean.
 
 ghost use Rattle.std.specs.Prelude.{ℕ, List, None, IsTrue, ◌↔◌};
-ghost use Rattle.et_items.specs.Marks.{MarksAre};
+ghost use Rattle.et_base.specs.Marks.{MarksAre};
 ghost use Rattle.et_code.specs.Bodies.{Body};
 ghost use Rattle.et_code.specs.Starts.{IsStart, is_start};
 ghost use Rattle.et_code.specs.Rules.{code_marks};

@@ -5,7 +5,7 @@ use Rattle.std.specs.Prelude.{All, if◌then◌else◌}
 use Rattle.std.specs.List.{list_any, find}
 use Rattle.std.proofs.lemmas.Bool.{and_parts, or_cases, not-true, both_ways, false≢true}
 use Rattle.std.proofs.lemmas.List.Elements.{All-map}
-use Rattle.et_items.specs.Marks.{Mark}
+use Rattle.et_base.specs.Marks.{Mark}
 use Rattle.et_pool.specs.Entries.{Item}
 use Rattle.et_pool.specs.Looks.{end_of}
 use Rattle.et_class.specs.declared.flags.TheConstants.{STATIC, INTERFACE}

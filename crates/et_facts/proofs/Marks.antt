@@ -4,7 +4,7 @@ use mathlib.Core.Logic.{⊎_elim}
 use Rattle.std.specs.Prelude.{All}
 use Rattle.std.proofs.lemmas.Bool.{cases_Bool}
 use Rattle.std.proofs.lemmas.List.Elements.{All-nil, All-cons}
-use Rattle.et_items.specs.Marks.{Mark, Breaks}
+use Rattle.et_base.specs.Marks.{Mark, Breaks}
 use Rattle.et_class.specs.Along.{along}
 
 -- no rule of these is broken

@@ -5,7 +5,7 @@ use Rattle.std.specs.List.{list_all}
 use Rattle.std.specs.Option.{ok_or}
 use Rattle.std.specs.Int.{Width, w8, w16, w32, byte_len, from_be_bytes, cast_signed}
 use Rattle.std.proofs.lemmas.Bool.{and_parts, ltb-true}
-use Rattle.et_items.specs.Numbers.{number_at}
+use Rattle.et_base.specs.Numbers.{number_at}
 use Rattle.et_code.specs.declared.instr.CodeFault.{CodeFault}
 use Rattle.et_code.specs.declared.instr.CodeFault.TheVariants as fault
 use Rattle.et_code.specs.declared.instr.Instr.{Instr}

@@ -1,7 +1,7 @@
 //! The code that a thread runs, and what is decoded from it.
 ghost use Rattle.std.specs.Prelude.{◌≡◌, false, ◌+◌, ◌<◌, ◌^◌, IfOk, IfSome, length, Some};
 ghost use Rattle.std.specs.Int.{w8, w16};
-ghost use Rattle.et_items.specs.Numbers.{number_at};
+ghost use Rattle.et_base.specs.Numbers.{number_at};
 ghost use Rattle.et_code.specs.Decoding.{instruction_at};
 ghost use Rattle.et_code.specs.Rules.{KeepsRules};
 ghost use Rattle.et_machine.specs.Words.{HasFrame, top};
@@ -10,9 +10,9 @@ ghost use Rattle.et_event.specs.Table.{row_of as row_in_table};
 ghost use Rattle.et_event.specs.declared.rows.Row.{Row};
 ghost use Rattle.et_place.specs.Places.{Runs, is_frame};
 
+use et_base::numbers::{u8_at, u16_at};
 use et_base::{MethodId, ThreadId};
 use et_code::{Code, CodeFault, Instr, decode};
-use et_items::numbers::{u8_at, u16_at};
 use et_machine::Machine;
 use et_program::{MethodInfo, Program};
 

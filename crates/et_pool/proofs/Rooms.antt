@@ -3,8 +3,8 @@ use Rattle.std.proofs.Common.{◌≡◌, ℕ, ◌≤◌, Bool, true, false, cond
 use Rattle.std.specs.Prelude.{ok_or}
 use Rattle.std.specs.Int.{w8, w16, w32, w64}
 use Rattle.std.proofs.lemmas.Bool.{ltb-false}
-use Rattle.et_items.specs.Numbers.{bytes_at}
-use Rattle.et_items.specs.Steps.{◌>>=◌}
+use Rattle.et_base.specs.Numbers.{bytes_at}
+use Rattle.et_base.specs.Steps.{◌>>=◌}
 use Rattle.et_pool.specs.Broken.{Broken, Tag, Utf8, Short}
 use Rattle.et_pool.specs.declared.entry.Shape.{Shape}
 use Rattle.et_pool.specs.declared.entry.Shape.TheVariants as shape

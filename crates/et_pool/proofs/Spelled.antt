@@ -4,9 +4,9 @@ use Rattle.std.specs.Prelude.{ok_or, All, slice_index_or}
 use Rattle.std.specs.List.{flat_map}
 use Rattle.std.specs.Int.{w8, w16, w32, w64, to_be_bytes}
 use Rattle.std.proofs.lemmas.Bool.{le-ltb, eqb-true, cases_lt}
-use Rattle.et_items.specs.Numbers.{number_at, bytes_at, AreBytes}
-use Rattle.et_items.proofs.Steps.{by_bind, by_if, ok_some, some_ok, bind_ok}
-use Rattle.et_items.proofs.Spelling.{Reads, Reads-nothing, Reads-then, Reads-first, Reads-second, wide8, wide16, wide32, wide64, number_reads, reads_number, run_reads, reads_run, in_bytes}
+use Rattle.et_base.specs.Numbers.{number_at, bytes_at, AreBytes}
+use Rattle.et_base.proofs.Readings.{by_bind, by_if, ok_some, some_ok, bind_ok}
+use Rattle.et_base.proofs.Spelling.{Reads, Reads-nothing, Reads-then, Reads-first, Reads-second, wide8, wide16, wide32, wide64, number_reads, reads_number, run_reads, reads_run, in_bytes}
 use Rattle.et_pool.specs.Broken.{Broken, Tag, Utf8, Short}
 use Rattle.et_pool.specs.declared.entry.Shape.{Shape}
 use Rattle.et_pool.specs.declared.entry.Shape.TheVariants as shape

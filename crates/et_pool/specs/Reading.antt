@@ -1,8 +1,8 @@
 -- What stands at a place of the bytes: an item and the place after it, or the first broken item there.
 use Rattle.std.specs.Prelude.{◌≡◌, ℕ, List, Option, Some, None, Result, Ok, Err, ok_or, nat_lt, if◌then◌else◌}
 use Rattle.std.specs.Int.{Width, w8, w16, w32, w64}
-use Rattle.et_items.specs.Numbers.{number_at, bytes_at}
-use Rattle.et_items.specs.Steps.{◌>>=◌}
+use Rattle.et_base.specs.Numbers.{number_at, bytes_at}
+use Rattle.et_base.specs.Steps.{◌>>=◌}
 use Rattle.et_pool.specs.declared.fault.PoolFault.{PoolFault}
 use Rattle.et_pool.specs.declared.fault.PoolFault.TheVariants as fault
 use Rattle.et_pool.specs.declared.entry.Shape.{Shape}

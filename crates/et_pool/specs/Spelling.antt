@@ -2,7 +2,7 @@
 use Rattle.std.specs.Prelude.{◌≡◌, ℕ, ◌+◌, ◌<◌, ◌^◌, List, ◌++◌, length, All, Option, Some, true}
 use Rattle.std.specs.List.{flat_map}
 use Rattle.std.specs.Int.{w16, to_be_bytes}
-use Rattle.et_items.specs.Numbers.{Stands}
+use Rattle.et_base.specs.Numbers.{Stands}
 use Rattle.et_pool.specs.declared.entry.Shape.TheVariants as shape
 use Rattle.et_pool.specs.Text.{is_modified}
 use Rattle.et_pool.specs.Entries.{Item, Text, Word, Wide, Name, Pair, Handle, shape_of, slots_of, item_bytes}

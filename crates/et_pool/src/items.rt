@@ -4,7 +4,7 @@ ghost use Rattle.std.specs.Int.{w8, w16, w32, w64};
 ghost use Rattle.et_pool.specs.Reading.{Gives, number};
 
 use crate::fault::PoolFault;
-use et_items::numbers;
+use et_base::numbers;
 
 pub fn u8_item(bytes: &[u8], at: usize) -> Result<(u8, usize), PoolFault>
     ensures { Gives (λ x. x) result (number w8 bytes.now at) }

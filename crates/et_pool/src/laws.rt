@@ -1,7 +1,7 @@
 //! What the definitions mean.
 
 ghost use Rattle.std.specs.Prelude.{ℕ, List, Option, ◌↔◌};
-ghost use Rattle.et_items.specs.Numbers.{AreBytes};
+ghost use Rattle.et_base.specs.Numbers.{AreBytes};
 ghost use Rattle.et_pool.specs.Entries.{Item};
 ghost use Rattle.et_pool.specs.Pools.{IsPool, HasOnePool};
 ghost use Rattle.et_pool.specs.Spelling.{IsSpelled};

@@ -10,7 +10,7 @@ use crate::fault::PoolFault;
 use crate::items::{u8_item, u16_item, u32_item, u64_item};
 use crate::look::Pool;
 use crate::text::is_text;
-use et_items::numbers::run_at;
+use et_base::numbers::run_at;
 use std::alloc::Global;
 
 #[tactic(auto, unfolding(crate::specs::Reading::text_at))]

@@ -8,7 +8,7 @@ use Rattle.std.specs.Str.{bytes_eq}
 use Rattle.std.proofs.lemmas.Bool.{and_parts, both_ways, eqb-true}
 use Rattle.std.proofs.lemmas.List.Elements.{All-map}
 use Rattle.et_boot.specs.Classes.{thread_pool, thread_run}
-use Rattle.et_items.specs.Marks.{Mark, MarksAre}
+use Rattle.et_base.specs.Marks.{Mark, MarksAre}
 use Rattle.et_pool.specs.Entries.{Constants, slots_of}
 use Rattle.et_pool.specs.Looks.{tag_of_slot}
 use Rattle.et_code.specs.declared.body.TableRow.{TableRow}

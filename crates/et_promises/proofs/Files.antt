@@ -5,8 +5,8 @@ use Rattle.std.specs.Prelude.{All, sum_by, nat_le, option_map, option_and_then, 
 use Rattle.std.specs.List.{list_any, find, flat_map}
 use Rattle.std.proofs.lemmas.Bool.{and_parts, or_cases, both_ways, eqb-true, leb-true, false≢true}
 use Rattle.std.proofs.lemmas.List.Elements.{All-head, All-tail, All-map}
-use Rattle.et_items.specs.Marks.{Mark, Breaks, MarksAre}
-use Rattle.et_items.specs.Numbers.{AreBytes}
+use Rattle.et_base.specs.Marks.{Mark, Breaks, MarksAre}
+use Rattle.et_base.specs.Numbers.{AreBytes}
 use Rattle.et_pool.specs.Entries.{Item}
 use Rattle.et_pool.specs.Looks.{end_of, utf8_at, tag_of_slot}
 use Rattle.et_pool.specs.Descriptors.{MethodType, method_type, shape_of_method, width_of}

@@ -1,7 +1,7 @@
 -- What holds of class files, all together, and of the programs that they are linked to.
 use Rattle.std.specs.Prelude.{◌≡◌, ℕ, ◌<◌, false, List, length, codes, All, Some, Ok}
 use Rattle.et_base.specs.declared.value.Value.{Value}
-use Rattle.et_items.specs.Numbers.{AreBytes}
+use Rattle.et_base.specs.Numbers.{AreBytes}
 use Rattle.et_code.specs.Bodies.{Body}
 use Rattle.et_code.specs.Rules.{KeepsRules}
 use Rattle.et_class.specs.Classes.{IsClassFile}

@@ -1,7 +1,7 @@
 -- What holds of the methods of a class file and of their code (JVMS 4.6, 4.7.3, 4.9.1).
 use Rattle.std.specs.Prelude.{◌≡◌, ℕ, ◌<◌, ◌≤◌, ◌^◌, List, length, map, Bool, true, false, not, ◌||◌, All, Option, Some, None, is_some, codes, Ok}
 use Rattle.std.specs.Str.{bytes_eq}
-use Rattle.et_items.specs.Marks.{MarksAre}
+use Rattle.et_base.specs.Marks.{MarksAre}
 use Rattle.et_pool.specs.Entries.{Item}
 use Rattle.et_pool.specs.Looks.{class_name_at, tag_of_slot}
 use Rattle.et_pool.specs.Descriptors.{MethodType, method_type}

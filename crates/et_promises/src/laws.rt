@@ -6,7 +6,7 @@ ghost use Rattle.et_begin.specs.ClassNames.{HasClassName};
 ghost use Rattle.et_class.specs.Classes.{IsClassFile};
 ghost use Rattle.et_class.specs.Layout.{ClassOf};
 ghost use Rattle.et_facts.specs.Fields.{KeepsFieldRules};
-ghost use Rattle.et_items.specs.Numbers.{AreBytes};
+ghost use Rattle.et_base.specs.Numbers.{AreBytes};
 ghost use Rattle.et_link.specs.LinkFaults.{IsLinkable};
 ghost use Rattle.et_link.specs.Loaded.{LoadedClass, loaded_class};
 ghost use Rattle.et_link.specs.ProgramOf.{IsProgramOf};

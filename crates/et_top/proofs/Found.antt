@@ -5,7 +5,7 @@ use Rattle.std.specs.declared.string.String.{String}
 use Rattle.std.specs.declared.alloc.Global.{Global}
 use Rattle.et_io.specs.Files.{Held}
 use Rattle.std.specs.Prelude.{Option, None, Some}
-use Rattle.et_items.specs.Marks.{Mark, MarksAre, IsFirst, IsTheOne}
+use Rattle.et_base.specs.Marks.{Mark, MarksAre, IsFirst, IsTheOne}
 use Rattle.et_asm.specs.Listings.{marks_of, bytes_of}
 use Rattle.et_base.specs.declared.line.TraceLine.{TraceLine}
 use Rattle.et_class.specs.Layout.{ClassOf}

@@ -6,7 +6,7 @@ use Rattle.et_class.specs.Layout.{ClassOf}
 use Rattle.et_class.specs.Classes.{IsClassFile, HasFault, class_of}
 use Rattle.et_class.specs.declared.class.ClassFile.{ClassFile}
 use Rattle.et_text.specs.Text.{IsTextOf, IsTraceFault}
-use Rattle.et_items.specs.Marks.{MarksAre, IsFirst}
+use Rattle.et_base.specs.Marks.{MarksAre, IsFirst}
 use Rattle.et_asm.specs.Listings.{marks_of, bytes_of as class_file_of}
 use Rattle.et_link.specs.Loaded.{loaded_class}
 use Rattle.et_link.specs.LinkFaults.{IsLinkable, RefusesLink}

@@ -9,8 +9,8 @@ ghost use Rattle.et_top.specs.Told.{Tells, IsReading, IsFileRefusal, IsOfBytes, 
 use crate::files::read_file;
 use crate::refusal::Refusal;
 use et_asm::{AsmFault, assemble};
+use et_base::laws::exactly_one;
 use et_io::Files;
-use et_items::laws::exactly_one;
 use std::alloc::Global;
 
 /// The longest listing that is read, in bytes.

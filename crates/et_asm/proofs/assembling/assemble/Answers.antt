@@ -1,5 +1,5 @@
 use Rattle.std.proofs.Common.{◌≡◌, Some, None, map, ap, sym, ◌∙◌}
-use Rattle.et_items.specs.Marks.{first_from}
+use Rattle.et_base.specs.Marks.{first_from}
 use Rattle.et_listing.specs.Lines.{parsed_of}
 use Rattle.et_asm.specs.Pool.{pool}
 use Rattle.et_asm.specs.Listings.{listing_marks, class_bytes}

@@ -1,6 +1,6 @@
 use Rattle.std.proofs.Common.{◌≡◌, ◌+◌, ◌≤◌, cond, Bool, refl, sym, ap, ◌∙◌, take, get_or, arith, rules}
 use Rattle.std.proofs.Math.Path.{fun_ext}
-use Rattle.et_items.specs.Marks.{first_from}
+use Rattle.et_base.specs.Marks.{first_from}
 use Rattle.et_asm.specs.Code.{labels_of, is_catch}
 use Rattle.et_asm.specs.Listings.{body_marks_at}
 use Rattle.et_asm.specs.Symbols.{places}

@@ -1,5 +1,5 @@
 use Rattle.std.proofs.Common.{◌≡◌, ◌≤◌, ℕ, List, take}
-use Rattle.et_items.specs.Marks.{first_from}
+use Rattle.et_base.specs.Marks.{first_from}
 use Rattle.et_asm.specs.Code.{place_behind, labels_of, catch_count}
 use Rattle.et_asm.specs.Listings.{body_marks_at, body_marks}
 use Rattle.et_asm.specs.Symbols.{places}

@@ -1,5 +1,5 @@
 use Rattle.std.proofs.Common.{◌≡◌, ◌++◌, [], cond, sym, ap, ◌∙◌}
-use Rattle.et_items.specs.Marks.{first_from}
+use Rattle.et_base.specs.Marks.{first_from}
 use Rattle.et_asm.specs.Listings.{own_marks, outside_marks}
 use Rattle.et_asm.proofs.Loops.{if_ok}
 use Rattle.et_asm.proofs.Marked.{marks_more}

@@ -1,6 +1,6 @@
 use Rattle.std.proofs.Common.{◌≡◌, ◌+◌, ◌-◌, ◌≤◌, ◌∷◌, [], cond, refl, sym, ap, ◌∙◌, length, take, drop, None, arith, rules}
 use Rattle.std.proofs.lemmas.Grind.{common_steps}
-use Rattle.et_items.specs.Marks.{marked, first_from}
+use Rattle.et_base.specs.Marks.{marked, first_from}
 use Rattle.et_asm.specs.declared.fault.TheConstants.{ORDER}
 use Rattle.et_asm.specs.Along.{along}
 use Rattle.et_asm.specs.Order.{stage_of, is_finished}

@@ -1,5 +1,5 @@
 use Rattle.std.proofs.Common.{◌≡◌, ◌≤◌, take, None}
-use Rattle.et_items.specs.Marks.{first_from}
+use Rattle.et_base.specs.Marks.{first_from}
 use Rattle.et_asm.specs.Along.{along}
 use Rattle.et_asm.specs.Order.{stage_of}
 use Rattle.et_asm.specs.Listings.{count, is_interface, is_field, is_method, line_marks}

@@ -1,5 +1,5 @@
 use Rattle.std.proofs.Common.{◌≡◌, ◌+◌, ◌∷◌, [], cond, true, sym, ap, ◌∙◌}
-use Rattle.et_items.specs.Marks.{marked, first_from}
+use Rattle.et_base.specs.Marks.{marked, first_from}
 use Rattle.et_asm.specs.declared.fault.TheConstants.{LABEL}
 use Rattle.et_asm.specs.Order.{opens, body_of}
 use Rattle.et_asm.specs.Listings.{mark, uses_defined, no_labels, body_marks}

@@ -1,4 +1,4 @@
-use Rattle.et_items.proofs.Firsts.{exactly_one}
+use Rattle.et_base.proofs.Firsts.{exactly_one}
 use Rattle.et_asm.specs.Listings.{marks_of}
 use Rattle.et_asm.proofs.laws.exactly_one.Goals as goal
 

@@ -1,7 +1,7 @@
 use Rattle.std.proofs.Common.{ℕ, sym, ap, ◌∙◌, arith, Bool, []}
 use Rattle.std.proofs.lemmas.Result.{err_from_is_err_and}
-use Rattle.et_items.specs.Numbers.{AreBytes}
-use Rattle.et_items.specs.Marks.{first_from}
+use Rattle.et_base.specs.Numbers.{AreBytes}
+use Rattle.et_base.specs.Marks.{first_from}
 use Rattle.et_class.specs.Layout.{members_of}
 use Rattle.et_class.specs.Headers.{header_of}
 use Rattle.et_class.specs.Members.{members_view}

@@ -1,6 +1,6 @@
 use Rattle.std.proofs.Common.{◌≡◌, ◌+◌, ◌||◌, length, map, take, sym, ap, subst, ◌∙◌, Bool, arith, [], ◌∷◌}
 use Rattle.std.specs.List.{list_any}
-use Rattle.et_items.specs.Marks.{first_from}
+use Rattle.et_base.specs.Marks.{first_from}
 use Rattle.et_class.specs.declared.fault.TheConstants.{ATTRIBUTE}
 use Rattle.et_class.specs.Along.{mark}
 use Rattle.et_class.specs.Layout.{attribute_of, attribute_bytes, member_of}

@@ -1,5 +1,5 @@
 use Rattle.std.proofs.Common.{◌≡◌, ◌+◌, length, ap, subst, ◌∙◌, Bool, arith, [], ◌∷◌}
-use Rattle.et_items.specs.Marks.{first_from}
+use Rattle.et_base.specs.Marks.{first_from}
 use Rattle.et_class.specs.declared.fault.TheConstants.{ATTRIBUTE}
 use Rattle.et_class.specs.Along.{mark}
 use Rattle.et_class.specs.Layout.{attribute_of, attribute_bytes}

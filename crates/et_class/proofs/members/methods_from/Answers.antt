@@ -1,7 +1,7 @@
 use Rattle.std.proofs.Common.{◌+◌, Bool, refl, sym, ap, subst, ◌∙◌, arith}
 use Rattle.std.proofs.lemmas.List.{map_push}
 use Rattle.std.proofs.lemmas.Result.{err_from_is_err_and}
-use Rattle.et_items.specs.Marks.{first_from}
+use Rattle.et_base.specs.Marks.{first_from}
 use Rattle.et_class.specs.declared.member.Member.{Member}
 use Rattle.et_class.specs.Layout.{member_of, members_of}
 use Rattle.et_class.specs.Methods.{method_marks, method_marks_if}

@@ -1,7 +1,7 @@
 use Rattle.std.proofs.Common.{◌+◌, List, [], length, ap, ◌∙◌, arith}
 use Rattle.std.specs.List.{flat_map}
-use Rattle.et_items.specs.Numbers.{AreBytes}
-use Rattle.et_items.specs.Marks.{first_from}
+use Rattle.et_base.specs.Numbers.{AreBytes}
+use Rattle.et_base.specs.Marks.{first_from}
 use Rattle.et_class.specs.declared.member.Attribute.{Attribute}
 use Rattle.et_class.specs.Layout.{attribute_bytes, attributes_of, members_of}
 use Rattle.et_class.specs.Along.{along}

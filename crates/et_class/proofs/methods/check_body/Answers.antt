@@ -1,8 +1,8 @@
 use Rattle.std.proofs.Common.{◌≡◌, ℕ, ◌+◌, List, ◌∷◌, map, Option, Some, None, sym, ap, ◌∙◌, arith, cond, Bool}
 use Rattle.std.specs.Prelude.{option_map, is_none}
 use Rattle.std.specs.List.{flat_map}
-use Rattle.et_items.specs.Marks.{IsFirst, marked, first_from}
-use Rattle.et_items.proofs.Firsts.{first_from-append}
+use Rattle.et_base.specs.Marks.{IsFirst, marked, first_from}
+use Rattle.et_base.proofs.Firsts.{first_from-append}
 use Rattle.et_pool.specs.Entries.{Item}
 use Rattle.et_pool.specs.Looks.{tag_of_slot}
 use Rattle.et_code.specs.declared.body.TheConstants.{CODE}

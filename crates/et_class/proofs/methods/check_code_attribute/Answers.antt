@@ -2,8 +2,8 @@ use Rattle.std.proofs.Common.{◌≡◌, ℕ, ◌+◌, List, [], ◌∷◌, Opti
 use Rattle.std.proofs.lemmas.Result.{IfOk-weaker}
 use Rattle.et_pool.specs.Entries.{Item}
 use Rattle.et_pool.specs.declared.descriptor.MethodShape.{MethodShape}
-use Rattle.et_items.specs.Marks.{first_of_two, first_from}
-use Rattle.et_items.proofs.Firsts.{first_from-append}
+use Rattle.et_base.specs.Marks.{first_of_two, first_from}
+use Rattle.et_base.proofs.Firsts.{first_from-append}
 use Rattle.et_code.specs.declared.body.TheConstants.{CODE}
 use Rattle.et_code.specs.Bodies.{Body, body_of}
 use Rattle.et_class.specs.declared.fault.TheConstants.{ATTRIBUTE}

@@ -1,5 +1,5 @@
 use Rattle.std.proofs.Common.{◌+◌, ap, ◌∙◌, Bool}
-use Rattle.et_items.specs.Marks.{marked}
+use Rattle.et_base.specs.Marks.{marked}
 use Rattle.et_class.specs.declared.fault.TheConstants.{ATTRIBUTE}
 use Rattle.et_class.specs.Along.{mark}
 use Rattle.et_class.proofs.Inner.{inner_more, inner_cut, inner_done}

@@ -1,7 +1,7 @@
 use Rattle.std.proofs.Common.{◌≡◌, ℕ, List, [], ◌∷◌, Bool, true, false, not, ◌&&◌, cond, Option, None, sym, ap, ◌∙◌}
 use Rattle.std.specs.Prelude.{is_some}
 use Rattle.std.proofs.lemmas.Result.{IfOk-weaker}
-use Rattle.et_items.specs.Marks.{marked, first_of_two, first_from}
+use Rattle.et_base.specs.Marks.{marked, first_of_two, first_from}
 use Rattle.et_pool.specs.Entries.{Item}
 use Rattle.et_pool.specs.Looks.{utf8_at}
 use Rattle.et_code.specs.Bodies.{Body}

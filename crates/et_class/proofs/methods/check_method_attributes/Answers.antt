@@ -1,7 +1,7 @@
 use Rattle.std.proofs.Common.{◌≡◌, ◌+◌, ◌||◌, length, map, take, sym, ap, subst, ◌∙◌, Bool, arith}
 use Rattle.std.specs.List.{list_any}
 use Rattle.std.proofs.lemmas.List.{take_all}
-use Rattle.et_items.specs.Marks.{first_from}
+use Rattle.et_base.specs.Marks.{first_from}
 use Rattle.et_class.specs.Layout.{attribute_of, attribute_bytes, member_of}
 use Rattle.et_class.specs.Methods.{is_code, method_attribute_marks, method_attribute_marks_if}
 use Rattle.et_class.specs.Kept.{kept_among}

@@ -1,5 +1,5 @@
 use Rattle.std.proofs.Common.{◌≡◌, false, length, sym, subst, ap, ◌∙◌, arith}
-use Rattle.et_items.specs.Marks.{MarksAre}
+use Rattle.et_base.specs.Marks.{MarksAre}
 use Rattle.et_code.specs.Bodies.{body_of}
 use Rattle.et_code.specs.Rules.{is_code_length, code_marks}
 use Rattle.et_code.proofs.Checked.{bad_length}

@@ -1,8 +1,8 @@
 use Rattle.std.proofs.Common.{sym, ap, ◌∙◌, ◌+◌, ◌++◌}
-use Rattle.et_items.specs.Marks.{first_from}
+use Rattle.et_base.specs.Marks.{first_from}
 use Rattle.et_code.specs.Bodies.{body_of}
 use Rattle.et_code.specs.Rules.{flag, operand_marks, array_marks, target_marks}
-use Rattle.et_items.proofs.Firsts.{first_from-append}
+use Rattle.et_base.proofs.Firsts.{first_from-append}
 use Rattle.et_code.proofs.check.check_instruction.Goals as goal
 
 pub returns : goal.returns

@@ -1,5 +1,5 @@
 use Rattle.std.proofs.Common.{sym, ap, ◌∙◌, arith}
-use Rattle.et_items.specs.Marks.{first_from}
+use Rattle.et_base.specs.Marks.{first_from}
 use Rattle.et_code.specs.Decoding.{instruction_at}
 use Rattle.et_code.specs.Bodies.{body_of}
 use Rattle.et_code.specs.Rules.{flag}

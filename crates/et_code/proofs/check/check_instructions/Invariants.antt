@@ -1,6 +1,6 @@
 use Rattle.std.proofs.Common.{◌≡◌, ◌-◌, length, None}
 use Rattle.std.specs.List.{flat_map}
-use Rattle.et_items.specs.Marks.{first_from}
+use Rattle.et_base.specs.Marks.{first_from}
 use Rattle.et_code.specs.Bodies.{body_of}
 use Rattle.et_code.specs.Starts.{starts}
 use Rattle.et_code.specs.Rules.{flag, marks_at}

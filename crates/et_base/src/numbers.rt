@@ -5,7 +5,7 @@
 
 ghost use Rattle.std.specs.Prelude.{◌≡◌, option_map};
 ghost use Rattle.std.specs.Int.{w8, w16, w32, w64};
-ghost use Rattle.et_items.specs.Numbers.{number_at, bytes_at};
+ghost use Rattle.et_base.specs.Numbers.{number_at, bytes_at};
 
 use byteorder::{BigEndian, ByteOrder};
 

@@ -1,7 +1,7 @@
 -- The first broken rule is one, and the fold finds it.
 use Rattle.std.proofs.Common.{◌≡◌, ℕ, Bool, true, false, cond, List, [], ◌∷◌, ◌++◌, Option, Some, None, refl, sym, ap, subst, ◌∙◌, arith, ◌⊎◌, inl, inr}
 use Rattle.std.proofs.lemmas.Bool.{cases_lt, ltb-true, ltb-false}
-use Rattle.et_items.specs.Marks.{Mark, Breaks, IsUpTo, MarksAre, IsTheOne, is_before, marked, first_from}
+use Rattle.et_base.specs.Marks.{Mark, Breaks, IsUpTo, MarksAre, IsTheOne, is_before, marked, first_from}
 
 -- what was found before, or is broken among these
 abbrev Known : Option (ℕ × ℕ) → List Mark → ℕ → ℕ → Type 0

@@ -1,7 +1,7 @@
 -- What holds of a reading by steps.
 use Rattle.std.proofs.Common.{◌≡◌, Bool, true, false, cond, Option, Some, None, Result, Ok, Err, refl}
 use Rattle.std.specs.Prelude.{ok_or}
-use Rattle.et_items.specs.Steps.{◌>>=◌}
+use Rattle.et_base.specs.Steps.{◌>>=◌}
 
 -- a claim on what a step and the rest give, from the claim on each fault and on the rest behind each value
 pub by_bind : {A B E : Type 0} (P : Result B E → Type 0) (r : Result A E) (f : A → Result B E) → ((e : E) → r ≡ Err e → P (Err e)) → ((x : A) → r ≡ Ok x → P (f x)) → P (r >>= f)

@@ -1,7 +1,7 @@
 //! The first broken rule so far.
 
 ghost use Rattle.std.specs.Prelude.{◌≡◌};
-ghost use Rattle.et_items.specs.Marks.{marked};
+ghost use Rattle.et_base.specs.Marks.{marked};
 
 /// The place and the kind of the first broken rule, in the order of the places, and of the kinds
 /// at equal places; `None` where no rule is broken so far.

@@ -1,3 +1,3 @@
 pub mod Firsts
-pub mod Steps
+pub mod Readings
 pub mod Spelling

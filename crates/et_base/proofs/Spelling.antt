@@ -4,7 +4,7 @@ use Rattle.std.specs.Int.{Width, w8, w16, w32, w64, byte_len, from_be_bytes, to_
 use Rattle.std.proofs.lemmas.Bool.{cases_lt, ltb-false, le-ltb}
 use Rattle.std.proofs.lemmas.List.{take_more, take_at, drop-drop, drop_at, take-append-drop, length-take, length-drop, get_or-drop, get_or-take, get_or_past}
 use Rattle.std.proofs.lemmas.Nat.{be_bytes_2, be_bytes_4, be_bytes_8, from_be_bytes-to_be_bytes_2, from_be_bytes-to_be_bytes_4, from_be_bytes-to_be_bytes_8}
-use Rattle.et_items.specs.Numbers.{number_at, bytes_at, AreBytes, Stands}
+use Rattle.et_base.specs.Numbers.{number_at, bytes_at, AreBytes, Stands}
 
 -- these bytes stand at a place, and the next item behind them
 pub record Reads (bytes : List ℕ) (at : ℕ) (xs : List ℕ) (next : ℕ) : Type 0 where

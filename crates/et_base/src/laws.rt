@@ -1,7 +1,7 @@
 //! What the definitions mean.
 
 ghost use Rattle.std.specs.Prelude.{List, None};
-ghost use Rattle.et_items.specs.Marks.{Mark, MarksAre, IsTheOne, first_from};
+ghost use Rattle.et_base.specs.Marks.{Mark, MarksAre, IsTheOne, first_from};
 
 /// Of any rules either all hold, or exactly one broken item is the first.
 pub fn exactly_one()

@@ -1,5 +1,0 @@
-use Rattle.et_items.proofs.Firsts.{found_is_first}
-use Rattle.et_items.proofs.laws.found_is_first.Goals as goal
-
-pub returns : goal.returns
-returns c = found_is_first
