@@ -7,8 +7,8 @@ use Rattle.std.specs.Str.{bytes_eq}
 use Rattle.std.proofs.lemmas.Bool.{cond-true, cond-false}
 use Rattle.std.proofs.lemmas.List.{take_more}
 use Rattle.std.proofs.lemmas.List.Concat.{flat_map-append}
-use Rattle.et_index.specs.declared.names.NameIndex.{NameIndex}
-use Rattle.et_index.specs.Shown.{number_of}
+use Rattle.et_program.specs.declared.names.NameIndex.{NameIndex}
+use Rattle.et_program.specs.Indices.{number_of}
 use Rattle.et_program.proofs.IndexLemmas.{position_push}
 use Rattle.et_link.specs.ArrayTypes.{with_elements, is_known, name_added, names_added, array_names, array_at}
 use Rattle.et_link.specs.Naming.{IsIndexFrom}

@@ -1,7 +1,7 @@
 -- How names are found by indices.
 use Rattle.std.specs.Prelude.{◌≡◌, ℕ, List}
-use Rattle.et_index.specs.declared.names.NameIndex.{NameIndex}
-use Rattle.et_index.specs.Shown.{number_of}
+use Rattle.et_program.specs.declared.names.NameIndex.{NameIndex}
+use Rattle.et_program.specs.Indices.{number_of}
 use Rattle.et_link.specs.ArrayTypes.{array_at}
 
 -- the index has the number of each of these names, from the first number on

@@ -4,7 +4,7 @@ ghost use Rattle.std.specs.Prelude.{◌≡◌, ℕ, ◌<◌, ◌++◌, ◌∷◌
 ghost use Rattle.std.specs.List.{flat_map};
 ghost use Rattle.std.specs.Option.{option_to_list};
 ghost use Rattle.et_pool.specs.Looks.{named_by};
-ghost use Rattle.et_index.specs.Shown.{number_of};
+ghost use Rattle.et_program.specs.Indices.{number_of};
 ghost use Rattle.et_class.specs.Codes.{index_of};
 ghost use Rattle.et_link.specs.Loaded.{loaded_file};
 ghost use Rattle.et_link.specs.ArrayTypes.{base_letter, base_kind, array_over, named_arrays, made_by, made_in, made_in_method, file_arrays, arrays_met, leaf_at, leaf_of, is_known, with_elements, name_added, names_added, element_of, kind_of};
@@ -14,10 +14,9 @@ use et_base::{ClassId, Name, NoMemory};
 use et_class::ClassFile;
 use et_code::opcode::{ANEWARRAY, NEWARRAY};
 use et_code::{Code, Instr, decode, start_flags};
-use et_index::NameIndex;
 use et_pool::Pool;
 use et_pool::descriptor::{dimensions, is_array_name};
-use et_program::{Element, Kind, Leaf};
+use et_program::{Element, Kind, Leaf, NameIndex};
 use std::alloc::Global;
 
 /// The letter of a base type, by its code in `newarray`.

@@ -17,8 +17,7 @@ use crate::heads::FieldList;
 use crate::members::class_at_place;
 use crate::names::{ArrayNames, element_of, kind_of};
 use et_base::{ClassId, MethodId, Name, NoMemory};
-use et_index::NameIndex;
-use et_program::{Above, Class, ClassInfo, Element, Kind, Leaf};
+use et_program::{Above, Class, ClassInfo, Element, Kind, Leaf, NameIndex};
 use et_set::{ClassOutline, Links, Row, init_order, interfaces_to_run};
 use std::alloc::Global;
 

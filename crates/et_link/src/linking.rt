@@ -2,7 +2,7 @@
 
 ghost use Rattle.std.specs.Prelude.{◌≡◌, ℕ, ◌+◌, ◌<◌, ◌≤◌, ◌^◌, List, length, map, All, IfOk};
 ghost use Rattle.std.specs.List.{slice_index_or};
-ghost use Rattle.et_index.specs.Shown.{number_of};
+ghost use Rattle.et_program.specs.Indices.{number_of};
 ghost use Rattle.et_set.specs.Outline.{place_of};
 ghost use Rattle.et_set.specs.Links.{AreWithin};
 ghost use Rattle.et_set.specs.Ancestry.{ancestry_at, IsBelow};

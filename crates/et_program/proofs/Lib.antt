@@ -4,3 +4,4 @@ pub mod WordLemmas
 pub mod PlaceLemmas
 pub mod Examples
 pub mod IndexLemmas
+pub mod Puts

@@ -2,9 +2,9 @@
 use Rattle.std.specs.Prelude.{◌≡◌, ℕ, ◌<◌, ◌&&◌, ◌==◌, if◌then◌else◌, List, All, Option, Some, None, true, is_some}
 use Rattle.std.specs.Option.{option_or}
 use Rattle.std.specs.Str.{bytes_eq}
-use Rattle.et_index.specs.declared.names.NameIndex.{NameIndex}
-use Rattle.et_index.specs.declared.members.MemberIndex.{MemberIndex}
-use Rattle.et_index.specs.Shown.{number_of}
+use Rattle.et_program.specs.declared.names.NameIndex.{NameIndex}
+use Rattle.et_program.specs.declared.members.MemberIndex.{MemberIndex}
+use Rattle.et_program.specs.Indices.{number_of}
 use Rattle.et_program.specs.declared.info.MethodInfo.{MethodInfo}
 use Rattle.et_program.specs.declared.info.FieldInfo.{FieldInfo}
 use Rattle.et_program.specs.Tables.{looked_up}

@@ -9,3 +9,4 @@ pub mod Counted
 pub mod Indexed
 pub mod Parts
 pub mod Finding
+pub mod Indices

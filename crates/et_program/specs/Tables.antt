@@ -1,9 +1,9 @@
 -- What is true of the tables that a program keeps, and of the indices beside them.
 use Rattle.std.specs.Prelude.{◌≡◌, ℕ, ◌<◌, ◌^◌, List, length, All, IfSome, Option, None, option_and_then}
 use Rattle.std.specs.List.{slice_index_or}
-use Rattle.et_index.specs.declared.names.NameIndex.{NameIndex}
-use Rattle.et_index.specs.declared.members.MemberIndex.{MemberIndex}
-use Rattle.et_index.specs.Shown.{number_of, member_of}
+use Rattle.et_program.specs.declared.names.NameIndex.{NameIndex}
+use Rattle.et_program.specs.declared.members.MemberIndex.{MemberIndex}
+use Rattle.et_program.specs.Indices.{number_of, member_of}
 use Rattle.et_program.specs.declared.info.MethodInfo.{MethodInfo}
 use Rattle.et_program.specs.declared.info.FieldInfo.{FieldInfo}
 use Rattle.et_program.specs.declared.kind.Leaf.{Leaf}

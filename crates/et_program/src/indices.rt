@@ -3,7 +3,7 @@
 ghost use Rattle.std.specs.Prelude.{◌≡◌, ℕ, ◌<◌, ◌^◌, List, length, IfOk, OnOk, None};
 ghost use Rattle.std.specs.List.{position_from, slice_index_or};
 ghost use Rattle.std.specs.Str.{bytes_eq};
-ghost use Rattle.et_index.specs.Shown.{number_of};
+ghost use Rattle.et_program.specs.Indices.{number_of};
 ghost use Rattle.et_program.specs.Entries.{ClassEntry};
 ghost use Rattle.et_program.specs.Members.{is_method, is_field, is_base_array};
 ghost use Rattle.et_program.specs.Tables.{looked_up};
@@ -11,8 +11,9 @@ ghost use Rattle.et_program.specs.Indexed.{AreApart, IsNumbering, Has, Keeps, Ha
 
 use crate::class::Class;
 use crate::info::{Element, FieldInfo, MethodInfo};
+use crate::members::MemberIndex;
+use crate::names::NameIndex;
 use et_base::{ClassId, NoMemory};
-use et_index::{MemberIndex, NameIndex};
 use std::alloc::Global;
 
 /// The classes by name; the first of a name.

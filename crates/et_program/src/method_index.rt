@@ -5,8 +5,9 @@ ghost use Rattle.et_program.specs.Finding.{found_by, FindsMethods};
 
 use crate::indices::{index_methods, number_texts};
 use crate::info::MethodInfo;
+use crate::members::MemberIndex;
+use crate::names::NameIndex;
 use et_base::{ClassId, MethodId, NoMemory};
-use et_index::{MemberIndex, NameIndex};
 use std::alloc::Global;
 
 /// The methods of a list by class, name and descriptor; the first of each.

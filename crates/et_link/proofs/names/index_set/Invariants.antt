@@ -1,5 +1,5 @@
 use Rattle.std.proofs.Common.{◌≡◌, ℕ, List, take}
-use Rattle.et_index.specs.Shown.{number_of}
+use Rattle.et_program.specs.Indices.{number_of}
 use Rattle.et_set.specs.Outline.{place_of}
 use Rattle.et_link.proofs.names.index_set.Given as goal
 

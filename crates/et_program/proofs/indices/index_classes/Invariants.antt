@@ -1,7 +1,7 @@
 use Rattle.std.proofs.Common.{◌≡◌, ℕ, List, take}
 use Rattle.std.specs.List.{position_from}
 use Rattle.std.specs.Str.{bytes_eq}
-use Rattle.et_index.specs.Shown.{number_of}
+use Rattle.et_program.specs.Indices.{number_of}
 use Rattle.et_program.specs.Entries.{ClassEntry}
 use Rattle.et_program.proofs.indices.index_classes.Given as goal
 

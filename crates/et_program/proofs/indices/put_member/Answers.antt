@@ -1,6 +1,6 @@
 use Rattle.std.proofs.Common.{◌≡◌, ℕ, sym, subst, cond, ◌==◌, ◌&&◌, Some, None}
 use Rattle.std.specs.Option.{option_or}
-use Rattle.et_index.specs.Shown.{member_of}
+use Rattle.et_program.specs.Indices.{member_of}
 use Rattle.et_program.proofs.IndexLemmas.{member_put_in}
 use Rattle.et_program.proofs.indices.put_member.Goals as goal
 

@@ -2,8 +2,8 @@
 use Rattle.std.specs.Prelude.{ℕ, ◌==◌, ◌&&◌, List, Option}
 use Rattle.std.specs.Str.{bytes_eq}
 use Rattle.std.specs.HashMap.{get_by}
-use Rattle.et_index.specs.declared.names.NameIndex.{NameIndex}
-use Rattle.et_index.specs.declared.members.MemberIndex.{MemberIndex}
+use Rattle.et_program.specs.declared.names.NameIndex.{NameIndex}
+use Rattle.et_program.specs.declared.members.MemberIndex.{MemberIndex}
 
 abbrev pub number_of : NameIndex → List ℕ → Option ℕ
 number_of x name = get_by (λ k. bytes_eq name k.items) x.places

@@ -3,7 +3,7 @@
 ghost use Rattle.std.specs.Prelude.{◌≡◌, ℕ, List, if◌then◌else◌, None, Some, OnOk, OnErr};
 ghost use Rattle.std.specs.Option.{option_or};
 ghost use Rattle.std.specs.Str.{bytes_eq};
-ghost use Rattle.et_index.specs.Shown.{number_of};
+ghost use Rattle.et_program.specs.Indices.{number_of};
 
 use et_base::NoMemory;
 use std::alloc::Global;

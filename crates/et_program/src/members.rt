@@ -2,7 +2,7 @@
 
 ghost use Rattle.std.specs.Prelude.{◌≡◌, ℕ, ◌==◌, ◌&&◌, if◌then◌else◌, None, Some, OnOk, OnErr};
 ghost use Rattle.std.specs.Option.{option_or};
-ghost use Rattle.et_index.specs.Shown.{member_of};
+ghost use Rattle.et_program.specs.Indices.{member_of};
 
 use et_base::NoMemory;
 use std::alloc::Global;
