@@ -12,7 +12,7 @@ use Rattle.et_machine.specs.State.{Kept, MachineState, kept_of}
 use Rattle.et_machine.specs.Roots.{roots_of, graph_of}
 use Rattle.et_machine.specs.Sound.{IsSound}
 use Rattle.et_machine.proofs.Wholes.{length-remaining, remaining_held, held_remaining}
-use Rattle.et_stamps.specs.Cleared.{IsCleared}
+use Rattle.et_graph.specs.Cleared.{IsCleared}
 use Rattle.et_flush.specs.Flushes.{heap_graph}
 use Rattle.et_flush.proofs.Targets.{held_above}
 

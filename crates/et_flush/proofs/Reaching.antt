@@ -11,7 +11,7 @@ use Rattle.et_heap.specs.Objects.{ObjectState, Objects, IsHeld, is_there, found,
 use Rattle.et_heap.specs.Refs.{pairs_of}
 use Rattle.et_heap.specs.Remaining.{kept_referent, left_place, remaining}
 use Rattle.et_heap.proofs.HeapLists.{pair_at, pair_held, held_within, gone_at, at_gone}
-use Rattle.et_stamps.specs.Listed.{IsGreatest, AreListed}
+use Rattle.et_graph.specs.Listed.{IsGreatest, AreListed}
 use Rattle.et_flush.specs.declared.times.TheConstants.{NOW}
 use Rattle.et_flush.specs.Searches.{AreSeenHeld, AreBelow}
 use Rattle.et_flush.specs.Sweeps.{is_now, clears, visits_of, visits_from}

@@ -6,15 +6,15 @@ ghost use Rattle.et_heap.specs.Remaining.{remaining};
 ghost use Rattle.et_machine.specs.State.{kept_of};
 ghost use Rattle.et_machine.specs.Roots.{graph_of};
 ghost use Rattle.et_machine.specs.Sound.{IsSound};
-ghost use Rattle.et_stamps.specs.Listed.{AreListed};
-ghost use Rattle.et_stamps.specs.Cleared.{IsCleared};
+ghost use Rattle.et_graph.specs.Listed.{AreListed};
+ghost use Rattle.et_graph.specs.Cleared.{IsCleared};
 ghost use Rattle.et_flush.specs.Flushes.{cleared_from};
 
 use crate::room::{FlushRoom, flush};
 use et_base::{NoMemory, Steps};
+use et_graph::Stamps;
 use et_heap::RootList;
 use et_machine::Machine;
-use et_stamps::Stamps;
 use std::sync::ledger::Ledger;
 
 /// The flush of a machine: its roots are listed, and its heap is flushed from them. Nothing else of it changes. After

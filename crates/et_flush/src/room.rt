@@ -3,7 +3,7 @@ ghost use Rattle.std.specs.Prelude.{◌≡◌, ℕ, ◌+◌, ◌*◌, ◌<◌, �
 ghost use Rattle.et_graph.specs.Graph.{IsReached};
 ghost use Rattle.et_heap.specs.Objects.{IsHeld, object_at, made_count, held_count};
 ghost use Rattle.et_heap.specs.Remaining.{remaining};
-ghost use Rattle.et_stamps.specs.Listed.{AreListed};
+ghost use Rattle.et_graph.specs.Listed.{AreListed};
 ghost use Rattle.et_flush.specs.Searches.{ArePairsHeld};
 ghost use Rattle.et_flush.specs.Flushes.{heap_graph, cleared_from};
 
@@ -11,9 +11,8 @@ use crate::sweep::sweep;
 use crate::times::NOW;
 use crate::work::{Work, find_deaths, no_work, reserve};
 use et_base::{NoMemory, Steps};
-use et_graph::Death;
+use et_graph::{Death, Stamps};
 use et_heap::{Heap, RootList};
-use et_stamps::Stamps;
 use std::alloc::Global;
 use std::marker::Model;
 use std::sync::ledger::Ledger;

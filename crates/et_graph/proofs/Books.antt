@@ -14,7 +14,7 @@ use Rattle.et_graph.proofs.Lists.{cases_number}
 use Rattle.et_graph.proofs.Walks.{walk_more}
 use Rattle.et_graph.proofs.Deaths.{deaths_dead}
 use Rattle.et_graph.proofs.Sound.{reached_made, leads_made, made_cases, fresh_range}
-use Rattle.et_graph.proofs.Stamps.{was_before, stamp_fresh, stamp_lost, stamp_kept, IsTold, history_told, stamps_told}
+use Rattle.et_graph.proofs.StampLemmas.{was_before, stamp_fresh, stamp_lost, stamp_kept, IsTold, history_told, stamps_told}
 use Rattle.et_graph.proofs.Carrying.{length-set_each, set_each_in, set_each_out, carried_greatest}
 use Rattle.et_graph.proofs.Listing.{flagged_is, is_flagged, listed_is, is_listed, listed_rising}
 

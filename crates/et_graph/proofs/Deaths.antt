@@ -5,7 +5,7 @@ use Rattle.et_graph.specs.Graph.{IsDead, AreDead}
 use Rattle.et_graph.specs.History.{Turn, graph_after, IsHistory, IsLast, IsGreatestStamp, StampsTell, WasReported, AreDeaths, AreStamped}
 use Rattle.et_graph.specs.History.Turn.{Took, Flushed}
 use Rattle.et_graph.proofs.Lists.{Contains-none, Contains-here, Contains-there, Contains-cons}
-use Rattle.et_graph.proofs.Stamps.{history_told, stamps_told}
+use Rattle.et_graph.proofs.StampLemmas.{history_told, stamps_told}
 
 -- The first parts of pairs in a list.
 pub map_first : (ps : List (ℕ × ℕ)) (o e : ℕ) → Contains ps (o, e) → Contains (map (λ (d : ℕ × ℕ). d.0) ps) o

@@ -1,7 +1,7 @@
 pub mod Lists
 pub mod Walks
 pub mod Sound
-pub mod Stamps
+pub mod StampLemmas
 pub mod Marks
 pub mod Deaths
 pub mod DraftLaws
@@ -16,3 +16,5 @@ pub mod Listing
 pub mod Books
 pub mod Insides
 pub mod Legality
+pub mod ListedOnce
+pub mod Events

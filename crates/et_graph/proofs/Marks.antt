@@ -5,7 +5,7 @@ use Rattle.et_graph.specs.History.{Turn, graph_after, IsHistory, steps, stamp, I
 use Rattle.et_graph.specs.History.Turn.{Took, Flushed}
 use Rattle.et_graph.proofs.Lists.{cases_number}
 use Rattle.et_graph.proofs.Sound.{made_cases, flush_made}
-use Rattle.et_graph.proofs.Stamps.{history_told, stamp_fresh, stamp_lost, stamp_kept}
+use Rattle.et_graph.proofs.StampLemmas.{history_told, stamp_fresh, stamp_lost, stamp_kept}
 
 pub mark_before : (turns : List Turn) (o t : ℕ) → IsMark turns o t → t < steps turns
 mark_before [] o t m = absurd m

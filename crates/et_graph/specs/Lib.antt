@@ -12,3 +12,5 @@ pub mod Written
 pub mod Inside
 pub mod Flush
 pub mod Taken
+pub mod Listed
+pub mod Cleared

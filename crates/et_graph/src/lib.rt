@@ -4,11 +4,14 @@
 
 mod book;
 pub mod laws;
+pub mod list_laws;
 mod objects;
 mod pairs;
 mod places;
 mod search;
+mod stamps;
 mod within;
 
 pub use book::{GraphStep, StampBook};
 pub use objects::Death;
+pub use stamps::Stamps;

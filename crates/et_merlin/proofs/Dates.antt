@@ -10,7 +10,7 @@ use Rattle.et_graph.proofs.Lists.{Contains-none, Contains-here, Contains-cons, h
 use Rattle.et_graph.proofs.Walks.{is_reached, is_reached_decides}
 use Rattle.et_graph.proofs.Deaths.{map_first, first_map}
 use Rattle.et_state.specs.History.{deaths_to, is_gone}
-use Rattle.et_stamps.specs.Listed.{AreListed, IsGreatest}
+use Rattle.et_graph.specs.Listed.{AreListed, IsGreatest}
 
 -- a list that rises, with a greater number at its end
 rising_push : (xs : List ℕ) (x : ℕ) → IsStrictlyIncreasing xs → ((k : ℕ) → k < length xs → get_or xs k 0 < x) → IsStrictlyIncreasing (xs ++ x ∷ [])

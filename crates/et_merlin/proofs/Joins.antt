@@ -4,7 +4,7 @@ use Rattle.std.proofs.lemmas.Bool.{cases_lt}
 use Rattle.et_graph.specs.Graph.{Graph, IsReached, Decides}
 use Rattle.et_state.specs.declared.records.Record.{Record}
 use Rattle.et_state.specs.History.{Setting, left_by, last_reached}
-use Rattle.et_stamps.specs.Listed.{AreListed, IsGreatest}
+use Rattle.et_graph.specs.Listed.{AreListed, IsGreatest}
 use Rattle.et_base.specs.declared.value.End.{End}
 use Rattle.et_state.specs.Naming.{Mentions}
 use Rattle.et_io.specs.Sink.{with_more}

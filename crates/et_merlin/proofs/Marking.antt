@@ -9,7 +9,7 @@ use Rattle.et_graph.specs.Graph.{Graph, IsMade, IsReached}
 use Rattle.et_graph.proofs.Lists.{Contains-none}
 use Rattle.et_graph.proofs.Sound.{fresh_range}
 use Rattle.et_graph.proofs.Deaths.{first_map}
-use Rattle.et_stamps.specs.Listed.{AreListed}
+use Rattle.et_graph.specs.Listed.{AreListed}
 use Rattle.et_merlin.specs.Kept.{IsStepTo}
 use Rattle.et_state.specs.declared.ends.EventEnd.{EventEnd}
 use Rattle.et_state.specs.declared.ends.EventEnd.TheVariants as ends

@@ -9,7 +9,7 @@ use Rattle.et_state.specs.History.{Setting, is_flush_point, flush_lines, deaths_
 use Rattle.et_text.specs.Spelling.{text}
 use Rattle.et_run.specs.Run.{noted, flush_of, due_lines, due_state, last_lines, Goes, Turns}
 use Rattle.et_run.proofs.TurnLemmas.{turned_on, turned_last}
-use Rattle.et_stamps.specs.Listed.{AreListed}
+use Rattle.et_graph.specs.Listed.{AreListed}
 use Rattle.et_merlin.specs.Kept.{Settles}
 
 -- what is reached after a flush was made

@@ -8,9 +8,9 @@ use Rattle.et_graph.specs.History.{Turn, graph_after, IsHistory, WasReached, sta
 use Rattle.et_graph.specs.History.Turn.{Took, Flushed}
 use Rattle.et_graph.proofs.Lists.{cases_number}
 use Rattle.et_graph.proofs.Sound.{made_cases, fresh_range, reached_made, stepped_sound}
-use Rattle.et_graph.proofs.Stamps.{history_told, stamp_fresh, stamp_lost, stamp_kept, stamps_told}
-use Rattle.et_stamps.specs.Cleared.{IsCleared}
-use Rattle.et_stamps.specs.Listed.{IsGreatest}
+use Rattle.et_graph.proofs.StampLemmas.{history_told, stamp_fresh, stamp_lost, stamp_kept, stamps_told}
+use Rattle.et_graph.specs.Cleared.{IsCleared}
+use Rattle.et_graph.specs.Listed.{IsGreatest}
 use Rattle.et_merlin.specs.Kept.{IsKept, Settles}
 use Rattle.et_merlin.specs.Stamping.{Restamps, Passes}
 use Rattle.et_merlin.specs.Told.{StandsFor, IsTold}

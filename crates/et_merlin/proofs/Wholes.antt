@@ -7,7 +7,7 @@ use Rattle.et_graph.specs.Steps.{Step, IsKnown, IsRemoved, IsAdded, IsLegalStep,
 use Rattle.et_graph.proofs.Lists.{has_contains, contains_has, cases_number, filter_kept, filter_keeps}
 use Rattle.et_graph.proofs.Walks.{walk_more}
 use Rattle.et_graph.proofs.Sound.{reached_held, fresh_range}
-use Rattle.et_stamps.specs.Cleared.{IsCleared}
+use Rattle.et_graph.specs.Cleared.{IsCleared}
 use Rattle.et_merlin.specs.Kept.{IsKept}
 
 -- in the same list

@@ -2,7 +2,7 @@
 use Rattle.std.specs.Prelude.{◌≡◌, ℕ, ◌↔◌, Bool, true, false, List, Contains}
 use Rattle.et_graph.specs.Graph.{Graph}
 use Rattle.et_graph.specs.Steps.{IsLegalStep}
-use Rattle.et_stamps.specs.Cleared.{IsCleared}
+use Rattle.et_graph.specs.Cleared.{IsCleared}
 
 -- g is the whole graph without the pairs of gone objects
 pub record IsKept (g whole : Graph) : Type 0 where

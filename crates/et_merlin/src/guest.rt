@@ -5,14 +5,13 @@ ghost use Rattle.et_graph.specs.Listing.{death_pairs};
 ghost use Rattle.et_state.specs.Outcome.{Outcome};
 ghost use Rattle.et_state.specs.Naming.{Names, IsNamed};
 ghost use Rattle.et_state.specs.Answers.{Answers, TicksWhereDone};
-ghost use Rattle.et_stamps.specs.Listed.{AreListed};
-ghost use Rattle.et_stamps.specs.Cleared.{IsCleared};
+ghost use Rattle.et_graph.specs.Listed.{AreListed};
+ghost use Rattle.et_graph.specs.Cleared.{IsCleared};
 ghost use Rattle.et_merlin.specs.Stamping.{StepsWhereDone};
 
 use et_base::{NoMemory, ObjectId, Steps, ThreadId};
-use et_graph::Death;
+use et_graph::{Death, Stamps};
 use et_run::Program;
-use et_stamps::Stamps;
 use et_state::{EventEnd, Lines};
 use std::alloc::Global;
 use std::sync::ledger::Ledger;

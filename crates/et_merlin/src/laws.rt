@@ -4,7 +4,7 @@
 ghost use Rattle.std.specs.Prelude.{ℕ, ◌↔◌, List};
 ghost use Rattle.et_graph.specs.Graph.{Graph, IsReached, AreDead, IsSoundGraph};
 ghost use Rattle.et_graph.specs.Steps.{IsLegalStep, IsFlush};
-ghost use Rattle.et_stamps.specs.Cleared.{IsCleared};
+ghost use Rattle.et_graph.specs.Cleared.{IsCleared};
 ghost use Rattle.et_merlin.specs.Kept.{IsKept};
 
 /// What is reached is the same in both.

@@ -4,7 +4,7 @@ ghost use Rattle.et_merlin.specs.Stamping.{Restamps, HasStamps};
 
 use crate::guest::StampedGuest;
 use et_base::{NoMemory, ObjectId};
-use et_stamps::Stamps;
+use et_graph::Stamps;
 
 /// Writes this stamp for each of the objects.
 fn stamp_each(stamps: &mut Stamps, objects: &[ObjectId], event: u64)

@@ -8,7 +8,7 @@ ghost use Rattle.et_state.specs.Options.{AreOptions};
 ghost use Rattle.et_text.specs.Spelling.{text};
 ghost use Rattle.et_run.specs.Options.{setting_of};
 ghost use Rattle.et_run.specs.Run.{noted, Goes, Turns};
-ghost use Rattle.et_stamps.specs.Listed.{AreListed};
+ghost use Rattle.et_graph.specs.Listed.{AreListed};
 ghost use Rattle.et_merlin.specs.Stamping.{HasStamps, Stamped, Passes};
 ghost use Rattle.et_merlin.specs.Visits.{TurnVisits};
 
@@ -16,8 +16,8 @@ use crate::flushes::{conclude, settle};
 use crate::guest::StampedGuest;
 use crate::marks::restamp;
 use et_base::{End, NoMemory, Steps, TraceLine};
+use et_graph::Stamps;
 use et_run::{Numbering, Program, is_due, pick};
-use et_stamps::Stamps;
 use et_state::{EventEnd, Lines, Options};
 use et_text::write_line;
 use std::alloc::Global;

@@ -7,7 +7,7 @@ use Rattle.et_machine.specs.State.{MachineState, kept_of}
 use Rattle.et_machine.specs.Roots.{graph_of}
 use Rattle.et_machine.specs.Sound.{IsSound}
 use Rattle.et_machine.proofs.Wholes.{sound_flushed}
-use Rattle.et_stamps.specs.Cleared.{IsCleared}
+use Rattle.et_graph.specs.Cleared.{IsCleared}
 use Rattle.et_flush.specs.Flushes.{cleared_from}
 use Rattle.et_flush.proofs.Leaving.{cleared, told, tells_reached}
 use Rattle.et_flush.proofs.machine.flush_machine.Given as given

@@ -4,7 +4,7 @@ use Rattle.et_graph.specs.declared.objects.Death.{Death}
 use Rattle.et_graph.specs.Listing.{death_pairs}
 use Rattle.et_state.specs.History.{flush_lines}
 use Rattle.et_text.specs.Spelling.{text}
-use Rattle.et_stamps.proofs.Lists.{list_one}
+use Rattle.et_graph.proofs.ListedOnce.{list_one}
 use Rattle.et_merlin.proofs.Marking.{few_listed}
 use Rattle.et_merlin.proofs.flushes.report.Goals as goal
 

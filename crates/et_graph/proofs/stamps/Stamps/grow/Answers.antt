@@ -1,6 +1,6 @@
 use Rattle.std.proofs.Common.{ℕ, List, get_or, sym, ◌∙◌, ap}
-use Rattle.et_stamps.proofs.Events.{still_below}
-use Rattle.et_stamps.proofs.stamps.Stamps.grow.Goals as goal
+use Rattle.et_graph.proofs.Events.{still_below}
+use Rattle.et_graph.proofs.stamps.Stamps.grow.Goals as goal
 
 pub invariant_of-self : goal.invariant_of-self
 invariant_of-self c = still_below c.self.inside.stamps.items c.grow.self-inside.stamps.items c.self.invariant

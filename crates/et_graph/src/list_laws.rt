@@ -3,7 +3,7 @@
 ghost use Rattle.std.specs.Prelude.{◌≡◌, ℕ, List};
 ghost use Rattle.et_graph.specs.Graph.{Graph};
 ghost use Rattle.et_graph.specs.History.{Turn, graph_after, stamp, AreStamped};
-ghost use Rattle.et_stamps.specs.Listed.{AreListed};
+ghost use Rattle.et_graph.specs.Listed.{AreListed};
 
 /// There is at most one such list.
 pub fn lists_are_one()

@@ -3,7 +3,7 @@ use Rattle.std.proofs.Common.{◌≡◌, ℕ, List}
 use Rattle.et_graph.specs.Graph.{Graph}
 use Rattle.et_graph.specs.History.{Turn, graph_after, stamp, AreStamped}
 use Rattle.et_graph.proofs.Deaths.{rising_one}
-use Rattle.et_stamps.specs.Listed.{AreListed}
+use Rattle.et_graph.specs.Listed.{AreListed}
 
 pub list_one : (g : Graph) (stamps : ℕ → ℕ) (a b : List (ℕ × ℕ)) → AreListed g stamps a → AreListed g stamps b → a ≡ b
 list_one g stamps a b la lb = rising_one a b la.rising lb.rising (λ p. (

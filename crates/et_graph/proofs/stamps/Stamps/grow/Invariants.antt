@@ -1,5 +1,5 @@
 use Rattle.std.proofs.Common.{◌≡◌, ℕ, ◌+◌, ◌-◌, ◌≤◌, length, get_or}
-use Rattle.et_stamps.proofs.stamps.Stamps.grow.Given as goal
+use Rattle.et_graph.proofs.stamps.Stamps.grow.Given as goal
 
 abbrev pub invariant-grow : goal.invariant-grow
 invariant-grow l = record {
