@@ -8,9 +8,9 @@ use Rattle.std.proofs.lemmas.Bool.{and_parts, ltb-true, false≢true}
 use Rattle.std.proofs.lemmas.List.{length-map}
 use Rattle.std.proofs.lemmas.List.Elements.{All-nil, All-cons, All-head, All-tail, All-append, All-push}
 use Rattle.et_boot.specs.Classes.{BootClassOf, no_boot_class}
-use Rattle.et_set.specs.Outline.{Outline, place_of, no_outline}
-use Rattle.et_set.specs.Links.{LinkEntry, links, links_of, no_links}
-use Rattle.et_set.specs.Ancestry.{Ancestry, ancestry_at, ancestry_of, added, added_all, supers_over, superinterfaces_over, IsAncestry}
+use Rattle.et_hierarchy.specs.Outline.{Outline, place_of, no_outline}
+use Rattle.et_hierarchy.specs.Links.{LinkEntry, links, links_of, no_links}
+use Rattle.et_hierarchy.specs.Ancestry.{Ancestry, ancestry_at, ancestry_of, added, added_all, supers_over, superinterfaces_over, IsAncestry}
 use Rattle.et_link.specs.Loaded.{LoadedClass}
 use Rattle.et_link.specs.Files.{boots, set_of, boot_outline, file_outline}
 use Rattle.et_link.proofs.TabledLemmas.{length-set}

@@ -12,8 +12,8 @@ use Rattle.et_pool.specs.Looks.{class_name_at}
 use Rattle.et_pool.specs.Descriptors.{is_array}
 use Rattle.et_class.specs.Names.{is_plain_name}
 use Rattle.et_boot.specs.Classes.{BootClassOf}
-use Rattle.et_set.specs.Outline.{Outline, place_of}
-use Rattle.et_set.proofs.Names.{same_name}
+use Rattle.et_hierarchy.specs.Outline.{Outline, place_of}
+use Rattle.et_hierarchy.proofs.Names.{same_name}
 use Rattle.et_program.specs.declared.info.FieldInfo.{FieldInfo}
 use Rattle.et_program.specs.declared.info.Element.{Element}
 use Rattle.et_program.specs.declared.info.Element.TheVariants.{NoArray, Base, Class}
@@ -27,7 +27,7 @@ use Rattle.et_link.specs.Slots.{slots_above}
 use Rattle.et_link.specs.ArrayTypes.{is_known, with_elements, names_added, arrays_met, file_arrays}
 use Rattle.et_link.specs.Classes.{Heads, set_class, array_class}
 use Rattle.et_link.specs.ProgramOf.{heads_of, names_of, program_with}
-use Rattle.et_set.specs.Ancestry.{Ancestry}
+use Rattle.et_hierarchy.specs.Ancestry.{Ancestry}
 use Rattle.et_link.proofs.TabledLemmas.{length-classes, length-singles, fields_within}
 use Rattle.et_heap.specs.Objects.{new_object}
 use Rattle.et_event.specs.Sound.{IsSoundObject, slots_by, is_of_kind, kind_of_element}

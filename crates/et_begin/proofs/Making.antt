@@ -10,9 +10,9 @@ use Rattle.std.proofs.lemmas.List.Elements.{All-nil, All-cons, All-head, All-tai
 use Rattle.et_base.specs.declared.value.Value.{Value}
 use Rattle.et_base.specs.declared.value.Value.TheVariants.{Unset}
 use Rattle.et_pool.specs.Entries.{Constants}
-use Rattle.et_set.specs.Outline.{Outline, no_outline}
-use Rattle.et_set.specs.Links.{links}
-use Rattle.et_set.specs.Ancestry.{Ancestry, IsAncestry}
+use Rattle.et_hierarchy.specs.Outline.{Outline, no_outline}
+use Rattle.et_hierarchy.specs.Links.{links}
+use Rattle.et_hierarchy.specs.Ancestry.{Ancestry, IsAncestry}
 use Rattle.et_program.specs.declared.info.FieldInfo.{FieldInfo}
 use Rattle.et_program.specs.declared.info.Element.TheVariants.{NoArray}
 use Rattle.et_program.specs.Entries.{ClassEntry, Linked, no_class, no_field, class_at, field_at}

@@ -14,9 +14,9 @@ use Rattle.et_boot.specs.Classes.{BootClassOf, no_boot_class}
 use Rattle.et_class.specs.Names.{has}
 use Rattle.et_class.specs.declared.flags.TheConstants.{STATIC, INTERFACE, ABSTRACT}
 use Rattle.et_pool.specs.Entries.{Constants}
-use Rattle.et_set.specs.Ancestry.{Ancestry, ancestry_at, IsAncestry}
-use Rattle.et_set.specs.Links.{links}
-use Rattle.et_set.specs.Outline.{no_outline}
+use Rattle.et_hierarchy.specs.Ancestry.{Ancestry, ancestry_at, IsAncestry}
+use Rattle.et_hierarchy.specs.Links.{links}
+use Rattle.et_hierarchy.specs.Outline.{no_outline}
 use Rattle.et_program.specs.Entries.{ClassEntry, Linked, no_class, no_field, class_at, field_at}
 use Rattle.et_program.specs.Members.{is_above}
 use Rattle.et_program.specs.declared.info.Element.{Element}

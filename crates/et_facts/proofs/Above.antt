@@ -7,9 +7,9 @@ use Rattle.et_boot.specs.Classes.{BootClassOf, no_boot_class}
 use Rattle.et_class.specs.Names.{has}
 use Rattle.et_class.specs.declared.flags.TheConstants.{INTERFACE}
 use Rattle.et_pool.specs.Entries.{Constants}
-use Rattle.et_set.specs.Outline.{Outline, outline_at, no_outline}
-use Rattle.et_set.specs.Links.{links}
-use Rattle.et_set.specs.Ancestry.{Ancestry, IsAncestry}
+use Rattle.et_hierarchy.specs.Outline.{Outline, outline_at, no_outline}
+use Rattle.et_hierarchy.specs.Links.{links}
+use Rattle.et_hierarchy.specs.Ancestry.{Ancestry, IsAncestry}
 use Rattle.et_program.specs.Entries.{ClassEntry, Linked, is_interface}
 use Rattle.et_link.specs.Files.{boots, set_of, boot_outline, file_outline}
 use Rattle.et_link.specs.Loaded.{LoadedClass}

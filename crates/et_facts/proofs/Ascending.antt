@@ -6,10 +6,10 @@ use Rattle.std.specs.List.{slice_index_or}
 use Rattle.std.proofs.lemmas.Bool.{cases_Bool}
 use Rattle.std.proofs.lemmas.List.{length-set, length-replicate}
 use Rattle.std.proofs.lemmas.List.Elements.{Contains-get_or}
-use Rattle.et_set.specs.Links.{LinkEntry, no_links, parents, IsAncestor, IsAcyclic, AreWithin}
-use Rattle.et_set.specs.Search.{IsMarked, unmarked}
-use Rattle.et_set.specs.Sorting.{is_done}
-use Rattle.et_set.proofs.Marks.{unmarked-set, marked_before, no_marks}
+use Rattle.et_hierarchy.specs.Links.{LinkEntry, no_links, parents, IsAncestor, IsAcyclic, AreWithin}
+use Rattle.et_hierarchy.specs.Search.{IsMarked, unmarked}
+use Rattle.et_hierarchy.specs.Sorting.{is_done}
+use Rattle.et_hierarchy.proofs.Marks.{unmarked-set, marked_before, no_marks}
 
 module _ (table : List LinkEntry) (within : AreWithin (length table) table) (acyclic : IsAcyclic table) (P : ℕ → Type 0) (step : (u : ℕ) → u < length table → All P (parents table u) → P u) where
   -- each class from which one has come up to class u is marked as seen

@@ -4,8 +4,8 @@ use Rattle.std.specs.List.{slice_index_or}
 use Rattle.std.proofs.lemmas.Bool.{cases_lt}
 use Rattle.std.proofs.lemmas.List.{get_or-append_right}
 use Rattle.et_pool.specs.Entries.{Constants}
-use Rattle.et_set.specs.Outline.{outline_at}
-use Rattle.et_set.specs.Ancestry.{Ancestry}
+use Rattle.et_hierarchy.specs.Outline.{outline_at}
+use Rattle.et_hierarchy.specs.Ancestry.{Ancestry}
 use Rattle.et_program.specs.Entries.{ClassEntry, Linked, no_class, class_at}
 use Rattle.et_link.specs.Classes.{Heads, set_class, array_class}
 use Rattle.et_link.specs.Files.{set_of}

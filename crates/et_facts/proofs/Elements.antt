@@ -2,8 +2,8 @@
 use Rattle.std.proofs.Common.{◌≡◌, ℕ, ◌+◌, ◌-◌, ◌<◌, ◌≤◌, ◌^◌, Bool, true, false, cond, ◌==◌, List, [], ◌∷◌, length, take, drop, Option, None, Some, IfSome, option_map, sym, subst, arith}
 use Rattle.et_pool.specs.Entries.{Constants}
 use Rattle.et_pool.specs.Descriptors.{is_array, dimensions}
-use Rattle.et_set.specs.Outline.{Outline, place_of}
-use Rattle.et_set.specs.Ancestry.{Ancestry}
+use Rattle.et_hierarchy.specs.Outline.{Outline, place_of}
+use Rattle.et_hierarchy.specs.Ancestry.{Ancestry}
 use Rattle.et_program.specs.Entries.{ClassEntry, Linked}
 use Rattle.et_program.specs.declared.kind.Leaf.TheVariants.{Base, Class}
 use Rattle.et_program.proofs.PlaceLemmas.{position_below, position_within}

@@ -7,11 +7,11 @@ use Rattle.std.proofs.lemmas.List.{length-map}
 use Rattle.std.proofs.lemmas.Bool.{cases_lt}
 use Rattle.et_graph.proofs.Lists.{Contains-none, Contains-here, Contains-there, Contains-cons}
 use Rattle.et_pool.specs.Entries.{Constants}
-use Rattle.et_set.specs.Outline.{Outline, outline_at}
-use Rattle.et_set.specs.Links.{links, links_of, no_links}
-use Rattle.et_set.specs.Ancestry.{Ancestry, ancestry_at, supers_over, IsAncestry}
-use Rattle.et_set.specs.Initialization.{interfaces_to_run, with_interfaces, init_order}
-use Rattle.et_set.proofs.LinkLemmas.{are_within}
+use Rattle.et_hierarchy.specs.Outline.{Outline, outline_at}
+use Rattle.et_hierarchy.specs.Links.{links, links_of, no_links}
+use Rattle.et_hierarchy.specs.Ancestry.{Ancestry, ancestry_at, supers_over, IsAncestry}
+use Rattle.et_hierarchy.specs.Initialization.{interfaces_to_run, with_interfaces, init_order}
+use Rattle.et_hierarchy.proofs.LinkLemmas.{are_within}
 use Rattle.et_program.specs.Entries.{ClassEntry, Linked, class_at}
 use Rattle.et_link.specs.Files.{set_of}
 use Rattle.et_link.specs.Heads.{has_to_run}

@@ -13,11 +13,11 @@ use Rattle.et_class.specs.declared.flags.TheConstants.{STATIC}
 use Rattle.et_pool.specs.Entries.{Constants}
 use Rattle.et_pool.specs.Descriptors.{is_void, types_of}
 use Rattle.et_boot.specs.Classes.{BootClassOf}
-use Rattle.et_set.specs.Outline.{outline_at}
-use Rattle.et_set.specs.Links.{LinkEntry, links, links_of, no_links}
-use Rattle.et_set.specs.Ancestry.{Ancestry, IsAncestry}
-use Rattle.et_set.proofs.Names.{same_name}
-use Rattle.et_set.proofs.LinkLemmas.{are_within}
+use Rattle.et_hierarchy.specs.Outline.{outline_at}
+use Rattle.et_hierarchy.specs.Links.{LinkEntry, links, links_of, no_links}
+use Rattle.et_hierarchy.specs.Ancestry.{Ancestry, IsAncestry}
+use Rattle.et_hierarchy.proofs.Names.{same_name}
+use Rattle.et_hierarchy.proofs.LinkLemmas.{are_within}
 use Rattle.et_program.specs.declared.info.FieldInfo.{FieldInfo}
 use Rattle.et_program.specs.declared.info.MethodInfo.{MethodInfo}
 use Rattle.et_program.specs.Entries.{ClassEntry, Linked, no_field, no_method, class_at, method_at, field_at}

@@ -10,8 +10,8 @@ use Rattle.et_boot.specs.Classes.{BootClassOf, no_boot_class}
 use Rattle.et_class.specs.Names.{has}
 use Rattle.et_class.specs.declared.flags.TheConstants.{STATIC, INTERFACE}
 use Rattle.et_pool.specs.Entries.{Constants}
-use Rattle.et_set.specs.Outline.{Outline, outline_at, no_outline}
-use Rattle.et_set.specs.Ancestry.{Ancestry}
+use Rattle.et_hierarchy.specs.Outline.{Outline, outline_at, no_outline}
+use Rattle.et_hierarchy.specs.Ancestry.{Ancestry}
 use Rattle.et_program.specs.declared.info.FieldInfo.{FieldInfo}
 use Rattle.et_program.specs.Entries.{Linked, no_field, field_at, is_interface}
 use Rattle.et_program.specs.Members.{is_above}

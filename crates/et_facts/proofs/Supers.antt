@@ -7,13 +7,13 @@ use Rattle.std.specs.Option.{option_map_or, option_and_then, option_to_list}
 use Rattle.std.proofs.lemmas.Bool.{cases_Bool, and_parts, not-true, false≢true}
 use Rattle.std.proofs.lemmas.List.{length-map}
 use Rattle.std.proofs.lemmas.List.Elements.{All-nil, All-cons, All-append, All-push}
-use Rattle.et_set.specs.Outline.{Outline, outline_at, no_outline, place_of}
-use Rattle.et_set.specs.Links.{LinkEntry, links, links_of, no_links, parents_of, parents, AreWithin, IsAcyclic}
-use Rattle.et_set.specs.Ancestry.{Ancestry, ancestry_at, ancestry_of, IsAncestry, IsBelow}
-use Rattle.et_set.specs.Faults.{has_supers, names_class, names_interface}
-use Rattle.et_set.proofs.BelowLemmas.{below_of}
-use Rattle.et_set.proofs.LinkLemmas.{are_within}
-use Rattle.et_set.proofs.Names.{place_within}
+use Rattle.et_hierarchy.specs.Outline.{Outline, outline_at, no_outline, place_of}
+use Rattle.et_hierarchy.specs.Links.{LinkEntry, links, links_of, no_links, parents_of, parents, AreWithin, IsAcyclic}
+use Rattle.et_hierarchy.specs.Ancestry.{Ancestry, ancestry_at, ancestry_of, IsAncestry, IsBelow}
+use Rattle.et_hierarchy.specs.Faults.{has_supers, names_class, names_interface}
+use Rattle.et_hierarchy.proofs.BelowLemmas.{below_of}
+use Rattle.et_hierarchy.proofs.LinkLemmas.{are_within}
+use Rattle.et_hierarchy.proofs.Names.{place_within}
 use Rattle.et_link.specs.Files.{set_of}
 use Rattle.et_link.specs.Loaded.{LoadedClass}
 use Rattle.et_link.specs.LinkFaults.{IsLinkable}

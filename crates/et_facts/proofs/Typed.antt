@@ -18,7 +18,7 @@ use Rattle.et_class.specs.Classes.{IsClassFile}
 use Rattle.et_class.specs.Fields.{is_constant, is_constant_for, is_constant_value, is_int_type, is_long_type, constant_of, index_in}
 use Rattle.et_class.specs.Layout.{ClassOf, MemberOf, AttributeOf}
 use Rattle.et_class.specs.Names.{has}
-use Rattle.et_set.proofs.Names.{same_name}
+use Rattle.et_hierarchy.proofs.Names.{same_name}
 use Rattle.et_event.specs.Kinds.{kind_of, kind_of_letter}
 use Rattle.et_event.specs.Sites.{LoadedConstant, AnInt, ALong, AString, constant_at}
 use Rattle.et_event.specs.Sound.{is_of_kind}

@@ -2,7 +2,7 @@
 use Rattle.std.proofs.Common.{◌≡◌, ℕ, ◌+◌, ◌<◌, false, List, [], length, None, Some, sym, ◌∙◌, ap, subst}
 use Rattle.std.specs.List.{slice_index_or}
 use Rattle.et_program.specs.Indices.{number_of}
-use Rattle.et_set.specs.Outline.{Outline, place_of}
+use Rattle.et_hierarchy.specs.Outline.{Outline, place_of}
 use Rattle.et_program.specs.declared.info.MethodInfo.{MethodInfo}
 use Rattle.et_program.specs.declared.info.FieldInfo.{FieldInfo}
 use Rattle.et_link.specs.Loaded.{LoadedClass}

@@ -5,10 +5,10 @@ use Rattle.std.specs.Prelude.{nat_lt, All}
 use Rattle.std.specs.List.{position_from, list_any, slice_index_or}
 use Rattle.std.proofs.lemmas.Bool.{cases_Bool, cond-true, cond-false, and_parts, and_from, ltb-true, ltb-false}
 use Rattle.std.proofs.lemmas.List.{get_or_default}
-use Rattle.et_set.specs.Outline.{Outline}
+use Rattle.et_hierarchy.specs.Outline.{Outline}
 use Rattle.std.specs.Option.{option_to_list}
-use Rattle.et_set.specs.Links.{LinkEntry, links, no_links, AreWithin}
-use Rattle.et_set.specs.Ancestry.{Ancestry, ancestry_at, IsAncestry, supers_over}
+use Rattle.et_hierarchy.specs.Links.{LinkEntry, links, no_links, AreWithin}
+use Rattle.et_hierarchy.specs.Ancestry.{Ancestry, ancestry_at, IsAncestry, supers_over}
 use Rattle.et_program.specs.declared.info.MethodInfo.{MethodInfo}
 use Rattle.et_program.specs.declared.method_index.MethodIndex.{MethodIndex}
 use Rattle.et_program.specs.Entries.{no_method}

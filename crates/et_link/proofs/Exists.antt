@@ -13,12 +13,12 @@ use Rattle.et_pool.specs.Text.{is_modified}
 use Rattle.et_pool.specs.Spelling.{IsEntry, pool_bytes}
 use Rattle.et_pool.proofs.Spelled.{spelled_pool}
 use Rattle.et_boot.specs.Classes.{BootClassOf, thread_pool}
-use Rattle.et_set.specs.Links.{links}
-use Rattle.et_set.specs.Faults.{IsLinkFault, IsFaultless}
-use Rattle.et_set.specs.Ancestry.{Ancestry, IsAncestry}
-use Rattle.et_set.specs.declared.fault.FaultKind.{FaultKind}
-use Rattle.et_set.proofs.LinkLemmas.{table_within}
-use Rattle.et_set.proofs.Decided.{rows_exist, set_answer}
+use Rattle.et_hierarchy.specs.Links.{links}
+use Rattle.et_hierarchy.specs.Faults.{IsLinkFault, IsFaultless}
+use Rattle.et_hierarchy.specs.Ancestry.{Ancestry, IsAncestry}
+use Rattle.et_hierarchy.specs.declared.fault.FaultKind.{FaultKind}
+use Rattle.et_hierarchy.proofs.LinkLemmas.{table_within}
+use Rattle.et_hierarchy.proofs.Decided.{rows_exist, set_answer}
 use Rattle.et_program.specs.Entries.{Linked}
 use Rattle.et_link.specs.declared.fault.LinkFaultKind.{LinkFaultKind}
 use Rattle.et_link.specs.declared.fault.LinkFaultKind.TheVariants.{CrossPackage, NoMain, TooMany}

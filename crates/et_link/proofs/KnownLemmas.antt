@@ -1,9 +1,9 @@
 -- What is known of all classes, as it is read.
 use Rattle.std.proofs.Common.{◌≡◌, ℕ, ◌<◌, List, length, get_or, sym, ◌∙◌, ap, subst}
 use Rattle.std.specs.Prelude.{All}
-use Rattle.et_set.specs.Links.{LinkEntry, AreWithin}
-use Rattle.et_set.specs.Ancestry.{Ancestry, ancestry_at, IsBelow}
-use Rattle.et_set.proofs.Rounds.{next_interfaces}
+use Rattle.et_hierarchy.specs.Links.{LinkEntry, AreWithin}
+use Rattle.et_hierarchy.specs.Ancestry.{Ancestry, ancestry_at, IsBelow}
+use Rattle.et_hierarchy.proofs.Rounds.{next_interfaces}
 
 pub below_along : (t t' : List LinkEntry) (r r' : List Ancestry) → t' ≡ t → r' ≡ r → ((k : ℕ) → k < length t → IsBelow (length t) (ancestry_at r k)) → (k : ℕ) → k < length t' → IsBelow (length t') (ancestry_at r' k)
 below_along t t' r r' e f h =

@@ -8,13 +8,13 @@ use Rattle.std.proofs.lemmas.List.Elements.{All-head, All-tail}
 use Rattle.std.proofs.lemmas.List.Sums.{sum_by-cons}
 use Rattle.et_pool.specs.Entries.{Constants}
 use Rattle.et_link.specs.Loaded.{LoadedClass}
-use Rattle.et_set.specs.Outline.{Outline, outline_at, place_of}
-use Rattle.et_set.specs.Links.{LinkEntry, links, links_of, AreWithin, IsAncestor}
-use Rattle.et_set.specs.Faults.{IsLinkFault, IsFaultless, kind_number}
-use Rattle.et_set.specs.declared.fault.FaultKind.{FaultKind}
-use Rattle.et_set.specs.declared.fault.FaultKind.TheVariants as set
-use Rattle.et_set.specs.Ancestry.{Ancestry, ancestry_at, IsAncestry, IsBelow}
-use Rattle.et_set.proofs.LinkLemmas.{are_within}
+use Rattle.et_hierarchy.specs.Outline.{Outline, outline_at, place_of}
+use Rattle.et_hierarchy.specs.Links.{LinkEntry, links, links_of, AreWithin, IsAncestor}
+use Rattle.et_hierarchy.specs.Faults.{IsLinkFault, IsFaultless, kind_number}
+use Rattle.et_hierarchy.specs.declared.fault.FaultKind.{FaultKind}
+use Rattle.et_hierarchy.specs.declared.fault.FaultKind.TheVariants as set
+use Rattle.et_hierarchy.specs.Ancestry.{Ancestry, ancestry_at, IsAncestry, IsBelow}
+use Rattle.et_hierarchy.proofs.LinkLemmas.{are_within}
 use Rattle.et_program.specs.declared.info.MethodInfo.{MethodInfo}
 use Rattle.et_program.specs.declared.info.FieldInfo.{FieldInfo}
 use Rattle.et_program.specs.Entries.{ClassEntry, Linked}

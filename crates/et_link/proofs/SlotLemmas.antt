@@ -2,7 +2,7 @@
 use Rattle.std.proofs.Common.{◌≡◌, ℕ, ◌<◌, List, [], ◌∷◌, ◌++◌, length, get_or, sym, ◌∙◌, ap, subst, append_assoc, append-nil}
 use Rattle.std.specs.Prelude.{All}
 use Rattle.std.proofs.lemmas.List.{get_or_default}
-use Rattle.et_set.specs.Ancestry.{Ancestry, ancestry_at, no_ancestry, IsBelow}
+use Rattle.et_hierarchy.specs.Ancestry.{Ancestry, ancestry_at, no_ancestry, IsBelow}
 use Rattle.et_program.specs.declared.info.FieldInfo.{FieldInfo}
 use Rattle.et_link.specs.Slots.{slot_of, placed_behind}
 

@@ -9,11 +9,11 @@ use Rattle.std.proofs.lemmas.List.Sorted.{All-permutation, IsPermutation-reverse
 use Rattle.et_pool.specs.Entries.{Constants}
 use Rattle.et_pool.specs.Descriptors.{dimensions}
 use Rattle.et_link.specs.Loaded.{LoadedClass}
-use Rattle.et_set.specs.Outline.{Outline, place_of}
-use Rattle.et_set.specs.Links.{LinkEntry, links, links_of, no_links, parents_of, AreWithin}
-use Rattle.et_set.specs.Ancestry.{Ancestry, ancestry_at, IsBelow}
-use Rattle.et_set.specs.Initialization.{interfaces_to_run, with_interfaces, init_order}
-use Rattle.et_set.proofs.BelowLemmas.{below_added_all, below_flat}
+use Rattle.et_hierarchy.specs.Outline.{Outline, place_of}
+use Rattle.et_hierarchy.specs.Links.{LinkEntry, links, links_of, no_links, parents_of, AreWithin}
+use Rattle.et_hierarchy.specs.Ancestry.{Ancestry, ancestry_at, IsBelow}
+use Rattle.et_hierarchy.specs.Initialization.{interfaces_to_run, with_interfaces, init_order}
+use Rattle.et_hierarchy.proofs.BelowLemmas.{below_added_all, below_flat}
 use Rattle.et_program.specs.declared.info.MethodInfo.{MethodInfo}
 use Rattle.et_program.specs.declared.info.FieldInfo.{FieldInfo}
 use Rattle.et_program.specs.declared.kind.Leaf.TheVariants.{Base, Class}

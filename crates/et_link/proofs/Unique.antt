@@ -7,10 +7,10 @@ use Rattle.et_pool.specs.Broken.{Broken}
 use Rattle.et_pool.specs.Entries.{Item, Constants}
 use Rattle.et_pool.proofs.OneAnswer.{exactly_one}
 use Rattle.et_boot.specs.Classes.{BootClassOf}
-use Rattle.et_set.specs.Links.{links, links_of, IsAcyclic}
-use Rattle.et_set.specs.Ancestry.{Ancestry}
-use Rattle.et_set.proofs.LinkLemmas.{table_within}
-use Rattle.et_set.proofs.Unique.{same_ancestries}
+use Rattle.et_hierarchy.specs.Links.{links, links_of, IsAcyclic}
+use Rattle.et_hierarchy.specs.Ancestry.{Ancestry}
+use Rattle.et_hierarchy.proofs.LinkLemmas.{table_within}
+use Rattle.et_hierarchy.proofs.Unique.{same_ancestries}
 use Rattle.et_program.specs.Entries.{Linked}
 use Rattle.et_link.specs.declared.fault.LinkFaultKind.{LinkFaultKind}
 use Rattle.et_link.specs.declared.fault.LinkFaultKind.TheVariants.{Duplicate, NoSuper, Cycle, FinalSuper, CrossPackage, NoMain, TooMany}

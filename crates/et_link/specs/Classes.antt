@@ -2,10 +2,10 @@
 use Rattle.std.specs.Prelude.{ℕ, Bool, if◌then◌else◌, List, [], ◌∷◌, ◌++◌, Option, None}
 use Rattle.std.specs.List.{slice_index_or}
 use Rattle.std.specs.Option.{option_to_list}
-use Rattle.et_set.specs.Outline.{Outline}
-use Rattle.et_set.specs.Links.{LinkEntry, no_links}
-use Rattle.et_set.specs.Ancestry.{Ancestry, ancestry_at}
-use Rattle.et_set.specs.Initialization.{interfaces_to_run, init_order}
+use Rattle.et_hierarchy.specs.Outline.{Outline}
+use Rattle.et_hierarchy.specs.Links.{LinkEntry, no_links}
+use Rattle.et_hierarchy.specs.Ancestry.{Ancestry, ancestry_at}
+use Rattle.et_hierarchy.specs.Initialization.{interfaces_to_run, init_order}
 use Rattle.et_program.specs.declared.info.Element.TheVariants.{NoArray}
 use Rattle.et_program.specs.declared.kind.Leaf.TheVariants.{Class}
 use Rattle.et_program.specs.Entries.{ClassEntry}

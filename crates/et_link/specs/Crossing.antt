@@ -1,8 +1,8 @@
 -- How redeclared methods are found.
 use Rattle.std.specs.Prelude.{◌≡◌, ℕ, ◌<◌, not, nat_lt, if◌then◌else◌, ◌&&◌, Bool, true, false, List, Option, None, Some}
 use Rattle.std.specs.List.{list_any}
-use Rattle.et_set.specs.Outline.{Outline}
-use Rattle.et_set.specs.Ancestry.{Ancestry, ancestry_at}
+use Rattle.et_hierarchy.specs.Outline.{Outline}
+use Rattle.et_hierarchy.specs.Ancestry.{Ancestry, ancestry_at}
 use Rattle.et_program.specs.declared.info.MethodInfo.{MethodInfo}
 use Rattle.et_link.specs.LinkFaults.{may_redeclare, is_package_private, method_of, same_in, is_same_package}
 

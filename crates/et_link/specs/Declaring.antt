@@ -1,8 +1,8 @@
 -- What was read of the files, before there is a program.
 use Rattle.std.specs.Prelude.{◌≡◌, ℕ, ◌<◌, ◌^◌, List, length, Result, Ok, Err}
-use Rattle.et_set.specs.Links.{links, AreWithin}
-use Rattle.et_set.specs.Faults.{IsFaultless}
-use Rattle.et_set.specs.Ancestry.{Ancestry, ancestry_at, IsAncestry, IsBelow}
+use Rattle.et_hierarchy.specs.Links.{links, AreWithin}
+use Rattle.et_hierarchy.specs.Faults.{IsFaultless}
+use Rattle.et_hierarchy.specs.Ancestry.{Ancestry, ancestry_at, IsAncestry, IsBelow}
 use Rattle.et_link.specs.declared.reading.Declared.{Declared}
 use Rattle.et_link.specs.declared.fault.LinkFault.{LinkFault}
 use Rattle.et_link.specs.Loaded.{LoadedClass}

@@ -1,8 +1,8 @@
 -- What the record of the code knows of all classes.
 use Rattle.std.specs.Prelude.{◌≡◌, ℕ, ◌+◌, ◌<◌, [], length, None, false}
 use Rattle.std.specs.List.{slice_index_or}
-use Rattle.et_set.specs.Links.{AreWithin}
-use Rattle.et_set.specs.Ancestry.{ancestry_at, IsBelow}
+use Rattle.et_hierarchy.specs.Links.{AreWithin}
+use Rattle.et_hierarchy.specs.Ancestry.{ancestry_at, IsBelow}
 use Rattle.et_program.specs.Indices.{number_of}
 use Rattle.et_link.specs.Classes.{Heads}
 use Rattle.et_link.specs.declared.classes.Known.{Known}

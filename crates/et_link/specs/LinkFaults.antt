@@ -4,10 +4,10 @@ use Rattle.std.specs.List.{slice_index_or, position_from}
 use Rattle.std.specs.Str.{bytes_eq}
 use Rattle.et_class.specs.Names.{has}
 use Rattle.et_class.specs.declared.flags.TheConstants.{PUBLIC, PRIVATE, PROTECTED, STATIC}
-use Rattle.et_set.specs.Outline.{Outline, outline_at}
-use Rattle.et_set.specs.Links.{LinkEntry, links, no_links}
-use Rattle.et_set.specs.Faults.{Shows}
-use Rattle.et_set.specs.declared.fault.FaultKind.TheVariants as set
+use Rattle.et_hierarchy.specs.Outline.{Outline, outline_at}
+use Rattle.et_hierarchy.specs.Links.{LinkEntry, links, no_links}
+use Rattle.et_hierarchy.specs.Faults.{Shows}
+use Rattle.et_hierarchy.specs.declared.fault.FaultKind.TheVariants as set
 use Rattle.et_program.specs.declared.info.MethodInfo.{MethodInfo}
 use Rattle.et_program.specs.Entries.{no_method}
 use Rattle.et_program.specs.Members.{is_method}

@@ -6,9 +6,9 @@ use Rattle.std.specs.Str.{bytes_eq}
 use Rattle.et_pool.specs.Entries.{Constants}
 use Rattle.et_class.specs.Names.{has}
 use Rattle.et_class.specs.declared.flags.TheConstants.{STATIC}
-use Rattle.et_set.specs.Outline.{Outline, place_of}
-use Rattle.et_set.specs.Links.{links}
-use Rattle.et_set.specs.Ancestry.{Ancestry, IsAncestry}
+use Rattle.et_hierarchy.specs.Outline.{Outline, place_of}
+use Rattle.et_hierarchy.specs.Links.{links}
+use Rattle.et_hierarchy.specs.Ancestry.{Ancestry, IsAncestry}
 use Rattle.et_program.specs.declared.info.MethodInfo.{MethodInfo}
 use Rattle.et_program.specs.Entries.{ClassEntry, Linked}
 use Rattle.et_link.specs.Loaded.{LoadedClass}

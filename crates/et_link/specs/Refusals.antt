@@ -1,11 +1,11 @@
 -- The answers on the way to a program.
 use Rattle.std.specs.Prelude.{◌≡◌, ℕ, ◌+◌, ◌<◌, ◌≤◌, List, [], length, None, Some, Result, Ok, Err}
 use Rattle.et_pool.specs.Entries.{Constants}
-use Rattle.et_set.specs.Outline.{Outline, outline_at}
-use Rattle.et_set.specs.Faults.{IsLinkFault}
-use Rattle.et_set.specs.Ancestry.{Ancestry}
-use Rattle.et_set.specs.declared.fault.FaultKind.{FaultKind}
-use Rattle.et_set.specs.declared.fault.FaultKind.TheVariants as set
+use Rattle.et_hierarchy.specs.Outline.{Outline, outline_at}
+use Rattle.et_hierarchy.specs.Faults.{IsLinkFault}
+use Rattle.et_hierarchy.specs.Ancestry.{Ancestry}
+use Rattle.et_hierarchy.specs.declared.fault.FaultKind.{FaultKind}
+use Rattle.et_hierarchy.specs.declared.fault.FaultKind.TheVariants as set
 use Rattle.et_program.specs.declared.info.MethodInfo.{MethodInfo}
 use Rattle.et_program.specs.declared.info.FieldInfo.{FieldInfo}
 use Rattle.et_program.specs.Entries.{Linked}

@@ -5,7 +5,7 @@ use Rattle.std.specs.List.{slice_index_or}
 use Rattle.et_class.specs.Names.{has}
 use Rattle.et_class.specs.declared.flags.TheConstants.{STATIC}
 use Rattle.et_boot.specs.Classes.{no_boot_class}
-use Rattle.et_set.specs.Ancestry.{Ancestry, ancestry_at}
+use Rattle.et_hierarchy.specs.Ancestry.{Ancestry, ancestry_at}
 use Rattle.et_program.specs.declared.info.FieldInfo.{FieldInfo}
 use Rattle.et_link.specs.Files.{boots}
 

@@ -3,9 +3,9 @@
 ghost use Rattle.std.specs.Prelude.{◌≡◌, ℕ, ◌+◌, ◌<◌, ◌++◌, ◌∷◌, [], List, length, All, IfOk, None, false, Option};
 ghost use Rattle.std.specs.List.{slice_index_or};
 ghost use Rattle.std.specs.Option.{option_to_list};
-ghost use Rattle.et_set.specs.Outline.{outline_at};
-ghost use Rattle.et_set.specs.Links.{LinkEntry, no_links, AreWithin};
-ghost use Rattle.et_set.specs.Ancestry.{Ancestry, ancestry_at, IsBelow};
+ghost use Rattle.et_hierarchy.specs.Outline.{outline_at};
+ghost use Rattle.et_hierarchy.specs.Links.{LinkEntry, no_links, AreWithin};
+ghost use Rattle.et_hierarchy.specs.Ancestry.{Ancestry, ancestry_at, IsBelow};
 ghost use Rattle.et_program.specs.Shown.{info_of};
 ghost use Rattle.et_program.specs.Entries.{ClassEntry};
 ghost use Rattle.et_link.specs.MembersOf.{numbered};
@@ -17,8 +17,8 @@ use crate::heads::FieldList;
 use crate::members::class_at_place;
 use crate::names::{ArrayNames, element_of, kind_of};
 use et_base::{ClassId, MethodId, Name, NoMemory};
+use et_hierarchy::{ClassOutline, Links, Row, init_order, interfaces_to_run};
 use et_program::{Above, Class, ClassInfo, Element, Kind, Leaf, NameIndex};
-use et_set::{ClassOutline, Links, Row, init_order, interfaces_to_run};
 use std::alloc::Global;
 
 /// What is known of all classes of the set, each at its place.
@@ -105,7 +105,7 @@ fn above_of(
     })
 }
 
-ghost use Rattle.et_set.specs.Initialization.{init_order};
+ghost use Rattle.et_hierarchy.specs.Initialization.{init_order};
 
 /// The class of the arrays over the class of this name.
 fn array_of(alloc: Global, known: &Known, name: &[u8]) -> Result<Option<ClassId>, NoMemory>

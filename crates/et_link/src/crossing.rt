@@ -1,8 +1,8 @@
 //! Methods that redeclare a package-private method of a superclass in another package (JVMS 5.4.5).
 
 ghost use Rattle.std.specs.Prelude.{◌≡◌, ℕ, ◌<◌, ◌^◌, ◌==◌, List, length, All, IfOk, true};
-ghost use Rattle.et_set.specs.Outline.{outline_at};
-ghost use Rattle.et_set.specs.Ancestry.{ancestry_at, IsBelow};
+ghost use Rattle.et_hierarchy.specs.Outline.{outline_at};
+ghost use Rattle.et_hierarchy.specs.Ancestry.{ancestry_at, IsBelow};
 ghost use Rattle.et_program.specs.declared.info.MethodInfo.{MethodInfo as MethodOf};
 ghost use Rattle.et_program.specs.Members.{is_method};
 ghost use Rattle.et_program.specs.Tables.{looked_up};
@@ -13,8 +13,8 @@ ghost use Rattle.et_link.specs.Slots.{places_from};
 
 use et_base::ClassId;
 use et_class::flags::{PRIVATE, PROTECTED, PUBLIC, STATIC, has};
+use et_hierarchy::{ClassOutline, Row};
 use et_program::{MethodIndex, MethodInfo};
-use et_set::{ClassOutline, Row};
 
 /// Where the package of a class's name ends: behind the last `/`.
 fn package_end(name: &[u8]) -> usize

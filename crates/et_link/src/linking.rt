@@ -3,9 +3,9 @@
 ghost use Rattle.std.specs.Prelude.{◌≡◌, ℕ, ◌+◌, ◌<◌, ◌≤◌, ◌^◌, List, length, map, All, IfOk};
 ghost use Rattle.std.specs.List.{slice_index_or};
 ghost use Rattle.et_program.specs.Indices.{number_of};
-ghost use Rattle.et_set.specs.Outline.{place_of};
-ghost use Rattle.et_set.specs.Links.{AreWithin};
-ghost use Rattle.et_set.specs.Ancestry.{ancestry_at, IsBelow};
+ghost use Rattle.et_hierarchy.specs.Outline.{place_of};
+ghost use Rattle.et_hierarchy.specs.Links.{AreWithin};
+ghost use Rattle.et_hierarchy.specs.Ancestry.{ancestry_at, IsBelow};
 ghost use Rattle.et_program.specs.declared.info.MethodInfo.{MethodInfo as MethodOf};
 ghost use Rattle.et_program.specs.declared.info.FieldInfo.{FieldInfo as FieldOf};
 ghost use Rattle.et_program.specs.Tables.{IsTabled};
@@ -32,8 +32,8 @@ use crate::refusal::{check_methods, check_names, refusal};
 use crate::slots::{own_slots, place_fields, slots_above, static_fields};
 use et_base::{MethodId, Name, NoMemory};
 use et_class::ClassFile;
+use et_hierarchy::{ClassOutline, ancestries};
 use et_program::{FieldInfo, MethodIndex, MethodInfo, Program, Tables};
-use et_set::{ClassOutline, ancestries};
 use std::alloc::Global;
 
 /// Whether a count is below 2^32, so that each place below it has a number.

@@ -4,16 +4,16 @@ ghost use Rattle.std.specs.Prelude.{◌≡◌, ℕ, ◌<◌, [], List, length, f
 ghost use Rattle.std.specs.List.{flat_map, position_from};
 ghost use Rattle.std.specs.Str.{bytes_eq};
 ghost use Rattle.et_program.specs.Indices.{number_of};
-ghost use Rattle.et_set.specs.Outline.{place_of};
+ghost use Rattle.et_hierarchy.specs.Outline.{place_of};
 ghost use Rattle.et_link.specs.ArrayTypes.{is_known, with_elements, name_added, names_added, array_names, element_of, kind_of};
 ghost use Rattle.et_link.specs.Naming.{IsIndexFrom};
 
 use crate::arrays::leaf_of;
 use crate::members::class_at_place;
 use et_base::{ClassId, Name, NoMemory};
+use et_hierarchy::ClassOutline;
 use et_pool::descriptor::{dimensions, is_array_name};
 use et_program::{Element, Kind, Leaf, NameIndex};
-use et_set::ClassOutline;
 use std::alloc::Global;
 
 /// The classes of the set by name.

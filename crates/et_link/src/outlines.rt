@@ -12,8 +12,8 @@ use et_base::{Name, NoMemory};
 use et_boot::BootClass;
 use et_class::ClassFile;
 use et_class::flags::{FINAL, INTERFACE, has};
+use et_hierarchy::ClassOutline;
 use et_pool::Pool;
-use et_set::ClassOutline;
 use std::alloc::Global;
 
 /// The name that the Class entry at an index gives, or the empty name where it isn't one.

@@ -1,9 +1,9 @@
 //! What is read of the files.
 
 use et_base::Name;
+use et_hierarchy::{ClassOutline, Links, Row};
 use et_pool::Pool;
 use et_program::{FieldInfo, MethodInfo};
-use et_set::{ClassOutline, Links, Row};
 
 /// How the classes of the set stand above one another, and their access flags.
 #[derive(Drop)]

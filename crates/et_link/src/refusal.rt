@@ -1,9 +1,9 @@
 //! The faults, in the order in which they are looked for.
 
 ghost use Rattle.std.specs.Prelude.{◌≡◌, ℕ, ◌<◌, ◌^◌, length, All, MatchResult};
-ghost use Rattle.et_set.specs.Links.{links};
-ghost use Rattle.et_set.specs.Faults.{IsFaultless};
-ghost use Rattle.et_set.specs.Ancestry.{ancestry_at, IsBelow};
+ghost use Rattle.et_hierarchy.specs.Links.{links};
+ghost use Rattle.et_hierarchy.specs.Faults.{IsFaultless};
+ghost use Rattle.et_hierarchy.specs.Ancestry.{ancestry_at, IsBelow};
 ghost use Rattle.et_program.specs.declared.info.MethodInfo.{MethodInfo as MethodOf};
 ghost use Rattle.et_program.specs.Finding.{FindsMethods};
 ghost use Rattle.et_link.specs.Files.{boots};
@@ -15,8 +15,8 @@ use crate::crossing::first_crossing;
 use crate::fault::{LinkFault, LinkFaultKind};
 use et_base::{MethodId, Name};
 use et_class::flags::{STATIC, has};
+use et_hierarchy::{ClassOutline, FaultKind, Links, Row, SetFault, check_set};
 use et_program::{MethodIndex, MethodInfo};
-use et_set::{ClassOutline, FaultKind, Links, Row, SetFault, check_set};
 use std::alloc::Global;
 
 /// The fault that names a class of the set.

@@ -2,7 +2,7 @@
 
 ghost use Rattle.std.specs.Prelude.{◌≡◌, ℕ, ◌+◌, ◌<◌, ◌≤◌, length, All, IfOk, sum_by, count_by};
 ghost use Rattle.std.specs.List.{slice_index_or};
-ghost use Rattle.et_set.specs.Ancestry.{Ancestry, ancestry_at, IsBelow};
+ghost use Rattle.et_hierarchy.specs.Ancestry.{Ancestry, ancestry_at, IsBelow};
 ghost use Rattle.et_program.specs.declared.info.FieldInfo.{FieldInfo as FieldOf};
 ghost use Rattle.et_link.specs.Files.{boots};
 ghost use Rattle.et_link.specs.Slots.{is_static_field, is_instance_of, own_slots, slots_above, slot_of, placed_behind, places_from};
@@ -11,8 +11,8 @@ ghost use Rattle.et_link.specs.Counts.{Counts};
 use crate::boots::{boot, boots};
 use et_base::{FieldId, NoMemory};
 use et_class::flags::{STATIC, has};
+use et_hierarchy::Row;
 use et_program::FieldInfo;
-use et_set::Row;
 use std::alloc::Global;
 
 /// One more, or `NoMemory` where that has no number.

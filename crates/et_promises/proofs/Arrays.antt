@@ -23,9 +23,9 @@ use Rattle.et_code.proofs.Keeping.{kept_code}
 use Rattle.et_code.proofs.Starting.{starts_are_all}
 use Rattle.et_class.specs.Codes.{index_of, is_class_well}
 use Rattle.et_class.specs.Names.{is_plain_name}
-use Rattle.et_set.specs.Outline.{Outline, outline_at, no_outline, place_of}
-use Rattle.et_set.specs.Ancestry.{Ancestry}
-use Rattle.et_set.proofs.Names.{same_name, name_itself, missing}
+use Rattle.et_hierarchy.specs.Outline.{Outline, outline_at, no_outline, place_of}
+use Rattle.et_hierarchy.specs.Ancestry.{Ancestry}
+use Rattle.et_hierarchy.proofs.Names.{same_name, name_itself, missing}
 use Rattle.et_program.specs.declared.info.MethodInfo.{MethodInfo}
 use Rattle.et_program.specs.declared.info.Element.{Element}
 use Rattle.et_program.specs.declared.info.Element.TheVariants.{Base, Class}

@@ -19,8 +19,8 @@ use Rattle.et_code.specs.Rules.{KeepsRules, code_marks, rows_marks}
 use Rattle.et_code.specs.Starts.{starts_from}
 use Rattle.et_class.specs.Names.{has}
 use Rattle.et_class.specs.declared.flags.TheConstants.{STATIC}
-use Rattle.et_set.specs.Ancestry.{Ancestry}
-use Rattle.et_set.proofs.Names.{same_name}
+use Rattle.et_hierarchy.specs.Ancestry.{Ancestry}
+use Rattle.et_hierarchy.proofs.Names.{same_name}
 use Rattle.et_program.specs.declared.info.MethodInfo.{MethodInfo}
 use Rattle.et_program.specs.declared.errors.LinkError.{LinkError}
 use Rattle.et_program.specs.declared.errors.LinkError.TheVariants.{NoSuchMethod, IncompatibleClassChange}

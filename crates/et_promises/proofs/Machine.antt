@@ -15,10 +15,10 @@ use Rattle.et_boot.specs.Classes.{no_boot_class}
 use Rattle.et_class.specs.Names.{has}
 use Rattle.et_class.specs.declared.flags.TheConstants.{STATIC, INTERFACE}
 use Rattle.et_pool.specs.Entries.{Constants}
-use Rattle.et_set.specs.Outline.{Outline, no_outline, place_of}
-use Rattle.et_set.specs.Links.{LinkEntry, links, links_of}
-use Rattle.et_set.specs.Ancestry.{Ancestry, ancestry_at, supers_over, IsAncestry}
-use Rattle.et_set.proofs.Names.{same_name}
+use Rattle.et_hierarchy.specs.Outline.{Outline, no_outline, place_of}
+use Rattle.et_hierarchy.specs.Links.{LinkEntry, links, links_of}
+use Rattle.et_hierarchy.specs.Ancestry.{Ancestry, ancestry_at, supers_over, IsAncestry}
+use Rattle.et_hierarchy.proofs.Names.{same_name}
 use Rattle.et_program.specs.Entries.{ClassEntry, Linked, no_field, class_at, field_at, is_interface}
 use Rattle.et_program.specs.Members.{is_subclass, is_above}
 use Rattle.et_program.specs.declared.info.FieldInfo.{FieldInfo}

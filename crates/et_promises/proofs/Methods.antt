@@ -20,8 +20,8 @@ use Rattle.et_class.specs.Methods.{is_method_flags}
 use Rattle.et_class.specs.Names.{has, is_text}
 use Rattle.et_class.specs.declared.names.TheConstants.{CLINIT}
 use Rattle.et_class.specs.declared.flags.TheConstants.{STATIC, NATIVE, ABSTRACT, FINAL, PRIVATE, SYNCHRONIZED}
-use Rattle.et_set.specs.Ancestry.{Ancestry}
-use Rattle.et_set.proofs.Names.{same_name}
+use Rattle.et_hierarchy.specs.Ancestry.{Ancestry}
+use Rattle.et_hierarchy.proofs.Names.{same_name}
 use Rattle.et_program.specs.declared.info.MethodInfo.{MethodInfo}
 use Rattle.et_program.specs.Entries.{Linked, no_method, method_at}
 use Rattle.et_link.specs.Files.{boots, set_of}

@@ -5,7 +5,7 @@ use Rattle.std.specs.List.{slice_index_or}
 use Rattle.std.proofs.lemmas.List.Elements.{All-map, All-weaker}
 use Rattle.et_pool.specs.Entries.{Constants}
 use Rattle.et_class.specs.Layout.{ClassOf}
-use Rattle.et_set.specs.Ancestry.{Ancestry}
+use Rattle.et_hierarchy.specs.Ancestry.{Ancestry}
 use Rattle.et_program.specs.Entries.{Linked, no_method, method_at}
 use Rattle.et_link.specs.Files.{set_of}
 use Rattle.et_link.specs.Loaded.{LoadedClass, loaded_class}

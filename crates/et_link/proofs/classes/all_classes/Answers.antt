@@ -1,5 +1,5 @@
 use Rattle.std.proofs.Common.{◌≡◌, ◌∙◌, ◌+◌, ◌++◌, ◌∷◌, [], ℕ, List, ap, length, get_or, arith}
-use Rattle.et_set.specs.Outline.{Outline}
+use Rattle.et_hierarchy.specs.Outline.{Outline}
 use Rattle.et_program.specs.Entries.{ClassEntry}
 use Rattle.et_link.specs.MembersOf.{numbered}
 use Rattle.et_link.specs.Classes.{set_class, array_class}

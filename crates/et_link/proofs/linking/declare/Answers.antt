@@ -1,8 +1,8 @@
 use Rattle.std.proofs.Common.{◌≡◌, ◌∙◌, ap, subst, List, map, arith}
-use Rattle.et_set.specs.Links.{LinkEntry, links}
-use Rattle.et_set.specs.Faults.{IsFaultless}
-use Rattle.et_set.specs.Ancestry.{IsAncestry}
-use Rattle.et_set.proofs.LinkLemmas.{table_within}
+use Rattle.et_hierarchy.specs.Links.{LinkEntry, links}
+use Rattle.et_hierarchy.specs.Faults.{IsFaultless}
+use Rattle.et_hierarchy.specs.Ancestry.{IsAncestry}
+use Rattle.et_hierarchy.proofs.LinkLemmas.{table_within}
 use Rattle.et_link.specs.Loaded.{loaded_file}
 use Rattle.et_link.specs.Files.{set_of, flags_of}
 use Rattle.et_link.specs.MembersOf.{fields_of}

@@ -1,6 +1,6 @@
 use Rattle.std.proofs.Common.{◌∙◌, sym, ap, subst, ℕ, length, ◌<◌}
-use Rattle.et_set.specs.Links.{AreWithin}
-use Rattle.et_set.specs.Ancestry.{ancestry_at, IsBelow}
+use Rattle.et_hierarchy.specs.Links.{AreWithin}
+use Rattle.et_hierarchy.specs.Ancestry.{ancestry_at, IsBelow}
 use Rattle.et_link.proofs.LinkingLemmas.{rows_below, above_known}
 use Rattle.et_link.proofs.linking.know.Goals as goal
 

@@ -2,7 +2,7 @@ use Rattle.std.proofs.Common.{◌≡◌, ◌∙◌, arith, ap, subst, cond, Some
 use Rattle.std.specs.Str.{bytes_eq}
 use Rattle.std.specs.Option.{option_or}
 use Rattle.et_program.specs.Indices.{number_of}
-use Rattle.et_set.specs.Outline.{Outline}
+use Rattle.et_hierarchy.specs.Outline.{Outline}
 use Rattle.et_program.proofs.IndexLemmas.{position_step}
 use Rattle.et_link.proofs.names.index_set.Goals as goal
 

@@ -1,6 +1,6 @@
 use Rattle.std.proofs.Common.{◌≡◌, ℕ, List, take}
 use Rattle.et_program.specs.Indices.{number_of}
-use Rattle.et_set.specs.Outline.{place_of}
+use Rattle.et_hierarchy.specs.Outline.{place_of}
 use Rattle.et_link.proofs.names.index_set.Given as goal
 
 abbrev pub invariant-loop-i : goal.invariant-loop-i

@@ -1,7 +1,7 @@
 use Rattle.std.proofs.Common.{◌≡◌, ℕ, ◌<◌, length}
 use Rattle.std.specs.Prelude.{sum_by}
 use Rattle.std.specs.List.{slice_index_or}
-use Rattle.et_set.specs.Ancestry.{ancestry_at}
+use Rattle.et_hierarchy.specs.Ancestry.{ancestry_at}
 use Rattle.et_link.proofs.slots.slots_above.Given as goal
 
 abbrev pub invariant-loop-row : goal.invariant-loop-row

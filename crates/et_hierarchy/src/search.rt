@@ -1,0 +1,100 @@
+//! The search for the ancestors of a class.
+
+ghost use Rattle.std.specs.Prelude.{◌≡◌, ℕ, ◌<◌, ◌^◌, ◌↔◌, [], ◌∷◌, length, All, OnOk, IfOk, IsTrue, Option, MatchOption};
+ghost use Rattle.std.specs.Option.{option_to_list};
+ghost use Rattle.et_hierarchy.specs.Search.{Visits, IsMarked};
+ghost use Rattle.et_hierarchy.specs.Links.{parents_of, IsAncestor, AreWithin, AnswersCycle};
+
+use crate::links::Links;
+use crate::sorting::sort;
+use std::alloc::{AllocError, Global};
+
+/// Marks a class and puts it on the list of work, unless it is marked.
+fn visit(marks: &mut Vec<bool>, work: &mut Vec<u32>, o: u32) -> Result<(), AllocError>
+    requires { o < length marks.old.items }
+    ensures { OnOk result (Visits (o ∷ []) marks.old.items work.old.items marks.new.items work.new.items) }
+{
+    if !marks[o as usize] {
+        marks[o as usize] = true;
+        work.push(o)?;
+    }
+    Ok(())
+}
+
+/// Visits each of these classes.
+fn visit_all(marks: &mut Vec<bool>, work: &mut Vec<u32>, classes: &[u32]) -> Result<(), AllocError>
+    requires { All (λ o. o < length marks.old.items) classes.now }
+    ensures { OnOk result (Visits classes.now marks.old.items work.old.items marks.new.items work.new.items) }
+{
+    for o in classes {
+        visit(marks, work, *o)?;
+    }
+    Ok(())
+}
+
+/// Visits a class, if there is one.
+fn visit_above(
+    marks: &mut Vec<bool>,
+    work: &mut Vec<u32>,
+    above: Option<u32>,
+) -> Result<(), AllocError>
+    requires { All (λ o. o < length marks.old.items) (option_to_list above) }
+    ensures { OnOk result (Visits (option_to_list above) marks.old.items work.old.items marks.new.items work.new.items) }
+{
+    match above {
+        Some(o) => visit(marks, work, o),
+        None => Ok(()),
+    }
+}
+
+/// Visits the superclass and the interfaces of a class.
+fn visit_parents(
+    marks: &mut Vec<bool>,
+    work: &mut Vec<u32>,
+    links: &Links,
+) -> Result<(), AllocError>
+    requires { All (λ o. o < length marks.old.items) (parents_of links.now) }
+    ensures { OnOk result (Visits (parents_of links.now) marks.old.items work.old.items marks.new.items work.new.items) }
+{
+    visit_above(marks, work, links.above())?;
+    visit_all(marks, work, links.interfaces())?;
+    Ok(())
+}
+
+/// Marks the ancestors of a class.
+pub(crate) fn ancestors(alloc: Global, table: &[Links], class: u32) -> Result<Vec<bool>, AllocError>
+    requires class { class < length table.now }
+    requires within { AreWithin (length table.now) table.now }
+    ensures length { IfOk result (λ marks. length marks.items ≡ length table.now) }
+    ensures marks { IfOk result (λ marks. (o : ℕ) → IsMarked marks.items o ↔ IsAncestor table.now class o) }
+{
+    let mut marks = vec![in alloc; false; table.len()]?;
+    let mut work = Vec::new(alloc);
+    let first = &table[class as usize];
+    visit_parents(&mut marks, &mut work, first)?;
+    while let Some(u) = work.pop() {
+        let links = &table[u as usize];
+        visit_parents(&mut marks, &mut work, links)?;
+    }
+    Ok(marks)
+}
+
+/// The first class that is its own ancestor. Only classes that can't be put in order are searched from, so that where
+/// there is no such class the time is linear in the number of classes and links.
+pub(crate) fn first_on_cycle(alloc: Global, table: &[Links]) -> Result<Option<u32>, AllocError>
+    requires few { length table.now < 2 ^ 32 }
+    requires within { AreWithin (length table.now) table.now }
+    ensures { IfOk result (AnswersCycle table.now) }
+{
+    let sorting = sort(alloc, table)?;
+    for k in 0..table.len() {
+        if sorting.is_done(k) {
+            continue;
+        }
+        let marks = ancestors(alloc, table, k as u32)?;
+        if marks[k] {
+            return Ok(Some(k as u32));
+        }
+    }
+    Ok(None)
+}

@@ -1,5 +1,0 @@
-use Rattle.et_set.proofs.InitLemmas.{goes_on}
-use Rattle.et_set.proofs.laws.order_goes_on.Goals as goal
-
-pub returns : goal.returns
-returns c = goes_on

@@ -1,7 +1,0 @@
-use Rattle.std.proofs.Common.{◌≡◌, drop, ◌++◌}
-use Rattle.std.specs.List.{filter_map}
-use Rattle.et_set.specs.Outline.{place_of}
-use Rattle.et_set.proofs.links.find_all.Given as goal
-
-abbrev pub invariant-loop-name : goal.invariant-loop-name
-invariant-loop-name l = l.found.items ++ filter_map (place_of l.set) (drop l.name-index l.names) ≡ filter_map (place_of l.set) l.names

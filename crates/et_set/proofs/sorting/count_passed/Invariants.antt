@@ -1,6 +1,0 @@
-use Rattle.et_set.specs.Links.{parents_of}
-use Rattle.et_set.specs.Sorting.{ArePassed}
-use Rattle.et_set.proofs.sorting.count_passed.Given as goal
-
-abbrev pub invariant-loop-i : goal.invariant-loop-i
-invariant-loop-i l = ArePassed l.done (parents_of l.links) l.from → ArePassed l.done (parents_of l.links) l.i

@@ -1,7 +1,0 @@
-use Rattle.std.proofs.Common.{◌≡◌, drop}
-use Rattle.std.specs.List.{flat_map}
-use Rattle.et_set.specs.Ancestry.{added_all, ancestry_at}
-use Rattle.et_set.proofs.tables.add_field_orders.Given as goal
-
-abbrev pub invariant-loop-interface : goal.invariant-loop-interface
-invariant-loop-interface l = added_all l.list.keys (flat_map (λ i. (ancestry_at l.rows i).field_order) (drop l.interface-index l.interfaces)) ≡ added_all l.fn.list.keys (flat_map (λ i. (ancestry_at l.rows i).field_order) l.interfaces)
