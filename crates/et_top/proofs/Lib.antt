@@ -2,3 +2,6 @@ mod Found
 mod LinkLemmas
 mod ModelLemmas
 mod TopLemmas
+mod NumberLemmas
+mod OptionLemmas
+mod SplitLemmas

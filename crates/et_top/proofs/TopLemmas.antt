@@ -17,9 +17,9 @@ use Rattle.et_guest.specs.Guests.{flush_visits_of}
 use Rattle.et_merlin.specs.Visits.{allowed_visits}
 use Rattle.et_top.specs.Faults.{Fault, Absent, TooLong, BadClass, BadText, BadTrace, LinkFault, status_of_fault}
 use Rattle.et_io.specs.Files.{Held}
-use Rattle.et_words.specs.Command.{Asked}
-use Rattle.et_words.specs.Asked.{asked_by}
-use Rattle.et_words.specs.declared.command.Command.{Command}
+use Rattle.et_top.specs.Command.{Asked}
+use Rattle.et_top.specs.Asked.{asked_by}
+use Rattle.et_top.specs.declared.command.Command.{Command}
 use Rattle.et_replay.specs.declared.model.Kind.{Kind}
 use Rattle.et_top.specs.Top.{IsAskedDefined, Defined, Usage, Refused, Writes, Traces, writes, traces, status_of_end, WritesHistory, Gives}
 use Rattle.et_top.specs.declared.status.Status.{Status}

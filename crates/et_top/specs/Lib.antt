@@ -4,3 +4,8 @@ pub mod Top
 pub mod Status
 pub mod Refusals
 pub mod Told
+pub mod Words
+pub mod Numbers
+pub mod Command
+pub mod Parts
+pub mod Asked

@@ -15,8 +15,8 @@ use Rattle.et_replay.specs.Timeline.{timeline_items}
 use Rattle.et_replay.specs.declared.model.Kind.{Kind}
 use Rattle.et_replay.specs.declared.model.Kind.TheVariants as kind
 use Rattle.et_replay.specs.declared.model.Policy.{Policy}
-use Rattle.et_words.specs.declared.command.Models.{Models}
-use Rattle.et_words.specs.Command as words
+use Rattle.et_top.specs.declared.command.Models.{Models}
+use Rattle.et_top.specs.Command as words
 use Rattle.et_program.specs.Entries.{Linked}
 use Rattle.et_event.specs.Start.{start, start_records}
 use Rattle.et_guest.specs.Histories.{setting}

@@ -5,10 +5,11 @@ ghost use Rattle.et_io.specs.Files.{Held};
 ghost use Rattle.et_graph.specs.Graph.{Graph, Decides};
 ghost use Rattle.et_state.specs.Options.{AreOptions};
 ghost use Rattle.et_replay.specs.declared.model.Kind.{Kind};
-ghost use Rattle.et_words.specs.Command as words;
+ghost use Rattle.et_top.specs.Command as words;
 ghost use Rattle.et_top.specs.Top.{Defined, IsAskedDefined, Gives};
 
 use crate::answers::{refuse, written};
+use crate::command::Models;
 use crate::load_listing::load_listing;
 use crate::load_trace::load_trace;
 use crate::models::replay_trace;
@@ -18,7 +19,6 @@ use et_base::Steps;
 use et_io::{Files, Sink, put_all};
 use et_replay::{HeapModel, curve_lines};
 use et_state::Options;
-use et_words::Models;
 use std::alloc::Global;
 use std::sync::ledger::Ledger;
 

@@ -2,16 +2,21 @@
 #![tactic(auto)]
 
 mod answers;
+mod command;
 mod commands;
 mod files;
 mod load_classes;
 mod load_listing;
 mod load_trace;
 mod models;
+mod numbers;
+mod options;
 mod programs;
 mod refusal;
+mod split;
 mod status;
 mod top;
 
+pub use command::{Command, Generations, Models, read_words};
 pub use status::Status;
 pub use top::elephant;

@@ -10,11 +10,11 @@ ghost use Rattle.et_replay.specs.Items.{made};
 ghost use Rattle.et_top.specs.Told.{IsPrepared};
 ghost use Rattle.et_top.specs.Top.{policy_of, policies_of};
 
+use crate::command::Models;
 use et_base::NoMemory;
 use et_io::{RunFault, Sink};
 use et_replay::{HeapModel, Item, Kind, Policy, replay, timeline};
 use et_text::Trace;
-use et_words::Models;
 use std::alloc::Global;
 
 /// The policy of a model of this kind, if one is asked for.

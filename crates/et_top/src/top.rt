@@ -3,18 +3,18 @@ ghost use Rattle.std.specs.Prelude.{◌≡◌, ◌⊎◌, ℕ, Bool, Some, None,
 ghost use Rattle.et_io.specs.Faults.{Rose};
 ghost use Rattle.et_io.specs.Files.{Held};
 ghost use Rattle.et_graph.specs.Graph.{Graph, Decides};
-ghost use Rattle.et_words.specs.Command.{command};
-ghost use Rattle.et_words.specs.Asked.{asked_by, AreInRange};
+ghost use Rattle.et_top.specs.Command.{command};
+ghost use Rattle.et_top.specs.Asked.{asked_by, AreInRange};
 ghost use Rattle.et_top.specs.Top.{Defined, IsAskedDefined, IsDefined, Gives};
 
 use crate::answers::refuse;
+use crate::command::{Command, read_words};
 use crate::commands::{assemble, curve, replay, trace};
 use crate::refusal::Refusal;
 use crate::status::Status;
 use et_base::Steps;
 use et_io::{Files, Sink};
 use et_replay::HeapModel;
-use et_words::{Command, read_words};
 use std::alloc::Global;
 use std::sync::ledger::Ledger;
 

@@ -2,8 +2,8 @@ use Rattle.std.proofs.Common.{◌∙◌, ap, sym, subst}
 use Rattle.et_io.specs.Faults.{Rose}
 use Rattle.et_top.specs.Top.{Gives}
 use Rattle.std.specs.Prelude.{Option, option_map}
-use Rattle.et_words.specs.Asked.{asked_by}
-use Rattle.et_words.specs.declared.command.Command.{Command}
+use Rattle.et_top.specs.Asked.{asked_by}
+use Rattle.et_top.specs.declared.command.Command.{Command}
 use Rattle.et_top.proofs.TopLemmas.{by_command, memory_gives}
 use Rattle.et_top.proofs.top.elephant.Goals as goal
 

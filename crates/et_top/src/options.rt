@@ -1,7 +1,7 @@
 //! The options that a command was given.
 ghost use Rattle.std.specs.Prelude.{◌≡◌, ◌≤◌, ◌^◌, map, option_map, bytes_eq, IfSome};
 ghost use Rattle.std.specs.List.{list_any};
-ghost use Rattle.et_words.specs.Command.{value_of, are_options, number_or, capacity};
+ghost use Rattle.et_top.specs.Command.{value_of, are_options, number_or, capacity};
 
 use crate::numbers::number;
 use crate::split::Given;

@@ -5,7 +5,7 @@ use denote.Ref.{Bor}
 use Rattle.std.specs.List.{slice_split}
 use Rattle.std.proofs.lemmas.List.Splits.{length-slice_split}
 use Rattle.std.specs.Prelude.{◌==◌, fold, map, Option, option_map}
-use Rattle.et_words.specs.Numbers.{number, spelled, each}
+use Rattle.et_top.specs.Numbers.{number, spelled, each}
 
 -- a number grows with each digit
 abbrev pub onto : ℕ → List ℕ → ℕ

@@ -4,8 +4,8 @@ use Rattle.std.proofs.Math.Seq.{drop-cons}
 use Rattle.std.specs.Prelude.{bytes_eq, ◌||◌}
 use Rattle.std.specs.List.{list_any}
 use denote.Ref.{Bor}
-use Rattle.et_words.specs.Words.{Given}
-use Rattle.et_words.specs.Command.{value_of, are_options}
+use Rattle.et_top.specs.Words.{Given}
+use Rattle.et_top.specs.Command.{value_of, are_options}
 
 pub value_next : (name : List ℕ) (xs : List Given) (i : ℕ) (d : Given) → i < length xs → value_of name (drop i xs) ≡ value_of name (get_or xs i d ∷ drop (i + 1) xs)
 value_next name xs i d lt = rw add-one (ap (value_of name) (drop-cons xs i d lt))

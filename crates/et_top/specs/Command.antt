@@ -4,10 +4,10 @@ use Rattle.std.specs.List.{list_any}
 use Rattle.et_state.specs.declared.options.Options.{Options}
 use Rattle.et_state.specs.declared.options.Schedule.{Schedule}
 use Rattle.et_state.specs.declared.options.Schedule.TheVariants.{Quantum, Words}
-use Rattle.et_words.specs.declared.command.Models.{Models}
-use Rattle.et_words.specs.declared.command.Generations.{Generations}
-use Rattle.et_words.specs.Words.{Given, Split, split}
-use Rattle.et_words.specs.Numbers.{number, numbers}
+use Rattle.et_top.specs.declared.command.Models.{Models}
+use Rattle.et_top.specs.declared.command.Generations.{Generations}
+use Rattle.et_top.specs.Words.{Given, Split, split}
+use Rattle.et_top.specs.Numbers.{number, numbers}
 
 pub data Asked : Type 0 where
   -- the trace of the classes of these files

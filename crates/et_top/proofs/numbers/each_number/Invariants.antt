@@ -1,8 +1,8 @@
 use Rattle.std.proofs.Common.{◌≡◌, ◌<◌, drop, map, length}
 use Rattle.std.specs.Prelude.{All}
-use Rattle.et_words.specs.Numbers.{number, each}
-use Rattle.et_words.proofs.NumberLemmas.{behind}
-use Rattle.et_words.proofs.numbers.each_number.Given as goal
+use Rattle.et_top.specs.Numbers.{number, each}
+use Rattle.et_top.proofs.NumberLemmas.{behind}
+use Rattle.et_top.proofs.numbers.each_number.Given as goal
 
 abbrev pub invariant-pieces : goal.invariant-pieces
 invariant-pieces l = record {

@@ -1,9 +1,9 @@
 //! The command that the words are.
 ghost use Rattle.std.specs.Prelude.{◌≡◌, map, string_bytes, option_map, IfOk, IfSome};
 ghost use Rattle.et_state.specs.Options.{IsSchedule, AreOptions};
-ghost use Rattle.et_words.specs.Parts.{split_of};
-ghost use Rattle.et_words.specs.Command as command;
-ghost use Rattle.et_words.specs.Asked.{asked_by, AreInRange};
+ghost use Rattle.et_top.specs.Parts.{split_of};
+ghost use Rattle.et_top.specs.Command as command;
+ghost use Rattle.et_top.specs.Asked.{asked_by, AreInRange};
 
 use crate::numbers::numbers;
 use crate::options::{are_options, capacity, number_or, value_of};

@@ -1,9 +1,9 @@
 -- What contracts see of the parts of a command line.
 use Rattle.std.specs.Prelude.{◌≡◌, ℕ, ◌<◌, List, true, false, None, map, string_bytes, length}
-use Rattle.et_words.specs.declared.split.Step.{Step}
-use Rattle.et_words.specs.declared.split.Step.TheVariants as steps
-use Rattle.et_words.specs.declared.split as code
-use Rattle.et_words.specs.Words.{Split, begins_option, ends_options, split, only_operands, with_option}
+use Rattle.et_top.specs.declared.split.Step.{Step}
+use Rattle.et_top.specs.declared.split.Step.TheVariants as steps
+use Rattle.et_top.specs.declared.split as code
+use Rattle.et_top.specs.Words.{Split, begins_option, ends_options, split, only_operands, with_option}
 
 abbrev pub split_of : code.Split.Split → Split
 split_of s = record { options = s.options.items; operands = map string_bytes s.operands.now }

@@ -1,9 +1,9 @@
 -- What the command that the code answers asks for.
 use Rattle.std.specs.Prelude.{ℕ, ◌<◌, length, map, string_bytes}
 use Rattle.et_state.specs.Options.{AreOptions}
-use Rattle.et_words.specs.declared.command.Command.{Command}
-use Rattle.et_words.specs.declared.command.Command.TheVariants as words
-use Rattle.et_words.specs.Command.{Asked, Trace, Assemble, Replay, Curve}
+use Rattle.et_top.specs.declared.command.Command.{Command}
+use Rattle.et_top.specs.declared.command.Command.TheVariants as words
+use Rattle.et_top.specs.Command.{Asked, Trace, Assemble, Replay, Curve}
 
 abbrev pub asked_by : Command → Asked
 asked_by (words.Trace options paths) = Trace options (map string_bytes paths.now)

@@ -1,7 +1,7 @@
 use Rattle.std.proofs.Common.{◌≡◌, length, map, string_bytes}
-use Rattle.et_words.specs.Words.{split}
-use Rattle.et_words.proofs.SplitLemmas.{after}
-use Rattle.et_words.proofs.split.split_words.Given as goal
+use Rattle.et_top.specs.Words.{split}
+use Rattle.et_top.proofs.SplitLemmas.{after}
+use Rattle.et_top.proofs.split.split_words.Given as goal
 
 abbrev pub invariant-options : goal.invariant-options
 invariant-options l = after l.options.items (split (map string_bytes l.rest)) ≡ split (map string_bytes l.words)

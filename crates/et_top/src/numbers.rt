@@ -1,6 +1,6 @@
 //! Numbers on the command line.
 ghost use Rattle.std.specs.Prelude.{◌≡◌, ◌≤◌, ◌<◌, ◌^◌, ◌==◌, true, nat_le, length, map, All, IfSome, IfOk, Some, None, if◌then◌else◌};
-ghost use Rattle.et_words.specs.Numbers.{is_digit, is_number, spelled, number, each, numbers};
+ghost use Rattle.et_top.specs.Numbers.{is_digit, is_number, spelled, number, each, numbers};
 ghost use Rattle.std.specs.List.{list_all, slice_split};
 
 use et_base::{NoMemory, WordList};

@@ -1,7 +1,7 @@
 //! Options and operands.
 ghost use Rattle.std.specs.Prelude.{◌≡◌, ◌∷◌, ◌<◌, map, string_bytes, option_map, position, length, IfOk, IfSome};
-ghost use Rattle.et_words.specs.Words.{split, is_equals, cut_at};
-ghost use Rattle.et_words.specs.Parts.{IsOption, split_of, Begins};
+ghost use Rattle.et_top.specs.Words.{split, is_equals, cut_at};
+ghost use Rattle.et_top.specs.Parts.{IsOption, split_of, Begins};
 
 use et_base::NoMemory;
 use std::alloc::Global;
@@ -15,7 +15,7 @@ pub struct Given<'a> {
 }
 
 impl<'a> Model for Given<'a> {
-    ghost use Rattle.et_words.specs.Words as words;
+    ghost use Rattle.et_top.specs.Words as words;
 
     ghost Value = { words.Given };
 

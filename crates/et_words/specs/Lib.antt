@@ -1,5 +1,0 @@
-pub mod Words
-pub mod Numbers
-pub mod Command
-pub mod Parts
-pub mod Asked
