@@ -9,17 +9,17 @@ use Rattle.et_graph.specs.Graph.{IsReached}
 use Rattle.et_graph.proofs.Lists.{Contains-none, Contains-here, Contains-cons}
 use Rattle.et_heap.specs.Objects.{IsHeld}
 use Rattle.et_heap.specs.Refs.{refs_of}
-use Rattle.et_frames.specs.Threads.{FrameState}
-use Rattle.et_frames.specs.Roots.{frame_roots}
-use Rattle.et_machine.specs.State.{GuestState, Kept, MachineState, kept_of}
-use Rattle.et_machine.specs.Words.{top, with_top, HasFrame, begun, steps_top, ticked}
-use Rattle.et_machine.specs.Roots.{roots_of, graph_of, numbers_from}
-use Rattle.et_machine.specs.Sound.{IsSound}
-use Rattle.et_machine.specs.Moves.{IsOnWay, Led}
-use Rattle.et_machine.proofs.Calls.{on_begin_event}
-use Rattle.et_machine.proofs.Places.{top_root}
-use Rattle.et_machine.proofs.Steps.{MayEnter, MayBeLost, did_on_way, root_there, with_top_root, led}
-use Rattle.et_machine.proofs.UnderWay.{root_is_reached, slot_is_reached}
+use Rattle.et_state.specs.Threads.{FrameState}
+use Rattle.et_state.specs.ThreadRoots.{frame_roots}
+use Rattle.et_state.specs.State.{GuestState, Kept, MachineState, kept_of}
+use Rattle.et_state.specs.Words.{top, with_top, HasFrame, begun, steps_top, ticked}
+use Rattle.et_state.specs.Roots.{roots_of, graph_of, numbers_from}
+use Rattle.et_state.specs.Sound.{IsSound}
+use Rattle.et_state.specs.Moves.{IsOnWay, Led}
+use Rattle.et_state.proofs.Calls.{on_begin_event}
+use Rattle.et_state.proofs.Places.{top_root}
+use Rattle.et_state.proofs.Steps.{MayEnter, MayBeLost, did_on_way, root_there, with_top_root, led}
+use Rattle.et_state.proofs.UnderWay.{root_is_reached, slot_is_reached}
 use Rattle.et_program.specs.Entries.{Linked}
 use Rattle.et_state.specs.declared.records.Record.{Record}
 use Rattle.et_state.specs.declared.ends.EventEnd.TheVariants as endings

@@ -2,7 +2,7 @@
 use Rattle.std.proofs.Common.{◌≡◌, ℕ, List, [], drop, Result, Ok, Err, sym, ◌∙◌, ap, subst}
 use Rattle.std.specs.Prelude.{ℤ, IfOk}
 use Rattle.et_base.specs.declared.value.Value.{Value}
-use Rattle.et_machine.specs.State.{Kept, MachineState}
+use Rattle.et_state.specs.State.{Kept, MachineState}
 use Rattle.et_state.specs.declared.records.Record.{Record}
 use Rattle.et_state.specs.declared.ends.EventEnd.{EventEnd}
 use Rattle.et_state.specs.Outcome.{Outcome}

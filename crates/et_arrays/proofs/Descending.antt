@@ -6,8 +6,8 @@ use Rattle.std.proofs.lemmas.List.{length_push, length-replicate, get_or_at}
 use Rattle.et_base.specs.declared.value.Value.TheVariants.{Unset}
 use Rattle.et_heap.specs.Objects.{ObjectState, Objects, new_object, found, object_at, has_room, most_objects}
 use Rattle.et_heap.proofs.HeapLists.{held_within}
-use Rattle.et_machine.specs.State.{MachineState}
-use Rattle.et_machine.proofs.Steps.{newest_held}
+use Rattle.et_state.specs.State.{MachineState}
+use Rattle.et_state.proofs.Steps.{newest_held}
 use Rattle.et_state.specs.declared.records.Record.{Record}
 use Rattle.et_event.specs.Moments.{Moment, Doing, array_made, fits}
 use Rattle.et_event.specs.Sites.{natural}

@@ -9,12 +9,12 @@ use Rattle.et_graph.proofs.Lists.{Contains-none, Contains-here, Contains-cons}
 use Rattle.et_heap.specs.Objects.{ObjectState, Objects, IsHeld, is_there, found, new_object, at, object_at, slot_of, with_slot, with_object_at}
 use Rattle.et_heap.specs.Refs.{refs_of_value, refs_of}
 use Rattle.et_program.specs.Entries.{class_at}
-use Rattle.et_machine.specs.State.{Kept, MachineState, kept_of}
-use Rattle.et_machine.specs.Moves.{IsUnderWay, WasThere}
-use Rattle.et_machine.proofs.Places.{part_contained, refs_of-unset}
-use Rattle.et_machine.proofs.UnderWay.{law_make}
-use Rattle.et_machine.proofs.Calls.{on_heap_set_slot}
-use Rattle.et_machine.proofs.Steps.{new_there, newest_held}
+use Rattle.et_state.specs.State.{Kept, MachineState, kept_of}
+use Rattle.et_state.specs.Moves.{IsUnderWay, WasThere}
+use Rattle.et_state.proofs.Places.{part_contained, refs_of-unset}
+use Rattle.et_state.proofs.UnderWay.{law_make}
+use Rattle.et_state.proofs.Calls.{on_heap_set_slot}
+use Rattle.et_state.proofs.Steps.{new_there, newest_held}
 use Rattle.et_event.specs.Heap.{arrays_made, filled, element_class}
 use Rattle.et_event.specs.Moments.{Moment, Doing, array_made, slot_written}
 use Rattle.et_arrays.specs.Legal.{IsTied, HasMadeArrays}

@@ -7,10 +7,10 @@ use Rattle.et_code.specs.Decoding.{instruction_at}
 use Rattle.et_program.specs.Entries.{Linked, method_at}
 use Rattle.et_program.specs.Resolution.{resolve_class}
 use Rattle.et_program.specs.declared.info.MethodInfo.{MethodInfo}
-use Rattle.et_frames.specs.declared.stage.Turn.TheVariants.{Instruction}
-use Rattle.et_frames.specs.Threads.{FrameState, turn_of}
-use Rattle.et_machine.specs.State.{MachineState, kept_of}
-use Rattle.et_machine.specs.Words.{thread_at, top}
+use Rattle.et_state.specs.declared.stage.Turn.TheVariants.{Instruction}
+use Rattle.et_state.specs.Threads.{FrameState, turn_of}
+use Rattle.et_state.specs.State.{MachineState, kept_of}
+use Rattle.et_state.specs.Words.{thread_at, top}
 use Rattle.et_event.specs.declared.rows.Row.{Row}
 use Rattle.et_event.specs.declared.rows.Row.TheVariants.{Heap}
 use Rattle.et_event.specs.declared.rows.HeapRow.TheVariants.{NewMultiArray}

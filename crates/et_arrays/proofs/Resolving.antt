@@ -1,7 +1,7 @@
 -- A class that was resolved is the one of its name.
 use Rattle.std.proofs.Common.{◌≡◌, ℕ, Bool, true, false, List, [], Result, Ok, Err, ap}
 use Rattle.std.specs.Prelude.{if◌then◌else◌}
-use Rattle.et_machine.specs.State.{GuestState, Kept}
+use Rattle.et_state.specs.State.{GuestState, Kept}
 use Rattle.et_state.specs.Outcome.{Outcome, Goes, Waits, IllTyped, ObjectLimit}
 use Rattle.et_program.specs.Entries.{Linked}
 use Rattle.et_program.specs.Resolution.{resolve_class}

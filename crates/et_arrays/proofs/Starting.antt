@@ -2,7 +2,7 @@
 use Rattle.std.proofs.Common.{◌≡◌, ℕ, ◌<◌, true, List, [], ◌∷◌, ◌++◌, length, drop, Some, refl, sym, ◌∙◌, ap, subst, arith}
 use Rattle.std.specs.Prelude.{ℤ}
 use Rattle.et_heap.specs.Objects.{Objects, new_object, has_room}
-use Rattle.et_machine.specs.State.{MachineState}
+use Rattle.et_state.specs.State.{MachineState}
 use Rattle.et_state.specs.declared.records.Record.{Record}
 use Rattle.et_event.specs.Heap.{arrays_made}
 use Rattle.et_event.specs.Moments.{Moment, Doing, array_made, fits}

@@ -3,7 +3,7 @@
 use Rattle.std.specs.Prelude.{◌≡◌, ℕ, zero, suc, ◌+◌, ◌-◌, ◌<◌, ◌≤◌, List, [], ◌∷◌, length}
 use Rattle.et_base.specs.declared.value.Value.TheVariants.{Ref}
 use Rattle.et_heap.specs.Objects.{Objects, IsHeld, object_at}
-use Rattle.et_machine.specs.State.{MachineState, kept_of}
+use Rattle.et_state.specs.State.{MachineState, kept_of}
 use Rattle.et_state.specs.declared.records.Record.{Record}
 use Rattle.et_program.specs.Entries.{class_at}
 use Rattle.et_event.specs.Heap.{arrays_made, element_class}

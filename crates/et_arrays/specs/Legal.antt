@@ -2,8 +2,8 @@
 use Rattle.std.specs.Prelude.{◌≡◌, ℕ, ◌<◌, ◌≤◌, List, Contains, length}
 use Rattle.et_heap.specs.Objects.{Objects, IsHeld, at, object_at}
 use Rattle.et_heap.specs.Refs.{refs_of}
-use Rattle.et_machine.specs.State.{Kept}
-use Rattle.et_machine.specs.Moves.{IsUnderWay}
+use Rattle.et_state.specs.State.{Kept}
+use Rattle.et_state.specs.Moves.{IsUnderWay}
 use Rattle.et_event.specs.Moments.{Doing}
 
 -- the object is in a slot of one that was made before it, but not before object k

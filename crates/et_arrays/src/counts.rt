@@ -6,8 +6,8 @@ ghost use Rattle.et_event.specs.Moments.{Moment, Doing, fits};
 ghost use Rattle.et_arrays.specs.Counts.{objects_of, slots_of, naturals_of, capped as capped_at};
 
 use et_heap::{MOST_OBJECTS, MOST_SLOTS};
-use et_machine::Machine;
 use et_refs::natural;
+use et_state::Machine;
 
 /// A count goes no further than this, which is more than fits.
 const MOST: u64 = 268435456;

@@ -1,10 +1,10 @@
 //! The event of `multianewarray` (JVMS 6.5).
 ghost use Rattle.std.specs.Prelude.{◌≡◌, ℕ, ◌+◌, ◌-◌, ◌<◌, ◌≤◌, ◌^◌, true, length, drop, Ok, IfOk, OnOk};
-ghost use Rattle.et_frames.specs.declared.stage.Turn.TheVariants as turns;
-ghost use Rattle.et_frames.specs.Threads.{turn_of};
-ghost use Rattle.et_machine.specs.State.{Kept, kept_of};
-ghost use Rattle.et_machine.specs.Words.{HasFrame, thread_at, top};
-ghost use Rattle.et_machine.specs.Sound.{IsSound};
+ghost use Rattle.et_state.specs.declared.stage.Turn.TheVariants as turns;
+ghost use Rattle.et_state.specs.Threads.{turn_of};
+ghost use Rattle.et_state.specs.State.{Kept, kept_of};
+ghost use Rattle.et_state.specs.Words.{HasFrame, thread_at, top};
+ghost use Rattle.et_state.specs.Sound.{IsSound};
 ghost use Rattle.et_state.specs.Outcome.{Outcome};
 ghost use Rattle.et_program.specs.Resolution.{resolve_class};
 ghost use Rattle.et_event.specs.declared.rows.Row.TheVariants as row_kinds;
@@ -26,11 +26,10 @@ use crate::filling::{fill, open_array};
 use crate::lengths::{are_lengths, take_lengths};
 use et_base::{ClassId, NoMemory, ObjectId, Steps, ThreadId, Value};
 use et_event::GuestError;
-use et_machine::Machine;
 use et_place::{Place, class_operand};
 use et_program::Program;
 use et_refs::{Refusal, natural, refuse, replace_top, resolve, throws_unless};
-use et_state::{EventEnd, Lines};
+use et_state::{EventEnd, Lines, Machine};
 use std::alloc::Global;
 use std::sync::ledger::Ledger;
 

@@ -5,17 +5,16 @@ ghost use Rattle.et_heap.specs.Objects.{IsHeld, has_room, object_at, most_object
 ghost use Rattle.et_program.specs.Entries.{class_at};
 ghost use Rattle.et_event.specs.Heap.{element_class};
 ghost use Rattle.et_event.specs.Moments.{moment, array_made, slot_written, fits};
-ghost use Rattle.et_machine.specs.State.{Kept};
+ghost use Rattle.et_state.specs.State.{Kept};
 ghost use Rattle.et_event.specs.Sites.{natural as natural_of};
 ghost use Rattle.et_arrays.specs.Counts.{naturals_of};
 ghost use Rattle.et_arrays.specs.Filling.{so_far, ComesTo, counted, opened_as, finished, lower, AreFillings, IsFilling};
 
 use et_base::{ClassId, NoMemory, ObjectId, Steps, ThreadId, Value};
 use et_heap::MakeFault;
-use et_machine::Machine;
 use et_program::{Element, Program};
 use et_refs::{array_size, natural, number_of, width_in};
-use et_state::{Lines, Record};
+use et_state::{Lines, Machine, Record};
 use std::alloc::Global;
 use std::sync::ledger::Ledger;
 

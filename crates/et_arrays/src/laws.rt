@@ -3,8 +3,8 @@
 ghost use Rattle.std.specs.Prelude.{◌≡◌, ℕ, ◌<◌, ◌≤◌, [], ◌∷◌, ◌++◌, true, List, length, drop};
 ghost use Rattle.et_base.specs.declared.value.Value.TheVariants.{Ref};
 ghost use Rattle.et_heap.specs.Objects.{has_room};
-ghost use Rattle.et_machine.specs.State.{Kept};
-ghost use Rattle.et_machine.specs.Moves.{IsUnderWay};
+ghost use Rattle.et_state.specs.State.{Kept};
+ghost use Rattle.et_state.specs.Moves.{IsUnderWay};
 ghost use Rattle.et_event.specs.Heap.{arrays_made};
 ghost use Rattle.et_event.specs.Moments.{Moment, Doing, next_object, array_made, slot_written, fits};
 ghost use Rattle.et_arrays.specs.declared.filling.Filling.{Filling};

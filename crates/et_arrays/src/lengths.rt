@@ -2,16 +2,16 @@
 ghost use Rattle.std.specs.Prelude.{◌≡◌, ℕ, ℤ, ◌+◌, ◌<◌, ◌≤◌, [], List, length, drop, pos, int_le, IfOk};
 ghost use Rattle.std.specs.List.{list_all};
 ghost use Rattle.et_base.specs.declared.value.Value.{Value as Entry};
-ghost use Rattle.et_machine.specs.State.{Kept};
-ghost use Rattle.et_machine.specs.Words.{HasFrame, top};
+ghost use Rattle.et_state.specs.State.{Kept};
+ghost use Rattle.et_state.specs.Words.{HasFrame, top};
 ghost use Rattle.et_state.specs.Outcome.{Outcome};
 ghost use Rattle.et_event.specs.Heap.{with_lengths};
 ghost use Rattle.et_event.specs.Moments.{Moment, ill_typed};
 ghost use Rattle.et_refs.specs.Refusals.{decided};
 
 use et_base::{NoMemory, ThreadId};
-use et_machine::Machine;
 use et_refs::{Refusal, is_length, take_int};
+use et_state::Machine;
 use std::alloc::Global;
 
 /// The lengths of so many dimensions, which stand on top, the first dimension first.

@@ -10,12 +10,12 @@ use Rattle.et_program.specs.Entries.{Linked}
 use Rattle.et_program.specs.Members.{is_subclass}
 use Rattle.et_heap.specs.Objects.{ObjectState, Objects, IsHeld, at, found, made_count, slot_count, slots_in, most_objects, most_slots}
 use Rattle.et_heap.specs.Remaining.{kept_referent, left_place, remaining}
-use Rattle.et_frames.specs.Threads.{ThreadState, ended_roots}
-use Rattle.et_machine.specs.State.{GuestState, Kept}
-use Rattle.et_machine.specs.Words.{thread_at}
-use Rattle.et_machine.specs.Roots.{graph_of}
-use Rattle.et_machine.proofs.Places.{ended_root}
-use Rattle.et_machine.proofs.Wholes.{length-remaining, sound_flushed}
+use Rattle.et_state.specs.Threads.{ThreadState, ended_roots}
+use Rattle.et_state.specs.State.{GuestState, Kept}
+use Rattle.et_state.specs.Words.{thread_at}
+use Rattle.et_state.specs.Roots.{graph_of}
+use Rattle.et_state.proofs.Places.{ended_root}
+use Rattle.et_state.proofs.Wholes.{length-remaining, sound_flushed}
 use Rattle.et_event.specs.Errors.{class_called}
 use Rattle.et_event.specs.Moments.{fits}
 use Rattle.et_event.specs.Sound.{HasThreadObject, IsSoundObject, IsSoundMonitor, IsSoundThread, IsSoundFor}

@@ -16,12 +16,12 @@ use Rattle.et_link.specs.ProgramOf.{heads_of, names_of, program_with, IsProgramO
 use Rattle.et_link.proofs.TabledLemmas.{length-set, length-classes}
 use Rattle.et_heap.specs.Objects.{ObjectState, Objects, IsHeld, at, object_at, new_object, free_monitor}
 use Rattle.et_heap.specs.Refs.{refs_of}
-use Rattle.et_machine.specs.declared.class_state.ClassState.{ClassState}
-use Rattle.et_machine.specs.declared.class_state.ClassState.TheVariants.{Untouched, Done}
-use Rattle.et_machine.specs.State.{GuestState, Kept, MachineState, kept_of}
-use Rattle.et_machine.specs.Words.{static_at}
-use Rattle.et_machine.specs.Roots.{roots_of}
-use Rattle.et_machine.specs.Sound.{IsSound}
+use Rattle.et_state.specs.declared.class_state.ClassState.{ClassState}
+use Rattle.et_state.specs.declared.class_state.ClassState.TheVariants.{Untouched, Done}
+use Rattle.et_state.specs.State.{GuestState, Kept, MachineState, kept_of}
+use Rattle.et_state.specs.Words.{static_at}
+use Rattle.et_state.specs.Roots.{roots_of}
+use Rattle.et_state.specs.Sound.{IsSound}
 use Rattle.et_state.specs.declared.records.Record.TheVariants.{Alloc}
 use Rattle.et_state.specs.Naming.{Names, IsNamed}
 use Rattle.et_event.specs.declared.rows.Operand.{Operand}

@@ -1,6 +1,6 @@
 //! The first state, and its records.
 ghost use Rattle.std.specs.Prelude.{◌≡◌, ◌<◌, List, [], length, All, IfOk};
-ghost use Rattle.et_machine.specs.State.{kept_of};
+ghost use Rattle.et_state.specs.State.{kept_of};
 ghost use Rattle.et_state.specs.Naming.{Names, IsNamed};
 ghost use Rattle.et_event.specs.Sound.{IsSoundFor};
 ghost use Rattle.et_event.specs.Start.{argument_class as class_of_arguments, first_class_state as state_of_class, class_states_from, start, start_records};
@@ -10,9 +10,8 @@ ghost use Rattle.et_begin.specs.ClassNames.{HasClassName};
 
 use et_base::{ClassId, NoMemory, Value};
 use et_boot::boot_count;
-use et_machine::{ClassState, Machine};
 use et_program::Program;
-use et_state::{Lines, Record};
+use et_state::{ClassState, Lines, Machine, Record};
 use std::alloc::Global;
 
 /// The class of the argument array.

@@ -16,9 +16,9 @@ ghost use Rattle.et_graph.specs.Graph.{IsReached};
 ghost use Rattle.et_heap.specs.Objects.{IsHeld};
 ghost use Rattle.et_link.specs.Loaded.{LoadedClass, loaded_class};
 ghost use Rattle.et_link.specs.ProgramOf.{IsProgramOf};
-ghost use Rattle.et_machine.specs.Past.{remaining};
-ghost use Rattle.et_machine.specs.Roots.{graph_of};
-ghost use Rattle.et_machine.specs.State.{Kept};
+ghost use Rattle.et_state.specs.Past.{remaining};
+ghost use Rattle.et_state.specs.Roots.{graph_of};
+ghost use Rattle.et_state.specs.State.{Kept};
 ghost use Rattle.et_sound.specs.Programs.{MakesSound, HasSlots};
 ghost use Rattle.et_program.specs.Entries.{Linked};
 

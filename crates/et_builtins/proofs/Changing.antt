@@ -9,16 +9,16 @@ use Rattle.et_graph.proofs.Lists.{Contains-none}
 use Rattle.et_heap.specs.Objects.{ObjectState, Objects, IsHeld, at, found, object_at, slot_of, with_slot, with_object_at, with_referent, referent_of}
 use Rattle.et_heap.specs.Refs.{refs_of_value, refs_of}
 use Rattle.et_heap.proofs.HeapLists.{held_set, held_within}
-use Rattle.et_frames.specs.Threads.{FrameState, ThreadState, no_thread, new_thread, at_pc, popped, pushed, thread_with, is_object_of, with_top_of}
-use Rattle.et_frames.specs.Roots.{frame_roots}
-use Rattle.et_machine.specs.State.{Kept, MachineState, kept_of}
-use Rattle.et_machine.specs.Words.{thread_at, top, with_top, with_guest, with_new_thread, HasFrame, ticked, begun, steps_top, steps_object, with_object}
-use Rattle.et_machine.specs.Sound.{IsSound}
-use Rattle.et_machine.specs.Moves.{IsOnWay, Led}
-use Rattle.et_machine.proofs.Places.{top_root}
-use Rattle.et_machine.proofs.UnderWay.{root_is_reached}
-use Rattle.et_machine.proofs.Calls.{on_begin_event, on_set_slot, on_set_referent, on_start_thread}
-use Rattle.et_machine.proofs.Steps.{Did, then_top, did_push, did_led, did_on_way, did_write, led_plain, slot_there}
+use Rattle.et_state.specs.Threads.{FrameState, ThreadState, no_thread, new_thread, at_pc, popped, pushed, thread_with, is_object_of, with_top_of}
+use Rattle.et_state.specs.ThreadRoots.{frame_roots}
+use Rattle.et_state.specs.State.{Kept, MachineState, kept_of}
+use Rattle.et_state.specs.Words.{thread_at, top, with_top, with_guest, with_new_thread, HasFrame, ticked, begun, steps_top, steps_object, with_object}
+use Rattle.et_state.specs.Sound.{IsSound}
+use Rattle.et_state.specs.Moves.{IsOnWay, Led}
+use Rattle.et_state.proofs.Places.{top_root}
+use Rattle.et_state.proofs.UnderWay.{root_is_reached}
+use Rattle.et_state.proofs.Calls.{on_begin_event, on_set_slot, on_set_referent, on_start_thread}
+use Rattle.et_state.proofs.Steps.{Did, then_top, did_push, did_led, did_on_way, did_write, led_plain, slot_there}
 use Rattle.et_program.specs.Entries.{Linked}
 use Rattle.et_state.specs.declared.records.Record.{Record}
 use Rattle.et_state.specs.declared.ends.EventEnd.TheVariants as endings

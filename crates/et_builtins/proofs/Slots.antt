@@ -7,10 +7,10 @@ use Rattle.et_base.specs.declared.value.Value.TheVariants.{Unset, Int, Long, Lon
 use Rattle.et_graph.proofs.Lists.{Contains-none, Contains-cons}
 use Rattle.et_heap.specs.Objects.{ObjectState, IsHeld, at, found, is_there, object_at, slot_of, referent_of, referent_value}
 use Rattle.et_heap.specs.Refs.{refs_of_value}
-use Rattle.et_frames.specs.Threads.{ThreadState, is_object_of as is_thread_of, thread_with}
-use Rattle.et_machine.specs.State.{MachineState, kept_of}
-use Rattle.et_machine.specs.Sound.{IsSound}
-use Rattle.et_machine.proofs.Steps.{slot_held}
+use Rattle.et_state.specs.Threads.{ThreadState, is_object_of as is_thread_of, thread_with}
+use Rattle.et_state.specs.State.{MachineState, kept_of}
+use Rattle.et_state.specs.Sound.{IsSound}
+use Rattle.et_state.proofs.Steps.{slot_held}
 use Rattle.et_program.specs.Entries.{Linked, class_at}
 use Rattle.et_program.specs.Members.{is_subclass}
 use Rattle.et_program.specs.declared.info.Element.{Element}

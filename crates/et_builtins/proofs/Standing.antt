@@ -5,12 +5,12 @@ use Rattle.et_base.specs.declared.value.Value.{Value}
 use Rattle.et_base.specs.declared.value.Value.TheVariants.{Unset, Ref}
 use Rattle.et_graph.proofs.Lists.{Contains-here}
 use Rattle.et_heap.specs.Objects.{IsHeld}
-use Rattle.et_frames.specs.Roots.{frame_roots}
-use Rattle.et_frames.specs.Threads.{FrameState}
-use Rattle.et_machine.specs.State.{MachineState, kept_of}
-use Rattle.et_machine.specs.Sound.{IsSound}
-use Rattle.et_machine.specs.Words.{HasFrame, top}
-use Rattle.et_machine.proofs.Places.{top_root}
+use Rattle.et_state.specs.ThreadRoots.{frame_roots}
+use Rattle.et_state.specs.Threads.{FrameState}
+use Rattle.et_state.specs.State.{MachineState, kept_of}
+use Rattle.et_state.specs.Sound.{IsSound}
+use Rattle.et_state.specs.Words.{HasFrame, top}
+use Rattle.et_state.proofs.Places.{top_root}
 use Rattle.et_event.specs.Frames.{first_reference}
 use Rattle.et_parts.specs.Tops.{IsIn}
 

@@ -2,17 +2,17 @@
 ghost use Rattle.std.specs.Prelude.{◌≡◌, ◌+◌, ◌<◌, ◌≤◌, ◌^◌, IfSome, Contains, length, slice_index_or};
 ghost use Rattle.et_base.specs.declared.value.Value.TheVariants.{Unset};
 ghost use Rattle.et_heap.specs.Objects.{IsHeld};
-ghost use Rattle.et_frames.specs.Roots.{frame_roots};
-ghost use Rattle.et_machine.specs.State.{kept_of};
-ghost use Rattle.et_machine.specs.Sound.{IsSound};
-ghost use Rattle.et_machine.specs.Words.{HasFrame, top};
+ghost use Rattle.et_state.specs.ThreadRoots.{frame_roots};
+ghost use Rattle.et_state.specs.State.{kept_of};
+ghost use Rattle.et_state.specs.Sound.{IsSound};
+ghost use Rattle.et_state.specs.Words.{HasFrame, top};
 ghost use Rattle.et_parts.specs.Tops.{IsIn};
 ghost use Rattle.et_event.specs.Frames.{first_reference};
 ghost use Rattle.et_builtins.specs.Arguments.{arguments_in};
 
 use et_base::{ObjectId, ThreadId, Value};
-use et_machine::Machine;
 use et_parts::operand_at;
+use et_state::Machine;
 
 /// A frame has no more operands than it has room for, and that is for fewer than 65,536.
 pub fn operands_are_few(machine: &Machine, thread: ThreadId)

@@ -2,12 +2,12 @@
 ghost use Rattle.std.specs.Prelude.{◌≡◌, ◌+◌, ◌<◌, ◌≤◌, ◌^◌, ◌∷◌, [], List, IfOk, OnOk, Contains, None, length, drop, take as first};
 ghost use Rattle.et_heap.specs.Objects.{IsHeld, object_at, slot_of, with_slot, referent_of, with_referent};
 ghost use Rattle.et_heap.specs.Refs.{refs_of, refs_of_value};
-ghost use Rattle.et_frames.specs.Roots.{frame_roots};
-ghost use Rattle.et_frames.specs.Threads.{lost_room, most_threads, thread_with};
-ghost use Rattle.et_machine.specs.State.{Kept, kept_of};
-ghost use Rattle.et_machine.specs.Words.{HasFrame, top, begun, steps_object, steps_top, with_object};
-ghost use Rattle.et_machine.specs.Sound.{IsSound};
-ghost use Rattle.et_machine.specs.Moves.{AreHeld};
+ghost use Rattle.et_state.specs.ThreadRoots.{frame_roots};
+ghost use Rattle.et_state.specs.Threads.{lost_room, most_threads, thread_with};
+ghost use Rattle.et_state.specs.State.{Kept, kept_of};
+ghost use Rattle.et_state.specs.Words.{HasFrame, top, begun, steps_object, steps_top, with_object};
+ghost use Rattle.et_state.specs.Sound.{IsSound};
+ghost use Rattle.et_state.specs.Moves.{AreHeld};
 ghost use Rattle.et_program.specs.Entries.{Linked};
 ghost use Rattle.et_state.specs.declared.records.Record.{Record};
 ghost use Rattle.et_event.specs.Answered.{EventAnswers};
@@ -18,9 +18,8 @@ ghost use Rattle.et_event.specs.Sites.{Site};
 ghost use Rattle.et_parts.specs.Tops.{IsIn};
 
 use et_base::{NoMemory, ObjectId, Steps, ThreadId, Value};
-use et_machine::Machine;
 use et_parts::take;
-use et_state::{EventEnd, Lines, Record};
+use et_state::{EventEnd, Lines, Machine, Record};
 use std::sync::ledger::Ledger;
 
 /// A method that a thread calls: so many entries are its arguments, and the caller goes on at the pc `next`.

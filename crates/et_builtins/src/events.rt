@@ -1,7 +1,7 @@
 //! The event of a built-in method without code.
 ghost use Rattle.std.specs.Prelude.{◌≡◌, ◌+◌, ◌<◌, ◌≤◌, ◌^◌, IfOk, length, drop};
-ghost use Rattle.et_machine.specs.State.{kept_of};
-ghost use Rattle.et_machine.specs.Words.{HasFrame, top};
+ghost use Rattle.et_state.specs.State.{kept_of};
+ghost use Rattle.et_state.specs.Words.{HasFrame, top};
 ghost use Rattle.et_program.specs.Entries.{method_at};
 ghost use Rattle.et_event.specs.Answered.{EventAnswers};
 ghost use Rattle.et_event.specs.BuiltIns.{built_in_event};
@@ -18,10 +18,9 @@ use crate::kinds::built_in_of;
 use crate::rows::row_event;
 use et_base::{MethodId, NoMemory, Steps, ThreadId};
 use et_event::GuestError;
-use et_machine::Machine;
 use et_parts::throw_error;
 use et_program::Program;
-use et_state::{EventEnd, Lines};
+use et_state::{EventEnd, Lines, Machine};
 use std::sync::ledger::Ledger;
 
 /// The event of a selected method without code, with so many entries as arguments, in front of the pc `next`: a built-in

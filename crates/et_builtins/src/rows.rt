@@ -1,11 +1,11 @@
 //! What each built-in method does (`java.lang.Throwable`, `Thread`, and the weak references of `java.lang.ref`).
 ghost use Rattle.std.specs.Prelude.{◌≡◌, ℕ, ◌+◌, ◌<◌, ◌≤◌, ◌^◌, ◌∷◌, [], true, Some, List, IfOk, IfSome, Contains, length, drop, codes};
 ghost use Rattle.et_heap.specs.Objects.{IsHeld, object_at};
-ghost use Rattle.et_frames.specs.Roots.{frame_roots};
-ghost use Rattle.et_frames.specs.Threads.{thread_with};
-ghost use Rattle.et_machine.specs.State.{kept_of};
-ghost use Rattle.et_machine.specs.Sound.{IsSound};
-ghost use Rattle.et_machine.specs.Words.{HasFrame, top};
+ghost use Rattle.et_state.specs.ThreadRoots.{frame_roots};
+ghost use Rattle.et_state.specs.Threads.{thread_with};
+ghost use Rattle.et_state.specs.State.{kept_of};
+ghost use Rattle.et_state.specs.Sound.{IsSound};
+ghost use Rattle.et_state.specs.Words.{HasFrame, top};
 ghost use Rattle.et_program.specs.Entries.{Linked};
 ghost use Rattle.et_state.specs.declared.records.Record.{Record};
 ghost use Rattle.et_event.specs.Answered.{EventAnswers};
@@ -24,10 +24,9 @@ use crate::arguments::argument_at;
 use crate::changes::{Called, give, give_nothing, start, write_one, write_referent, write_two};
 use et_base::{NoMemory, ObjectId, Steps, Value};
 use et_event::{BuiltIn, GuestError};
-use et_machine::Machine;
 use et_parts::{class_called, ill_typed, throw_error};
 use et_program::Program;
-use et_state::{EventEnd, Lines};
+use et_state::{EventEnd, Lines, Machine};
 use std::sync::ledger::Ledger;
 
 /// At most so many threads are ever started.

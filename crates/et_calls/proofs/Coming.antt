@@ -5,19 +5,19 @@ use Rattle.std.proofs.lemmas.Grind.{flat_map-append}
 use Rattle.et_base.specs.declared.value.Value.{Value}
 use Rattle.et_heap.specs.Objects.{IsHeld}
 use Rattle.et_heap.specs.Refs.{refs_of_value, refs_of}
-use Rattle.et_frames.specs.declared.stage.Stage.{Stage}
-use Rattle.et_frames.specs.declared.stage.Stage.TheVariants.{Plain, Before, Clinit}
-use Rattle.et_frames.specs.Roots.{frame_roots}
-use Rattle.et_frames.specs.Threads.{FrameState, ThreadState, no_thread, rest_of, top_of, without_top}
-use Rattle.et_machine.specs.declared.class_state.ClassState.TheVariants.{Done}
-use Rattle.et_machine.specs.State.{Kept, MachineState, kept_of}
-use Rattle.et_machine.specs.Words.{thread_at, with_thread, top, HasFrame, with_class_state, with_guest as guest_in, begun, steps_thread}
-use Rattle.et_machine.specs.Sound.{IsSound}
-use Rattle.et_machine.specs.Moves.{Moves, WasThere, IsOnWay, AreHeld, WereThere}
-use Rattle.et_machine.proofs.Places.{moves_none, moves_left, moves_right, moves_more, guest_thread, top_root}
-use Rattle.et_machine.proofs.UnderWay.{law_guest}
-use Rattle.et_machine.proofs.Calls.{on_begin_event, on_set_class_state, on_drop_frame}
-use Rattle.et_machine.proofs.Steps.{root_there, root_held}
+use Rattle.et_state.specs.declared.stage.Stage.{Stage}
+use Rattle.et_state.specs.declared.stage.Stage.TheVariants.{Plain, Before, Clinit}
+use Rattle.et_state.specs.ThreadRoots.{frame_roots}
+use Rattle.et_state.specs.Threads.{FrameState, ThreadState, no_thread, rest_of, top_of, without_top}
+use Rattle.et_state.specs.declared.class_state.ClassState.TheVariants.{Done}
+use Rattle.et_state.specs.State.{Kept, MachineState, kept_of}
+use Rattle.et_state.specs.Words.{thread_at, with_thread, top, HasFrame, with_class_state, with_guest as guest_in, begun, steps_thread}
+use Rattle.et_state.specs.Sound.{IsSound}
+use Rattle.et_state.specs.Moves.{Moves, WasThere, IsOnWay, AreHeld, WereThere}
+use Rattle.et_state.proofs.Places.{moves_none, moves_left, moves_right, moves_more, guest_thread, top_root}
+use Rattle.et_state.proofs.UnderWay.{law_guest}
+use Rattle.et_state.proofs.Calls.{on_begin_event, on_set_class_state, on_drop_frame}
+use Rattle.et_state.proofs.Steps.{root_there, root_held}
 use Rattle.et_program.specs.Entries.{Linked}
 use Rattle.et_event.specs.Frames.{behind, resumed, frames_after_return}
 use Rattle.et_event.specs.Calls.{class_done_by}

@@ -11,17 +11,17 @@ use Rattle.et_code.specs.Bodies.{Body}
 use Rattle.et_graph.proofs.Lists.{Contains-none}
 use Rattle.et_heap.specs.Objects.{IsHeld, object_at, with_monitor}
 use Rattle.et_heap.specs.Refs.{refs_of_value, refs_of}
-use Rattle.et_frames.specs.declared.stage.Stage.TheVariants.{Plain}
-use Rattle.et_frames.specs.Roots.{frame_roots}
-use Rattle.et_frames.specs.Threads.{FrameState, ThreadState, no_thread, entered_by, most_frames, popped, rest_of, with_top_of, locals_with}
-use Rattle.et_machine.specs.State.{Kept, MachineState, kept_of}
-use Rattle.et_machine.specs.Words.{thread_at, with_thread, top, with_top, HasFrame, begun, steps_top, steps_thread}
-use Rattle.et_machine.specs.Sound.{IsSound}
-use Rattle.et_machine.specs.Moves.{WasThere, AreHeld}
-use Rattle.et_machine.proofs.Places.{frame_pops, guest_top, top_root}
-use Rattle.et_machine.proofs.UnderWay.{law_guest}
-use Rattle.et_machine.proofs.Calls.{on_enter_frame}
-use Rattle.et_machine.proofs.Steps.{led_plain, root_there}
+use Rattle.et_state.specs.declared.stage.Stage.TheVariants.{Plain}
+use Rattle.et_state.specs.ThreadRoots.{frame_roots}
+use Rattle.et_state.specs.Threads.{FrameState, ThreadState, no_thread, entered_by, most_frames, popped, rest_of, with_top_of, locals_with}
+use Rattle.et_state.specs.State.{Kept, MachineState, kept_of}
+use Rattle.et_state.specs.Words.{thread_at, with_thread, top, with_top, HasFrame, begun, steps_top, steps_thread}
+use Rattle.et_state.specs.Sound.{IsSound}
+use Rattle.et_state.specs.Moves.{WasThere, AreHeld}
+use Rattle.et_state.proofs.Places.{frame_pops, guest_top, top_root}
+use Rattle.et_state.proofs.UnderWay.{law_guest}
+use Rattle.et_state.proofs.Calls.{on_enter_frame}
+use Rattle.et_state.proofs.Steps.{led_plain, root_there}
 use Rattle.et_class.specs.Names.{has as has_flag}
 use Rattle.et_class.specs.declared.flags.TheConstants.{SYNCHRONIZED}
 use Rattle.et_program.specs.Entries.{Linked, method_at, is_static}

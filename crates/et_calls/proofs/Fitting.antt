@@ -15,7 +15,7 @@ use Rattle.et_event.specs.declared.rows.Operand.TheVariants as operand
 use Rattle.et_event.specs.Calls.{are_of, are_arguments, arguments_of, begin_with, call_fits, entry_count}
 use Rattle.et_event.specs.Kinds.{kind_of, kind_of_letter, returned_width}
 use Rattle.et_event.specs.Moments.{Moment, frame_of}
-use Rattle.et_frames.specs.Threads.{FrameState}
+use Rattle.et_state.specs.Threads.{FrameState}
 use Rattle.et_builtins.specs.Arguments.{arguments_in}
 use Rattle.et_calls.specs.Arguments.{are_of_types, are_passed, fitting, is_passing}
 use Rattle.et_calls.specs.Types.{returned_in}

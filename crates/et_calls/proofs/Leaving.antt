@@ -2,22 +2,22 @@
 use Rattle.std.proofs.Common.{◌≡◌, ℕ, ◌+◌, ◌<◌, ◌≤◌, Bool, true, false, List, [], ◌∷◌, ◌++◌, length, Option, Some, None, refl, sym, ◌∙◌, ap, subst, arith}
 use Rattle.std.specs.Prelude.{unwrap_or}
 use Rattle.et_base.specs.declared.value.Value.{Value}
-use Rattle.et_frames.specs.declared.stage.Stage.{Stage}
-use Rattle.et_frames.specs.declared.stage.Stage.TheVariants.{Plain, Before, Clinit}
-use Rattle.et_frames.specs.Roots.{frame_roots}
-use Rattle.et_frames.specs.Threads.{FrameState, first_frame, rest_of}
-use Rattle.et_machine.specs.State.{Kept, MachineState, kept_of}
-use Rattle.et_machine.specs.Words.{thread_at, top, HasFrame, begun, steps_thread}
-use Rattle.et_machine.specs.Sound.{IsSound}
-use Rattle.et_machine.specs.Moves.{IsOnWay}
-use Rattle.et_machine.proofs.Calls.{on_begin_event}
+use Rattle.et_state.specs.declared.stage.Stage.{Stage}
+use Rattle.et_state.specs.declared.stage.Stage.TheVariants.{Plain, Before, Clinit}
+use Rattle.et_state.specs.ThreadRoots.{frame_roots}
+use Rattle.et_state.specs.Threads.{FrameState, first_frame, rest_of}
+use Rattle.et_state.specs.State.{Kept, MachineState, kept_of}
+use Rattle.et_state.specs.Words.{thread_at, top, HasFrame, begun, steps_thread}
+use Rattle.et_state.specs.Sound.{IsSound}
+use Rattle.et_state.specs.Moves.{IsOnWay}
+use Rattle.et_state.proofs.Calls.{on_begin_event}
 use Rattle.et_heap.specs.Objects.{object_at, with_monitor}
 use Rattle.et_monitors.specs.Locks.{HasMonitor, HasSome, leaving_some, monitor_at, owns_some_at}
 use Rattle.et_monitors.proofs.Keeping.{monitor_on_way}
 use Rattle.et_monitors.proofs.There.{there_later}
 use Rattle.et_parts.proofs.Answering.{ill_typed_answers, ill_typed_end}
 use Rattle.std.proofs.lemmas.List.{length-set}
-use Rattle.et_machine.proofs.Steps.{led_plain}
+use Rattle.et_state.proofs.Steps.{led_plain}
 use Rattle.et_program.specs.Entries.{Linked}
 use Rattle.et_state.specs.declared.records.Record.{Record}
 use Rattle.et_state.specs.declared.records.Record.TheVariants.{Exit}

@@ -2,13 +2,13 @@
 use Rattle.std.proofs.Common.{◌≡◌, ℕ, zero, suc, ◌+◌, ◌<◌, ◌≤◌, List, [], ◌∷◌, ◌++◌, length, get_or, set, refl, sym, ◌∙◌, ap, subst, arith, get_or-set_same, set-set, append-nil}
 use Rattle.std.proofs.lemmas.List.{length-set}
 use Rattle.et_base.specs.declared.value.Value.{Value}
-use Rattle.et_frames.specs.declared.stage.Stage.{Stage}
-use Rattle.et_frames.specs.declared.stage.Stage.TheVariants.{Plain}
-use Rattle.et_frames.specs.Roots.{frame_roots}
-use Rattle.et_frames.specs.Threads.{FrameState, ThreadState, no_thread, at_pc, first_frame, rest_of, without_top}
-use Rattle.et_machine.specs.State.{MachineState}
-use Rattle.et_machine.specs.Words.{thread_at, top, HasFrame, steps_top, steps_thread}
-use Rattle.et_machine.proofs.Steps.{then_top}
+use Rattle.et_state.specs.declared.stage.Stage.{Stage}
+use Rattle.et_state.specs.declared.stage.Stage.TheVariants.{Plain}
+use Rattle.et_state.specs.ThreadRoots.{frame_roots}
+use Rattle.et_state.specs.Threads.{FrameState, ThreadState, no_thread, at_pc, first_frame, rest_of, without_top}
+use Rattle.et_state.specs.State.{MachineState}
+use Rattle.et_state.specs.Words.{thread_at, top, HasFrame, steps_top, steps_thread}
+use Rattle.et_state.proofs.Steps.{then_top}
 use Rattle.et_program.specs.Entries.{Linked}
 use Rattle.et_event.specs.Frames.{behind, resumed, frames_after_return}
 use Rattle.et_calls.specs.Returned.{FitsBelow}

@@ -8,11 +8,11 @@ use Rattle.et_base.specs.declared.value.Value.TheVariants.{Unset, Int, Long, Lon
 use Rattle.et_pool.specs.Descriptors.{is_void, width_of}
 use Rattle.et_graph.proofs.Lists.{Contains-none}
 use Rattle.et_heap.specs.Refs.{refs_of}
-use Rattle.et_frames.specs.Threads.{FrameState}
-use Rattle.et_frames.specs.Roots.{frame_roots}
+use Rattle.et_state.specs.Threads.{FrameState}
+use Rattle.et_state.specs.ThreadRoots.{frame_roots}
 use Rattle.et_event.specs.declared.rows.Operand.{Operand}
 use Rattle.et_event.specs.declared.rows.Operand.TheVariants as operand
-use Rattle.et_machine.specs.State.{Kept}
+use Rattle.et_state.specs.State.{Kept}
 use Rattle.et_state.specs.Outcome.{Outcome}
 use Rattle.et_event.specs.declared.errors.GuestError.TheVariants.{IllegalMonitorStateException}
 use Rattle.et_event.specs.Calls.{return, returned_by, with_returned, frame_returned}

@@ -4,7 +4,7 @@ use Rattle.std.specs.Option.{option_map_or}
 use Rattle.et_base.specs.declared.value.Value.{Value}
 use Rattle.et_base.specs.declared.value.Value.TheVariants.{Int, Long, LongHigh, Null, Ref}
 use Rattle.et_pool.specs.Descriptors.{MethodType, types_of}
-use Rattle.et_frames.specs.Threads.{FrameState}
+use Rattle.et_state.specs.Threads.{FrameState}
 use Rattle.et_event.specs.declared.rows.Operand.{Operand}
 use Rattle.et_event.specs.declared.rows.Operand.TheVariants as operand
 use Rattle.et_event.specs.Moments.{Moment}

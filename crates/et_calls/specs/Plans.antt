@@ -1,7 +1,7 @@
 -- What an invoke comes to, as a plan.
 use Rattle.std.specs.Prelude.{◌≡◌, ℕ, ◌+◌, ◌<◌, ◌≤◌, true, length, drop, Result, Ok, Err}
-use Rattle.et_machine.specs.State.{Kept}
-use Rattle.et_machine.specs.declared.class_state.ClassState.TheVariants.{Untouched}
+use Rattle.et_state.specs.State.{Kept}
+use Rattle.et_state.specs.declared.class_state.ClassState.TheVariants.{Untouched}
 use Rattle.et_program.specs.Entries.{method_at, is_static}
 use Rattle.et_state.specs.Outcome.{Outcome}
 use Rattle.et_event.specs.declared.rows.CallKind.TheVariants.{Static}

@@ -2,12 +2,12 @@
 use Rattle.std.specs.Prelude.{ℕ, ◌+◌, ◌≤◌, if◌then◌else◌, List, [], ◌∷◌, length, Option, Some, None, option_map}
 use Rattle.et_base.specs.declared.value.Value.{Value}
 use Rattle.et_base.specs.declared.value.Value.TheVariants.{Int, Long, LongHigh, Null, Ref}
-use Rattle.et_frames.specs.declared.stage.Stage.{Stage}
-use Rattle.et_frames.specs.declared.stage.Stage.TheVariants.{Plain, Before, Clinit}
-use Rattle.et_frames.specs.Threads.{FrameState}
+use Rattle.et_state.specs.declared.stage.Stage.{Stage}
+use Rattle.et_state.specs.declared.stage.Stage.TheVariants.{Plain, Before, Clinit}
+use Rattle.et_state.specs.Threads.{FrameState}
 use Rattle.et_event.specs.declared.rows.Operand.{Operand}
 use Rattle.et_event.specs.declared.rows.Operand.TheVariants as operand
-use Rattle.et_machine.specs.State.{Kept}
+use Rattle.et_state.specs.State.{Kept}
 use Rattle.et_state.specs.Outcome.{Outcome}
 use Rattle.et_event.specs.declared.errors.GuestError.TheVariants.{IllegalMonitorStateException}
 use Rattle.et_event.specs.Calls.{frame_returned}

@@ -1,8 +1,8 @@
 -- What a call that does the rows of calls answers.
 use Rattle.std.specs.Prelude.{◌≡◌, Bool, true, false, List, Option, Some, None}
-use Rattle.et_machine.specs.declared.class_state.ClassState.{ClassState}
-use Rattle.et_machine.specs.declared.class_state.ClassState.TheVariants.{Untouched}
-use Rattle.et_machine.specs.State.{Kept, MachineState}
+use Rattle.et_state.specs.declared.class_state.ClassState.{ClassState}
+use Rattle.et_state.specs.declared.class_state.ClassState.TheVariants.{Untouched}
+use Rattle.et_state.specs.State.{Kept, MachineState}
 use Rattle.et_program.specs.Entries.{method_at}
 use Rattle.et_state.specs.declared.records.Record.{Record}
 use Rattle.et_state.specs.declared.ends.EventEnd.{EventEnd}

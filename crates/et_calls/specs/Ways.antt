@@ -1,7 +1,7 @@
 -- What an event has done so far, with the machine.
 use Rattle.std.specs.Prelude.{◌≡◌, length}
-use Rattle.et_machine.specs.State.{Kept, MachineState, kept_of}
-use Rattle.et_machine.specs.Moves.{IsOnWay}
+use Rattle.et_state.specs.State.{Kept, MachineState, kept_of}
+use Rattle.et_state.specs.Moves.{IsOnWay}
 use Rattle.et_event.specs.Moments.{Doing}
 
 -- from the sound state s an event that made no object has come to what the machine keeps, which is this

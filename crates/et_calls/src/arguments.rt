@@ -3,8 +3,8 @@
 ghost use Rattle.std.specs.Prelude.{◌≡◌, ◌+◌, ◌<◌, ◌≤◌, ◌^◌, nat_le, if◌then◌else◌, Some, None, IfSome, length, drop, slice_index_or};
 ghost use Rattle.et_base.specs.declared.value.Value.TheVariants.{Unset};
 ghost use Rattle.et_pool.specs.Descriptors.{method_type};
-ghost use Rattle.et_machine.specs.State.{kept_of};
-ghost use Rattle.et_machine.specs.Words.{HasFrame, top};
+ghost use Rattle.et_state.specs.State.{kept_of};
+ghost use Rattle.et_state.specs.Words.{HasFrame, top};
 ghost use Rattle.et_program.specs.Entries.{Linked};
 ghost use Rattle.et_event.specs.Kinds.{returned_width as width_returned};
 ghost use Rattle.et_calls.specs.Types.{returned_in};
@@ -15,8 +15,8 @@ use crate::types::{behind_type, kind_of, returned_type, returned_width};
 use et_base::{ThreadId, Value};
 use et_builtins::{argument_at, operands_are_few};
 use et_event::Operand;
-use et_machine::Machine;
 use et_pool::descriptor::method_shape;
+use et_state::Machine;
 
 /// How many entries the value of a kind takes that begins with this entry and the next; `None` where it is of another kind.
 fn entries_in(kind: Option<Operand>, first: Value, next: Value) -> Option<u32>

@@ -1,17 +1,17 @@
 //! The code of frames, and where they go on.
 ghost use Rattle.std.specs.Prelude.{◌≡◌, ◌+◌, ◌<◌, ◌≤◌, ◌^◌, ◌++◌, [], length};
 ghost use Rattle.et_code.specs.Decoding.{instruction_at};
-ghost use Rattle.et_machine.specs.Words.{HasFrame, top, steps_top};
+ghost use Rattle.et_state.specs.Words.{HasFrame, top, steps_top};
 ghost use Rattle.et_program.specs.Entries.{method_at};
 ghost use Rattle.et_event.specs.Frames.{behind as behind_of, behind_or};
 ghost use Rattle.et_event.specs.Sites.{body_of};
 
 use et_base::{MethodId, ThreadId, Value};
 use et_code::decode;
-use et_machine::Machine;
 use et_parts::give;
 use et_place::code_of;
 use et_program::Program;
+use et_state::Machine;
 
 /// The code of the method of this number; it is empty where there is no such method, and where that has none.
 fn code_at(program: &Program, method: MethodId) -> &[u8]

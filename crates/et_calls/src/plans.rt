@@ -1,10 +1,10 @@
 //! What an invoke comes to (JVMS 6.5, the invokes; 5.4.3), found out without a change.
 ghost use Rattle.std.specs.Prelude.{◌≡◌, ℕ, ◌+◌, ◌<◌, ◌≤◌, ◌^◌, true, IfOk, IfSome, codes, length};
 ghost use Rattle.et_heap.specs.Objects.{IsHeld};
-ghost use Rattle.et_machine.specs.Sound.{IsSound};
-ghost use Rattle.et_machine.specs.Words.{HasFrame, top};
+ghost use Rattle.et_state.specs.Sound.{IsSound};
+ghost use Rattle.et_state.specs.Words.{HasFrame, top};
 ghost use Rattle.et_event.specs.declared.rows.CallKind.TheVariants as kinds;
-ghost use Rattle.et_machine.specs.State.{Kept, kept_of};
+ghost use Rattle.et_state.specs.State.{Kept, kept_of};
 ghost use Rattle.et_place.specs.Places.{site_at};
 ghost use Rattle.et_program.specs.Entries.{is_static, method_at};
 ghost use Rattle.et_program.specs.Resolution.{resolve_class, resolve_method};
@@ -26,9 +26,9 @@ use et_base::{ClassId, MethodId, Steps, ThreadId};
 use et_builtins::receiver;
 use et_class::flags::{STATIC, has};
 use et_event::{CallKind, GuestError};
-use et_machine::{ClassState, Machine};
 use et_place::{MemberAt, Place, member_at, names_interface};
 use et_program::{Element, LinkError, Program};
+use et_state::{ClassState, Machine};
 use std::sync::ledger::Ledger;
 
 /// What an invoke comes to.

@@ -1,6 +1,6 @@
 //! What a return hands to the caller, and the checks of it (JVMS 6.5, the returns).
 ghost use Rattle.std.specs.Prelude.{◌≡◌};
-ghost use Rattle.et_machine.specs.Words.{HasFrame, top};
+ghost use Rattle.et_state.specs.Words.{HasFrame, top};
 ghost use Rattle.et_event.specs.Kinds.{is_kind as kind_is, may_return as may};
 ghost use Rattle.et_calls.specs.Returned.{AreValuesIn, IsValueIn, value_in as value_among, value_of, values_of, returned_values as values};
 ghost use Rattle.et_calls.specs.Types.{returned_in};
@@ -8,8 +8,8 @@ ghost use Rattle.et_calls.specs.Types.{returned_in};
 use crate::types::{is_void, kind_of, returned_type};
 use et_base::{ThreadId, Value};
 use et_event::Operand;
-use et_machine::Machine;
 use et_parts::operand_at;
+use et_state::Machine;
 
 /// Whether a type has operands of this kind.
 fn is_kind(kind: Operand, other: Option<Operand>) -> bool

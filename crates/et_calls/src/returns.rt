@@ -1,11 +1,11 @@
 //! Returns from methods (JVMS 2.11.8, 6.5 ireturn, lreturn, areturn, return).
 ghost use Rattle.std.specs.Prelude.{◌≡◌, ◌+◌, ◌<◌, ◌≤◌, ◌^◌, ◌++◌, [], IfOk, OnErr, OnOk, length};
-ghost use Rattle.et_frames.specs.declared.stage.Stage.TheVariants.{Plain};
-ghost use Rattle.et_frames.specs.Roots.{frame_roots};
-ghost use Rattle.et_frames.specs.Threads.{lost_room, rest_of};
-ghost use Rattle.et_machine.specs.State.{Kept, kept_of};
-ghost use Rattle.et_machine.specs.Sound.{IsSound};
-ghost use Rattle.et_machine.specs.Words.{HasFrame, thread_at, top, steps_thread, steps_top};
+ghost use Rattle.et_state.specs.declared.stage.Stage.TheVariants.{Plain};
+ghost use Rattle.et_state.specs.ThreadRoots.{frame_roots};
+ghost use Rattle.et_state.specs.Threads.{lost_room, rest_of};
+ghost use Rattle.et_state.specs.State.{Kept, kept_of};
+ghost use Rattle.et_state.specs.Sound.{IsSound};
+ghost use Rattle.et_state.specs.Words.{HasFrame, thread_at, top, steps_thread, steps_top};
 ghost use Rattle.et_event.specs.Frames.{behind as behind_of, frames_after_return, resumed};
 ghost use Rattle.et_event.specs.Answered.{EventAnswers};
 ghost use Rattle.et_event.specs.Calls.{class_done_by, frame_returned, return as return_in_table};
@@ -25,13 +25,11 @@ use crate::returned::returned_values;
 use et_base::{MethodId, NoMemory, Steps, ThreadId, Value};
 use et_builtins::operands_are_few;
 use et_event::{GuestError, Operand};
-use et_frames::Stage;
-use et_machine::{ClassState, Machine};
 use et_monitors::{Lock, leave_some, lock_in, owns_some};
 use et_parts::{ill_typed, throw_error};
 use et_place::method_of;
 use et_program::{MethodInfo, Program};
-use et_state::{EventEnd, Lines, Record};
+use et_state::{ClassState, EventEnd, Lines, Machine, Record, Stage};
 use std::sync::ledger::Ledger;
 
 /// The frame gets what a call returns, if anything, and goes on behind it.

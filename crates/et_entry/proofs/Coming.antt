@@ -7,12 +7,12 @@ use Rattle.et_class.specs.Names.{has}
 use Rattle.et_class.specs.declared.flags.TheConstants.{NATIVE}
 use Rattle.et_code.specs.Bodies.{Body}
 use Rattle.et_graph.proofs.Lists.{Contains-here}
-use Rattle.et_frames.specs.Threads.{FrameState, most_frames}
+use Rattle.et_state.specs.Threads.{FrameState, most_frames}
 use Rattle.et_heap.specs.Objects.{IsHeld}
-use Rattle.et_machine.specs.State.{GuestState, Kept, MachineState, kept_of}
-use Rattle.et_machine.specs.Sound.{IsSound}
-use Rattle.et_machine.proofs.Places.{ended_root}
-use Rattle.et_machine.specs.Words.{thread_at}
+use Rattle.et_state.specs.State.{GuestState, Kept, MachineState, kept_of}
+use Rattle.et_state.specs.Sound.{IsSound}
+use Rattle.et_state.proofs.Places.{ended_root}
+use Rattle.et_state.specs.Words.{thread_at}
 use Rattle.et_program.specs.Entries.{Linked, method_at, is_static}
 use Rattle.et_program.specs.declared.info.MethodInfo.{MethodInfo}
 use Rattle.et_state.specs.declared.records.Record.{Record}

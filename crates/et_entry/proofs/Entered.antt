@@ -9,15 +9,15 @@ use Rattle.et_code.specs.Bodies.{Body}
 use Rattle.et_graph.proofs.Lists.{Contains-none, Contains-cons}
 use Rattle.et_heap.specs.Objects.{IsHeld, object_at, with_monitor}
 use Rattle.et_heap.specs.Refs.{refs_of}
-use Rattle.et_frames.specs.Roots.{frame_roots}
-use Rattle.et_frames.specs.Threads.{FrameState, ThreadState, no_thread, entered_by, ended_roots}
-use Rattle.et_machine.specs.State.{Kept, MachineState, kept_of}
-use Rattle.et_machine.specs.Words.{thread_at}
-use Rattle.et_machine.specs.Interned.{objects_of}
-use Rattle.et_machine.specs.Moves.{IsOnWay, Led}
-use Rattle.et_machine.proofs.Places.{ended_root, string_root}
-use Rattle.et_machine.proofs.Calls.{on_enter_frame, on_set_entered}
-use Rattle.et_machine.proofs.Steps.{root_there}
+use Rattle.et_state.specs.ThreadRoots.{frame_roots}
+use Rattle.et_state.specs.Threads.{FrameState, ThreadState, no_thread, entered_by, ended_roots}
+use Rattle.et_state.specs.State.{Kept, MachineState, kept_of}
+use Rattle.et_state.specs.Words.{thread_at}
+use Rattle.et_state.specs.Interned.{objects_of}
+use Rattle.et_state.specs.Moves.{IsOnWay, Led}
+use Rattle.et_state.proofs.Places.{ended_root, string_root}
+use Rattle.et_state.proofs.Calls.{on_enter_frame, on_set_entered}
+use Rattle.et_state.proofs.Steps.{root_there}
 use Rattle.et_program.specs.Entries.{Linked, method_at, is_static}
 use Rattle.et_state.specs.declared.records.Record.{Record}
 use Rattle.et_state.specs.declared.records.Record.TheVariants.{Enter}

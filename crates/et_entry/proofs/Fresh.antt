@@ -1,11 +1,11 @@
 -- Threads that are to be entered.
 use Rattle.std.proofs.Common.{◌≡◌, ℕ, ◌<◌, Bool, true, false, List, [], ◌∷◌, length, get_or, Option, Some, None, refl, sym, ◌∙◌, ap, subst}
 use Rattle.std.specs.Prelude.{if◌then◌else◌, is_some}
-use Rattle.et_frames.specs.declared.stage.Turn.{Turn}
-use Rattle.et_frames.specs.declared.stage.Turn.TheVariants.{Unwind, EndThread, Entry, Initialize, Instruction}
-use Rattle.et_frames.specs.Threads.{FrameState, ThreadState, no_thread, has_frame, first_frame, is_before, turn_of}
-use Rattle.et_machine.specs.State.{GuestState, MachineState}
-use Rattle.et_machine.specs.Words.{thread_at, begun, IsUnended}
+use Rattle.et_state.specs.declared.stage.Turn.{Turn}
+use Rattle.et_state.specs.declared.stage.Turn.TheVariants.{Unwind, EndThread, Entry, Initialize, Instruction}
+use Rattle.et_state.specs.Threads.{FrameState, ThreadState, no_thread, has_frame, first_frame, is_before, turn_of}
+use Rattle.et_state.specs.State.{GuestState, MachineState}
+use Rattle.et_state.specs.Words.{thread_at, begun, IsUnended}
 use Rattle.et_entry.specs.Fresh.{IsFresh}
 
 -- BY THE TURN

@@ -7,11 +7,11 @@ use Rattle.et_class.specs.Names.{has}
 use Rattle.et_class.specs.declared.flags.TheConstants.{STATIC, SYNCHRONIZED}
 use Rattle.et_heap.specs.declared.monitor.Monitor.{Monitor}
 use Rattle.et_heap.specs.Objects.{free_monitor}
-use Rattle.et_machine.specs.declared.class_state.ClassState.{ClassState}
-use Rattle.et_machine.specs.declared.class_state.ClassState.TheVariants.{Untouched, Begun, Done, Failed}
-use Rattle.et_machine.specs.State.{MachineState}
-use Rattle.et_machine.specs.Interned.{object_of}
-use Rattle.et_machine.specs.Words.{with_string}
+use Rattle.et_state.specs.declared.class_state.ClassState.{ClassState}
+use Rattle.et_state.specs.declared.class_state.ClassState.TheVariants.{Untouched, Begun, Done, Failed}
+use Rattle.et_state.specs.State.{MachineState}
+use Rattle.et_state.specs.Interned.{object_of}
+use Rattle.et_state.specs.Words.{with_string}
 use Rattle.et_program.specs.Entries.{Linked, class_at, field_at, method_at, is_static}
 use Rattle.et_program.specs.declared.info.FieldInfo.{FieldInfo}
 use Rattle.et_program.specs.declared.info.MethodInfo.{MethodInfo}

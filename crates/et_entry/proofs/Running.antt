@@ -3,12 +3,12 @@ use Rattle.std.proofs.Common.{◌≡◌, ℕ, ◌<◌, Bool, true, false, List, 
 use Rattle.std.specs.Prelude.{◌==◌, codes, unwrap_or, Result, Ok, Err, if◌then◌else◌}
 use Rattle.et_base.specs.declared.value.Value.TheVariants.{Ref}
 use Rattle.et_heap.specs.Objects.{ObjectState, IsHeld, at, found, is_there, object_at}
-use Rattle.et_frames.specs.declared.stage.Turn.{Turn}
-use Rattle.et_frames.specs.declared.stage.Turn.TheVariants.{Entry}
-use Rattle.et_frames.specs.Threads.{FrameState, turn_of, first_frame}
-use Rattle.et_machine.specs.State.{Kept, MachineState, kept_of}
-use Rattle.et_machine.specs.Words.{thread_at}
-use Rattle.et_machine.proofs.Places.{ended_root}
+use Rattle.et_state.specs.declared.stage.Turn.{Turn}
+use Rattle.et_state.specs.declared.stage.Turn.TheVariants.{Entry}
+use Rattle.et_state.specs.Threads.{FrameState, turn_of, first_frame}
+use Rattle.et_state.specs.State.{Kept, MachineState, kept_of}
+use Rattle.et_state.specs.Words.{thread_at}
+use Rattle.et_state.proofs.Places.{ended_root}
 use Rattle.et_program.specs.Entries.{Linked}
 use Rattle.et_program.specs.Resolution.{resolve_method, select}
 use Rattle.et_program.specs.declared.errors.LinkError.{LinkError}

@@ -6,16 +6,16 @@ use Rattle.std.proofs.lemmas.List.Elements.{Contains-append_left, Contains-appen
 use Rattle.et_graph.specs.Graph.{IsReached}
 use Rattle.et_graph.proofs.Lists.{Contains-here}
 use Rattle.et_heap.specs.Objects.{ObjectState, new_object}
-use Rattle.et_frames.specs.Threads.{FrameState, ThreadState, no_thread, with_pending, as_entered, has_frame}
-use Rattle.et_machine.specs.State.{GuestState, Kept, MachineState, kept_of}
-use Rattle.et_machine.specs.Words.{thread_at, with_thread, ticked, begun, steps_thread}
-use Rattle.et_machine.specs.Roots.{graph_of, roots_of}
-use Rattle.et_machine.specs.Sound.{IsSound}
-use Rattle.et_machine.specs.Moves.{IsOnWay, Led}
-use Rattle.et_machine.proofs.Places.{ended_root, pending_root, refs_of-unset}
-use Rattle.et_machine.proofs.UnderWay.{root_is_reached}
-use Rattle.et_machine.proofs.Calls.{on_set_entered, on_throw}
-use Rattle.et_machine.proofs.Steps.{led_made, made_on_way, newest_held, root_there}
+use Rattle.et_state.specs.Threads.{FrameState, ThreadState, no_thread, with_pending, as_entered, has_frame}
+use Rattle.et_state.specs.State.{GuestState, Kept, MachineState, kept_of}
+use Rattle.et_state.specs.Words.{thread_at, with_thread, ticked, begun, steps_thread}
+use Rattle.et_state.specs.Roots.{graph_of, roots_of}
+use Rattle.et_state.specs.Sound.{IsSound}
+use Rattle.et_state.specs.Moves.{IsOnWay, Led}
+use Rattle.et_state.proofs.Places.{ended_root, pending_root, refs_of-unset}
+use Rattle.et_state.proofs.UnderWay.{root_is_reached}
+use Rattle.et_state.proofs.Calls.{on_set_entered, on_throw}
+use Rattle.et_state.proofs.Steps.{led_made, made_on_way, newest_held, root_there}
 use Rattle.et_state.specs.declared.records.Record.{Record}
 use Rattle.et_state.specs.declared.ends.EventEnd.TheVariants as ends
 use Rattle.et_state.specs.Outcome.{Outcome, Goes, ObjectLimit}

@@ -1,8 +1,8 @@
 -- The machine as a thread is entered.
 use Rattle.std.specs.Prelude.{ℕ, [], option_to_list}
-use Rattle.et_frames.specs.Threads.{FrameState, as_entered, entered_by}
-use Rattle.et_machine.specs.State.{MachineState}
-use Rattle.et_machine.specs.Words.{thread_at, steps_thread}
+use Rattle.et_state.specs.Threads.{FrameState, as_entered, entered_by}
+use Rattle.et_state.specs.State.{MachineState}
+use Rattle.et_state.specs.Words.{thread_at, steps_thread}
 
 -- the thread counts as entered, and its entry slot is empty
 abbrev pub given_up : MachineState → ℕ → MachineState

@@ -1,8 +1,8 @@
 -- Threads that are to be entered.
 use Rattle.std.specs.Prelude.{◌≡◌, ℕ, [], Contains, Option, Some}
-use Rattle.et_frames.specs.Threads.{ended_roots}
-use Rattle.et_machine.specs.State.{GuestState}
-use Rattle.et_machine.specs.Words.{thread_at, IsUnended}
+use Rattle.et_state.specs.Threads.{ended_roots}
+use Rattle.et_state.specs.State.{GuestState}
+use Rattle.et_state.specs.Words.{thread_at, IsUnended}
 
 -- the thread has not ended, and it has no frame
 pub record IsFresh (g : GuestState) (t : ℕ) : Type 0 where

@@ -1,7 +1,7 @@
 -- What a thread other than the first comes to as it is entered.
 use Rattle.std.specs.Prelude.{◌≡◌, ◌<◌, [], ◌∷◌, length, Some}
 use Rattle.et_base.specs.declared.value.Value.TheVariants.{Ref}
-use Rattle.et_machine.specs.State.{Kept}
+use Rattle.et_state.specs.State.{Kept}
 use Rattle.et_state.specs.Outcome.{Outcome}
 use Rattle.et_event.specs.Calls.{enters_first}
 use Rattle.et_event.specs.Moments.{Moment, thread_of, begins, ill_typed, throws}

@@ -1,6 +1,6 @@
 //! The event in which a thread without a frame enters a method (JVMS 2.6, 2.11.8, 2.11.10).
 ghost use Rattle.std.specs.Prelude.{◌≡◌, ◌+◌, ◌<◌, ◌≤◌, ◌^◌, IfOk, length};
-ghost use Rattle.et_machine.specs.State.{kept_of};
+ghost use Rattle.et_state.specs.State.{kept_of};
 ghost use Rattle.et_program.specs.Entries.{method_at};
 ghost use Rattle.et_event.specs.Answered.{EventAnswers};
 ghost use Rattle.et_event.specs.Calls.{enters_first, entering, entry_arguments};
@@ -16,10 +16,9 @@ use crate::throws::{codeless_error, throw_first};
 use et_base::{MethodId, NoMemory, ObjectId, Steps, ThreadId};
 use et_code::Code;
 use et_initialize::wait_event;
-use et_machine::Machine;
 use et_monitors::{Lock, lock_for, may_enter_some};
 use et_program::Program;
-use et_state::{EventEnd, Lines};
+use et_state::{EventEnd, Lines, Machine};
 use std::alloc::Global;
 use std::sync::ledger::Ledger;
 

@@ -1,7 +1,7 @@
 //! The first frame of a thread (JVMS 2.6).
 ghost use Rattle.std.specs.Prelude.{◌≡◌, ◌+◌, ◌<◌, ◌≤◌, ◌∷◌, ◌++◌, [], nat_le, if◌then◌else◌, None, Some, IfOk, OnOk, length, unwrap_or};
-ghost use Rattle.et_frames.specs.NewFrames.{frame_of};
-ghost use Rattle.et_frames.specs.Threads.{lost_room};
+ghost use Rattle.et_state.specs.NewFrames.{frame_of};
+ghost use Rattle.et_state.specs.Threads.{lost_room};
 ghost use Rattle.et_state.specs.declared.records.Record.TheVariants.{Enter};
 ghost use Rattle.et_event.specs.Calls.{entry_arguments};
 ghost use Rattle.et_event.specs.Frames.{lock_slot as slot_of_lock, method_frame, receiver_of as receiver_in};
@@ -12,11 +12,9 @@ ghost use Rattle.et_entry.specs.Fresh.{IsFresh};
 use et_base::{MethodId, NoMemory, ObjectId, Steps, ThreadId, Value};
 use et_class::flags::{STATIC, SYNCHRONIZED, has};
 use et_code::Code;
-use et_frames::{NewFrame, Stage};
-use et_machine::Machine;
 use et_monitors::{Lock, enter_some};
 use et_program::Program;
-use et_state::{Lines, Record};
+use et_state::{Lines, Machine, NewFrame, Record, Stage};
 use smallvec::SmallVec;
 use std::alloc::Global;
 use std::sync::ledger::Ledger;

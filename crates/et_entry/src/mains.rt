@@ -1,7 +1,7 @@
 //! The first method of thread 0: `main`, whose class is initialized first (JVMS 5.2, 5.5).
 ghost use Rattle.std.specs.Prelude.{◌≡◌, ◌+◌, ◌<◌, ◌≤◌, ◌^◌, ◌++◌, true, None, IfOk, IsSome, OnOk, length};
-ghost use Rattle.et_machine.specs.State.{kept_of};
-ghost use Rattle.et_machine.specs.Words.{thread_at};
+ghost use Rattle.et_state.specs.State.{kept_of};
+ghost use Rattle.et_state.specs.Words.{thread_at};
 ghost use Rattle.et_program.specs.Entries.{is_static, method_at};
 ghost use Rattle.et_event.specs.Answered.{EventAnswers};
 ghost use Rattle.et_event.specs.Calls.{enters_first, enters_main, entering, entry_arguments};
@@ -23,10 +23,9 @@ use et_base::{ClassId, MethodId, NoMemory, Steps, ThreadId};
 use et_code::Code;
 use et_event::GuestError;
 use et_initialize::{Need, begin_class_event, need_of, quiet_fits, set_quietly, wait_event};
-use et_machine::Machine;
 use et_monitors::{Lock, lock_for, may_enter_some};
 use et_program::Program;
-use et_state::{EventEnd, Lines};
+use et_state::{EventEnd, Lines, Machine};
 use std::alloc::Global;
 use std::sync::ledger::Ledger;
 

@@ -1,7 +1,7 @@
 //! The first method of each thread but the first: `run` of its Thread object (JVMS 5.4.3.3, 5.4.6).
 ghost use Rattle.std.specs.Prelude.{◌≡◌, ◌+◌, ◌<◌, ◌≤◌, ◌^◌, codes, IfOk, length};
-ghost use Rattle.et_machine.specs.State.{kept_of};
-ghost use Rattle.et_machine.specs.Words.{thread_at};
+ghost use Rattle.et_state.specs.State.{kept_of};
+ghost use Rattle.et_state.specs.Words.{thread_at};
 ghost use Rattle.et_event.specs.Answered.{EventAnswers};
 ghost use Rattle.et_event.specs.Calls.{enters_run};
 ghost use Rattle.et_event.specs.Errors.{class_called};
@@ -14,9 +14,8 @@ use crate::entering::method_event;
 use crate::throws::throw_first;
 use et_base::{ClassId, MethodId, NoMemory, ObjectId, Steps, ThreadId};
 use et_event::GuestError;
-use et_machine::Machine;
 use et_program::Program;
-use et_state::{EventEnd, Lines};
+use et_state::{EventEnd, Lines, Machine};
 use std::alloc::Global;
 use std::sync::ledger::Ledger;
 

@@ -2,8 +2,8 @@
 ghost use Rattle.std.specs.Prelude.{◌≡◌, ◌<◌, ◌^◌, not, IfOk};
 ghost use Rattle.et_class.specs.Names.{has as has_flag};
 ghost use Rattle.et_class.specs.declared.flags.TheConstants.{NATIVE as NATIVE_FLAG};
-ghost use Rattle.et_machine.specs.State.{kept_of};
-ghost use Rattle.et_machine.specs.Sound.{IsSound};
+ghost use Rattle.et_state.specs.State.{kept_of};
+ghost use Rattle.et_state.specs.Sound.{IsSound};
 ghost use Rattle.et_event.specs.declared.errors.GuestError.TheVariants as errors;
 ghost use Rattle.et_event.specs.Answered.{EventAnswers};
 ghost use Rattle.et_event.specs.Checks.{throws_unless};
@@ -13,10 +13,9 @@ ghost use Rattle.et_entry.specs.Fresh.{IsFresh};
 use et_base::{NoMemory, ThreadId};
 use et_class::flags::{NATIVE, has};
 use et_event::GuestError;
-use et_machine::Machine;
 use et_parts::{class_called, make_instance};
 use et_program::{MethodInfo, Program};
-use et_state::{EventEnd, Lines};
+use et_state::{EventEnd, Lines, Machine};
 
 /// The event of a thread without a frame in which the machine throws an error (JVMS 2.10): a new object of its class is
 /// pending then, and the thread counts as entered. After `NoMemory` the machine may have one object more, to which nothing

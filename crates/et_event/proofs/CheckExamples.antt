@@ -14,10 +14,10 @@ use Rattle.et_program.specs.declared.info.Element.{Element}
 use Rattle.et_program.specs.declared.kind.Leaf.{Leaf}
 use Rattle.et_program.specs.declared.info.Element.TheVariants as element
 use Rattle.et_program.specs.declared.kind.Leaf.TheVariants as leaf
-use Rattle.et_machine.specs.declared.class_state.ClassState.TheVariants.{Untouched, Done}
-use Rattle.et_machine.specs.State.{Kept, kept_of}
-use Rattle.et_machine.specs.Words.{first_state}
-use Rattle.et_frames.specs.Threads.{unended_of}
+use Rattle.et_state.specs.declared.class_state.ClassState.TheVariants.{Untouched, Done}
+use Rattle.et_state.specs.State.{Kept, kept_of}
+use Rattle.et_state.specs.Words.{first_state}
+use Rattle.et_state.specs.Threads.{unended_of}
 use Rattle.et_state.specs.declared.records.Record.{Record}
 use Rattle.et_state.specs.declared.records.Record.TheVariants.{Alloc, Update, Enter, Exit, Unwind}
 use Rattle.et_state.specs.Outcome.{state_after, records_of}

@@ -9,9 +9,9 @@ use Rattle.et_class.specs.declared.flags.TheConstants.{ABSTRACT}
 use Rattle.et_program.specs.Members.{is_subclass}
 use Rattle.et_program.specs.declared.info.MethodInfo.{MethodInfo}
 use Rattle.et_heap.specs.Objects.{object_at, slot_of, with_referent, with_object_at}
-use Rattle.et_frames.specs.Threads.{new_thread, thread_with, most_threads}
-use Rattle.et_machine.specs.State.{Kept}
-use Rattle.et_machine.specs.Words.{thread_at, with_new_thread}
+use Rattle.et_state.specs.Threads.{new_thread, thread_with, most_threads}
+use Rattle.et_state.specs.State.{Kept}
+use Rattle.et_state.specs.Words.{thread_at, with_new_thread}
 use Rattle.et_state.specs.Outcome.{Outcome}
 use Rattle.et_event.specs.declared.rows.BuiltIn.{BuiltIn}
 use Rattle.et_event.specs.declared.rows.BuiltIn.TheVariants.{Nothing, SetMessage, SetMessageAndCause, GetMessage, GetCause, SetTarget, Start, Join, SetReferent, GetReferent, ClearReferent}

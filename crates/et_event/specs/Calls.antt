@@ -10,12 +10,12 @@ use Rattle.et_program.specs.Members.{is_subclass}
 use Rattle.et_program.specs.Resolution.{resolve_class, resolve_method, select, select_special}
 use Rattle.et_program.specs.declared.info.Element.{Element}
 use Rattle.et_program.specs.declared.info.Element.TheVariants.{NoArray, Base, Class}
-use Rattle.et_frames.specs.declared.stage.Stage.{Stage}
-use Rattle.et_frames.specs.declared.stage.Stage.TheVariants.{Plain, Before, Clinit}
-use Rattle.et_frames.specs.Threads.{popped, rest_of, as_entered}
-use Rattle.et_machine.specs.declared.class_state.ClassState.TheVariants.{Done}
-use Rattle.et_machine.specs.State.{Kept}
-use Rattle.et_machine.specs.Words.{thread_at}
+use Rattle.et_state.specs.declared.stage.Stage.{Stage}
+use Rattle.et_state.specs.declared.stage.Stage.TheVariants.{Plain, Before, Clinit}
+use Rattle.et_state.specs.Threads.{popped, rest_of, as_entered}
+use Rattle.et_state.specs.declared.class_state.ClassState.TheVariants.{Done}
+use Rattle.et_state.specs.State.{Kept}
+use Rattle.et_state.specs.Words.{thread_at}
 use Rattle.et_state.specs.declared.records.Record.TheVariants.{Exit}
 use Rattle.et_state.specs.Outcome.{Outcome}
 use Rattle.et_event.specs.declared.rows.Operand.{Operand}

@@ -13,8 +13,8 @@ use Rattle.et_program.specs.Types.{passes}
 use Rattle.et_program.specs.declared.info.Element.{Element}
 use Rattle.et_program.specs.declared.info.Element.TheVariants.{NoArray, Base, Class}
 use Rattle.et_heap.specs.Objects.{object_at, slot_of}
-use Rattle.et_machine.specs.State.{Kept}
-use Rattle.et_machine.specs.Words.{static_at}
+use Rattle.et_state.specs.State.{Kept}
+use Rattle.et_state.specs.Words.{static_at}
 use Rattle.et_state.specs.Outcome.{Outcome}
 use Rattle.et_event.specs.declared.rows.Elements.{Elements}
 use Rattle.et_event.specs.declared.rows.HeapRow.{HeapRow}

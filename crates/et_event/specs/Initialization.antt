@@ -2,12 +2,12 @@
 use Rattle.std.specs.Prelude.{ℕ, ◌==◌, not, Bool, true, false, if◌then◌else◌, List, [], Option, Some, None, is_none, fold, find, take_while}
 use Rattle.std.specs.List.{list_all}
 use Rattle.et_base.specs.declared.value.Value.TheVariants.{Int, Long, Ref}
-use Rattle.et_machine.specs.declared.class_state.ClassState.{ClassState}
-use Rattle.et_machine.specs.declared.class_state.ClassState.TheVariants.{Untouched, Begun, Done, Failed}
-use Rattle.et_frames.specs.declared.stage.Stage.TheVariants.{Before}
-use Rattle.et_frames.specs.Threads.{FrameState, in_clinit, entered_by, without_top}
-use Rattle.et_machine.specs.State.{Kept}
-use Rattle.et_machine.specs.Words.{thread_at, class_state_at, with_class_state}
+use Rattle.et_state.specs.declared.class_state.ClassState.{ClassState}
+use Rattle.et_state.specs.declared.class_state.ClassState.TheVariants.{Untouched, Begun, Done, Failed}
+use Rattle.et_state.specs.declared.stage.Stage.TheVariants.{Before}
+use Rattle.et_state.specs.Threads.{FrameState, in_clinit, entered_by, without_top}
+use Rattle.et_state.specs.State.{Kept}
+use Rattle.et_state.specs.Words.{thread_at, class_state_at, with_class_state}
 use Rattle.et_program.specs.Entries.{Linked, class_at, method_at, field_at}
 use Rattle.et_program.specs.declared.info.FieldInfo.{FieldInfo}
 use Rattle.et_state.specs.declared.records.Record.TheVariants.{Enter}

@@ -3,9 +3,9 @@ use Rattle.std.specs.Prelude.{ℕ, ◌+◌, ◌*◌, ◌/◌, ◌==◌, ◌&&◌
 use Rattle.et_base.specs.declared.value.Value.{Value}
 use Rattle.et_base.specs.declared.value.Value.TheVariants.{Unset, Int, Long, LongHigh, Null, Ref}
 use Rattle.et_heap.specs.Objects.{ObjectState, Objects, new_object, object_at, slot_of, with_slot, with_object_at, made_count, slot_count, most_objects, most_slots}
-use Rattle.et_frames.specs.Threads.{FrameState, ThreadState, top_of, with_pending, as_entered, has_frame}
-use Rattle.et_machine.specs.State.{GuestState, Kept, MachineState, kept_of}
-use Rattle.et_machine.specs.Words.{thread_at, with_thread, with_top, static_at, with_static, ticked}
+use Rattle.et_state.specs.Threads.{FrameState, ThreadState, top_of, with_pending, as_entered, has_frame}
+use Rattle.et_state.specs.State.{GuestState, Kept, MachineState, kept_of}
+use Rattle.et_state.specs.Words.{thread_at, with_thread, with_top, static_at, with_static, ticked}
 use Rattle.et_program.specs.Entries.{Linked, class_at}
 use Rattle.et_program.specs.declared.info.Element.{Element}
 use Rattle.et_program.specs.declared.info.Element.TheVariants.{NoArray, Base, Class}

@@ -5,9 +5,9 @@ use Rattle.et_class.specs.declared.flags.TheConstants.{STATIC, SYNCHRONIZED}
 use Rattle.et_program.specs.declared.info.MethodInfo.{MethodInfo}
 use Rattle.et_heap.specs.declared.monitor.Monitor.{Monitor}
 use Rattle.et_heap.specs.Objects.{free_monitor, object_at, with_monitor, with_object_at}
-use Rattle.et_frames.specs.declared.stage.Stage.{Stage}
-use Rattle.et_frames.specs.declared.stage.Stage.TheVariants.{Plain, Before, Clinit}
-use Rattle.et_machine.specs.Words.{class_monitor_at, with_class_monitor}
+use Rattle.et_state.specs.declared.stage.Stage.{Stage}
+use Rattle.et_state.specs.declared.stage.Stage.TheVariants.{Plain, Before, Clinit}
+use Rattle.et_state.specs.Words.{class_monitor_at, with_class_monitor}
 use Rattle.et_event.specs.Moments.{Moment, Doing, with_guest}
 
 -- what has a monitor

@@ -6,8 +6,8 @@ use Rattle.et_base.specs.declared.value.Value.{Value}
 use Rattle.et_base.specs.declared.value.Value.TheVariants.{Unset, Int, Long, LongHigh, Null, Ref}
 use Rattle.et_base.specs.Integers.{add, subtract, multiply, negate, and, or, xor, shift_left, shift_right, unsigned_shift_right, divide, remainder, compare, to_byte, to_char, to_short, to_int}
 use Rattle.et_code.specs.Switches.{target_of}
-use Rattle.et_frames.specs.Threads.{FrameState, local_of}
-use Rattle.et_machine.specs.State.{Kept}
+use Rattle.et_state.specs.Threads.{FrameState, local_of}
+use Rattle.et_state.specs.State.{Kept}
 use Rattle.et_state.specs.Outcome.{Outcome}
 use Rattle.et_event.specs.declared.rows.Operand.{Operand}
 use Rattle.et_event.specs.declared.rows.Operand.TheVariants as operand

@@ -10,7 +10,7 @@ use Rattle.et_code.specs.Decoding.{instruction_at}
 use Rattle.et_code.specs.declared.instr.CodeFault.{CodeFault}
 use Rattle.et_program.specs.Entries.{Linked, method_at}
 use Rattle.et_program.specs.declared.info.MethodInfo.{MethodInfo}
-use Rattle.et_frames.specs.Threads.{FrameState}
+use Rattle.et_state.specs.Threads.{FrameState}
 use Rattle.et_event.specs.declared.rows.Local.{Local}
 use Rattle.et_event.specs.declared.rows.Local.TheVariants.{Named, At}
 

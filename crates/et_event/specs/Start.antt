@@ -3,10 +3,10 @@ use Rattle.std.specs.Prelude.{ℕ, ◌+◌, nat_lt, nat_le, ◌&&◌, Bool, if�
 use Rattle.et_base.specs.declared.value.Value.TheVariants.{Unset}
 use Rattle.et_boot.specs.Classes.{boot_classes}
 use Rattle.et_program.specs.Entries.{Linked}
-use Rattle.et_machine.specs.declared.class_state.ClassState.{ClassState}
-use Rattle.et_machine.specs.declared.class_state.ClassState.TheVariants.{Untouched, Done}
-use Rattle.et_machine.specs.State.{Kept, kept_of}
-use Rattle.et_machine.specs.Words.{first_state}
+use Rattle.et_state.specs.declared.class_state.ClassState.{ClassState}
+use Rattle.et_state.specs.declared.class_state.ClassState.TheVariants.{Untouched, Done}
+use Rattle.et_state.specs.State.{Kept, kept_of}
+use Rattle.et_state.specs.Words.{first_state}
 use Rattle.et_state.specs.declared.records.Record.{Record}
 use Rattle.et_state.specs.declared.records.Record.TheVariants.{Alloc}
 use Rattle.et_event.specs.Errors.{class_called}

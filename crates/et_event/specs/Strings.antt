@@ -1,7 +1,7 @@
 -- The strings of constants (JVMS 5.1): each sequence of bytes has one object.
 use Rattle.std.specs.Prelude.{ℕ, if◌then◌else◌, List, unwrap_or, is_some, codes}
-use Rattle.et_machine.specs.Interned.{object_of}
-use Rattle.et_machine.specs.Words.{with_string}
+use Rattle.et_state.specs.Interned.{object_of}
+use Rattle.et_state.specs.Words.{with_string}
 use Rattle.et_event.specs.Errors.{class_called}
 use Rattle.et_event.specs.Moments.{Moment, Doing, with_guest, next_object, instance_made}
 

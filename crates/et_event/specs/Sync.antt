@@ -1,6 +1,6 @@
 -- MONITORS OF OBJECTS AND THE END OF A THREAD (JVMS 2.11.10, 6.5 monitorenter and monitorexit).
-use Rattle.et_frames.specs.Threads.{as_ended}
-use Rattle.et_machine.specs.State.{Kept}
+use Rattle.et_state.specs.Threads.{as_ended}
+use Rattle.et_state.specs.State.{Kept}
 use Rattle.et_state.specs.Outcome.{Outcome}
 use Rattle.et_event.specs.declared.rows.MonitorRow.{MonitorRow}
 use Rattle.et_event.specs.declared.rows.MonitorRow.TheVariants.{Enter, Exit}

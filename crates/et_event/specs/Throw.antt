@@ -7,12 +7,12 @@ use Rattle.et_pool.specs.Looks.{class_name_at}
 use Rattle.et_code.specs.declared.body.TableRow.{TableRow}
 use Rattle.et_program.specs.Entries.{Linked}
 use Rattle.et_program.specs.Members.{class_named, lineage, is_subclass}
-use Rattle.et_frames.specs.declared.stage.Stage.{Stage}
-use Rattle.et_frames.specs.declared.stage.Stage.TheVariants.{Plain, Before, Clinit}
-use Rattle.et_frames.specs.Threads.{FrameState, with_pending, with_top_of, without_top}
-use Rattle.et_machine.specs.declared.class_state.ClassState.TheVariants.{Failed}
-use Rattle.et_machine.specs.State.{Kept}
-use Rattle.et_machine.specs.Words.{thread_at}
+use Rattle.et_state.specs.declared.stage.Stage.{Stage}
+use Rattle.et_state.specs.declared.stage.Stage.TheVariants.{Plain, Before, Clinit}
+use Rattle.et_state.specs.Threads.{FrameState, with_pending, with_top_of, without_top}
+use Rattle.et_state.specs.declared.class_state.ClassState.TheVariants.{Failed}
+use Rattle.et_state.specs.State.{Kept}
+use Rattle.et_state.specs.Words.{thread_at}
 use Rattle.et_state.specs.declared.records.Record.TheVariants.{Unwind}
 use Rattle.et_state.specs.Outcome.{Outcome}
 use Rattle.et_event.specs.declared.errors.GuestError.TheVariants.{ExceptionInInitializerError}

@@ -6,7 +6,7 @@ use Rattle.et_base.specs.declared.value.End.{End}
 use Rattle.et_heap.specs.declared.monitor.Monitor.{Monitor}
 use Rattle.et_heap.specs.Objects.{ObjectState, is_there, at, free_monitor}
 use Rattle.et_heap.proofs.HeapLists.{held_within}
-use Rattle.et_machine.specs.State.{Kept}
+use Rattle.et_state.specs.State.{Kept}
 use Rattle.et_state.specs.Outcome.{Outcome, state_after, end_by}
 use Rattle.et_state.specs.Outcome as outcome
 use Rattle.et_event.specs.Moments.{Moment, begins, later}

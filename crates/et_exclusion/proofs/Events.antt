@@ -1,10 +1,10 @@
 -- What each event does to monitors.
 use Rattle.std.proofs.Common.{◌≡◌, ℕ, ◌<◌, List, ◌∷◌, length, sym, subst}
 use Rattle.et_program.specs.Entries.{Linked}
-use Rattle.et_frames.specs.declared.stage.Turn.TheVariants.{Instruction}
-use Rattle.et_frames.specs.Threads.{FrameState, rest_of, turn_of}
-use Rattle.et_machine.specs.State.{Kept}
-use Rattle.et_machine.specs.Words.{IsUnended}
+use Rattle.et_state.specs.declared.stage.Turn.TheVariants.{Instruction}
+use Rattle.et_state.specs.Threads.{FrameState, rest_of, turn_of}
+use Rattle.et_state.specs.State.{Kept}
+use Rattle.et_state.specs.Words.{IsUnended}
 use Rattle.et_event.specs.Event.{event}
 use Rattle.et_event.specs.Moments.{Moment, thread_of, frame_of}
 use Rattle.et_event.specs.Sound.{AreSoundFrames, IsSoundFor}

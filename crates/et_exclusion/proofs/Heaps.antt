@@ -8,17 +8,17 @@ use Rattle.et_base.specs.declared.value.Value.{Value}
 use Rattle.et_heap.specs.Objects.{ObjectState, Objects, IsHeld, is_there, at, found, object_at, with_object_at, free_monitor, new_object}
 use Rattle.et_heap.specs.Refs.{refs_of, targets_of}
 use Rattle.et_heap.proofs.HeapLists.{pair_at, at_pair, held_within, held_set, set_held, held_push, pairs_push}
-use Rattle.et_frames.specs.Roots.{thread_roots}
-use Rattle.et_frames.specs.Threads.{ThreadState}
-use Rattle.et_machine.specs.Interned.{objects_of}
-use Rattle.et_machine.specs.Moves.{Moves}
-use Rattle.et_machine.specs.Roots.{roots_of}
-use Rattle.et_machine.specs.Sound.{IsSound}
-use Rattle.et_machine.specs.State.{GuestState, Kept}
-use Rattle.et_machine.specs.Words.{thread_at, with_thread, with_new_thread, with_static, with_string}
-use Rattle.et_machine.proofs.Places.{guest_thread, guest_started, guest_interned, thread_root, refs_of-unset}
-use Rattle.et_machine.proofs.Steps.{newest_held}
-use Rattle.et_machine.proofs.UnderWay.{slot_pair}
+use Rattle.et_state.specs.ThreadRoots.{thread_roots}
+use Rattle.et_state.specs.Threads.{ThreadState}
+use Rattle.et_state.specs.Interned.{objects_of}
+use Rattle.et_state.specs.Moves.{Moves}
+use Rattle.et_state.specs.Roots.{roots_of}
+use Rattle.et_state.specs.Sound.{IsSound}
+use Rattle.et_state.specs.State.{GuestState, Kept}
+use Rattle.et_state.specs.Words.{thread_at, with_thread, with_new_thread, with_static, with_string}
+use Rattle.et_state.proofs.Places.{guest_thread, guest_started, guest_interned, thread_root, refs_of-unset}
+use Rattle.et_state.proofs.Steps.{newest_held}
+use Rattle.et_state.proofs.UnderWay.{slot_pair}
 use Rattle.et_exclusion.proofs.Values.{Fine, Fines, FineSome, FineThread, values_in, in_values, fines_set, thread_in, in_thread}
 
 -- HEAPS: nothing is taken out, what was there has its monitor, and what is new has a free one

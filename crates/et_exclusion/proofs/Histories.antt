@@ -11,10 +11,10 @@ use Rattle.et_program.specs.Entries.{Linked}
 use Rattle.et_heap.specs.declared.monitor.Monitor.{Monitor}
 use Rattle.et_heap.specs.Objects.{ObjectState, Objects, IsHeld, is_there, at, found, object_at, free_monitor}
 use Rattle.et_heap.specs.Remaining.{left_place, remaining}
-use Rattle.et_machine.specs.Roots.{graph_of}
-use Rattle.et_machine.specs.State.{Kept}
-use Rattle.et_machine.specs.Words.{class_monitor_at, IsUnended}
-use Rattle.et_machine.proofs.Wholes.{length-remaining, remaining_held}
+use Rattle.et_state.specs.Roots.{graph_of}
+use Rattle.et_state.specs.State.{Kept}
+use Rattle.et_state.specs.Words.{class_monitor_at, IsUnended}
+use Rattle.et_state.proofs.Wholes.{length-remaining, remaining_held}
 use Rattle.et_state.specs.declared.options.Options.{Options}
 use Rattle.et_state.specs.Options.{AreOptions}
 use Rattle.et_state.specs.History.{left_by, is_flush_point}
@@ -25,7 +25,7 @@ use Rattle.et_event.specs.Moments.{Moment, later}
 use Rattle.et_event.specs.Monitors.{Lock, OfObject, OfClass}
 use Rattle.et_event.specs.Sound.{IsSoundMonitor, IsSoundFor}
 use Rattle.et_event.specs.Start.{start}
-use Rattle.et_machine.specs.Sound.{IsSound}
+use Rattle.et_state.specs.Sound.{IsSound}
 use Rattle.et_sound.specs.Outcomes.{KeepsSound}
 use Rattle.et_sound.specs.WellFormed.{IsThere}
 use Rattle.et_sound.proofs.Growing.{free_is_sound}

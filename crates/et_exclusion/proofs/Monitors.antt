@@ -6,9 +6,9 @@ use Rattle.std.proofs.lemmas.List.{length-set, get_or-set_other}
 use Rattle.et_heap.specs.declared.monitor.Monitor.{Monitor}
 use Rattle.et_heap.specs.Objects.{ObjectState, Objects, IsHeld, found, free_monitor, object_at, with_monitor, with_object_at}
 use Rattle.et_heap.proofs.HeapLists.{held_within, held_set, set_held}
-use Rattle.et_machine.specs.Sound.{IsSound}
-use Rattle.et_machine.specs.State.{Kept}
-use Rattle.et_machine.specs.Words.{with_class_monitor}
+use Rattle.et_state.specs.Sound.{IsSound}
+use Rattle.et_state.specs.State.{Kept}
+use Rattle.et_state.specs.Words.{with_class_monitor}
 use Rattle.et_event.specs.Moments.{Moment, Doing, begins}
 use Rattle.et_event.specs.Monitors.{Lock, OfObject, OfClass, monitor_of, with_monitor_of, is_owner, owns, left_once, entered, left}
 use Rattle.et_sound.specs.WellFormed.{IsThere}

@@ -4,7 +4,7 @@ use Rattle.std.specs.Prelude.{ℤ, IfSome, if◌then◌else◌, option_map, sum}
 use Rattle.et_base.specs.declared.value.Value.{Value}
 use Rattle.et_base.specs.declared.value.Value.TheVariants.{Unset, Int, Long, LongHigh, Null, Ref}
 use Rattle.et_heap.specs.Objects.{Objects}
-use Rattle.et_frames.specs.Threads.{FrameState, local_of}
+use Rattle.et_state.specs.Threads.{FrameState, local_of}
 use Rattle.et_event.specs.declared.rows.Operand.{Operand}
 use Rattle.et_event.specs.declared.rows.Operand.TheVariants as operand
 use Rattle.et_event.specs.declared.rows.Local.TheVariants.{Named}

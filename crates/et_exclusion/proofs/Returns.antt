@@ -7,12 +7,12 @@ use Rattle.et_code.specs.Bodies.{Body}
 use Rattle.et_code.specs.declared.body.TableRow.{TableRow}
 use Rattle.et_program.specs.Entries.{Linked, class_at, method_at}
 use Rattle.et_heap.specs.Objects.{Objects, IsHeld, new_object}
-use Rattle.et_frames.specs.declared.stage.Stage.{Stage}
-use Rattle.et_frames.specs.declared.stage.Stage.TheVariants.{Plain, Before, Clinit}
-use Rattle.et_frames.specs.Threads.{FrameState, ThreadState, first_frame, rest_of, with_pending, with_top_of, without_top, in_clinit}
-use Rattle.et_machine.specs.declared.class_state.ClassState.TheVariants.{Done, Failed}
-use Rattle.et_machine.specs.State.{Kept}
-use Rattle.et_machine.specs.Words.{thread_at}
+use Rattle.et_state.specs.declared.stage.Stage.{Stage}
+use Rattle.et_state.specs.declared.stage.Stage.TheVariants.{Plain, Before, Clinit}
+use Rattle.et_state.specs.Threads.{FrameState, ThreadState, first_frame, rest_of, with_pending, with_top_of, without_top, in_clinit}
+use Rattle.et_state.specs.declared.class_state.ClassState.TheVariants.{Done, Failed}
+use Rattle.et_state.specs.State.{Kept}
+use Rattle.et_state.specs.Words.{thread_at}
 use Rattle.et_state.specs.declared.records.Record.TheVariants.{Enter, Unwind}
 use Rattle.et_state.specs.Outcome.{Outcome}
 use Rattle.et_event.specs.declared.rows.Operand.{Operand}

@@ -12,9 +12,9 @@ use Rattle.et_program.specs.Types.{passes}
 use Rattle.et_program.specs.Resolution.{resolve_class, resolve_field}
 use Rattle.et_program.specs.declared.errors.LinkError.{LinkError}
 use Rattle.et_heap.specs.Objects.{Objects, IsHeld, new_object, object_at, slot_of}
-use Rattle.et_frames.specs.Threads.{FrameState, as_ended}
-use Rattle.et_machine.specs.State.{Kept}
-use Rattle.et_machine.specs.Words.{static_at}
+use Rattle.et_state.specs.Threads.{FrameState, as_ended}
+use Rattle.et_state.specs.State.{Kept}
+use Rattle.et_state.specs.Words.{static_at}
 use Rattle.et_state.specs.Outcome.{Outcome}
 use Rattle.et_event.specs.declared.rows.Division.{Division}
 use Rattle.et_event.specs.declared.rows.Elements.{Elements}

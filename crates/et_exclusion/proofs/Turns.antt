@@ -8,13 +8,13 @@ use Rattle.et_base.specs.declared.value.Value.TheVariants.{Unset, Int, Long, Lon
 use Rattle.et_code.specs.declared.instr.Instr.{Instr}
 use Rattle.et_code.specs.declared.instr.CodeFault.{CodeFault}
 use Rattle.et_heap.specs.Objects.{IsHeld}
-use Rattle.et_frames.specs.declared.stage.Stage.{Stage}
-use Rattle.et_frames.specs.declared.stage.Stage.TheVariants.{Plain, Before, Clinit}
-use Rattle.et_frames.specs.declared.stage.Turn.{Turn}
-use Rattle.et_frames.specs.declared.stage.Turn.TheVariants.{Unwind, EndThread, Entry, Initialize, Instruction}
-use Rattle.et_frames.specs.Threads.{FrameState, ThreadState, has_frame, is_before, top_of, with_top_of, turn_of}
-use Rattle.et_machine.specs.State.{Kept}
-use Rattle.et_machine.specs.Words.{thread_at}
+use Rattle.et_state.specs.declared.stage.Stage.{Stage}
+use Rattle.et_state.specs.declared.stage.Stage.TheVariants.{Plain, Before, Clinit}
+use Rattle.et_state.specs.declared.stage.Turn.{Turn}
+use Rattle.et_state.specs.declared.stage.Turn.TheVariants.{Unwind, EndThread, Entry, Initialize, Instruction}
+use Rattle.et_state.specs.Threads.{FrameState, ThreadState, has_frame, is_before, top_of, with_top_of, turn_of}
+use Rattle.et_state.specs.State.{Kept}
+use Rattle.et_state.specs.Words.{thread_at}
 use Rattle.et_state.specs.Outcome.{Outcome}
 use Rattle.et_state.specs.Outcome as outcome
 use Rattle.et_event.specs.declared.errors.GuestError.TheVariants as errors

@@ -9,8 +9,8 @@ use Rattle.et_base.specs.declared.value.Value.TheVariants.{Unset, Int, Long, Lon
 use Rattle.et_graph.proofs.Lists.{Contains-none, Contains-here, Contains-cons}
 use Rattle.et_heap.specs.Objects.{Objects, IsHeld}
 use Rattle.et_heap.specs.Refs.{refs_of_value, refs_of}
-use Rattle.et_frames.specs.Roots.{frame_roots, thread_roots}
-use Rattle.et_frames.specs.Threads.{FrameState, ThreadState, first_frame, rest_of}
+use Rattle.et_state.specs.ThreadRoots.{frame_roots, thread_roots}
+use Rattle.et_state.specs.Threads.{FrameState, ThreadState, first_frame, rest_of}
 
 -- VALUES: what a value refers to is held
 abbrev pub Fine : Objects → Value → Type 0

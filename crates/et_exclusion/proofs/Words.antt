@@ -11,14 +11,14 @@ use Rattle.et_program.specs.Entries.{class_at, field_at}
 use Rattle.et_program.specs.declared.info.FieldInfo.{FieldInfo}
 use Rattle.et_heap.specs.declared.monitor.Monitor.{Monitor}
 use Rattle.et_heap.specs.Objects.{ObjectState, Objects, IsHeld, free_monitor, new_object, object_at, slot_of, with_slot, with_referent, with_object_at}
-use Rattle.et_frames.specs.Threads.{FrameState, ThreadState, no_thread, new_thread, has_frame, rest_of, with_top_of, as_entered, with_pending}
-use Rattle.et_machine.specs.declared.class_state.ClassState.{ClassState}
-use Rattle.et_machine.specs.declared.class_state.ClassState.TheVariants.{Untouched, Begun, Done, Failed}
-use Rattle.et_machine.specs.Interned.{object_of, objects_of}
-use Rattle.et_machine.specs.Sound.{IsSound}
-use Rattle.et_machine.specs.State.{GuestState, Kept}
-use Rattle.et_machine.specs.Words.{thread_at, with_thread, with_top, with_new_thread, static_at, with_static, with_string, with_class_state}
-use Rattle.et_machine.proofs.Places.{string_root}
+use Rattle.et_state.specs.Threads.{FrameState, ThreadState, no_thread, new_thread, has_frame, rest_of, with_top_of, as_entered, with_pending}
+use Rattle.et_state.specs.declared.class_state.ClassState.{ClassState}
+use Rattle.et_state.specs.declared.class_state.ClassState.TheVariants.{Untouched, Begun, Done, Failed}
+use Rattle.et_state.specs.Interned.{object_of, objects_of}
+use Rattle.et_state.specs.Sound.{IsSound}
+use Rattle.et_state.specs.State.{GuestState, Kept}
+use Rattle.et_state.specs.Words.{thread_at, with_thread, with_top, with_new_thread, static_at, with_static, with_string, with_class_state}
+use Rattle.et_state.proofs.Places.{string_root}
 use Rattle.et_event.specs.BuiltIns.{with_referent_of, with_thread_for}
 use Rattle.et_event.specs.Errors.{class_called}
 use Rattle.et_event.specs.Initialization.{with_state, constant_set, field_set, constants_set, class_done, quietly_done, quietly_if_untouched, prepared, state_of}

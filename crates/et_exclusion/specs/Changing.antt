@@ -2,8 +2,8 @@
 use Rattle.std.specs.Prelude.{◌≡◌, ℕ, ◌+◌, ◌≤◌, ◌⊎◌, true, if◌then◌else◌, length, Option, Some, IfSome}
 use Rattle.et_heap.specs.declared.monitor.Monitor.{Monitor}
 use Rattle.et_heap.specs.Objects.{IsHeld, free_monitor}
-use Rattle.et_machine.specs.Sound.{IsSound}
-use Rattle.et_machine.specs.State.{Kept}
+use Rattle.et_state.specs.Sound.{IsSound}
+use Rattle.et_state.specs.State.{Kept}
 use Rattle.et_state.specs.Outcome.{Outcome}
 use Rattle.et_state.specs.Outcome as outcome
 use Rattle.et_event.specs.Moments.{Moment, begins, later}

@@ -2,7 +2,7 @@
 use Rattle.std.specs.Prelude.{ℕ, zero, suc, ◌≡◌, ◌==◌, Bool, if◌then◌else◌, None}
 use Rattle.et_graph.specs.Graph.{Graph}
 use Rattle.et_program.specs.Entries.{Linked}
-use Rattle.et_machine.specs.State.{Kept}
+use Rattle.et_state.specs.State.{Kept}
 use Rattle.et_state.specs.declared.options.Options.{Options}
 use Rattle.et_state.specs.History.{Setting, left_by, settled}
 use Rattle.et_state.specs.History as history

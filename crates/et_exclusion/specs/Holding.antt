@@ -8,11 +8,11 @@ use Rattle.et_code.specs.declared.instr.Instr.{Instr}
 use Rattle.et_code.specs.declared.instr.CodeFault.{CodeFault}
 use Rattle.et_program.specs.Entries.{Linked}
 use Rattle.et_heap.specs.declared.monitor.Monitor.{Monitor}
-use Rattle.et_frames.specs.declared.stage.Turn.{Turn}
-use Rattle.et_frames.specs.declared.stage.Turn.TheVariants.{Instruction}
-use Rattle.et_frames.specs.Threads.{FrameState, turn_of}
-use Rattle.et_machine.specs.State.{Kept}
-use Rattle.et_machine.specs.Words.{thread_at}
+use Rattle.et_state.specs.declared.stage.Turn.{Turn}
+use Rattle.et_state.specs.declared.stage.Turn.TheVariants.{Instruction}
+use Rattle.et_state.specs.Threads.{FrameState, turn_of}
+use Rattle.et_state.specs.State.{Kept}
+use Rattle.et_state.specs.Words.{thread_at}
 use Rattle.et_state.specs.Outcome.{Outcome}
 use Rattle.et_state.specs.Outcome as outcome
 use Rattle.et_event.specs.declared.rows.MonitorRow.{MonitorRow}

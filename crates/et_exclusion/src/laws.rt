@@ -3,8 +3,8 @@
 ghost use Rattle.std.specs.Prelude.{◌≡◌, ◌↔◌, ℕ, ◌<◌, Bool, Option, Some};
 ghost use Rattle.et_graph.specs.Graph.{Graph, Decides};
 ghost use Rattle.et_program.specs.Entries.{Linked};
-ghost use Rattle.et_machine.specs.State.{Kept};
-ghost use Rattle.et_machine.specs.Words.{IsUnended};
+ghost use Rattle.et_state.specs.State.{Kept};
+ghost use Rattle.et_state.specs.Words.{IsUnended};
 ghost use Rattle.et_state.specs.declared.options.Options.{Options};
 ghost use Rattle.et_state.specs.Options.{AreOptions};
 ghost use Rattle.et_event.specs.Event.{event};

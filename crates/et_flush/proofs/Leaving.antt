@@ -8,10 +8,10 @@ use Rattle.et_heap.specs.Objects.{ObjectState, Objects, IsHeld}
 use Rattle.et_heap.specs.Refs.{targets_of, pairs_of, gone_of}
 use Rattle.et_heap.specs.Remaining.{left_place, remaining}
 use Rattle.et_heap.proofs.HeapLists.{IsPair, pair_at, at_pair, pair_held, held_within, gone_at, at_gone}
-use Rattle.et_machine.specs.State.{Kept, MachineState, kept_of}
-use Rattle.et_machine.specs.Roots.{roots_of, graph_of}
-use Rattle.et_machine.specs.Sound.{IsSound}
-use Rattle.et_machine.proofs.Wholes.{length-remaining, remaining_held, held_remaining}
+use Rattle.et_state.specs.State.{Kept, MachineState, kept_of}
+use Rattle.et_state.specs.Roots.{roots_of, graph_of}
+use Rattle.et_state.specs.Sound.{IsSound}
+use Rattle.et_state.proofs.Wholes.{length-remaining, remaining_held, held_remaining}
 use Rattle.et_graph.specs.Cleared.{IsCleared}
 use Rattle.et_flush.specs.Flushes.{heap_graph}
 use Rattle.et_flush.proofs.Targets.{held_above}

@@ -3,9 +3,9 @@ ghost use Rattle.std.specs.Prelude.{◌≡◌, ℕ, ◌+◌, ◌*◌, ◌<◌, �
 ghost use Rattle.et_graph.specs.Graph.{IsReached};
 ghost use Rattle.et_heap.specs.Objects.{IsHeld, held_count};
 ghost use Rattle.et_heap.specs.Remaining.{remaining};
-ghost use Rattle.et_machine.specs.State.{kept_of};
-ghost use Rattle.et_machine.specs.Roots.{graph_of};
-ghost use Rattle.et_machine.specs.Sound.{IsSound};
+ghost use Rattle.et_state.specs.State.{kept_of};
+ghost use Rattle.et_state.specs.Roots.{graph_of};
+ghost use Rattle.et_state.specs.Sound.{IsSound};
 ghost use Rattle.et_graph.specs.Listed.{AreListed};
 ghost use Rattle.et_graph.specs.Cleared.{IsCleared};
 ghost use Rattle.et_flush.specs.Flushes.{cleared_from};
@@ -14,7 +14,7 @@ use crate::room::{FlushRoom, flush};
 use et_base::{NoMemory, Steps};
 use et_graph::Stamps;
 use et_heap::RootList;
-use et_machine::Machine;
+use et_state::Machine;
 use std::sync::ledger::Ledger;
 
 /// The flush of a machine: its roots are listed, and its heap is flushed from them. Nothing else of it changes. After

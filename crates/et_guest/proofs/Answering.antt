@@ -6,8 +6,8 @@ use Rattle.et_program.specs.Entries.{Linked, class_at}
 use Rattle.et_program.specs.declared.info.Element.{Element}
 use Rattle.et_program.specs.declared.info.Element.TheVariants.{Class}
 use Rattle.et_refs.specs.Slots.{IsElementWithin, AreElementsWithin}
-use Rattle.et_machine.specs.Roots.{graph_of}
-use Rattle.et_machine.specs.State.{Kept, MachineState, kept_of}
+use Rattle.et_state.specs.Roots.{graph_of}
+use Rattle.et_state.specs.State.{Kept, MachineState, kept_of}
 use Rattle.et_state.specs.declared.records.Record.{Record}
 use Rattle.et_state.specs.declared.ends.EventEnd.{EventEnd}
 use Rattle.et_state.specs.declared.ends.EventEnd.TheVariants as ends
@@ -18,8 +18,8 @@ use Rattle.et_state.specs.Outcome as outcome
 use Rattle.et_event.specs.Answered.{EventAnswers}
 use Rattle.et_merlin.specs.Kept.{IsStepTo}
 use Rattle.et_merlin.specs.Stamping.{StepsWhereDone}
-use Rattle.et_machine.specs.Roots.{fresh_of}
-use Rattle.et_machine.specs.Moves.{Led}
+use Rattle.et_state.specs.Roots.{fresh_of}
+use Rattle.et_state.specs.Moves.{Led}
 use Rattle.et_named.specs.Telling.{names_of, HasElementClasses, IsTold}
 
 led_steps : (s x : Kept) (m : MachineState) → Led s x m → IsStepTo (graph_of s) (graph_of (kept_of m)) m.lost

@@ -2,7 +2,7 @@
 use Rattle.std.proofs.Common.{◌≡◌, ℕ, zero, suc, Option, Some, None, ◌+◌, ◌<◌, ◌≤◌, Bool, true, false, List, [], ◌∷◌, length, drop, get_or, refl, sym, ap, ◌∙◌, arith}
 use Rattle.std.specs.Prelude.{if◌then◌else◌, ◌++◌, slice_get, slice_index}
 use Rattle.std.proofs.Math.Seq.{drop-cons}
-use Rattle.et_frames.specs.Threads.{ThreadState, no_thread, unended_from}
+use Rattle.et_state.specs.Threads.{ThreadState, no_thread, unended_from}
 
 first_counts : (k : ℕ) (ended : Bool) (more : List ℕ) → length ((if ended then [] else k ∷ []) ++ more) ≡ (if ended then 0 else 1) + length more
 first_counts k true more = omega arith

@@ -5,7 +5,7 @@ use Rattle.et_graph.specs.Graph.{Graph, IsReached}
 use Rattle.et_heap.specs.Objects.{held_count}
 use Rattle.et_flush.specs.Flushes.{cleared_from}
 use Rattle.et_heap.specs.Remaining.{remaining}
-use Rattle.et_machine.specs.State.{Kept, MachineState, kept_of}
+use Rattle.et_state.specs.State.{Kept, MachineState, kept_of}
 use Rattle.et_program.specs.Entries.{Linked}
 use Rattle.et_event.specs.Sound.{IsSoundFor}
 use Rattle.et_guest.specs.Guests.{IsSoundRun, flush_visits_of}

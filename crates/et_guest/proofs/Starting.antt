@@ -13,7 +13,7 @@ use Rattle.et_program.specs.Members.{class_named}
 use Rattle.et_program.specs.Tables.{IsTabled}
 use Rattle.et_program.specs.declared.info.MethodInfo.{MethodInfo}
 use Rattle.et_program.proofs.PlaceLemmas.{position_within}
-use Rattle.et_machine.specs.Roots.{graph_of}
+use Rattle.et_state.specs.Roots.{graph_of}
 use Rattle.et_state.specs.declared.records.Record.TheVariants.{Alloc}
 use Rattle.et_state.specs.Naming.{IsNamed}
 use Rattle.et_event.specs.Start.{argument_class, start, start_records}

@@ -1,7 +1,7 @@
 -- What holds of a run of a program.
 use Rattle.std.specs.Prelude.{ℕ, ◌+◌, ◌*◌, Bool}
 use Rattle.et_heap.specs.Objects.{held_count}
-use Rattle.et_machine.specs.State.{Kept}
+use Rattle.et_state.specs.State.{Kept}
 use Rattle.et_program.specs.Entries.{Linked}
 use Rattle.et_program.specs.Tables.{IsTabled}
 use Rattle.et_event.specs.Sound.{IsSoundFor}

@@ -1,9 +1,9 @@
 -- THE HISTORY OF A PROGRAM: what its events lead to, which threads take turns, what is reached, and what a flush leaves.
 use Rattle.std.specs.Prelude.{ℕ, Bool, List}
 use Rattle.et_heap.specs.Remaining.{remaining}
-use Rattle.et_frames.specs.Threads as threads
-use Rattle.et_machine.specs.Roots.{graph_of}
-use Rattle.et_machine.specs.State.{Kept}
+use Rattle.et_state.specs.Threads as threads
+use Rattle.et_state.specs.Roots.{graph_of}
+use Rattle.et_state.specs.State.{Kept}
 use Rattle.et_program.specs.Entries.{Linked}
 use Rattle.et_state.specs.declared.options.Options.{Options}
 use Rattle.et_state.specs.History.{Setting}

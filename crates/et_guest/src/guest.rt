@@ -3,8 +3,8 @@ ghost use Rattle.std.specs.Prelude.{◌≡◌, ◌≤◌};
 ghost use Rattle.et_event.specs.Event.{event};
 ghost use Rattle.et_guest.specs.Guests.{IsSoundRun, flush_visits_of};
 ghost use Rattle.et_guest.specs.Histories.{unended_of, flushed_of};
-ghost use Rattle.et_machine.specs.Roots.{graph_of as graph_kept};
-ghost use Rattle.et_machine.specs.State.{Kept, kept_of};
+ghost use Rattle.et_state.specs.Roots.{graph_of as graph_kept};
+ghost use Rattle.et_state.specs.State.{Kept, kept_of};
 
 use crate::named::NamedProgram;
 use crate::room::GuestRoom;
@@ -12,9 +12,8 @@ use crate::steps::{machine_event, machine_flush};
 use crate::threads::{nth_unended, unended_count};
 use et_base::{NoMemory, ObjectId, Steps, ThreadId};
 use et_graph::{Death, Stamps};
-use et_machine::Machine;
 use et_merlin::StampedGuest;
-use et_state::{EventEnd, Lines};
+use et_state::{EventEnd, Lines, Machine};
 use std::alloc::Global;
 use std::marker::Model;
 use std::sync::ledger::Ledger;
@@ -26,7 +25,7 @@ pub struct ProgramGuest {
 }
 
 impl Model for ProgramGuest {
-    ghost use Rattle.et_machine.specs.State.{MachineState};
+    ghost use Rattle.et_state.specs.State.{MachineState};
 
     ghost Value = { MachineState };
 

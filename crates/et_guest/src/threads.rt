@@ -1,9 +1,9 @@
 //! The threads that have not ended.
 ghost use Rattle.std.specs.Prelude.{◌≡◌, ◌<◌, length, slice_index};
-ghost use Rattle.et_frames.specs.Threads.{unended_of};
+ghost use Rattle.et_state.specs.Threads.{unended_of};
 
 use et_base::ThreadId;
-use et_machine::Machine;
+use et_state::Machine;
 
 /// The number of threads that have not ended.
 pub fn unended_count(machine: &Machine) -> usize

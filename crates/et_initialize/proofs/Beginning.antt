@@ -2,16 +2,16 @@
 use Rattle.std.proofs.Common.{◌≡◌, ℕ, zero, suc, ◌+◌, ◌-◌, ◌<◌, ◌≤◌, true, false, Bool, List, [], ◌++◌, length, refl, sym, ◌∙◌, ap, subst, arith, inl, inr, Contains, append-nil, lit<}
 use Rattle.std.proofs.lemmas.Bool.{lt-ltb, le-ltb}
 use Rattle.et_graph.proofs.Lists.{Contains-none, Contains-cons}
-use Rattle.et_frames.specs.Threads.{FrameState, ThreadState, entered_by, most_frames, lost_room}
-use Rattle.et_machine.specs.declared.class_state.ClassState.TheVariants.{Untouched, Begun}
-use Rattle.et_machine.specs.State.{Kept, MachineState, kept_of}
-use Rattle.et_machine.specs.Words.{thread_at, class_state_at, begun, steps_thread}
-use Rattle.et_machine.specs.Roots.{roots_of, numbers_from}
-use Rattle.et_machine.specs.Moves.{IsOnWay, Led}
-use Rattle.et_machine.proofs.Calls.{on_enter_frame}
-use Rattle.et_machine.proofs.Places.{string_root}
-use Rattle.et_machine.proofs.UnderWay.{root_is_reached}
-use Rattle.et_machine.proofs.Steps.{led}
+use Rattle.et_state.specs.Threads.{FrameState, ThreadState, entered_by, most_frames, lost_room}
+use Rattle.et_state.specs.declared.class_state.ClassState.TheVariants.{Untouched, Begun}
+use Rattle.et_state.specs.State.{Kept, MachineState, kept_of}
+use Rattle.et_state.specs.Words.{thread_at, class_state_at, begun, steps_thread}
+use Rattle.et_state.specs.Roots.{roots_of, numbers_from}
+use Rattle.et_state.specs.Moves.{IsOnWay, Led}
+use Rattle.et_state.proofs.Calls.{on_enter_frame}
+use Rattle.et_state.proofs.Places.{string_root}
+use Rattle.et_state.proofs.UnderWay.{root_is_reached}
+use Rattle.et_state.proofs.Steps.{led}
 use Rattle.et_program.specs.Entries.{Linked, class_at}
 use Rattle.et_state.specs.declared.records.Record.{Record}
 use Rattle.et_state.specs.declared.ends.EventEnd.TheVariants as ends

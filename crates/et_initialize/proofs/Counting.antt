@@ -18,11 +18,11 @@ use Rattle.et_pool.specs.declared.tags.TheConstants.{INTEGER, LONG, STRING}
 use Rattle.et_base.specs.declared.value.Value.{Value}
 use Rattle.et_base.specs.declared.value.Value.TheVariants.{Unset, Int, Long, Ref}
 use Rattle.et_heap.specs.Objects.{ObjectState, Objects, new_object, made_count, slot_count, slots_in, most_objects, most_slots, has_room}
-use Rattle.et_machine.specs.declared.class_state.ClassState.{ClassState}
-use Rattle.et_machine.specs.declared.class_state.ClassState.TheVariants.{Untouched, Begun, Done, Failed}
-use Rattle.et_machine.specs.State.{Kept, MachineState}
-use Rattle.et_machine.specs.Interned.{object_of}
-use Rattle.et_machine.specs.Words.{class_state_at}
+use Rattle.et_state.specs.declared.class_state.ClassState.{ClassState}
+use Rattle.et_state.specs.declared.class_state.ClassState.TheVariants.{Untouched, Begun, Done, Failed}
+use Rattle.et_state.specs.State.{Kept, MachineState}
+use Rattle.et_state.specs.Interned.{object_of}
+use Rattle.et_state.specs.Words.{class_state_at}
 use Rattle.et_program.specs.Entries.{Linked, class_at, field_at}
 use Rattle.et_program.specs.declared.info.FieldInfo.{FieldInfo}
 use Rattle.et_event.specs.Errors.{class_called}

@@ -10,17 +10,17 @@ use Rattle.et_graph.proofs.Lists.{Contains-none, Contains-here, Contains-cons}
 use Rattle.et_heap.specs.Objects.{IsHeld, new_object}
 use Rattle.et_heap.specs.Refs.{refs_of_value}
 use Rattle.et_heap.proofs.HeapLists.{held_within}
-use Rattle.et_machine.specs.declared.class_state.ClassState.{ClassState}
-use Rattle.et_machine.specs.declared.class_state.ClassState.TheVariants.{Untouched, Begun, Done, Failed}
-use Rattle.et_machine.specs.State.{GuestState, Kept}
-use Rattle.et_machine.specs.Interned.{objects_of}
-use Rattle.et_machine.specs.Words.{static_at, with_static, with_string, class_state_at}
-use Rattle.et_machine.specs.Roots.{roots_of}
-use Rattle.et_machine.specs.Moves.{WasThere, IsUnderWay}
-use Rattle.et_machine.specs.Sound.{IsSound}
-use Rattle.et_machine.proofs.Places.{guest_static, guest_interned, refs_of-unset, string_root}
-use Rattle.et_machine.proofs.UnderWay.{law_guest, law_make, start}
-use Rattle.et_machine.proofs.Steps.{newest_held}
+use Rattle.et_state.specs.declared.class_state.ClassState.{ClassState}
+use Rattle.et_state.specs.declared.class_state.ClassState.TheVariants.{Untouched, Begun, Done, Failed}
+use Rattle.et_state.specs.State.{GuestState, Kept}
+use Rattle.et_state.specs.Interned.{objects_of}
+use Rattle.et_state.specs.Words.{static_at, with_static, with_string, class_state_at}
+use Rattle.et_state.specs.Roots.{roots_of}
+use Rattle.et_state.specs.Moves.{WasThere, IsUnderWay}
+use Rattle.et_state.specs.Sound.{IsSound}
+use Rattle.et_state.proofs.Places.{guest_static, guest_interned, refs_of-unset, string_root}
+use Rattle.et_state.proofs.UnderWay.{law_guest, law_make, start}
+use Rattle.et_state.proofs.Steps.{newest_held}
 use Rattle.et_program.specs.Entries.{Linked, class_at, field_at}
 use Rattle.et_program.specs.declared.info.FieldInfo.{FieldInfo}
 use Rattle.et_event.specs.Kinds.{narrowed}

@@ -3,10 +3,10 @@ use Rattle.std.proofs.Common.{◌≡◌, ℕ, Bool, true, false, List, [], ◌�
 use Rattle.std.specs.Prelude.{fold, if◌then◌else◌, is_some}
 use Rattle.et_base.specs.declared.value.Value.{Value}
 use Rattle.et_base.specs.declared.value.Value.TheVariants.{Unset, Int, Long, LongHigh, Null, Ref}
-use Rattle.et_machine.specs.declared.class_state.ClassState.{ClassState}
-use Rattle.et_machine.specs.declared.class_state.ClassState.TheVariants.{Untouched, Begun, Done, Failed}
-use Rattle.et_machine.specs.State.{Kept}
-use Rattle.et_machine.specs.Interned.{object_of}
+use Rattle.et_state.specs.declared.class_state.ClassState.{ClassState}
+use Rattle.et_state.specs.declared.class_state.ClassState.TheVariants.{Untouched, Begun, Done, Failed}
+use Rattle.et_state.specs.State.{Kept}
+use Rattle.et_state.specs.Interned.{object_of}
 use Rattle.et_program.specs.Entries.{class_at, field_at}
 use Rattle.et_program.specs.declared.info.FieldInfo.{FieldInfo}
 use Rattle.et_state.specs.declared.records.Record.{Record}

@@ -5,10 +5,10 @@ use Rattle.std.proofs.lemmas.List.{get_or_default}
 use Rattle.std.proofs.lemmas.List.Elements.{All-take}
 use Rattle.std.proofs.lemmas.List.Sums.{fold_more}
 use Rattle.et_base.specs.declared.value.Value.TheVariants.{Unset}
-use Rattle.et_machine.specs.declared.class_state.ClassState.{ClassState}
-use Rattle.et_machine.specs.declared.class_state.ClassState.TheVariants.{Untouched, Done}
-use Rattle.et_machine.specs.Words.{static_at, class_state_at, with_class_state, with_guest}
-use Rattle.et_machine.specs.State.{Kept, MachineState, kept_of}
+use Rattle.et_state.specs.declared.class_state.ClassState.{ClassState}
+use Rattle.et_state.specs.declared.class_state.ClassState.TheVariants.{Untouched, Done}
+use Rattle.et_state.specs.Words.{static_at, class_state_at, with_class_state, with_guest}
+use Rattle.et_state.specs.State.{Kept, MachineState, kept_of}
 use Rattle.et_program.specs.Entries.{Linked, class_at}
 use Rattle.et_state.specs.declared.records.Record.{Record}
 use Rattle.et_event.specs.Moments.{Moment, moment, Doing, fits}

@@ -11,11 +11,11 @@ use Rattle.et_graph.proofs.Lists.{Contains-none, Contains-cons}
 use Rattle.et_base.specs.declared.value.Value.{Value}
 use Rattle.et_base.specs.declared.value.Value.TheVariants.{Unset, Int, Long, LongHigh, Null, Ref}
 use Rattle.et_heap.specs.Objects.{Objects, slots_in, most_objects, most_slots}
-use Rattle.et_machine.specs.declared.class_state.ClassState.{ClassState}
-use Rattle.et_machine.specs.declared.class_state.ClassState.TheVariants.{Untouched, Begun, Done, Failed}
-use Rattle.et_machine.specs.State.{Kept}
-use Rattle.et_machine.specs.Interned.{objects_of}
-use Rattle.et_machine.specs.Words.{static_at, with_static, class_state_at}
+use Rattle.et_state.specs.declared.class_state.ClassState.{ClassState}
+use Rattle.et_state.specs.declared.class_state.ClassState.TheVariants.{Untouched, Begun, Done, Failed}
+use Rattle.et_state.specs.State.{Kept}
+use Rattle.et_state.specs.Interned.{objects_of}
+use Rattle.et_state.specs.Words.{static_at, with_static, class_state_at}
 use Rattle.et_program.specs.Entries.{Linked, class_at, field_at}
 use Rattle.et_program.specs.declared.info.FieldInfo.{FieldInfo}
 use Rattle.et_event.specs.Kinds.{narrowed}

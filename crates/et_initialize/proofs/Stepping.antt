@@ -9,19 +9,19 @@ use Rattle.et_base.specs.declared.value.Value.{Value}
 use Rattle.et_base.specs.declared.value.Value.TheVariants.{Unset}
 use Rattle.et_heap.specs.Objects.{ObjectState, Objects, new_object, has_room, slot_count, slots_in, most_objects, most_slots}
 use Rattle.et_heap.specs.Refs.{refs_of}
-use Rattle.et_frames.specs.declared.stage.Stage.{Stage}
-use Rattle.et_frames.specs.declared.stage.Stage.TheVariants.{Plain, Before, Clinit}
-use Rattle.et_frames.specs.Threads.{FrameState, ThreadState, no_thread, first_frame, top_of, has_frame, without_top, with_pending, as_entered, in_clinit, entered_by, lost_room, most_frames}
-use Rattle.et_frames.specs.Roots.{frame_roots}
-use Rattle.et_machine.specs.declared.class_state.ClassState.{ClassState}
-use Rattle.et_machine.specs.declared.class_state.ClassState.TheVariants.{Untouched, Begun, Done}
-use Rattle.et_machine.specs.State.{GuestState, Kept, MachineState, kept_of}
-use Rattle.et_machine.specs.Words.{thread_at, with_thread, top, HasFrame, class_state_at, begun, steps_thread, steps_top, with_new_object}
-use Rattle.et_machine.specs.Roots.{roots_of}
-use Rattle.et_machine.specs.Moves.{IsOnWay, Led}
-use Rattle.et_machine.proofs.Calls.{on_set_class_state, on_drop_frame, on_enter_clinit, on_make, on_throw, on_enter_frame}
-use Rattle.et_machine.proofs.Places.{string_root, pending_root}
-use Rattle.et_machine.proofs.Steps.{root_there, newest_held}
+use Rattle.et_state.specs.declared.stage.Stage.{Stage}
+use Rattle.et_state.specs.declared.stage.Stage.TheVariants.{Plain, Before, Clinit}
+use Rattle.et_state.specs.Threads.{FrameState, ThreadState, no_thread, first_frame, top_of, has_frame, without_top, with_pending, as_entered, in_clinit, entered_by, lost_room, most_frames}
+use Rattle.et_state.specs.ThreadRoots.{frame_roots}
+use Rattle.et_state.specs.declared.class_state.ClassState.{ClassState}
+use Rattle.et_state.specs.declared.class_state.ClassState.TheVariants.{Untouched, Begun, Done}
+use Rattle.et_state.specs.State.{GuestState, Kept, MachineState, kept_of}
+use Rattle.et_state.specs.Words.{thread_at, with_thread, top, HasFrame, class_state_at, begun, steps_thread, steps_top, with_new_object}
+use Rattle.et_state.specs.Roots.{roots_of}
+use Rattle.et_state.specs.Moves.{IsOnWay, Led}
+use Rattle.et_state.proofs.Calls.{on_set_class_state, on_drop_frame, on_enter_clinit, on_make, on_throw, on_enter_frame}
+use Rattle.et_state.proofs.Places.{string_root, pending_root}
+use Rattle.et_state.proofs.Steps.{root_there, newest_held}
 use Rattle.et_program.specs.Entries.{Linked, class_at, method_at}
 use Rattle.et_state.specs.declared.records.Record.{Record}
 use Rattle.et_state.specs.declared.records.Record.TheVariants.{Alloc, Enter}

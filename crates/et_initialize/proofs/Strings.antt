@@ -7,9 +7,9 @@ use Rattle.std.proofs.lemmas.Bool.{eqb-true}
 use Rattle.std.proofs.lemmas.Option.{unwrap_or-slice_get}
 use Rattle.std.proofs.lemmas.Slice.Eq.{bytes_eq-Decides}
 use Rattle.et_graph.proofs.Lists.{Contains-here, Contains-there}
-use Rattle.et_machine.specs.Interned.{object_of, text_of, objects_of}
-use Rattle.et_machine.specs.State.{MachineState}
-use Rattle.et_machine.specs.Words.{with_string}
+use Rattle.et_state.specs.Interned.{object_of, text_of, objects_of}
+use Rattle.et_state.specs.State.{MachineState}
+use Rattle.et_state.specs.Words.{with_string}
 use Rattle.et_state.specs.declared.records.Record.{Record}
 use Rattle.et_initialize.specs.Under.{so_far, with_kept, ComesTo}
 use Rattle.et_event.specs.Errors.{class_called}

@@ -3,10 +3,10 @@ use Rattle.std.proofs.Common.{◌≡◌, ℕ, ◌<◌, ◌≤◌, Bool, true, fa
 use Rattle.std.specs.Prelude.{◌==◌, if◌then◌else◌, IfOk, find, take_while, not}
 use Rattle.std.specs.List.{list_all}
 use Rattle.std.proofs.lemmas.List.{get_or_default, take_all}
-use Rattle.et_machine.specs.declared.class_state.ClassState.{ClassState}
-use Rattle.et_machine.specs.declared.class_state.ClassState.TheVariants.{Untouched, Begun, Done, Failed}
-use Rattle.et_machine.specs.State.{Kept, MachineState, kept_of}
-use Rattle.et_machine.specs.Words.{class_state_at}
+use Rattle.et_state.specs.declared.class_state.ClassState.{ClassState}
+use Rattle.et_state.specs.declared.class_state.ClassState.TheVariants.{Untouched, Begun, Done, Failed}
+use Rattle.et_state.specs.State.{Kept, MachineState, kept_of}
+use Rattle.et_state.specs.Words.{class_state_at}
 use Rattle.et_program.specs.Entries.{Linked, class_at}
 use Rattle.et_state.specs.declared.records.Record.{Record}
 use Rattle.et_state.specs.declared.ends.EventEnd.{EventEnd}

@@ -1,8 +1,8 @@
 -- What an event does that needs a class (JVMS 5.5).
 use Rattle.std.specs.Prelude.{ℕ, ◌==◌, if◌then◌else◌}
-use Rattle.et_machine.specs.declared.class_state.ClassState.{ClassState}
-use Rattle.et_machine.specs.declared.class_state.ClassState.TheVariants as state
-use Rattle.et_machine.specs.State.{Kept}
+use Rattle.et_state.specs.declared.class_state.ClassState.{ClassState}
+use Rattle.et_state.specs.declared.class_state.ClassState.TheVariants as state
+use Rattle.et_state.specs.State.{Kept}
 use Rattle.et_state.specs.Outcome.{Outcome}
 use Rattle.et_event.specs.declared.errors.GuestError.TheVariants.{NoClassDefFoundError}
 use Rattle.et_event.specs.Moments.{Moment, Doing, waits, throws}

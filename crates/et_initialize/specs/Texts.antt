@@ -5,10 +5,10 @@ use Rattle.std.specs.Option.{option_map_or}
 use Rattle.std.specs.Str.{bytes_eq}
 use Rattle.et_pool.specs.Looks.{string_at}
 use Rattle.et_heap.specs.Objects.{Objects, made_count, slot_count, most_objects, most_slots}
-use Rattle.et_machine.specs.declared.class_state.ClassState.TheVariants.{Untouched, Done}
-use Rattle.et_machine.specs.State.{MachineState}
-use Rattle.et_machine.specs.Interned.{object_of}
-use Rattle.et_machine.specs.Words.{class_state_at}
+use Rattle.et_state.specs.declared.class_state.ClassState.TheVariants.{Untouched, Done}
+use Rattle.et_state.specs.State.{MachineState}
+use Rattle.et_state.specs.Interned.{object_of}
+use Rattle.et_state.specs.Words.{class_state_at}
 use Rattle.et_program.specs.Entries.{Linked, class_at, field_at}
 use Rattle.et_event.specs.Errors.{class_called}
 use Rattle.et_event.specs.Moments.{Doing}

@@ -1,12 +1,12 @@
 -- What an event has come to that initializes classes.
 use Rattle.std.specs.Prelude.{◌≡◌, ℕ, ◌<◌, ◌≤◌, ◌⊎◌, List, Contains, length, slice_index_or}
 use Rattle.et_base.specs.declared.value.Value.TheVariants.{Unset}
-use Rattle.et_machine.specs.declared.class_state.ClassState.TheVariants.{Untouched}
-use Rattle.et_machine.specs.State.{Kept, MachineState, kept_of}
-use Rattle.et_machine.specs.Words.{begun, class_state_at, static_at}
-use Rattle.et_machine.specs.Interned.{objects_of}
-use Rattle.et_machine.specs.Roots.{roots_of}
-use Rattle.et_machine.specs.Moves.{IsUnderWay}
+use Rattle.et_state.specs.declared.class_state.ClassState.TheVariants.{Untouched}
+use Rattle.et_state.specs.State.{Kept, MachineState, kept_of}
+use Rattle.et_state.specs.Words.{begun, class_state_at, static_at}
+use Rattle.et_state.specs.Interned.{objects_of}
+use Rattle.et_state.specs.Roots.{roots_of}
+use Rattle.et_state.specs.Moves.{IsUnderWay}
 use Rattle.et_program.specs.Entries.{Linked, field_at}
 use Rattle.et_state.specs.declared.records.Record.{Record}
 use Rattle.et_event.specs.Moments.{Doing}

@@ -1,11 +1,11 @@
 //! The constant of a static field (JVMS 4.7.2).
 ghost use Rattle.std.specs.Prelude.{◌≡◌, ℕ, ◌+◌, ◌*◌, ◌<◌, ◌++◌, ◌∷◌, [], true, None, List, Contains, IfOk, OnOk, length};
 ghost use Rattle.et_base.specs.declared.value.Value.TheVariants.{Unset, Int, Long, Ref};
-ghost use Rattle.et_frames.specs.Threads.{lost_room};
+ghost use Rattle.et_state.specs.Threads.{lost_room};
 ghost use Rattle.et_heap.specs.Objects.{has_room, new_object};
 ghost use Rattle.et_state.specs.declared.records.Record.TheVariants.{Alloc};
-ghost use Rattle.et_machine.specs.Words.{static_at, with_static, steps_guest, with_new_object};
-ghost use Rattle.et_machine.specs.Interned.{object_of, objects_of};
+ghost use Rattle.et_state.specs.Words.{static_at, with_static, steps_guest, with_new_object};
+ghost use Rattle.et_state.specs.Interned.{object_of, objects_of};
 ghost use Rattle.et_program.specs.Entries.{class_at, field_at};
 ghost use Rattle.et_event.specs.Errors.{class_called};
 ghost use Rattle.et_event.specs.Kinds.{narrowed_int};
@@ -17,11 +17,10 @@ ghost use Rattle.et_initialize.specs.Under.{so_far, with_kept, ComesTo};
 
 use et_base::{ClassId, FieldId, NoMemory, ObjectId, ThreadId, Value, to_byte, to_char, to_short};
 use et_heap::MakeFault;
-use et_machine::Machine;
 use et_parts::class_called;
 use et_pool::Pool;
 use et_program::{FieldInfo, Program};
-use et_state::{Lines, Record};
+use et_state::{Lines, Machine, Record};
 
 /// What a field of this descriptor keeps of an int (JVMS 2.3.1).
 fn narrowed(descriptor: &[u8], n: i32) -> i32

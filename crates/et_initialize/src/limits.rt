@@ -2,12 +2,12 @@
 ghost use Rattle.std.specs.Prelude.{◌≡◌, ℕ, ◌<◌, ◌||◌, [], true, All, IfOk, OnOk, length, fold, option_map, is_some};
 ghost use Rattle.std.specs.List.{list_all, list_any};
 ghost use Rattle.et_heap.specs.Objects.{has_room};
-ghost use Rattle.et_machine.specs.declared.class_state.ClassState.{ClassState as State};
-ghost use Rattle.et_machine.specs.declared.class_state.ClassState.TheVariants as states;
-ghost use Rattle.et_machine.specs.State.{Kept};
-ghost use Rattle.et_machine.specs.Words.{class_state_at};
+ghost use Rattle.et_state.specs.declared.class_state.ClassState.{ClassState as State};
+ghost use Rattle.et_state.specs.declared.class_state.ClassState.TheVariants as states;
+ghost use Rattle.et_state.specs.State.{Kept};
+ghost use Rattle.et_state.specs.Words.{class_state_at};
 ghost use Rattle.et_initialize.specs.Programs.{IsInOrder};
-ghost use Rattle.et_machine.specs.Interned.{object_of};
+ghost use Rattle.et_state.specs.Interned.{object_of};
 ghost use Rattle.et_program.specs.Entries.{class_at};
 ghost use Rattle.et_event.specs.Moments.{moment, Doing, begins, fits as all_fit};
 ghost use Rattle.et_event.specs.Initialization.{state_of, field_set, constants_set, with_state, class_done, quietly_done, is_ready, prepared};
@@ -16,9 +16,9 @@ ghost use Rattle.et_initialize.specs.Texts.{text_of as text_in, has_text, string
 use crate::constants::slots_of;
 use et_base::{ClassId, FieldId, NoMemory};
 use et_heap::{MOST_OBJECTS, MOST_SLOTS};
-use et_machine::{ClassState, Machine};
 use et_parts::class_called;
 use et_program::Program;
+use et_state::{ClassState, Machine};
 use std::alloc::Global;
 
 /// The bytes of the constant of a field, where that is a string.

@@ -5,8 +5,8 @@ ghost use Rattle.et_event.specs.Initialization.{is_quiet as quiet, is_quiet_stat
 ghost use Rattle.et_initialize.specs.Needs.{need_of as needed};
 
 use et_base::{ClassId, ThreadId};
-use et_machine::{ClassState, Machine};
 use et_program::Program;
+use et_state::{ClassState, Machine};
 
 /// What an event does that needs a class (JVMS 5.5).
 #[derive(Clone, Copy, Debug, PartialEq, Eq)]

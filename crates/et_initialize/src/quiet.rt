@@ -1,9 +1,9 @@
 //! Quiet classes: those for which nothing is to be run.
 ghost use Rattle.std.specs.Prelude.{◌≡◌, ℕ, ◌<◌, true, OnOk, length};
 ghost use Rattle.et_base.specs.declared.value.Value.TheVariants.{Unset};
-ghost use Rattle.et_frames.specs.Threads.{lost_room};
-ghost use Rattle.et_machine.specs.State.{kept_of};
-ghost use Rattle.et_machine.specs.Words.{static_at};
+ghost use Rattle.et_state.specs.Threads.{lost_room};
+ghost use Rattle.et_state.specs.State.{kept_of};
+ghost use Rattle.et_state.specs.Words.{static_at};
 ghost use Rattle.et_event.specs.Moments.{moment, fits};
 ghost use Rattle.et_event.specs.Initialization.{constants_set, class_done, quietly_done, state_of};
 ghost use Rattle.et_initialize.specs.Programs.{IsInOrder};
@@ -11,9 +11,8 @@ ghost use Rattle.et_initialize.specs.Under.{so_far, ComesTo, IsReady, class_of_s
 
 use crate::constants::set_field;
 use et_base::{ClassId, NoMemory, ThreadId};
-use et_machine::{ClassState, Machine};
 use et_program::Program;
-use et_state::Lines;
+use et_state::{ClassState, Lines, Machine};
 
 /// Sets the constants of a class whose static fields were not written, in the order of the file.
 pub(crate) fn set_constants(

@@ -1,11 +1,11 @@
 //! The turns of an initializer that has not entered `<clinit>` yet.
 ghost use Rattle.std.specs.Prelude.{◌≡◌, ◌<◌, ◌≤◌, ◌^◌, ◌++◌, true, false, None, All, IfOk, OnOk, length, take, slice_index_or};
 ghost use Rattle.std.specs.List.{list_all};
-ghost use Rattle.et_frames.specs.Threads.{lost_room, most_frames};
-ghost use Rattle.et_machine.specs.declared.class_state.ClassState.TheVariants as states;
-ghost use Rattle.et_machine.specs.State.{kept_of};
-ghost use Rattle.et_frames.specs.declared.stage.Stage.TheVariants as stages;
-ghost use Rattle.et_machine.specs.Words.{HasFrame, top, begun, thread_at};
+ghost use Rattle.et_state.specs.Threads.{lost_room, most_frames};
+ghost use Rattle.et_state.specs.declared.class_state.ClassState.TheVariants as states;
+ghost use Rattle.et_state.specs.State.{kept_of};
+ghost use Rattle.et_state.specs.declared.stage.Stage.TheVariants as stages;
+ghost use Rattle.et_state.specs.Words.{HasFrame, top, begun, thread_at};
 ghost use Rattle.et_event.specs.Answered.{EventAnswers};
 ghost use Rattle.et_heap.specs.Objects.{has_room};
 ghost use Rattle.et_program.specs.Entries.{class_at};
@@ -24,10 +24,9 @@ use crate::needs::{Need, need_of};
 use crate::quiet::{set_constants, set_quietly};
 use et_base::{ClassId, MethodId, NoMemory, ThreadId};
 use et_event::GuestError;
-use et_machine::{ClassState, Machine};
 use et_parts::class_called;
 use et_program::{MethodInfo, Program};
-use et_state::{EventEnd, Lines, Record};
+use et_state::{ClassState, EventEnd, Lines, Machine, Record};
 use std::alloc::Global;
 
 /// In the event under way, a quiet class that is untouched becomes done, with what is initialized with it.

@@ -8,9 +8,9 @@ use Rattle.et_base.specs.declared.value.Value.{Value}
 use Rattle.et_class.specs.Names.{has}
 use Rattle.et_class.specs.declared.flags.TheConstants.{ABSTRACT, NATIVE}
 use Rattle.et_code.specs.Bodies.{Body}
-use Rattle.et_machine.specs.declared.class_state.ClassState.{ClassState}
-use Rattle.et_machine.specs.declared.class_state.ClassState.TheVariants.{Untouched}
-use Rattle.et_machine.specs.State.{Kept}
+use Rattle.et_state.specs.declared.class_state.ClassState.{ClassState}
+use Rattle.et_state.specs.declared.class_state.ClassState.TheVariants.{Untouched}
+use Rattle.et_state.specs.State.{Kept}
 use Rattle.et_program.specs.Entries.{Linked, method_at, is_static}
 use Rattle.et_program.specs.declared.info.MethodInfo.{MethodInfo}
 use Rattle.et_state.specs.Outcome.{Outcome}

@@ -10,17 +10,17 @@ use Rattle.et_code.specs.Bodies.{Body}
 use Rattle.et_heap.specs.declared.monitor.Monitor.{Monitor}
 use Rattle.et_heap.specs.Objects.{IsHeld, Objects, free_monitor}
 use Rattle.et_heap.specs.Refs.{refs_of}
-use Rattle.et_frames.specs.Roots.{frame_roots}
-use Rattle.et_frames.specs.Threads.{FrameState, ThreadState, no_thread, entered_by, lost_room, most_frames, popped, with_top_of}
-use Rattle.et_machine.specs.State.{Kept, MachineState, kept_of}
-use Rattle.et_machine.specs.Words.{thread_at, top, HasFrame, with_top, begun, steps_top, steps_thread}
-use Rattle.et_machine.specs.Interned.{objects_of}
-use Rattle.et_machine.specs.Sound.{IsSound}
-use Rattle.et_machine.specs.Moves.{IsOnWay, Led, WasThere}
-use Rattle.et_machine.proofs.Calls.{on_enter_frame}
-use Rattle.et_machine.proofs.Places.{frame_pops, guest_top, string_root, top_root}
-use Rattle.et_machine.proofs.Steps.{root_there, waited_led}
-use Rattle.et_machine.proofs.UnderWay.{law_guest}
+use Rattle.et_state.specs.ThreadRoots.{frame_roots}
+use Rattle.et_state.specs.Threads.{FrameState, ThreadState, no_thread, entered_by, lost_room, most_frames, popped, with_top_of}
+use Rattle.et_state.specs.State.{Kept, MachineState, kept_of}
+use Rattle.et_state.specs.Words.{thread_at, top, HasFrame, with_top, begun, steps_top, steps_thread}
+use Rattle.et_state.specs.Interned.{objects_of}
+use Rattle.et_state.specs.Sound.{IsSound}
+use Rattle.et_state.specs.Moves.{IsOnWay, Led, WasThere}
+use Rattle.et_state.proofs.Calls.{on_enter_frame}
+use Rattle.et_state.proofs.Places.{frame_pops, guest_top, string_root, top_root}
+use Rattle.et_state.proofs.Steps.{root_there, waited_led}
+use Rattle.et_state.proofs.UnderWay.{law_guest}
 use Rattle.et_program.specs.Entries.{Linked, method_at, is_static}
 use Rattle.et_program.specs.declared.info.MethodInfo.{MethodInfo}
 use Rattle.et_state.specs.declared.records.Record.{Record}

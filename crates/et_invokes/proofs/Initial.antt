@@ -1,9 +1,9 @@
 -- A static method is called whose class is untouched.
 use Rattle.std.proofs.Common.{◌≡◌, ℕ, Bool, true, false, List, [], ◌∷◌, Option, Some, None, refl, sym, ◌∙◌, ap, subst}
 use Rattle.std.specs.Prelude.{if◌then◌else◌}
-use Rattle.et_machine.specs.declared.class_state.ClassState.{ClassState}
-use Rattle.et_machine.specs.declared.class_state.ClassState.TheVariants.{Untouched}
-use Rattle.et_machine.specs.State.{Kept, MachineState}
+use Rattle.et_state.specs.declared.class_state.ClassState.{ClassState}
+use Rattle.et_state.specs.declared.class_state.ClassState.TheVariants.{Untouched}
+use Rattle.et_state.specs.State.{Kept, MachineState}
 use Rattle.et_program.specs.Entries.{method_at}
 use Rattle.et_state.specs.declared.records.Record.{Record}
 use Rattle.et_state.specs.declared.ends.EventEnd.{EventEnd}

@@ -1,9 +1,9 @@
 -- The machine as a method is entered in the event under way.
 use Rattle.std.specs.Prelude.{ℕ, [], take}
 use Rattle.et_heap.specs.Refs.{refs_of}
-use Rattle.et_frames.specs.Threads.{FrameState, entered_by, popped}
-use Rattle.et_machine.specs.State.{MachineState}
-use Rattle.et_machine.specs.Words.{thread_at, top, steps_top, steps_thread}
+use Rattle.et_state.specs.Threads.{FrameState, entered_by, popped}
+use Rattle.et_state.specs.State.{MachineState}
+use Rattle.et_state.specs.Words.{thread_at, top, steps_top, steps_thread}
 
 -- so many entries were taken from the topmost frame
 abbrev pub taken_on : MachineState → ℕ → ℕ → MachineState

@@ -1,9 +1,9 @@
 //! The rows of calls and returns, where a class may have to be initialized first.
 ghost use Rattle.std.specs.Prelude.{◌≡◌, ◌+◌, ◌<◌, ◌≤◌, ◌^◌, false, IfOk, length};
-ghost use Rattle.et_frames.specs.declared.stage.Turn.TheVariants as turns;
-ghost use Rattle.et_frames.specs.Threads.{turn_of};
-ghost use Rattle.et_machine.specs.State.{kept_of};
-ghost use Rattle.et_machine.specs.Words.{HasFrame, thread_at, top};
+ghost use Rattle.et_state.specs.declared.stage.Turn.TheVariants as turns;
+ghost use Rattle.et_state.specs.Threads.{turn_of};
+ghost use Rattle.et_state.specs.State.{kept_of};
+ghost use Rattle.et_state.specs.Words.{HasFrame, thread_at, top};
 ghost use Rattle.et_place.specs.Places.{IsPlace, site_at};
 ghost use Rattle.et_event.specs.declared.rows.CallRow.TheVariants as call_rows;
 ghost use Rattle.et_event.specs.declared.rows.Row.TheVariants as rows;
@@ -22,10 +22,9 @@ use et_base::{MethodId, NoMemory, Steps, ThreadId};
 use et_calls::{CallPlan, call_row_event, invoke_plan, plan_event};
 use et_event::{CallKind, CallRow, Operand};
 use et_initialize::{Need, begin_class_event, need_of};
-use et_machine::Machine;
 use et_place::Place;
 use et_program::Program;
-use et_state::{EventEnd, Lines};
+use et_state::{EventEnd, Lines, Machine};
 use std::alloc::Global;
 use std::sync::ledger::Ledger;
 

@@ -9,11 +9,11 @@ use Rattle.et_code.specs.Bodies.{Body}
 use Rattle.et_heap.specs.declared.monitor.Monitor.{Monitor}
 use Rattle.et_heap.specs.Objects.{ObjectState, Objects, at, found, is_there, object_at, slots_in, made_count, slot_count, most_objects, most_slots, with_monitor}
 use Rattle.et_heap.specs.Refs.{refs_of}
-use Rattle.et_frames.specs.Roots.{frame_roots}
-use Rattle.et_frames.specs.Threads.{FrameState, entered_by, locals_with}
-use Rattle.et_machine.specs.State.{Kept, MachineState, kept_of}
-use Rattle.et_machine.specs.Words.{thread_at}
-use Rattle.et_machine.proofs.Places.{refs_of-locals_with}
+use Rattle.et_state.specs.ThreadRoots.{frame_roots}
+use Rattle.et_state.specs.Threads.{FrameState, entered_by, locals_with}
+use Rattle.et_state.specs.State.{Kept, MachineState, kept_of}
+use Rattle.et_state.specs.Words.{thread_at}
+use Rattle.et_state.proofs.Places.{refs_of-locals_with}
 use Rattle.et_program.specs.Entries.{Linked}
 use Rattle.et_event.specs.Frames.{method_frame}
 use Rattle.et_event.specs.Moments.{Moment, Doing, with_thread_state, fits}

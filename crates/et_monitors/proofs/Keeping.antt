@@ -1,9 +1,9 @@
 -- What the machine keeps where a monitor is written.
 use Rattle.std.proofs.Common.{◌≡◌, List, Option, Some, None, refl}
 use Rattle.et_heap.specs.declared.monitor.Monitor.{Monitor}
-use Rattle.et_machine.specs.State.{Kept, MachineState, kept_of}
-use Rattle.et_machine.specs.Moves.{IsOnWay}
-use Rattle.et_machine.proofs.Calls.{on_set_monitor, on_set_class_monitor}
+use Rattle.et_state.specs.State.{Kept, MachineState, kept_of}
+use Rattle.et_state.specs.Moves.{IsOnWay}
+use Rattle.et_state.proofs.Calls.{on_set_monitor, on_set_class_monitor}
 use Rattle.et_state.specs.declared.records.Record.{Record}
 use Rattle.et_event.specs.Moments.{Moment}
 use Rattle.et_event.specs.Monitors.{Lock, OfObject, OfClass, entered_some, left_some}

@@ -8,12 +8,12 @@ use Rattle.et_program.specs.Entries.{Linked}
 use Rattle.et_program.specs.declared.info.MethodInfo.{MethodInfo}
 use Rattle.et_heap.specs.declared.monitor.Monitor.{Monitor}
 use Rattle.et_heap.specs.Objects.{Objects, ObjectState, IsHeld, at, found, is_there, free_monitor}
-use Rattle.et_frames.specs.declared.stage.Stage.{Stage}
-use Rattle.et_frames.specs.declared.stage.Stage.TheVariants.{Plain, Before, Clinit}
-use Rattle.et_frames.specs.Threads.{FrameState}
-use Rattle.et_machine.specs.State.{MachineState, kept_of}
-use Rattle.et_machine.specs.Words.{HasFrame, top}
-use Rattle.et_machine.proofs.Places.{top_root, lock_root}
+use Rattle.et_state.specs.declared.stage.Stage.{Stage}
+use Rattle.et_state.specs.declared.stage.Stage.TheVariants.{Plain, Before, Clinit}
+use Rattle.et_state.specs.Threads.{FrameState}
+use Rattle.et_state.specs.State.{MachineState, kept_of}
+use Rattle.et_state.specs.Words.{HasFrame, top}
+use Rattle.et_state.proofs.Places.{top_root, lock_root}
 use Rattle.et_event.specs.Monitors.{Lock, OfObject, OfClass, lock_for, lock_in}
 use Rattle.et_event.specs.Sites.{method_of}
 use Rattle.et_event.specs.Sound.{IsSoundFor, IsSoundMonitor}

@@ -2,7 +2,7 @@
 use Rattle.std.specs.Prelude.{ℕ, ◌+◌, ◌<◌, ◌≤◌, ◌^◌, Bool, true, [], length, Option, Some, None}
 use Rattle.et_heap.specs.declared.monitor.Monitor.{Monitor}
 use Rattle.et_heap.specs.Objects.{IsHeld}
-use Rattle.et_machine.specs.State.{Kept, MachineState, kept_of}
+use Rattle.et_state.specs.State.{Kept, MachineState, kept_of}
 use Rattle.et_event.specs.Moments.{Doing}
 use Rattle.et_event.specs.Monitors as table
 use Rattle.et_monitors.specs.declared.locks.Lock.{Lock}

@@ -3,8 +3,8 @@
 
 ghost use Rattle.std.specs.Prelude.{◌≡◌, ℕ, List, Option};
 ghost use Rattle.et_heap.specs.declared.monitor.Monitor.{Monitor};
-ghost use Rattle.et_machine.specs.State.{Kept, MachineState, kept_of};
-ghost use Rattle.et_machine.specs.Moves.{IsOnWay};
+ghost use Rattle.et_state.specs.State.{Kept, MachineState, kept_of};
+ghost use Rattle.et_state.specs.Moves.{IsOnWay};
 ghost use Rattle.et_state.specs.declared.records.Record.{Record};
 ghost use Rattle.et_event.specs.Moments.{Moment};
 ghost use Rattle.et_event.specs.Monitors.{Lock as TableLock, entered_some, left_some};

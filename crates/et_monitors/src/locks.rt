@@ -5,8 +5,8 @@ ghost use Rattle.et_monitors.specs.Locks.{locks_of};
 
 use et_base::{ClassId, ObjectId};
 use et_class::flags::{STATIC, SYNCHRONIZED, has};
-use et_frames::Stage;
 use et_program::MethodInfo;
+use et_state::Stage;
 
 /// What has a monitor (JVMS 2.11.10).
 #[derive(Clone, Copy, Debug, PartialEq, Eq)]

@@ -6,7 +6,7 @@ ghost use Rattle.et_monitors.specs.Locks.{lock_of, locks_of, HasMonitor, HasSome
 use crate::locks::Lock;
 use et_base::{Steps, ThreadId};
 use et_heap::Monitor;
-use et_machine::Machine;
+use et_state::Machine;
 use std::sync::ledger::Ledger;
 
 /// The monitor of a lock. It visits one object at most, as each call here that reads.

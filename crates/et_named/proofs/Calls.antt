@@ -15,12 +15,12 @@ use Rattle.et_program.specs.Tables.{IsInfoWithin}
 use Rattle.et_program.specs.Resolution.{resolve_class, resolve_method, select, select_special}
 use Rattle.et_program.specs.declared.info.MethodInfo.{MethodInfo}
 use Rattle.et_program.specs.declared.errors.LinkError.{LinkError}
-use Rattle.et_frames.specs.declared.stage.Stage.{Stage}
-use Rattle.et_frames.specs.declared.stage.Stage.TheVariants.{Plain, Before, Clinit}
-use Rattle.et_frames.specs.Threads.{FrameState, ThreadState, entered_by, as_entered, without_top, rest_of, thread_with, most_threads, in_clinit, new_thread}
-use Rattle.et_machine.specs.declared.class_state.ClassState.TheVariants.{Done, Failed}
-use Rattle.et_machine.specs.State.{Kept}
-use Rattle.et_machine.specs.Words.{thread_at, with_new_thread}
+use Rattle.et_state.specs.declared.stage.Stage.{Stage}
+use Rattle.et_state.specs.declared.stage.Stage.TheVariants.{Plain, Before, Clinit}
+use Rattle.et_state.specs.Threads.{FrameState, ThreadState, entered_by, as_entered, without_top, rest_of, thread_with, most_threads, in_clinit, new_thread}
+use Rattle.et_state.specs.declared.class_state.ClassState.TheVariants.{Done, Failed}
+use Rattle.et_state.specs.State.{Kept}
+use Rattle.et_state.specs.Words.{thread_at, with_new_thread}
 use Rattle.et_state.specs.declared.records.Record.TheVariants.{Enter, Unwind}
 use Rattle.et_state.specs.Outcome.{Outcome}
 use Rattle.et_event.specs.declared.rows.BuiltIn.{BuiltIn}

@@ -15,8 +15,8 @@ use Rattle.et_program.specs.Tables.{IsWithin, IsTabled}
 use Rattle.et_program.specs.declared.info.Element.{Element}
 use Rattle.et_program.specs.declared.info.Element.TheVariants.{NoArray, Base, Class}
 use Rattle.et_program.proofs.PlaceLemmas.{position_within}
-use Rattle.et_frames.specs.Threads.{FrameState, as_ended}
-use Rattle.et_machine.specs.State.{Kept}
+use Rattle.et_state.specs.Threads.{FrameState, as_ended}
+use Rattle.et_state.specs.State.{Kept}
 use Rattle.et_state.specs.Outcome.{Outcome}
 use Rattle.et_event.specs.declared.rows.Division.{Division}
 use Rattle.et_event.specs.declared.rows.Elements.{Elements}

@@ -5,12 +5,12 @@ use Rattle.et_code.specs.declared.instr.Instr.{Instr}
 use Rattle.et_code.specs.declared.instr.CodeFault.{CodeFault}
 use Rattle.et_program.specs.Entries.{Linked}
 use Rattle.et_program.specs.Tables.{IsTabled}
-use Rattle.et_frames.specs.declared.stage.Stage.{Stage}
-use Rattle.et_frames.specs.declared.stage.Stage.TheVariants.{Plain, Before, Clinit}
-use Rattle.et_frames.specs.declared.stage.Turn.{Turn}
-use Rattle.et_frames.specs.declared.stage.Turn.TheVariants.{Unwind, EndThread, Entry, Initialize, Instruction}
-use Rattle.et_frames.specs.Threads.{FrameState, ThreadState, no_thread, first_frame, has_frame, is_before, top_of, turn_of}
-use Rattle.et_machine.specs.State.{Kept}
+use Rattle.et_state.specs.declared.stage.Stage.{Stage}
+use Rattle.et_state.specs.declared.stage.Stage.TheVariants.{Plain, Before, Clinit}
+use Rattle.et_state.specs.declared.stage.Turn.{Turn}
+use Rattle.et_state.specs.declared.stage.Turn.TheVariants.{Unwind, EndThread, Entry, Initialize, Instruction}
+use Rattle.et_state.specs.Threads.{FrameState, ThreadState, no_thread, first_frame, has_frame, is_before, top_of, turn_of}
+use Rattle.et_state.specs.State.{Kept}
 use Rattle.et_event.specs.declared.rows.Row.{Row}
 use Rattle.et_event.specs.declared.rows.Row.TheVariants as row
 use Rattle.et_event.specs.Event.{does, by_row, by_instruction, initializes, does_turn, event}

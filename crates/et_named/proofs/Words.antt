@@ -7,12 +7,12 @@ use Rattle.et_base.specs.declared.value.Value.TheVariants.{Unset, Int, Long, Lon
 use Rattle.et_program.specs.Entries.{Linked, class_at, method_at, field_at}
 use Rattle.et_program.specs.declared.info.FieldInfo.{FieldInfo}
 use Rattle.et_heap.specs.Objects.{with_object_at, with_slot, slot_of, object_at}
-use Rattle.et_frames.specs.Threads.{FrameState, ThreadState, has_frame, as_entered, entered_by}
-use Rattle.et_machine.specs.declared.class_state.ClassState.{ClassState}
-use Rattle.et_machine.specs.declared.class_state.ClassState.TheVariants.{Untouched, Begun, Done, Failed}
-use Rattle.et_machine.specs.Interned.{object_of}
-use Rattle.et_machine.specs.State.{GuestState}
-use Rattle.et_machine.specs.Words.{thread_at, static_at, with_static, with_string}
+use Rattle.et_state.specs.Threads.{FrameState, ThreadState, has_frame, as_entered, entered_by}
+use Rattle.et_state.specs.declared.class_state.ClassState.{ClassState}
+use Rattle.et_state.specs.declared.class_state.ClassState.TheVariants.{Untouched, Begun, Done, Failed}
+use Rattle.et_state.specs.Interned.{object_of}
+use Rattle.et_state.specs.State.{GuestState}
+use Rattle.et_state.specs.Words.{thread_at, static_at, with_static, with_string}
 use Rattle.et_state.specs.declared.records.Record.{Record}
 use Rattle.et_state.specs.declared.records.Record.TheVariants.{Alloc, Update, Enter, Exit, Unwind}
 use Rattle.et_state.specs.Naming.{IsNamed}

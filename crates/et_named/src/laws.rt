@@ -3,7 +3,7 @@
 ghost use Rattle.std.specs.Prelude.{ℕ};
 ghost use Rattle.et_program.specs.Entries.{Linked};
 ghost use Rattle.et_program.specs.Tables.{IsTabled};
-ghost use Rattle.et_machine.specs.State.{Kept};
+ghost use Rattle.et_state.specs.State.{Kept};
 ghost use Rattle.et_event.specs.Event.{event};
 ghost use Rattle.et_event.specs.Sound.{IsSoundFor};
 ghost use Rattle.et_sound.specs.Programs.{MakesSound};

@@ -7,15 +7,15 @@ use Rattle.et_base.specs.declared.value.Value.{Value}
 use Rattle.et_base.specs.declared.value.Value.TheVariants.{Unset, Int, Long, LongHigh, Null, Ref}
 use Rattle.et_graph.proofs.Lists.{Contains-none}
 use Rattle.et_heap.specs.Refs.{refs_of_value, refs_of}
-use Rattle.et_frames.specs.Threads.{FrameState, at_pc, popped, with_local, operand_of, local_of}
-use Rattle.et_frames.specs.Roots.{frame_roots}
-use Rattle.et_machine.specs.State.{Kept, MachineState, kept_of}
-use Rattle.et_machine.specs.Words.{top, with_top, HasFrame, ticked, begun, steps_top}
-use Rattle.et_machine.specs.Sound.{IsSound}
-use Rattle.et_machine.specs.Moves.{Moves, Led}
-use Rattle.et_machine.proofs.Places.{moves_none, moves_left, moves_right}
-use Rattle.et_machine.proofs.Steps.{MayEnter, MayBeLost, did_here, did_begin, did_pop, did_step, did_set_local, did_set_pc, did_led, operand_held, operand_there, local_there, root_there}
-use Rattle.et_machine.proofs.Places.{top_root, part_contained}
+use Rattle.et_state.specs.Threads.{FrameState, at_pc, popped, with_local, operand_of, local_of}
+use Rattle.et_state.specs.ThreadRoots.{frame_roots}
+use Rattle.et_state.specs.State.{Kept, MachineState, kept_of}
+use Rattle.et_state.specs.Words.{top, with_top, HasFrame, ticked, begun, steps_top}
+use Rattle.et_state.specs.Sound.{IsSound}
+use Rattle.et_state.specs.Moves.{Moves, Led}
+use Rattle.et_state.proofs.Places.{moves_none, moves_left, moves_right}
+use Rattle.et_state.proofs.Steps.{MayEnter, MayBeLost, did_here, did_begin, did_pop, did_step, did_set_local, did_set_pc, did_led, operand_held, operand_there, local_there, root_there}
+use Rattle.et_state.proofs.Places.{top_root, part_contained}
 use Rattle.et_event.specs.Plain.{freed, one_stored, long_stored, other_half_unset}
 use Rattle.et_ops.specs.Tops.{half_beside, half_of, unset_at, refs_at}
 

@@ -3,7 +3,7 @@ use Rattle.std.proofs.Common.{◌≡◌, ℤ, pos, List, [], ◌∷◌, Option, 
 use Rattle.std.specs.Prelude.{unwrap_or}
 use Rattle.et_base.specs.declared.value.Value.{Value}
 use Rattle.et_base.specs.declared.value.Value.TheVariants.{Unset, Int, Long, LongHigh, Null, Ref}
-use Rattle.et_frames.specs.Threads.{FrameState}
+use Rattle.et_state.specs.Threads.{FrameState}
 use Rattle.et_event.specs.Checks.{with_int}
 use Rattle.et_parts.specs.Tops.{int_of}
 

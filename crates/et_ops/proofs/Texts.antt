@@ -13,18 +13,18 @@ use Rattle.et_graph.proofs.Lists.{Contains-none, Contains-here, Contains-there, 
 use Rattle.et_heap.specs.Objects.{ObjectState, new_object, IsHeld}
 use Rattle.et_heap.specs.Refs.{refs_of}
 use Rattle.et_heap.proofs.HeapLists.{held_within}
-use Rattle.et_frames.specs.Threads.{FrameState, at_pc, pushed}
-use Rattle.et_frames.specs.Roots.{frame_roots}
-use Rattle.et_machine.specs.State.{GuestState, Kept, MachineState, kept_of}
-use Rattle.et_machine.specs.Interned.{object_of, text_of, objects_of}
-use Rattle.et_machine.specs.Words.{top, with_top, HasFrame, ticked, begun, steps_top, with_guest, with_string}
-use Rattle.et_machine.specs.Roots.{graph_of}
-use Rattle.et_machine.specs.Sound.{IsSound}
-use Rattle.et_machine.specs.Moves.{IsOnWay, Led}
-use Rattle.et_machine.proofs.Places.{string_root, refs_of-unset}
-use Rattle.et_machine.proofs.UnderWay.{root_is_reached}
-use Rattle.et_machine.proofs.Calls.{on_intern}
-use Rattle.et_machine.proofs.Steps.{Did, did_here, did_begin, did_push, did_set_pc, did_on_way, did_led, led_made, made_on_way, newest_held, with_top_root}
+use Rattle.et_state.specs.Threads.{FrameState, at_pc, pushed}
+use Rattle.et_state.specs.ThreadRoots.{frame_roots}
+use Rattle.et_state.specs.State.{GuestState, Kept, MachineState, kept_of}
+use Rattle.et_state.specs.Interned.{object_of, text_of, objects_of}
+use Rattle.et_state.specs.Words.{top, with_top, HasFrame, ticked, begun, steps_top, with_guest, with_string}
+use Rattle.et_state.specs.Roots.{graph_of}
+use Rattle.et_state.specs.Sound.{IsSound}
+use Rattle.et_state.specs.Moves.{IsOnWay, Led}
+use Rattle.et_state.proofs.Places.{string_root, refs_of-unset}
+use Rattle.et_state.proofs.UnderWay.{root_is_reached}
+use Rattle.et_state.proofs.Calls.{on_intern}
+use Rattle.et_state.proofs.Steps.{Did, did_here, did_begin, did_push, did_set_pc, did_on_way, did_led, led_made, made_on_way, newest_held, with_top_root}
 use Rattle.et_state.specs.declared.records.Record.{Record}
 use Rattle.et_state.specs.declared.ends.EventEnd.{EventEnd}
 use Rattle.et_state.specs.declared.ends.EventEnd.TheVariants as ends

@@ -3,8 +3,8 @@ use Rattle.std.specs.Prelude.{◌≡◌, ℕ, true, false, List, ◌∷◌, Opti
 use Rattle.std.specs.Int.{w32, w64}
 use Rattle.et_base.specs.declared.value.Value.{Value}
 use Rattle.et_base.specs.declared.value.Value.TheVariants.{Int, Long, LongHigh}
-use Rattle.et_machine.specs.State.{MachineState}
-use Rattle.et_machine.specs.Words.{top}
+use Rattle.et_state.specs.State.{MachineState}
+use Rattle.et_state.specs.Words.{top}
 use Rattle.et_event.specs.declared.rows.Number.{Number}
 use Rattle.et_event.specs.declared.rows.Number.TheVariants as number
 use Rattle.et_event.specs.declared.rows.Division.{Division}

@@ -1,6 +1,6 @@
 -- What a call that does the plain rows answers.
 use Rattle.std.specs.Prelude.{◌≡◌, Bool, true, false, List, Option, Some, None}
-use Rattle.et_machine.specs.State.{Kept, MachineState}
+use Rattle.et_state.specs.State.{Kept, MachineState}
 use Rattle.et_state.specs.declared.records.Record.{Record}
 use Rattle.et_state.specs.declared.ends.EventEnd.{EventEnd}
 use Rattle.et_state.specs.Outcome.{Outcome}

@@ -3,7 +3,7 @@ use Rattle.std.specs.Prelude.{ℕ, ◌+◌, ◌-◌, slice_index_or, slice_set, 
 use Rattle.et_base.specs.declared.value.Value.{Value}
 use Rattle.et_base.specs.declared.value.Value.TheVariants.{Unset, Long, LongHigh}
 use Rattle.et_heap.specs.Refs.{refs_of_value}
-use Rattle.et_frames.specs.Threads.{FrameState}
+use Rattle.et_state.specs.Threads.{FrameState}
 use Rattle.et_event.specs.Sites.{target}
 
 -- the frame after a branch: the pc goes so far from where it is, where the test holds, and else on

@@ -1,11 +1,11 @@
 //! Branches (JVMS 2.11.7).
 ghost use Rattle.std.specs.Prelude.{◌≡◌, ◌<◌, ◌^◌, ◌≤◌, option_map, if◌then◌else◌, length, drop, []};
-ghost use Rattle.et_machine.specs.State.{kept_of};
-ghost use Rattle.et_machine.specs.Words.{HasFrame, top, with_top, ticked};
-ghost use Rattle.et_machine.specs.Moves.{Led};
-ghost use Rattle.et_machine.specs.Sound.{IsSound};
+ghost use Rattle.et_state.specs.State.{kept_of};
+ghost use Rattle.et_state.specs.Words.{HasFrame, top, with_top, ticked};
+ghost use Rattle.et_state.specs.Moves.{Led};
+ghost use Rattle.et_state.specs.Sound.{IsSound};
 ghost use Rattle.et_event.specs.Answered.{StepsFrame};
-ghost use Rattle.et_frames.specs.Threads.{FrameState};
+ghost use Rattle.et_state.specs.Threads.{FrameState};
 ghost use Rattle.et_event.specs.Sites.{target as target_of};
 ghost use Rattle.et_event.specs.Plain.{compares, same_reference, tested};
 ghost use Rattle.et_event.specs.declared.rows.Condition.TheVariants as when;
@@ -13,8 +13,8 @@ ghost use Rattle.et_ops.specs.Tops.{jumped};
 
 use et_base::{ObjectId, ThreadId};
 use et_event::{Comparison, Condition};
-use et_machine::Machine;
 use et_parts::{int_at, put, reference_at};
+use et_state::Machine;
 
 /// The place so far from pc.
 fn target(pc: u32, offset: i32) -> u32

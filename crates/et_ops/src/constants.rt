@@ -5,9 +5,9 @@ ghost use Rattle.et_pool.specs.Entries.{Item};
 ghost use Rattle.et_code.specs.declared.instr.Instr.{Instr as Decoded};
 ghost use Rattle.et_program.specs.Entries.{Linked};
 ghost use Rattle.et_state.specs.declared.records.Record.{Record};
-ghost use Rattle.et_machine.specs.State.{kept_of};
-ghost use Rattle.et_machine.specs.Words.{HasFrame, top};
-ghost use Rattle.et_machine.specs.Sound.{IsSound};
+ghost use Rattle.et_state.specs.State.{kept_of};
+ghost use Rattle.et_state.specs.Words.{HasFrame, top};
+ghost use Rattle.et_state.specs.Sound.{IsSound};
 ghost use Rattle.et_event.specs.Answered.{StepsFrame, EventAnswers};
 ghost use Rattle.et_event.specs.Moments.{fits};
 ghost use Rattle.et_event.specs.Plain.{put, on_frame, constant};
@@ -15,11 +15,10 @@ ghost use Rattle.et_event.specs.Sites.{constant_at};
 
 use crate::strings::string_event;
 use et_base::{NoMemory, ThreadId, Value};
-use et_machine::Machine;
 use et_parts::{ill_typed, replace};
 use et_pool::Pool;
 use et_program::Program;
-use et_state::{EventEnd, Lines};
+use et_state::{EventEnd, Lines, Machine};
 
 /// `aconst_null`.
 pub(crate) fn push_null(machine: &mut Machine, thread: ThreadId, next: u32) -> bool

@@ -3,9 +3,9 @@ ghost use Rattle.std.specs.Prelude.{◌≡◌, ℕ, ◌<◌, ◌^◌, List, Opti
 ghost use Rattle.std.specs.Int.{w32, w64};
 ghost use Rattle.et_pool.specs.Entries.{Item};
 ghost use Rattle.et_code.specs.declared.instr.Instr.{Instr as Decoded};
-ghost use Rattle.et_machine.specs.State.{kept_of};
-ghost use Rattle.et_machine.specs.Words.{HasFrame, top};
-ghost use Rattle.et_machine.specs.Sound.{IsSound};
+ghost use Rattle.et_state.specs.State.{kept_of};
+ghost use Rattle.et_state.specs.Words.{HasFrame, top};
+ghost use Rattle.et_state.specs.Sound.{IsSound};
 ghost use Rattle.et_event.specs.declared.rows.Number.TheVariants as numbers;
 ghost use Rattle.et_event.specs.Answered.{EventAnswers};
 ghost use Rattle.et_event.specs.Plain.{divided, divides};
@@ -13,10 +13,9 @@ ghost use Rattle.et_ops.specs.Divisions.{DividesFrame, quotients};
 
 use et_base::{NoMemory, ThreadId, Value, div32, div64, rem32, rem64};
 use et_event::{Division, GuestError, Number};
-use et_machine::Machine;
 use et_parts::{ill_typed, int_at, long_at, replace, throw_error};
 use et_program::Program;
-use et_state::{EventEnd, Lines};
+use et_state::{EventEnd, Lines, Machine};
 
 /// How a division ends.
 #[derive(Clone, Copy, Debug, PartialEq, Eq)]

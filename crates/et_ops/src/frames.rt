@@ -2,9 +2,9 @@
 ghost use Rattle.std.specs.Prelude.{◌≡◌, ℕ, ◌+◌, ◌<◌, ◌^◌, List, Option, length};
 ghost use Rattle.et_pool.specs.Entries.{Item};
 ghost use Rattle.et_code.specs.Switches.{IsSwitch};
-ghost use Rattle.et_machine.specs.State.{kept_of};
-ghost use Rattle.et_machine.specs.Words.{HasFrame, top};
-ghost use Rattle.et_machine.specs.Sound.{IsSound};
+ghost use Rattle.et_state.specs.State.{kept_of};
+ghost use Rattle.et_state.specs.Words.{HasFrame, top};
+ghost use Rattle.et_state.specs.Sound.{IsSound};
 ghost use Rattle.et_event.specs.declared.rows.FrameRow.TheVariants as rows;
 ghost use Rattle.et_event.specs.Answered.{StepsFrame};
 ghost use Rattle.et_event.specs.Sites.{natural as natural_of};
@@ -20,7 +20,7 @@ use crate::switches::switch;
 use et_base::ThreadId;
 use et_code::Instr;
 use et_event::{FrameRow, Local};
-use et_machine::Machine;
+use et_state::Machine;
 
 /// The number, where it isn't negative, and else 0.
 pub(crate) fn natural(n: i32) -> u32

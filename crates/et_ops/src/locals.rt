@@ -1,9 +1,9 @@
 //! Local variables (JVMS 2.6.1, 2.11.2).
 ghost use Rattle.std.specs.Prelude.{◌≡◌, ◌+◌, ◌<◌, ◌^◌, ◌++◌, option_map, length};
-ghost use Rattle.et_frames.specs.Threads.{local_of};
-ghost use Rattle.et_machine.specs.State.{kept_of};
-ghost use Rattle.et_machine.specs.Words.{HasFrame, top};
-ghost use Rattle.et_machine.specs.Sound.{IsSound};
+ghost use Rattle.et_state.specs.Threads.{local_of};
+ghost use Rattle.et_state.specs.State.{kept_of};
+ghost use Rattle.et_state.specs.Words.{HasFrame, top};
+ghost use Rattle.et_state.specs.Sound.{IsSound};
 ghost use Rattle.et_event.specs.Answered.{StepsFrame};
 ghost use Rattle.et_event.specs.Plain.{loaded, put_some};
 ghost use Rattle.et_event.specs.declared.rows.Operand.TheVariants as operand;
@@ -11,8 +11,8 @@ ghost use Rattle.et_parts.specs.Tops.{IsIn};
 
 use et_base::{ThreadId, Value};
 use et_event::Operand;
-use et_machine::Machine;
 use et_parts::replace;
+use et_state::Machine;
 
 /// What a local variable holds; `Unset` where there is none of that index.
 #[tactic(auto, using(et_parts::proofs::Groups::unset_is_in))]

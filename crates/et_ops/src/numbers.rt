@@ -1,9 +1,9 @@
 //! Operations on numbers.
 ghost use Rattle.std.specs.Prelude.{◌≡◌, ◌<◌, ◌^◌};
 ghost use Rattle.std.specs.Int.{w32, w64};
-ghost use Rattle.et_machine.specs.State.{kept_of};
-ghost use Rattle.et_machine.specs.Words.{HasFrame, top};
-ghost use Rattle.et_machine.specs.Sound.{IsSound};
+ghost use Rattle.et_state.specs.State.{kept_of};
+ghost use Rattle.et_state.specs.Words.{HasFrame, top};
+ghost use Rattle.et_state.specs.Sound.{IsSound};
 ghost use Rattle.et_event.specs.Answered.{StepsFrame};
 ghost use Rattle.et_event.specs.Plain.{combine as combination, combined, negated, shifted, moved, converted, compared, put_some};
 ghost use Rattle.et_event.specs.declared.rows.Number.TheVariants as numbers;
@@ -15,8 +15,8 @@ use et_base::{
     xor32, xor64,
 };
 use et_event::{Arithmetic, Conversion, Number, Shift};
-use et_machine::Machine;
 use et_parts::{int_at, long_at, replace};
+use et_state::Machine;
 
 fn combine32(operation: Arithmetic, a: i32, b: i32) -> i32
     ensures { result ≡ combination w32 operation a b }

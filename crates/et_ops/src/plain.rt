@@ -5,9 +5,9 @@ ghost use Rattle.et_pool.specs.Entries.{Item};
 ghost use Rattle.et_code.specs.declared.instr.Instr.{Instr as Decoded};
 ghost use Rattle.et_code.specs.Switches.{IsSwitch};
 ghost use Rattle.et_program.specs.Entries.{Linked};
-ghost use Rattle.et_machine.specs.State.{kept_of};
-ghost use Rattle.et_machine.specs.Words.{HasFrame, top};
-ghost use Rattle.et_machine.specs.Sound.{IsSound};
+ghost use Rattle.et_state.specs.State.{kept_of};
+ghost use Rattle.et_state.specs.Words.{HasFrame, top};
+ghost use Rattle.et_state.specs.Sound.{IsSound};
 ghost use Rattle.et_state.specs.declared.records.Record.{Record};
 ghost use Rattle.et_event.specs.declared.rows.FrameRow.TheVariants as frame_rows;
 ghost use Rattle.et_event.specs.declared.rows.Row.TheVariants as rows;
@@ -25,11 +25,10 @@ use crate::frames::{frame_event, natural};
 use et_base::{NoMemory, ThreadId};
 use et_code::Instr;
 use et_event::{FrameRow, Row};
-use et_machine::Machine;
 use et_parts::ill_typed;
 use et_pool::Pool;
 use et_program::Program;
-use et_state::{EventEnd, Lines};
+use et_state::{EventEnd, Lines, Machine};
 
 /// The event of an instruction that reads and changes nothing but the topmost frame.
 fn frame_row_event(

@@ -1,16 +1,16 @@
 //! Rearrangements of the topmost operands (JVMS 2.11.6).
 ghost use Rattle.std.specs.Prelude.{◌≡◌, ◌<◌, ◌^◌};
-ghost use Rattle.et_machine.specs.State.{kept_of};
-ghost use Rattle.et_machine.specs.Words.{HasFrame, top};
-ghost use Rattle.et_machine.specs.Sound.{IsSound};
+ghost use Rattle.et_state.specs.State.{kept_of};
+ghost use Rattle.et_state.specs.Words.{HasFrame, top};
+ghost use Rattle.et_state.specs.Sound.{IsSound};
 ghost use Rattle.et_event.specs.Answered.{StepsFrame};
 ghost use Rattle.et_event.specs.Plain.{rearranged};
 ghost use Rattle.et_event.specs.declared.rows.Rearrangement.TheVariants as stack;
 
 use et_base::ThreadId;
 use et_event::Rearrangement;
-use et_machine::Machine;
 use et_parts::{is_one, is_pair, operand_at, replace};
+use et_state::Machine;
 
 /// `nop`.
 fn nop(machine: &mut Machine, thread: ThreadId, next: u32) -> bool

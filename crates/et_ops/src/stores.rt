@@ -1,11 +1,11 @@
 //! Local variables, written (JVMS 2.6.1, 2.11.2).
 ghost use Rattle.std.specs.Prelude.{◌≡◌, ◌+◌, ◌<◌, ◌≤◌, ◌^◌, drop, length, slice_set};
 ghost use Rattle.et_base.specs.declared.value.Value.TheVariants.{Int};
-ghost use Rattle.et_frames.specs.Threads.{lost_room, operand_of};
-ghost use Rattle.et_machine.specs.State.{kept_of};
-ghost use Rattle.et_machine.specs.Words.{HasFrame, top, with_top, ticked, steps_top};
-ghost use Rattle.et_machine.specs.Sound.{IsSound};
-ghost use Rattle.et_machine.specs.Moves.{Led};
+ghost use Rattle.et_state.specs.Threads.{lost_room, operand_of};
+ghost use Rattle.et_state.specs.State.{kept_of};
+ghost use Rattle.et_state.specs.Words.{HasFrame, top, with_top, ticked, steps_top};
+ghost use Rattle.et_state.specs.Sound.{IsSound};
+ghost use Rattle.et_state.specs.Moves.{Led};
 ghost use Rattle.et_event.specs.Answered.{StepsFrame};
 ghost use Rattle.et_event.specs.Plain.{increased, long_stored, one_stored, stored};
 ghost use Rattle.et_event.specs.declared.rows.Operand.TheVariants as operand;
@@ -14,8 +14,8 @@ ghost use Rattle.et_ops.specs.Tops.{half_beside as half, half_of, unset_at, refs
 use crate::locals::local_at;
 use et_base::{ThreadId, Value, add32};
 use et_event::Operand;
-use et_machine::Machine;
 use et_parts::{int_at, long_at, reference_at, take};
+use et_state::Machine;
 
 /// The local variable of the other half of a long, whose one half is this value of local variable i.
 fn half_beside(value: Value, i: u16) -> Option<u16>

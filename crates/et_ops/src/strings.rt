@@ -4,21 +4,20 @@ ghost use Rattle.et_base.specs.declared.value.Value.TheVariants.{Ref};
 ghost use Rattle.et_pool.specs.Entries.{Item};
 ghost use Rattle.et_code.specs.declared.instr.Instr.{Instr as Decoded};
 ghost use Rattle.et_heap.specs.Objects.{IsHeld};
-ghost use Rattle.et_machine.specs.State.{kept_of};
-ghost use Rattle.et_machine.specs.Words.{HasFrame, top, with_top, ticked};
-ghost use Rattle.et_machine.specs.Sound.{IsSound};
-ghost use Rattle.et_machine.specs.Moves.{Led};
-ghost use Rattle.et_machine.specs.Interned.{object_of};
+ghost use Rattle.et_state.specs.State.{kept_of};
+ghost use Rattle.et_state.specs.Words.{HasFrame, top, with_top, ticked};
+ghost use Rattle.et_state.specs.Sound.{IsSound};
+ghost use Rattle.et_state.specs.Moves.{Led};
+ghost use Rattle.et_state.specs.Interned.{object_of};
 ghost use Rattle.et_event.specs.Answered.{EventAnswers};
 ghost use Rattle.et_event.specs.Moments.{fits};
 ghost use Rattle.et_event.specs.Plain.{constant};
 ghost use Rattle.et_event.specs.Sites.{AString};
 
 use et_base::{NoMemory, ObjectId, ThreadId, Value};
-use et_machine::Machine;
 use et_parts::{class_called, ill_typed, make_instance};
 use et_program::Program;
-use et_state::{EventEnd, Lines};
+use et_state::{EventEnd, Lines, Machine};
 
 /// The event in which the string of a constant that has its object is pushed.
 fn push_string(machine: &mut Machine, thread: ThreadId, object: ObjectId, next: u32)

@@ -1,9 +1,9 @@
 //! Switches (JVMS 6.5, tableswitch and lookupswitch).
 ghost use Rattle.std.specs.Prelude.{◌≡◌, ◌∷◌, ◌<◌, ◌^◌, Option, Some, None};
 ghost use Rattle.et_code.specs.Switches.{IsSwitch, target_of};
-ghost use Rattle.et_machine.specs.State.{kept_of};
-ghost use Rattle.et_machine.specs.Words.{HasFrame, top};
-ghost use Rattle.et_machine.specs.Sound.{IsSound};
+ghost use Rattle.et_state.specs.State.{kept_of};
+ghost use Rattle.et_state.specs.Words.{HasFrame, top};
+ghost use Rattle.et_state.specs.Sound.{IsSound};
 ghost use Rattle.et_event.specs.Answered.{StepsFrame};
 ghost use Rattle.et_event.specs.Checks.{with_int};
 ghost use Rattle.et_event.specs.Sites.{target as target_at};
@@ -11,8 +11,8 @@ ghost use Rattle.et_event.specs.Sites.{target as target_at};
 use crate::branches::jump;
 use et_base::ThreadId;
 use et_code::{Instr, switch_target};
-use et_machine::Machine;
 use et_parts::int_at;
+use et_state::Machine;
 
 /// `tableswitch` and `lookupswitch`, in this code: the pc goes to the target of the int on top.
 pub(crate) fn switch(machine: &mut Machine, thread: ThreadId, code: &[u8], instr: &Instr) -> bool

@@ -1,9 +1,9 @@
 -- What an event answers that changed nothing but the topmost frame, or had no meaning.
 use Rattle.std.proofs.Common.{◌≡◌, ℕ, true, false, List, Option, Some, None, refl, sym, ap, subst, append-nil}
 use Rattle.std.specs.Prelude.{unwrap_or, Result, Ok, Err, IfOk}
-use Rattle.et_frames.specs.Threads.{FrameState}
-use Rattle.et_machine.specs.State.{MachineState}
-use Rattle.et_machine.specs.Words.{top}
+use Rattle.et_state.specs.Threads.{FrameState}
+use Rattle.et_state.specs.State.{MachineState}
+use Rattle.et_state.specs.Words.{top}
 use Rattle.et_state.specs.declared.records.Record.{Record}
 use Rattle.et_state.specs.declared.ends.EventEnd.{EventEnd}
 use Rattle.et_state.specs.declared.ends.EventEnd.TheVariants as ends

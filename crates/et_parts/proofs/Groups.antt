@@ -5,9 +5,9 @@ use Rattle.et_base.specs.declared.value.Value.{Value}
 use Rattle.et_base.specs.declared.value.Value.TheVariants.{Unset, Int, Long, LongHigh, Null, Ref}
 use Rattle.et_graph.proofs.Lists.{Contains-none}
 use Rattle.et_heap.specs.Refs.{refs_of_value, refs_of}
-use Rattle.et_frames.specs.Threads.{FrameState, operand_of, local_of}
-use Rattle.et_frames.specs.Roots.{frame_roots}
-use Rattle.et_machine.proofs.Places.{part_contained}
+use Rattle.et_state.specs.Threads.{FrameState, operand_of, local_of}
+use Rattle.et_state.specs.ThreadRoots.{frame_roots}
+use Rattle.et_state.proofs.Places.{part_contained}
 use Rattle.et_event.specs.Plain.{is_single, is_one, is_pair}
 use Rattle.et_parts.specs.Tops.{are_pair}
 

@@ -7,14 +7,14 @@ use Rattle.et_parts.specs.Tops.{AreIn}
 use Rattle.et_base.specs.declared.value.Value.{Value}
 use Rattle.et_base.specs.declared.value.Value.TheVariants.{Unset}
 use Rattle.et_heap.specs.Refs.{refs_of_value, refs_of}
-use Rattle.et_frames.specs.Threads.{FrameState, ThreadState, no_thread, at_pc, pushed, popped, operand_of, with_top_of}
-use Rattle.et_frames.specs.Roots.{frame_roots}
-use Rattle.et_machine.specs.State.{MachineState, kept_of}
-use Rattle.et_machine.specs.Words.{thread_at, top, with_top, HasFrame, ticked, begun, steps_top}
-use Rattle.et_machine.specs.Sound.{IsSound}
-use Rattle.et_machine.specs.Moves.{Moves, Led}
-use Rattle.et_machine.proofs.Places.{top_root}
-use Rattle.et_machine.proofs.Steps.{then_top, MayEnter, MayBeLost, did_led, root_there}
+use Rattle.et_state.specs.Threads.{FrameState, ThreadState, no_thread, at_pc, pushed, popped, operand_of, with_top_of}
+use Rattle.et_state.specs.ThreadRoots.{frame_roots}
+use Rattle.et_state.specs.State.{MachineState, kept_of}
+use Rattle.et_state.specs.Words.{thread_at, top, with_top, HasFrame, ticked, begun, steps_top}
+use Rattle.et_state.specs.Sound.{IsSound}
+use Rattle.et_state.specs.Moves.{Moves, Led}
+use Rattle.et_state.proofs.Places.{top_root}
+use Rattle.et_state.proofs.Steps.{then_top, MayEnter, MayBeLost, did_led, root_there}
 
 pub has_after : (b : MachineState) (t : ℕ) (f : FrameState) (l : List ℕ) (m : MachineState) → HasFrame b.guest t → m ≡ steps_top b t f l → HasFrame m.guest t
 has_after b t f l m has e =

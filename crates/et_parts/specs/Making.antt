@@ -1,6 +1,6 @@
 -- What making an object leaves.
 use Rattle.std.specs.Prelude.{◌≡◌, ℕ, true, false, List, ◌++◌, length, Option, Some, None}
-use Rattle.et_machine.specs.State.{MachineState}
+use Rattle.et_state.specs.State.{MachineState}
 use Rattle.et_state.specs.declared.records.Record.{Record}
 use Rattle.et_event.specs.Moments.{Doing, fits}
 

@@ -3,8 +3,8 @@ use Rattle.std.specs.Prelude.{ℕ, ◌-◌, ℤ, Bool, true, ◌&&◌, List, [],
 use Rattle.et_base.specs.declared.value.Value.{Value}
 use Rattle.et_base.specs.declared.value.Value.TheVariants.{Int, Long, LongHigh, Null, Ref}
 use Rattle.et_heap.specs.Refs.{refs_of_value}
-use Rattle.et_frames.specs.Threads.{FrameState}
-use Rattle.et_frames.specs.Roots.{frame_roots}
+use Rattle.et_state.specs.Threads.{FrameState}
+use Rattle.et_state.specs.ThreadRoots.{frame_roots}
 use Rattle.et_event.specs.Checks.{Reference}
 use Rattle.et_event.specs.Plain.{is_single}
 

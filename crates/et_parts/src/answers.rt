@@ -1,11 +1,10 @@
 //! What events answer.
 ghost use Rattle.std.specs.Prelude.{◌≡◌, unwrap_or};
-ghost use Rattle.et_machine.specs.Words.{HasFrame, top};
+ghost use Rattle.et_state.specs.Words.{HasFrame, top};
 ghost use Rattle.et_state.specs.declared.ends.EventEnd.TheVariants as ends;
 
 use et_base::{MethodId, ThreadId};
-use et_machine::Machine;
-use et_state::EventEnd;
+use et_state::{EventEnd, Machine};
 
 /// What an event without meaning answers: the method and the pc of the topmost frame.
 pub fn ill_typed(machine: &Machine, thread: ThreadId) -> EventEnd

@@ -1,7 +1,7 @@
 //! Objects that an event makes.
 ghost use Rattle.std.specs.Prelude.{◌≡◌, ◌<◌, ◌^◌, IfOk, OnErr};
-ghost use Rattle.et_machine.specs.State.{kept_of};
-ghost use Rattle.et_machine.specs.Sound.{IsSound};
+ghost use Rattle.et_state.specs.State.{kept_of};
+ghost use Rattle.et_state.specs.Sound.{IsSound};
 ghost use Rattle.et_program.specs.Entries.{class_at};
 ghost use Rattle.et_event.specs.Moments.{begins, instance_made};
 ghost use Rattle.et_event.specs.Errors.{class_called as called};
@@ -9,9 +9,8 @@ ghost use Rattle.et_parts.specs.Making.{MakesObject};
 
 use et_base::{ClassId, NoMemory, ObjectId, ThreadId};
 use et_heap::MakeFault;
-use et_machine::Machine;
 use et_program::Program;
-use et_state::{Lines, Record};
+use et_state::{Lines, Machine, Record};
 
 /// The built-in class of this name.
 pub fn class_called(program: &Program, name: &[u8]) -> ClassId

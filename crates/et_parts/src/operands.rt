@@ -1,17 +1,17 @@
 //! The operands of the topmost frame, taken and put.
 ghost use Rattle.std.specs.Prelude.{◌≡◌, ℕ, ◌+◌, ◌-◌, ◌<◌, ◌≤◌, ◌^◌, ◌++◌, [], length, drop, take as first};
 ghost use Rattle.et_heap.specs.Refs.{refs_of};
-ghost use Rattle.et_frames.specs.Threads.{popped, lost_room};
-ghost use Rattle.et_machine.specs.State.{kept_of};
-ghost use Rattle.et_machine.specs.Words.{HasFrame, top, with_top, ticked, steps_top};
-ghost use Rattle.et_machine.specs.Sound.{IsSound};
-ghost use Rattle.et_machine.specs.Moves.{Led};
+ghost use Rattle.et_state.specs.Threads.{popped, lost_room};
+ghost use Rattle.et_state.specs.State.{kept_of};
+ghost use Rattle.et_state.specs.Words.{HasFrame, top, with_top, ticked, steps_top};
+ghost use Rattle.et_state.specs.Sound.{IsSound};
+ghost use Rattle.et_state.specs.Moves.{Led};
 ghost use Rattle.et_parts.specs.Tops.{AreIn};
 ghost use Rattle.et_event.specs.Answered.{StepsFrame};
 ghost use Rattle.et_event.specs.Plain.{put as put_operands};
 
 use et_base::{ThreadId, Value};
-use et_machine::Machine;
+use et_state::Machine;
 
 /// Takes so many operands.
 pub fn take(machine: &mut Machine, thread: ThreadId, count: u32)

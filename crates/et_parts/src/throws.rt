@@ -1,17 +1,16 @@
 //! What the machine itself throws.
 ghost use Rattle.std.specs.Prelude.{◌≡◌, ◌<◌, ◌^◌, IfOk, OnErr};
-ghost use Rattle.et_machine.specs.State.{kept_of};
-ghost use Rattle.et_machine.specs.Words.{HasFrame};
-ghost use Rattle.et_machine.specs.Sound.{IsSound};
+ghost use Rattle.et_state.specs.State.{kept_of};
+ghost use Rattle.et_state.specs.Words.{HasFrame};
+ghost use Rattle.et_state.specs.Sound.{IsSound};
 ghost use Rattle.et_event.specs.Answered.{EventAnswers};
 ghost use Rattle.et_event.specs.Moments.{begins, throws};
 
 use crate::objects::{class_called, make_instance};
 use et_base::{NoMemory, ThreadId};
 use et_event::GuestError;
-use et_machine::Machine;
 use et_program::Program;
-use et_state::{EventEnd, Lines};
+use et_state::{EventEnd, Lines, Machine};
 
 /// The event of a thread with a frame in which the machine throws an error (JVMS 2.10): a new object of its class is pending
 /// then, and the frame stays as it is. After `NoMemory` the machine may have one object more, to which nothing refers, and

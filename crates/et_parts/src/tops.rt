@@ -1,12 +1,12 @@
 //! What stands on top of the operands of the topmost frame.
 ghost use Rattle.std.specs.Prelude.{◌≡◌, ◌+◌, ◌<◌, ◌^◌, length, drop, true};
-ghost use Rattle.et_frames.specs.Threads.{operand_of};
-ghost use Rattle.et_machine.specs.Words.{HasFrame, top};
+ghost use Rattle.et_state.specs.Threads.{operand_of};
+ghost use Rattle.et_state.specs.Words.{HasFrame, top};
 ghost use Rattle.et_event.specs.Plain.{is_single as single, is_one as one_first, is_pair as pair_first};
 ghost use Rattle.et_parts.specs.Tops.{int_of, long_of, reference_of, IsIn, are_pair};
 
 use et_base::{ObjectId, ThreadId, Value};
-use et_machine::Machine;
+use et_state::Machine;
 
 /// The operand so far below the topmost one; `Unset` where there is none.
 #[tactic(auto, using(crate::proofs::Groups::unset_is_in))]

@@ -4,8 +4,8 @@ use Rattle.std.specs.Prelude.{Result, Ok, Err, IfSome, IfNone}
 use Rattle.et_code.specs.declared.instr.Instr.{Instr}
 use Rattle.et_code.specs.declared.instr.CodeFault.{CodeFault}
 use Rattle.et_program.specs.Entries.{Linked}
-use Rattle.et_machine.specs.State.{Kept}
-use Rattle.et_machine.specs.Words.{top}
+use Rattle.et_state.specs.State.{Kept}
+use Rattle.et_state.specs.Words.{top}
 use Rattle.et_event.specs.Event.{event, does}
 use Rattle.et_event.specs.Moments.{Moment, ill_typed}
 use Rattle.et_event.specs.Sites.{Site, site_of, decoded_at}

@@ -8,7 +8,7 @@ use Rattle.et_code.specs.Bodies.{Body}
 use Rattle.et_code.specs.Rules.{KeepsRules}
 use Rattle.et_program.specs.Entries.{Linked, method_at}
 use Rattle.et_program.specs.declared.info.MethodInfo.{MethodInfo}
-use Rattle.et_frames.specs.Threads.{FrameState}
+use Rattle.et_state.specs.Threads.{FrameState}
 use Rattle.et_event.specs.Sites.{Site, site_of, body_of, method_of, code_of, pool_of, no_constants}
 use Rattle.et_place.specs.Places.{Runs}
 

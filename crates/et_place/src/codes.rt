@@ -4,7 +4,7 @@ ghost use Rattle.std.specs.Int.{w8, w16};
 ghost use Rattle.et_base.specs.Numbers.{number_at};
 ghost use Rattle.et_code.specs.Decoding.{instruction_at};
 ghost use Rattle.et_code.specs.Rules.{KeepsRules};
-ghost use Rattle.et_machine.specs.Words.{HasFrame, top};
+ghost use Rattle.et_state.specs.Words.{HasFrame, top};
 ghost use Rattle.et_event.specs.Sites.{body_of, method_of as method_in, natural};
 ghost use Rattle.et_event.specs.Table.{row_of as row_in_table};
 ghost use Rattle.et_event.specs.declared.rows.Row.{Row};
@@ -13,8 +13,8 @@ ghost use Rattle.et_place.specs.Places.{Runs, is_frame};
 use et_base::numbers::{u8_at, u16_at};
 use et_base::{MethodId, ThreadId};
 use et_code::{Code, CodeFault, Instr, decode};
-use et_machine::Machine;
 use et_program::{MethodInfo, Program};
+use et_state::Machine;
 
 /// The method that the topmost frame of a thread runs.
 pub fn method_of<'a>(program: &'a Program, machine: &Machine, thread: ThreadId) -> &'a MethodInfo

@@ -1,9 +1,9 @@
 //! The instruction at which a thread stands.
 ghost use Rattle.std.specs.Prelude.{◌≡◌, None, IfNone, IfSome};
-ghost use Rattle.et_frames.specs.declared.stage.Turn.TheVariants as turns;
-ghost use Rattle.et_frames.specs.Threads.{turn_of};
-ghost use Rattle.et_machine.specs.State.{kept_of};
-ghost use Rattle.et_machine.specs.Words.{thread_at, top};
+ghost use Rattle.et_state.specs.declared.stage.Turn.TheVariants as turns;
+ghost use Rattle.et_state.specs.Threads.{turn_of};
+ghost use Rattle.et_state.specs.State.{kept_of};
+ghost use Rattle.et_state.specs.Words.{thread_at, top};
 ghost use Rattle.et_event.specs.Event.{event, does};
 ghost use Rattle.et_event.specs.Moments.{ill_typed};
 ghost use Rattle.et_event.specs.Sites.{decoded_at};
@@ -15,9 +15,9 @@ use crate::laws;
 use et_base::{ClassId, ThreadId};
 use et_code::Instr;
 use et_event::{Row, row_of};
-use et_machine::Machine;
 use et_pool::Pool;
 use et_program::Program;
+use et_state::Machine;
 
 /// The instruction at which a thread stands, with what it names read in place.
 #[derive(Clone, Copy)]

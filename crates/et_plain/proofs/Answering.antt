@@ -4,10 +4,10 @@ use Rattle.std.specs.Prelude.{IsTrue, ◌↔◌, Result, unwrap_or}
 use Rattle.et_code.specs.declared.instr.Instr.{Instr}
 use Rattle.et_code.specs.declared.instr.CodeFault.{CodeFault}
 use Rattle.et_program.specs.Entries.{Linked}
-use Rattle.et_machine.specs.State.{Kept, MachineState, kept_of}
-use Rattle.et_frames.specs.declared.stage.Turn.TheVariants.{Instruction}
-use Rattle.et_frames.specs.Threads.{turn_of}
-use Rattle.et_machine.specs.Words.{thread_at, top}
+use Rattle.et_state.specs.State.{Kept, MachineState, kept_of}
+use Rattle.et_state.specs.declared.stage.Turn.TheVariants.{Instruction}
+use Rattle.et_state.specs.Threads.{turn_of}
+use Rattle.et_state.specs.Words.{thread_at, top}
 use Rattle.et_state.specs.declared.records.Record.{Record}
 use Rattle.et_state.specs.declared.ends.EventEnd.{EventEnd}
 use Rattle.et_state.specs.declared.ends.EventEnd.TheVariants as ends

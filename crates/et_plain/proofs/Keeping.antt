@@ -8,7 +8,7 @@ use Rattle.et_base.specs.declared.value.Value.{Value}
 use Rattle.et_base.specs.declared.value.Value.TheVariants.{Unset, Int, Long, LongHigh, Null, Ref}
 use Rattle.et_code.specs.Bodies.{Body}
 use Rattle.et_code.specs.Switches.{target_of}
-use Rattle.et_frames.specs.Threads.{FrameState, local_of}
+use Rattle.et_state.specs.Threads.{FrameState, local_of}
 use Rattle.et_event.specs.declared.rows.Operand.{Operand}
 use Rattle.et_event.specs.declared.rows.Operand.TheVariants as operand
 use Rattle.et_event.specs.declared.rows.Local.TheVariants.{Named}

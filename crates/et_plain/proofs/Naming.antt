@@ -6,9 +6,9 @@ use Rattle.std.proofs.lemmas.List.Elements.{All-nil, All-cons, All-append}
 use Rattle.et_program.specs.Entries.{Linked, ClassEntry}
 use Rattle.et_program.specs.Members.{class_named}
 use Rattle.et_program.proofs.PlaceLemmas.{position_within}
-use Rattle.et_frames.specs.Threads.{FrameState}
-use Rattle.et_machine.specs.State.{Kept, MachineState}
-use Rattle.et_machine.specs.Words.{top, HasFrame}
+use Rattle.et_state.specs.Threads.{FrameState}
+use Rattle.et_state.specs.State.{Kept, MachineState}
+use Rattle.et_state.specs.Words.{top, HasFrame}
 use Rattle.et_state.specs.declared.records.Record.{Record}
 use Rattle.et_state.specs.declared.records.Record.TheVariants.{Alloc}
 use Rattle.et_state.specs.declared.ends.EventEnd.{EventEnd}

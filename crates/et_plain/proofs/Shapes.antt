@@ -7,10 +7,10 @@ use Rattle.std.specs.Int.{w32, w64}
 use Rattle.et_base.specs.declared.value.Value.{Value}
 use Rattle.et_base.specs.declared.value.Value.TheVariants.{Int, Long, LongHigh, Ref}
 use Rattle.et_program.specs.Entries.{Linked}
-use Rattle.et_frames.specs.Threads.{FrameState, has_frame}
-use Rattle.et_machine.specs.State.{Kept}
-use Rattle.et_machine.specs.Words.{thread_at, top, with_string, HasFrame}
-use Rattle.et_machine.specs.Interned.{object_of}
+use Rattle.et_state.specs.Threads.{FrameState, has_frame}
+use Rattle.et_state.specs.State.{Kept}
+use Rattle.et_state.specs.Words.{thread_at, top, with_string, HasFrame}
+use Rattle.et_state.specs.Interned.{object_of}
 use Rattle.et_state.specs.Outcome.{Outcome}
 use Rattle.et_event.specs.declared.rows.FrameRow.{FrameRow}
 use Rattle.et_event.specs.declared.rows.Number.{Number}

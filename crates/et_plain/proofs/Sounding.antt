@@ -3,9 +3,9 @@ use Rattle.std.proofs.Common.{◌≡◌, ℕ, ◌<◌, ◌≤◌, ◌^◌, true,
 use Rattle.std.specs.Prelude.{codes}
 use Rattle.et_code.specs.Bodies.{Body}
 use Rattle.et_program.specs.Entries.{Linked}
-use Rattle.et_frames.specs.Threads.{FrameState}
-use Rattle.et_machine.specs.State.{Kept}
-use Rattle.et_machine.specs.Words.{top, HasFrame}
+use Rattle.et_state.specs.Threads.{FrameState}
+use Rattle.et_state.specs.State.{Kept}
+use Rattle.et_state.specs.Words.{top, HasFrame}
 use Rattle.et_event.specs.declared.rows.FrameRow.{FrameRow}
 use Rattle.et_event.specs.declared.rows.Row.{Row}
 use Rattle.et_event.specs.declared.rows.Row.TheVariants as row

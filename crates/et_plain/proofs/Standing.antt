@@ -5,10 +5,10 @@ use Rattle.et_code.specs.Kept.{IsKept}
 use Rattle.et_code.specs.Starts.{IsStart}
 use Rattle.et_code.proofs.Keeping.{kept_code}
 use Rattle.et_program.specs.Entries.{Linked}
-use Rattle.et_frames.specs.declared.stage.Turn.TheVariants.{Instruction}
-use Rattle.et_frames.specs.Threads.{FrameState, turn_of}
-use Rattle.et_machine.specs.State.{Kept}
-use Rattle.et_machine.specs.Words.{thread_at, top}
+use Rattle.et_state.specs.declared.stage.Turn.TheVariants.{Instruction}
+use Rattle.et_state.specs.Threads.{FrameState, turn_of}
+use Rattle.et_state.specs.State.{Kept}
+use Rattle.et_state.specs.Words.{thread_at, top}
 use Rattle.et_event.specs.declared.rows.Row.{Row}
 use Rattle.et_event.specs.Event.{does}
 use Rattle.et_event.specs.Sites.{Site, code_of}

@@ -2,8 +2,8 @@
 use Rattle.std.proofs.Common.{◌≡◌, ℕ, ◌+◌, Bool, true, false, List, refl, ap, ◌∙◌}
 use Rattle.std.specs.Prelude.{if◌then◌else◌}
 use Rattle.et_program.specs.Entries.{Linked}
-use Rattle.et_machine.specs.State.{Kept, MachineState}
-use Rattle.et_machine.specs.Words.{top, HasFrame}
+use Rattle.et_state.specs.State.{Kept, MachineState}
+use Rattle.et_state.specs.Words.{top, HasFrame}
 use Rattle.et_state.specs.Answers.{TicksWhereDone}
 use Rattle.et_state.specs.declared.records.Record.{Record}
 use Rattle.et_state.specs.declared.ends.EventEnd.{EventEnd}

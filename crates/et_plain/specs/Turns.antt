@@ -1,10 +1,10 @@
 -- A turn in which a plain instruction is done.
 use Rattle.std.specs.Prelude.{◌≡◌, ℕ, Bool, true, Option, Some, None}
 use Rattle.et_program.specs.Entries.{Linked}
-use Rattle.et_frames.specs.declared.stage.Turn.TheVariants.{Instruction}
-use Rattle.et_frames.specs.Threads.{turn_of}
-use Rattle.et_machine.specs.State.{Kept}
-use Rattle.et_machine.specs.Words.{thread_at, top}
+use Rattle.et_state.specs.declared.stage.Turn.TheVariants.{Instruction}
+use Rattle.et_state.specs.Threads.{turn_of}
+use Rattle.et_state.specs.State.{Kept}
+use Rattle.et_state.specs.Words.{thread_at, top}
 use Rattle.et_event.specs.declared.rows.Row.{Row}
 use Rattle.et_event.specs.Sites.{decoded_at}
 use Rattle.et_ops.specs.Rows.{is_plain}

@@ -1,9 +1,9 @@
 //! The event of a plain instruction.
 ghost use Rattle.std.specs.Prelude.{◌≡◌, ◌<◌, ◌^◌, ◌↔◌, IsTrue, All, IfOk, OnOk, OnErr, length};
-ghost use Rattle.et_frames.specs.declared.stage.Turn.TheVariants as turns;
-ghost use Rattle.et_frames.specs.Threads.{turn_of};
-ghost use Rattle.et_machine.specs.State.{kept_of};
-ghost use Rattle.et_machine.specs.Words.{thread_at};
+ghost use Rattle.et_state.specs.declared.stage.Turn.TheVariants as turns;
+ghost use Rattle.et_state.specs.Threads.{turn_of};
+ghost use Rattle.et_state.specs.State.{kept_of};
+ghost use Rattle.et_state.specs.Words.{thread_at};
 ghost use Rattle.et_state.specs.Answers.{TicksWhereDone};
 ghost use Rattle.et_state.specs.Naming.{Names, IsNamed};
 ghost use Rattle.et_event.specs.Answered.{EventAnswers};
@@ -15,12 +15,11 @@ ghost use Rattle.et_plain.specs.Turns.{IsPlainTurn};
 
 use et_base::{NoMemory, Steps, ThreadId};
 use et_event::Row;
-use et_machine::Machine;
 use et_ops::plain_event;
 use et_parts::ill_typed;
 use et_place::place_of;
 use et_program::Program;
-use et_state::{EventEnd, Lines};
+use et_state::{EventEnd, Lines, Machine};
 use std::alloc::Global;
 use std::sync::ledger::Ledger;
 

@@ -4,12 +4,12 @@ use Rattle.et_base.specs.declared.value.Value.{Value}
 use Rattle.et_base.specs.declared.value.Value.TheVariants.{Unset, Int, Long, LongHigh, Null, Ref}
 use Rattle.et_graph.proofs.Lists.{Contains-here, Contains-none, Contains-cons}
 use Rattle.et_heap.specs.Refs.{refs_of_value}
-use Rattle.et_frames.specs.Threads.{FrameState, operand_of}
-use Rattle.et_frames.specs.Roots.{frame_roots}
-use Rattle.et_machine.specs.State.{MachineState, kept_of}
-use Rattle.et_machine.specs.Words.{HasFrame, top}
-use Rattle.et_machine.specs.Sound.{IsSound}
-use Rattle.et_machine.proofs.Places.{top_root}
+use Rattle.et_state.specs.Threads.{FrameState, operand_of}
+use Rattle.et_state.specs.ThreadRoots.{frame_roots}
+use Rattle.et_state.specs.State.{MachineState, kept_of}
+use Rattle.et_state.specs.Words.{HasFrame, top}
+use Rattle.et_state.specs.Sound.{IsSound}
+use Rattle.et_state.proofs.Places.{top_root}
 use Rattle.et_event.specs.Checks.{Reference, with_int, with_long, with_reference, value_of}
 use Rattle.et_parts.specs.Tops.{int_of, long_of, reference_of}
 use Rattle.et_parts.proofs.Groups.{operand_is_in}

@@ -7,7 +7,7 @@ use Rattle.et_program.specs.Entries.{class_at, field_at}
 use Rattle.et_program.specs.Members.{is_subclass, base_array}
 use Rattle.et_program.specs.Types.{passes}
 use Rattle.et_heap.specs.Objects.{object_at, slot_of}
-use Rattle.et_machine.specs.State.{Kept}
+use Rattle.et_state.specs.State.{Kept}
 use Rattle.et_state.specs.Outcome.{Outcome}
 use Rattle.et_event.specs.declared.rows.Elements.{Elements}
 use Rattle.et_event.specs.declared.errors.GuestError.TheVariants.{ArrayIndexOutOfBoundsException, ArrayStoreException, ClassCastException, IncompatibleClassChangeError}

@@ -4,10 +4,10 @@ use Rattle.et_base.specs.declared.value.Value.{Value}
 use Rattle.et_base.specs.declared.value.Value.TheVariants.{Unset, Int, Long, LongHigh, Null, Ref}
 use Rattle.et_heap.specs.Objects.{object_at, slot_of, with_slot, with_object_at}
 use Rattle.et_heap.specs.Refs.{refs_of}
-use Rattle.et_machine.specs.State.{Kept, MachineState, kept_of}
-use Rattle.et_machine.specs.Words.{top, with_top, HasFrame, ticked, begun, steps_top}
-use Rattle.et_machine.specs.Sound.{IsSound}
-use Rattle.et_machine.specs.Moves.{Led}
+use Rattle.et_state.specs.State.{Kept, MachineState, kept_of}
+use Rattle.et_state.specs.Words.{top, with_top, HasFrame, ticked, begun, steps_top}
+use Rattle.et_state.specs.Sound.{IsSound}
+use Rattle.et_state.specs.Moves.{Led}
 use Rattle.et_program.specs.Entries.{Linked}
 use Rattle.et_state.specs.declared.records.Record.{Record}
 use Rattle.et_state.specs.declared.ends.EventEnd.TheVariants as endings

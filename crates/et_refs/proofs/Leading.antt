@@ -7,16 +7,16 @@ use Rattle.et_base.specs.declared.value.Value.TheVariants.{Unset, Int, Long, Lon
 use Rattle.et_graph.proofs.Lists.{Contains-none, Contains-here, Contains-cons}
 use Rattle.et_heap.specs.Objects.{ObjectState, IsHeld, object_at, slot_of, with_slot, with_object_at, new_object}
 use Rattle.et_heap.specs.Refs.{refs_of_value, refs_of}
-use Rattle.et_frames.specs.Threads.{FrameState, at_pc, popped}
-use Rattle.et_frames.specs.Roots.{frame_roots}
-use Rattle.et_machine.specs.State.{Kept, MachineState, kept_of}
-use Rattle.et_machine.specs.Words.{top, with_top, HasFrame, ticked, begun, steps_top, steps_object}
-use Rattle.et_machine.specs.Sound.{IsSound}
-use Rattle.et_machine.specs.Moves.{Moves, IsOnWay, Led}
-use Rattle.et_machine.proofs.Places.{top_root, refs_of-unset}
-use Rattle.et_machine.proofs.UnderWay.{root_is_reached}
-use Rattle.et_machine.proofs.Calls.{on_begin_event, on_set_slot}
-use Rattle.et_machine.proofs.Steps.{then_top, MayEnter, MayBeLost, did_led, did_make, did_on_way, led_plain, root_there, slot_there, newest_held}
+use Rattle.et_state.specs.Threads.{FrameState, at_pc, popped}
+use Rattle.et_state.specs.ThreadRoots.{frame_roots}
+use Rattle.et_state.specs.State.{Kept, MachineState, kept_of}
+use Rattle.et_state.specs.Words.{top, with_top, HasFrame, ticked, begun, steps_top, steps_object}
+use Rattle.et_state.specs.Sound.{IsSound}
+use Rattle.et_state.specs.Moves.{Moves, IsOnWay, Led}
+use Rattle.et_state.proofs.Places.{top_root, refs_of-unset}
+use Rattle.et_state.proofs.UnderWay.{root_is_reached}
+use Rattle.et_state.proofs.Calls.{on_begin_event, on_set_slot}
+use Rattle.et_state.proofs.Steps.{then_top, MayEnter, MayBeLost, did_led, did_make, did_on_way, led_plain, root_there, slot_there, newest_held}
 use Rattle.et_parts.proofs.Taking.{replaced}
 use Rattle.et_event.specs.Checks.{entries_of}
 

@@ -2,9 +2,9 @@
 use Rattle.std.proofs.Common.{◌≡◌, ℕ, ◌+◌, ◌≤◌, length, drop, arith}
 use Rattle.et_base.specs.declared.value.Value.{Value}
 use Rattle.et_heap.specs.Refs.{refs_of_value}
-use Rattle.et_frames.specs.Threads.{FrameState}
-use Rattle.et_machine.specs.State.{MachineState}
-use Rattle.et_machine.specs.Moves.{AreHeld}
+use Rattle.et_state.specs.Threads.{FrameState}
+use Rattle.et_state.specs.State.{MachineState}
+use Rattle.et_state.specs.Moves.{AreHeld}
 use Rattle.et_event.specs.Checks.{entries_of}
 use Rattle.et_parts.proofs.Taking.{length_dropped}
 use Rattle.et_refs.specs.Changes.{MayExchange}

@@ -5,10 +5,10 @@ use Rattle.et_base.specs.declared.value.Value.{Value}
 use Rattle.et_base.specs.declared.value.Value.TheVariants.{Ref}
 use Rattle.et_heap.specs.Objects.{IsHeld, object_at}
 use Rattle.et_heap.specs.Refs.{refs_of_value}
-use Rattle.et_frames.specs.Threads.{FrameState}
-use Rattle.et_frames.specs.Roots.{frame_roots}
-use Rattle.et_machine.specs.State.{Kept, MachineState}
-use Rattle.et_machine.specs.Moves.{AreHeld}
+use Rattle.et_state.specs.Threads.{FrameState}
+use Rattle.et_state.specs.ThreadRoots.{frame_roots}
+use Rattle.et_state.specs.State.{Kept, MachineState}
+use Rattle.et_state.specs.Moves.{AreHeld}
 use Rattle.et_state.specs.Outcome.{Outcome}
 use Rattle.et_event.specs.Moments.{Moment, frame_of, begins, next_object, array_made, slot_written, goes, ends}
 use Rattle.et_event.specs.Checks.{Reference, entries_of}

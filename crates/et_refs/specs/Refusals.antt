@@ -1,6 +1,6 @@
 -- What the checks of an event come to: an answer with which it goes on, or what the first of them says that refuses.
 use Rattle.std.specs.Prelude.{Result, Ok, Err}
-use Rattle.et_machine.specs.State.{Kept}
+use Rattle.et_state.specs.State.{Kept}
 use Rattle.et_state.specs.Outcome.{Outcome}
 use Rattle.et_event.specs.Moments.{Moment, begins, ill_typed, throws}
 use Rattle.et_refs.specs.declared.refusals.Refusal.{Refusal}

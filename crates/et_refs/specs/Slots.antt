@@ -6,7 +6,7 @@ use Rattle.et_program.specs.Entries.{Linked, class_at, field_at}
 use Rattle.et_program.specs.declared.info.Element.{Element}
 use Rattle.et_program.specs.declared.info.Element.TheVariants as element
 use Rattle.et_heap.specs.Objects.{IsHeld, object_at, slot_of}
-use Rattle.et_machine.specs.State.{MachineState}
+use Rattle.et_state.specs.State.{MachineState}
 use Rattle.et_event.specs.declared.rows.Operand.{Operand}
 use Rattle.et_event.specs.declared.rows.Operand.TheVariants as operand
 use Rattle.et_event.specs.Sound.{is_of_kind}

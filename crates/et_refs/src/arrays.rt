@@ -1,7 +1,7 @@
 //! Arrays that are made (JVMS 6.5, newarray, anewarray).
 ghost use Rattle.std.specs.Prelude.{◌≡◌, ℕ, ◌+◌, ◌<◌, ◌≤◌, ◌^◌, drop, length, unwrap_or, IfOk};
-ghost use Rattle.et_machine.specs.State.{Kept, kept_of};
-ghost use Rattle.et_machine.specs.Words.{HasFrame, top};
+ghost use Rattle.et_state.specs.State.{Kept, kept_of};
+ghost use Rattle.et_state.specs.Words.{HasFrame, top};
 ghost use Rattle.et_program.specs.Entries.{class_at};
 ghost use Rattle.et_event.specs.Heap.{new_array_of, new_array as base_type_array, new_reference_array as reference_array};
 ghost use Rattle.et_event.specs.Moments.{Moment, moment, frame_of};
@@ -21,9 +21,9 @@ use crate::operands::{operands_fit, take_int};
 use crate::refusals::Refusal;
 use et_base::{ClassId, ThreadId};
 use et_event::GuestError;
-use et_machine::Machine;
 use et_place::Place;
 use et_program::Program;
+use et_state::Machine;
 
 /// An array of a class of so many elements; a NegativeArraySizeException where they are less than 0.
 fn sized(class: ClassId, elements: i32) -> Result<NewArray, Refusal>

@@ -4,9 +4,9 @@ ghost use Rattle.et_base.specs.declared.value.Value.{Value as Entry};
 ghost use Rattle.et_base.specs.declared.value.Value.TheVariants.{Ref};
 ghost use Rattle.et_heap.specs.Objects.{IsHeld, object_at};
 ghost use Rattle.et_heap.specs.Refs.{refs_of_value};
-ghost use Rattle.et_machine.specs.State.{Kept, kept_of};
-ghost use Rattle.et_machine.specs.Words.{HasFrame, top};
-ghost use Rattle.et_machine.specs.Moves.{AreHeld};
+ghost use Rattle.et_state.specs.State.{Kept, kept_of};
+ghost use Rattle.et_state.specs.Words.{HasFrame, top};
+ghost use Rattle.et_state.specs.Moves.{AreHeld};
 ghost use Rattle.et_state.specs.Outcome.{Outcome};
 ghost use Rattle.et_program.specs.Types.{passes as passing};
 ghost use Rattle.et_event.specs.Checks.{Reference, entries_of};
@@ -24,9 +24,9 @@ use crate::operands::{operands_fit, take_reference};
 use crate::refusals::Refusal;
 use et_base::{ClassId, ObjectId, Steps, ThreadId, Value};
 use et_event::GuestError;
-use et_machine::Machine;
 use et_place::{Place, class_operand};
 use et_program::Program;
+use et_state::Machine;
 use std::sync::ledger::Ledger;
 
 /// The name of the class that an instruction has as its operand.

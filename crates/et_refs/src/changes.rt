@@ -2,12 +2,12 @@
 ghost use Rattle.std.specs.Prelude.{◌≡◌, ◌+◌, ◌*◌, ◌<◌, ◌≤◌, ◌^◌, ◌++◌, ◌∷◌, [], List, length, drop, take as first, IfOk, OnOk, OnErr};
 ghost use Rattle.et_base.specs.declared.value.Value.TheVariants.{Ref};
 ghost use Rattle.et_heap.specs.Refs.{refs_of};
-ghost use Rattle.et_frames.specs.Threads.{lost_room};
+ghost use Rattle.et_state.specs.Threads.{lost_room};
 ghost use Rattle.et_heap.specs.Objects.{object_at, slot_of, with_slot, with_object_at};
-ghost use Rattle.et_machine.specs.State.{Kept, kept_of};
-ghost use Rattle.et_machine.specs.Words.{HasFrame, top, with_top, ticked, steps_top};
-ghost use Rattle.et_machine.specs.Sound.{IsSound};
-ghost use Rattle.et_machine.specs.Moves.{Led};
+ghost use Rattle.et_state.specs.State.{Kept, kept_of};
+ghost use Rattle.et_state.specs.Words.{HasFrame, top, with_top, ticked, steps_top};
+ghost use Rattle.et_state.specs.Sound.{IsSound};
+ghost use Rattle.et_state.specs.Moves.{Led};
 ghost use Rattle.et_program.specs.Entries.{class_at, Linked};
 ghost use Rattle.et_event.specs.Answered.{EventAnswers};
 ghost use Rattle.et_event.specs.Checks.{entries_of};
@@ -20,11 +20,10 @@ use crate::kinds::element_width;
 use crate::slots::{SlotAt, slot_value};
 use et_base::{ClassId, NoMemory, ObjectId, Steps, ThreadId, Value};
 use et_heap::MakeFault;
-use et_machine::Machine;
 use et_parts::{give, take};
 use et_place::Place;
 use et_program::Program;
-use et_state::{EventEnd, Lines, Record};
+use et_state::{EventEnd, Lines, Machine, Record};
 use std::sync::ledger::Ledger;
 
 /// So many operands are taken, and a value is put in their place.

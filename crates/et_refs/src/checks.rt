@@ -1,6 +1,6 @@
 //! The checks of an event that need no machine.
 ghost use Rattle.std.specs.Prelude.{◌≡◌, ℕ, ◌<◌, true, length, Some, IfOk};
-ghost use Rattle.et_machine.specs.State.{Kept};
+ghost use Rattle.et_state.specs.State.{Kept};
 ghost use Rattle.et_state.specs.Outcome.{Outcome};
 ghost use Rattle.et_event.specs.Moments.{Moment, begins};
 ghost use Rattle.et_event.specs.Checks.{ill_typed_unless as ill_unless, throws_unless as throwing_unless, not_null as object_of};

@@ -1,12 +1,12 @@
 //! Elements of arrays (JVMS 6.5, arraylength, iaload, iastore and their kin).
 ghost use Rattle.std.specs.Prelude.{◌≡◌, ℕ, ◌+◌, ◌<◌, ◌≤◌, ◌^◌, true, length, pos, Some, IfOk};
 ghost use Rattle.et_base.specs.declared.value.Value.TheVariants.{Int, Ref};
-ghost use Rattle.et_machine.specs.State.{Kept, kept_of};
+ghost use Rattle.et_state.specs.State.{Kept, kept_of};
 ghost use Rattle.et_heap.specs.Refs.{refs_of_value};
 ghost use Rattle.et_program.specs.Entries.{class_at};
-ghost use Rattle.et_machine.specs.Words.{HasFrame, top};
-ghost use Rattle.et_machine.specs.Sound.{IsSound};
-ghost use Rattle.et_machine.specs.Moves.{AreHeld};
+ghost use Rattle.et_state.specs.Words.{HasFrame, top};
+ghost use Rattle.et_state.specs.Sound.{IsSound};
+ghost use Rattle.et_state.specs.Moves.{AreHeld};
 ghost use Rattle.et_event.specs.Checks.{entries_of};
 ghost use Rattle.et_state.specs.Outcome.{Outcome};
 ghost use Rattle.et_heap.specs.Objects.{IsHeld, object_at, slot_of};
@@ -29,9 +29,9 @@ use crate::refusals::Refusal;
 use crate::slots::{SlotAt, read_slot};
 use et_base::{ObjectId, Steps, ThreadId, Value};
 use et_event::{Elements, GuestError};
-use et_machine::Machine;
 use et_place::Place;
 use et_program::{Element, Program};
+use et_state::Machine;
 use std::sync::ledger::Ledger;
 
 /// What an object has as its elements.

@@ -6,11 +6,11 @@ ghost use Rattle.et_pool.specs.Descriptors.{is_field_descriptor as is_of_field, 
 ghost use Rattle.et_program.specs.Entries.{field_at as field_of};
 ghost use Rattle.et_program.specs.Resolution.{resolve_field as field_meant};
 ghost use Rattle.et_heap.specs.Objects.{object_at, slot_of};
-ghost use Rattle.et_machine.specs.State.{Kept, kept_of};
+ghost use Rattle.et_state.specs.State.{Kept, kept_of};
 ghost use Rattle.et_heap.specs.Refs.{refs_of_value};
-ghost use Rattle.et_machine.specs.Words.{HasFrame, top};
-ghost use Rattle.et_machine.specs.Sound.{IsSound};
-ghost use Rattle.et_machine.specs.Moves.{AreHeld};
+ghost use Rattle.et_state.specs.Words.{HasFrame, top};
+ghost use Rattle.et_state.specs.Sound.{IsSound};
+ghost use Rattle.et_state.specs.Moves.{AreHeld};
 ghost use Rattle.et_state.specs.Outcome.{Outcome};
 ghost use Rattle.et_event.specs.declared.errors.GuestError.TheVariants.{IncompatibleClassChangeError};
 ghost use Rattle.et_event.specs.Checks.{entries_of, resolved, throws_unless as throwing_unless};
@@ -34,10 +34,10 @@ use crate::slots::{SlotAt, read_slot};
 use et_base::{ClassId, FieldId, ObjectId, Steps, ThreadId, Value};
 use et_class::flags::{STATIC, has};
 use et_event::GuestError;
-use et_machine::Machine;
 use et_place::{MemberAt, Place, member_at};
 use et_pool::descriptor::is_field_descriptor;
 use et_program::Program;
+use et_state::Machine;
 use std::sync::ledger::Ledger;
 
 /// The member that an instruction names, where it is a field.

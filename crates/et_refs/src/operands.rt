@@ -3,9 +3,9 @@ ghost use Rattle.std.specs.Prelude.{◌≡◌, ℕ, ℤ, ◌+◌, ◌<◌, ◌�
 ghost use Rattle.et_pool.specs.Descriptors.{is_field_descriptor, width_of as descriptor_width};
 ghost use Rattle.et_event.specs.Kinds.{kind_of_field, kind_of_elements as elements_kind};
 ghost use Rattle.et_base.specs.declared.value.Value.{Value as Entry};
-ghost use Rattle.et_machine.specs.State.{Kept, kept_of};
-ghost use Rattle.et_machine.specs.Sound.{IsSound};
-ghost use Rattle.et_machine.specs.Words.{HasFrame, top};
+ghost use Rattle.et_state.specs.State.{Kept, kept_of};
+ghost use Rattle.et_state.specs.Sound.{IsSound};
+ghost use Rattle.et_state.specs.Words.{HasFrame, top};
 ghost use Rattle.et_state.specs.Outcome.{Outcome};
 ghost use Rattle.et_event.specs.Moments.{Moment, ill_typed};
 ghost use Rattle.et_event.specs.Checks.{Reference, with_int, with_long, with_reference, with_value, value_of as value_named, ill_typed_unless as ill_unless};
@@ -18,8 +18,8 @@ use crate::kinds::{kind_of, kind_of_elements, width_of};
 use crate::refusals::Refusal;
 use et_base::{ObjectId, ThreadId, Value};
 use et_event::{Elements, Operand};
-use et_machine::Machine;
 use et_parts::{int_at, long_at, reference_at};
+use et_state::Machine;
 
 /// A value on top, and how many entries it takes.
 #[derive(Clone, Copy)]

@@ -1,18 +1,17 @@
 //! Why an event does nothing but throw, or has no meaning.
 ghost use Rattle.std.specs.Prelude.{◌≡◌, ◌<◌, ◌^◌, IfOk, OnErr};
-ghost use Rattle.et_machine.specs.State.{kept_of};
-ghost use Rattle.et_machine.specs.Words.{HasFrame};
-ghost use Rattle.et_machine.specs.Sound.{IsSound};
+ghost use Rattle.et_state.specs.State.{kept_of};
+ghost use Rattle.et_state.specs.Words.{HasFrame};
+ghost use Rattle.et_state.specs.Sound.{IsSound};
 ghost use Rattle.et_event.specs.Answered.{EventAnswers};
 ghost use Rattle.et_event.specs.Moments.{moment};
 ghost use Rattle.et_refs.specs.Refusals.{refused};
 
 use et_base::{NoMemory, ThreadId};
 use et_event::GuestError;
-use et_machine::Machine;
 use et_parts::{ill_typed, throw_error};
 use et_program::Program;
-use et_state::{EventEnd, Lines};
+use et_state::{EventEnd, Lines, Machine};
 
 /// What the first check says that refuses.
 #[derive(Clone, Copy)]

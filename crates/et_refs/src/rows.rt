@@ -1,9 +1,9 @@
 //! The instructions on fields, arrays and classes, by their rows.
 ghost use Rattle.std.specs.Prelude.{◌≡◌, ◌+◌, ◌<◌, ◌≤◌, ◌^◌, true, false, IfOk, IfSome, IfNone, OnErr};
-ghost use Rattle.et_frames.specs.Threads.{FrameState};
-ghost use Rattle.et_machine.specs.State.{MachineState, kept_of};
-ghost use Rattle.et_machine.specs.Sound.{IsSound};
-ghost use Rattle.et_machine.specs.Words.{HasFrame, top};
+ghost use Rattle.et_state.specs.Threads.{FrameState};
+ghost use Rattle.et_state.specs.State.{MachineState, kept_of};
+ghost use Rattle.et_state.specs.Sound.{IsSound};
+ghost use Rattle.et_state.specs.Words.{HasFrame, top};
 ghost use Rattle.et_event.specs.declared.rows.Row.TheVariants as row_kinds;
 ghost use Rattle.et_event.specs.Answered.{EventAnswers};
 ghost use Rattle.et_event.specs.Heap.{heap_event};
@@ -24,10 +24,9 @@ use crate::fields::{read_field, write_field};
 use crate::refusals::{Refusal, refuse};
 use et_base::{NoMemory, Steps, ThreadId};
 use et_event::HeapRow;
-use et_machine::Machine;
 use et_place::Place;
 use et_program::Program;
-use et_state::{EventEnd, Lines};
+use et_state::{EventEnd, Lines, Machine};
 use std::sync::ledger::Ledger;
 
 /// A value that is put in the place of operands, as a change.

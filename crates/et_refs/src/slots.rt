@@ -2,9 +2,9 @@
 ghost use Rattle.std.specs.Prelude.{◌≡◌, ◌+◌, ◌<◌, ◌≤◌, length};
 ghost use Rattle.et_heap.specs.Objects.{IsHeld, object_at, slot_of};
 ghost use Rattle.et_heap.specs.Refs.{refs_of_value};
-ghost use Rattle.et_machine.specs.State.{kept_of};
-ghost use Rattle.et_machine.specs.Sound.{IsSound};
-ghost use Rattle.et_machine.specs.Moves.{AreHeld};
+ghost use Rattle.et_state.specs.State.{kept_of};
+ghost use Rattle.et_state.specs.Sound.{IsSound};
+ghost use Rattle.et_state.specs.Moves.{AreHeld};
 ghost use Rattle.et_event.specs.Checks.{entries_of};
 ghost use Rattle.et_event.specs.Kinds.{or_zero as zero_or};
 ghost use Rattle.et_refs.specs.Slots.{IsSlotAt, entries};
@@ -12,7 +12,7 @@ ghost use Rattle.et_refs.specs.Slots.{IsSlotAt, entries};
 use crate::kinds::or_zero;
 use et_base::{ObjectId, Steps, Value};
 use et_event::Operand;
-use et_machine::Machine;
+use et_state::Machine;
 use std::sync::ledger::Ledger;
 
 /// A slot of an object.

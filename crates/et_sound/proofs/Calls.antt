@@ -7,13 +7,13 @@ use Rattle.et_code.specs.Bodies.{Body}
 use Rattle.et_graph.proofs.Lists.{Contains-here}
 use Rattle.et_program.specs.Entries.{Linked, method_at}
 use Rattle.et_heap.specs.Objects.{IsHeld}
-use Rattle.et_frames.specs.declared.stage.Stage.{Stage}
-use Rattle.et_frames.specs.declared.stage.Stage.TheVariants.{Plain, Before, Clinit}
-use Rattle.et_frames.specs.Threads.{FrameState, ThreadState, no_thread, rest_of, entered_by, most_frames}
-use Rattle.et_machine.specs.declared.class_state.ClassState.TheVariants.{Done}
-use Rattle.et_machine.specs.State.{Kept}
-use Rattle.et_machine.specs.Words.{thread_at, HasFrame}
-use Rattle.et_machine.proofs.Places.{top_root, lock_root}
+use Rattle.et_state.specs.declared.stage.Stage.{Stage}
+use Rattle.et_state.specs.declared.stage.Stage.TheVariants.{Plain, Before, Clinit}
+use Rattle.et_state.specs.Threads.{FrameState, ThreadState, no_thread, rest_of, entered_by, most_frames}
+use Rattle.et_state.specs.declared.class_state.ClassState.TheVariants.{Done}
+use Rattle.et_state.specs.State.{Kept}
+use Rattle.et_state.specs.Words.{thread_at, HasFrame}
+use Rattle.et_state.proofs.Places.{top_root, lock_root}
 use Rattle.et_event.specs.Calls.{class_done_by, frame_returned}
 use Rattle.et_event.specs.Frames.{receiver_of, method_frame, frame_entered, frames_after_return}
 use Rattle.et_event.specs.Kinds.{returned_width}

@@ -13,10 +13,10 @@ use Rattle.et_program.specs.declared.errors.LinkError.TheVariants.{NoClassDefFou
 use Rattle.et_program.specs.declared.info.Element.{Element}
 use Rattle.et_program.specs.declared.info.Element.TheVariants.{NoArray, Base, Class}
 use Rattle.et_program.proofs.PlaceLemmas.{class_found_within}
-use Rattle.et_machine.specs.State.{Kept}
+use Rattle.et_state.specs.State.{Kept}
 use Rattle.et_heap.specs.Objects.{new_object}
-use Rattle.et_machine.specs.declared.class_state.ClassState.TheVariants.{Untouched}
-use Rattle.et_machine.specs.Words.{static_at, class_state_at}
+use Rattle.et_state.specs.declared.class_state.ClassState.TheVariants.{Untouched}
+use Rattle.et_state.specs.Words.{static_at, class_state_at}
 use Rattle.et_event.specs.declared.errors.GuestError.TheVariants.{IncompatibleClassChangeError, InstantiationError}
 use Rattle.et_event.specs.Checks.{entries_of, with_int}
 use Rattle.et_event.specs.Heap.{leaving, with_class, resolved_class, new_array_of, is_static_field, field_fits, may_be_made, get_static, put_static, new_instance, new_array, new_reference_array}

@@ -20,10 +20,10 @@ use Rattle.et_program.specs.declared.errors.LinkError.{LinkError}
 use Rattle.et_program.specs.declared.info.FieldInfo.{FieldInfo}
 use Rattle.et_heap.specs.Objects.{ObjectState, at, found, object_at, slot_of}
 use Rattle.et_heap.specs.Refs.{refs_of}
-use Rattle.et_frames.specs.Threads.{FrameState, ThreadState, no_thread, top_of}
-use Rattle.et_machine.specs.State.{Kept}
-use Rattle.et_machine.specs.Words.{HasFrame}
-use Rattle.et_machine.proofs.Places.{top_root}
+use Rattle.et_state.specs.Threads.{FrameState, ThreadState, no_thread, top_of}
+use Rattle.et_state.specs.State.{Kept}
+use Rattle.et_state.specs.Words.{HasFrame}
+use Rattle.et_state.proofs.Places.{top_root}
 use Rattle.et_state.specs.Outcome.{Outcome}
 use Rattle.et_event.specs.declared.errors.GuestError.TheVariants.{ArrayIndexOutOfBoundsException, ArrayStoreException, IncompatibleClassChangeError}
 use Rattle.et_event.specs.declared.rows.Elements.{Elements}

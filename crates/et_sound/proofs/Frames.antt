@@ -15,11 +15,11 @@ use Rattle.et_code.specs.declared.instr.CodeFault.TheVariants as fault
 use Rattle.et_code.specs.declared.instr.Instr.{Instr}
 use Rattle.et_code.proofs.Decoded.{decoded_fits}
 use Rattle.et_program.specs.Entries.{Linked, method_at, is_static}
-use Rattle.et_frames.specs.declared.stage.Stage.{Stage}
-use Rattle.et_frames.specs.declared.stage.Stage.TheVariants.{Plain, Before, Clinit}
-use Rattle.et_frames.specs.Threads.{FrameState, ThreadState, first_frame, rest_of, with_top_of, popped, locals_with, in_clinit, clinit_stage, most_frames}
-use Rattle.et_machine.specs.State.{Kept}
-use Rattle.et_machine.specs.Words.{thread_at, top, with_top, HasFrame}
+use Rattle.et_state.specs.declared.stage.Stage.{Stage}
+use Rattle.et_state.specs.declared.stage.Stage.TheVariants.{Plain, Before, Clinit}
+use Rattle.et_state.specs.Threads.{FrameState, ThreadState, first_frame, rest_of, with_top_of, popped, locals_with, in_clinit, clinit_stage, most_frames}
+use Rattle.et_state.specs.State.{Kept}
+use Rattle.et_state.specs.Words.{thread_at, top, with_top, HasFrame}
 use Rattle.et_event.specs.Frames.{first_reference, method_frame, behind_or, frames_after_return}
 use Rattle.et_event.specs.Initialization.{initializer_frame}
 use Rattle.et_event.specs.Sites.{body_of, code_of, decoded_at}

@@ -5,11 +5,11 @@ use Rattle.std.specs.List.{slice_index_or}
 use Rattle.std.proofs.lemmas.List.Elements.{All-head, All-tail}
 use Rattle.et_code.specs.Bodies.{Body}
 use Rattle.et_program.specs.Entries.{Linked, class_at, method_at}
-use Rattle.et_frames.specs.declared.stage.Stage.TheVariants.{Before}
-use Rattle.et_frames.specs.Threads.{FrameState, ThreadState, no_thread, first_frame, rest_of, with_top_of, in_clinit, without_top, most_frames}
-use Rattle.et_machine.specs.declared.class_state.ClassState.{ClassState}
-use Rattle.et_machine.specs.declared.class_state.ClassState.TheVariants.{Untouched, Begun, Done, Failed}
-use Rattle.et_machine.specs.Words.{thread_at, HasFrame}
+use Rattle.et_state.specs.declared.stage.Stage.TheVariants.{Before}
+use Rattle.et_state.specs.Threads.{FrameState, ThreadState, no_thread, first_frame, rest_of, with_top_of, in_clinit, without_top, most_frames}
+use Rattle.et_state.specs.declared.class_state.ClassState.{ClassState}
+use Rattle.et_state.specs.declared.class_state.ClassState.TheVariants.{Untouched, Begun, Done, Failed}
+use Rattle.et_state.specs.Words.{thread_at, HasFrame}
 use Rattle.et_state.specs.declared.records.Record.TheVariants.{Enter}
 use Rattle.et_event.specs.Initialization.{state_of, with_state, is_ready, quietly_if_untouched, prepared, enters_clinit, step_by, initialization_step}
 use Rattle.et_event.specs.Moments.{Moment, Doing, told, frame_of, begins, with_frame, with_thread_state, ends}

@@ -7,12 +7,12 @@ use Rattle.et_graph.proofs.Lists.{Contains-none, Contains-cons}
 use Rattle.et_base.specs.declared.value.Value.{Value}
 use Rattle.et_base.specs.declared.value.Value.TheVariants.{Int, Long, Null, Ref}
 use Rattle.et_program.specs.Entries.{Linked, class_at, field_at}
-use Rattle.et_frames.specs.Threads.{ThreadState, no_thread, entered_by, most_frames}
-use Rattle.et_machine.specs.declared.class_state.ClassState.{ClassState}
-use Rattle.et_machine.specs.declared.class_state.ClassState.TheVariants.{Untouched, Begun, Done, Failed}
-use Rattle.et_machine.specs.Interned.{object_of}
-use Rattle.et_machine.specs.State.{GuestState, Kept}
-use Rattle.et_machine.specs.Words.{thread_at, static_at, with_static, class_state_at, with_class_state, with_string}
+use Rattle.et_state.specs.Threads.{ThreadState, no_thread, entered_by, most_frames}
+use Rattle.et_state.specs.declared.class_state.ClassState.{ClassState}
+use Rattle.et_state.specs.declared.class_state.ClassState.TheVariants.{Untouched, Begun, Done, Failed}
+use Rattle.et_state.specs.Interned.{object_of}
+use Rattle.et_state.specs.State.{GuestState, Kept}
+use Rattle.et_state.specs.Words.{thread_at, static_at, with_static, class_state_at, with_class_state, with_string}
 use Rattle.et_state.specs.Outcome.{Outcome}
 use Rattle.et_event.specs.declared.errors.GuestError.TheVariants.{NoClassDefFoundError}
 use Rattle.et_event.specs.declared.rows.Operand.{Operand}

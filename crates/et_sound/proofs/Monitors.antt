@@ -8,11 +8,11 @@ use Rattle.et_program.specs.Entries.{Linked, field_at}
 use Rattle.et_heap.specs.Objects.{ObjectState, IsHeld, free_monitor, object_at, with_monitor}
 use Rattle.et_heap.specs.declared.monitor.Monitor.{Monitor}
 use Rattle.et_heap.proofs.HeapLists.{held_within}
-use Rattle.et_frames.specs.Threads.{ThreadState, no_thread, new_thread, most_threads, most_frames}
-use Rattle.et_machine.specs.declared.class_state.ClassState.{ClassState}
-use Rattle.et_machine.specs.declared.class_state.ClassState.TheVariants.{Untouched}
-use Rattle.et_machine.specs.State.{GuestState, Kept}
-use Rattle.et_machine.specs.Words.{thread_at, class_state_at, class_monitor_at, with_class_state, with_new_thread, with_string}
+use Rattle.et_state.specs.Threads.{ThreadState, no_thread, new_thread, most_threads, most_frames}
+use Rattle.et_state.specs.declared.class_state.ClassState.{ClassState}
+use Rattle.et_state.specs.declared.class_state.ClassState.TheVariants.{Untouched}
+use Rattle.et_state.specs.State.{GuestState, Kept}
+use Rattle.et_state.specs.Words.{thread_at, class_state_at, class_monitor_at, with_class_state, with_new_thread, with_string}
 use Rattle.et_event.specs.BuiltIns.{with_thread_for}
 use Rattle.et_event.specs.Initialization.{with_state}
 use Rattle.et_event.specs.Moments.{Moment, Doing, fits}

@@ -8,8 +8,8 @@ use Rattle.et_program.specs.Members.{is_subclass}
 use Rattle.et_heap.proofs.HeapLists.{held_within}
 use Rattle.et_heap.specs.declared.monitor.Monitor.{Monitor}
 use Rattle.et_heap.specs.Objects.{ObjectState, Objects, IsHeld, is_there, at, found, object_at, with_object_at, free_monitor}
-use Rattle.et_machine.specs.State.{Kept}
-use Rattle.et_machine.specs.Words.{thread_at}
+use Rattle.et_state.specs.State.{Kept}
+use Rattle.et_state.specs.Words.{thread_at}
 use Rattle.et_event.specs.Errors.{class_called}
 use Rattle.et_event.specs.Sound.{HasThreadObject, IsSoundObject, IsSoundMonitor}
 use Rattle.et_sound.specs.WellFormed.{IsWellFormed}

@@ -6,10 +6,10 @@ use Rattle.std.proofs.lemmas.List.{length-set}
 use Rattle.et_program.specs.Entries.{Linked, class_at}
 use Rattle.et_program.specs.declared.errors.LinkError.{LinkError}
 use Rattle.et_heap.specs.Objects.{new_object}
-use Rattle.et_frames.specs.Threads.{ThreadState, with_pending, as_entered, has_frame, most_frames}
-use Rattle.et_machine.specs.Interned.{object_of}
-use Rattle.et_machine.specs.State.{Kept, MachineState, kept_of}
-use Rattle.et_machine.specs.Words.{thread_at, with_string}
+use Rattle.et_state.specs.Threads.{ThreadState, with_pending, as_entered, has_frame, most_frames}
+use Rattle.et_state.specs.Interned.{object_of}
+use Rattle.et_state.specs.State.{Kept, MachineState, kept_of}
+use Rattle.et_state.specs.Words.{thread_at, with_string}
 use Rattle.et_state.specs.declared.records.Record.{Record}
 use Rattle.et_state.specs.declared.ends.EventEnd.{EventEnd}
 use Rattle.et_state.specs.declared.ends.EventEnd.TheVariants as ends_as

@@ -13,9 +13,9 @@ use Rattle.et_program.specs.declared.info.Element.TheVariants.{NoArray}
 use Rattle.et_heap.specs.Objects.{ObjectState, Objects, IsHeld, at, object_at, slot_of, with_slot, with_referent, with_monitor, with_object_at, slots_in, slot_count, made_count, most_objects, most_slots}
 use Rattle.et_heap.specs.declared.monitor.Monitor.{Monitor}
 use Rattle.et_heap.proofs.HeapLists.{held_within}
-use Rattle.et_machine.specs.declared.class_state.ClassState.TheVariants.{Untouched}
-use Rattle.et_machine.specs.State.{GuestState, Kept}
-use Rattle.et_machine.specs.Words.{static_at, with_static, class_state_at}
+use Rattle.et_state.specs.declared.class_state.ClassState.TheVariants.{Untouched}
+use Rattle.et_state.specs.State.{GuestState, Kept}
+use Rattle.et_state.specs.Words.{static_at, with_static, class_state_at}
 use Rattle.et_event.specs.declared.rows.Operand.{Operand}
 use Rattle.et_event.specs.Kinds.{kind_of}
 use Rattle.et_event.specs.Moments.{Moment, Doing, updated, slot_written, static_written, fits}

@@ -1,7 +1,7 @@
 -- A thread whose turn is an instruction stands at it.
 use Rattle.std.proofs.Common.{◌≡◌, ℕ, ◌<◌, ◌^◌, Some, None}
-use Rattle.et_frames.specs.declared.stage.Turn.TheVariants.{Instruction}
-use Rattle.et_frames.specs.Threads.{FrameState, turn_of}
+use Rattle.et_state.specs.declared.stage.Turn.TheVariants.{Instruction}
+use Rattle.et_state.specs.Threads.{FrameState, turn_of}
 use Rattle.et_event.specs.Moments.{Moment, frame_of, thread_of}
 use Rattle.et_event.specs.Sites.{code_of}
 use Rattle.et_event.specs.Sound.{IsPc, IsSoundFor}

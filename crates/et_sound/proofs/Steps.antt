@@ -19,13 +19,13 @@ use Rattle.et_program.specs.Resolution.{resolve_class}
 use Rattle.et_program.specs.Types.{passes}
 use Rattle.et_program.specs.declared.info.MethodInfo.{MethodInfo}
 use Rattle.et_heap.specs.Objects.{ObjectState, Objects, IsHeld, is_there, at, found, object_at, with_object_at, slot_of, with_slot, new_object}
-use Rattle.et_frames.specs.declared.stage.Stage.{Stage}
-use Rattle.et_frames.specs.declared.stage.Stage.TheVariants.{Plain}
-use Rattle.et_frames.specs.Threads.{FrameState, ThreadState, first_frame, rest_of, with_top_of, without_top, with_pending, as_ended, most_frames}
-use Rattle.et_machine.specs.declared.class_state.ClassState.TheVariants.{Failed, Untouched}
-use Rattle.et_machine.specs.State.{Kept}
-use Rattle.et_machine.specs.Words.{thread_at, HasFrame}
-use Rattle.et_machine.proofs.Places.{top_root, lock_root}
+use Rattle.et_state.specs.declared.stage.Stage.{Stage}
+use Rattle.et_state.specs.declared.stage.Stage.TheVariants.{Plain}
+use Rattle.et_state.specs.Threads.{FrameState, ThreadState, first_frame, rest_of, with_top_of, without_top, with_pending, as_ended, most_frames}
+use Rattle.et_state.specs.declared.class_state.ClassState.TheVariants.{Failed, Untouched}
+use Rattle.et_state.specs.State.{Kept}
+use Rattle.et_state.specs.Words.{thread_at, HasFrame}
+use Rattle.et_state.proofs.Places.{top_root, lock_root}
 use Rattle.et_graph.proofs.Lists.{Contains-here}
 use Rattle.et_state.specs.declared.records.Record.TheVariants.{Unwind}
 use Rattle.et_state.specs.Outcome.{Outcome}

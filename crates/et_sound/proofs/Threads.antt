@@ -4,9 +4,9 @@ use Rattle.std.specs.Prelude.{IsSome}
 use Rattle.std.proofs.lemmas.Bool.{cases_eq}
 use Rattle.std.proofs.lemmas.List.{length-set, get_or-set_other}
 use Rattle.et_program.specs.Entries.{Linked}
-use Rattle.et_frames.specs.Threads.{FrameState, ThreadState, no_thread, most_threads, most_frames, with_pending, as_entered, as_ended}
-use Rattle.et_machine.specs.State.{GuestState, Kept}
-use Rattle.et_machine.specs.Words.{thread_at, with_thread}
+use Rattle.et_state.specs.Threads.{FrameState, ThreadState, no_thread, most_threads, most_frames, with_pending, as_entered, as_ended}
+use Rattle.et_state.specs.State.{GuestState, Kept}
+use Rattle.et_state.specs.Words.{thread_at, with_thread}
 use Rattle.et_event.specs.Sound.{AreSoundFrames, HasThreadObject, IsSoundThread}
 use Rattle.et_sound.specs.WellFormed.{IsWellFormed, MayBeThread}
 use Rattle.et_sound.proofs.Growing.{Grows, objects_grow, monitors_grow, classes_grow}

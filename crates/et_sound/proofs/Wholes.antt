@@ -5,11 +5,11 @@ use Rattle.std.proofs.lemmas.List.Elements.{Contains-append_right}
 use Rattle.et_graph.proofs.Lists.{Contains-here}
 use Rattle.et_program.specs.Entries.{Linked}
 use Rattle.et_heap.proofs.HeapLists.{held_within}
-use Rattle.et_frames.specs.Threads.{ThreadState, ended_roots}
-use Rattle.et_machine.specs.State.{GuestState, Kept}
-use Rattle.et_machine.specs.Words.{thread_at, ticked}
-use Rattle.et_machine.specs.Sound.{IsSound}
-use Rattle.et_machine.proofs.Places.{ended_root}
+use Rattle.et_state.specs.Threads.{ThreadState, ended_roots}
+use Rattle.et_state.specs.State.{GuestState, Kept}
+use Rattle.et_state.specs.Words.{thread_at, ticked}
+use Rattle.et_state.specs.Sound.{IsSound}
+use Rattle.et_state.proofs.Places.{ended_root}
 use Rattle.et_event.specs.Moments.{fits, later}
 use Rattle.et_event.specs.Sound.{HasThreadObject, IsSoundFor, IsSoundThread}
 use Rattle.et_sound.specs.WellFormed.{IsWellFormed}

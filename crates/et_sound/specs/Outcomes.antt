@@ -1,7 +1,7 @@
 -- Outcomes after which a state of a program is sound.
 use Rattle.et_program.specs.Entries.{Linked}
-use Rattle.et_machine.specs.State.{Kept}
-use Rattle.et_machine.specs.Sound.{IsSound}
+use Rattle.et_state.specs.State.{Kept}
+use Rattle.et_state.specs.Sound.{IsSound}
 use Rattle.et_state.specs.Outcome.{Outcome}
 use Rattle.et_state.specs.Outcome as outcome
 use Rattle.et_event.specs.Sound.{IsSoundFor}

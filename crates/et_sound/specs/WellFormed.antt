@@ -9,10 +9,10 @@ use Rattle.et_program.specs.Entries.{Linked, class_at, method_at, field_at, is_s
 use Rattle.et_program.specs.Members.{is_subclass}
 use Rattle.et_program.specs.declared.info.Element.TheVariants.{NoArray}
 use Rattle.et_heap.specs.Objects.{ObjectState, IsHeld, at}
-use Rattle.et_frames.specs.Threads.{FrameState, ThreadState, most_frames, most_threads}
-use Rattle.et_machine.specs.declared.class_state.ClassState.TheVariants.{Untouched}
-use Rattle.et_machine.specs.State.{Kept}
-use Rattle.et_machine.specs.Words.{thread_at, HasFrame}
+use Rattle.et_state.specs.Threads.{FrameState, ThreadState, most_frames, most_threads}
+use Rattle.et_state.specs.declared.class_state.ClassState.TheVariants.{Untouched}
+use Rattle.et_state.specs.State.{Kept}
+use Rattle.et_state.specs.Words.{thread_at, HasFrame}
 use Rattle.et_event.specs.Frames.{first_reference}
 use Rattle.et_event.specs.Initialization.{state_of}
 use Rattle.et_event.specs.Kinds.{kind_of}

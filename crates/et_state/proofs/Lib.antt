@@ -1,1 +1,10 @@
 pub mod Answered
+pub mod Reverse
+pub mod Strings
+pub mod Places
+pub mod UnderWay
+pub mod Calls
+pub mod Wholes
+pub mod Pasts
+pub mod Flushes
+pub mod Steps

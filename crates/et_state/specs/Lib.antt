@@ -3,3 +3,17 @@ pub mod Naming
 pub mod History
 pub mod Answers
 pub mod Options
+pub mod Threads
+pub mod ThreadRoots
+pub mod NewFrames
+pub mod FrameInside
+pub mod ThreadInside
+pub mod Interned
+pub mod InternedInside
+pub mod State
+pub mod Words
+pub mod Roots
+pub mod Sound
+pub mod Moves
+pub mod Past
+pub mod MachineInside

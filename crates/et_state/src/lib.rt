@@ -1,12 +1,31 @@
 //! What a run of the guest means: the records of events, and the histories, deaths and traces of any rule of events.
 #![tactic(auto)]
 
+mod class_state;
 mod ends;
+mod frame;
+mod interned;
+pub mod laws;
 mod lines;
+mod listing;
+mod lost;
+mod machine;
+mod new_frame;
 mod options;
 mod records;
+mod stage;
+mod thread;
+mod threads;
 
+pub use class_state::ClassState;
 pub use ends::EventEnd;
+pub use frame::Frame;
 pub use lines::Lines;
+pub use listing::list_values;
+pub use lost::Lost;
+pub use machine::Machine;
+pub use new_frame::NewFrame;
 pub use options::{Options, Schedule};
 pub use records::Record;
+pub use stage::{Stage, Turn};
+pub use thread::Thread;

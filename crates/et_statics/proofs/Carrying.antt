@@ -9,16 +9,16 @@ use Rattle.et_graph.proofs.Lists.{Contains-none, Contains-here, Contains-cons}
 use Rattle.et_heap.specs.Objects.{ObjectState, IsHeld, new_object, has_room}
 use Rattle.et_heap.specs.Refs.{refs_of_value, refs_of}
 use Rattle.et_heap.proofs.HeapLists.{held_within}
-use Rattle.et_frames.specs.Threads.{FrameState}
-use Rattle.et_frames.specs.Roots.{frame_roots}
-use Rattle.et_machine.specs.State.{Kept, MachineState, kept_of}
-use Rattle.et_machine.specs.Words.{top, with_top, HasFrame, static_at, with_static, steps_top, with_new_object}
-use Rattle.et_machine.specs.Roots.{roots_of}
-use Rattle.et_machine.specs.Sound.{IsSound}
-use Rattle.et_machine.specs.Moves.{WasThere, IsOnWay, Led}
-use Rattle.et_machine.proofs.Places.{top_root, static_root, string_root}
-use Rattle.et_machine.proofs.Calls.{on_set_static, on_make}
-use Rattle.et_machine.proofs.Steps.{MayEnter, MayBeLost, did_on_way, root_there, new_there, newest_held, with_top_root}
+use Rattle.et_state.specs.Threads.{FrameState}
+use Rattle.et_state.specs.ThreadRoots.{frame_roots}
+use Rattle.et_state.specs.State.{Kept, MachineState, kept_of}
+use Rattle.et_state.specs.Words.{top, with_top, HasFrame, static_at, with_static, steps_top, with_new_object}
+use Rattle.et_state.specs.Roots.{roots_of}
+use Rattle.et_state.specs.Sound.{IsSound}
+use Rattle.et_state.specs.Moves.{WasThere, IsOnWay, Led}
+use Rattle.et_state.proofs.Places.{top_root, static_root, string_root}
+use Rattle.et_state.proofs.Calls.{on_set_static, on_make}
+use Rattle.et_state.proofs.Steps.{MayEnter, MayBeLost, did_on_way, root_there, new_there, newest_held, with_top_root}
 use Rattle.et_program.specs.Entries.{Linked, class_at}
 use Rattle.et_state.specs.declared.records.Record.{Record}
 use Rattle.et_state.specs.declared.records.Record.TheVariants.{Alloc}

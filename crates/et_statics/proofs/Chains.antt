@@ -3,8 +3,8 @@ use Rattle.std.proofs.Common.{ℕ, ◌++◌, ◌∷◌, List}
 use Rattle.et_base.specs.declared.value.Value.{Value}
 use Rattle.et_base.specs.declared.value.Value.TheVariants.{Ref}
 use Rattle.et_program.specs.Entries.{field_at}
-use Rattle.et_machine.specs.State.{Kept}
-use Rattle.et_machine.specs.Words.{static_at}
+use Rattle.et_state.specs.State.{Kept}
+use Rattle.et_state.specs.Words.{static_at}
 use Rattle.et_state.specs.Outcome.{Outcome}
 use Rattle.et_event.specs.declared.errors.GuestError.TheVariants.{IncompatibleClassChangeError, InstantiationError}
 use Rattle.et_event.specs.Moments.{Moment, frame_of, begins, next_object, instance_made, static_written, ill_typed, ends}

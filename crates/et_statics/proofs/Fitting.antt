@@ -4,7 +4,7 @@ use Rattle.std.specs.Prelude.{slice_index_or}
 use Rattle.et_base.specs.declared.value.Value.{Value}
 use Rattle.et_pool.specs.Descriptors.{width_of}
 use Rattle.et_heap.specs.Refs.{refs_of_value}
-use Rattle.et_frames.specs.Threads.{FrameState}
+use Rattle.et_state.specs.Threads.{FrameState}
 use Rattle.et_program.specs.declared.info.FieldInfo.{FieldInfo}
 use Rattle.et_program.specs.Entries.{Linked, field_at}
 use Rattle.et_event.specs.declared.rows.Operand.{Operand}

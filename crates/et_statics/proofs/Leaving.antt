@@ -3,10 +3,10 @@ use Rattle.std.proofs.Common.{◌≡◌, ℕ, zero, suc, ◌+◌, ◌≤◌, Lis
 use Rattle.et_base.specs.declared.value.Value.{Value}
 use Rattle.et_base.specs.declared.value.Value.TheVariants.{Unset, Int, Long, LongHigh, Null, Ref}
 use Rattle.et_heap.specs.Refs.{refs_of_value, refs_of}
-use Rattle.et_frames.specs.Threads.{FrameState, at_pc, popped}
-use Rattle.et_machine.specs.State.{MachineState}
-use Rattle.et_machine.specs.Words.{top, HasFrame, steps_top}
-use Rattle.et_machine.proofs.Steps.{then_top}
+use Rattle.et_state.specs.Threads.{FrameState, at_pc, popped}
+use Rattle.et_state.specs.State.{MachineState}
+use Rattle.et_state.specs.Words.{top, HasFrame, steps_top}
+use Rattle.et_state.proofs.Steps.{then_top}
 use Rattle.et_statics.specs.Accesses.{replaces}
 
 value_refs : (v : Value) → length (refs_of_value v) ≤ 1

@@ -1,7 +1,7 @@
 -- How far an event has come as it begins, and after quiet classes became done in it.
 use Rattle.std.proofs.Common.{◌≡◌, ℕ, ◌<◌, ◌^◌, Bool, [], length, refl, sym, ◌∙◌, ap}
 use Rattle.et_heap.specs.Objects.{Objects, has_room}
-use Rattle.et_machine.specs.State.{MachineState, kept_of}
+use Rattle.et_state.specs.State.{MachineState, kept_of}
 use Rattle.et_program.specs.Entries.{Linked, class_at}
 use Rattle.et_event.specs.Initialization.{quietly_done}
 use Rattle.et_event.specs.Moments.{moment, begins}

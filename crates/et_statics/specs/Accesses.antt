@@ -7,9 +7,9 @@ use Rattle.et_class.specs.Names.{has}
 use Rattle.et_class.specs.declared.flags.TheConstants.{STATIC}
 use Rattle.et_heap.specs.Objects.{has_room, new_object}
 use Rattle.et_heap.specs.Refs.{refs_of_value, refs_of}
-use Rattle.et_frames.specs.Threads.{FrameState}
-use Rattle.et_machine.specs.State.{Kept, MachineState}
-use Rattle.et_machine.specs.Words.{top, static_at, with_static, steps_guest, steps_top, with_new_object}
+use Rattle.et_state.specs.Threads.{FrameState}
+use Rattle.et_state.specs.State.{Kept, MachineState}
+use Rattle.et_state.specs.Words.{top, static_at, with_static, steps_guest, steps_top, with_new_object}
 use Rattle.et_program.specs.Entries.{Linked, class_at, field_at}
 use Rattle.et_state.specs.declared.records.Record.{Record}
 use Rattle.et_state.specs.declared.records.Record.TheVariants.{Alloc}

@@ -1,8 +1,8 @@
 //! What an event does once the class that it needs is initialized.
 ghost use Rattle.std.specs.Prelude.{◌≡◌, ◌+◌, ◌*◌, ◌<◌, ◌≤◌, ◌++◌, ◌∷◌, [], true, length, IfOk, OnOk};
-ghost use Rattle.et_frames.specs.Threads.{lost_room};
+ghost use Rattle.et_state.specs.Threads.{lost_room};
 ghost use Rattle.et_heap.specs.Objects.{has_room, new_object};
-ghost use Rattle.et_machine.specs.Words.{HasFrame, top, static_at, with_new_object};
+ghost use Rattle.et_state.specs.Words.{HasFrame, top, static_at, with_new_object};
 ghost use Rattle.et_program.specs.Entries.{class_at};
 ghost use Rattle.et_state.specs.declared.records.Record.TheVariants.{Alloc};
 ghost use Rattle.et_statics.specs.Accesses.{CanRead, CanWrite, CanMake, CanAccess, Accesses, TellsStatic, replaces, reads, writes, makes, objects_in, slots_in};
@@ -10,12 +10,11 @@ ghost use Rattle.et_statics.specs.Accesses.{CanRead, CanWrite, CanMake, CanAcces
 use et_base::{ClassId, NoMemory, ObjectId, ThreadId, Value};
 use et_event::Operand;
 use et_heap::MakeFault;
-use et_machine::Machine;
 use et_parts::take;
 use et_place::Place;
 use et_program::Program;
 use et_refs::{number_of, or_zero, replace_top};
-use et_state::{Lines, Record};
+use et_state::{Lines, Machine, Record};
 
 /// The value of a static slot is put on top, 0 or null of its kind where nothing was written to it.
 #[derive(Clone, Copy)]

@@ -1,8 +1,8 @@
 //! The events that need a class to be initialized (JVMS 5.5).
 ghost use Rattle.std.specs.Prelude.{◌≡◌, ◌<◌, ◌^◌, ◌++◌, true, length, IfOk, OnOk};
 ghost use Rattle.et_heap.specs.Objects.{has_room as room_for};
-ghost use Rattle.et_machine.specs.State.{kept_of};
-ghost use Rattle.et_machine.specs.Words.{HasFrame, top};
+ghost use Rattle.et_state.specs.State.{kept_of};
+ghost use Rattle.et_state.specs.Words.{HasFrame, top};
 ghost use Rattle.et_event.specs.Answered.{EventAnswers};
 ghost use Rattle.et_event.specs.Initialization.{quietly_done};
 ghost use Rattle.et_event.specs.Moments.{moment, begins, fits};
@@ -18,11 +18,10 @@ use et_base::{NoMemory, ThreadId};
 use et_event::GuestError;
 use et_heap::{MOST_OBJECTS, MOST_SLOTS};
 use et_initialize::{Need, begin_class_event, need_of, quiet_fits, set_quietly, wait_event};
-use et_machine::Machine;
 use et_parts::throw_error;
 use et_place::Place;
 use et_program::Program;
-use et_state::{EventEnd, Lines};
+use et_state::{EventEnd, Lines, Machine};
 use std::alloc::Global;
 
 /// Whether so many objects, with so many slots in all, may be made.

@@ -1,7 +1,7 @@
 //! Static fields (JVMS 6.5, getstatic, putstatic).
 ghost use Rattle.std.specs.Prelude.{◌≡◌, ℕ, ◌+◌, ◌<◌, ◌≤◌, ◌^◌, length, nat_le, IfOk, OnOk};
-ghost use Rattle.et_machine.specs.State.{Kept, kept_of};
-ghost use Rattle.et_machine.specs.Words.{HasFrame, top};
+ghost use Rattle.et_state.specs.State.{Kept, kept_of};
+ghost use Rattle.et_state.specs.Words.{HasFrame, top};
 ghost use Rattle.et_state.specs.Outcome.{Outcome};
 ghost use Rattle.et_event.specs.declared.errors.GuestError.TheVariants.{IncompatibleClassChangeError};
 ghost use Rattle.et_event.specs.Checks.{ill_typed_unless as ill_unless, throws_unless as throwing_unless};
@@ -19,13 +19,13 @@ use crate::accesses::{Access, Read, Wanted, Write};
 use et_base::{FieldId, ThreadId};
 use et_class::flags::{STATIC, has};
 use et_event::GuestError;
-use et_machine::Machine;
 use et_place::{MemberAt, Place};
 use et_program::Program;
 use et_refs::{
     Refusal, field_named, ill_typed_unless, kind_of, narrowed, resolve, resolve_field, take_typed,
     throws_unless, width_of,
 };
+use et_state::Machine;
 
 /// Whether so many entries fit on top.
 fn fits(machine: &Machine, thread: ThreadId, width: u32) -> bool

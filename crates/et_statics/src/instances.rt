@@ -1,6 +1,6 @@
 //! Instances (JVMS 6.5, new).
 ghost use Rattle.std.specs.Prelude.{◌≡◌, ◌<◌, ◌^◌, length, IfOk};
-ghost use Rattle.et_machine.specs.Words.{HasFrame, top};
+ghost use Rattle.et_state.specs.Words.{HasFrame, top};
 ghost use Rattle.et_event.specs.Heap.{may_be_made as may_make, new_instance};
 ghost use Rattle.et_event.specs.Sites.{natural};
 ghost use Rattle.et_place.specs.Places.{site_at};
@@ -13,10 +13,10 @@ use crate::fields::width_fits;
 use et_base::{ClassId, ThreadId};
 use et_class::flags::{ABSTRACT, INTERFACE, has};
 use et_event::GuestError;
-use et_machine::Machine;
 use et_place::Place;
 use et_program::Program;
 use et_refs::{Refusal, class_named, resolve, throws_unless};
+use et_state::Machine;
 
 /// Whether a class is neither an interface nor abstract.
 fn may_be_made(program: &Program, class: ClassId) -> bool

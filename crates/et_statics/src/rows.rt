@@ -1,7 +1,7 @@
 //! The instructions that need a class to be initialized, by their rows.
 ghost use Rattle.std.specs.Prelude.{◌≡◌, ◌<◌, ◌^◌, true, false, IfOk, IfSome, IfNone};
-ghost use Rattle.et_machine.specs.State.{kept_of};
-ghost use Rattle.et_machine.specs.Words.{HasFrame, top};
+ghost use Rattle.et_state.specs.State.{kept_of};
+ghost use Rattle.et_state.specs.Words.{HasFrame, top};
 ghost use Rattle.et_event.specs.declared.rows.Row.TheVariants as row_kinds;
 ghost use Rattle.et_event.specs.Answered.{EventAnswers};
 ghost use Rattle.et_event.specs.Heap.{heap_event};
@@ -21,11 +21,10 @@ use crate::fields::{read_field, write_field};
 use crate::instances::new_object;
 use et_base::{NoMemory, ThreadId};
 use et_event::HeapRow;
-use et_machine::Machine;
 use et_place::Place;
 use et_program::Program;
 use et_refs::{Refusal, refuse};
-use et_state::{EventEnd, Lines};
+use et_state::{EventEnd, Lines, Machine};
 use std::alloc::Global;
 
 /// What the instruction of a row wants, or what refuses; `None` for the rows that need no class to be initialized.

@@ -16,7 +16,7 @@ use Rattle.et_program.specs.Resolution.{resolve_class}
 use Rattle.et_program.specs.declared.info.Element.{Element}
 use Rattle.et_program.specs.declared.info.Element.TheVariants.{Class}
 use Rattle.et_program.specs.declared.info.MethodInfo.{MethodInfo}
-use Rattle.et_machine.specs.State.{Kept}
+use Rattle.et_state.specs.State.{Kept}
 use Rattle.et_event.specs.declared.rows.HeapRow.TheVariants.{NewArray, NewReferenceArray, NewMultiArray}
 use Rattle.et_event.specs.declared.rows.Row.TheVariants.{Heap}
 use Rattle.et_event.specs.declared.errors.GuestError.TheVariants.{NegativeArraySizeException}

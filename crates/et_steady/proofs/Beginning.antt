@@ -16,9 +16,9 @@ use Rattle.et_graph.proofs.Lists.{Contains-here}
 use Rattle.et_heap.specs.Objects.{IsHeld}
 use Rattle.et_program.specs.Entries.{Linked, method_at, is_static}
 use Rattle.et_program.specs.Resolution.{resolve_method, select}
-use Rattle.et_frames.specs.Threads.{FrameState, ThreadState, no_thread, as_entered, ended_roots}
-use Rattle.et_machine.specs.Words.{thread_at, IsUnended}
-use Rattle.et_machine.proofs.Places.{ended_root}
+use Rattle.et_state.specs.Threads.{FrameState, ThreadState, no_thread, as_entered, ended_roots}
+use Rattle.et_state.specs.Words.{thread_at, IsUnended}
+use Rattle.et_state.proofs.Places.{ended_root}
 use Rattle.et_event.specs.declared.errors.GuestError.TheVariants.{AbstractMethodError, UnsatisfiedLinkError}
 use Rattle.et_event.specs.Calls.{entry_count, entering, entry_arguments, enters_first, enters_main, enters_run, entry_call, is_of_owner}
 use Rattle.et_event.specs.Errors.{class_called}

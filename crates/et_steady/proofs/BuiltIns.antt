@@ -16,8 +16,8 @@ use Rattle.et_heap.proofs.HeapLists.{held_within}
 use Rattle.et_program.specs.Entries.{Linked, field_at}
 use Rattle.et_program.specs.Members.{is_subclass}
 use Rattle.et_program.specs.declared.info.MethodInfo.{MethodInfo}
-use Rattle.et_frames.specs.Threads.{FrameState, most_threads, thread_with}
-use Rattle.et_machine.specs.State.{Kept}
+use Rattle.et_state.specs.Threads.{FrameState, most_threads, thread_with}
+use Rattle.et_state.specs.State.{Kept}
 use Rattle.et_state.specs.Outcome.{Outcome}
 use Rattle.et_event.specs.declared.rows.BuiltIn.{BuiltIn}
 use Rattle.et_event.specs.declared.rows.Operand.TheVariants as operand

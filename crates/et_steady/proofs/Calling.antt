@@ -10,9 +10,9 @@ use Rattle.et_code.specs.Bodies.{Body}
 use Rattle.et_class.specs.Names.{has}
 use Rattle.et_class.specs.declared.flags.TheConstants.{NATIVE}
 use Rattle.et_program.specs.Entries.{Linked, method_at, is_static}
-use Rattle.et_frames.specs.Threads.{FrameState, ThreadState, no_thread, popped, rest_of}
-use Rattle.et_machine.specs.State.{Kept}
-use Rattle.et_machine.specs.Words.{thread_at}
+use Rattle.et_state.specs.Threads.{FrameState, ThreadState, no_thread, popped, rest_of}
+use Rattle.et_state.specs.State.{Kept}
+use Rattle.et_state.specs.Words.{thread_at}
 use Rattle.et_state.specs.Outcome.{Outcome}
 use Rattle.et_event.specs.declared.rows.CallKind.{CallKind}
 use Rattle.et_event.specs.declared.rows.CallRow.TheVariants.{Invoke}

@@ -9,8 +9,8 @@ use Rattle.et_code.specs.Decoding.{instruction_at}
 use Rattle.et_heap.specs.Objects.{IsHeld, object_at, free_monitor}
 use Rattle.et_heap.specs.declared.monitor.Monitor.{Monitor}
 use Rattle.et_program.specs.Entries.{Linked, method_at}
-use Rattle.et_frames.specs.Threads.{FrameState, ThreadState, no_thread, popped, rest_of, top_of, with_top_of, most_frames}
-use Rattle.et_machine.specs.Words.{thread_at, HasFrame}
+use Rattle.et_state.specs.Threads.{FrameState, ThreadState, no_thread, popped, rest_of, top_of, with_top_of, most_frames}
+use Rattle.et_state.specs.Words.{thread_at, HasFrame}
 use Rattle.et_event.specs.Calls.{taking}
 use Rattle.et_event.specs.Frames.{receiver_of, method_frame, frame_entered, enters_code}
 use Rattle.et_event.specs.Moments.{Moment, Doing, frame_of, thread_of, begins, with_frame, ends}

@@ -6,12 +6,12 @@ use Rattle.et_base.specs.declared.value.Value.{Value}
 use Rattle.et_base.specs.declared.value.Value.TheVariants.{Int, Long, Ref}
 use Rattle.et_program.specs.Entries.{class_at, field_at}
 use Rattle.et_program.specs.declared.info.FieldInfo.{FieldInfo}
-use Rattle.et_frames.specs.Threads.{ThreadState}
-use Rattle.et_machine.specs.declared.class_state.ClassState.{ClassState}
-use Rattle.et_machine.specs.declared.class_state.ClassState.TheVariants.{Untouched, Begun, Done, Failed}
-use Rattle.et_machine.specs.Interned.{object_of}
-use Rattle.et_machine.specs.State.{Kept}
-use Rattle.et_machine.specs.Words.{static_at, with_static, with_string}
+use Rattle.et_state.specs.Threads.{ThreadState}
+use Rattle.et_state.specs.declared.class_state.ClassState.{ClassState}
+use Rattle.et_state.specs.declared.class_state.ClassState.TheVariants.{Untouched, Begun, Done, Failed}
+use Rattle.et_state.specs.Interned.{object_of}
+use Rattle.et_state.specs.State.{Kept}
+use Rattle.et_state.specs.Words.{static_at, with_static, with_string}
 use Rattle.et_state.specs.Outcome.{Outcome}
 use Rattle.et_event.specs.declared.errors.GuestError.TheVariants.{NoClassDefFoundError}
 use Rattle.et_event.specs.Errors.{class_called}

@@ -9,7 +9,7 @@ use Rattle.et_code.specs.Starts.{IsStart}
 use Rattle.et_code.proofs.Keeping.{kept_code}
 use Rattle.et_program.specs.Entries.{Linked}
 use Rattle.et_program.specs.declared.info.MethodInfo.{MethodInfo}
-use Rattle.et_frames.specs.Threads.{FrameState}
+use Rattle.et_state.specs.Threads.{FrameState}
 use Rattle.et_event.specs.declared.rows.HeapRow.{HeapRow}
 use Rattle.et_event.specs.declared.rows.HeapRow.TheVariants as heap_rows
 use Rattle.et_event.specs.declared.rows.CallRow.{CallRow}

@@ -6,13 +6,13 @@ use Rattle.std.proofs.lemmas.Bool.{false≢true, true≢false}
 use Rattle.et_base.specs.declared.value.Value.TheVariants.{Ref}
 use Rattle.et_code.specs.declared.body.TableRow.{TableRow}
 use Rattle.et_program.specs.Entries.{Linked}
-use Rattle.et_frames.specs.declared.stage.Stage.{Stage}
-use Rattle.et_frames.specs.declared.stage.Stage.TheVariants.{Plain, Before, Clinit}
-use Rattle.et_frames.specs.declared.stage.Turn.{Turn}
-use Rattle.et_frames.specs.declared.stage.Turn.TheVariants.{Unwind, EndThread, Entry, Initialize, Instruction}
-use Rattle.et_frames.specs.Threads.{FrameState, ThreadState, turn_of, has_frame, is_before, top_of, rest_of}
-use Rattle.et_machine.specs.State.{Kept}
-use Rattle.et_machine.specs.Words.{HasFrame, IsUnended}
+use Rattle.et_state.specs.declared.stage.Stage.{Stage}
+use Rattle.et_state.specs.declared.stage.Stage.TheVariants.{Plain, Before, Clinit}
+use Rattle.et_state.specs.declared.stage.Turn.{Turn}
+use Rattle.et_state.specs.declared.stage.Turn.TheVariants.{Unwind, EndThread, Entry, Initialize, Instruction}
+use Rattle.et_state.specs.Threads.{FrameState, ThreadState, turn_of, has_frame, is_before, top_of, rest_of}
+use Rattle.et_state.specs.State.{Kept}
+use Rattle.et_state.specs.Words.{HasFrame, IsUnended}
 use Rattle.et_state.specs.Outcome.{Outcome}
 use Rattle.et_event.specs.declared.errors.GuestError.TheVariants.{ExceptionInInitializerError}
 use Rattle.et_event.specs.Event.{initializes, does_turn, event}

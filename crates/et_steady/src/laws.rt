@@ -13,10 +13,10 @@ ghost use Rattle.et_event.specs.Heap.{new_array, new_reference_array, new_multi_
 ghost use Rattle.et_event.specs.Moments.{Moment, thread_of, frame_of};
 ghost use Rattle.et_event.specs.Sites.{Site};
 ghost use Rattle.et_event.specs.Sound.{IsSoundFor};
-ghost use Rattle.et_frames.specs.declared.stage.Turn.TheVariants as turns;
-ghost use Rattle.et_frames.specs.Threads.{turn_of};
-ghost use Rattle.et_machine.specs.State.{Kept};
-ghost use Rattle.et_machine.specs.Words.{IsUnended};
+ghost use Rattle.et_state.specs.declared.stage.Turn.TheVariants as turns;
+ghost use Rattle.et_state.specs.Threads.{turn_of};
+ghost use Rattle.et_state.specs.State.{Kept};
+ghost use Rattle.et_state.specs.Words.{IsUnended};
 ghost use Rattle.et_ops.specs.Rows.{is_plain};
 ghost use Rattle.et_place.specs.declared.places.Place.{Place};
 ghost use Rattle.et_place.specs.Places.{IsPlace, site_at};

@@ -6,18 +6,18 @@ use Rattle.std.proofs.lemmas.List.{length-set, get_or-set_other}
 use Rattle.std.proofs.lemmas.List.Elements.{All-weaker}
 use Rattle.et_program.specs.Entries.{Linked}
 use Rattle.et_heap.specs.declared.monitor.Monitor.{Monitor}
-use Rattle.et_frames.specs.declared.stage.Turn.{Turn}
-use Rattle.et_frames.specs.declared.stage.Turn.TheVariants.{EndThread}
-use Rattle.et_frames.specs.Threads.{FrameState, ThreadState, no_thread, turn_of, as_ended, ended_roots, most_frames, most_threads}
-use Rattle.et_machine.specs.declared.class_state.ClassState.{ClassState}
-use Rattle.et_machine.specs.declared.class_state.ClassState.TheVariants.{Untouched, Begun, Done, Failed}
-use Rattle.et_machine.specs.State.{Kept, MachineState, kept_of}
-use Rattle.et_machine.specs.Words.{thread_at, with_thread, ticked, begun, steps_thread, IsUnended}
-use Rattle.et_machine.specs.Moves.{IsOnWay, Led}
-use Rattle.et_machine.specs.Sound.{IsSound}
-use Rattle.et_machine.proofs.Calls.{on_begin_event, on_end_thread}
-use Rattle.et_machine.proofs.Places.{ended_root}
-use Rattle.et_machine.proofs.Steps.{led_plain, root_there}
+use Rattle.et_state.specs.declared.stage.Turn.{Turn}
+use Rattle.et_state.specs.declared.stage.Turn.TheVariants.{EndThread}
+use Rattle.et_state.specs.Threads.{FrameState, ThreadState, no_thread, turn_of, as_ended, ended_roots, most_frames, most_threads}
+use Rattle.et_state.specs.declared.class_state.ClassState.{ClassState}
+use Rattle.et_state.specs.declared.class_state.ClassState.TheVariants.{Untouched, Begun, Done, Failed}
+use Rattle.et_state.specs.State.{Kept, MachineState, kept_of}
+use Rattle.et_state.specs.Words.{thread_at, with_thread, ticked, begun, steps_thread, IsUnended}
+use Rattle.et_state.specs.Moves.{IsOnWay, Led}
+use Rattle.et_state.specs.Sound.{IsSound}
+use Rattle.et_state.proofs.Calls.{on_begin_event, on_end_thread}
+use Rattle.et_state.proofs.Places.{ended_root}
+use Rattle.et_state.proofs.Steps.{led_plain, root_there}
 use Rattle.et_state.specs.declared.records.Record.{Record}
 use Rattle.et_state.specs.declared.ends.EventEnd.TheVariants as ends
 use Rattle.et_state.specs.Outcome.{Outcome}

@@ -9,13 +9,13 @@ use Rattle.et_heap.specs.declared.monitor.Monitor.{Monitor}
 use Rattle.et_heap.specs.Objects.{IsHeld, object_at, with_monitor, with_object_at}
 use Rattle.et_heap.specs.Refs.{refs_of_value}
 use Rattle.et_program.specs.Entries.{Linked}
-use Rattle.et_frames.specs.Threads.{FrameState, at_pc, popped, operand_of}
-use Rattle.et_machine.specs.State.{Kept, MachineState, kept_of}
-use Rattle.et_machine.specs.Words.{top, with_top, HasFrame, ticked, begun, steps_top}
-use Rattle.et_machine.specs.Sound.{IsSound}
-use Rattle.et_machine.specs.Moves.{IsOnWay, Led}
-use Rattle.et_machine.proofs.Calls.{on_begin_event}
-use Rattle.et_machine.proofs.Steps.{Did, did_begin, did_pop, did_set_pc, did_on_way, led_plain, operand_held, operand_there}
+use Rattle.et_state.specs.Threads.{FrameState, at_pc, popped, operand_of}
+use Rattle.et_state.specs.State.{Kept, MachineState, kept_of}
+use Rattle.et_state.specs.Words.{top, with_top, HasFrame, ticked, begun, steps_top}
+use Rattle.et_state.specs.Sound.{IsSound}
+use Rattle.et_state.specs.Moves.{IsOnWay, Led}
+use Rattle.et_state.proofs.Calls.{on_begin_event}
+use Rattle.et_state.proofs.Steps.{Did, did_begin, did_pop, did_set_pc, did_on_way, led_plain, operand_held, operand_there}
 use Rattle.et_state.specs.declared.records.Record.{Record}
 use Rattle.et_state.specs.declared.ends.EventEnd.{EventEnd}
 use Rattle.et_state.specs.declared.ends.EventEnd.TheVariants as ends

@@ -1,10 +1,10 @@
 //! The event in which a thread ends.
 ghost use Rattle.std.specs.Prelude.{◌≡◌, ◌+◌, ◌<◌, ◌^◌, List};
-ghost use Rattle.et_frames.specs.declared.stage.Turn.TheVariants as turns;
-ghost use Rattle.et_frames.specs.Threads.{turn_of};
-ghost use Rattle.et_machine.specs.State.{kept_of};
-ghost use Rattle.et_machine.specs.Words.{thread_at, IsUnended};
-ghost use Rattle.et_machine.specs.Sound.{IsSound};
+ghost use Rattle.et_state.specs.declared.stage.Turn.TheVariants as turns;
+ghost use Rattle.et_state.specs.Threads.{turn_of};
+ghost use Rattle.et_state.specs.State.{kept_of};
+ghost use Rattle.et_state.specs.Words.{thread_at, IsUnended};
+ghost use Rattle.et_state.specs.Sound.{IsSound};
 ghost use Rattle.et_program.specs.Entries.{Linked};
 ghost use Rattle.et_state.specs.declared.records.Record.{Record};
 ghost use Rattle.et_event.specs.Answered.{EventAnswers};
@@ -12,8 +12,7 @@ ghost use Rattle.et_event.specs.Event.{event};
 ghost use Rattle.et_event.specs.Sound.{IsSoundFor};
 
 use et_base::ThreadId;
-use et_machine::Machine;
-use et_state::EventEnd;
+use et_state::{EventEnd, Machine};
 
 /// The event of a thread whose turn is to end (JVMS 2.5.1, 2.5.2): what it left pending, its entry slot and its Thread object
 /// are no roots any more. It answers what the table of events says, `Done`, and makes no record; what the machine keeps is a

@@ -8,4 +8,3 @@ mod waiting;
 
 pub use ending::end_event;
 pub use monitoring::monitor_row_event;
-

@@ -1,11 +1,11 @@
 //! `monitorenter` and `monitorexit`.
 ghost use Rattle.std.specs.Prelude.{◌≡◌, ◌+◌, ◌<◌, ◌≤◌, ◌^◌, List, Some, IfOk, OnErr, length, drop};
 ghost use Rattle.et_heap.specs.Objects.{IsHeld, object_at, with_monitor, with_object_at};
-ghost use Rattle.et_frames.specs.Threads.{operand_of};
-ghost use Rattle.et_machine.specs.State.{kept_of};
-ghost use Rattle.et_machine.specs.Words.{HasFrame, top, with_top, ticked};
-ghost use Rattle.et_machine.specs.Sound.{IsSound};
-ghost use Rattle.et_machine.specs.Moves.{Led};
+ghost use Rattle.et_state.specs.Threads.{operand_of};
+ghost use Rattle.et_state.specs.State.{kept_of};
+ghost use Rattle.et_state.specs.Words.{HasFrame, top, with_top, ticked};
+ghost use Rattle.et_state.specs.Sound.{IsSound};
+ghost use Rattle.et_state.specs.Moves.{Led};
 ghost use Rattle.et_state.specs.declared.records.Record.{Record};
 ghost use Rattle.et_event.specs.Answered.{EventAnswers};
 ghost use Rattle.et_event.specs.Monitors.{left_once};
@@ -19,11 +19,10 @@ ghost use Rattle.et_event.specs.Moments.{moment};
 use crate::waiting::wait_event;
 use et_base::{NoMemory, ObjectId, Steps, ThreadId};
 use et_event::{GuestError, MonitorRow};
-use et_machine::Machine;
 use et_monitors::{Lock, enter_monitor, leave_monitor, may_enter, owns};
 use et_parts::{ill_typed, reference_at, throw_error};
 use et_program::Program;
-use et_state::{EventEnd, Lines};
+use et_state::{EventEnd, Lines, Machine};
 use std::sync::ledger::Ledger;
 
 /// The event in which a thread enters the monitor of the object on top of its operands once more.

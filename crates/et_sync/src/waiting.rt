@@ -1,14 +1,13 @@
 //! A thread that waits.
 ghost use Rattle.std.specs.Prelude.{◌≡◌, ℕ, ◌<◌, ◌^◌, List};
-ghost use Rattle.et_machine.specs.State.{kept_of};
-ghost use Rattle.et_machine.specs.Sound.{IsSound};
+ghost use Rattle.et_state.specs.State.{kept_of};
+ghost use Rattle.et_state.specs.Sound.{IsSound};
 ghost use Rattle.et_program.specs.Entries.{Linked};
 ghost use Rattle.et_state.specs.declared.records.Record.{Record};
 ghost use Rattle.et_event.specs.Answered.{EventAnswers};
 ghost use Rattle.et_event.specs.Moments.{moment, waits};
 
-use et_machine::Machine;
-use et_state::EventEnd;
+use et_state::{EventEnd, Machine};
 
 /// The event of a thread that waits: only the clock goes on. It answers `Waited`, takes no memory and visits no object.
 pub fn wait_event(machine: &mut Machine) -> EventEnd

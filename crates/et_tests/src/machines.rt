@@ -1,8 +1,7 @@
 //! A machine with one thread, whose frame is entered and left again.
 use et_base::{ClassId, MethodId, NoMemory, ObjectId, ThreadId, Value};
-use et_frames::{NewFrame, Stage, Turn};
 use et_heap::RootList;
-use et_machine::{ClassState, Machine};
+use et_state::{ClassState, Machine, NewFrame, Stage, Turn};
 use smallvec::SmallVec;
 use std::alloc::Global;
 use std::process::Abort;

@@ -9,15 +9,15 @@ use Rattle.et_graph.proofs.Lists.{Contains-cons, Contains-none}
 use Rattle.et_heap.specs.Objects.{IsHeld}
 use Rattle.et_heap.specs.Refs.{refs_of, refs_of_value}
 use Rattle.et_program.specs.Entries.{Linked}
-use Rattle.et_frames.specs.Threads.{FrameState, ThreadState, no_thread, at_pc, pushed, without_operands, with_pending, with_top_of, lost_room}
-use Rattle.et_frames.specs.Roots.{frame_roots}
-use Rattle.et_machine.specs.State.{GuestState, Kept, MachineState, kept_of}
-use Rattle.et_machine.specs.Words.{thread_at, with_thread, top, HasFrame, ticked, begun, steps_thread, steps_top}
-use Rattle.et_machine.specs.Sound.{IsSound}
-use Rattle.et_machine.specs.Moves.{IsOnWay, Led}
-use Rattle.et_machine.proofs.Places.{pending_root, top_root}
-use Rattle.et_machine.proofs.Calls.{on_begin_event, on_take_pending}
-use Rattle.et_machine.proofs.Steps.{Did, did_begin, did_clear_operands, did_push, did_set_pc, did_on_way, led_plain, root_there}
+use Rattle.et_state.specs.Threads.{FrameState, ThreadState, no_thread, at_pc, pushed, without_operands, with_pending, with_top_of, lost_room}
+use Rattle.et_state.specs.ThreadRoots.{frame_roots}
+use Rattle.et_state.specs.State.{GuestState, Kept, MachineState, kept_of}
+use Rattle.et_state.specs.Words.{thread_at, with_thread, top, HasFrame, ticked, begun, steps_thread, steps_top}
+use Rattle.et_state.specs.Sound.{IsSound}
+use Rattle.et_state.specs.Moves.{IsOnWay, Led}
+use Rattle.et_state.proofs.Places.{pending_root, top_root}
+use Rattle.et_state.proofs.Calls.{on_begin_event, on_take_pending}
+use Rattle.et_state.proofs.Steps.{Did, did_begin, did_clear_operands, did_push, did_set_pc, did_on_way, led_plain, root_there}
 use Rattle.et_state.specs.declared.records.Record.{Record}
 use Rattle.et_state.specs.declared.ends.EventEnd.{EventEnd}
 use Rattle.et_state.specs.declared.ends.EventEnd.TheVariants as ends

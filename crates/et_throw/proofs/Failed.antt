@@ -13,18 +13,18 @@ use Rattle.et_heap.specs.Objects.{ObjectState, Objects, IsHeld, is_there, at, ob
 use Rattle.et_heap.specs.Refs.{refs_of_value}
 use Rattle.et_heap.proofs.HeapLists.{held_set}
 use Rattle.et_program.specs.Entries.{Linked, class_at}
-use Rattle.et_frames.specs.Threads.{ThreadState, no_thread, with_pending, without_top}
-use Rattle.et_frames.specs.Roots.{frame_roots}
-use Rattle.et_machine.specs.declared.class_state.ClassState.TheVariants as states
-use Rattle.et_machine.specs.State.{Kept, MachineState, kept_of}
-use Rattle.et_machine.specs.Words.{thread_at, top, HasFrame, begun, steps_thread, steps_object, with_new_object}
-use Rattle.et_machine.specs.Roots.{graph_of}
-use Rattle.et_machine.specs.Sound.{IsSound}
-use Rattle.et_machine.specs.Moves.{IsOnWay, Led, WasThere, WereThere}
-use Rattle.et_machine.proofs.Places.{top_root, pending_root, refs_of-unset}
-use Rattle.et_machine.proofs.UnderWay.{root_is_reached}
-use Rattle.et_machine.proofs.Calls.{on_begin_event, on_drop_frame, on_set_class_state, on_set_slot, on_throw}
-use Rattle.et_machine.proofs.Steps.{led_plain, led_made, made_on_way, newest_held, new_there, root_there}
+use Rattle.et_state.specs.Threads.{ThreadState, no_thread, with_pending, without_top}
+use Rattle.et_state.specs.ThreadRoots.{frame_roots}
+use Rattle.et_state.specs.declared.class_state.ClassState.TheVariants as states
+use Rattle.et_state.specs.State.{Kept, MachineState, kept_of}
+use Rattle.et_state.specs.Words.{thread_at, top, HasFrame, begun, steps_thread, steps_object, with_new_object}
+use Rattle.et_state.specs.Roots.{graph_of}
+use Rattle.et_state.specs.Sound.{IsSound}
+use Rattle.et_state.specs.Moves.{IsOnWay, Led, WasThere, WereThere}
+use Rattle.et_state.proofs.Places.{top_root, pending_root, refs_of-unset}
+use Rattle.et_state.proofs.UnderWay.{root_is_reached}
+use Rattle.et_state.proofs.Calls.{on_begin_event, on_drop_frame, on_set_class_state, on_set_slot, on_throw}
+use Rattle.et_state.proofs.Steps.{led_plain, led_made, made_on_way, newest_held, new_there, root_there}
 use Rattle.et_state.specs.declared.records.Record.{Record}
 use Rattle.et_state.specs.declared.records.Record.TheVariants.{Alloc, Update}
 use Rattle.et_state.specs.declared.ends.EventEnd.TheVariants as ends

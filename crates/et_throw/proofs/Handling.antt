@@ -6,7 +6,7 @@ use Rattle.et_pool.specs.Entries.{Item, Constants}
 use Rattle.et_code.specs.declared.body.TableRow.{TableRow}
 use Rattle.et_program.specs.Entries.{Linked, class_at, is_interface}
 use Rattle.et_program.specs.Members.{is_above, is_subclass}
-use Rattle.et_frames.specs.Threads.{FrameState}
+use Rattle.et_state.specs.Threads.{FrameState}
 use Rattle.et_event.specs.Sites.{code_of, method_of, pool_of}
 use Rattle.et_event.specs.Throw.{is_above_or_same, catches, handler_of}
 use Rattle.et_place.specs.Places.{Runs}

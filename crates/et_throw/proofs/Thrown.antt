@@ -7,14 +7,14 @@ use Rattle.et_graph.proofs.Lists.{Contains-here}
 use Rattle.et_heap.specs.Objects.{IsHeld}
 use Rattle.et_heap.specs.Refs.{refs_of_value}
 use Rattle.et_program.specs.Entries.{Linked}
-use Rattle.et_frames.specs.Threads.{operand_of, with_pending}
-use Rattle.et_machine.specs.State.{Kept, MachineState, kept_of}
-use Rattle.et_machine.specs.Words.{thread_at, with_thread, top, HasFrame, ticked, begun, steps_thread}
-use Rattle.et_machine.specs.Sound.{IsSound}
-use Rattle.et_machine.specs.Moves.{IsOnWay, Led}
-use Rattle.et_machine.proofs.Places.{pending_root}
-use Rattle.et_machine.proofs.Calls.{on_begin_event, on_throw}
-use Rattle.et_machine.proofs.Steps.{led_plain, operand_held, root_there}
+use Rattle.et_state.specs.Threads.{operand_of, with_pending}
+use Rattle.et_state.specs.State.{Kept, MachineState, kept_of}
+use Rattle.et_state.specs.Words.{thread_at, with_thread, top, HasFrame, ticked, begun, steps_thread}
+use Rattle.et_state.specs.Sound.{IsSound}
+use Rattle.et_state.specs.Moves.{IsOnWay, Led}
+use Rattle.et_state.proofs.Places.{pending_root}
+use Rattle.et_state.proofs.Calls.{on_begin_event, on_throw}
+use Rattle.et_state.proofs.Steps.{led_plain, operand_held, root_there}
 use Rattle.et_state.specs.declared.records.Record.{Record}
 use Rattle.et_state.specs.declared.ends.EventEnd.{EventEnd}
 use Rattle.et_state.specs.declared.ends.EventEnd.TheVariants as ends

@@ -5,14 +5,14 @@ use Rattle.std.specs.Option.{is_some}
 use Rattle.et_base.specs.declared.value.Value.{Value}
 use Rattle.et_program.specs.Entries.{Linked}
 use Rattle.et_heap.specs.Objects.{ObjectState, IsHeld, at, found, is_there, object_at}
-use Rattle.et_frames.specs.declared.stage.Stage.{Stage}
-use Rattle.et_frames.specs.declared.stage.Stage.TheVariants.{Plain, Before, Clinit}
-use Rattle.et_frames.specs.declared.stage.Turn.TheVariants.{Unwind, EndThread, Entry, Initialize, Instruction}
-use Rattle.et_frames.specs.Threads.{FrameState, ThreadState, no_thread, turn_of, has_frame, is_before, first_frame, top_of}
-use Rattle.et_machine.specs.State.{GuestState, Kept, MachineState, kept_of}
-use Rattle.et_machine.specs.Words.{thread_at, top, HasFrame}
-use Rattle.et_machine.specs.Sound.{IsSound}
-use Rattle.et_machine.proofs.Places.{pending_root}
+use Rattle.et_state.specs.declared.stage.Stage.{Stage}
+use Rattle.et_state.specs.declared.stage.Stage.TheVariants.{Plain, Before, Clinit}
+use Rattle.et_state.specs.declared.stage.Turn.TheVariants.{Unwind, EndThread, Entry, Initialize, Instruction}
+use Rattle.et_state.specs.Threads.{FrameState, ThreadState, no_thread, turn_of, has_frame, is_before, first_frame, top_of}
+use Rattle.et_state.specs.State.{GuestState, Kept, MachineState, kept_of}
+use Rattle.et_state.specs.Words.{thread_at, top, HasFrame}
+use Rattle.et_state.specs.Sound.{IsSound}
+use Rattle.et_state.proofs.Places.{pending_root}
 use Rattle.et_event.specs.Sound.{IsSoundFor, IsStaged, AreSoundFrames}
 use Rattle.et_place.specs.Places.{Runs}
 use Rattle.et_throw.specs.Unwinding.{Unwinds}

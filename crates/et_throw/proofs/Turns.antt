@@ -3,12 +3,12 @@ use Rattle.std.proofs.Common.{◌≡◌, ℕ, List, Option, Some, None, refl, sy
 use Rattle.std.specs.Prelude.{option_map, Result, IfOk}
 use Rattle.et_code.specs.declared.body.TableRow.{TableRow}
 use Rattle.et_program.specs.Entries.{Linked}
-use Rattle.et_frames.specs.declared.stage.Stage.{Stage}
-use Rattle.et_frames.specs.declared.stage.Turn.{Turn}
-use Rattle.et_frames.specs.declared.stage.Turn.TheVariants.{Unwind}
-use Rattle.et_frames.specs.Threads.{turn_of}
-use Rattle.et_machine.specs.State.{Kept, MachineState, kept_of}
-use Rattle.et_machine.specs.Words.{thread_at, top}
+use Rattle.et_state.specs.declared.stage.Stage.{Stage}
+use Rattle.et_state.specs.declared.stage.Turn.{Turn}
+use Rattle.et_state.specs.declared.stage.Turn.TheVariants.{Unwind}
+use Rattle.et_state.specs.Threads.{turn_of}
+use Rattle.et_state.specs.State.{Kept, MachineState, kept_of}
+use Rattle.et_state.specs.Words.{thread_at, top}
 use Rattle.et_state.specs.declared.records.Record.{Record}
 use Rattle.et_state.specs.declared.ends.EventEnd.{EventEnd}
 use Rattle.et_state.specs.Outcome.{Outcome}

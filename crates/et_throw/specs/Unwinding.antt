@@ -1,12 +1,12 @@
 -- Where an exception is unwound.
 use Rattle.std.specs.Prelude.{◌≡◌, ℕ, ◌+◌, ◌<◌, ◌^◌, Bool, true, false, List, [], ◌∷◌, length, Option, Some, None, if◌then◌else◌, unwrap_or}
 use Rattle.et_program.specs.Entries.{Linked}
-use Rattle.et_frames.specs.Threads.{with_pending, with_top_of, without_top}
-use Rattle.et_frames.specs.Roots.{frame_roots}
+use Rattle.et_state.specs.Threads.{with_pending, with_top_of, without_top}
+use Rattle.et_state.specs.ThreadRoots.{frame_roots}
 use Rattle.et_heap.specs.Objects.{IsHeld, new_object, has_room}
-use Rattle.et_machine.specs.declared.class_state.ClassState.TheVariants.{Failed}
-use Rattle.et_machine.specs.State.{Kept, MachineState, kept_of}
-use Rattle.et_machine.specs.Words.{HasFrame, thread_at, with_thread, top, ticked, begun, steps_guest, with_class_state, with_new_object}
+use Rattle.et_state.specs.declared.class_state.ClassState.TheVariants.{Failed}
+use Rattle.et_state.specs.State.{Kept, MachineState, kept_of}
+use Rattle.et_state.specs.Words.{HasFrame, thread_at, with_thread, top, ticked, begun, steps_guest, with_class_state, with_new_object}
 use Rattle.et_state.specs.declared.records.Record.{Record}
 use Rattle.et_state.specs.declared.records.Record.TheVariants.{Unwind}
 use Rattle.et_event.specs.Moments.{Moment, Doing, frame_of, begins, told}

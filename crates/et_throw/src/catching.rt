@@ -1,9 +1,9 @@
 //! The event in which a handler is entered.
 ghost use Rattle.std.specs.Prelude.{◌≡◌, ◌<◌, ◌^◌, List, Some, length};
-ghost use Rattle.et_machine.specs.State.{kept_of};
-ghost use Rattle.et_machine.specs.Words.{HasFrame, thread_at, top};
-ghost use Rattle.et_machine.specs.Sound.{IsSound};
-ghost use Rattle.et_machine.specs.Moves.{Led};
+ghost use Rattle.et_state.specs.State.{kept_of};
+ghost use Rattle.et_state.specs.Words.{HasFrame, thread_at, top};
+ghost use Rattle.et_state.specs.Sound.{IsSound};
+ghost use Rattle.et_state.specs.Moves.{Led};
 ghost use Rattle.et_program.specs.Entries.{Linked};
 ghost use Rattle.et_state.specs.declared.records.Record.{Record};
 ghost use Rattle.et_event.specs.Answered.{EventAnswers};
@@ -12,9 +12,8 @@ ghost use Rattle.et_event.specs.Moments.{moment};
 ghost use Rattle.et_throw.specs.Unwinding.{handled_state};
 
 use et_base::{ObjectId, ThreadId, Value};
-use et_machine::Machine;
 use et_parts::ill_typed;
-use et_state::EventEnd;
+use et_state::{EventEnd, Machine};
 
 /// The operands give way to an exception, which is pending no longer, and the pc is that of its handler.
 fn enter_handler(machine: &mut Machine, thread: ThreadId, exception: ObjectId, handler: u32)

@@ -3,10 +3,10 @@ ghost use Rattle.std.specs.Prelude.{◌≡◌, ◌+◌, ◌<◌, ◌≤◌, ◌^
 ghost use Rattle.et_base.specs.declared.value.Value.TheVariants.{Ref};
 ghost use Rattle.et_heap.specs.Objects.{IsHeld, object_at, slot_of, with_slot};
 ghost use Rattle.et_heap.specs.Refs.{refs_of_value};
-ghost use Rattle.et_machine.specs.State.{kept_of};
-ghost use Rattle.et_machine.specs.Words.{HasFrame, thread_at, top, steps_object};
-ghost use Rattle.et_machine.specs.Sound.{IsSound};
-ghost use Rattle.et_machine.specs.declared.class_state.ClassState.TheVariants as states;
+ghost use Rattle.et_state.specs.State.{kept_of};
+ghost use Rattle.et_state.specs.Words.{HasFrame, thread_at, top, steps_object};
+ghost use Rattle.et_state.specs.Sound.{IsSound};
+ghost use Rattle.et_state.specs.declared.class_state.ClassState.TheVariants as states;
 ghost use Rattle.et_program.specs.Entries.{Linked, class_at};
 ghost use Rattle.et_event.specs.Answered.{EventAnswers};
 ghost use Rattle.et_event.specs.Errors.{class_called as called, error_class};
@@ -20,10 +20,9 @@ use crate::records::{tell_error, tell_unwind};
 use et_base::{ClassId, NoMemory, ObjectId, Steps, ThreadId, Value};
 use et_event::GuestError;
 use et_heap::MakeFault;
-use et_machine::{ClassState, Machine};
 use et_parts::class_called;
 use et_program::Program;
-use et_state::{EventEnd, Lines};
+use et_state::{ClassState, EventEnd, Lines, Machine};
 use std::sync::ledger::Ledger;
 
 /// An event begins in which the frame of an initializer is dropped, and its class fails.

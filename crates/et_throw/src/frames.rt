@@ -1,14 +1,14 @@
 //! How much the topmost frame of a thread has, and the exception table of its method.
 ghost use Rattle.std.specs.Prelude.{◌≡◌, ◌+◌, ◌<◌, ◌^◌, length};
-ghost use Rattle.et_machine.specs.Words.{HasFrame, top};
+ghost use Rattle.et_state.specs.Words.{HasFrame, top};
 ghost use Rattle.et_event.specs.Sites.{body_of};
 ghost use Rattle.et_place.specs.Places.{Runs};
 
 use et_base::ThreadId;
 use et_code::{Code, TableRow};
-use et_machine::Machine;
 use et_place::method_of;
 use et_program::{MethodInfo, Program};
+use et_state::Machine;
 
 /// The exception table of code.
 fn table_in(code: &Code) -> &[TableRow]

@@ -1,12 +1,11 @@
 //! The records of unwinding.
 ghost use Rattle.std.specs.Prelude.{◌≡◌, ◌+◌, ◌*◌, ◌<◌, ◌≤◌, ◌^◌, ◌∷◌, ◌++◌, [], OnOk, length, unwrap_or};
-ghost use Rattle.et_machine.specs.Words.{HasFrame, top};
+ghost use Rattle.et_state.specs.Words.{HasFrame, top};
 ghost use Rattle.et_state.specs.declared.records.Record.TheVariants.{Alloc, Update, Unwind};
 ghost use Rattle.et_throw.specs.Unwinding.{unwind_records};
 
 use et_base::{ClassId, MethodId, NoMemory, ObjectId, ThreadId};
-use et_machine::Machine;
-use et_state::{Lines, Record};
+use et_state::{Lines, Machine, Record};
 
 /// The record of a frame that the next event leaves by an exception.
 pub(crate) fn unwind_record(machine: &Machine, thread: ThreadId, exception: ObjectId) -> Record

@@ -1,11 +1,11 @@
 //! `athrow`.
 ghost use Rattle.std.specs.Prelude.{◌≡◌, ◌+◌, ◌<◌, ◌≤◌, ◌^◌, Some, IfOk, OnErr};
 ghost use Rattle.et_heap.specs.Objects.{IsHeld};
-ghost use Rattle.et_frames.specs.Threads.{with_pending};
-ghost use Rattle.et_machine.specs.State.{kept_of};
-ghost use Rattle.et_machine.specs.Words.{HasFrame, thread_at, with_thread, ticked};
-ghost use Rattle.et_machine.specs.Sound.{IsSound};
-ghost use Rattle.et_machine.specs.Moves.{Led};
+ghost use Rattle.et_state.specs.Threads.{with_pending};
+ghost use Rattle.et_state.specs.State.{kept_of};
+ghost use Rattle.et_state.specs.Words.{HasFrame, thread_at, with_thread, ticked};
+ghost use Rattle.et_state.specs.Sound.{IsSound};
+ghost use Rattle.et_state.specs.Moves.{Led};
 ghost use Rattle.et_event.specs.Answered.{EventAnswers};
 ghost use Rattle.et_event.specs.Sound.{IsSoundFor};
 ghost use Rattle.et_event.specs.Throw.{throw, is_throwable};
@@ -13,10 +13,9 @@ ghost use Rattle.et_event.specs.Moments.{moment};
 
 use et_base::{NoMemory, ObjectId, Steps, ThreadId};
 use et_event::GuestError;
-use et_machine::Machine;
 use et_parts::{class_called, ill_typed, reference_at, throw_error};
 use et_program::Program;
-use et_state::{EventEnd, Lines};
+use et_state::{EventEnd, Lines, Machine};
 use std::sync::ledger::Ledger;
 
 /// The event in which an object that stands on top of the operands becomes pending.

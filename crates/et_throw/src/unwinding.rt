@@ -1,12 +1,12 @@
 //! The turn in which an exception is unwound.
 ghost use Rattle.std.specs.Prelude.{◌≡◌, ◌+◌, ◌<◌, ◌≤◌, ◌^◌, IfOk, OnErr, length};
 ghost use Rattle.et_heap.specs.Objects.{IsHeld, object_at};
-ghost use Rattle.et_frames.specs.declared.stage.Stage.TheVariants as stages;
-ghost use Rattle.et_frames.specs.declared.stage.Turn.TheVariants as turns;
-ghost use Rattle.et_frames.specs.Threads.{turn_of};
-ghost use Rattle.et_machine.specs.State.{kept_of};
-ghost use Rattle.et_machine.specs.Words.{HasFrame, thread_at, top};
-ghost use Rattle.et_machine.specs.Sound.{IsSound};
+ghost use Rattle.et_state.specs.declared.stage.Stage.TheVariants as stages;
+ghost use Rattle.et_state.specs.declared.stage.Turn.TheVariants as turns;
+ghost use Rattle.et_state.specs.Threads.{turn_of};
+ghost use Rattle.et_state.specs.State.{kept_of};
+ghost use Rattle.et_state.specs.Words.{HasFrame, thread_at, top};
+ghost use Rattle.et_state.specs.Sound.{IsSound};
 ghost use Rattle.et_event.specs.Answered.{EventAnswers};
 ghost use Rattle.et_event.specs.Event.{event};
 ghost use Rattle.et_event.specs.Sites.{method_of as method_in};
@@ -25,13 +25,11 @@ use crate::frames::frame_is_small;
 use crate::handlers::handler;
 use crate::records::unwind_record;
 use et_base::{ClassId, NoMemory, ObjectId, Steps, ThreadId};
-use et_frames::Stage;
-use et_machine::Machine;
 use et_monitors::{Lock, leave_monitor, lock_in, owns};
 use et_parts::ill_typed;
 use et_place::method_of;
 use et_program::Program;
-use et_state::{EventEnd, Lines};
+use et_state::{EventEnd, Lines, Machine, Stage};
 use std::sync::ledger::Ledger;
 
 /// Leaves the monitor of a lock once, where a thread owns it. It visits three objects at most.

@@ -1,6 +1,6 @@
 -- What the calls that do the rows answer, where the row is theirs.
 use Rattle.std.proofs.Common.{◌≡◌, Bool, true, false, List, Option, Some, None, refl, subst}
-use Rattle.et_machine.specs.State.{Kept, MachineState}
+use Rattle.et_state.specs.State.{Kept, MachineState}
 use Rattle.et_state.specs.declared.records.Record.{Record}
 use Rattle.et_state.specs.declared.ends.EventEnd.{EventEnd}
 use Rattle.et_state.specs.Outcome.{Outcome}

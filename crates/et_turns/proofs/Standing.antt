@@ -2,13 +2,13 @@
 use Rattle.std.proofs.Common.{◌≡◌, ℕ, zero, suc, ◌<◌, Bool, true, false, List, [], ◌∷◌, length, get_or, refl, arith}
 use Rattle.std.specs.Prelude.{if◌then◌else◌, is_some}
 use Rattle.et_program.specs.Entries.{Linked}
-use Rattle.et_frames.specs.declared.stage.Stage.{Stage}
-use Rattle.et_frames.specs.declared.stage.Stage.TheVariants.{Plain, Before, Clinit}
-use Rattle.et_frames.specs.declared.stage.Turn.{Turn}
-use Rattle.et_frames.specs.declared.stage.Turn.TheVariants.{Unwind, EndThread, Entry, Initialize, Instruction}
-use Rattle.et_frames.specs.Threads.{FrameState, ThreadState, no_thread, has_frame, is_before, top_of, turn_of}
-use Rattle.et_machine.specs.State.{Kept, GuestState}
-use Rattle.et_machine.specs.Words.{HasFrame, thread_at, top}
+use Rattle.et_state.specs.declared.stage.Stage.{Stage}
+use Rattle.et_state.specs.declared.stage.Stage.TheVariants.{Plain, Before, Clinit}
+use Rattle.et_state.specs.declared.stage.Turn.{Turn}
+use Rattle.et_state.specs.declared.stage.Turn.TheVariants.{Unwind, EndThread, Entry, Initialize, Instruction}
+use Rattle.et_state.specs.Threads.{FrameState, ThreadState, no_thread, has_frame, is_before, top_of, turn_of}
+use Rattle.et_state.specs.State.{Kept, GuestState}
+use Rattle.et_state.specs.Words.{HasFrame, thread_at, top}
 use Rattle.et_event.specs.Event.{initializes, does_turn, event}
 use Rattle.et_event.specs.Initialization.{initialization_step}
 use Rattle.et_event.specs.Moments.{Moment}

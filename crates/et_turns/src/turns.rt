@@ -3,20 +3,18 @@ ghost use Rattle.std.specs.Prelude.{◌≡◌, ◌+◌, ◌-◌, ◌<◌, ◌≤
 ghost use Rattle.et_event.specs.Answered.{EventAnswers};
 ghost use Rattle.et_event.specs.Event.{event};
 ghost use Rattle.et_event.specs.Sound.{IsSoundFor};
-ghost use Rattle.et_frames.specs.declared.stage.Turn.TheVariants as turns;
-ghost use Rattle.et_frames.specs.Threads.{turn_of};
-ghost use Rattle.et_machine.specs.State.{kept_of};
-ghost use Rattle.et_machine.specs.Words.{IsUnended, thread_at};
+ghost use Rattle.et_state.specs.declared.stage.Turn.TheVariants as turns;
+ghost use Rattle.et_state.specs.Threads.{turn_of};
+ghost use Rattle.et_state.specs.State.{kept_of};
+ghost use Rattle.et_state.specs.Words.{IsUnended, thread_at};
 ghost use Rattle.et_turns.specs.Runs.{IsRunnable};
 
 use crate::rows::instruction_event;
 use et_base::{NoMemory, Steps, ThreadId};
 use et_entry::entry_event;
-use et_frames::{Stage, Turn};
 use et_initialize::initialization_event;
-use et_machine::Machine;
 use et_program::Program;
-use et_state::{EventEnd, Lines};
+use et_state::{EventEnd, Lines, Machine, Stage, Turn};
 use et_sync::end_event;
 use et_throw::unwinding_event;
 use std::alloc::Global;

@@ -1,5 +1,5 @@
 use Rattle.std.proofs.Common.{◌∙◌, refl, ap, length, sym}
-use Rattle.et_machine.specs.State.{MachineState}
+use Rattle.et_state.specs.State.{MachineState}
 use Rattle.et_event.specs.Moments.{moment, begins}
 use Rattle.et_event.specs.Sites.{natural}
 use Rattle.et_place.specs.Places.{site_at}

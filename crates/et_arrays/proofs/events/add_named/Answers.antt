@@ -1,6 +1,6 @@
 use Rattle.std.proofs.Common.{drop}
-use Rattle.et_machine.specs.State.{kept_of}
-use Rattle.et_machine.specs.Words.{top}
+use Rattle.et_state.specs.State.{kept_of}
+use Rattle.et_state.specs.Words.{top}
 use Rattle.et_event.specs.Sites.{natural}
 use Rattle.et_place.specs.Places.{site_at}
 use Rattle.et_event.specs.Moments.{moment}

@@ -1,5 +1,5 @@
 use Rattle.std.proofs.Common.{◌∙◌, ap}
-use Rattle.et_machine.specs.State.{kept_of}
+use Rattle.et_state.specs.State.{kept_of}
 use Rattle.et_event.specs.Moments.{Moment, moment, Doing, fits}
 use Rattle.et_arrays.specs.declared.filling.Filling.{Filling}
 use Rattle.et_arrays.proofs.Starting.{start_fits, start_filling, started}

@@ -1,5 +1,5 @@
 use Rattle.std.proofs.Common.{rules, ◌≡◌, ◌+◌, length, ◌++◌, ◌∷◌, []}
-use Rattle.et_machine.specs.State.{kept_of}
+use Rattle.et_state.specs.State.{kept_of}
 use Rattle.et_event.specs.Moments.{Moment, moment}
 use Rattle.et_arrays.proofs.Descending.{level_there, room_there, descended, descended_fillings, one_more, room_few}
 use Rattle.et_arrays.proofs.filling.descend.Goals as goal

@@ -1,6 +1,6 @@
 use Rattle.std.proofs.Common.{◌≡◌, ◌+◌, ◌-◌, ◌*◌, ◌≤◌, [], ◌∷◌, ◌++◌, length}
 use Rattle.et_heap.specs.Objects.{most_objects}
-use Rattle.et_machine.specs.State.{Kept}
+use Rattle.et_state.specs.State.{Kept}
 use Rattle.et_arrays.specs.Counts.{naturals_of}
 use Rattle.et_arrays.specs.Filling.{so_far, finished, lower, AreFillings}
 use Rattle.et_arrays.proofs.filling.fill.Given as goal

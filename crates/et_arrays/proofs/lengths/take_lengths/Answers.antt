@@ -2,7 +2,7 @@ use Rattle.std.proofs.Common.{◌≡◌, ◌+◌, ◌-◌, ◌∷◌, [], ◌++�
 use Rattle.std.proofs.lemmas.List.{reverse-append, length_push}
 use Rattle.std.proofs.lemmas.Int.{to_z-of_z}
 use mir.Val.{SFits}
-use Rattle.et_machine.specs.Words.{top}
+use Rattle.et_state.specs.Words.{top}
 use Rattle.et_event.specs.Heap.{with_lengths}
 use Rattle.et_event.specs.Moments.{ill_typed}
 use Rattle.et_arrays.proofs.lengths.take_lengths.Goals as goal

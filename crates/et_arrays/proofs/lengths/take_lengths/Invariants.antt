@@ -1,7 +1,7 @@
 use Rattle.std.proofs.Common.{◌≡◌, ◌+◌, ◌≤◌, ℕ, ℤ, List, [], length, drop, reverse}
 use Rattle.et_base.specs.declared.value.Value.{Value}
-use Rattle.et_machine.specs.State.{Kept}
-use Rattle.et_machine.specs.Words.{top}
+use Rattle.et_state.specs.State.{Kept}
+use Rattle.et_state.specs.Words.{top}
 use Rattle.et_state.specs.Outcome.{Outcome}
 use Rattle.et_event.specs.Heap.{with_lengths}
 use Rattle.et_event.specs.Moments.{Moment, ill_typed}

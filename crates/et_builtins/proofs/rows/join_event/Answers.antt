@@ -1,6 +1,6 @@
 use Rattle.std.proofs.Common.{[], refl, sym, ◌∙◌}
-use Rattle.et_frames.specs.Threads.{thread_with}
-use Rattle.et_machine.proofs.Steps.{waited_led}
+use Rattle.et_state.specs.Threads.{thread_with}
+use Rattle.et_state.proofs.Steps.{waited_led}
 use Rattle.et_state.specs.declared.ends.EventEnd.TheVariants as ends
 use Rattle.et_event.specs.BuiltIns.{answering, has_ended}
 use Rattle.et_event.specs.Calls.{arguments_of}

@@ -1,5 +1,5 @@
 use Rattle.std.proofs.Common.{◌≡◌, ◌<◌, [], length, None, arith, sym, ◌∙◌}
-use Rattle.et_frames.specs.Threads.{most_threads, thread_with}
+use Rattle.et_state.specs.Threads.{most_threads, thread_with}
 use Rattle.et_event.specs.BuiltIns.{answering, with_thread_for}
 use Rattle.et_event.specs.Calls.{arguments_of}
 use Rattle.et_event.specs.Moments.{moment, begins, goes}

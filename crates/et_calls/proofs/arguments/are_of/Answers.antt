@@ -2,7 +2,7 @@ use Rattle.std.proofs.Common.{◌≡◌, ℕ, ◌+◌, ◌<◌, true, false, eqb
 use Rattle.std.proofs.lemmas.Bool.{eqb-true}
 use Rattle.et_base.specs.declared.value.Value.TheVariants.{Unset}
 use Rattle.et_event.specs.declared.rows.Operand.{Operand}
-use Rattle.et_machine.specs.Words.{top}
+use Rattle.et_state.specs.Words.{top}
 use Rattle.et_calls.specs.Arguments.{entries_in}
 use Rattle.et_builtins.proofs.Standing.{length_arguments}
 use Rattle.et_calls.proofs.Passing.{passing_end, passing_empty, passing_none, passing_refused, passing_more}

@@ -1,5 +1,5 @@
 use Rattle.std.proofs.Common.{length, reverse, take}
-use Rattle.et_machine.specs.Words.{top}
+use Rattle.et_state.specs.Words.{top}
 use Rattle.et_calls.proofs.Passing.{Passing}
 use Rattle.et_calls.proofs.arguments.are_of.Given as goal
 

@@ -1,5 +1,5 @@
 use Rattle.std.proofs.Common.{◌≡◌, take}
-use Rattle.et_machine.specs.Words.{top}
+use Rattle.et_state.specs.Words.{top}
 use Rattle.et_builtins.specs.Arguments.{arguments_in}
 use Rattle.et_calls.proofs.entering.arguments.Given as goal
 

@@ -1,9 +1,9 @@
 use Rattle.std.proofs.Common.{◌≡◌, ℕ, ◌+◌, ◌<◌, ◌∷◌, ◌++◌, [], List, Option, length, arith, sym, ◌∙◌, ap}
 use Rattle.std.specs.Prelude.{unwrap_or}
 use Rattle.et_base.specs.declared.value.Value.{Value}
-use Rattle.et_frames.specs.NewFrames.{frame_of}
-use Rattle.et_frames.specs.Threads.{FrameState, most_frames}
-use Rattle.et_machine.specs.Words.{thread_at, top}
+use Rattle.et_state.specs.NewFrames.{frame_of}
+use Rattle.et_state.specs.Threads.{FrameState, most_frames}
+use Rattle.et_state.specs.Words.{thread_at, top}
 use Rattle.et_state.specs.declared.records.Record.TheVariants.{Enter}
 use Rattle.et_state.specs.declared.ends.EventEnd.TheVariants as ends
 use Rattle.et_event.specs.Frames.{frame_entered, method_frame, receiver_of}

@@ -3,7 +3,7 @@ use Rattle.std.specs.Prelude.{nat_le, if◌then◌else◌}
 use Rattle.et_class.specs.Names.{has}
 use Rattle.et_class.specs.declared.flags.TheConstants.{SYNCHRONIZED}
 use Rattle.et_code.specs.Bodies.{Body}
-use Rattle.et_frames.specs.Threads.{locals_with}
+use Rattle.et_state.specs.Threads.{locals_with}
 use Rattle.et_program.specs.Entries.{method_at}
 use Rattle.et_program.specs.declared.info.MethodInfo.{MethodInfo}
 use Rattle.et_event.specs.Frames.{lock_slot}

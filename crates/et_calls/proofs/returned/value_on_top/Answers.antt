@@ -1,6 +1,6 @@
 use Rattle.std.proofs.Common.{Option, sym, subst}
 use Rattle.et_base.specs.declared.value.Value.{Value}
-use Rattle.et_machine.specs.Words.{top}
+use Rattle.et_state.specs.Words.{top}
 use Rattle.et_calls.specs.Returned.{IsValueIn}
 use Rattle.et_calls.proofs.Values.{value_is_in}
 use Rattle.et_calls.proofs.returned.value_on_top.Goals as goal

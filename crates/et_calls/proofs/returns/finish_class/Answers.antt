@@ -1,6 +1,6 @@
 use Rattle.std.proofs.Common.{sym, subst}
 use Rattle.et_event.specs.Calls.{class_done_by}
-use Rattle.et_frames.specs.declared.stage.Stage.{Stage}
+use Rattle.et_state.specs.declared.stage.Stage.{Stage}
 use Rattle.et_calls.specs.Ways.{Came}
 use Rattle.et_calls.proofs.Coming.{came_class}
 use Rattle.et_calls.proofs.returns.finish_class.Goals as goal

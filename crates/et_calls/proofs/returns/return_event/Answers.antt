@@ -1,6 +1,6 @@
 use Rattle.std.proofs.Common.{◌≡◌, ℕ, List, Some, None, rules, sym, ◌∙◌, ap}
-use Rattle.et_machine.specs.State.{kept_of}
-use Rattle.et_machine.specs.Words.{top}
+use Rattle.et_state.specs.State.{kept_of}
+use Rattle.et_state.specs.Words.{top}
 use Rattle.et_event.specs.Sites.{method_of}
 use Rattle.et_parts.proofs.Answering.{if_ok}
 use Rattle.et_calls.specs.Returned.{returned_values}

@@ -1,7 +1,7 @@
 use Rattle.std.proofs.Common.{refl, sym, subst}
-use Rattle.et_machine.specs.State.{Kept, kept_of}
-use Rattle.et_machine.specs.Moves.{Led}
-use Rattle.et_machine.proofs.Steps.{waited_led}
+use Rattle.et_state.specs.State.{Kept, kept_of}
+use Rattle.et_state.specs.Moves.{Led}
+use Rattle.et_state.proofs.Steps.{waited_led}
 use Rattle.et_event.specs.Moments.{later}
 use Rattle.et_calls.proofs.rows.wait.Goals as goal
 

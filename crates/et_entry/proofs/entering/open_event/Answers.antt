@@ -1,5 +1,5 @@
 use Rattle.std.proofs.Common.{sym, ap, append-nil}
-use Rattle.et_machine.specs.State.{MachineState}
+use Rattle.et_state.specs.State.{MachineState}
 use Rattle.et_event.specs.Moments.{moment, begins}
 use Rattle.et_monitors.specs.Locks.{HasSome, locks_of}
 use Rattle.et_monitors.proofs.There.{there_later}

@@ -1,5 +1,5 @@
 use Rattle.std.proofs.Common.{true, ◌∙◌}
-use Rattle.et_machine.specs.Words.{thread_at}
+use Rattle.et_state.specs.Words.{thread_at}
 use Rattle.et_program.specs.Entries.{method_at}
 use Rattle.et_state.specs.declared.ends.EventEnd.TheVariants as ends
 use Rattle.et_monitors.specs.Locks.{locks_of}

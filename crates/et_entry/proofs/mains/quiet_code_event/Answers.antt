@@ -1,5 +1,5 @@
 use Rattle.std.proofs.Common.{false, true, refl, sym, ◌∙◌}
-use Rattle.et_machine.specs.Words.{thread_at}
+use Rattle.et_state.specs.Words.{thread_at}
 use Rattle.et_event.specs.Calls.{entry_arguments}
 use Rattle.et_event.specs.Moments.{moment, begins}
 use Rattle.et_initialize.proofs.Legal.{quietly_threads}

@@ -1,6 +1,6 @@
 use Rattle.std.proofs.Common.{sym, ◌∙◌, subst}
 use Rattle.et_heap.specs.Objects.{IsHeld}
-use Rattle.et_machine.specs.State.{MachineState}
+use Rattle.et_state.specs.State.{MachineState}
 use Rattle.et_entry.proofs.Running.{object_held, some_class}
 use Rattle.et_entry.proofs.runs.run_plan.Goals as goal
 

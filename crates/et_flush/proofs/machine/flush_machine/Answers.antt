@@ -3,10 +3,10 @@ use Rattle.et_graph.proofs.Walks.{is_reached}
 use Rattle.et_heap.specs.Objects.{Objects, IsHeld, held_count}
 use Rattle.et_heap.specs.Refs.{pairs_of}
 use Rattle.et_heap.specs.Remaining.{remaining}
-use Rattle.et_machine.specs.State.{MachineState, kept_of}
-use Rattle.et_machine.specs.Roots.{graph_of}
-use Rattle.et_machine.specs.Sound.{IsSound}
-use Rattle.et_machine.proofs.Wholes.{sound_flushed}
+use Rattle.et_state.specs.State.{MachineState, kept_of}
+use Rattle.et_state.specs.Roots.{graph_of}
+use Rattle.et_state.specs.Sound.{IsSound}
+use Rattle.et_state.proofs.Wholes.{sound_flushed}
 use Rattle.et_graph.specs.Cleared.{IsCleared}
 use Rattle.et_flush.specs.Flushes.{cleared_from}
 use Rattle.et_flush.proofs.Leaving.{cleared, told, tells_reached}

@@ -1,8 +1,8 @@
 use Rattle.std.proofs.Common.{◌≡◌, ℕ, ◌+◌, ◌≤◌, List, [], sym, subst}
 use Rattle.std.specs.Prelude.{All, IfOk, OnErr}
 use Rattle.et_graph.specs.Graph.{nothing_made}
-use Rattle.et_machine.specs.Roots.{graph_of}
-use Rattle.et_machine.specs.State.{Kept, MachineState, kept_of}
+use Rattle.et_state.specs.Roots.{graph_of}
+use Rattle.et_state.specs.State.{Kept, MachineState, kept_of}
 use Rattle.et_state.specs.declared.records.Record.{Record}
 use Rattle.et_state.specs.Naming.{IsNamed}
 use Rattle.et_merlin.specs.Kept.{IsStepTo}

@@ -1,6 +1,6 @@
 use Rattle.std.proofs.Common.{◌≡◌, ℕ, ◌+◌, ◌≤◌, List, subst, ap, ◌∙◌}
 use Rattle.std.specs.Prelude.{IfOk, OnErr}
-use Rattle.et_machine.specs.State.{Kept, kept_of}
+use Rattle.et_state.specs.State.{Kept, kept_of}
 use Rattle.et_state.specs.declared.records.Record.{Record}
 use Rattle.et_event.specs.Start.{start, start_records}
 use Rattle.et_merlin.specs.Visits.{allowed_visits}

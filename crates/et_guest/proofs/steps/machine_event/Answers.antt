@@ -1,5 +1,5 @@
 use Rattle.std.proofs.Common.{◌≡◌}
-use Rattle.et_machine.specs.State.{Kept, kept_of}
+use Rattle.et_state.specs.State.{Kept, kept_of}
 use Rattle.et_event.specs.Event.{event}
 use Rattle.et_named.specs.Telling.{IsTold}
 use Rattle.et_guest.proofs.Answering.{on_ok, if_ok, answers, steps, ticks, named, element_classes}

@@ -3,8 +3,8 @@ use Rattle.std.specs.Prelude.{◌↔◌, IsTrue}
 use Rattle.et_graph.specs.Graph.{IsReached}
 use Rattle.et_heap.specs.Objects.{IsHeld}
 use Rattle.et_heap.specs.Remaining.{remaining}
-use Rattle.et_machine.specs.Roots.{graph_of}
-use Rattle.et_machine.specs.State.{Kept, MachineState, kept_of}
+use Rattle.et_state.specs.Roots.{graph_of}
+use Rattle.et_state.specs.State.{Kept, MachineState, kept_of}
 use Rattle.et_guest.proofs.Flushing.{times_flushed, test_is, any_ok, on_ok_map, kept_flushed, clock_flushed, run_flushed}
 use Rattle.et_guest.proofs.steps.machine_flush.Goals as goal
 

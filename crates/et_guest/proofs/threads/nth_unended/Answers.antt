@@ -1,5 +1,5 @@
 use Rattle.std.proofs.Common.{◌≡◌, ◌≤◌, length, arith}
-use Rattle.et_frames.specs.Threads.{unended_of}
+use Rattle.et_state.specs.Threads.{unended_of}
 use Rattle.et_guest.proofs.Counting.{length-unended, found_is, found_some}
 use Rattle.et_guest.proofs.threads.nth_unended.Goals as goal
 

@@ -1,5 +1,5 @@
 use Rattle.std.proofs.Common.{◌≡◌, ℕ, ◌+◌, ◌≤◌, length, drop}
-use Rattle.et_frames.specs.Threads.{unended_from}
+use Rattle.et_state.specs.Threads.{unended_from}
 use Rattle.et_guest.proofs.threads.unended_count.Given as goal
 
 abbrev pub invariant-threads : goal.invariant-threads

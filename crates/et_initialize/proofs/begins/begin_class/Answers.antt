@@ -1,8 +1,8 @@
 use Rattle.std.proofs.Common.{◌<◌, List, length, sym, subst}
-use Rattle.et_frames.specs.Threads.{ThreadState, most_frames}
-use Rattle.et_machine.specs.declared.class_state.ClassState.TheVariants.{Begun}
+use Rattle.et_state.specs.Threads.{ThreadState, most_frames}
+use Rattle.et_state.specs.declared.class_state.ClassState.TheVariants.{Begun}
 use Rattle.std.specs.Prelude.{slice_index_or}
-use Rattle.et_frames.specs.Threads.{no_thread}
+use Rattle.et_state.specs.Threads.{no_thread}
 use Rattle.et_initialize.proofs.Setting.{begun_untouched}
 use Rattle.et_initialize.proofs.Running.{marked_ready}
 use Rattle.et_initialize.proofs.Beginning.{begin_ready, begin_marked, begin_fits, begin_few, begin_led, begin_records}

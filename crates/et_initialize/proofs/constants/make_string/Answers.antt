@@ -1,5 +1,5 @@
 use Rattle.std.proofs.Common.{◌≡◌, ℕ, List, None, length, rules, ap, ◌∙◌}
-use Rattle.et_machine.specs.Interned.{text_of}
+use Rattle.et_state.specs.Interned.{text_of}
 use Rattle.et_event.specs.Moments.{moment}
 use Rattle.et_initialize.specs.Under.{so_far}
 use Rattle.et_initialize.proofs.Strings.{no_text, made_string}

@@ -1,6 +1,6 @@
 use Rattle.std.proofs.Common.{ℕ, ◌<◌, All, length, take}
 use Rattle.std.specs.Prelude.{fold}
-use Rattle.et_machine.specs.State.{Kept}
+use Rattle.et_state.specs.State.{Kept}
 use Rattle.et_event.specs.Moments.{Doing}
 use Rattle.et_initialize.specs.Texts.{CountedAll}
 use Rattle.et_initialize.proofs.Setting.{done_step}

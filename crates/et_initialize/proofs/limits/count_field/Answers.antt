@@ -1,7 +1,7 @@
 use Rattle.std.proofs.Common.{◌≡◌, ℕ, false, List, Some, sym, subst, rules}
 use Rattle.std.specs.Prelude.{◌||◌, is_some}
 use Rattle.std.specs.List.{list_any}
-use Rattle.et_machine.specs.Interned.{object_of}
+use Rattle.et_state.specs.Interned.{object_of}
 use Rattle.et_event.specs.Moments.{Moment}
 use Rattle.et_event.specs.Initialization.{field_set}
 use Rattle.et_initialize.specs.Texts.{text_of, has_text, Counted}

@@ -1,6 +1,6 @@
 use Rattle.std.proofs.Common.{◌≡◌, true, take}
 use Rattle.std.specs.List.{list_all}
-use Rattle.et_machine.specs.Words.{class_state_at}
+use Rattle.et_state.specs.Words.{class_state_at}
 use Rattle.et_event.specs.Initialization.{is_quiet_state}
 use Rattle.et_initialize.proofs.needs.is_quiet.Given as goal
 

@@ -1,7 +1,7 @@
 use Rattle.std.proofs.Common.{◌≡◌, ◌<◌, true, List, length, sym, ap, subst, ◌∙◌}
 use Rattle.std.specs.Prelude.{fold}
-use Rattle.et_frames.specs.Threads.{lost_room}
-use Rattle.et_machine.specs.State.{MachineState}
+use Rattle.et_state.specs.Threads.{lost_room}
+use Rattle.et_state.specs.State.{MachineState}
 use Rattle.et_program.specs.Entries.{ClassInfoOf, class_at}
 use Rattle.et_event.specs.Moments.{moment, fits}
 use Rattle.et_event.specs.Initialization.{field_set}

@@ -1,5 +1,5 @@
 use Rattle.std.proofs.Common.{sym, ◌∙◌}
-use Rattle.et_machine.specs.declared.class_state.ClassState.TheVariants.{Done}
+use Rattle.et_state.specs.declared.class_state.ClassState.TheVariants.{Done}
 use Rattle.et_initialize.proofs.Setting.{done_untouched}
 use Rattle.et_initialize.proofs.Running.{marked_ready, marked_unset, done_fits}
 use Rattle.et_initialize.proofs.quiet.set_done.Goals as goal

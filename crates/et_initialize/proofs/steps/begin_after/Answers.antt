@@ -1,6 +1,6 @@
 use Rattle.std.proofs.Common.{◌<◌, ◌≤◌, sym, subst, ◌∙◌}
-use Rattle.et_frames.specs.Threads.{most_frames}
-use Rattle.et_machine.specs.declared.class_state.ClassState.TheVariants.{Begun}
+use Rattle.et_state.specs.Threads.{most_frames}
+use Rattle.et_state.specs.declared.class_state.ClassState.TheVariants.{Begun}
 use Rattle.et_initialize.proofs.Stepping.{began_overflows, began_full}
 use Rattle.et_initialize.proofs.Turning.{answers_alike}
 use Rattle.et_initialize.proofs.steps.begin_after.Goals as goal

@@ -1,7 +1,7 @@
 use Rattle.std.proofs.Common.{◌<◌, List, length, sym, subst}
 use Rattle.std.specs.Prelude.{slice_index_or}
-use Rattle.et_frames.specs.Threads.{ThreadState, no_thread, most_frames}
-use Rattle.et_machine.specs.declared.class_state.ClassState.TheVariants.{Begun}
+use Rattle.et_state.specs.Threads.{ThreadState, no_thread, most_frames}
+use Rattle.et_state.specs.declared.class_state.ClassState.TheVariants.{Begun}
 use Rattle.et_initialize.proofs.Setting.{begun_untouched}
 use Rattle.et_initialize.proofs.Running.{marked_ready, marked_unset}
 use Rattle.et_initialize.proofs.Stepping.{base_classes, base_ready, base_state, base_lost, begin_less, began_fits, began_threads, began_led, began_done}

@@ -1,7 +1,7 @@
 use Rattle.std.proofs.Common.{ap, ◌∙◌, refl, sym, subst}
 use Rattle.std.specs.Prelude.{IsTrue}
-use Rattle.et_frames.specs.declared.stage.Stage.{Stage}
-use Rattle.et_frames.specs.Threads.{FrameState, is_before}
+use Rattle.et_state.specs.declared.stage.Stage.{Stage}
+use Rattle.et_state.specs.Threads.{FrameState, is_before}
 use Rattle.et_program.specs.declared.info.MethodInfo.{MethodInfo}
 use Rattle.et_event.specs.Sites.{body_of}
 use Rattle.et_initialize.proofs.Stepping.{waiting, has_frame_on, top_on, base_threads, clinit_entered, told_enter}

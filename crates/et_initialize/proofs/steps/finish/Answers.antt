@@ -1,4 +1,4 @@
-use Rattle.et_machine.specs.declared.class_state.ClassState.TheVariants.{Done}
+use Rattle.et_state.specs.declared.class_state.ClassState.TheVariants.{Done}
 use Rattle.et_initialize.proofs.Stepping.{waiting, has_frame_on, base_classes, base_threads, marked_threads, empty_lost, finished}
 use Rattle.et_initialize.proofs.steps.finish.Goals as goal
 

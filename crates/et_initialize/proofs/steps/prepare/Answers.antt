@@ -1,6 +1,6 @@
 use Rattle.std.proofs.Common.{◌<◌, length, sym, subst}
-use Rattle.et_frames.specs.Threads.{lost_room}
-use Rattle.et_machine.specs.State.{MachineState}
+use Rattle.et_state.specs.Threads.{lost_room}
+use Rattle.et_state.specs.State.{MachineState}
 use Rattle.et_initialize.proofs.Preparing.{pre_ready, pre_has_room, pre_came}
 use Rattle.et_initialize.proofs.steps.prepare.Goals as goal
 

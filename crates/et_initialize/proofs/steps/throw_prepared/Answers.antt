@@ -1,7 +1,7 @@
 use Rattle.std.proofs.Common.{◌≡◌, ◌<◌, ◌∙◌, ℕ, List, length, true, ap, subst, sym}
 use Rattle.et_heap.specs.Objects.{has_room}
-use Rattle.et_frames.specs.Threads.{ThreadState}
-use Rattle.et_machine.specs.State.{MachineState}
+use Rattle.et_state.specs.Threads.{ThreadState}
+use Rattle.et_state.specs.State.{MachineState}
 use Rattle.et_program.specs.Entries.{class_at}
 use Rattle.et_event.specs.Errors.{error_class, class_called}
 use Rattle.et_initialize.proofs.Stepping.{after, fits_less, base_room, base_threads, made_alloc, error_thrown}

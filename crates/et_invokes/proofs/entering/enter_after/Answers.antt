@@ -4,7 +4,7 @@ use Rattle.et_class.specs.declared.flags.TheConstants.{NATIVE}
 use Rattle.et_program.specs.Entries.{method_at}
 use Rattle.et_program.specs.declared.info.MethodInfo.{MethodInfo}
 use Rattle.et_state.specs.Outcome.{Outcome}
-use Rattle.et_machine.specs.State.{Kept}
+use Rattle.et_state.specs.State.{Kept}
 use Rattle.et_event.specs.declared.errors.GuestError.{GuestError}
 use Rattle.et_event.specs.Answered.{EventAnswers}
 use Rattle.et_event.specs.Moments.{moment, throws}

@@ -1,6 +1,6 @@
 use Rattle.std.proofs.Common.{◌<◌, ◌≤◌, length, arith, sym, ◌∙◌}
-use Rattle.et_frames.specs.Threads.{most_frames}
-use Rattle.et_machine.specs.Words.{thread_at}
+use Rattle.et_state.specs.Threads.{most_frames}
+use Rattle.et_state.specs.Words.{thread_at}
 use Rattle.et_event.specs.Calls.{arguments_of, taking}
 use Rattle.et_event.specs.Frames.{frame_entered}
 use Rattle.et_event.specs.Moments.{moment, ends as ending}

@@ -1,8 +1,8 @@
 use Rattle.std.proofs.Common.{◌≡◌, ◌<◌, ◌≤◌, List, length, sym, ◌∙◌, ap, subst}
 use Rattle.et_base.specs.declared.value.Value.{Value}
-use Rattle.et_frames.specs.NewFrames.{frame_of}
-use Rattle.et_frames.specs.Threads.{FrameState, ThreadState, most_frames}
-use Rattle.et_machine.specs.Words.{top}
+use Rattle.et_state.specs.NewFrames.{frame_of}
+use Rattle.et_state.specs.Threads.{FrameState, ThreadState, most_frames}
+use Rattle.et_state.specs.Words.{top}
 use Rattle.et_event.specs.Frames.{method_frame}
 use Rattle.et_monitors.specs.Locks.{entering_some, locks_of}
 use Rattle.et_builtins.specs.Arguments.{arguments_in}

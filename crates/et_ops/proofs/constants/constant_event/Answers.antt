@@ -1,6 +1,6 @@
 use Rattle.std.proofs.Common.{rules, ◌≡◌, Option, Some, None, sym, subst}
 use Rattle.et_pool.specs.Looks.{integer_at, long_at, string_at}
-use Rattle.et_machine.specs.State.{kept_of}
+use Rattle.et_state.specs.State.{kept_of}
 use Rattle.et_event.specs.Answered.{EventAnswers}
 use Rattle.et_event.specs.Plain.{constant}
 use Rattle.et_event.specs.Sites.{LoadedConstant}

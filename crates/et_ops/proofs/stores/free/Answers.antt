@@ -1,6 +1,6 @@
 use Rattle.std.proofs.Common.{rules, ◌≡◌, ◌≤◌, length, sym, ◌∙◌, ap}
 use Rattle.et_base.specs.declared.value.Value.{Value}
-use Rattle.et_machine.specs.Words.{top}
+use Rattle.et_state.specs.Words.{top}
 use Rattle.et_ops.specs.Tops.{half_beside, half_of}
 use Rattle.et_ops.proofs.Storing.{unset_none, unset_beyond}
 use Rattle.et_ops.proofs.stores.free.Goals as goal

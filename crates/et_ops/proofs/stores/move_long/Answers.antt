@@ -1,8 +1,8 @@
 use Rattle.std.proofs.Common.{◌≡◌, ℤ, rules, subst, drop, to_z, of_z}
 use Rattle.std.specs.Int.{w64}
-use Rattle.et_machine.specs.State.{kept_of}
-use Rattle.et_machine.specs.Words.{top, with_top, ticked}
-use Rattle.et_machine.specs.Moves.{Led}
+use Rattle.et_state.specs.State.{kept_of}
+use Rattle.et_state.specs.Words.{top, with_top, ticked}
+use Rattle.et_state.specs.Moves.{Led}
 use Rattle.et_event.specs.Plain.{long_stored}
 use Rattle.et_ops.proofs.Storing.{long_led}
 use Rattle.et_ops.proofs.stores.move_long.Goals as goal

@@ -1,9 +1,9 @@
 use Rattle.std.proofs.Common.{◌≡◌, ℤ, rules, refl, subst, set, to_z, of_z}
 use Rattle.std.specs.Int.{w32}
 use Rattle.et_base.specs.declared.value.Value.TheVariants.{Int}
-use Rattle.et_machine.specs.State.{kept_of}
-use Rattle.et_machine.specs.Words.{top, with_top, ticked}
-use Rattle.et_machine.specs.Moves.{Led}
+use Rattle.et_state.specs.State.{kept_of}
+use Rattle.et_state.specs.Words.{top, with_top, ticked}
+use Rattle.et_state.specs.Moves.{Led}
 use Rattle.et_ops.proofs.Storing.{set_led}
 use Rattle.et_ops.proofs.stores.set_int.Goals as goal
 

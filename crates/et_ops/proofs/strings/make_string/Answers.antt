@@ -1,5 +1,5 @@
 use Rattle.std.proofs.Common.{ℕ, Option, ap, subst}
-use Rattle.et_machine.specs.State.{MachineState, kept_of}
+use Rattle.et_state.specs.State.{MachineState, kept_of}
 use Rattle.std.specs.Prelude.{codes}
 use Rattle.et_event.specs.Errors.{class_called}
 use Rattle.et_event.specs.Moments.{begins, instance_made}

@@ -2,10 +2,10 @@ use Rattle.std.proofs.Common.{◌≡◌, ℤ, rules, List, Option, Some, drop, s
 use Rattle.std.specs.Int.{w32}
 use Rattle.et_base.specs.declared.value.Value.{Value}
 use Rattle.et_code.specs.Switches.{target_of}
-use Rattle.et_frames.specs.Threads.{FrameState}
-use Rattle.et_machine.specs.State.{kept_of}
-use Rattle.et_machine.specs.Words.{top, with_top, ticked}
-use Rattle.et_machine.specs.Moves.{Led}
+use Rattle.et_state.specs.Threads.{FrameState}
+use Rattle.et_state.specs.State.{kept_of}
+use Rattle.et_state.specs.Words.{top, with_top, ticked}
+use Rattle.et_state.specs.Moves.{Led}
 use Rattle.et_event.specs.Answered.{StepsFrame}
 use Rattle.et_event.specs.Sites.{target}
 use Rattle.et_ops.specs.Tops.{jumped}

@@ -1,8 +1,8 @@
 use Rattle.std.proofs.Common.{◌≡◌, ◌+◌, ◌-◌, ◌<◌, ◌++◌, length, drop, ◌∙◌, ap, arith}
 use Rattle.std.proofs.lemmas.List.{length-append}
-use Rattle.et_frames.specs.Threads.{FrameState}
-use Rattle.et_machine.specs.Words.{top}
-use Rattle.et_machine.proofs.Steps.{top-steps_top}
+use Rattle.et_state.specs.Threads.{FrameState}
+use Rattle.et_state.specs.Words.{top}
+use Rattle.et_state.proofs.Steps.{top-steps_top}
 use Rattle.et_parts.proofs.Taking.{has_after, given_one, length_dropped}
 use Rattle.et_parts.proofs.operands.give.Goals as goal
 

@@ -1,5 +1,5 @@
 use Rattle.std.proofs.Common.{◌≡◌, ◌+◌, ◌-◌, ◌++◌, [], length, drop}
-use Rattle.et_machine.specs.Words.{HasFrame, top, steps_top}
+use Rattle.et_state.specs.Words.{HasFrame, top, steps_top}
 use Rattle.et_parts.proofs.operands.give.Given as goal
 
 abbrev pub invariant-loop-k : goal.invariant-loop-k

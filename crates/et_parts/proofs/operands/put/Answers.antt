@@ -1,4 +1,4 @@
-use Rattle.et_machine.specs.Words.{top}
+use Rattle.et_state.specs.Words.{top}
 use Rattle.et_parts.proofs.Taking.{replaced_led, are_in}
 use Rattle.et_parts.proofs.operands.put.Goals as goal
 

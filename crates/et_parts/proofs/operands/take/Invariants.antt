@@ -1,8 +1,8 @@
 use Rattle.std.proofs.Common.{◌≡◌, ◌+◌, ◌≤◌, length}
 use Rattle.std.proofs.Common.{take as first}
 use Rattle.et_heap.specs.Refs.{refs_of}
-use Rattle.et_frames.specs.Threads.{popped}
-use Rattle.et_machine.specs.Words.{HasFrame, top, steps_top}
+use Rattle.et_state.specs.Threads.{popped}
+use Rattle.et_state.specs.Words.{HasFrame, top, steps_top}
 use Rattle.et_parts.proofs.operands.take.Given as goal
 
 abbrev pub invariant-loop : goal.invariant-loop

@@ -1,5 +1,5 @@
 use Rattle.std.proofs.Common.{ℕ, List, Option, ◌∙◌, ap, subst}
-use Rattle.et_machine.specs.State.{kept_of}
+use Rattle.et_state.specs.State.{kept_of}
 use Rattle.et_event.specs.Errors.{class_called}
 use Rattle.et_event.specs.Moments.{begins, instance_made}
 use Rattle.et_parts.specs.Making.{MakesObject}

@@ -7,8 +7,8 @@ use Rattle.et_code.specs.Decoding.{instruction_at}
 use Rattle.et_code.specs.declared.instr.Instr.{Instr}
 use Rattle.et_code.specs.declared.instr.CodeFault.{CodeFault}
 use Rattle.et_program.specs.declared.info.MethodInfo.{MethodInfo}
-use Rattle.et_machine.specs.State.{kept_of}
-use Rattle.et_machine.specs.Words.{top}
+use Rattle.et_state.specs.State.{kept_of}
+use Rattle.et_state.specs.Words.{top}
 use Rattle.et_event.specs.declared.rows.Row.{Row}
 use Rattle.et_event.specs.Sites.{natural, body_of, code_of, method_of}
 use Rattle.et_event.specs.Table.{row_of}

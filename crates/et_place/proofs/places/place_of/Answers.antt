@@ -1,6 +1,6 @@
 use Rattle.std.proofs.Common.{refl}
-use Rattle.et_machine.specs.State.{kept_of}
-use Rattle.et_machine.specs.Words.{top}
+use Rattle.et_state.specs.State.{kept_of}
+use Rattle.et_state.specs.Words.{top}
 use Rattle.et_event.specs.Sites.{decoded_at}
 use Rattle.et_place.proofs.Answering.{if_some, if_none, at_place, at_none}
 use Rattle.et_place.proofs.places.place_of.Goals as goal

@@ -1,5 +1,5 @@
 use Rattle.std.proofs.Common.{ap, arith, ◌≡◌, refl, rules}
-use Rattle.et_machine.specs.State.{kept_of}
+use Rattle.et_state.specs.State.{kept_of}
 use Rattle.et_event.specs.Event.{event, does}
 use Rattle.et_event.specs.Moments.{ill_typed}
 use Rattle.et_event.specs.declared.rows.Row.{Row}

@@ -1,8 +1,8 @@
 use Rattle.std.proofs.Common.{◌≡◌, true, ap, sym, ◌∙◌, Option, None, rules}
 use Rattle.et_event.specs.declared.rows.Row.{Row}
 use Rattle.et_event.specs.Sites.{decoded_at}
-use Rattle.et_machine.specs.State.{kept_of}
-use Rattle.et_machine.specs.Words.{top}
+use Rattle.et_state.specs.State.{kept_of}
+use Rattle.et_state.specs.Words.{top}
 use Rattle.et_place.specs.Places.{row_at}
 use Rattle.et_plain.specs.Turns.{is_plain_row}
 use Rattle.et_plain.proofs.Answering.{plain_turn, row_here}

@@ -1,6 +1,6 @@
 use Rattle.std.proofs.Common.{rules, ◌≡◌, ℕ, ℤ, Err, drop, sym, ◌∙◌, ap, arith, to_z, of_z, unwrap_or}
 use Rattle.std.specs.Int.{w32}
-use Rattle.et_machine.specs.Words.{top}
+use Rattle.et_state.specs.Words.{top}
 use Rattle.et_program.specs.Members.{base_array}
 use Rattle.et_event.specs.Heap.{new_array_of}
 use Rattle.et_event.specs.Sites.{natural}

@@ -1,7 +1,7 @@
 use Rattle.std.proofs.Common.{rules, ◌≡◌, ℕ, ℤ, Err, drop, sym, ◌∙◌, ap, arith, to_z, of_z}
 use Rattle.std.specs.Int.{w32}
-use Rattle.et_machine.specs.State.{kept_of}
-use Rattle.et_machine.specs.Words.{top}
+use Rattle.et_state.specs.State.{kept_of}
+use Rattle.et_state.specs.Words.{top}
 use Rattle.et_event.specs.Heap.{new_array_of}
 use Rattle.et_place.specs.Places.{site_at}
 use Rattle.et_event.specs.Moments.{moment}

@@ -1,7 +1,7 @@
 use Rattle.std.proofs.Common.{rules, ◌≡◌, Bool, true, Err, ◌∙◌, ap}
 use Rattle.et_base.specs.declared.value.Value.TheVariants.{Ref}
 use Rattle.et_heap.specs.Objects.{object_at}
-use Rattle.et_machine.specs.State.{kept_of}
+use Rattle.et_state.specs.State.{kept_of}
 use Rattle.et_program.specs.Types.{passes}
 use Rattle.et_event.specs.declared.errors.GuestError.TheVariants.{ClassCastException}
 use Rattle.et_event.specs.Moments.{moment, begins}

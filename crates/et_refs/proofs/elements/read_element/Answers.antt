@@ -1,7 +1,7 @@
 use Rattle.std.proofs.Common.{rules, ◌≡◌, ◌++◌, ℤ, Err, drop, sym, ◌∙◌, ap, arith, lit≤, to_z, of_z}
 use Rattle.std.specs.Int.{w32}
 use Rattle.et_base.specs.declared.value.Value.{Value}
-use Rattle.et_machine.specs.Words.{top}
+use Rattle.et_state.specs.Words.{top}
 use Rattle.et_event.specs.Moments.{moment, begins, goes}
 use Rattle.et_event.specs.Checks.{entries_of}
 use Rattle.et_event.specs.Heap.{leaving}

@@ -1,6 +1,6 @@
 use Rattle.std.proofs.Common.{rules, ◌≡◌, ◌++◌, Bool, true, Err, drop, sym, ◌∙◌, ap, arith, lit≤}
 use Rattle.et_base.specs.declared.value.Value.{Value}
-use Rattle.et_machine.specs.Words.{top}
+use Rattle.et_state.specs.Words.{top}
 use Rattle.et_event.specs.Moments.{moment, begins, goes}
 use Rattle.et_event.specs.Checks.{entries_of, ill_typed_unless}
 use Rattle.et_event.specs.Heap.{leaving, element_of}

@@ -2,8 +2,8 @@ use Rattle.std.proofs.Common.{rules, ◌≡◌, ◌+◌, ℕ, ℤ, Bool, true, E
 use Rattle.std.specs.Int.{w32}
 use Rattle.et_base.specs.declared.value.Value.{Value}
 use Rattle.et_heap.specs.Refs.{refs_of_value}
-use Rattle.et_machine.specs.Words.{top}
-use Rattle.et_machine.proofs.Places.{top_root}
+use Rattle.et_state.specs.Words.{top}
+use Rattle.et_state.proofs.Places.{top_root}
 use Rattle.et_event.specs.declared.errors.GuestError.TheVariants.{ArrayStoreException}
 use Rattle.et_event.specs.Moments.{moment, begins, slot_written, goes}
 use Rattle.et_event.specs.Checks.{throws_unless}

@@ -1,5 +1,5 @@
 use Rattle.std.proofs.Common.{rules, ◌≡◌, Err, sym, ◌∙◌, ap}
-use Rattle.et_machine.specs.State.{kept_of}
+use Rattle.et_state.specs.State.{kept_of}
 use Rattle.et_program.specs.declared.info.FieldInfo.{FieldInfo}
 use Rattle.et_program.specs.Entries.{field_at}
 use Rattle.et_event.specs.Moments.{moment}

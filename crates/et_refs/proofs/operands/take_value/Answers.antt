@@ -1,7 +1,7 @@
 use Rattle.std.proofs.Common.{subst, Contains}
 use Rattle.et_base.specs.declared.value.Value.{Value}
 use Rattle.et_heap.specs.Refs.{refs_of_value}
-use Rattle.et_machine.specs.Words.{top}
+use Rattle.et_state.specs.Words.{top}
 use Rattle.et_refs.proofs.Below.{named_in}
 use Rattle.et_refs.proofs.operands.take_value.Goals as goal
 

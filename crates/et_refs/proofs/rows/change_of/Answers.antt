@@ -1,4 +1,4 @@
-use Rattle.et_machine.specs.Words.{top}
+use Rattle.et_state.specs.Words.{top}
 use Rattle.et_refs.proofs.rows.change_of.Goals as goal
 
 pub returns-in-NewArray-clause-may : goal.returns-in-NewArray-clause-may

@@ -1,8 +1,8 @@
 use Rattle.std.proofs.Common.{subst, Contains}
 use Rattle.et_base.specs.declared.value.Value.{Value}
 use Rattle.et_heap.specs.Refs.{refs_of_value}
-use Rattle.et_machine.specs.State.{kept_of}
-use Rattle.et_machine.proofs.Steps.{slot_held}
+use Rattle.et_state.specs.State.{kept_of}
+use Rattle.et_state.proofs.Steps.{slot_held}
 use Rattle.et_refs.proofs.Reading.{read_refers}
 use Rattle.et_refs.proofs.slots.read_slot.Goals as goal
 

@@ -1,5 +1,5 @@
 use Rattle.std.proofs.Common.{◌≡◌, ◌∙◌, ℕ, List, true, false, sym, ap, subst, append-nil}
-use Rattle.et_machine.specs.State.{MachineState}
+use Rattle.et_state.specs.State.{MachineState}
 use Rattle.et_event.specs.Moments.{moment, begins}
 use Rattle.et_place.specs.Places.{site_at}
 use Rattle.et_initialize.proofs.Stepping.{has_frame_on}

@@ -1,8 +1,8 @@
 use Rattle.std.proofs.Common.{rules, ◌≡◌, ◌+◌, ◌≤◌, Err, Option, Bool, sym, ◌∙◌, ap, subst, arith}
 use Rattle.std.specs.Prelude.{ℕ, nat_le, length, slice_index_or}
 use Rattle.et_pool.specs.Descriptors.{width_of}
-use Rattle.et_machine.specs.State.{kept_of}
-use Rattle.et_machine.specs.Words.{top}
+use Rattle.et_state.specs.State.{kept_of}
+use Rattle.et_state.specs.Words.{top}
 use Rattle.et_program.specs.declared.info.FieldInfo.{FieldInfo}
 use Rattle.et_program.specs.Entries.{field_at}
 use Rattle.et_event.specs.declared.rows.Operand.{Operand}

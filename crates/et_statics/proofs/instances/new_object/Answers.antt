@@ -1,5 +1,5 @@
 use Rattle.std.proofs.Common.{rules, ◌≡◌, Err, Bool, sym, ◌∙◌, ap}
-use Rattle.et_machine.specs.State.{kept_of}
+use Rattle.et_state.specs.State.{kept_of}
 use Rattle.et_event.specs.declared.errors.GuestError.TheVariants.{InstantiationError}
 use Rattle.et_event.specs.Checks.{throws_unless}
 use Rattle.et_event.specs.Moments.{moment, begins}

@@ -1,5 +1,5 @@
 use Rattle.std.proofs.Common.{refl}
-use Rattle.et_machine.proofs.Steps.{waited_led}
+use Rattle.et_state.proofs.Steps.{waited_led}
 use Rattle.et_sync.proofs.waiting.wait_event.Goals as goal
 
 pub returns : goal.returns

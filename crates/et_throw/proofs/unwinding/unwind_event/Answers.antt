@@ -1,8 +1,8 @@
 use Rattle.std.proofs.Common.{sym, ◌∙◌, ap}
-use Rattle.et_frames.specs.declared.stage.Stage.{Stage}
-use Rattle.et_frames.specs.declared.stage.Stage.TheVariants.{Plain, Before, Clinit}
-use Rattle.et_frames.specs.Threads.{is_before}
-use Rattle.et_machine.specs.State.{kept_of}
+use Rattle.et_state.specs.declared.stage.Stage.{Stage}
+use Rattle.et_state.specs.declared.stage.Stage.TheVariants.{Plain, Before, Clinit}
+use Rattle.et_state.specs.Threads.{is_before}
+use Rattle.et_state.specs.State.{kept_of}
 use Rattle.et_throw.proofs.Turning.{class_known, runs_staged, before_there, clinit_there}
 use Rattle.et_throw.proofs.Turns.{stage_answers}
 use Rattle.et_throw.proofs.unwinding.unwind_event.Goals as goal

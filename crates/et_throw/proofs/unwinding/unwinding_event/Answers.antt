@@ -1,5 +1,5 @@
 use Rattle.std.proofs.Common.{sym, ◌∙◌, refl}
-use Rattle.et_machine.specs.Words.{top}
+use Rattle.et_state.specs.Words.{top}
 use Rattle.et_throw.proofs.Turning.{unwinds_there}
 use Rattle.et_throw.proofs.Turns.{turn_answers}
 use Rattle.et_throw.proofs.unwinding.unwinding_event.Goals as goal

@@ -1,6 +1,6 @@
 use Rattle.std.proofs.Common.{◌≡◌, ◌∙◌, sym, subst}
 use Rattle.std.specs.Prelude.{IfOk}
-use Rattle.et_machine.specs.State.{Kept, kept_of}
+use Rattle.et_state.specs.State.{Kept, kept_of}
 use Rattle.et_state.specs.Outcome.{Outcome}
 use Rattle.et_event.specs.Answered.{EventAnswers}
 use Rattle.et_turns.proofs.Standing.{event_is_step}

@@ -1,8 +1,8 @@
 use Rattle.std.proofs.Common.{◌≡◌, ℕ, Bool, ◌+◌, ◌≤◌, subst}
 use Rattle.std.specs.Prelude.{◌↔◌, IsTrue, OnOk}
 use Rattle.et_graph.specs.Graph.{IsReached}
-use Rattle.et_machine.specs.Roots.{graph_of}
-use Rattle.et_machine.specs.State.{MachineState, kept_of}
+use Rattle.et_state.specs.Roots.{graph_of}
+use Rattle.et_state.specs.State.{MachineState, kept_of}
 use Rattle.et_guest.specs.Guests.{flush_visits_of}
 use Rattle.et_guest.specs.Histories.{flushed_of}
 use Rattle.et_guest.proofs.guest.ProgramGuestStampedGuest.flush.Goals as goal

@@ -1,8 +1,0 @@
-pub mod Strings
-pub mod Places
-pub mod UnderWay
-pub mod Calls
-pub mod Wholes
-pub mod Pasts
-pub mod Flushes
-pub mod Steps

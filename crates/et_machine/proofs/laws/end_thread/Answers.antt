@@ -1,5 +1,0 @@
-use Rattle.et_machine.proofs.Calls.{on_end_thread as proof}
-use Rattle.et_machine.proofs.laws.end_thread.Goals as goal
-
-pub returns : goal.returns
-returns c = proof

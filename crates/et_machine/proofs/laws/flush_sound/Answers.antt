@@ -1,5 +1,0 @@
-use Rattle.et_machine.proofs.Wholes.{sound_flushed as proof}
-use Rattle.et_machine.proofs.laws.flush_sound.Goals as goal
-
-pub returns : goal.returns
-returns c = proof

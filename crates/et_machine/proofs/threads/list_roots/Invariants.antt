@@ -1,7 +1,0 @@
-use Rattle.std.proofs.Common.{◌≡◌, ◌++◌, take}
-use Rattle.std.specs.List.{flat_map}
-use Rattle.et_frames.specs.Roots.{thread_roots}
-use Rattle.et_machine.proofs.threads.list_roots.Given as goal
-
-abbrev pub invariant-loop-thread : goal.invariant-loop-thread
-invariant-loop-thread l = l.room ≡ l.fn.room ++ flat_map thread_roots (take l.thread-index l.threads)

@@ -1,9 +1,0 @@
-pub mod Interned
-pub mod InternedInside
-pub mod State
-pub mod Words
-pub mod Roots
-pub mod Sound
-pub mod Moves
-pub mod Past
-pub mod MachineInside

@@ -1,0 +1,5 @@
+use Rattle.et_state.proofs.Pasts.{past_flushed as proof}
+use Rattle.et_state.proofs.laws.flush_past.Goals as goal
+
+pub returns : goal.returns
+returns c = proof

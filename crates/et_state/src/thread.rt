@@ -1,0 +1,239 @@
+//! One thread.
+ghost use Rattle.std.specs.Prelude.{◌≡◌, ◌+◌, ◌<◌, ◌≤◌, ◌++◌, length, OnOk, OnErr};
+ghost use Rattle.et_state.specs.ThreadRoots.{thread_roots};
+ghost use Rattle.et_state.specs.Threads.{top_of, with_top_of, without_top, pushed, popped, at_pc, without_operands, with_local, in_clinit, entered_by, with_pending, as_entered, as_ended, new_thread, turn_of, most_frames};
+
+use crate::frame::Frame;
+use crate::listing::list_option;
+use crate::stage::{Stage, Turn};
+use et_base::{MethodId, NoMemory, ObjectId, Value};
+use et_heap::RootList;
+use std::alloc::Global;
+use std::marker::Model;
+
+/// A thread.
+#[derive(Drop)]
+pub struct Thread {
+    /// The topmost one stands last.
+    frames: Vec<Frame>,
+    pending: Option<ObjectId>,
+    entry: Option<ObjectId>,
+    object: Option<ObjectId>,
+    entered: bool,
+    ended: bool,
+}
+
+impl Model for Thread {
+    ghost use Rattle.et_state.specs.Threads.{ThreadState};
+
+    ghost Value = { ThreadState };
+
+    ghost use Rattle.et_state.specs.ThreadInside.{thread_in, IsThread};
+
+    ghost view = { thread_in };
+
+    ghost invariant = { IsThread };
+}
+
+impl Thread {
+    /// A thread that was started and has no frame yet.
+    pub fn new(alloc: Global, entry: Option<ObjectId>, object: Option<ObjectId>) -> Self
+        ensures { result ≡ new_thread entry object }
+    {
+        Thread {
+            frames: Vec::new(alloc),
+            pending: None,
+            entry,
+            object,
+            entered: false,
+            ended: false,
+        }
+    }
+
+    /// The number of frames.
+    pub fn frames(&self) -> u32
+        ensures value { result ≡ length self.now.frames }
+        ensures few { result ≤ most_frames }
+    {
+        self.frames.len() as u32
+    }
+
+    /// What the thread does next.
+    pub fn turn(&self) -> Turn
+        ensures { result ≡ turn_of self.now }
+    {
+        let is_thrown = self.pending.is_some();
+        if self.frames.is_empty() {
+            return if is_thrown || self.entered {
+                Turn::EndThread
+            } else {
+                Turn::Entry
+            };
+        }
+        if is_thrown {
+            return Turn::Unwind;
+        }
+        match self.top().stage() {
+            Stage::Before(_) => Turn::Initialize,
+            Stage::Plain | Stage::Clinit(_) => Turn::Instruction,
+        }
+    }
+
+    /// The topmost frame.
+    pub fn top(&self) -> &Frame
+        requires { 0 < length self.now.frames }
+        ensures { result.now ≡ top_of self.now }
+    {
+        &self.frames[self.frames.len() - 1]
+    }
+
+    pub fn pending(&self) -> Option<ObjectId>
+        ensures { result ≡ self.now.pending }
+    {
+        self.pending
+    }
+
+    pub fn set_pending(&mut self, pending: Option<ObjectId>)
+        ensures { self.new ≡ with_pending pending self.old }
+    {
+        self.pending = pending;
+    }
+
+    pub fn entry(&self) -> Option<ObjectId>
+        ensures { result ≡ self.now.entry }
+    {
+        self.entry
+    }
+
+    /// The Thread object.
+    pub fn object(&self) -> Option<ObjectId>
+        ensures { result ≡ self.now.object }
+    {
+        self.object
+    }
+
+    /// Marks the thread as entered, and empties its entry slot.
+    pub fn set_entered(&mut self)
+        ensures { self.new ≡ as_entered self.old }
+    {
+        self.entry = None;
+        self.entered = true;
+    }
+
+    pub fn is_ended(&self) -> bool
+        ensures { result ≡ self.now.ended }
+    {
+        self.ended
+    }
+
+    /// Marks the thread as ended, and drops its pending exception and its entry slot.
+    pub fn end(&mut self)
+        ensures { self.new ≡ as_ended self.old }
+    {
+        self.pending = None;
+        self.entry = None;
+        self.ended = true;
+    }
+
+    /// Puts a frame on top. After `NoMemory` the thread is as before.
+    pub fn enter_frame(&mut self, frame: Frame) -> Result<(), NoMemory>
+        requires { length self.old.frames < most_frames }
+        ensures ok { OnOk result (self.new ≡ entered_by frame self.old) }
+        ensures err { OnErr result (self.new ≡ self.old) }
+    {
+        self.frames.push(frame)?;
+        Ok(())
+    }
+
+    /// Takes the topmost frame away.
+    pub fn drop_frame(&mut self)
+        requires { 0 < length self.old.frames }
+        ensures { self.new ≡ without_top self.old }
+    {
+        let _ = self.frames.pop();
+    }
+
+    pub fn set_pc(&mut self, pc: u32)
+        requires { 0 < length self.old.frames }
+        ensures { self.new ≡ with_top_of self.old (at_pc pc (top_of self.old)) }
+    {
+        let last = self.frames.len() - 1;
+        let frame = &mut self.frames[last];
+        frame.set_pc(pc);
+    }
+
+    pub fn push(&mut self, v: Value)
+        requires frame { 0 < length self.old.frames }
+        requires room { length (top_of self.old).operands < (top_of self.old).room }
+        ensures { self.new ≡ with_top_of self.old (pushed v (top_of self.old)) }
+    {
+        let last = self.frames.len() - 1;
+        let frame = &mut self.frames[last];
+        frame.push(v);
+    }
+
+    /// Takes the topmost operand away.
+    pub fn pop(&mut self)
+        requires frame { 0 < length self.old.frames }
+        requires operand { 0 < length (top_of self.old).operands }
+        ensures { self.new ≡ with_top_of self.old (popped 1 (top_of self.old)) }
+    {
+        let last = self.frames.len() - 1;
+        let frame = &mut self.frames[last];
+        frame.pop();
+    }
+
+    /// Takes all operands away.
+    pub fn clear_operands(&mut self)
+        requires { 0 < length self.old.frames }
+        ensures { self.new ≡ with_top_of self.old (without_operands (top_of self.old)) }
+    {
+        let last = self.frames.len() - 1;
+        let frame = &mut self.frames[last];
+        frame.clear_operands();
+    }
+
+    pub fn set_local(&mut self, i: u16, v: Value)
+        requires frame { 0 < length self.old.frames }
+        requires local { i < length (top_of self.old).locals }
+        ensures { self.new ≡ with_top_of self.old (with_local i v (top_of self.old)) }
+    {
+        let last = self.frames.len() - 1;
+        let frame = &mut self.frames[last];
+        frame.set_local(i, v);
+    }
+
+    /// Lets the topmost frame, which initializes a class, enter its `<clinit>`. After `NoMemory` the thread is as before.
+    pub fn enter_clinit(
+        &mut self,
+        alloc: Global,
+        method: MethodId,
+        max_stack: u16,
+        max_locals: u16,
+    ) -> Result<(), NoMemory>
+        requires { 0 < length self.old.frames }
+        ensures ok { OnOk result (self.new ≡ with_top_of self.old (in_clinit method max_stack max_locals (top_of self.old))) }
+        ensures err { OnErr result (self.new ≡ self.old) }
+    {
+        let last = self.frames.len() - 1;
+        let frame = &mut self.frames[last];
+        frame.enter_clinit(alloc, method, max_stack, max_locals)?;
+        Ok(())
+    }
+
+    /// Puts all the objects in the root places of the thread at the end of the list. After `NoMemory` it has some of
+    /// them.
+    pub fn list_roots(&self, room: &mut RootList) -> Result<(), NoMemory>
+        ensures { OnOk result (room.new ≡ room.old ++ thread_roots self.now) }
+    {
+        for frame in self.frames.iter().rev() {
+            frame.list_roots(room)?;
+        }
+        list_option(self.pending, room)?;
+        if self.ended {
+            return Ok(());
+        }
+        list_option(self.entry, room)?;
+        list_option(self.object, room)
+    }
+}

@@ -1,0 +1,57 @@
+//! Threads in order of start.
+ghost use Rattle.std.specs.Prelude.{◌≡◌, ◌≤◌, ◌++◌, length, slice_get, OnOk};
+ghost use Rattle.std.specs.List.{flat_map};
+ghost use Rattle.et_state.specs.Threads.{unended_of, is_object_of, thread_with, most_threads};
+ghost use Rattle.et_state.specs.ThreadRoots.{thread_roots};
+
+use crate::thread::Thread;
+use et_base::{NoMemory, ObjectId, ThreadId};
+use et_heap::RootList;
+
+/// The k-th thread that has not ended, from 0.
+pub(crate) fn unended(threads: &[Thread], k: u32) -> Option<ThreadId>
+    requires { length threads.now ≤ most_threads }
+    ensures { result ≡ slice_get (unended_of threads.now) k }
+{
+    let mut left = k;
+    for (t, thread) in threads.iter().enumerate() {
+        if thread.is_ended() {
+            continue;
+        }
+        if left == 0 {
+            return Some(ThreadId::new(t as u8));
+        }
+        left -= 1;
+    }
+    None
+}
+
+/// Whether this is the Thread object of the thread.
+fn has_object(thread: &Thread, o: ObjectId) -> bool
+    ensures { result ≡ is_object_of o thread.now }
+{
+    thread.object() == Some(o)
+}
+
+/// The first thread with this Thread object.
+pub(crate) fn thread_of(threads: &[Thread], o: ObjectId) -> Option<ThreadId>
+    requires { length threads.now ≤ most_threads }
+    ensures { result ≡ thread_with threads.now o }
+{
+    for (t, thread) in threads.iter().enumerate() {
+        if has_object(thread, o) {
+            return Some(ThreadId::new(t as u8));
+        }
+    }
+    None
+}
+
+/// Puts the objects in the root places of the threads at the end of the list.
+pub(crate) fn list_roots(threads: &[Thread], room: &mut RootList) -> Result<(), NoMemory>
+    ensures { OnOk result (room.new ≡ room.old ++ flat_map thread_roots threads.now) }
+{
+    for thread in threads {
+        thread.list_roots(room)?;
+    }
+    Ok(())
+}
