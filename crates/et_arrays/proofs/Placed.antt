@@ -19,10 +19,10 @@ use Rattle.et_event.specs.Moments.{Moment}
 use Rattle.et_event.specs.Sites.{Site, class_operand, pool_of, natural}
 use Rattle.et_event.specs.Sound.{IsSoundFor}
 use Rattle.et_event.specs.Table.{row_of}
-use Rattle.et_place.specs.declared.places.Place.{Place}
-use Rattle.et_place.specs.Places.{Runs, IsPlace, site_at}
-use Rattle.et_place.proofs.Placing.{method_runs, body_runs}
-use Rattle.et_place.proofs.Running.{runs_there}
+use Rattle.et_parts.specs.declared.places.Place.{Place}
+use Rattle.et_parts.specs.Places.{Runs, IsPlace, site_at}
+use Rattle.et_parts.proofs.Placing.{method_runs, body_runs}
+use Rattle.et_parts.proofs.Running.{runs_there}
 use Rattle.et_refs.specs.Refusals.{refused}
 use Rattle.et_refs.specs.declared.refusals.Refusal.TheVariants.{IllTyped}
 use Rattle.et_sound.specs.Programs.{IsInstruction, NamesClass, HasArrays}

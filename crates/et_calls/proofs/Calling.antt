@@ -22,7 +22,7 @@ use Rattle.et_event.specs.Frames.{by_code, enters_code, frame_entered, receiver_
 use Rattle.et_event.specs.Moments.{Moment, moment, begins, ends as ending, throws}
 use Rattle.et_event.specs.Monitors.{Lock, OfObject, OfClass, lock_for, may_enter_some}
 use Rattle.et_event.specs.Sites.{Site}
-use Rattle.et_monitors.specs.Locks.{may_enter_some_at}
+use Rattle.et_parts.specs.Locks.{may_enter_some_at}
 use Rattle.et_builtins.proofs.Standing.{length_arguments}
 use Rattle.et_builtins.specs.Arguments.{arguments_in}
 use Rattle.et_calls.specs.Rows.{AnswersUnless, InvokeAnswers, is_left}

@@ -37,10 +37,10 @@ use Rattle.et_event.specs.Checks.{frame_fits, throws_unless}
 use Rattle.et_event.specs.Frames.{first_reference, frame_entered, lock_slot, method_frame, receiver_of}
 use Rattle.et_event.specs.Moments.{Moment, moment, Doing, begins, told, with_thread_state, ends as ending, fits, throws}
 use Rattle.et_event.specs.Monitors.{Lock, OfObject, OfClass, entered_some, lock_for}
-use Rattle.et_monitors.specs.Locks.{HasSome, IsSomeFewTimes, entering_some, monitor_at}
-use Rattle.et_monitors.proofs.Keeping.{monitor_on_way}
-use Rattle.et_monitors.proofs.Entering.{fits_locked, commutes, entered_clock, entered_records, frame_holds}
-use Rattle.et_monitors.proofs.There.{there_later, few_later}
+use Rattle.et_parts.specs.Locks.{HasSome, IsSomeFewTimes, entering_some, monitor_at}
+use Rattle.et_parts.proofs.Keeping.{monitor_on_way}
+use Rattle.et_parts.proofs.Entering.{fits_locked, commutes, entered_clock, entered_records, frame_holds}
+use Rattle.et_parts.proofs.There.{there_later, few_later}
 use Rattle.et_parts.proofs.Throwing.{ends_fit}
 use Rattle.et_calls.proofs.Coming.{came_begin}
 use Rattle.et_builtins.specs.Arguments.{arguments_in}

@@ -22,7 +22,7 @@ ghost use Rattle.et_event.specs.Frames.{enters_code, frame_entered, method_frame
 ghost use Rattle.et_event.specs.Moments.{begins, ends, fits};
 ghost use Rattle.et_event.specs.Monitors.{lock_for as lock_for_method};
 ghost use Rattle.et_event.specs.Sound.{IsSoundFor};
-ghost use Rattle.et_monitors.specs.Locks.{HasSome, IsSomeFewTimes, entering_some, locks_of};
+ghost use Rattle.et_parts.specs.Locks.{HasSome, IsSomeFewTimes, entering_some, locks_of};
 ghost use Rattle.et_builtins.specs.Arguments.{arguments_in};
 ghost use Rattle.et_calls.specs.Entering.{pushed_by};
 
@@ -31,8 +31,7 @@ use et_builtins::{argument_at, built_in_method_event, operands_are_few, receiver
 use et_class::flags::{NATIVE, STATIC, SYNCHRONIZED, has};
 use et_code::Code;
 use et_event::GuestError;
-use et_monitors::{Lock, enter_some, lock_for, may_enter_some};
-use et_parts::{take, throw_error};
+use et_parts::{Lock, enter_some, lock_for, may_enter_some, take, throw_error};
 use et_program::{MethodInfo, Program};
 use et_state::{EventEnd, Lines, Machine, NewFrame, Record, Stage};
 use smallvec::SmallVec;
@@ -167,7 +166,7 @@ fn push_frame<L: Ledger>(
 
 /// The event in which a method is entered whose monitor the thread may enter; it throws where the thread has 1,024 frames.
 /// It visits two objects at most.
-#[tactic(auto, using(et_monitors::proofs::There::few_times))]
+#[tactic(auto, using(et_parts::proofs::There::few_times))]
 fn enter_free<L: Ledger>(
     alloc: Global,
     machine: &mut Machine,

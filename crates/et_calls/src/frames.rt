@@ -8,8 +8,7 @@ ghost use Rattle.et_event.specs.Sites.{body_of};
 
 use et_base::{MethodId, ThreadId, Value};
 use et_code::decode;
-use et_parts::give;
-use et_place::code_of;
+use et_parts::{code_of, give};
 use et_program::Program;
 use et_state::Machine;
 
@@ -25,7 +24,7 @@ fn code_at(program: &Program, method: MethodId) -> &[u8]
 }
 
 /// The pc behind the instruction at a pc; where there is none, that pc.
-#[tactic(auto, using(et_place::proofs::Constants::at_end))]
+#[tactic(auto, using(et_parts::proofs::Constants::at_end))]
 fn behind_at(code: &[u8], pc: u32) -> u32
     requires { length code.now < 2 ^ 16 }
     ensures { result ≡ behind_or pc (instruction_at code.now pc) }

@@ -26,8 +26,8 @@ use Rattle.et_event.specs.Frames.{by_code, enters_code, first_reference, frame_e
 use Rattle.et_event.specs.Moments.{Moment, moment, Doing, begins, ends as ending, throws, waits}
 use Rattle.et_event.specs.Sound.{IsSoundFor}
 use Rattle.et_event.specs.Monitors.{Lock, OfObject, OfClass, lock_for, may_enter_some}
-use Rattle.et_monitors.specs.Locks.{HasSome, may_enter_some_at}
-use Rattle.et_monitors.proofs.There.{method_lock_there}
+use Rattle.et_parts.specs.Locks.{HasSome, may_enter_some_at}
+use Rattle.et_parts.proofs.There.{method_lock_there}
 use Rattle.et_entry.specs.Fresh.{IsArgument, IsFresh}
 
 -- an answer to the same outcome

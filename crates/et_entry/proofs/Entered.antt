@@ -29,10 +29,10 @@ use Rattle.et_event.specs.Calls.{entering, entry_arguments}
 use Rattle.et_event.specs.Frames.{first_reference, frame_entered, method_frame, receiver_of}
 use Rattle.et_event.specs.Moments.{Moment, moment, Doing, told, with_thread_state, ends as ending, fits}
 use Rattle.et_event.specs.Monitors.{Lock, OfObject, OfClass, entered_some, lock_for}
-use Rattle.et_monitors.specs.Locks.{HasSome, entering_some, monitor_at}
-use Rattle.et_monitors.proofs.Keeping.{monitor_on_way, entered_is}
-use Rattle.et_monitors.proofs.Entering.{fits_locked, commutes, entered_clock, entered_records, frame_holds}
-use Rattle.et_monitors.proofs.There.{there_later}
+use Rattle.et_parts.specs.Locks.{HasSome, entering_some, monitor_at}
+use Rattle.et_parts.proofs.Keeping.{monitor_on_way, entered_is}
+use Rattle.et_parts.proofs.Entering.{fits_locked, commutes, entered_clock, entered_records, frame_holds}
+use Rattle.et_parts.proofs.There.{there_later}
 use Rattle.et_parts.proofs.Throwing.{ends_fit, ends_full}
 use Rattle.et_initialize.specs.Under.{HasMadeStrings, base}
 use Rattle.et_initialize.proofs.Beginning.{strings_led}

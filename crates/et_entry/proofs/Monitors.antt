@@ -24,7 +24,7 @@ use Rattle.et_event.specs.Moments.{Moment, Doing, instance_made, next_object, st
 use Rattle.et_event.specs.Monitors.{Lock, OfObject, OfClass, is_open_to, lock_for, may_enter_some}
 use Rattle.et_event.specs.Sites.{LoadedConstant, AnInt, ALong, AString, constant_at, pool_of}
 use Rattle.et_event.specs.Strings.{interned, string_object}
-use Rattle.et_monitors.specs.Locks.{HasSome, IsFewTimes, IsSomeFewTimes, may_enter_some_at}
+use Rattle.et_parts.specs.Locks.{HasSome, IsFewTimes, IsSomeFewTimes, may_enter_some_at}
 
 -- the monitors of the classes are those that they were
 abbrev Keeps : Doing → Doing → Type 0

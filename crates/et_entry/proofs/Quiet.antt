@@ -20,8 +20,8 @@ use Rattle.et_initialize.specs.Under.{base}
 use Rattle.et_initialize.proofs.Legal.{made_none, ready_first, quietly_made, quietly_threads}
 use Rattle.et_initialize.proofs.Counting.{room_fits}
 use Rattle.et_initialize.proofs.Needing.{quiet, needs_met}
-use Rattle.et_monitors.specs.Locks.{HasSome, IsSomeFewTimes, may_enter_some_at}
-use Rattle.et_monitors.proofs.There.{few_times}
+use Rattle.et_parts.specs.Locks.{HasSome, IsSomeFewTimes, may_enter_some_at}
+use Rattle.et_parts.proofs.There.{few_times}
 use Rattle.et_entry.proofs.Entered.{HasInitialized}
 use Rattle.et_entry.proofs.Monitors.{few_lock, has_lock, may_lock, quietly_keeps}
 

@@ -8,7 +8,7 @@ ghost use Rattle.et_event.specs.Frames.{enters_code, frame_entered, receiver_of 
 ghost use Rattle.et_event.specs.Moments.{moment, begins, ends};
 ghost use Rattle.et_event.specs.Monitors.{lock_for as lock_for_method};
 ghost use Rattle.et_event.specs.Sound.{IsSoundFor};
-ghost use Rattle.et_monitors.specs.Locks.{HasSome, locks_of};
+ghost use Rattle.et_parts.specs.Locks.{HasSome, locks_of};
 ghost use Rattle.et_entry.specs.Fresh.{IsArgument, IsFresh};
 
 use crate::frames::{enter, receiver_of};
@@ -16,7 +16,7 @@ use crate::throws::{codeless_error, throw_first};
 use et_base::{MethodId, NoMemory, ObjectId, Steps, ThreadId};
 use et_code::Code;
 use et_initialize::wait_event;
-use et_monitors::{Lock, lock_for, may_enter_some};
+use et_parts::{Lock, lock_for, may_enter_some};
 use et_program::Program;
 use et_state::{EventEnd, Lines, Machine};
 use std::alloc::Global;

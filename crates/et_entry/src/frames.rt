@@ -5,14 +5,14 @@ ghost use Rattle.et_state.specs.Threads.{lost_room};
 ghost use Rattle.et_state.specs.declared.records.Record.TheVariants.{Enter};
 ghost use Rattle.et_event.specs.Calls.{entry_arguments};
 ghost use Rattle.et_event.specs.Frames.{lock_slot as slot_of_lock, method_frame, receiver_of as receiver_in};
-ghost use Rattle.et_monitors.specs.Locks.{HasSome, IsSomeFewTimes, entering_some, locks_of};
+ghost use Rattle.et_parts.specs.Locks.{HasSome, IsSomeFewTimes, entering_some, locks_of};
 ghost use Rattle.et_entry.specs.Entering.{first_pushed};
 ghost use Rattle.et_entry.specs.Fresh.{IsFresh};
 
 use et_base::{MethodId, NoMemory, ObjectId, Steps, ThreadId, Value};
 use et_class::flags::{STATIC, SYNCHRONIZED, has};
 use et_code::Code;
-use et_monitors::{Lock, enter_some};
+use et_parts::{Lock, enter_some};
 use et_program::Program;
 use et_state::{Lines, Machine, NewFrame, Record, Stage};
 use smallvec::SmallVec;

@@ -12,7 +12,7 @@ ghost use Rattle.et_event.specs.Monitors.{lock_for as lock_for_method};
 ghost use Rattle.et_event.specs.Sound.{IsSoundFor};
 ghost use Rattle.et_sound.specs.Programs.{HasMethods};
 ghost use Rattle.et_initialize.specs.Programs.{IsInOrder};
-ghost use Rattle.et_monitors.specs.Locks.{locks_of};
+ghost use Rattle.et_parts.specs.Locks.{locks_of};
 ghost use Rattle.et_initialize.specs.Under.{base};
 ghost use Rattle.et_entry.specs.Fresh.{IsFresh};
 
@@ -23,7 +23,7 @@ use et_base::{ClassId, MethodId, NoMemory, Steps, ThreadId};
 use et_code::Code;
 use et_event::GuestError;
 use et_initialize::{Need, begin_class_event, need_of, quiet_fits, set_quietly, wait_event};
-use et_monitors::{Lock, lock_for, may_enter_some};
+use et_parts::{Lock, lock_for, may_enter_some};
 use et_program::Program;
 use et_state::{EventEnd, Lines, Machine};
 use std::alloc::Global;

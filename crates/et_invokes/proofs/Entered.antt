@@ -36,9 +36,9 @@ use Rattle.et_event.specs.Frames.{enters_code, frame_entered, first_reference, m
 use Rattle.et_event.specs.Moments.{Moment, moment, Doing, told, with_thread_state, fits, throws, ends as ending}
 use Rattle.et_event.specs.Monitors.{Lock, OfObject, OfClass, entered_some, is_open_to, lock_for, may_enter_some}
 use Rattle.et_event.specs.Sound.{IsSoundFor}
-use Rattle.et_monitors.specs.Locks.{HasSome, IsSomeFewTimes, IsFewTimes, entering_some, may_enter_some_at, monitor_at}
-use Rattle.et_monitors.proofs.Keeping.{monitor_on_way}
-use Rattle.et_monitors.proofs.There.{few_times}
+use Rattle.et_parts.specs.Locks.{HasSome, IsSomeFewTimes, IsFewTimes, entering_some, may_enter_some_at, monitor_at}
+use Rattle.et_parts.proofs.Keeping.{monitor_on_way}
+use Rattle.et_parts.proofs.There.{few_times}
 use Rattle.et_parts.proofs.Throwing.{ends_fit, ends_full}
 use Rattle.et_builtins.specs.Arguments.{arguments_in}
 use Rattle.et_calls.proofs.Entered.{new_frame_held, operand_rooted, refs_taken}

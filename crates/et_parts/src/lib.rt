@@ -3,13 +3,28 @@
 #![tactic(auto)]
 
 mod answers;
+mod codes;
+mod locks;
+mod members;
+pub mod monitor_laws;
+mod monitors;
 mod objects;
 mod operands;
+pub mod place_laws;
+mod places;
 mod throws;
 mod tops;
 
 pub use answers::ill_typed;
+pub use codes::{code_of, method_of};
+pub use locks::{Lock, lock_for, lock_in};
+pub use members::{MemberAt, class_operand, member_at, names_interface};
+pub use monitors::{
+    enter_monitor, enter_some, leave_monitor, leave_some, may_enter, may_enter_some, owns,
+    owns_some,
+};
 pub use objects::{class_called, make_instance};
 pub use operands::{give, put, replace, take};
+pub use places::{Place, place_of};
 pub use throws::throw_error;
 pub use tops::{int_at, is_one, is_pair, long_at, operand_at, reference_at};

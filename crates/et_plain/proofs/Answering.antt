@@ -18,9 +18,9 @@ use Rattle.et_event.specs.Event.{event}
 use Rattle.et_event.specs.Moments.{ill_typed}
 use Rattle.et_event.specs.Sites.{decoded_at}
 use Rattle.et_ops.specs.Rows.{is_plain, PlainAnswers}
-use Rattle.et_place.specs.declared.places.Place.{Place}
-use Rattle.et_place.specs.Places.{IsPlace, row_at}
-pub use Rattle.et_place.proofs.Answering.{moment}
+use Rattle.et_parts.specs.declared.places.Place.{Place}
+use Rattle.et_parts.specs.Places.{IsPlace, row_at}
+pub use Rattle.et_parts.proofs.SiteAnswers.{moment}
 use Rattle.et_plain.specs.Turns.{is_plain_row, IsPlainTurn}
 
 -- the machine and the records are as before, and the place is told

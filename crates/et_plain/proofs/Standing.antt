@@ -14,15 +14,15 @@ use Rattle.et_event.specs.Event.{does}
 use Rattle.et_event.specs.Sites.{Site, code_of}
 use Rattle.et_event.specs.Sound.{IsPc, IsSoundFor}
 use Rattle.et_ops.specs.Rows.{is_plain}
-use Rattle.et_place.specs.declared.places.Place.{Place}
-use Rattle.et_place.specs.Places.{Runs, IsPlace, site_at}
+use Rattle.et_parts.specs.declared.places.Place.{Place}
+use Rattle.et_parts.specs.Places.{Runs, IsPlace, site_at}
 use Rattle.et_sound.specs.Outcomes.{KeepsSound}
 use Rattle.et_sound.specs.Programs.{MakesSound}
 use Rattle.et_sound.proofs.Frames.{starts_there, behind_pc}
 use Rattle.et_plain.proofs.Answering.{moment}
 use Rattle.et_plain.proofs.Going.{may_go}
-use Rattle.et_place.proofs.Placing.{body_runs}
-use Rattle.et_place.proofs.Running.{has_frame_there, runs_there}
+use Rattle.et_parts.proofs.Placing.{body_runs}
+use Rattle.et_parts.proofs.Running.{has_frame_there, runs_there}
 use Rattle.et_plain.proofs.Sounding.{Begins, does_sound}
 
 -- an instruction stands there

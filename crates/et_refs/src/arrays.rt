@@ -7,7 +7,7 @@ ghost use Rattle.et_event.specs.Heap.{new_array_of, new_array as base_type_array
 ghost use Rattle.et_event.specs.Moments.{Moment, moment, frame_of};
 ghost use Rattle.et_event.specs.Sites.{Site, natural as natural_of};
 ghost use Rattle.et_event.specs.Sound.{IsSoundFor};
-ghost use Rattle.et_place.specs.Places.{site_at};
+ghost use Rattle.et_parts.specs.Places.{site_at};
 ghost use Rattle.et_refs.specs.Changes.{MayMake, added};
 ghost use Rattle.et_program.specs.Members.{base_array};
 ghost use Rattle.et_refs.specs.Refusals.{decided};
@@ -21,7 +21,7 @@ use crate::operands::{operands_fit, take_int};
 use crate::refusals::Refusal;
 use et_base::{ClassId, ThreadId};
 use et_event::GuestError;
-use et_place::Place;
+use et_parts::Place;
 use et_program::Program;
 use et_state::Machine;
 

@@ -14,7 +14,7 @@ ghost use Rattle.et_event.specs.Heap.{leaving, with_class, check_cast as check_c
 ghost use Rattle.et_event.specs.Moments.{Moment, moment, begins, goes};
 ghost use Rattle.et_event.specs.Sites.{Site, class_operand as operand_class, natural};
 ghost use Rattle.et_event.specs.Sound.{IsSoundFor};
-ghost use Rattle.et_place.specs.Places.{site_at};
+ghost use Rattle.et_parts.specs.Places.{site_at};
 ghost use Rattle.et_refs.specs.Changes.{IsNamed, MayExchange, exchanged, left};
 ghost use Rattle.et_refs.specs.Refusals.{decided};
 
@@ -24,7 +24,7 @@ use crate::operands::{operands_fit, take_reference};
 use crate::refusals::Refusal;
 use et_base::{ClassId, ObjectId, Steps, ThreadId, Value};
 use et_event::GuestError;
-use et_place::{Place, class_operand};
+use et_parts::{Place, class_operand};
 use et_program::Program;
 use et_state::Machine;
 use std::sync::ledger::Ledger;

@@ -14,7 +14,7 @@ ghost use Rattle.et_event.specs.Heap.{with_element, load_element, store_element,
 ghost use Rattle.et_event.specs.Kinds.{kind_of_elements as elements_kind, or_zero as zero_or, is_array as is_such};
 ghost use Rattle.et_event.specs.Sites.{Site, natural as natural_of};
 ghost use Rattle.et_event.specs.Sound.{IsSoundFor};
-ghost use Rattle.et_place.specs.Places.{site_at};
+ghost use Rattle.et_parts.specs.Places.{site_at};
 ghost use Rattle.et_refs.specs.Changes.{IsNamed, MayExchange, MayStore, exchanged, stored};
 ghost use Rattle.et_event.specs.Moments.{moment};
 ghost use Rattle.et_refs.specs.Refusals.{decided};
@@ -29,7 +29,7 @@ use crate::refusals::Refusal;
 use crate::slots::{SlotAt, read_slot};
 use et_base::{ObjectId, Steps, ThreadId, Value};
 use et_event::{Elements, GuestError};
-use et_place::Place;
+use et_parts::Place;
 use et_program::{Element, Program};
 use et_state::Machine;
 use std::sync::ledger::Ledger;

@@ -26,7 +26,7 @@ use Rattle.et_event.specs.Sites.{body_of, code_of, decoded_at}
 use Rattle.et_event.specs.Sound.{IsPc, RunsMethod, IsVoid, returned_of, IsStaged, IsCaller, IsAbove, AreSoundFrames}
 use Rattle.et_event.specs.Kinds.{returned_width}
 use Rattle.et_event.specs.Sites.{method_of}
-use Rattle.et_place.proofs.Constants.{at_end}
+use Rattle.et_parts.proofs.Constants.{at_end}
 use Rattle.et_sound.specs.WellFormed.{IsWellFormed, KeepsFrame, MayTake}
 use Rattle.et_sound.proofs.Threads.{guest_now, with_thread_well, may_have_frames}
 

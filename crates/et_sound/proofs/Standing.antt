@@ -5,9 +5,9 @@ use Rattle.et_state.specs.Threads.{FrameState, turn_of}
 use Rattle.et_event.specs.Moments.{Moment, frame_of, thread_of}
 use Rattle.et_event.specs.Sites.{code_of}
 use Rattle.et_event.specs.Sound.{IsPc, IsSoundFor}
-use Rattle.et_place.specs.declared.places.Place.{Place}
-use Rattle.et_place.specs.Places.{Runs, IsPlace, site_at}
-use Rattle.et_place.proofs.Running.{has_frame_there, runs_there}
+use Rattle.et_parts.specs.declared.places.Place.{Place}
+use Rattle.et_parts.specs.Places.{Runs, IsPlace, site_at}
+use Rattle.et_parts.proofs.Running.{has_frame_there, runs_there}
 use Rattle.et_sound.specs.WellFormed.{StandsAt}
 use Rattle.et_sound.proofs.Frames.{RunsSome, pc_there, next_pc}
 

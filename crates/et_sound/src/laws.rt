@@ -31,8 +31,8 @@ ghost use Rattle.et_event.specs.Sync.{monitor_event, end_of_thread};
 ghost use Rattle.et_event.specs.Throw.{throw, caught, unwound, unwound_clinit, failed, dropped};
 ghost use Rattle.et_state.specs.declared.stage.Stage.TheVariants as stages;
 ghost use Rattle.et_state.specs.declared.stage.Turn.TheVariants as turns;
-ghost use Rattle.et_place.specs.declared.places.Place.{Place};
-ghost use Rattle.et_place.specs.Places.{IsPlace, site_at};
+ghost use Rattle.et_parts.specs.declared.places.Place.{Place};
+ghost use Rattle.et_parts.specs.Places.{IsPlace, site_at};
 ghost use Rattle.et_state.specs.Threads.{turn_of, FrameState, ThreadState, most_frames, most_threads, rest_of, in_clinit, with_pending, as_entered, as_ended};
 ghost use Rattle.et_heap.specs.Objects.{ObjectState, IsHeld, object_at, with_object_at, free_monitor, new_object};
 ghost use Rattle.et_state.specs.declared.class_state.ClassState.{ClassState};
@@ -264,7 +264,7 @@ pub fn answers_are_sound()
         EventAnswers o end m m' out out' → IsSoundFor p (kept_of m) → KeepsSound p o → IsSoundFor p (kept_of m') }
 {}
 
-/// A thread whose turn is an instruction stands at it, at the place that `et_place` looks up.
+/// A thread whose turn is an instruction stands at it, at the place that `et_parts` looks up.
 pub fn instructions_stand_at_places()
     ensures { (e : Moment) (place : Place) → IsSoundFor e.program e.before → e.before.guest.clock < 2 ^ 40 →
         turn_of (thread_of e) ≡ turns.Instruction → IsPlace e.program (frame_of e) place → StandsAt e (site_at place) }

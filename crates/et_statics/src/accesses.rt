@@ -10,8 +10,7 @@ ghost use Rattle.et_statics.specs.Accesses.{CanRead, CanWrite, CanMake, CanAcces
 use et_base::{ClassId, NoMemory, ObjectId, ThreadId, Value};
 use et_event::Operand;
 use et_heap::MakeFault;
-use et_parts::take;
-use et_place::Place;
+use et_parts::{Place, take};
 use et_program::Program;
 use et_refs::{number_of, or_zero, replace_top};
 use et_state::{Lines, Machine, Record};

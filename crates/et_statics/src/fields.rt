@@ -9,8 +9,8 @@ ghost use Rattle.et_event.specs.Heap.{resolved_field, is_static_field, get_stati
 ghost use Rattle.et_event.specs.Moments.{Moment, moment, begins};
 ghost use Rattle.et_event.specs.Sites.{natural};
 ghost use Rattle.et_event.specs.Sound.{IsSoundFor};
-ghost use Rattle.et_place.specs.Members.{shown_member};
-ghost use Rattle.et_place.specs.Places.{site_at};
+ghost use Rattle.et_parts.specs.Members.{shown_member};
+ghost use Rattle.et_parts.specs.Places.{site_at};
 ghost use Rattle.et_refs.specs.Refusals.{decided};
 ghost use Rattle.et_sound.specs.Programs.{HasSlots};
 ghost use Rattle.et_statics.specs.Accesses.{IsStaticField, MayWant, wanted};
@@ -19,7 +19,7 @@ use crate::accesses::{Access, Read, Wanted, Write};
 use et_base::{FieldId, ThreadId};
 use et_class::flags::{STATIC, has};
 use et_event::GuestError;
-use et_place::{MemberAt, Place};
+use et_parts::{MemberAt, Place};
 use et_program::Program;
 use et_refs::{
     Refusal, field_named, ill_typed_unless, kind_of, narrowed, resolve, resolve_field, take_typed,

@@ -17,8 +17,8 @@ use Rattle.et_event.specs.Moments.{Moment, Doing, frame_of, thread_of, begins, w
 use Rattle.et_event.specs.Monitors.{Lock, OfObject, OfClass, monitor_of, lock_for, may_enter_some}
 use Rattle.et_event.specs.Sites.{Site, method_of, decoded_at}
 use Rattle.et_event.specs.Sound.{AreSoundFrames, IsSoundFor}
-use Rattle.et_place.specs.Places.{Runs}
-use Rattle.et_place.proofs.Placing.{method_runs, body_runs}
+use Rattle.et_parts.specs.Places.{Runs}
+use Rattle.et_parts.proofs.Placing.{method_runs, body_runs}
 use Rattle.et_sound.specs.Outcomes.{KeepsSound}
 use Rattle.et_sound.specs.Programs.{MakesSound, IsInstruction}
 use Rattle.et_sound.specs.WellFormed.{IsWellFormed, IsGoing, KeepsFrame, MayEnter, StandsAt}

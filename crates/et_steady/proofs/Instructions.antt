@@ -22,8 +22,8 @@ use Rattle.et_event.specs.Heap.{heap_event}
 use Rattle.et_event.specs.Moments.{Moment, frame_of}
 use Rattle.et_event.specs.Sites.{Site, site_of, method_of, code_of, decoded_at}
 use Rattle.et_event.specs.Table.{row_of}
-use Rattle.et_place.specs.Places.{Runs}
-use Rattle.et_place.proofs.Placing.{method_runs, rules_found}
+use Rattle.et_parts.specs.Places.{Runs}
+use Rattle.et_parts.proofs.Placing.{method_runs, rules_found}
 use Rattle.et_ops.specs.Rows.{is_plain}
 use Rattle.et_plain.proofs.Going.{may_go}
 use Rattle.et_plain.proofs.Sounding.{Begins, does_sound}

@@ -18,8 +18,8 @@ ghost use Rattle.et_state.specs.Threads.{turn_of};
 ghost use Rattle.et_state.specs.State.{Kept};
 ghost use Rattle.et_state.specs.Words.{IsUnended};
 ghost use Rattle.et_ops.specs.Rows.{is_plain};
-ghost use Rattle.et_place.specs.declared.places.Place.{Place};
-ghost use Rattle.et_place.specs.Places.{IsPlace, site_at};
+ghost use Rattle.et_parts.specs.declared.places.Place.{Place};
+ghost use Rattle.et_parts.specs.Places.{IsPlace, site_at};
 ghost use Rattle.et_program.specs.Entries.{Linked, method_at, is_static};
 ghost use Rattle.et_program.specs.Resolution.{resolve_method, select, select_special};
 ghost use Rattle.et_program.specs.Tables.{IsTabled};
@@ -50,7 +50,7 @@ pub fn methods_are_of_classes()
 
 // ROWS
 
-/// A thread whose turn is an instruction stands at the row of the place that `et_place` looks up.
+/// A thread whose turn is an instruction stands at the row of the place that `et_parts` looks up.
 pub fn places_have_rows()
     ensures { (e : Moment) (place : Place) → IsSoundFor e.program e.before → e.before.guest.clock < 2 ^ 40 → turn_of (thread_of e) ≡ turns.Instruction →
         IsPlace e.program (frame_of e) place → IsAtRow e (site_at place) place.row }

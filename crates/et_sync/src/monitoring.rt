@@ -19,8 +19,9 @@ ghost use Rattle.et_event.specs.Moments.{moment};
 use crate::waiting::wait_event;
 use et_base::{NoMemory, ObjectId, Steps, ThreadId};
 use et_event::{GuestError, MonitorRow};
-use et_monitors::{Lock, enter_monitor, leave_monitor, may_enter, owns};
-use et_parts::{ill_typed, reference_at, throw_error};
+use et_parts::{
+    Lock, enter_monitor, ill_typed, leave_monitor, may_enter, owns, reference_at, throw_error,
+};
 use et_program::Program;
 use et_state::{EventEnd, Lines, Machine};
 use std::sync::ledger::Ledger;

@@ -9,9 +9,9 @@ use Rattle.et_program.specs.Members.{is_above, is_subclass}
 use Rattle.et_state.specs.Threads.{FrameState}
 use Rattle.et_event.specs.Sites.{code_of, method_of, pool_of}
 use Rattle.et_event.specs.Throw.{is_above_or_same, catches, handler_of}
-use Rattle.et_place.specs.Places.{Runs}
-use Rattle.et_place.specs.Pools.{slots_of}
-use Rattle.et_place.proofs.Placing.{locals_found, pool_found}
+use Rattle.et_parts.specs.Places.{Runs}
+use Rattle.et_parts.specs.Pools.{slots_of}
+use Rattle.et_parts.proofs.Placing.{locals_found, pool_found}
 use Rattle.et_throw.specs.Interfaces.{KnowsInterfaces}
 
 -- a class above is a superclass exactly where it is no interface

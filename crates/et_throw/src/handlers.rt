@@ -5,15 +5,15 @@ ghost use Rattle.et_pool.specs.Looks.{class_name_at};
 ghost use Rattle.et_code.specs.declared.body.TableRow.{TableRow as Row};
 ghost use Rattle.et_state.specs.Words.{HasFrame, top};
 ghost use Rattle.et_event.specs.Throw.{is_above_or_same, catches_name, catches as catches_there, handler_of};
-ghost use Rattle.et_place.specs.Places.{Runs};
-ghost use Rattle.et_place.specs.Pools.{slots_of};
+ghost use Rattle.et_parts.specs.Places.{Runs};
+ghost use Rattle.et_parts.specs.Pools.{slots_of};
 ghost use Rattle.et_throw.specs.Interfaces.{KnowsInterfaces};
 
 use crate::frames::table_of;
 use et_base::{ClassId, ThreadId};
 use et_class::flags::{INTERFACE, has};
 use et_code::TableRow;
-use et_place::method_of;
+use et_parts::method_of;
 use et_pool::Pool;
 use et_program::Program;
 use et_state::Machine;

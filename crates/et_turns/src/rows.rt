@@ -8,7 +8,7 @@ ghost use Rattle.et_state.specs.Threads.{turn_of};
 ghost use Rattle.et_state.specs.State.{kept_of};
 ghost use Rattle.et_state.specs.Words.{thread_at, top};
 ghost use Rattle.et_ops.specs.Rows.{is_plain};
-ghost use Rattle.et_place.specs.Places.{IsPlace, site_at};
+ghost use Rattle.et_parts.specs.Places.{IsPlace, site_at};
 ghost use Rattle.et_event.specs.Moments.{moment};
 ghost use Rattle.et_turns.specs.Runs.{IsRunnable};
 
@@ -17,8 +17,7 @@ use et_base::{NoMemory, Steps, ThreadId};
 use et_event::Row;
 use et_invokes::call_event;
 use et_ops::plain_event;
-use et_parts::ill_typed;
-use et_place::{Place, place_of};
+use et_parts::{Place, ill_typed, place_of};
 use et_program::Program;
 use et_state::{EventEnd, Lines, Machine};
 use et_sync::monitor_row_event;

@@ -2,7 +2,7 @@ use Rattle.std.proofs.Common.{◌∙◌, refl, ap, length, sym}
 use Rattle.et_state.specs.State.{MachineState}
 use Rattle.et_event.specs.Moments.{moment, begins}
 use Rattle.et_event.specs.Sites.{natural}
-use Rattle.et_place.specs.Places.{site_at}
+use Rattle.et_parts.specs.Places.{site_at}
 use Rattle.et_arrays.proofs.Adding.{came_by, frame_came, deep_came, room_came, arrays_answer}
 use Rattle.et_arrays.proofs.events.add_arrays.Goals as goal
 

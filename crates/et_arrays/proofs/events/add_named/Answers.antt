@@ -2,7 +2,7 @@ use Rattle.std.proofs.Common.{drop}
 use Rattle.et_state.specs.State.{kept_of}
 use Rattle.et_state.specs.Words.{top}
 use Rattle.et_event.specs.Sites.{natural}
-use Rattle.et_place.specs.Places.{site_at}
+use Rattle.et_parts.specs.Places.{site_at}
 use Rattle.et_event.specs.Moments.{moment}
 use Rattle.et_arrays.specs.Events.{arrays_added}
 use Rattle.et_arrays.proofs.Answering.{answers_as}

@@ -1,4 +1,4 @@
-use Rattle.et_place.specs.Places.{site_at}
+use Rattle.et_parts.specs.Places.{site_at}
 use Rattle.et_event.specs.Moments.{moment}
 use Rattle.et_arrays.proofs.Answering.{answers_as, taken_ok, taken_err}
 use Rattle.et_arrays.proofs.events.add_taken.Goals as goal

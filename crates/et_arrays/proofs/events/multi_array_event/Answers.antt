@@ -1,4 +1,4 @@
-use Rattle.et_place.specs.Places.{site_at}
+use Rattle.et_parts.specs.Places.{site_at}
 use Rattle.et_event.specs.Moments.{moment}
 use Rattle.et_arrays.proofs.Answering.{answers_as}
 use Rattle.et_arrays.proofs.Placed.{some_dimension, with_name, without_name}

@@ -9,7 +9,7 @@ use Rattle.et_state.specs.declared.ends.EventEnd.TheVariants as ends
 use Rattle.et_event.specs.Frames.{frame_entered, method_frame, receiver_of}
 use Rattle.et_event.specs.Calls.{taking}
 use Rattle.et_event.specs.Moments.{moment, begins, ends as ending}
-use Rattle.et_monitors.specs.Locks.{entering_some, locks_of}
+use Rattle.et_parts.specs.Locks.{entering_some, locks_of}
 use Rattle.et_builtins.specs.Arguments.{arguments_in}
 use Rattle.et_calls.specs.Entering.{pushed_by}
 use Rattle.et_calls.proofs.Entered.{few_answers, method_entered}

@@ -1,8 +1,8 @@
 use Rattle.std.proofs.Common.{◌≡◌, ℕ, Bool, Some, None, refl, sym, ◌∙◌, ap}
 use Rattle.std.specs.Prelude.{Result}
 use Rattle.et_pool.specs.Descriptors.{method_type}
-use Rattle.et_place.specs.Places.{site_at}
-use Rattle.et_place.specs.Members.{shown_member}
+use Rattle.et_parts.specs.Places.{site_at}
+use Rattle.et_parts.specs.Members.{shown_member}
 use Rattle.et_event.specs.declared.errors.GuestError.{GuestError}
 use Rattle.et_event.specs.Calls.{is_static_call}
 use Rattle.et_calls.specs.Arguments.{fitting}

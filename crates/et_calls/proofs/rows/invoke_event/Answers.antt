@@ -1,5 +1,5 @@
 use Rattle.std.proofs.Common.{refl}
-use Rattle.et_place.specs.Places.{site_at}
+use Rattle.et_parts.specs.Places.{site_at}
 use Rattle.et_event.specs.Calls.{invoke}
 use Rattle.et_parts.proofs.Answering.{if_ok}
 use Rattle.et_calls.proofs.Calling.{invoke_answers}

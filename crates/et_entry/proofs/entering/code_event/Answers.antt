@@ -1,7 +1,7 @@
 use Rattle.std.proofs.Common.{sym, ◌∙◌}
 use Rattle.et_event.specs.Calls.{entry_arguments}
 use Rattle.et_event.specs.Moments.{moment, begins}
-use Rattle.et_monitors.specs.Locks.{locks_of}
+use Rattle.et_parts.specs.Locks.{locks_of}
 use Rattle.et_entry.proofs.Coming.{alike, lock_is, lock_there, open_begun, waits_is}
 use Rattle.et_entry.proofs.entering.code_event.Goals as goal
 

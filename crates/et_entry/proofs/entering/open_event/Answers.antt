@@ -1,8 +1,8 @@
 use Rattle.std.proofs.Common.{sym, ap, append-nil}
 use Rattle.et_state.specs.State.{MachineState}
 use Rattle.et_event.specs.Moments.{moment, begins}
-use Rattle.et_monitors.specs.Locks.{HasSome, locks_of}
-use Rattle.et_monitors.proofs.There.{there_later}
+use Rattle.et_parts.specs.Locks.{HasSome, locks_of}
+use Rattle.et_parts.proofs.There.{there_later}
 use Rattle.et_entry.proofs.Entered.{method_entered}
 use Rattle.et_entry.proofs.Quiet.{begun_initialized}
 use Rattle.et_entry.proofs.entering.open_event.Goals as goal

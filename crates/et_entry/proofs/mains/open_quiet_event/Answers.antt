@@ -2,7 +2,7 @@ use Rattle.std.proofs.Common.{true, ◌∙◌}
 use Rattle.et_state.specs.Words.{thread_at}
 use Rattle.et_program.specs.Entries.{method_at}
 use Rattle.et_state.specs.declared.ends.EventEnd.TheVariants as ends
-use Rattle.et_monitors.specs.Locks.{locks_of}
+use Rattle.et_parts.specs.Locks.{locks_of}
 use Rattle.et_entry.proofs.Coming.{entry_argument}
 use Rattle.et_entry.proofs.Entered.{entry_entered, method_entered}
 use Rattle.et_entry.proofs.Fresh.{fresh_on}

@@ -3,7 +3,7 @@ use Rattle.et_state.specs.Words.{thread_at}
 use Rattle.et_event.specs.Calls.{entry_arguments}
 use Rattle.et_event.specs.Moments.{moment, begins}
 use Rattle.et_initialize.proofs.Legal.{quietly_threads}
-use Rattle.et_monitors.specs.Locks.{locks_of}
+use Rattle.et_parts.specs.Locks.{locks_of}
 use Rattle.et_entry.proofs.Coming.{alike, answers_alike, open_is, waits_is}
 use Rattle.et_entry.proofs.Fresh.{fresh_on}
 use Rattle.et_entry.proofs.Monitors.{static_lock_is}

@@ -1,5 +1,5 @@
 use Rattle.std.proofs.Common.{refl}
-use Rattle.et_place.specs.Places.{site_at}
+use Rattle.et_parts.specs.Places.{site_at}
 use Rattle.et_calls.specs.Plans.{planned}
 use Rattle.et_calls.specs.Rows.{is_left}
 use Rattle.et_invokes.proofs.Initial.{not_none, plain_answers}

@@ -1,5 +1,5 @@
 use Rattle.std.proofs.Common.{false, refl}
-use Rattle.et_place.specs.Places.{site_at}
+use Rattle.et_parts.specs.Places.{site_at}
 use Rattle.et_event.specs.Calls.{call_event}
 use Rattle.et_event.specs.declared.rows.CallRow.TheVariants.{Return}
 use Rattle.et_invokes.proofs.Initial.{not_none, plain_answers}

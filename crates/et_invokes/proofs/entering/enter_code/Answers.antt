@@ -2,7 +2,7 @@ use Rattle.std.proofs.Common.{◌≡◌, None, sym, ◌∙◌, ap}
 use Rattle.et_program.specs.Entries.{method_at}
 use Rattle.et_program.specs.declared.info.MethodInfo.{MethodInfo}
 use Rattle.et_event.specs.Monitors.{lock_for}
-use Rattle.et_monitors.specs.Locks.{locks_of}
+use Rattle.et_parts.specs.Locks.{locks_of}
 use Rattle.et_parts.proofs.Answering.{if_ok}
 use Rattle.et_invokes.proofs.Entered.{open_after, waits_after}
 use Rattle.et_invokes.proofs.entering.enter_code.Goals as goal

@@ -5,7 +5,7 @@ use Rattle.et_event.specs.Calls.{arguments_of, taking}
 use Rattle.et_event.specs.Frames.{frame_entered}
 use Rattle.et_event.specs.Moments.{moment, ends as ending}
 use Rattle.et_state.specs.declared.ends.EventEnd.TheVariants as ends
-use Rattle.et_monitors.specs.Locks.{locks_of}
+use Rattle.et_parts.specs.Locks.{locks_of}
 use Rattle.et_parts.proofs.Answering.{if_ok}
 use Rattle.et_initialize.proofs.Counting.{room_fits}
 use Rattle.et_initialize.proofs.Stepping.{after}

@@ -4,7 +4,7 @@ use Rattle.et_state.specs.NewFrames.{frame_of}
 use Rattle.et_state.specs.Threads.{FrameState, ThreadState, most_frames}
 use Rattle.et_state.specs.Words.{top}
 use Rattle.et_event.specs.Frames.{method_frame}
-use Rattle.et_monitors.specs.Locks.{entering_some, locks_of}
+use Rattle.et_parts.specs.Locks.{entering_some, locks_of}
 use Rattle.et_builtins.specs.Arguments.{arguments_in}
 use Rattle.et_initialize.proofs.Stepping.{told_enter}
 use Rattle.et_invokes.specs.Entering.{pushed_on}

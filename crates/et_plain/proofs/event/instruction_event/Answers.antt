@@ -3,12 +3,12 @@ use Rattle.et_state.specs.State.{kept_of}
 use Rattle.et_event.specs.Event.{event, does}
 use Rattle.et_event.specs.Moments.{ill_typed}
 use Rattle.et_event.specs.declared.rows.Row.{Row}
-use Rattle.et_place.specs.Places.{is_frame, site_at}
+use Rattle.et_parts.specs.Places.{is_frame, site_at}
 use Rattle.et_plain.proofs.Answering.{moment, ill_typed_answers, plain_here, not_none, answered}
 use Rattle.et_sound.proofs.Outcomes.{answers_sound}
 use Rattle.et_plain.proofs.Naming.{does_named, answers_named}
 use Rattle.et_plain.proofs.Ticking.{does_tick, answers_tick}
-use Rattle.et_place.proofs.Running.{has_frame_there}
+use Rattle.et_parts.proofs.Running.{has_frame_there}
 use Rattle.et_plain.proofs.Standing.{place_sound}
 use Rattle.et_plain.proofs.event.instruction_event.Goals as goal
 

@@ -4,8 +4,8 @@ use Rattle.et_state.specs.Words.{top}
 use Rattle.et_event.specs.Moments.{moment, begins, goes}
 use Rattle.et_event.specs.Checks.{entries_of}
 use Rattle.et_event.specs.Heap.{leaving}
-use Rattle.et_place.specs.Members.{shown_member}
-use Rattle.et_place.specs.Places.{site_at}
+use Rattle.et_parts.specs.Members.{shown_member}
+use Rattle.et_parts.specs.Places.{site_at}
 use Rattle.et_refs.specs.Changes.{exchanged}
 use Rattle.et_refs.proofs.Chains.{refusing, gets, gets_fitting, gets_slot, got}
 use Rattle.et_refs.proofs.fields.read_field.Goals as goal

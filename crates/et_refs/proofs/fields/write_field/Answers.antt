@@ -4,8 +4,8 @@ use Rattle.et_heap.specs.Refs.{refs_of_value}
 use Rattle.et_state.specs.Words.{top}
 use Rattle.et_event.specs.Moments.{moment, begins, slot_written, goes}
 use Rattle.et_event.specs.Heap.{leaving}
-use Rattle.et_place.specs.Members.{shown_member}
-use Rattle.et_place.specs.Places.{site_at}
+use Rattle.et_parts.specs.Members.{shown_member}
+use Rattle.et_parts.specs.Places.{site_at}
 use Rattle.et_refs.specs.Changes.{stored}
 use Rattle.et_refs.proofs.Chains.{refusing, puts, puts_value, puts_slot, put}
 use Rattle.et_refs.proofs.Reading.{kept_refers}

@@ -1,6 +1,6 @@
 use Rattle.std.proofs.Common.{◌≡◌, ◌∙◌, ℕ, Bool, true, false, sym, ap, subst}
 use Rattle.et_heap.specs.Objects.{has_room}
-use Rattle.et_place.specs.Places.{site_at}
+use Rattle.et_parts.specs.Places.{site_at}
 use Rattle.et_statics.specs.Accesses.{objects_in, slots_in}
 use Rattle.et_initialize.proofs.Needing.{quiet}
 use Rattle.et_initialize.proofs.Stepping.{has_frame_on}

@@ -1,7 +1,7 @@
 use Rattle.std.proofs.Common.{◌≡◌, ◌∙◌, ℕ, List, true, false, sym, ap, subst, append-nil}
 use Rattle.et_state.specs.State.{MachineState}
 use Rattle.et_event.specs.Moments.{moment, begins}
-use Rattle.et_place.specs.Places.{site_at}
+use Rattle.et_parts.specs.Places.{site_at}
 use Rattle.et_initialize.proofs.Stepping.{has_frame_on}
 use Rattle.et_statics.proofs.Carrying.{can_access, accessed_answers, access_full, base_threads}
 use Rattle.et_statics.proofs.Quiet.{begun_initialized}

@@ -8,8 +8,8 @@ use Rattle.et_program.specs.Entries.{field_at}
 use Rattle.et_event.specs.declared.rows.Operand.{Operand}
 use Rattle.et_event.specs.Checks.{ill_typed_unless}
 use Rattle.et_event.specs.Kinds.{kind_of}
-use Rattle.et_place.specs.Members.{shown_member}
-use Rattle.et_place.specs.Places.{site_at}
+use Rattle.et_parts.specs.Members.{shown_member}
+use Rattle.et_parts.specs.Places.{site_at}
 use Rattle.et_event.specs.Moments.{moment}
 use Rattle.et_refs.proofs.Chains.{refusing}
 use Rattle.et_statics.specs.declared.accesses.Access.TheVariants as access

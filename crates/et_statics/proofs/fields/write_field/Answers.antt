@@ -4,8 +4,8 @@ use Rattle.et_state.specs.State.{kept_of}
 use Rattle.et_state.specs.Words.{top}
 use Rattle.et_program.specs.declared.info.FieldInfo.{FieldInfo}
 use Rattle.et_event.specs.Kinds.{narrowed}
-use Rattle.et_place.specs.Members.{shown_member}
-use Rattle.et_place.specs.Places.{site_at}
+use Rattle.et_parts.specs.Members.{shown_member}
+use Rattle.et_parts.specs.Places.{site_at}
 use Rattle.et_event.specs.Moments.{moment}
 use Rattle.et_refs.proofs.Chains.{refusing}
 use Rattle.et_statics.specs.declared.accesses.Access.TheVariants as access

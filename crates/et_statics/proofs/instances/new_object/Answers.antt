@@ -3,7 +3,7 @@ use Rattle.et_state.specs.State.{kept_of}
 use Rattle.et_event.specs.declared.errors.GuestError.TheVariants.{InstantiationError}
 use Rattle.et_event.specs.Checks.{throws_unless}
 use Rattle.et_event.specs.Moments.{moment, begins}
-use Rattle.et_place.specs.Places.{site_at}
+use Rattle.et_parts.specs.Places.{site_at}
 use Rattle.et_refs.proofs.Chains.{refusing}
 use Rattle.et_statics.specs.Accesses.{wanted}
 use Rattle.et_statics.proofs.Chains.{made_of, makes_class, makes_named, makes_fitting}

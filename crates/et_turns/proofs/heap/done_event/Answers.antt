@@ -1,6 +1,6 @@
 use Rattle.std.proofs.Common.{◌≡◌}
 use Rattle.et_event.specs.Heap.{heap_event}
-use Rattle.et_place.specs.Places.{site_at}
+use Rattle.et_parts.specs.Places.{site_at}
 use Rattle.et_event.specs.Moments.{moment}
 use Rattle.et_turns.proofs.Answering.{done_not_left, done_answered}
 use Rattle.et_turns.proofs.heap.done_event.Goals as goal

@@ -1,7 +1,7 @@
 use Rattle.std.proofs.Common.{◌≡◌, ap}
 use Rattle.et_event.specs.Event.{does}
 use Rattle.et_event.specs.declared.rows.Row.{Row}
-use Rattle.et_place.specs.Places.{is_frame, site_at}
+use Rattle.et_parts.specs.Places.{is_frame, site_at}
 use Rattle.et_event.specs.Moments.{moment}
 use Rattle.et_turns.proofs.Answering.{plain_not_left, plain_answered}
 use Rattle.et_turns.proofs.rows.plain_row_event.Goals as goal
