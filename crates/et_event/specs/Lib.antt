@@ -18,3 +18,4 @@ pub mod Event
 pub mod Start
 pub mod Sound
 pub mod Answered
+pub mod PlainRows

@@ -1,3 +1,2 @@
 pub mod Tops
 pub mod Divisions
-pub mod Rows

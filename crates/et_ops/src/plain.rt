@@ -17,7 +17,7 @@ ghost use Rattle.et_event.specs.Moments.{fits};
 ghost use Rattle.et_event.specs.Plain.{after, constant, on_frame};
 ghost use Rattle.et_event.specs.Sites.{constant_at, natural as natural_of};
 ghost use Rattle.et_parts.specs.Pools.{slots_of};
-ghost use Rattle.et_ops.specs.Rows.{PlainAnswers};
+ghost use Rattle.et_event.specs.PlainRows.{PlainAnswers};
 
 use crate::constants::constant_event;
 use crate::divisions::divide_event;

@@ -17,7 +17,7 @@ use Rattle.et_event.specs.Answered.{EventAnswers}
 use Rattle.et_event.specs.Event.{event}
 use Rattle.et_event.specs.Moments.{ill_typed}
 use Rattle.et_event.specs.Sites.{decoded_at}
-use Rattle.et_ops.specs.Rows.{is_plain, PlainAnswers}
+use Rattle.et_event.specs.PlainRows.{is_plain, PlainAnswers}
 use Rattle.et_parts.specs.declared.places.Place.{Place}
 use Rattle.et_parts.specs.Places.{IsPlace, row_at}
 pub use Rattle.et_parts.proofs.SiteAnswers.{moment}

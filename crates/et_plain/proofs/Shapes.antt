@@ -26,7 +26,7 @@ use Rattle.et_event.specs.Checks.{ill_typed_unless}
 use Rattle.et_event.specs.Plain.{put, after, on_frame, constant, divided, quotient, divides}
 use Rattle.et_event.specs.Sites.{Site, constant_at, pool_index, LoadedConstant, AnInt, ALong, AString}
 use Rattle.et_event.specs.Strings.{interned, string_object}
-use Rattle.et_ops.specs.Rows.{is_plain}
+use Rattle.et_event.specs.PlainRows.{is_plain}
 use Rattle.et_plain.proofs.Answering.{moment}
 use Rattle.et_plain.proofs.Keeping.{taken_int, taken_long}
 

@@ -15,7 +15,7 @@ use Rattle.et_event.specs.Event.{does}
 use Rattle.et_event.specs.Moments.{begins, with_frame, next_object, instance_made}
 use Rattle.et_event.specs.Sites.{Site, code_of}
 use Rattle.et_event.specs.Sound.{IsPc, IsSoundFor}
-use Rattle.et_ops.specs.Rows.{is_plain}
+use Rattle.et_event.specs.PlainRows.{is_plain}
 use Rattle.et_sound.specs.Outcomes.{KeepsSound}
 use Rattle.et_sound.specs.Programs.{MakesSound}
 use Rattle.et_sound.specs.WellFormed.{IsWellFormed, KeepsFrame}

@@ -13,7 +13,7 @@ use Rattle.et_event.specs.declared.rows.Row.{Row}
 use Rattle.et_event.specs.Event.{does}
 use Rattle.et_event.specs.Sites.{Site, code_of}
 use Rattle.et_event.specs.Sound.{IsPc, IsSoundFor}
-use Rattle.et_ops.specs.Rows.{is_plain}
+use Rattle.et_event.specs.PlainRows.{is_plain}
 use Rattle.et_parts.specs.declared.places.Place.{Place}
 use Rattle.et_parts.specs.Places.{Runs, IsPlace, site_at}
 use Rattle.et_sound.specs.Outcomes.{KeepsSound}

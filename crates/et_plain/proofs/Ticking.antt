@@ -16,7 +16,7 @@ use Rattle.et_event.specs.Event.{does}
 use Rattle.et_event.specs.Moments.{Doing, begins, with_frame, fits}
 use Rattle.et_event.specs.Plain.{put, after}
 use Rattle.et_event.specs.Sites.{Site}
-use Rattle.et_ops.specs.Rows.{is_plain}
+use Rattle.et_event.specs.PlainRows.{is_plain}
 use Rattle.et_plain.proofs.Answering.{moment}
 use Rattle.et_plain.proofs.Naming.{any_frame}
 use Rattle.et_plain.proofs.Shapes.{HoldsOfShapes, error_thrown, string_made, by_shape}

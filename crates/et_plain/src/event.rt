@@ -9,7 +9,7 @@ ghost use Rattle.et_state.specs.Naming.{Names, IsNamed};
 ghost use Rattle.et_event.specs.Answered.{EventAnswers};
 ghost use Rattle.et_event.specs.Event.{event};
 ghost use Rattle.et_event.specs.Sound.{IsSoundFor};
-ghost use Rattle.et_ops.specs.Rows.{is_plain as plain};
+ghost use Rattle.et_event.specs.PlainRows.{is_plain as plain};
 ghost use Rattle.et_sound.specs.Programs.{MakesSound};
 ghost use Rattle.et_plain.specs.Turns.{IsPlainTurn};
 

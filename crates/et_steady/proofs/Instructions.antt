@@ -24,7 +24,7 @@ use Rattle.et_event.specs.Sites.{Site, site_of, method_of, code_of, decoded_at}
 use Rattle.et_event.specs.Table.{row_of}
 use Rattle.et_parts.specs.Places.{Runs}
 use Rattle.et_parts.proofs.Placing.{method_runs, rules_found}
-use Rattle.et_ops.specs.Rows.{is_plain}
+use Rattle.et_event.specs.PlainRows.{is_plain}
 use Rattle.et_plain.proofs.Going.{may_go}
 use Rattle.et_plain.proofs.Sounding.{Begins, does_sound}
 use Rattle.et_sound.specs.Outcomes.{KeepsSound}

@@ -17,7 +17,7 @@ ghost use Rattle.et_state.specs.declared.stage.Turn.TheVariants as turns;
 ghost use Rattle.et_state.specs.Threads.{turn_of};
 ghost use Rattle.et_state.specs.State.{Kept};
 ghost use Rattle.et_state.specs.Words.{IsUnended};
-ghost use Rattle.et_ops.specs.Rows.{is_plain};
+ghost use Rattle.et_event.specs.PlainRows.{is_plain};
 ghost use Rattle.et_parts.specs.declared.places.Place.{Place};
 ghost use Rattle.et_parts.specs.Places.{IsPlace, site_at};
 ghost use Rattle.et_program.specs.Entries.{Linked, method_at, is_static};

@@ -8,7 +8,7 @@ use Rattle.et_event.specs.Answered.{EventAnswers}
 use Rattle.et_event.specs.declared.rows.HeapRow.{HeapRow}
 use Rattle.et_event.specs.declared.rows.HeapRow.TheVariants as row
 use Rattle.et_event.specs.declared.rows.Row.{Row}
-use Rattle.et_ops.specs.Rows.{is_plain, PlainAnswers}
+use Rattle.et_event.specs.PlainRows.{is_plain, PlainAnswers}
 use Rattle.et_refs.specs.Rows.{is_done, HeapAnswers}
 use Rattle.et_statics.specs.Rows.{needs_class, ClassAnswers}
 

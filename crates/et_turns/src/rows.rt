@@ -7,7 +7,7 @@ ghost use Rattle.et_state.specs.declared.stage.Turn.TheVariants as turns;
 ghost use Rattle.et_state.specs.Threads.{turn_of};
 ghost use Rattle.et_state.specs.State.{kept_of};
 ghost use Rattle.et_state.specs.Words.{thread_at, top};
-ghost use Rattle.et_ops.specs.Rows.{is_plain};
+ghost use Rattle.et_event.specs.PlainRows.{is_plain};
 ghost use Rattle.et_parts.specs.Places.{IsPlace, site_at};
 ghost use Rattle.et_event.specs.Moments.{moment};
 ghost use Rattle.et_turns.specs.Runs.{IsRunnable};
