@@ -11,7 +11,7 @@ ghost use Rattle.et_event.specs.Event.{event};
 ghost use Rattle.et_event.specs.Sound.{IsSoundFor};
 ghost use Rattle.et_event.specs.PlainRows.{is_plain as plain};
 ghost use Rattle.et_sound.specs.Programs.{MakesSound};
-ghost use Rattle.et_plain.specs.Turns.{IsPlainTurn};
+ghost use Rattle.et_sound.specs.Turns.{IsPlainTurn};
 
 use et_base::{NoMemory, Steps, ThreadId};
 use et_event::Row;

@@ -1,3 +1,4 @@
 pub mod Programs
 pub mod WellFormed
 pub mod Outcomes
+pub mod Turns

@@ -25,8 +25,8 @@ use Rattle.et_event.specs.Table.{row_of}
 use Rattle.et_parts.specs.Places.{Runs}
 use Rattle.et_parts.proofs.Placing.{method_runs, rules_found}
 use Rattle.et_event.specs.PlainRows.{is_plain}
-use Rattle.et_plain.proofs.Going.{may_go}
-use Rattle.et_plain.proofs.Sounding.{Begins, does_sound}
+use Rattle.et_sound.proofs.Going.{may_go}
+use Rattle.et_sound.proofs.Sounding.{Begins, does_sound}
 use Rattle.et_sound.specs.Outcomes.{KeepsSound}
 use Rattle.et_sound.specs.WellFormed.{StandsAt}
 use Rattle.et_sound.proofs.Classes.{get_static_sound, put_static_sound, new_sound}

@@ -4,12 +4,12 @@ use Rattle.et_event.specs.Event.{event, does}
 use Rattle.et_event.specs.Moments.{ill_typed}
 use Rattle.et_event.specs.declared.rows.Row.{Row}
 use Rattle.et_parts.specs.Places.{is_frame, site_at}
-use Rattle.et_plain.proofs.Answering.{moment, ill_typed_answers, plain_here, not_none, answered}
+use Rattle.et_sound.proofs.Answering.{moment, ill_typed_answers, plain_here, not_none, answered}
 use Rattle.et_sound.proofs.Outcomes.{answers_sound}
-use Rattle.et_plain.proofs.Naming.{does_named, answers_named}
-use Rattle.et_plain.proofs.Ticking.{does_tick, answers_tick}
+use Rattle.et_sound.proofs.Naming.{does_named, answers_named}
+use Rattle.et_sound.proofs.Ticking.{does_tick, answers_tick}
 use Rattle.et_parts.proofs.Running.{has_frame_there}
-use Rattle.et_plain.proofs.Standing.{place_sound}
+use Rattle.et_sound.proofs.PlainStanding.{place_sound}
 use Rattle.et_plain.proofs.event.instruction_event.Goals as goal
 
 pub returns-in_default-clause-event : goal.returns-in_default-clause-event

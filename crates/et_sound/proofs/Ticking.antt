@@ -17,9 +17,9 @@ use Rattle.et_event.specs.Moments.{Doing, begins, with_frame, fits}
 use Rattle.et_event.specs.Plain.{put, after}
 use Rattle.et_event.specs.Sites.{Site}
 use Rattle.et_event.specs.PlainRows.{is_plain}
-use Rattle.et_plain.proofs.Answering.{moment}
-use Rattle.et_plain.proofs.Naming.{any_frame}
-use Rattle.et_plain.proofs.Shapes.{HoldsOfShapes, error_thrown, string_made, by_shape}
+use Rattle.et_sound.proofs.Answering.{moment}
+use Rattle.et_sound.proofs.Naming.{any_frame}
+use Rattle.et_sound.proofs.Shapes.{HoldsOfShapes, error_thrown, string_made, by_shape}
 
 abbrev pub Ticks : ℕ → Outcome Kept → Type 0
 Ticks n (outcome.Goes next records) = next.guest.clock ≡ n + 1

@@ -21,7 +21,7 @@ use Rattle.et_event.specs.PlainRows.{is_plain, PlainAnswers}
 use Rattle.et_parts.specs.declared.places.Place.{Place}
 use Rattle.et_parts.specs.Places.{IsPlace, row_at}
 pub use Rattle.et_parts.proofs.SiteAnswers.{moment}
-use Rattle.et_plain.specs.Turns.{is_plain_row, IsPlainTurn}
+use Rattle.et_sound.specs.Turns.{is_plain_row, IsPlainTurn}
 
 -- the machine and the records are as before, and the place is told
 pub ill_typed_answers : (p : Linked) (t : ℕ) (m : MachineState) (out : List Record) (end : EventEnd) → end ≡ ends.IllTyped (unwrap_or (top m.guest t).method 0) (top m.guest t).pc

@@ -25,8 +25,8 @@ use Rattle.et_event.specs.Moments.{Doing, with_frame, begins, ends as ending, fi
 use Rattle.et_event.specs.Plain.{put, after}
 use Rattle.et_event.specs.Sites.{Site}
 use Rattle.et_event.specs.PlainRows.{is_plain}
-use Rattle.et_plain.proofs.Answering.{moment}
-use Rattle.et_plain.proofs.Shapes.{HoldsOfShapes, error_thrown, string_made, by_shape}
+use Rattle.et_sound.proofs.Answering.{moment}
+use Rattle.et_sound.proofs.Shapes.{HoldsOfShapes, error_thrown, string_made, by_shape}
 
 abbrev pub AreNamed : Names → Outcome Kept → Type 0
 AreNamed names (outcome.Goes next records) = All (IsNamed names) records

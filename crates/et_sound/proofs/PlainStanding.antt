@@ -19,11 +19,11 @@ use Rattle.et_parts.specs.Places.{Runs, IsPlace, site_at}
 use Rattle.et_sound.specs.Outcomes.{KeepsSound}
 use Rattle.et_sound.specs.Programs.{MakesSound}
 use Rattle.et_sound.proofs.Frames.{starts_there, behind_pc}
-use Rattle.et_plain.proofs.Answering.{moment}
-use Rattle.et_plain.proofs.Going.{may_go}
+use Rattle.et_sound.proofs.Answering.{moment}
+use Rattle.et_sound.proofs.Going.{may_go}
 use Rattle.et_parts.proofs.Placing.{body_runs}
 use Rattle.et_parts.proofs.Running.{has_frame_there, runs_there}
-use Rattle.et_plain.proofs.Sounding.{Begins, does_sound}
+use Rattle.et_sound.proofs.Sounding.{Begins, does_sound}
 
 -- an instruction stands there
 starts_here : (p : Linked) (f : FrameState) (place : Place) → Runs p f → IsPlace p f place → IsStart (code_of p f).code f.pc
