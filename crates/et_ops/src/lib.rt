@@ -5,6 +5,7 @@
 mod branches;
 mod constants;
 mod divisions;
+mod event;
 mod frames;
 mod locals;
 mod numbers;
@@ -16,5 +17,6 @@ mod switches;
 
 pub use constants::constant_event;
 pub use divisions::divide_event;
+pub use event::{is_plain_turn, ops_event};
 pub use frames::frame_event;
 pub use plain::plain_event;

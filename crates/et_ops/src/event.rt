@@ -13,9 +13,9 @@ ghost use Rattle.et_event.specs.PlainRows.{is_plain as plain};
 ghost use Rattle.et_sound.specs.Programs.{MakesSound};
 ghost use Rattle.et_sound.specs.Turns.{IsPlainTurn};
 
+use crate::plain::plain_event;
 use et_base::{NoMemory, Steps, ThreadId};
 use et_event::Row;
-use et_ops::plain_event;
 use et_parts::{ill_typed, place_of};
 use et_program::Program;
 use et_state::{EventEnd, Lines, Machine};

@@ -6,7 +6,7 @@ use Rattle.et_state.specs.Words.{top}
 use Rattle.et_parts.specs.Places.{row_at}
 use Rattle.et_sound.specs.Turns.{is_plain_row}
 use Rattle.et_sound.proofs.Answering.{plain_turn, row_here}
-use Rattle.et_plain.proofs.event.is_plain_turn.Goals as goal
+use Rattle.et_ops.proofs.event.is_plain_turn.Goals as goal
 
 pub returns-in-Some : goal.returns-in-Some
 returns-in-Some c =

@@ -10,7 +10,7 @@ use Rattle.et_sound.proofs.Naming.{does_named, answers_named}
 use Rattle.et_sound.proofs.Ticking.{does_tick, answers_tick}
 use Rattle.et_parts.proofs.Running.{has_frame_there}
 use Rattle.et_sound.proofs.PlainStanding.{place_sound}
-use Rattle.et_plain.proofs.event.instruction_event.Goals as goal
+use Rattle.et_ops.proofs.event.instruction_event.Goals as goal
 
 pub returns-in_default-clause-event : goal.returns-in_default-clause-event
 returns-in_default-clause-event c =
