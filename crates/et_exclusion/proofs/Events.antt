@@ -9,10 +9,10 @@ use Rattle.et_event.specs.Event.{event}
 use Rattle.et_event.specs.Moments.{Moment, thread_of, frame_of}
 use Rattle.et_event.specs.Sound.{AreSoundFrames, IsSoundFor}
 use Rattle.et_sound.proofs.Frames.{RunsSome, runs_some, with_first}
-use Rattle.et_steady.specs.Programs.{MayRun}
-use Rattle.et_steady.proofs.Arrays.{names_class}
-use Rattle.et_steady.proofs.Entering.{StandsIn, stands_in}
-use Rattle.et_steady.proofs.Turning.{parts, some_frame, runs_by}
+use Rattle.et_sound.specs.SteadyPrograms.{MayRun}
+use Rattle.et_sound.proofs.Arrays.{names_class}
+use Rattle.et_sound.proofs.Entering.{StandsIn, stands_in}
+use Rattle.et_sound.proofs.Turning.{parts, some_frame, runs_by}
 use Rattle.et_exclusion.specs.Changing.{KeepsMonitors}
 use Rattle.et_exclusion.proofs.Turns.{HasDimensions, turn_keeps}
 use Rattle.et_exclusion.proofs.Ways.{Knows}

@@ -29,7 +29,7 @@ use Rattle.et_state.specs.Sound.{IsSound}
 use Rattle.et_sound.specs.Outcomes.{KeepsSound}
 use Rattle.et_sound.specs.WellFormed.{IsThere}
 use Rattle.et_sound.proofs.Growing.{free_is_sound}
-use Rattle.et_steady.proofs.Turning.{event_sound}
+use Rattle.et_sound.proofs.Turning.{event_sound}
 use Rattle.et_begin.proofs.Flushing.{sound_left}
 use Rattle.et_guest.specs.Guests.{IsSoundRun}
 use Rattle.et_guest.specs.Histories.{unended_of, flushed_of}

@@ -23,3 +23,15 @@ pub mod Sounding
 pub mod Naming
 pub mod Ticking
 pub mod PlainStanding
+pub mod Resolving
+pub mod Arguments
+pub mod Entering
+pub mod Calling
+pub mod BuiltIns
+pub mod Initialized
+pub mod Invoking
+pub mod Returning
+pub mod Beginning
+pub mod Arrays
+pub mod Instructions
+pub mod Turning

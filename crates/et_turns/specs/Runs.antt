@@ -2,7 +2,7 @@
 use Rattle.et_program.specs.Entries.{Linked}
 use Rattle.et_initialize.specs.Programs.{IsInOrder}
 use Rattle.et_refs.specs.Slots.{AreElementsWithin}
-use Rattle.et_steady.specs.Programs.{MayRun}
+use Rattle.et_sound.specs.SteadyPrograms.{MayRun}
 use Rattle.et_throw.specs.Interfaces.{KnowsInterfaces}
 
 pub record IsRunnable (p : Linked) : Type 0 where

@@ -1,0 +1,313 @@
+-- The built-in methods without code.
+use Rattle.std.proofs.Common.{◌≡◌, ℕ, ◌+◌, ◌<◌, ◌≤◌, Bool, true, false, List, [], ◌∷◌, ◌++◌, length, drop, Option, Some, None, refl, sym, ◌∙◌, ap, subst, inr, arith, get_or-set_same}
+use Rattle.std.specs.Prelude.{nat_le, nat_lt, codes, find, if◌then◌else◌, option_map}
+use Rattle.std.specs.List.{list_all}
+use Rattle.std.specs.Str.{bytes_eq}
+use Rattle.std.proofs.lemmas.Bool.{and_parts, leb-true, ltb-true, false≢true}
+use Rattle.std.proofs.lemmas.List.{length-append, length-set}
+use Rattle.std.proofs.lemmas.Slice.Eq.{bytes_eq-Decides}
+use Rattle.et_base.specs.declared.value.Value.{Value}
+use Rattle.et_base.specs.declared.value.Value.TheVariants.{Unset, Int, Long, LongHigh, Null, Ref}
+use Rattle.et_pool.specs.Descriptors.{MethodType, method_type, types_of, after_dimensions, after_name}
+use Rattle.et_class.specs.Names.{has}
+use Rattle.et_class.specs.declared.flags.TheConstants.{ABSTRACT}
+use Rattle.et_heap.specs.Objects.{ObjectState, IsHeld, object_at, slot_of, with_slot, with_referent, with_object_at, is_there, at, found}
+use Rattle.et_heap.proofs.HeapLists.{held_within}
+use Rattle.et_program.specs.Entries.{Linked, field_at}
+use Rattle.et_program.specs.Members.{is_subclass}
+use Rattle.et_program.specs.declared.info.MethodInfo.{MethodInfo}
+use Rattle.et_state.specs.Threads.{FrameState, most_threads, thread_with}
+use Rattle.et_state.specs.State.{Kept}
+use Rattle.et_state.specs.Outcome.{Outcome}
+use Rattle.et_event.specs.declared.rows.BuiltIn.{BuiltIn}
+use Rattle.et_event.specs.declared.rows.Operand.TheVariants as operand
+use Rattle.et_event.specs.declared.rows.BuiltIn.TheVariants as built_in
+use Rattle.et_event.specs.declared.errors.GuestError.TheVariants.{AbstractMethodError, IllegalThreadStateException, OutOfMemoryError}
+use Rattle.et_event.specs.BuiltIns.{built_ins, is_called, built_in_of, argument, answering, reference_in, with_referent_of, reference_of, starts, with_thread_for, has_ended, is_object_of, built_in_row, done_by, built_in_event}
+use Rattle.et_event.specs.Calls.{begin_with, is_empty, are_arguments}
+use Rattle.et_event.specs.Checks.{value_of, ill_typed_unless}
+use Rattle.et_event.specs.Errors.{class_called}
+use Rattle.et_event.specs.Frames.{first_reference}
+use Rattle.et_event.specs.Kinds.{kind_of, returned_width}
+use Rattle.et_event.specs.Moments.{Moment, Doing, frame_of, begins, class_of, slot_written, goes, fits}
+use Rattle.et_event.specs.Sites.{Site}
+use Rattle.et_event.specs.Sound.{is_of_kind, returned_of}
+use Rattle.et_sound.specs.Outcomes.{KeepsSound}
+use Rattle.et_sound.specs.Programs.{KeepsFree, KeepFree, IsTarget, KeepsTarget}
+use Rattle.et_sound.specs.WellFormed.{IsWellFormed, IsGoing, KeepsFrame, StandsAt, MayHold}
+use Rattle.et_sound.proofs.Fields.{going}
+use Rattle.et_sound.proofs.Monitors.{started_well}
+use Rattle.et_sound.proofs.Objects.{heap_now, object_is_sound}
+use Rattle.et_sound.proofs.Outcomes.{goes_sound, throws_sound, unless_ill_typed, unless_thrown, unless_waiting}
+use Rattle.et_sound.proofs.Slots.{slot_well, slot_fits, referent_well, fits_still, updated_state}
+use Rattle.et_sound.specs.SteadyPrograms.{MayRun}
+use Rattle.et_sound.proofs.Entering.{framed_going}
+
+-- WHICH ONE: what it gives has room where its descriptor says that it returns it
+
+-- how many entries it gives
+abbrev given : BuiltIn → ℕ
+given built_in.Nothing = 0
+given built_in.SetMessage = 0
+given built_in.SetMessageAndCause = 0
+given built_in.GetMessage = 1
+given built_in.GetCause = 1
+given built_in.SetTarget = 0
+given built_in.Start = 0
+given built_in.Join = 0
+given built_in.SetReferent = 0
+given built_in.GetReferent = 1
+given built_in.ClearReferent = 0
+
+abbrev with_descriptor : List ℕ → MethodInfo
+with_descriptor descriptor = record { class = 0; name = []; descriptor = descriptor; flags = 0; code = None; deferred = false }
+
+abbrev is_given : List ℕ × List ℕ × BuiltIn → Bool
+is_given row = nat_le (given row.2) (returned_width (returned_of (with_descriptor row.1)))
+
+all_given : list_all is_given built_ins ≡ true
+unfolding types_of after_dimensions after_name
+all_given = refl
+
+-- it may give nothing
+no_entries : (b : BuiltIn) → 0 ≤ given b
+no_entries b = omega arith
+
+none_some : (b : BuiltIn) (o : Option BuiltIn) → o ≡ None → o ≡ Some b → ⊥
+none_some b o x y = cc
+
+some_same : (a b : BuiltIn) → Some a ≡ Some b → a ≡ b
+some_same a b e = cc
+
+given_by : (m : MethodInfo) (b : BuiltIn) (rows : List (List ℕ × List ℕ × BuiltIn)) → list_all is_given rows ≡ true → option_map (λ (row : List ℕ × List ℕ × BuiltIn). row.2) (find (is_called m) rows) ≡ Some b → given b ≤ returned_width (returned_of m)
+given_by m b [] all e = absurd (none_some b None refl e)
+given_by m b (row ∷ rows) all e = by (is_called m row) refl e (given_by m b rows parts.1)
+  where
+    parts : (is_given row ≡ true) × (list_all is_given rows ≡ true)
+    parts = and_parts (is_given row) (list_all is_given rows) all
+
+    by : (x : Bool) → is_called m row ≡ x → option_map (λ (r : List ℕ × List ℕ × BuiltIn). r.2) (if x then Some row else find (is_called m) rows) ≡ Some b
+        → (option_map (λ (r : List ℕ × List ℕ × BuiltIn). r.2) (find (is_called m) rows) ≡ Some b → given b ≤ returned_width (returned_of m)) → given b ≤ returned_width (returned_of m)
+    by true is q more =
+        let type : row.1 ≡ m.descriptor = (bytes_eq-Decides row.1 m.descriptor).0 (and_parts (bytes_eq row.0 m.name) (bytes_eq row.1 m.descriptor) is).1 in
+        let few : given row.2 ≤ returned_width (returned_of (with_descriptor row.1)) = leb-true (given row.2) (returned_width (returned_of (with_descriptor row.1))) parts.0 in
+        let same : row.2 ≡ b = some_same row.2 b q in
+        subst (λ (k : BuiltIn). given k ≤ returned_width (returned_of m)) same (subst (λ (d : List ℕ). given row.2 ≤ returned_width (returned_of (with_descriptor d))) type few)
+    by false is q more = more q
+
+pub gives : (m : MethodInfo) (b : BuiltIn) → built_in_of m ≡ Some b → given b ≤ returned_width (returned_of m)
+gives m b e = by (has m.flags ABSTRACT) e
+  where
+    by : (x : Bool) → (if x then None else option_map (λ (row : List ℕ × List ℕ × BuiltIn). row.2) (find (is_called m) built_ins)) ≡ Some b → given b ≤ returned_width (returned_of m)
+    by true q = absurd (none_some b None refl q)
+    by false q = given_by m b built_ins all_given q
+
+-- .. and the second argument of what sets a target is a reference
+
+abbrev sets_target : BuiltIn → Bool
+sets_target built_in.SetTarget = true
+sets_target other = false
+
+abbrev target_type : List ℕ
+target_type = codes "(Ljava/lang/Runnable;)V"
+
+abbrev is_target : List ℕ × List ℕ × BuiltIn → Bool
+is_target row = if sets_target row.2 then bytes_eq row.1 target_type else true
+
+all_targets : list_all is_target built_ins ≡ true
+all_targets = refl
+
+type_if : (b : BuiltIn) (descriptor : List ℕ) → (if sets_target b then bytes_eq descriptor target_type else true) ≡ true → b ≡ built_in.SetTarget → descriptor ≡ target_type
+type_if b descriptor e is = (bytes_eq-Decides descriptor target_type).0 (subst (λ (k : BuiltIn). (if sets_target k then bytes_eq descriptor target_type else true) ≡ true) is e)
+
+targeted_by : (m : MethodInfo) (rows : List (List ℕ × List ℕ × BuiltIn)) → list_all is_target rows ≡ true → option_map (λ (row : List ℕ × List ℕ × BuiltIn). row.2) (find (is_called m) rows) ≡ Some built_in.SetTarget → m.descriptor ≡ target_type
+targeted_by m [] all e = absurd (none_some built_in.SetTarget None refl e)
+targeted_by m (row ∷ rows) all e = by (is_called m row) refl e (targeted_by m rows parts.1)
+  where
+    parts : (is_target row ≡ true) × (list_all is_target rows ≡ true)
+    parts = and_parts (is_target row) (list_all is_target rows) all
+
+    by : (x : Bool) → is_called m row ≡ x → option_map (λ (r : List ℕ × List ℕ × BuiltIn). r.2) (if x then Some row else find (is_called m) rows) ≡ Some built_in.SetTarget
+        → (option_map (λ (r : List ℕ × List ℕ × BuiltIn). r.2) (find (is_called m) rows) ≡ Some built_in.SetTarget → m.descriptor ≡ target_type) → m.descriptor ≡ target_type
+    by true is q more = sym ((bytes_eq-Decides row.1 m.descriptor).0 (and_parts (bytes_eq row.0 m.name) (bytes_eq row.1 m.descriptor) is).1) ∙ type_if row.2 row.1 parts.0 (some_same row.2 built_in.SetTarget q)
+    by false is q more = more q
+
+targets : (m : MethodInfo) → built_in_of m ≡ Some built_in.SetTarget → m.descriptor ≡ target_type
+targets m e = by (has m.flags ABSTRACT) e
+  where
+    by : (x : Bool) → (if x then None else option_map (λ (row : List ℕ × List ℕ × BuiltIn). row.2) (find (is_called m) built_ins)) ≡ Some built_in.SetTarget → m.descriptor ≡ target_type
+    by true q = absurd (none_some built_in.SetTarget None refl q)
+    by false q = targeted_by m built_ins all_targets q
+
+target_typed : method_type target_type ≡ Some (record { parameters = codes "Ljava/lang/Runnable;" ∷ []; returned = codes "V" })
+unfolding types_of after_dimensions after_name
+target_typed = refl
+
+same_type : (a b : MethodType) → Some a ≡ Some b → a ≡ b
+same_type a b e = cc
+
+abbrev IsReference : Value → Type 0
+IsReference v = is_of_kind (Some operand.Reference) v ≡ true
+
+behind_receiver : (vs : List Value) → begin_with (Some operand.Reference) is_empty vs ≡ true → (v : Value) → IsReference (argument (v ∷ vs) 1)
+behind_receiver [] e v = absurd (false≢true e)
+behind_receiver (Unset ∷ vs) e v = refl
+behind_receiver (Int n ∷ vs) e v = absurd (false≢true e)
+behind_receiver (Long n ∷ vs) e v = absurd (false≢true e)
+behind_receiver (LongHigh ∷ vs) e v = absurd (false≢true e)
+behind_receiver (Null ∷ vs) e v = refl
+behind_receiver (Ref o ∷ vs) e v = refl
+
+second_reference : (vs : List Value) → begin_with (Some operand.Reference) (begin_with (Some operand.Reference) is_empty) vs ≡ true → IsReference (argument vs 1)
+second_reference [] e = absurd (false≢true e)
+second_reference (Unset ∷ vs) e = absurd (false≢true e)
+second_reference (Int n ∷ vs) e = absurd (false≢true e)
+second_reference (Long n ∷ vs) e = absurd (false≢true e)
+second_reference (LongHigh ∷ vs) e = absurd (false≢true e)
+second_reference (Null ∷ vs) e = behind_receiver vs e Null
+second_reference (Ref o ∷ vs) e = behind_receiver vs e (Ref o)
+
+target_reference : (m : MethodInfo) (type : MethodType) (arguments : List Value) → method_type m.descriptor ≡ Some type → are_arguments false type arguments ≡ true → (b : BuiltIn) → built_in_of m ≡ Some b → b ≡ built_in.SetTarget → IsReference (argument arguments 1)
+target_reference m type arguments typed are b is target =
+    let descriptor : m.descriptor ≡ target_type = targets m (is ∙ ap (λ (k : BuiltIn). Some k) target) in
+    let same : type ≡ record { parameters = codes "Ljava/lang/Runnable;" ∷ []; returned = codes "V" } = same_type type (record { parameters = codes "Ljava/lang/Runnable;" ∷ []; returned = codes "V" }) (sym typed ∙ (ap method_type descriptor ∙ target_typed)) in
+    second_reference arguments (subst (λ (t : MethodType). are_arguments false t arguments ≡ true) same are)
+
+-- THE SLOTS THAT THE MACHINE USES may hold any value
+
+free_holds : (p : Linked) (name : List ℕ) (count c i : ℕ) (v : Value) → KeepFree p name count → c < length p.classes → is_subclass p c (class_called p name) ≡ true → i < count → MayHold p c i v
+free_holds p name count c i v free lt below small =
+    let k : KeepsFree p c count = free c lt below in
+    record {
+      fields = λ f within instance under e. absurd (not_there (field_at p f).slot (k.free f (record { within = within; instance = instance; below = under })) e);
+      elements = inr k.bare;
+    }
+  where
+    not_there : (slot : ℕ) → count ≤ slot → slot ≡ i → ⊥
+    not_there slot le e = omega arith
+
+-- .. and that of a target a reference
+target_holds : (p : Linked) (c : ℕ) (v : Value) → MayRun p → c < length p.classes → is_subclass p c (class_called p (codes "java/lang/Thread")) ≡ true → IsReference v → MayHold p c 0 v
+target_holds p c v may lt below reference =
+    let k : KeepsTarget p c = may.machine_slots.threads c lt below in
+    record {
+      fields = λ f within instance under e.
+          let first : (field_at p f).slot < 1 = omega (arith, e) in
+          let is : IsTarget p f = k.target f (record { within = within; instance = instance; below = under }) first in
+          subst (λ (d : List ℕ). is_of_kind (kind_of d) v ≡ true) (sym is.descriptor) reference;
+      elements = inr k.bare;
+    }
+
+-- WHAT A BUILT-IN METHOD DOES
+
+-- it is called on this object, and what it gives has room
+pub record IsBuiltIn (e : Moment) (at : Site) (arguments : List Value) (o : ℕ) (b : BuiltIn) : Type 0 where
+  pub here : StandsAt e at
+  pub run : MayRun e.program
+  pub held : IsHeld e.before.heap o
+  pub room : length (drop (length arguments) (frame_of e).operands) + given b ≤ (frame_of e).room
+  pub target : b ≡ built_in.SetTarget → IsReference (argument arguments 1)
+
+-- A SLOT OF THE OBJECT IS WRITTEN
+
+record IsAfter (p : Linked) (o c : ℕ) (x : Doing) : Type 0 where
+  well : IsWellFormed p x.state
+  held : IsHeld x.state.heap o
+  class : class_of x o ≡ c
+  fitting : fits x.state.heap ≡ true
+
+written : (e : Moment) (o i : ℕ) (v : Value) (d : Doing) → IsWellFormed e.program d.state → IsHeld d.state.heap o → fits d.state.heap ≡ true → MayHold e.program (class_of d o) i v → IsAfter e.program o (class_of d o) (slot_written e o i v d)
+written e o i v d h held fit may =
+    let x : ObjectState = object_at d.state.heap o in
+    let next : Doing = record { state = heap_now d.state (with_object_at d.state.heap o (with_slot i v x)); records = d.records } in
+    let same : (slot_written e o i v d).state ≡ next.state = updated_state e o i (slot_of x i) v next in
+    let there : at (with_object_at d.state.heap o (with_slot i v x)) o ≡ Some (with_slot i v x) = get_or-set_same d.state.heap o (Some (with_slot i v x)) None (held_within d.state.heap o held) in
+    record {
+      well = slot_well e.program e o i v d h held may;
+      held = subst (λ (s : Kept). IsHeld s.heap o) (sym same) (subst (λ (y : Option ObjectState). is_there y) (sym there) tt);
+      class = ap (λ (s : Kept). (object_at s.heap o).class) same ∙ ap (λ (y : Option ObjectState). (found y).class) there;
+      fitting = slot_fits e o i v d held fit;
+    }
+
+module _ (e : Moment) (at : Site) (arguments : List Value) (o : ℕ) where
+  -- the frame goes on behind the call
+  going_on : (b : BuiltIn) (values : List Value) → IsBuiltIn e at arguments o b → length values ≤ given b → IsGoing e (answering e at arguments values (begins e))
+  going_on b values is few =
+      let f : FrameState = record (frame_of e) { pc = at.next; operands = values ++ drop (length arguments) (frame_of e).operands } in
+      let keeps : KeepsFrame e.program (frame_of e) f = record { same = refl; runs = is.here.runs; pc = is.here.next; locals = refl; operands = omega (arith, length-append values (drop (length arguments) (frame_of e).operands), is.room) } in
+      framed_going e at f (begins e) is.here keeps (going e at is.here).well refl
+
+  answers : (b : BuiltIn) (values : List Value) → IsBuiltIn e at arguments o b → length values ≤ given b → KeepsSound e.program (goes (answering e at arguments values (begins e)))
+  answers b values is few = goes_sound e.program (answering e at arguments values (begins e)) is.here.sound.fits (going_on b values is few).well
+
+  class_within : (b : BuiltIn) → IsBuiltIn e at arguments o b → class_of (begins e) o < length e.program.classes
+  class_within b is = (object_is_sound e.program (begins e).state o (going e at is.here).well is.held).0.class
+
+  -- it is of this class
+  on_class : (name : List ℕ) (go : Outcome Kept) → (is_subclass e.program (class_of (begins e) o) (class_called e.program name) ≡ true → KeepsSound e.program go) → KeepsSound e.program (ill_typed_unless e (is_object_of e (begins e) o name) go)
+  on_class name go h = unless_ill_typed e.program e (is_subclass e.program (class_of (begins e) o) (class_called e.program name)) go h
+
+  -- a slot is written that the machine uses
+  writes : (b : BuiltIn) (name : List ℕ) (count i : ℕ) (v : Value) → IsBuiltIn e at arguments o b → KeepFree e.program name count → is_subclass e.program (class_of (begins e) o) (class_called e.program name) ≡ true → i < count
+      → IsAfter e.program o (class_of (begins e) o) (slot_written e o i v (answering e at arguments [] (begins e)))
+  writes b name count i v is free below small =
+      written e o i v (answering e at arguments [] (begins e)) (going_on b [] is (no_entries b)).well is.held is.here.sound.fits (free_holds e.program name count (class_of (begins e) o) i v free (class_within b is) below small)
+
+  starting : IsBuiltIn e at arguments o built_in.Start → is_subclass e.program (class_of (begins e) o) (class_called e.program (codes "java/lang/Thread")) ≡ true → (k : Option ℕ)
+      → KeepsSound e.program (starts e (begins e) o (goes (with_thread_for o (answering e at arguments [] (begins e)))) k)
+  starting is below (Some k) = throws_sound e IllegalThreadStateException (begins e) is.run.makes (going e at is.here)
+  starting is below None =
+      unless_thrown e (begins e) OutOfMemoryError (nat_lt (length e.before.guest.threads) most_threads) _ is.run.makes (going e at is.here) (λ few.
+      let d : Doing = answering e at arguments [] (begins e) in
+      let n : length d.state.guest.threads ≡ length e.before.guest.threads = length-set e.before.guest.threads e.thread _ in
+      let less : length e.before.guest.threads < most_threads = ltb-true (length e.before.guest.threads) most_threads few in
+      let started : e.thread < length e.before.guest.threads = is.here.frame.thread in
+      goes_sound e.program (with_thread_for o d) is.here.sound.fits
+      (started_well e.program o d (going_on built_in.Start [] is (no_entries built_in.Start)).well is.held below (omega arith) (subst (λ (k : ℕ). k < most_threads) (sym n) less)))
+
+  referring : (b : BuiltIn) (r : Option ℕ) → IsBuiltIn e at arguments o b → KeepsSound e.program (goes (with_referent_of o r (answering e at arguments [] (begins e))))
+  referring b r is =
+      let d : Doing = answering e at arguments [] (begins e) in
+      goes_sound e.program (with_referent_of o r d) (fits_still e.before.heap o (with_referent r (object_at e.before.heap o)) is.held refl is.here.sound.fits) (referent_well e.program o r d (going_on b [] is (no_entries b)).well is.held)
+
+  pub row_sound : (b : BuiltIn) → IsBuiltIn e at arguments o b → KeepsSound e.program (built_in_row e at (begins e) arguments o b)
+  row_sound built_in.Nothing is = answers built_in.Nothing [] is (no_entries built_in.Nothing)
+  row_sound built_in.SetMessage is =
+      on_class (codes "java/lang/Throwable") _ (λ below.
+      let x : IsAfter e.program o (class_of (begins e) o) (slot_written e o 0 (argument arguments 1) (answering e at arguments [] (begins e))) = writes built_in.SetMessage (codes "java/lang/Throwable") 2 0 (argument arguments 1) is is.run.machine_slots.throwables below (omega arith) in
+      goes_sound e.program (slot_written e o 0 (argument arguments 1) (answering e at arguments [] (begins e))) x.fitting x.well)
+  row_sound built_in.SetMessageAndCause is =
+      on_class (codes "java/lang/Throwable") _ (λ below.
+      let d : Doing = slot_written e o 0 (argument arguments 1) (answering e at arguments [] (begins e)) in
+      let x : IsAfter e.program o (class_of (begins e) o) d = writes built_in.SetMessageAndCause (codes "java/lang/Throwable") 2 0 (argument arguments 1) is is.run.machine_slots.throwables below (omega arith) in
+      let holds : MayHold e.program (class_of (begins e) o) 1 (argument arguments 2) =
+      free_holds e.program (codes "java/lang/Throwable") 2 (class_of (begins e) o) 1 (argument arguments 2) is.run.machine_slots.throwables (class_within built_in.SetMessageAndCause is) below (omega arith) in
+      let y : IsAfter e.program o (class_of d o) (slot_written e o 1 (argument arguments 2) d) = written e o 1 (argument arguments 2) d x.well x.held x.fitting (subst (λ (c : ℕ). MayHold e.program c 1 (argument arguments 2)) (sym x.class) holds) in
+      goes_sound e.program (slot_written e o 1 (argument arguments 2) d) y.fitting y.well)
+  row_sound built_in.GetMessage is = on_class (codes "java/lang/Throwable") _ (λ below. answers built_in.GetMessage (reference_in (begins e) o 0 ∷ []) is (omega arith))
+  row_sound built_in.GetCause is = on_class (codes "java/lang/Throwable") _ (λ below. answers built_in.GetCause (reference_in (begins e) o 1 ∷ []) is (omega arith))
+  row_sound built_in.SetTarget is =
+      on_class (codes "java/lang/Thread") _ (λ below.
+      let v : Value = argument arguments 1 in
+      let holds : MayHold e.program (class_of (begins e) o) 0 v = target_holds e.program (class_of (begins e) o) v is.run (class_within built_in.SetTarget is) below (is.target refl) in
+      let x : IsAfter e.program o (class_of (begins e) o) (slot_written e o 0 v (answering e at arguments [] (begins e))) =
+      written e o 0 v (answering e at arguments [] (begins e)) (going_on built_in.SetTarget [] is (no_entries built_in.SetTarget)).well is.held is.here.sound.fits holds in
+      goes_sound e.program (slot_written e o 0 v (answering e at arguments [] (begins e))) x.fitting x.well)
+  row_sound built_in.Start is = on_class (codes "java/lang/Thread") _ (λ below. starting is below (thread_with e.before.guest.threads o))
+  row_sound built_in.Join is =
+      unless_waiting e.program e (has_ended (begins e) (thread_with e.before.guest.threads o)) _ is.here.sound is.here.clock (λ ended. answers built_in.Join [] is (no_entries built_in.Join))
+  row_sound built_in.SetReferent is = referring built_in.SetReferent (reference_of (argument arguments 1)) is
+  row_sound built_in.GetReferent is = answers built_in.GetReferent (value_of (object_at e.before.heap o).referent ∷ []) is (omega arith)
+  row_sound built_in.ClearReferent is = referring built_in.ClearReferent None is
+
+-- THE EVENT of a selected method without code
+pub built_in_sound : (e : Moment) (at : Site) (arguments : List Value) (m : MethodInfo) (type : MethodType) → StandsAt e at → MayRun e.program → ((o : ℕ) → first_reference arguments ≡ Some o → IsHeld e.before.heap o)
+    → method_type m.descriptor ≡ Some type → are_arguments false type arguments ≡ true → length (drop (length arguments) (frame_of e).operands) + returned_width (returned_of m) ≤ (frame_of e).room → KeepsSound e.program (built_in_event e at (begins e) arguments m)
+built_in_sound e at arguments m type here run held typed are room = by (first_reference arguments) (built_in_of m) held (λ b is. gives m b is) (target_reference m type arguments typed are)
+  where
+    by : (r : Option ℕ) (b : Option BuiltIn) → ((o : ℕ) → r ≡ Some o → IsHeld e.before.heap o) → ((k : BuiltIn) → b ≡ Some k → given k ≤ returned_width (returned_of m)) → ((k : BuiltIn) → b ≡ Some k → k ≡ built_in.SetTarget → IsReference (argument arguments 1))
+        → KeepsSound e.program (done_by e at (begins e) arguments r b)
+    by None None there few target = throws_sound e AbstractMethodError (begins e) run.makes (going e at here)
+    by None (Some b) there few target = throws_sound e AbstractMethodError (begins e) run.makes (going e at here)
+    by (Some o) None there few target = throws_sound e AbstractMethodError (begins e) run.makes (going e at here)
+    by (Some o) (Some b) there few target = row_sound e at arguments o b (record { here = here; run = run; held = there o refl; room = omega (arith, few b refl, room); target = target b refl })
