@@ -2,3 +2,9 @@ pub mod Refusals
 pub mod Changes
 pub mod Slots
 pub mod Rows
+pub mod Counts
+pub mod Legal
+pub mod Filling
+pub mod Events
+pub mod Accesses
+pub mod ClassRows

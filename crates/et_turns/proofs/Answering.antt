@@ -10,7 +10,7 @@ use Rattle.et_event.specs.declared.rows.HeapRow.TheVariants as row
 use Rattle.et_event.specs.declared.rows.Row.{Row}
 use Rattle.et_event.specs.PlainRows.{is_plain, PlainAnswers}
 use Rattle.et_refs.specs.Rows.{is_done, HeapAnswers}
-use Rattle.et_statics.specs.Rows.{needs_class, ClassAnswers}
+use Rattle.et_refs.specs.ClassRows.{needs_class, ClassAnswers}
 
 pub both : (b : Bool) → b ≡ true → b ≡ false → ⊥
 both b e f = cc

@@ -12,17 +12,15 @@ ghost use Rattle.et_parts.specs.Places.{IsPlace, site_at};
 ghost use Rattle.et_event.specs.Moments.{moment};
 ghost use Rattle.et_refs.specs.Rows.{is_done as done_by_refs};
 ghost use Rattle.et_refs.specs.Slots.{AreElementsWithin};
-ghost use Rattle.et_statics.specs.Rows.{needs_class as wants_class};
+ghost use Rattle.et_refs.specs.ClassRows.{needs_class as wants_class};
 ghost use Rattle.et_turns.specs.Runs.{IsRunnable};
 
-use et_arrays::multi_array_event;
 use et_base::{NoMemory, Steps, ThreadId};
 use et_event::HeapRow;
 use et_parts::Place;
 use et_program::Program;
-use et_refs::heap_row_event;
+use et_refs::{class_row_event, heap_row_event, multi_array_event};
 use et_state::{EventEnd, Lines, Machine};
-use et_statics::class_row_event;
 use std::alloc::Global;
 use std::sync::ledger::Ledger;
 

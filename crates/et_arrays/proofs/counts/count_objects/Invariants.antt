@@ -1,6 +1,0 @@
-use Rattle.std.proofs.Common.{◌≡◌, ◌-◌, length, drop}
-use Rattle.et_arrays.specs.Counts.{objects_of, naturals_of, capped}
-use Rattle.et_arrays.proofs.counts.count_objects.Given as goal
-
-abbrev pub invariant-loop-k : goal.invariant-loop-k
-invariant-loop-k l = l.objects ≡ capped (objects_of (naturals_of (drop (length l.lengths - l.k) l.lengths)))

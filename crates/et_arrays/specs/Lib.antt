@@ -1,4 +1,0 @@
-pub mod Counts
-pub mod Legal
-pub mod Filling
-pub mod Events

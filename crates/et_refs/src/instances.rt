@@ -1,0 +1,52 @@
+//! Instances (JVMS 6.5, new).
+ghost use Rattle.std.specs.Prelude.{◌≡◌, ◌<◌, ◌^◌, length, IfOk};
+ghost use Rattle.et_state.specs.Words.{HasFrame, top};
+ghost use Rattle.et_event.specs.Heap.{may_be_made as may_make, new_instance};
+ghost use Rattle.et_event.specs.Sites.{natural};
+ghost use Rattle.et_parts.specs.Places.{site_at};
+ghost use Rattle.et_event.specs.Moments.{moment};
+ghost use Rattle.et_refs.specs.Refusals.{decided};
+ghost use Rattle.et_refs.specs.Accesses.{MayWant, wanted};
+
+use crate::accesses::{Access, Wanted};
+use crate::casts::class_named;
+use crate::checks::{resolve, throws_unless};
+use crate::refusals::Refusal;
+use crate::static_fields::width_fits;
+use et_base::{ClassId, ThreadId};
+use et_class::flags::{ABSTRACT, INTERFACE, has};
+use et_event::GuestError;
+use et_parts::Place;
+use et_program::Program;
+use et_state::Machine;
+
+/// Whether a class is neither an interface nor abstract.
+fn may_be_made(program: &Program, class: ClassId) -> bool
+    requires { class < length program.now.classes }
+    ensures { result ≡ may_make program.now class }
+{
+    let flags = program.class(class).flags;
+    !(has(flags, INTERFACE) || has(flags, ABSTRACT))
+}
+
+/// What `new` wants.
+pub(crate) fn new_object(
+    program: &Program,
+    machine: &Machine,
+    thread: ThreadId,
+    place: &Place<'_>,
+) -> Result<Wanted, Refusal>
+    requires frame { HasFrame machine.now.guest thread }
+    requires index { natural place.now.instr.first < 2 ^ 16 }
+    ensures is { new_instance (moment program.now machine.now thread) (site_at place.now) ≡ decided (moment program.now machine.now thread) result (wanted (moment program.now machine.now thread) (site_at place.now)) }
+    ensures may { IfOk result (λ x. MayWant program.now (top machine.now.guest thread) x) }
+{
+    let name = class_named(place)?;
+    width_fits(machine, thread, 1)?;
+    let class = resolve(program, name)?;
+    throws_unless(GuestError::InstantiationError, may_be_made(program, class))?;
+    Ok(Wanted {
+        class,
+        access: Access::Make,
+    })
+}

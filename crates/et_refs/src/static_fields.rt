@@ -1,0 +1,118 @@
+//! Static fields (JVMS 6.5, getstatic, putstatic).
+ghost use Rattle.std.specs.Prelude.{◌≡◌, ℕ, ◌+◌, ◌<◌, ◌≤◌, ◌^◌, length, nat_le, IfOk, OnOk};
+ghost use Rattle.et_state.specs.State.{Kept, kept_of};
+ghost use Rattle.et_state.specs.Words.{HasFrame, top};
+ghost use Rattle.et_state.specs.Outcome.{Outcome};
+ghost use Rattle.et_event.specs.declared.errors.GuestError.TheVariants.{IncompatibleClassChangeError};
+ghost use Rattle.et_event.specs.Checks.{ill_typed_unless as ill_unless, throws_unless as throwing_unless};
+ghost use Rattle.et_event.specs.Heap.{resolved_field, is_static_field, get_static, put_static};
+ghost use Rattle.et_event.specs.Moments.{Moment, moment, begins};
+ghost use Rattle.et_event.specs.Sites.{natural};
+ghost use Rattle.et_event.specs.Sound.{IsSoundFor};
+ghost use Rattle.et_parts.specs.Members.{shown_member};
+ghost use Rattle.et_parts.specs.Places.{site_at};
+ghost use Rattle.et_refs.specs.Refusals.{decided};
+ghost use Rattle.et_sound.specs.Programs.{HasSlots};
+ghost use Rattle.et_refs.specs.Accesses.{IsStaticField, MayWant, wanted};
+
+use crate::accesses::{Access, Read, Wanted, Write};
+use crate::checks::{ill_typed_unless, resolve, throws_unless};
+use crate::fields::{field_named, resolve_field};
+use crate::kinds::{kind_of, narrowed, width_of};
+use crate::operands::take_typed;
+use crate::refusals::Refusal;
+use et_base::{FieldId, ThreadId};
+use et_class::flags::{STATIC, has};
+use et_event::GuestError;
+use et_parts::{MemberAt, Place};
+use et_program::Program;
+use et_state::Machine;
+
+/// Whether so many entries fit on top.
+fn fits(machine: &Machine, thread: ThreadId, width: u32) -> bool
+    requires frame { HasFrame machine.now.guest thread }
+    requires small { width ≤ 2 }
+    ensures { result ≡ nat_le (width + length (top machine.now.guest thread).operands) (top machine.now.guest thread).room }
+{
+    let room = machine.room(thread) as u32;
+    width + machine.depth(thread) <= room
+}
+
+/// The event has no meaning unless so many entries fit on top.
+pub(crate) fn width_fits(machine: &Machine, thread: ThreadId, width: u32) -> Result<(), Refusal>
+    requires frame { HasFrame machine.now.guest thread }
+    requires small { width ≤ 2 }
+    ensures is { (e : Moment) (go : Outcome Kept) → ill_unless e (nat_le (width + length (top machine.now.guest thread).operands) (top machine.now.guest thread).room) go ≡ decided e result (λ u. go) }
+    ensures fits { OnOk result (width + length (top machine.now.guest thread).operands ≤ (top machine.now.guest thread).room) }
+{
+    ill_typed_unless(fits(machine, thread, width))
+}
+
+/// The static field that an instruction names.
+fn static_field(program: &Program, member: &MemberAt<'_>) -> Result<FieldId, Refusal>
+    ensures is { (s : Kept) (t : ℕ) (go : ℕ → Outcome Kept) →
+        resolved_field (record { program = program.now; before = s; thread = t }) (begins (record { program = program.now; before = s; thread = t })) (shown_member member.now)
+        (λ f. throwing_unless (record { program = program.now; before = s; thread = t }) (begins (record { program = program.now; before = s; thread = t })) IncompatibleClassChangeError (is_static_field program.now f) (go f))
+        ≡ decided (record { program = program.now; before = s; thread = t }) result go }
+    ensures field { IfOk result (λ f. IsStaticField program.now member.now.descriptor.now f) }
+{
+    let owner = resolve(program, member.owner)?;
+    let field = resolve_field(program, owner, member.name, member.descriptor)?;
+    let is_static = has(program.field(field).flags, STATIC);
+    throws_unless(GuestError::IncompatibleClassChangeError, is_static)?;
+    Ok(field)
+}
+
+/// What `getstatic` wants.
+pub(crate) fn read_field(
+    program: &Program,
+    machine: &Machine,
+    thread: ThreadId,
+    place: &Place<'_>,
+) -> Result<Wanted, Refusal>
+    requires program { HasSlots program.now }
+    requires frame { HasFrame machine.now.guest thread }
+    requires index { natural place.now.instr.first < 2 ^ 16 }
+    ensures is { get_static (moment program.now machine.now thread) (site_at place.now) ≡ decided (moment program.now machine.now thread) result (wanted (moment program.now machine.now thread) (site_at place.now)) }
+    ensures may { IfOk result (λ x. MayWant program.now (top machine.now.guest thread) x) }
+{
+    let member = field_named(place)?;
+    width_fits(machine, thread, width_of(member.descriptor))?;
+    let field = static_field(program, &member)?;
+    let info = program.field(field);
+    Ok(Wanted {
+        class: info.class,
+        access: Access::Read(Read {
+            slot: info.slot,
+            kind: kind_of(member.descriptor),
+        }),
+    })
+}
+
+/// What `putstatic` wants.
+pub(crate) fn write_field(
+    program: &Program,
+    machine: &Machine,
+    thread: ThreadId,
+    place: &Place<'_>,
+) -> Result<Wanted, Refusal>
+    requires program { HasSlots program.now }
+    requires frame { HasFrame machine.now.guest thread }
+    requires sound { IsSoundFor program.now (kept_of machine.now) }
+    requires index { natural place.now.instr.first < 2 ^ 16 }
+    ensures is { put_static (moment program.now machine.now thread) (site_at place.now) ≡ decided (moment program.now machine.now thread) result (wanted (moment program.now machine.now thread) (site_at place.now)) }
+    ensures may { IfOk result (λ x. MayWant program.now (top machine.now.guest thread) x) }
+{
+    let member = field_named(place)?;
+    let taken = take_typed(machine, thread, member.descriptor)?;
+    let field = static_field(program, &member)?;
+    let info = program.field(field);
+    Ok(Wanted {
+        class: info.class,
+        access: Access::Write(Write {
+            slot: info.slot,
+            taken: taken.width,
+            value: narrowed(member.descriptor, taken.value),
+        }),
+    })
+}

@@ -1,5 +1,0 @@
-pub mod Leaving
-pub mod Chains
-pub mod Fitting
-pub mod Carrying
-pub mod Quiet
