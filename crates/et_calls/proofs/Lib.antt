@@ -9,3 +9,6 @@ mod Planning
 pub mod Entered
 mod Calling
 mod Choosing
+mod Called
+mod PreparedEntered
+mod Initial

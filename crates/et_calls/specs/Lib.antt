@@ -6,3 +6,4 @@ pub mod Rows
 pub mod Stages
 pub mod Types
 pub mod Ways
+pub mod Prepared

@@ -2,14 +2,17 @@
 #![tactic(auto)]
 
 mod arguments;
+mod calls;
 mod entering;
 mod frames;
 mod plans;
+mod prepared;
 mod returned;
 mod returns;
 mod rows;
 mod types;
 
+pub use calls::call_event;
 pub use entering::{arguments as call_arguments, enter_event, new_frame};
 pub use plans::{CallPlan, invoke_plan};
 pub use rows::{call_row_event, plan_event};

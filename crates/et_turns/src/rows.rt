@@ -14,8 +14,8 @@ ghost use Rattle.et_turns.specs.Runs.{IsRunnable};
 
 use crate::heap::heap_event;
 use et_base::{NoMemory, Steps, ThreadId};
+use et_calls::call_event;
 use et_event::Row;
-use et_invokes::call_event;
 use et_ops::plain_event;
 use et_parts::{Place, ill_typed, place_of};
 use et_program::Program;

@@ -10,8 +10,8 @@ use Rattle.et_event.specs.Answered.{EventAnswers}
 use Rattle.et_event.specs.Moments.{moment, throws}
 use Rattle.et_parts.proofs.Answering.{if_ok}
 use Rattle.et_initialize.proofs.Stepping.{after}
-use Rattle.et_invokes.proofs.Called.{code_called, error_by, none_called}
-use Rattle.et_invokes.proofs.entering.enter_after.Goals as goal
+use Rattle.et_calls.proofs.Called.{code_called, error_by, none_called}
+use Rattle.et_calls.proofs.prepared.enter_after.Goals as goal
 
 pub returns-in-Some-clause-ok : goal.returns-in-Some-clause-ok
 returns-in-Some-clause-ok g c =

@@ -7,9 +7,9 @@ use Rattle.et_event.specs.Initialization.{state_of}
 use Rattle.et_event.specs.Moments.{moment, begins}
 use Rattle.et_initialize.specs.Needs.{need_of}
 use Rattle.et_parts.proofs.Answering.{if_ok}
-use Rattle.et_invokes.proofs.Called.{one_ready}
-use Rattle.et_invokes.proofs.Initial.{begins_answers, loud_need, quiet_answers, quiet_need}
-use Rattle.et_invokes.proofs.calls.initialize_event.Goals as goal
+use Rattle.et_calls.proofs.Called.{one_ready}
+use Rattle.et_calls.proofs.Initial.{begins_answers, loud_need, quiet_answers, quiet_need}
+use Rattle.et_calls.proofs.calls.initialize_event.Goals as goal
 
 pub enter_after-requires-clause-ready : goal.enter_after-requires-clause-ready
 enter_after-requires-clause-ready g c =

@@ -3,8 +3,8 @@ use Rattle.et_parts.specs.Places.{site_at}
 use Rattle.et_event.specs.Calls.{invoke}
 use Rattle.et_parts.proofs.Answering.{if_ok}
 use Rattle.et_calls.specs.declared.plans.CallPlan.TheVariants.{Initializes}
-use Rattle.et_invokes.proofs.Initial.{never_left, same_plan}
-use Rattle.et_invokes.proofs.calls.invoke_event.Goals as goal
+use Rattle.et_calls.proofs.Initial.{never_left, same_plan}
+use Rattle.et_calls.proofs.calls.invoke_event.Goals as goal
 use Rattle.et_event.specs.Moments.{moment}
 
 pub plain_event-requires-clause-plain : goal.plain_event-requires-clause-plain

@@ -2,8 +2,8 @@ use Rattle.std.proofs.Common.{refl}
 use Rattle.et_parts.specs.Places.{site_at}
 use Rattle.et_calls.specs.Plans.{planned}
 use Rattle.et_calls.specs.Rows.{is_left}
-use Rattle.et_invokes.proofs.Initial.{not_none, plain_answers}
-use Rattle.et_invokes.proofs.calls.plain_event.Goals as goal
+use Rattle.et_calls.proofs.Initial.{not_none, plain_answers}
+use Rattle.et_calls.proofs.calls.plain_event.Goals as goal
 use Rattle.et_event.specs.Moments.{moment}
 
 pub unreachable-requires : goal.unreachable-requires

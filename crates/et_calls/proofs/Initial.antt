@@ -20,7 +20,7 @@ use Rattle.et_calls.specs.Rows.{AnswersUnless, is_left}
 use Rattle.et_initialize.specs.Needs.{need_by, need_of}
 use Rattle.et_initialize.specs.declared.needs.Need.{Need}
 use Rattle.et_initialize.specs.declared.needs.Need.TheVariants.{Quiet, Begins}
-use Rattle.et_invokes.proofs.Called.{one_prepared}
+use Rattle.et_calls.proofs.Called.{one_prepared}
 
 -- WHAT AN UNTOUCHED CLASS NEEDS
 

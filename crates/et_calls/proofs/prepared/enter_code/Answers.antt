@@ -4,8 +4,8 @@ use Rattle.et_program.specs.declared.info.MethodInfo.{MethodInfo}
 use Rattle.et_event.specs.Monitors.{lock_for}
 use Rattle.et_parts.specs.Locks.{locks_of}
 use Rattle.et_parts.proofs.Answering.{if_ok}
-use Rattle.et_invokes.proofs.Entered.{open_after, waits_after}
-use Rattle.et_invokes.proofs.entering.enter_code.Goals as goal
+use Rattle.et_calls.proofs.PreparedEntered.{open_after, waits_after}
+use Rattle.et_calls.proofs.prepared.enter_code.Goals as goal
 
 pub returns-then-not-may_enter_some-clause-ok : goal.returns-then-not-may_enter_some-clause-ok
 returns-then-not-may_enter_some-clause-ok g c =

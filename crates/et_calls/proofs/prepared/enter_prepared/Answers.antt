@@ -7,9 +7,9 @@ use Rattle.et_event.specs.Frames.{method_frame}
 use Rattle.et_parts.specs.Locks.{entering_some, locks_of}
 use Rattle.et_builtins.specs.Arguments.{arguments_in}
 use Rattle.et_initialize.proofs.Stepping.{told_enter}
-use Rattle.et_invokes.specs.Entering.{pushed_on}
-use Rattle.et_invokes.proofs.Entered.{few_lost, prepared_entered, prepared_lock, prepared_top, received}
-use Rattle.et_invokes.proofs.entering.enter_prepared.Goals as goal
+use Rattle.et_calls.specs.Prepared.{pushed_on}
+use Rattle.et_calls.proofs.PreparedEntered.{few_lost, prepared_entered, prepared_lock, prepared_top, received}
+use Rattle.et_calls.proofs.prepared.enter_prepared.Goals as goal
 
 pub push_frame-requires-clause-frame : goal.push_frame-requires-clause-frame
 push_frame-requires-clause-frame g c =

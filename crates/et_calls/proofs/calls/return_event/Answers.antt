@@ -2,8 +2,8 @@ use Rattle.std.proofs.Common.{false, refl}
 use Rattle.et_parts.specs.Places.{site_at}
 use Rattle.et_event.specs.Calls.{call_event}
 use Rattle.et_event.specs.declared.rows.CallRow.TheVariants.{Return}
-use Rattle.et_invokes.proofs.Initial.{not_none, plain_answers}
-use Rattle.et_invokes.proofs.calls.return_event.Goals as goal
+use Rattle.et_calls.proofs.Initial.{not_none, plain_answers}
+use Rattle.et_calls.proofs.calls.return_event.Goals as goal
 use Rattle.et_event.specs.Moments.{moment}
 
 pub unreachable-requires : goal.unreachable-requires

@@ -9,8 +9,8 @@ use Rattle.et_parts.specs.Locks.{locks_of}
 use Rattle.et_parts.proofs.Answering.{if_ok}
 use Rattle.et_initialize.proofs.Counting.{room_fits}
 use Rattle.et_initialize.proofs.Stepping.{after}
-use Rattle.et_invokes.proofs.Entered.{few_after, full_after, prepared_full}
-use Rattle.et_invokes.proofs.entering.enter_free.Goals as goal
+use Rattle.et_calls.proofs.PreparedEntered.{few_after, full_after, prepared_full}
+use Rattle.et_calls.proofs.prepared.enter_free.Goals as goal
 
 pub enter_prepared-requires-clause-fits : goal.enter_prepared-requires-clause-fits
 enter_prepared-requires-clause-fits g c =

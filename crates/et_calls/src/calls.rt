@@ -17,9 +17,10 @@ ghost use Rattle.et_calls.specs.Rows.{is_left};
 ghost use Rattle.et_calls.specs.declared.plans.CallPlan.TheVariants as plans;
 ghost use Rattle.et_initialize.specs.Programs.{IsInOrder};
 
-use crate::entering::enter_after;
+use crate::plans::{CallPlan, invoke_plan};
+use crate::prepared::enter_after;
+use crate::rows::{call_row_event, plan_event};
 use et_base::{MethodId, NoMemory, Steps, ThreadId};
-use et_calls::{CallPlan, call_row_event, invoke_plan, plan_event};
 use et_event::{CallKind, CallRow, Operand};
 use et_initialize::{Need, begin_class_event, need_of};
 use et_parts::Place;

@@ -46,7 +46,7 @@ use Rattle.et_initialize.specs.Programs.{IsInOrder}
 use Rattle.et_initialize.specs.Under.{so_far}
 use Rattle.et_initialize.proofs.Beginning.{strings_led}
 use Rattle.et_initialize.proofs.Stepping.{after, base, base_threads, has_frame_on, made_after, monitors_after, threads_after, top_on}
-use Rattle.et_invokes.specs.Entering.{taken_on, pushed_on}
+use Rattle.et_calls.specs.Prepared.{taken_on, pushed_on}
 
 -- A LOCK OF A STATIC METHOD is that of its class, if it has one
 

@@ -21,11 +21,11 @@ ghost use Rattle.et_event.specs.Sound.{IsSoundFor};
 ghost use Rattle.et_parts.specs.Locks.{HasSome, IsSomeFewTimes, entering_some, locks_of};
 ghost use Rattle.et_sound.specs.Programs.{HasMethods};
 ghost use Rattle.et_initialize.specs.Programs.{IsInOrder};
-ghost use Rattle.et_invokes.specs.Entering.{pushed_on};
+ghost use Rattle.et_calls.specs.Prepared.{pushed_on};
 
+use crate::entering::{arguments as call_arguments, new_frame};
 use et_base::{ClassId, MethodId, NoMemory, Steps, ThreadId};
 use et_builtins::operands_are_few;
-use et_calls::{call_arguments, new_frame};
 use et_class::flags::{NATIVE, has};
 use et_code::Code;
 use et_event::GuestError;

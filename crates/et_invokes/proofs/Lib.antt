@@ -1,3 +1,0 @@
-mod Called
-mod Entered
-mod Initial
