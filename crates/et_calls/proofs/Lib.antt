@@ -12,3 +12,10 @@ mod Choosing
 mod Called
 mod PreparedEntered
 mod Initial
+mod Fresh
+mod Thrown
+mod EntryEntered
+mod EntryComing
+mod Monitors
+mod Quiet
+mod Running

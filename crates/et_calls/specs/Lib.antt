@@ -7,3 +7,6 @@ pub mod Stages
 pub mod Types
 pub mod Ways
 pub mod Prepared
+pub mod EntryEntering
+pub mod Fresh
+pub mod Runs

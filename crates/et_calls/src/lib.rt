@@ -4,6 +4,7 @@
 mod arguments;
 mod calls;
 mod entering;
+mod entry;
 mod frames;
 mod plans;
 mod prepared;
@@ -14,5 +15,6 @@ mod types;
 
 pub use calls::call_event;
 pub use entering::{arguments as call_arguments, enter_event, new_frame};
+pub use entry::entry_event;
 pub use plans::{CallPlan, invoke_plan};
 pub use rows::{call_row_event, plan_event};

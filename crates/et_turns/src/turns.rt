@@ -11,7 +11,7 @@ ghost use Rattle.et_turns.specs.Runs.{IsRunnable};
 
 use crate::rows::instruction_event;
 use et_base::{NoMemory, Steps, ThreadId};
-use et_entry::entry_event;
+use et_calls::entry_event;
 use et_initialize::initialization_event;
 use et_program::Program;
 use et_state::{EventEnd, Lines, Machine, Stage, Turn};

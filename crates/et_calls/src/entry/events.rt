@@ -1,0 +1,46 @@
+//! The turn in which a thread without a frame is entered.
+ghost use Rattle.std.specs.Prelude.{◌≡◌, ◌+◌, ◌<◌, ◌≤◌, ◌^◌, IfOk};
+ghost use Rattle.et_state.specs.declared.stage.Turn.TheVariants as turns;
+ghost use Rattle.et_state.specs.Threads.{turn_of};
+ghost use Rattle.et_state.specs.State.{kept_of};
+ghost use Rattle.et_state.specs.Words.{IsUnended, thread_at};
+ghost use Rattle.et_event.specs.Answered.{EventAnswers};
+ghost use Rattle.et_event.specs.Event.{event};
+ghost use Rattle.et_event.specs.Sound.{IsSoundFor};
+ghost use Rattle.et_sound.specs.Programs.{HasMethods};
+ghost use Rattle.et_initialize.specs.Programs.{IsInOrder};
+
+use crate::entry::mains::main_event;
+use crate::entry::runs::run_event;
+use et_base::{NoMemory, Steps, ThreadId};
+use et_program::Program;
+use et_state::{EventEnd, Lines, Machine};
+use std::alloc::Global;
+use std::sync::ledger::Ledger;
+
+/// The event of a thread without a frame that is entered (JVMS 5.2, 5.5, 2.6): thread 0 enters `main`, and each other thread
+/// calls `run` on its Thread object. It visits four objects at most. After `NoMemory` the event may be half done, and the
+/// machine is not to be used.
+pub fn entry_event<L: Ledger>(
+    alloc: Global,
+    program: &Program,
+    machine: &mut Machine,
+    thread: ThreadId,
+    out: &mut Lines,
+    visits: &mut Steps<L>,
+) -> Result<EventEnd, NoMemory>
+    requires sound { IsSoundFor program.now (kept_of machine.old) }
+    requires clock { machine.old.guest.clock < 2 ^ 40 }
+    requires thread { IsUnended machine.old.guest thread }
+    requires turn { turn_of (thread_at machine.old.guest thread) ≡ turns.Entry }
+    requires order { IsInOrder program.now }
+    requires methods { HasMethods program.now }
+    ensures ok { IfOk result (λ end. EventAnswers (event program.now (kept_of machine.old) thread) end machine.old machine.new out.old out.new) }
+    ensures visits { visits.new ≤ visits.old + 6 }
+{
+    if thread.number() == 0 {
+        main_event(alloc, program, machine, thread, out, visits)
+    } else {
+        run_event(alloc, program, machine, thread, out, visits)
+    }
+}

@@ -1,0 +1,106 @@
+//! The first method of each thread but the first: `run` of its Thread object (JVMS 5.4.3.3, 5.4.6).
+ghost use Rattle.std.specs.Prelude.{◌≡◌, ◌+◌, ◌<◌, ◌≤◌, ◌^◌, codes, IfOk, length};
+ghost use Rattle.et_state.specs.State.{kept_of};
+ghost use Rattle.et_state.specs.Words.{thread_at};
+ghost use Rattle.et_event.specs.Answered.{EventAnswers};
+ghost use Rattle.et_event.specs.Calls.{enters_run};
+ghost use Rattle.et_event.specs.Errors.{class_called};
+ghost use Rattle.et_event.specs.Sound.{IsSoundFor};
+ghost use Rattle.et_event.specs.Moments.{moment};
+ghost use Rattle.et_calls.specs.Fresh.{IsFresh};
+ghost use Rattle.et_calls.specs.Runs.{planned, IsPlan};
+
+use crate::entry::entering::method_event;
+use crate::entry::throws::throw_first;
+use et_base::{ClassId, MethodId, NoMemory, ObjectId, Steps, ThreadId};
+use et_event::GuestError;
+use et_program::Program;
+use et_state::{EventEnd, Lines, Machine};
+use std::alloc::Global;
+use std::sync::ledger::Ledger;
+
+/// What a thread comes to as it is entered.
+#[derive(Clone, Copy, Debug, PartialEq, Eq)]
+pub(crate) enum RunPlan {
+    /// It has no meaning.
+    IllTyped,
+    /// An error is thrown.
+    Throws(GuestError),
+    /// The selected method is entered on the Thread object.
+    Enters { method: MethodId, object: ObjectId },
+}
+
+/// The class `java/lang/Thread`.
+fn thread_class(program: &Program) -> ClassId
+    requires { 0 < length program.now.classes }
+    ensures value { result ≡ class_called program.now (codes "java/lang/Thread") }
+    ensures within { result < length program.now.classes }
+{
+    match program.resolve_class(b"java/lang/Thread") {
+        Ok(class) => class,
+        Err(_) => ClassId::new(0),
+    }
+}
+
+/// What a thread comes to: `run` is resolved in Thread, and selected by the class of its Thread object. It visits one object.
+fn run_plan<L: Ledger>(
+    program: &Program,
+    machine: &Machine,
+    thread: ThreadId,
+    visits: &mut Steps<L>,
+) -> RunPlan
+    requires sound { IsSoundFor program.now (kept_of machine.now) }
+    requires fresh { IsFresh machine.now.guest thread }
+    ensures plan { enters_run (moment program.now machine.now thread) (thread_at machine.now.guest thread).object ≡ planned (moment program.now machine.now thread) result }
+    ensures within { IsPlan (moment program.now machine.now thread) result }
+    ensures visits { visits.new ≤ visits.old + 1 }
+{
+    let Some(object) = machine.object_of(thread) else {
+        return RunPlan::IllTyped;
+    };
+    let method = match program.resolve_method(thread_class(program), false, b"run", b"()V") {
+        Ok(method) => method,
+        Err(error) => return RunPlan::Throws(GuestError::of(error)),
+    };
+    let class = machine.heap.class_of(object, visits);
+    if !program.is_subclass(class, program.method(method).class) {
+        return RunPlan::IllTyped;
+    }
+    match program.select(class, method, false) {
+        Ok(selected) => RunPlan::Enters {
+            method: selected,
+            object,
+        },
+        Err(error) => RunPlan::Throws(GuestError::of(error)),
+    }
+}
+
+/// The event in which a thread other than the first is entered. It visits four objects at most.
+pub(crate) fn run_event<L: Ledger>(
+    alloc: Global,
+    program: &Program,
+    machine: &mut Machine,
+    thread: ThreadId,
+    out: &mut Lines,
+    visits: &mut Steps<L>,
+) -> Result<EventEnd, NoMemory>
+    requires sound { IsSoundFor program.now (kept_of machine.old) }
+    requires clock { machine.old.guest.clock < 2 ^ 40 }
+    requires fresh { IsFresh machine.old.guest thread }
+    ensures ok { IfOk result (λ end. EventAnswers (enters_run (moment program.now machine.old thread) (thread_at machine.old.guest thread).object) end machine.old machine.new out.old out.new) }
+    ensures visits { visits.new ≤ visits.old + 4 }
+{
+    match run_plan(program, machine, thread, visits) {
+        RunPlan::IllTyped => Ok(EventEnd::IllTyped {
+            method: MethodId::new(0),
+            pc: 0,
+        }),
+        RunPlan::Throws(error) => throw_first(machine, program, thread, error, out),
+        RunPlan::Enters { method, object } => {
+            let argument = Some(object);
+            method_event(
+                alloc, program, machine, thread, method, &argument, out, visits,
+            )
+        }
+    }
+}

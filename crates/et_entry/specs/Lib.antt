@@ -1,3 +1,0 @@
-pub mod Entering
-pub mod Fresh
-pub mod Runs
