@@ -3,8 +3,8 @@ ghost use Rattle.std.specs.Prelude.{◌≡◌};
 ghost use Rattle.et_named.specs.Telling.{names_of};
 
 use et_base::{ClassId, MethodId};
+use et_loop::Program;
 use et_program::Program as Linked;
-use et_run::Program;
 use std::marker::Model;
 
 /// A linked program, of which a trace names the classes and methods. A contract sees it as the program.

@@ -8,8 +8,8 @@ use Rattle.et_graph.specs.Listed.{AreListed, IsGreatest}
 use Rattle.et_base.specs.declared.value.End.{End}
 use Rattle.et_state.specs.Naming.{Mentions}
 use Rattle.et_io.specs.Sink.{with_more}
-use Rattle.et_run.specs.Run.{noted, Turns}
-use Rattle.et_run.proofs.RunLemmas.{noted_before, noted_is, Running, turn_on}
+use Rattle.et_loop.specs.Run.{noted, Turns}
+use Rattle.et_loop.proofs.RunLemmas.{noted_before, noted_is, Running, turn_on}
 use Rattle.et_merlin.specs.Stamping.{Passes}
 use Rattle.et_merlin.specs.Told.{IsTold}
 use Rattle.et_merlin.proofs.Dates.{dated, dated_listed}

@@ -7,8 +7,8 @@ use Rattle.et_graph.proofs.Walks.{walk_more}
 use Rattle.et_state.specs.Naming.{Mentions}
 use Rattle.et_state.specs.History.{Setting, is_flush_point, flush_lines, deaths_to, is_gone}
 use Rattle.et_text.specs.Spelling.{text}
-use Rattle.et_run.specs.Run.{noted, flush_of, due_lines, due_state, last_lines, Goes, Turns}
-use Rattle.et_run.proofs.TurnLemmas.{turned_on, turned_last}
+use Rattle.et_loop.specs.Run.{noted, flush_of, due_lines, due_state, last_lines, Goes, Turns}
+use Rattle.et_loop.proofs.TurnLemmas.{turned_on, turned_last}
 use Rattle.et_graph.specs.Listed.{AreListed}
 use Rattle.et_merlin.specs.Kept.{Settles}
 

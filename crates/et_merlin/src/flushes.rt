@@ -4,7 +4,7 @@ ghost use Rattle.et_graph.specs.Graph.{IsReached};
 ghost use Rattle.et_graph.specs.Listing.{death_pairs};
 ghost use Rattle.et_state.specs.History.{flush_lines};
 ghost use Rattle.et_text.specs.Spelling.{text};
-ghost use Rattle.et_run.specs.Run.{due_lines, due_state, last_lines};
+ghost use Rattle.et_loop.specs.Run.{due_lines, due_state, last_lines};
 ghost use Rattle.et_graph.specs.Listed.{AreListed};
 ghost use Rattle.et_merlin.specs.Kept.{Settles};
 ghost use Rattle.et_merlin.specs.Stamping.{HasStamps};
@@ -13,7 +13,7 @@ ghost use Rattle.et_merlin.specs.Visits.{due_visits, last_visits};
 use crate::guest::StampedGuest;
 use et_base::{End, NoMemory, Steps, TraceLine};
 use et_graph::{Death, Stamps};
-use et_run::ended_as;
+use et_loop::ended_as;
 use et_text::write_line;
 use std::sync::ledger::Ledger;
 

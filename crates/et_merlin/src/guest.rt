@@ -11,7 +11,7 @@ ghost use Rattle.et_merlin.specs.Stamping.{StepsWhereDone};
 
 use et_base::{NoMemory, ObjectId, Steps, ThreadId};
 use et_graph::{Death, Stamps};
-use et_run::Program;
+use et_loop::Program;
 use et_state::{EventEnd, Lines};
 use std::alloc::Global;
 use std::sync::ledger::Ledger;

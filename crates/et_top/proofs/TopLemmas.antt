@@ -8,8 +8,8 @@ use Rattle.et_io.specs.Sink.{TakesFront, with_more}
 use Rattle.et_io.specs.declared.putting.RunFault.{RunFault}
 use Rattle.et_io.specs.declared.putting.RunFault.TheVariants as write
 use Rattle.et_state.specs.declared.options.Options.{Options}
-use Rattle.et_run.specs.declared.options.Ran.{Ran}
-use Rattle.et_run.specs.Traced.{WritesTrace, WritesFront}
+use Rattle.et_loop.specs.declared.options.Ran.{Ran}
+use Rattle.et_loop.specs.Traced.{WritesTrace, WritesFront}
 use Rattle.et_program.specs.Entries.{Linked}
 use Rattle.et_event.specs.Start.{start, start_records}
 use Rattle.et_guest.specs.Histories.{setting}

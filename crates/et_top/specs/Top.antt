@@ -7,8 +7,8 @@ use Rattle.et_graph.specs.Graph.{Graph}
 use Rattle.et_io.specs.Files.{Held}
 use Rattle.et_io.specs.Sink.{with_more, TakesFront}
 use Rattle.et_state.specs.declared.options.Options.{Options}
-use Rattle.et_run.specs.declared.options.Ran.{Ran}
-use Rattle.et_run.specs.Traced.{WritesTrace, WritesFront}
+use Rattle.et_loop.specs.declared.options.Ran.{Ran}
+use Rattle.et_loop.specs.Traced.{WritesTrace, WritesFront}
 use Rattle.et_replay.specs.Curve.{curve_text}
 use Rattle.et_replay.specs.Replay.{replay_text}
 use Rattle.et_replay.specs.Timeline.{timeline_items}

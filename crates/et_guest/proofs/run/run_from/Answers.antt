@@ -7,7 +7,7 @@ use Rattle.et_state.specs.declared.records.Record.{Record}
 use Rattle.et_state.specs.Naming.{IsNamed}
 use Rattle.et_merlin.specs.Kept.{IsStepTo}
 use Rattle.et_merlin.specs.Visits.{allowed_visits}
-use Rattle.et_run.specs.Traced.{WritesTrace, WritesFront}
+use Rattle.et_loop.specs.Traced.{WritesTrace, WritesFront}
 use Rattle.et_guest.specs.Guests.{flush_visits_of}
 use Rattle.et_guest.specs.Histories.{setting}
 use Rattle.et_named.specs.Telling.{names_of}

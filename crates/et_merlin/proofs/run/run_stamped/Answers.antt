@@ -3,8 +3,8 @@ use Rattle.et_base.specs.declared.value.End.{End}
 use Rattle.et_io.specs.Sink.{with_more, TakesFront}
 use Rattle.et_graph.proofs.Walks.{is_reached, is_reached_decides}
 use Rattle.et_state.specs.History.{is_flush_point}
-use Rattle.et_run.specs.Options.{setting_of}
-use Rattle.et_run.proofs.RunLemmas.{running_start, turn_end, front_start, front_nothing, front_now, front_turn, on_any, noted_before}
+use Rattle.et_loop.specs.Options.{setting_of}
+use Rattle.et_loop.proofs.RunLemmas.{running_start, turn_end, front_start, front_nothing, front_now, front_turn, on_any, noted_before}
 use Rattle.et_merlin.specs.Stamping.{HasStamps, Passes}
 use Rattle.et_merlin.proofs.Turns.{told_first, told_made}
 use Rattle.et_merlin.specs.Visits.{TurnVisits}

@@ -1,7 +1,7 @@
 use Rattle.std.proofs.Common.{◌≡◌, ℕ, Bool, ◌+◌, ◌-◌, ◌≤◌, get_or}
 use Rattle.et_graph.specs.Graph.{Graph, Decides}
-use Rattle.et_run.specs.Options.{setting_of}
-use Rattle.et_run.proofs.RunLemmas.{Running, noted_before}
+use Rattle.et_loop.specs.Options.{setting_of}
+use Rattle.et_loop.proofs.RunLemmas.{Running, noted_before}
 use Rattle.et_merlin.specs.Stamping.{HasStamps}
 use Rattle.et_merlin.specs.Told.{IsTold}
 use Rattle.et_merlin.proofs.Counts.{AreSoFar}

@@ -1,7 +1,7 @@
 use Rattle.std.proofs.Common.{◌≡◌, ℕ, Bool, ◌↔◌, IsTrue, [], false, subst, sym, ◌∙◌, ap, None}
 use Rattle.et_graph.specs.Graph.{IsReached}
-use Rattle.et_run.specs.Options.{setting_of}
-use Rattle.et_run.specs.Run.{due_state, Goes}
+use Rattle.et_loop.specs.Options.{setting_of}
+use Rattle.et_loop.specs.Run.{due_state, Goes}
 use Rattle.et_merlin.specs.Stamping.{Stamped}
 use Rattle.et_merlin.specs.Visits.{TurnVisits}
 use Rattle.et_merlin.proofs.Counts.{settled_as_many, turn_on_visits, turn_last_visits}

@@ -1,7 +1,7 @@
 use Rattle.std.proofs.Common.{subst, sym}
 use Rattle.std.proofs.lemmas.List.Elements.{All-get_or}
 use Rattle.et_state.specs.Naming.{IsNamed}
-use Rattle.et_run.proofs.naming.Numbering.write_records.Goals as goal
+use Rattle.et_loop.proofs.naming.Numbering.write_records.Goals as goal
 
 -- each record of the list is named
 pub write_record-requires : goal.write_record-requires

@@ -2,7 +2,7 @@
 ghost use Rattle.std.specs.Prelude.{◌≡◌, ◌+◌, ◌<◌, ◌++◌, ◌∷◌, [], All, IfOk, OnOk};
 ghost use Rattle.et_state.specs.Naming.{IsNamed, nothing_mentioned, with_new, with_mentions, mentions_after, number_in, class_line, record_lines, lines_of};
 ghost use Rattle.et_text.specs.Spelling.{text};
-ghost use Rattle.et_run.specs.Naming.{mentions_method, method_lines, new_class, new_method};
+ghost use Rattle.et_loop.specs.Naming.{mentions_method, method_lines, new_class, new_method};
 
 use crate::program::Program;
 use et_base::{ClassId, MethodId, Name, NoMemory, TraceLine};

@@ -13,8 +13,8 @@ use Rattle.et_state.specs.Naming.{Mentions, nothing_mentioned, mentions_after, l
 use Rattle.et_state.specs.History.{Setting, is_flush_point, flush_lines, how_of, ending, step_of, settled, left_by, records_at, last_reached, deaths, mentions_to, lines_to, trace_of, IsLast}
 use Rattle.et_text.specs.Spelling.{text, spelling}
 use Rattle.et_io.specs.Sink.{with_more, TakesFront}
-use Rattle.et_run.specs.Run.{noted, flush_of, due_lines, flush_now, Turns, Advances, Concludes}
-use Rattle.et_run.specs.Traced.{WritesTrace, WritesFront}
+use Rattle.et_loop.specs.Run.{noted, flush_of, due_lines, flush_now, Turns, Advances, Concludes}
+use Rattle.et_loop.specs.Traced.{WritesTrace, WritesFront}
 
 -- WHAT IS TAKEN
 

@@ -1,7 +1,7 @@
 use Rattle.std.proofs.Common.{◌≡◌, ◌++◌, drop}
 use Rattle.et_state.specs.Naming.{mentions_after, lines_of}
 use Rattle.et_text.specs.Spelling.{text}
-use Rattle.et_run.proofs.naming.Numbering.write_records.Given as goal
+use Rattle.et_loop.proofs.naming.Numbering.write_records.Given as goal
 
 -- what is mentioned and written so far, with what the rest adds, is what all add
 abbrev pub invariant-records : goal.invariant-records

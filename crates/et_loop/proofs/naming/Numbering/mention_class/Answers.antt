@@ -1,8 +1,8 @@
 use Rattle.std.proofs.Common.{◌≡◌, ◌∙◌, ◌==◌, ◌+◌, ap, ◌++◌, not, rules}
 use Rattle.std.specs.List.{list_any, position_or_len}
 use Rattle.et_text.specs.Spelling.{text}
-use Rattle.et_run.proofs.Mentioning.{class_line_is}
-use Rattle.et_run.proofs.naming.Numbering.mention_class.Goals as goal
+use Rattle.et_loop.proofs.Mentioning.{class_line_is}
+use Rattle.et_loop.proofs.naming.Numbering.mention_class.Goals as goal
 
 -- what was inserted and written is the class's mention and its line
 pub returns-clause-lines : goal.returns-clause-lines

@@ -3,7 +3,7 @@ use Rattle.std.proofs.Common.{◌≡◌, ℕ, ◌+◌, ◌==◌, Bool, true, fal
 use Rattle.std.specs.List.{list_any, position_or_len, prefix_len}
 use Rattle.et_base.specs.declared.line.TraceLine.TheVariants as line
 use Rattle.et_state.specs.Naming.{Names, with_new, number_in, class_line, method_line}
-use Rattle.et_run.specs.Naming.{new_class, new_method}
+use Rattle.et_loop.specs.Naming.{new_class, new_method}
 
 -- the place of a number that is put at the end is where the list ended
 place_new : (p : ℕ → Bool) (x : ℕ) (seen : List ℕ) → p x ≡ true → position_or_len p (seen ++ x ∷ []) ≡ position_or_len p seen

@@ -6,7 +6,7 @@ use Rattle.et_state.specs.declared.records.Record.{Record}
 use Rattle.et_state.specs.History.{Setting, IsLast, trace_of}
 use Rattle.et_text.specs.Spelling.{text}
 use Rattle.et_io.specs.Sink.{with_more, TakesFront}
-use Rattle.et_run.specs.declared.options.Ran.{Ran}
+use Rattle.et_loop.specs.declared.options.Ran.{Ran}
 
 module _ {S : Type 0} (reached : Graph → ℕ → Bool) (given : Setting S) (start : S) (made : List Record) where
   -- the run ended as the history does, and the sink took the trace, no more and no less

@@ -2,9 +2,9 @@ use Rattle.std.proofs.Common.{◌≡◌, ◌∙◌, ◌==◌, ◌+◌, ap, ◌++
 use Rattle.std.specs.List.{list_any, position_or_len}
 use Rattle.et_state.specs.Naming.{with_new, class_line, method_line, number_in}
 use Rattle.et_text.specs.Spelling.{text}
-use Rattle.et_run.proofs.Mentioning.{method_line_is}
-use Rattle.et_run.proofs.Writing.{wrote_both}
-use Rattle.et_run.proofs.naming.Numbering.mention_method.Goals as goal
+use Rattle.et_loop.proofs.Mentioning.{method_line_is}
+use Rattle.et_loop.proofs.Writing.{wrote_both}
+use Rattle.et_loop.proofs.naming.Numbering.mention_method.Goals as goal
 
 -- what was inserted and written is the mention of the method and its class, and their lines
 pub returns-clause-lines : goal.returns-clause-lines

@@ -10,7 +10,7 @@ use Rattle.et_state.specs.Outcome.{state_after, records_of}
 use Rattle.et_state.specs.Naming.{Mentions, mentions_after, lines_of}
 use Rattle.et_state.specs.History.{Setting, is_flush_point, how_of, ending, step_of, settled}
 use Rattle.et_text.specs.Spelling.{text, spelling}
-use Rattle.et_run.specs.Run.{noted, flush_of, due_lines, due_state, last_lines, Goes, Turns}
+use Rattle.et_loop.specs.Run.{noted, flush_of, due_lines, due_state, last_lines, Goes, Turns}
 
 -- a flush where it is due leads to the settled state
 settled_is : {S : Type 0} (reached : Graph → ℕ → Bool) (given : Setting S) (s : S) (b : Bool) → due_state b (given.rule.flushed (reached (given.rule.graph s)) s) s ≡ (if b then given.rule.flushed (reached (given.rule.graph s)) s else s)
