@@ -16,8 +16,8 @@ use Rattle.et_state.specs.Naming.{IsNamed}
 use Rattle.et_state.specs.Outcome.{Outcome}
 use Rattle.et_state.specs.Outcome as outcome
 use Rattle.et_event.specs.Answered.{EventAnswers}
-use Rattle.et_merlin.specs.Kept.{IsStepTo}
-use Rattle.et_merlin.specs.Stamping.{StepsWhereDone}
+use Rattle.et_loop.specs.Kept.{IsStepTo}
+use Rattle.et_loop.specs.Stamping.{StepsWhereDone}
 use Rattle.et_state.specs.Roots.{fresh_of}
 use Rattle.et_state.specs.Moves.{Led}
 use Rattle.et_named.specs.Telling.{names_of, HasElementClasses, IsTold}

@@ -6,7 +6,7 @@ ghost use Rattle.et_guest.specs.Guests.{IsSoundRun, flush_visits_of};
 ghost use Rattle.et_guest.specs.Histories.{unended_of, flushed_of};
 ghost use Rattle.et_state.specs.Roots.{graph_of};
 ghost use Rattle.et_state.specs.State.{kept_of};
-ghost use Rattle.et_merlin.specs.Stamping.{StepsWhereDone};
+ghost use Rattle.et_loop.specs.Stamping.{StepsWhereDone};
 ghost use Rattle.et_named.specs.Telling.{names_of};
 ghost use Rattle.et_graph.specs.Cleared.{IsCleared};
 ghost use Rattle.et_graph.specs.Listed.{AreListed};

@@ -2,3 +2,10 @@ pub mod Mentioning
 pub mod Writing
 pub mod TurnLemmas
 pub mod RunLemmas
+pub mod Wholes
+pub mod Dates
+pub mod Turns
+pub mod Joins
+pub mod Marking
+pub mod TurnSteps
+pub mod Counts

@@ -14,7 +14,7 @@ use Rattle.et_program.specs.Entries.{Linked}
 use Rattle.et_event.specs.Start.{start, start_records}
 use Rattle.et_guest.specs.Histories.{setting}
 use Rattle.et_guest.specs.Guests.{flush_visits_of}
-use Rattle.et_merlin.specs.Visits.{allowed_visits}
+use Rattle.et_loop.specs.Visits.{allowed_visits}
 use Rattle.et_top.specs.Faults.{Fault, Absent, TooLong, BadClass, BadText, BadTrace, LinkFault, status_of_fault}
 use Rattle.et_io.specs.Files.{Held}
 use Rattle.et_top.specs.Command.{Asked}

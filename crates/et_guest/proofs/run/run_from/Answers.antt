@@ -5,8 +5,8 @@ use Rattle.et_state.specs.Roots.{graph_of}
 use Rattle.et_state.specs.State.{Kept, MachineState, kept_of}
 use Rattle.et_state.specs.declared.records.Record.{Record}
 use Rattle.et_state.specs.Naming.{IsNamed}
-use Rattle.et_merlin.specs.Kept.{IsStepTo}
-use Rattle.et_merlin.specs.Visits.{allowed_visits}
+use Rattle.et_loop.specs.Kept.{IsStepTo}
+use Rattle.et_loop.specs.Visits.{allowed_visits}
 use Rattle.et_loop.specs.Traced.{WritesTrace, WritesFront}
 use Rattle.et_guest.specs.Guests.{flush_visits_of}
 use Rattle.et_guest.specs.Histories.{setting}

@@ -3,7 +3,7 @@ use Rattle.std.specs.Prelude.{IfOk, OnErr}
 use Rattle.et_state.specs.State.{Kept, kept_of}
 use Rattle.et_state.specs.declared.records.Record.{Record}
 use Rattle.et_event.specs.Start.{start, start_records}
-use Rattle.et_merlin.specs.Visits.{allowed_visits}
+use Rattle.et_loop.specs.Visits.{allowed_visits}
 use Rattle.et_loop.specs.Traced.{WritesTrace, WritesFront}
 use Rattle.et_loop.proofs.RunLemmas.{front_nothing}
 use Rattle.et_guest.specs.Guests.{flush_visits_of}

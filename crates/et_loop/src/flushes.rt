@@ -1,0 +1,119 @@
+//! The flushes of a run.
+ghost use Rattle.std.specs.Prelude.{◌≡◌, ℕ, Bool, true, false, ◌+◌, ◌<◌, ◌≤◌, ◌^◌, ◌++◌, ◌↔◌, List, IsTrue, length, OnOk, slice_index};
+ghost use Rattle.et_graph.specs.Graph.{IsReached};
+ghost use Rattle.et_graph.specs.Listing.{death_pairs};
+ghost use Rattle.et_state.specs.History.{flush_lines};
+ghost use Rattle.et_text.specs.Spelling.{text};
+ghost use Rattle.et_loop.specs.Run.{due_lines, due_state, last_lines};
+ghost use Rattle.et_graph.specs.Listed.{AreListed};
+ghost use Rattle.et_loop.specs.Kept.{Settles};
+ghost use Rattle.et_loop.specs.Stamping.{HasStamps};
+ghost use Rattle.et_loop.specs.Visits.{due_visits, last_visits};
+
+use crate::schedule::ended_as;
+use crate::stamp_guest::StampedGuest;
+use et_base::{End, NoMemory, Steps, TraceLine};
+use et_graph::{Death, Stamps};
+use et_text::write_line;
+use std::sync::ledger::Ledger;
+
+/// Writes the lines of a flush.
+fn write_deaths(buffer: &mut Vec<u8>, event: u64, deaths: &[Death]) -> Result<(), NoMemory>
+    requires { length deaths.now < 2 ^ 32 }
+    ensures { OnOk result (buffer.new.items ≡ buffer.old.items ++ text (flush_lines event (death_pairs deaths.now))) }
+{
+    let line = TraceLine::Flush {
+        event,
+        deaths: deaths.len() as u32,
+    };
+    write_line(&line, buffer)?;
+    'write: for death in deaths {
+        let line = TraceLine::Death {
+            object: death.object.number(),
+            time: death.time,
+        };
+        write_line(&line, buffer)?;
+    }
+    Ok(())
+}
+
+/// A flush after event e, and its lines.
+fn report<G: StampedGuest, L: Ledger>(
+    code: &G::Code,
+    e: u64,
+    machine: &mut G,
+    stamps: &Stamps,
+    room: &mut G::Room,
+    buffer: &mut Vec<u8>,
+    visits: &mut Steps<L>,
+) -> Result<(), NoMemory>
+    requires sound { G.is_sound code.now (G.state machine.old) }
+    requires stamps { HasStamps (G.graph_of (G.state machine.old)) stamps.now }
+    requires room { G.has_places room.old (G.graph_of (G.state machine.old)).made }
+    ensures lines { (deaths : List (ℕ × ℕ)) → AreListed (G.graph_of (G.state machine.old)) (slice_index stamps.now) deaths → OnOk result (buffer.new.items ≡ buffer.old.items ++ text (flush_lines e deaths)) }
+    ensures state { (here : ℕ → Bool) → ((o : ℕ) → IsTrue (here o) ↔ IsReached (G.graph_of (G.state machine.old)) o) → OnOk result (G.state machine.new ≡ G.flushed_of here (G.state machine.old)) }
+    ensures visits { (here : ℕ → Bool) → ((o : ℕ) → IsTrue (here o) ↔ IsReached (G.graph_of (G.state machine.old)) o) → OnOk result (visits.new ≤ visits.old + G.flush_visits_of here (G.state machine.old)) }
+    ensures graph { OnOk result (Settles true (G.graph_of (G.state machine.old)) (G.graph_of (G.state machine.new))) }
+    ensures clock { OnOk result (G.clock_of (G.state machine.new) ≡ G.clock_of (G.state machine.old)) }
+    ensures sound { OnOk result (G.is_sound code.now (G.state machine.new)) }
+    ensures room { OnOk result (G.has_places room.new (G.graph_of (G.state machine.new)).made) }
+{
+    machine.flush(code, stamps, room, visits)?;
+    write_deaths(buffer, e, G::deaths(room))
+}
+
+/// The flush after event e, where it is due.
+pub fn settle<G: StampedGuest, L: Ledger>(
+    code: &G::Code,
+    due: bool,
+    e: u64,
+    machine: &mut G,
+    stamps: &Stamps,
+    room: &mut G::Room,
+    buffer: &mut Vec<u8>,
+    visits: &mut Steps<L>,
+) -> Result<(), NoMemory>
+    requires sound { G.is_sound code.now (G.state machine.old) }
+    requires stamps { HasStamps (G.graph_of (G.state machine.old)) stamps.now }
+    requires room { G.has_places room.old (G.graph_of (G.state machine.old)).made }
+    ensures lines { (deaths : List (ℕ × ℕ)) → AreListed (G.graph_of (G.state machine.old)) (slice_index stamps.now) deaths → OnOk result (buffer.new.items ≡ buffer.old.items ++ text (due_lines due (flush_lines e deaths))) }
+    ensures state { (here : ℕ → Bool) → ((o : ℕ) → IsTrue (here o) ↔ IsReached (G.graph_of (G.state machine.old)) o) → OnOk result (G.state machine.new ≡ due_state due (G.flushed_of here (G.state machine.old)) (G.state machine.old)) }
+    ensures visits { (here : ℕ → Bool) → ((o : ℕ) → IsTrue (here o) ↔ IsReached (G.graph_of (G.state machine.old)) o) → OnOk result (visits.new ≤ visits.old + due_visits due (G.flush_visits_of here (G.state machine.old))) }
+    ensures graph { OnOk result (Settles due (G.graph_of (G.state machine.old)) (G.graph_of (G.state machine.new))) }
+    ensures clock { OnOk result (G.clock_of (G.state machine.new) ≡ G.clock_of (G.state machine.old)) }
+    ensures sound { OnOk result (G.is_sound code.now (G.state machine.new)) }
+    ensures room { OnOk result (G.has_places room.new (G.graph_of (G.state machine.new)).made) }
+{
+    if due {
+        report(code, e, machine, stamps, room, buffer, visits)?;
+    }
+    Ok(())
+}
+
+/// Writes what stands at the end: a last flush, unless there was one after the same event, and the Z line.
+pub fn conclude<G: StampedGuest, L: Ledger>(
+    code: &G::Code,
+    due: bool,
+    e: u64,
+    end: &End,
+    machine: &mut G,
+    stamps: &Stamps,
+    room: &mut G::Room,
+    buffer: &mut Vec<u8>,
+    visits: &mut Steps<L>,
+) -> Result<(), NoMemory>
+    requires sound { G.is_sound code.now (G.state machine.old) }
+    requires stamps { HasStamps (G.graph_of (G.state machine.old)) stamps.now }
+    requires room { G.has_places room.old (G.graph_of (G.state machine.old)).made }
+    ensures visits { (here : ℕ → Bool) → (due ≡ false → (o : ℕ) → IsTrue (here o) ↔ IsReached (G.graph_of (G.state machine.old)) o) → OnOk result (visits.new ≤ visits.old + last_visits due (G.flush_visits_of here (G.state machine.old))) }
+    ensures lines { (deaths : List (ℕ × ℕ)) → (due ≡ false → AreListed (G.graph_of (G.state machine.old)) (slice_index stamps.now) deaths) → OnOk result (buffer.new.items ≡ buffer.old.items ++ text (last_lines due end.now e (flush_lines e deaths))) }
+{
+    if !due {
+        report(code, e, machine, stamps, room, buffer, visits)?;
+    }
+    let line = TraceLine::Finish {
+        event: e,
+        how: ended_as(end),
+    };
+    write_line(&line, buffer)
+}

@@ -1,0 +1,58 @@
+//! What an event does to the stamps.
+ghost use Rattle.std.specs.Prelude.{◌≡◌, ℕ, ◌+◌, ◌<◌, ◌≤◌, ◌^◌, ◌⊎◌, length, OnOk, Contains, slice_index};
+ghost use Rattle.et_loop.specs.Stamping.{Restamps, HasStamps};
+
+use crate::stamp_guest::StampedGuest;
+use et_base::{NoMemory, ObjectId};
+use et_graph::Stamps;
+
+/// Writes this stamp for each of the objects.
+fn stamp_each(stamps: &mut Stamps, objects: &[ObjectId], event: u64)
+    requires places { (o : ℕ) → Contains objects.now o → o < length stamps.old }
+    requires event { event ≤ 2 ^ 40 }
+    ensures long { length stamps.new ≡ length stamps.old }
+    ensures each { (o : ℕ) → Contains objects.now o → slice_index stamps.new o ≡ event }
+    ensures others { (o : ℕ) → ¬ Contains objects.now o → slice_index stamps.new o ≡ slice_index stamps.old o }
+{
+    'each: for object in objects {
+        stamps.set(*object, event);
+    }
+}
+
+/// Writes this stamp for each object that was made since there were so many.
+fn stamp_new(stamps: &mut Stamps, before: u32, made: u32, event: u64)
+    requires places { made < length stamps.old }
+    requires more { before ≤ made }
+    requires event { event ≤ 2 ^ 40 }
+    ensures long { length stamps.new ≡ length stamps.old }
+    ensures each { (o : ℕ) → before < o → o ≤ made → slice_index stamps.new o ≡ event }
+    ensures others { (o : ℕ) → (o ≤ before) ⊎ (made < o) → slice_index stamps.new o ≡ slice_index stamps.old o }
+{
+    'new: for number in before..made {
+        stamps.set(ObjectId::new(number + 1), event);
+    }
+}
+
+/// Stamps what the event after e lost with e, the last event after which it was reached for certain, and what it made
+/// with its own number. There were so many objects before it. All of them have places afterwards.
+pub fn restamp<G: StampedGuest>(
+    machine: &G,
+    e: u64,
+    before: u32,
+    stamps: &mut Stamps,
+    room: &mut G::Room,
+) -> Result<(), NoMemory>
+    requires clock { e < 2 ^ 40 }
+    requires more { before ≤ (G.graph_of (G.state machine.now)).made }
+    requires lost { (o : ℕ) → Contains (G.lost_of machine.now) o → o ≤ (G.graph_of (G.state machine.now)).made }
+    ensures stamps { OnOk result (Restamps e before (G.graph_of (G.state machine.now)).made (G.lost_of machine.now) (slice_index stamps.old) (slice_index stamps.new)) }
+    ensures places { OnOk result (HasStamps (G.graph_of (G.state machine.now)) stamps.new) }
+    ensures room { OnOk result (G.has_places room.new (G.graph_of (G.state machine.now)).made) }
+{
+    let made = machine.made();
+    stamps.grow(made)?;
+    G::grow_room(room, made)?;
+    stamp_each(stamps, machine.lost(), e);
+    stamp_new(stamps, before, made, e + 1);
+    Ok(())
+}

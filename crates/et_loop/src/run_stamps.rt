@@ -1,0 +1,83 @@
+//! The whole run.
+ghost use Rattle.std.specs.Prelude.{◌≡◌, ℕ, Bool, ◌+◌, ◌≤◌, [], All, IfOk, OnErr, IsErrOf};
+ghost use Rattle.et_io.specs.Faults.{Rose};
+ghost use Rattle.et_graph.specs.Graph.{Graph, nothing_made, Decides};
+ghost use Rattle.et_state.specs.Naming.{IsNamed};
+ghost use Rattle.et_state.specs.Options.{AreOptions};
+ghost use Rattle.et_loop.specs.Options.{setting_of};
+ghost use Rattle.et_loop.specs.Traced.{WritesTrace, WritesFront};
+ghost use Rattle.et_loop.specs.Kept.{IsStepTo};
+ghost use Rattle.et_loop.specs.Visits.{allowed_visits};
+
+use crate::options::Ran;
+use crate::stamp_guest::StampedGuest;
+use crate::stamp_tracer::Tracer;
+use et_base::{NoMemory, Steps};
+use et_io::{RunFault, Sink, put_all};
+use et_state::{Lines, Options};
+use std::alloc::Global;
+use std::sync::ledger::Ledger;
+
+/// Room with a place for each of so many objects.
+fn first_room<G: StampedGuest>(alloc: Global, objects: u32) -> Result<G::Room, NoMemory>
+    ensures { IfOk result (λ room. G.has_places room objects) }
+{
+    let mut room = G::begin_room(alloc);
+    G::grow_room(&mut room, objects)?;
+    Ok(room)
+}
+
+/// Runs a guest from its starting state, whose own records are `made` and whose objects are all reached, and writes the
+/// trace of its history to the sink, event by event: one put after each event that has lines. It keeps a stamp for each
+/// object, and searches nothing but at a flush: the visits are at most those that the flushes of the history make, eight
+/// for each event, and one for each object that an event makes.
+///
+/// `Write` comes only where the sink's count of faults rose. After `Write` and after `NoMemory` the sink took a front
+/// of the trace, and the machine may only be dropped.
+pub fn run_stamped<G: StampedGuest, O: Sink, L: Ledger>(
+    alloc: Global,
+    code: &G::Code,
+    options: &Options,
+    machine: &mut G,
+    made: &Lines,
+    sink: &mut O,
+    visits: &mut Steps<L>,
+) -> Result<Ran, RunFault>
+    requires options { AreOptions options.now }
+    requires clock { G.clock_of (G.state machine.old) ≡ 0 }
+    requires sound { G.is_sound code.now (G.state machine.old) }
+    requires first { IsStepTo nothing_made (G.graph_of (G.state machine.old)) [] }
+    requires named { All (IsNamed (G.Code.names code.now)) made.now }
+    ensures trace { (reached : Graph → ℕ → Bool) → Decides reached → IfOk result (λ ran.
+        WritesTrace reached (setting_of (G.event_of code.now) G.unended_of G.graph_of G.flushed_of (G.Code.names code.now) options.now) (G.state machine.old) made.now ran (O.taken sink.old) (O.taken sink.new)) }
+    ensures front { (reached : Graph → ℕ → Bool) → Decides reached → OnErr result (
+        WritesFront reached (setting_of (G.event_of code.now) G.unended_of G.graph_of G.flushed_of (G.Code.names code.now) options.now) (G.state machine.old) made.now (O.taken sink.old) (O.taken sink.new)) }
+    ensures visits { (reached : Graph → ℕ → Bool) → Decides reached → IfOk result (λ ran.
+        visits.new ≤ visits.old + allowed_visits reached (setting_of (G.event_of code.now) G.unended_of G.graph_of G.flushed_of (G.Code.names code.now) options.now) G.flush_visits_of (G.state machine.old) made.now ran.event) }
+    ensures write { IsErrOf result RunFault.Write → Rose (O.faults sink.old) (O.faults sink.new) }
+    ensures never_falls { O.faults sink.old ≤ O.faults sink.new }
+{
+    let objects = machine.made();
+    let mut room = match first_room::<G>(alloc, objects) {
+        Ok(room) => room,
+        Err(_) => return Err(RunFault::NoMemory),
+    };
+    let mut tracer = match Tracer::begin(alloc, code, options.interval, made, objects) {
+        Ok(tracer) => tracer,
+        Err(_) => return Err(RunFault::NoMemory),
+    };
+    put_all(sink, &tracer.buffer)?;
+    let mut e = 0;
+    'events: loop {
+        tracer.buffer.clear();
+        let next = match tracer.turn(alloc, code, options, e, machine, &mut room, visits) {
+            Ok(next) => next,
+            Err(_) => return Err(RunFault::NoMemory),
+        };
+        put_all(sink, &tracer.buffer)?;
+        match next {
+            Some(end) => return Ok(Ran { end, event: e }),
+            None => e += 1,
+        }
+    }
+}

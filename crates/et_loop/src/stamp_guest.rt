@@ -1,0 +1,129 @@
+//! What is run.
+ghost use Rattle.std.specs.Prelude.{◌≡◌, ℕ, Bool, ◌+◌, ◌-◌, ◌<◌, ◌≤◌, ◌^◌, ◌↔◌, List, All, length, IfOk, OnOk, IsTrue, Contains, slice_index};
+ghost use Rattle.et_graph.specs.Graph.{Graph, IsReached};
+ghost use Rattle.et_graph.specs.Listing.{death_pairs};
+ghost use Rattle.et_state.specs.Outcome.{Outcome};
+ghost use Rattle.et_state.specs.Naming.{Names, IsNamed};
+ghost use Rattle.et_state.specs.Answers.{Answers, TicksWhereDone};
+ghost use Rattle.et_graph.specs.Listed.{AreListed};
+ghost use Rattle.et_graph.specs.Cleared.{IsCleared};
+ghost use Rattle.et_loop.specs.Stamping.{StepsWhereDone};
+
+use crate::program::Program;
+use et_base::{NoMemory, ObjectId, Steps, ThreadId};
+use et_graph::{Death, Stamps};
+use et_state::{EventEnd, Lines};
+use std::alloc::Global;
+use std::sync::ledger::Ledger;
+
+/// A machine that does events of a program, one at a time, says which objects an event took a reference away from, and
+/// finds the deaths of a flush by stamps. The run knows of it nothing but this.
+pub trait StampedGuest {
+    /// What it runs.
+    type Code: Program;
+
+    /// The room in which a flush works.
+    type Room: Drop;
+
+    /// What a state is, and the state that the machine stands for.
+    ghost State: { Type 0 };
+
+    ghost state: { Self → State };
+
+    /// What an event of a thread leads to.
+    ghost event_of: { Self.Code → State → ℕ → Outcome State };
+
+    /// The threads that have not ended, in order of start.
+    ghost unended_of: { State → List ℕ };
+
+    /// The graph of what is kept: of reported objects it has no pairs.
+    ghost graph_of: { State → Graph };
+
+    /// What a flush leaves, where the test says of each object whether it is reached.
+    ghost flushed_of: { (ℕ → Bool) → State → State };
+
+    /// How many visits such a flush makes at most.
+    ghost flush_visits_of: { (ℕ → Bool) → State → ℕ };
+
+    /// The number of events so far.
+    ghost clock_of: { State → ℕ };
+
+    /// What holds of every state that a history reaches.
+    ghost is_sound: { Self.Code → State → Type 0 };
+
+    /// The objects that the newest event took a reference away from.
+    ghost lost_of: { Self → List ℕ };
+
+    /// The room has a place for each object up to this number.
+    ghost has_places: { Self.Room → ℕ → Type 0 };
+
+    /// The deaths that the newest flush in the room listed.
+    ghost deaths_of: { Self.Room → List (ℕ × ℕ) };
+
+    /// The number of threads that have not ended.
+    fn unended(&self) -> usize
+        ensures { result ≡ length (unended_of (state self.now)) };
+
+    /// The k-th thread that has not ended, from 0.
+    fn unended_at(&self, k: usize) -> ThreadId
+        requires { k < length (unended_of (state self.now)) }
+        ensures { result ≡ slice_index (unended_of (state self.now)) k };
+
+    /// The number of objects ever made.
+    fn made(&self) -> u32
+        ensures { result ≡ (graph_of (state self.now)).made };
+
+    /// The objects that the newest event took a reference away from.
+    fn lost(&self) -> &[ObjectId]
+        ensures { result.now ≡ lost_of self.now };
+
+    /// Room with no places.
+    fn begin_room(alloc: Global) -> Self::Room;
+
+    /// Makes places up to this object.
+    fn grow_room(room: &mut Self::Room, objects: u32) -> Result<(), NoMemory>
+        ensures { OnOk result (has_places room.new objects) };
+
+    /// The deaths that the newest flush listed.
+    fn deaths(room: &Self::Room) -> &[Death]
+        ensures { death_pairs result.now ≡ deaths_of room.now };
+
+    /// Lists the dead objects, each with the greatest stamp of those that lead to it, takes them out, and clears the
+    /// references to them. After `NoMemory`, which may come while the roots are listed, the machine may only be dropped.
+    fn flush<L: Ledger>(
+        &mut self,
+        code: &Self::Code,
+        stamps: &Stamps,
+        room: &mut Self::Room,
+        visits: &mut Steps<L>,
+    ) -> Result<(), NoMemory>
+        requires sound { is_sound code.now (state self.old) }
+        requires stamps { (graph_of (state self.old)).made < length stamps.now }
+        requires room { has_places room.old (graph_of (state self.old)).made }
+        ensures deaths { OnOk result (AreListed (graph_of (state self.old)) (slice_index stamps.now) (deaths_of room.new)) }
+        ensures room { OnOk result (has_places room.new (graph_of (state self.old)).made) }
+        ensures state { (here : ℕ → Bool) → ((o : ℕ) → IsTrue (here o) ↔ IsReached (graph_of (state self.old)) o) → OnOk result (state self.new ≡ flushed_of here (state self.old)) }
+        ensures visits { (here : ℕ → Bool) → ((o : ℕ) → IsTrue (here o) ↔ IsReached (graph_of (state self.old)) o) → OnOk result (visits.new ≤ visits.old + flush_visits_of here (state self.old)) }
+        ensures graph { OnOk result (IsCleared (graph_of (state self.old)) (graph_of (state self.new))) }
+        ensures clock { OnOk result (clock_of (state self.new) ≡ clock_of (state self.old)) }
+        ensures sound { OnOk result (is_sound code.now (state self.new)) };
+
+    /// The event of a thread that has not ended.
+    fn event<L: Ledger>(
+        &mut self,
+        alloc: Global,
+        code: &Self::Code,
+        thread: ThreadId,
+        out: &mut Lines,
+        visits: &mut Steps<L>,
+    ) -> Result<EventEnd, NoMemory>
+        requires clock { clock_of (state self.old) < 2 ^ 40 }
+        requires sound { is_sound code.now (state self.old) }
+        requires thread { Contains (unended_of (state self.old)) thread }
+        ensures answers { IfOk result (λ end. Answers (event_of code.now (state self.old) thread) end (state self.old) (state self.new) out.old out.new) }
+        ensures step { IfOk result (λ end. StepsWhereDone end (graph_of (state self.old)) (graph_of (state self.new)) (lost_of self.new)) }
+        ensures visits { IfOk result (λ end. visits.new ≤ visits.old + 8 + ((graph_of (state self.new)).made - (graph_of (state self.old)).made)) }
+        ensures sound { OnOk result (is_sound code.now (state self.new)) }
+        ensures clock { IfOk result (λ end. TicksWhereDone end (clock_of (state self.old)) (clock_of (state self.new))) }
+        ensures named { OnOk result (All (IsNamed (Self.Code.names code.now)) out.old → All (IsNamed (Self.Code.names code.now)) out.new) };
+}

@@ -1,0 +1,192 @@
+//! One turn of the run: a flush comes where it is due, then the next event is done, and what it lost and made is stamped.
+ghost use Rattle.std.specs.Prelude.{◌≡◌, ℕ, Bool, false, ◌+◌, ◌-◌, ◌<◌, ◌≤◌, ◌^◌, ◌↔◌, ◌++◌, ◌∷◌, [], All, IsTrue, length, IfOk, OnOk, IfNone, slice_index};
+ghost use Rattle.et_base.specs.declared.line.TraceLine.TheVariants.{Header};
+ghost use Rattle.et_graph.specs.Graph.{Graph, IsMade, IsReached, Decides};
+ghost use Rattle.et_state.specs.Naming.{IsNamed, nothing_mentioned, mentions_after, lines_of};
+ghost use Rattle.et_state.specs.History.{is_flush_point, deaths_to, is_gone};
+ghost use Rattle.et_state.specs.Options.{AreOptions};
+ghost use Rattle.et_text.specs.Spelling.{text};
+ghost use Rattle.et_loop.specs.Options.{setting_of};
+ghost use Rattle.et_loop.specs.Run.{noted, Goes, Turns};
+ghost use Rattle.et_graph.specs.Listed.{AreListed};
+ghost use Rattle.et_loop.specs.Stamping.{HasStamps, Stamped, Passes};
+ghost use Rattle.et_loop.specs.Visits.{TurnVisits};
+
+use crate::flushes::{conclude, settle};
+use crate::marks::restamp;
+use crate::naming::Numbering;
+use crate::program::Program;
+use crate::schedule::{is_due, pick};
+use crate::stamp_guest::StampedGuest;
+use et_base::{End, NoMemory, Steps, TraceLine};
+use et_graph::Stamps;
+use et_state::{EventEnd, Lines, Options};
+use et_text::write_line;
+use std::alloc::Global;
+use std::sync::ledger::Ledger;
+
+/// What a run keeps beside its machine.
+#[derive(Drop)]
+pub struct Tracer {
+    /// The stamp of each object.
+    pub stamps: Stamps,
+    /// What the trace mentioned so far.
+    numbering: Numbering,
+    /// Lines that are to be put.
+    pub buffer: Vec<u8>,
+}
+
+/// The next event, or how the history ends after event e.
+fn step<G: StampedGuest, L: Ledger>(
+    alloc: Global,
+    code: &G::Code,
+    options: &Options,
+    e: u64,
+    machine: &mut G,
+    stamps: &mut Stamps,
+    room: &mut G::Room,
+    numbering: &mut Numbering,
+    buffer: &mut Vec<u8>,
+    visits: &mut Steps<L>,
+) -> Result<Option<End>, NoMemory>
+    requires options { AreOptions options.now }
+    requires limit { e ≤ options.now.limit }
+    requires clock { G.clock_of (G.state machine.old) ≡ e }
+    requires sound { G.is_sound code.now (G.state machine.old) }
+    requires made { (o : ℕ) → IsReached (G.graph_of (G.state machine.old)) o → IsMade (G.graph_of (G.state machine.old)) o }
+    requires stamps { HasStamps (G.graph_of (G.state machine.old)) stamps.old }
+    requires room { G.has_places room.old (G.graph_of (G.state machine.old)).made }
+    ensures goes { IfOk result (λ end. Goes (setting_of (G.event_of code.now) G.unended_of G.graph_of G.flushed_of (G.Code.names code.now) options.now) e (G.state machine.old) numbering.old (G.state machine.new) numbering.new buffer.old.items buffer.new.items end) }
+    ensures visits { IfOk result (λ end. visits.new ≤ visits.old + 8 + ((G.graph_of (G.state machine.new)).made - (G.graph_of (G.state machine.old)).made)) }
+    ensures stamped { IfOk result (λ end. Stamped end e (G.graph_of (G.state machine.old)) (G.graph_of (G.state machine.new)) stamps.old stamps.new) }
+    ensures stamps { OnOk result (HasStamps (G.graph_of (G.state machine.new)) stamps.new) }
+    ensures room { OnOk result (G.has_places room.new (G.graph_of (G.state machine.new)).made) }
+    ensures sound { OnOk result (G.is_sound code.now (G.state machine.new)) }
+    ensures limit { IfOk result (λ end. IfNone end (e < options.now.limit)) }
+    ensures clock { IfOk result (λ end. IfNone end (G.clock_of (G.state machine.new) ≡ e + 1)) }
+{
+    let count = machine.unended();
+    if count == 0 {
+        return Ok(Some(End::Finished));
+    }
+    if e == options.limit {
+        return Ok(Some(End::EventLimit));
+    }
+    let thread = machine.unended_at((pick(options, e + 1) % count as u64) as usize);
+    let before = machine.made();
+    let mut records = Lines::begin(alloc);
+    match machine.event(alloc, code, thread, &mut records, visits)? {
+        EventEnd::Done | EventEnd::Waited => {
+            numbering.write_records(code, records.records(), buffer)?;
+            restamp(machine, e, before, stamps, room)?;
+            Ok(None)
+        }
+        EventEnd::IllTyped { method, pc } => Ok(Some(End::IllTyped { thread, method, pc })),
+        EventEnd::ObjectLimit => Ok(Some(End::ObjectLimit)),
+        EventEnd::Native { .. } => unreachable!(),
+    }
+}
+
+impl Tracer {
+    /// Begins with the H line and the records of the starting state, and with a place for each of so many objects.
+    pub fn begin<P: Program>(
+        alloc: Global,
+        code: &P,
+        interval: u64,
+        made: &Lines,
+        objects: u32,
+    ) -> Result<Tracer, NoMemory>
+        requires { All (IsNamed (P.names code.now)) made.now }
+        ensures stamps { IfOk result (λ t. (o : ℕ) → slice_index t.stamps o ≡ 0) }
+        ensures places { IfOk result (λ t. objects < length t.stamps) }
+        ensures mentions { IfOk result (λ t. t.numbering ≡ mentions_after (P.names code.now) nothing_mentioned made.now) }
+        ensures lines { IfOk result (λ t. t.buffer.items ≡ text (Header 1 interval ∷ lines_of (P.names code.now) nothing_mentioned made.now)) }
+    {
+        let mut buffer = Vec::new(alloc);
+        let line = TraceLine::Header {
+            version: 1,
+            interval,
+        };
+        write_line(&line, &mut buffer)?;
+        let mut numbering = Numbering::begin(alloc);
+        numbering.write_records(code, made.records(), &mut buffer)?;
+        let mut stamps = Stamps::begin(alloc);
+        stamps.grow(objects)?;
+        Ok(Tracer {
+            stamps,
+            numbering,
+            buffer,
+        })
+    }
+
+    /// One turn of the run after event e: a flush comes where it is due, and then the next event is done, or the history
+    /// ends.
+    pub fn turn<G: StampedGuest, L: Ledger>(
+        &mut self,
+        alloc: Global,
+        code: &G::Code,
+        options: &Options,
+        e: u64,
+        machine: &mut G,
+        room: &mut G::Room,
+        visits: &mut Steps<L>,
+    ) -> Result<Option<End>, NoMemory>
+        requires options { AreOptions options.now }
+        requires limit { e ≤ options.now.limit }
+        requires clock { G.clock_of (G.state machine.old) ≡ e }
+        requires sound { G.is_sound code.now (G.state machine.old) }
+        requires made { (o : ℕ) → IsReached (G.graph_of (G.state machine.old)) o → IsMade (G.graph_of (G.state machine.old)) o }
+        requires stamps { HasStamps (G.graph_of (G.state machine.old)) self.old.stamps }
+        requires room { G.has_places room.old (G.graph_of (G.state machine.old)).made }
+        ensures turns { (reached : Graph → ℕ → Bool) → Decides reached → (last : ℕ → ℕ) →
+            AreListed (G.graph_of (G.state machine.old)) (slice_index self.old.stamps) (let g = G.graph_of (G.state machine.old) in deaths_to (reached g) (is_gone g) (noted (reached g) last e) g.made) →
+            IfOk result (λ end. Turns reached (setting_of (G.event_of code.now) G.unended_of G.graph_of G.flushed_of (G.Code.names code.now) options.now) e (G.state machine.old) last self.old.numbering (G.state machine.new) (noted (reached (G.graph_of (G.state machine.old))) last e) self.new.numbering self.old.buffer.items self.new.buffer.items end) }
+        ensures visits { (here : ℕ → Bool) → ((o : ℕ) → IsTrue (here o) ↔ IsReached (G.graph_of (G.state machine.old)) o) → IfOk result (λ end. TurnVisits end (is_flush_point options.now.interval e) (G.flush_visits_of here (G.state machine.old)) (G.graph_of (G.state machine.old)).made (G.graph_of (G.state machine.new)).made visits.old visits.new) }
+        ensures passes { IfOk result (λ end. IfNone end (Passes (is_flush_point options.now.interval e) e (G.graph_of (G.state machine.old)) (G.graph_of (G.state machine.new)) (slice_index self.old.stamps) (slice_index self.new.stamps))) }
+        ensures stamps { IfOk result (λ end. IfNone end (HasStamps (G.graph_of (G.state machine.new)) self.new.stamps)) }
+        ensures room { IfOk result (λ end. IfNone end (G.has_places room.new (G.graph_of (G.state machine.new)).made)) }
+        ensures sound { IfOk result (λ end. IfNone end (G.is_sound code.now (G.state machine.new))) }
+        ensures limit { IfOk result (λ end. IfNone end (e < options.now.limit)) }
+        ensures clock { IfOk result (λ end. IfNone end (G.clock_of (G.state machine.new) ≡ e + 1)) }
+    {
+        let due = is_due(options.interval, e);
+        settle(
+            code,
+            due,
+            e,
+            machine,
+            &self.stamps,
+            room,
+            &mut self.buffer,
+            visits,
+        )?;
+        match step(
+            alloc,
+            code,
+            options,
+            e,
+            machine,
+            &mut self.stamps,
+            room,
+            &mut self.numbering,
+            &mut self.buffer,
+            visits,
+        )? {
+            None => Ok(None),
+            Some(end) => {
+                conclude(
+                    code,
+                    due,
+                    e,
+                    &end,
+                    machine,
+                    &self.stamps,
+                    room,
+                    &mut self.buffer,
+                    visits,
+                )?;
+                Ok(Some(end))
+            }
+        }
+    }
+}

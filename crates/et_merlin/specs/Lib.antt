@@ -1,4 +1,0 @@
-pub mod Kept
-pub mod Stamping
-pub mod Told
-pub mod Visits
