@@ -31,8 +31,8 @@ use Rattle.et_sound.specs.WellFormed.{IsThere}
 use Rattle.et_sound.proofs.Growing.{free_is_sound}
 use Rattle.et_sound.proofs.Turning.{event_sound}
 use Rattle.et_begin.proofs.Flushing.{sound_left}
-use Rattle.et_guest.specs.Guests.{IsSoundRun}
-use Rattle.et_guest.specs.Histories.{unended_of, flushed_of}
+use Rattle.et_run.specs.Guests.{IsSoundRun}
+use Rattle.et_run.specs.Histories.{unended_of, flushed_of}
 use Rattle.et_exclusion.specs.Holding.{monitor_in}
 use Rattle.et_exclusion.specs.Changing.{KeepsMonitors}
 use Rattle.et_exclusion.specs.Histories.{state_at, settled_at, GoesOn, moment_at, times_held}

@@ -10,7 +10,7 @@ use Rattle.et_event.specs.Event.{event}
 use Rattle.et_event.specs.Moments.{Moment}
 use Rattle.et_event.specs.Monitors.{Lock}
 use Rattle.et_event.specs.Start.{start, start_records}
-use Rattle.et_guest.specs.Histories.{setting}
+use Rattle.et_run.specs.Histories.{setting}
 use Rattle.et_exclusion.specs.Holding.{times_after}
 
 -- THE HISTORY of a program with these options, where any list of numbers picks the threads

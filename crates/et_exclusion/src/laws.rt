@@ -13,7 +13,7 @@ ghost use Rattle.et_event.specs.Sound.{IsSoundFor};
 ghost use Rattle.et_event.specs.Start.{start};
 ghost use Rattle.et_sound.specs.WellFormed.{IsThere};
 ghost use Rattle.et_sound.specs.SteadyPrograms.{MayRun};
-ghost use Rattle.et_guest.specs.Guests.{IsSoundRun};
+ghost use Rattle.et_run.specs.Guests.{IsSoundRun};
 ghost use Rattle.et_exclusion.specs.Changing.{KeepsMonitors};
 ghost use Rattle.et_exclusion.specs.Histories.{state_at, GoesOn, times_held};
 ghost use Rattle.et_exclusion.specs.Holding.{monitor_in};

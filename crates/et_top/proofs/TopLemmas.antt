@@ -12,8 +12,8 @@ use Rattle.et_loop.specs.declared.options.Ran.{Ran}
 use Rattle.et_loop.specs.Traced.{WritesTrace, WritesFront}
 use Rattle.et_program.specs.Entries.{Linked}
 use Rattle.et_event.specs.Start.{start, start_records}
-use Rattle.et_guest.specs.Histories.{setting}
-use Rattle.et_guest.specs.Guests.{flush_visits_of}
+use Rattle.et_run.specs.Histories.{setting}
+use Rattle.et_run.specs.Guests.{flush_visits_of}
 use Rattle.et_loop.specs.Visits.{allowed_visits}
 use Rattle.et_top.specs.Faults.{Fault, Absent, TooLong, BadClass, BadText, BadTrace, LinkFault, status_of_fault}
 use Rattle.et_io.specs.Files.{Held}

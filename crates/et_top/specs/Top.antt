@@ -19,8 +19,8 @@ use Rattle.et_top.specs.declared.command.Models.{Models}
 use Rattle.et_top.specs.Command as words
 use Rattle.et_program.specs.Entries.{Linked}
 use Rattle.et_event.specs.Start.{start, start_records}
-use Rattle.et_guest.specs.Histories.{setting}
-use Rattle.et_guest.specs.Guests.{flush_visits_of}
+use Rattle.et_run.specs.Histories.{setting}
+use Rattle.et_run.specs.Guests.{flush_visits_of}
 use Rattle.et_loop.specs.Visits.{allowed_visits}
 use Rattle.et_top.specs.Faults.{Fault, status_of_fault}
 use Rattle.et_top.specs.Loaded.{bytes_of, most_of_class, most_of_trace, IsListingOf, IsTraceOf, IsProgramOf}

@@ -5,8 +5,8 @@ use Rattle.et_heap.specs.Objects.{IsHeld}
 use Rattle.et_heap.specs.Remaining.{remaining}
 use Rattle.et_state.specs.Roots.{graph_of}
 use Rattle.et_state.specs.State.{Kept, MachineState, kept_of}
-use Rattle.et_guest.proofs.Flushing.{times_flushed, test_is, any_ok, on_ok_map, kept_flushed, clock_flushed, run_flushed}
-use Rattle.et_guest.proofs.steps.machine_flush.Goals as goal
+use Rattle.et_run.proofs.Flushing.{times_flushed, test_is, any_ok, on_ok_map, kept_flushed, clock_flushed, run_flushed}
+use Rattle.et_run.proofs.steps.machine_flush.Goals as goal
 
 pub returns-clause-state : goal.returns-clause-state
 returns-clause-state g c here h =

@@ -8,11 +8,11 @@ use Rattle.et_state.specs.Naming.{IsNamed}
 use Rattle.et_loop.specs.Kept.{IsStepTo}
 use Rattle.et_loop.specs.Visits.{allowed_visits}
 use Rattle.et_loop.specs.Traced.{WritesTrace, WritesFront}
-use Rattle.et_guest.specs.Guests.{flush_visits_of}
-use Rattle.et_guest.specs.Histories.{setting}
+use Rattle.et_run.specs.Guests.{flush_visits_of}
+use Rattle.et_run.specs.Histories.{setting}
 use Rattle.et_named.specs.Telling.{names_of}
-use Rattle.et_guest.proofs.Starting.{first_step, records_named}
-use Rattle.et_guest.proofs.run.run_from.Goals as goal
+use Rattle.et_run.proofs.Starting.{first_step, records_named}
+use Rattle.et_run.proofs.run.run_from.Goals as goal
 
 pub run_stamped-requires-clause-first : goal.run_stamped-requires-clause-first
 run_stamped-requires-clause-first g c =

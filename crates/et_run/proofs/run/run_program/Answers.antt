@@ -6,9 +6,9 @@ use Rattle.et_event.specs.Start.{start, start_records}
 use Rattle.et_loop.specs.Visits.{allowed_visits}
 use Rattle.et_loop.specs.Traced.{WritesTrace, WritesFront}
 use Rattle.et_loop.proofs.RunLemmas.{front_nothing}
-use Rattle.et_guest.specs.Guests.{flush_visits_of}
-use Rattle.et_guest.specs.Histories.{setting}
-use Rattle.et_guest.proofs.run.run_program.Goals as goal
+use Rattle.et_run.specs.Guests.{flush_visits_of}
+use Rattle.et_run.specs.Histories.{setting}
+use Rattle.et_run.proofs.run.run_program.Goals as goal
 
 pub returns-in-Ok-clause-trace : goal.returns-in-Ok-clause-trace
 returns-in-Ok-clause-trace g c reached decides =

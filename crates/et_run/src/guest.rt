@@ -1,8 +1,8 @@
 //! The machine of a linked program, as the run with stamps knows it.
 ghost use Rattle.std.specs.Prelude.{◌≡◌, ◌≤◌};
 ghost use Rattle.et_event.specs.Event.{event};
-ghost use Rattle.et_guest.specs.Guests.{IsSoundRun, flush_visits_of};
-ghost use Rattle.et_guest.specs.Histories.{unended_of, flushed_of};
+ghost use Rattle.et_run.specs.Guests.{IsSoundRun, flush_visits_of};
+ghost use Rattle.et_run.specs.Histories.{unended_of, flushed_of};
 ghost use Rattle.et_state.specs.Roots.{graph_of as graph_kept};
 ghost use Rattle.et_state.specs.State.{Kept, kept_of};
 

@@ -3,8 +3,8 @@ ghost use Rattle.std.specs.Prelude.{◌≡◌, ℕ, Bool, ◌+◌, ◌≤◌, If
 ghost use Rattle.et_event.specs.Sound.{IsSoundFor};
 ghost use Rattle.et_event.specs.Start.{start, start_records};
 ghost use Rattle.et_graph.specs.Graph.{Graph, Decides};
-ghost use Rattle.et_guest.specs.Guests.{flush_visits_of};
-ghost use Rattle.et_guest.specs.Histories.{setting};
+ghost use Rattle.et_run.specs.Guests.{flush_visits_of};
+ghost use Rattle.et_run.specs.Histories.{setting};
 ghost use Rattle.et_io.specs.Faults.{Rose};
 ghost use Rattle.et_state.specs.State.{kept_of};
 ghost use Rattle.et_loop.specs.Visits.{allowed_visits};

@@ -1,7 +1,7 @@
 use Rattle.std.proofs.Common.{◌≡◌, ◌≤◌, length, arith}
 use Rattle.et_state.specs.Threads.{unended_of}
-use Rattle.et_guest.proofs.Counting.{length-unended, found_is, found_some}
-use Rattle.et_guest.proofs.threads.nth_unended.Goals as goal
+use Rattle.et_run.proofs.Counting.{length-unended, found_is, found_some}
+use Rattle.et_run.proofs.threads.nth_unended.Goals as goal
 
 pub overflow_cast-k : goal.overflow_cast-k
 overflow_cast-k c =

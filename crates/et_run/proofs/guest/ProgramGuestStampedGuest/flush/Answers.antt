@@ -3,9 +3,9 @@ use Rattle.std.specs.Prelude.{◌↔◌, IsTrue, OnOk}
 use Rattle.et_graph.specs.Graph.{IsReached}
 use Rattle.et_state.specs.Roots.{graph_of}
 use Rattle.et_state.specs.State.{MachineState, kept_of}
-use Rattle.et_guest.specs.Guests.{flush_visits_of}
-use Rattle.et_guest.specs.Histories.{flushed_of}
-use Rattle.et_guest.proofs.guest.ProgramGuestStampedGuest.flush.Goals as goal
+use Rattle.et_run.specs.Guests.{flush_visits_of}
+use Rattle.et_run.specs.Histories.{flushed_of}
+use Rattle.et_run.proofs.guest.ProgramGuestStampedGuest.flush.Goals as goal
 
 pub returns-clause-state : goal.returns-clause-state
 returns-clause-state g c here h =
