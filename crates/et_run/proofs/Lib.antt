@@ -3,3 +3,11 @@ mod Counting
 mod Unended
 mod Flushing
 mod Starting
+mod TurnAnswers
+mod Standing
+mod Words
+mod Ways
+mod Members
+mod NamedRows
+mod Calls
+mod NamedTurns

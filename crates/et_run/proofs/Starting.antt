@@ -18,7 +18,7 @@ use Rattle.et_state.specs.declared.records.Record.TheVariants.{Alloc}
 use Rattle.et_state.specs.Naming.{IsNamed}
 use Rattle.et_event.specs.Start.{argument_class, start, start_records}
 use Rattle.et_loop.specs.Kept.{IsStepTo}
-use Rattle.et_named.specs.Telling.{names_of}
+use Rattle.et_run.specs.Telling.{names_of}
 
 no_refs : (n : ℕ) → refs_of (replicate n Unset) ≡ []
 no_refs zero = refl

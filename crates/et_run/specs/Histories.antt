@@ -9,7 +9,7 @@ use Rattle.et_state.specs.declared.options.Options.{Options}
 use Rattle.et_state.specs.History.{Setting}
 use Rattle.et_event.specs.Event.{event}
 use Rattle.et_loop.specs.Options.{setting_of}
-use Rattle.et_named.specs.Telling.{names_of}
+use Rattle.et_run.specs.Telling.{names_of}
 
 -- the threads that have not ended, in order of start
 abbrev pub unended_of : Kept → List ℕ

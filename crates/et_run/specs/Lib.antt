@@ -1,2 +1,4 @@
 pub mod Histories
 pub mod Guests
+pub mod Runs
+pub mod Telling

@@ -2,13 +2,18 @@
 #![tactic(auto)]
 
 mod guest;
+mod heap;
+pub mod laws;
 mod named;
 mod room;
+mod rows;
 mod run;
 mod steps;
 mod threads;
+mod turns;
 
 pub use guest::ProgramGuest;
 pub use named::NamedProgram;
 pub use room::GuestRoom;
 pub use run::run_program;
+pub use turns::turn_event;

@@ -11,7 +11,7 @@ ghost use Rattle.et_loop.specs.Visits.{allowed_visits};
 ghost use Rattle.et_program.specs.Tables.{IsTabled};
 ghost use Rattle.et_loop.specs.Traced.{WritesTrace, WritesFront};
 ghost use Rattle.et_state.specs.Options.{AreOptions};
-ghost use Rattle.et_turns.specs.Runs.{IsRunnable};
+ghost use Rattle.et_run.specs.Runs.{IsRunnable};
 
 use crate::guest::ProgramGuest;
 use crate::named::NamedProgram;

@@ -7,24 +7,24 @@ ghost use Rattle.et_run.specs.Histories.{unended_of, flushed_of};
 ghost use Rattle.et_state.specs.Roots.{graph_of};
 ghost use Rattle.et_state.specs.State.{kept_of};
 ghost use Rattle.et_loop.specs.Stamping.{StepsWhereDone};
-ghost use Rattle.et_named.specs.Telling.{names_of};
+ghost use Rattle.et_run.specs.Telling.{names_of};
 ghost use Rattle.et_graph.specs.Cleared.{IsCleared};
 ghost use Rattle.et_graph.specs.Listed.{AreListed};
 ghost use Rattle.et_state.specs.Answers.{Answers, TicksWhereDone};
 ghost use Rattle.et_state.specs.Naming.{IsNamed};
 
+use crate::laws::events_are_told;
+use crate::turns::turn_event;
 use et_base::{NoMemory, Steps, ThreadId};
 use et_begin::laws::flush_keeps_sound;
 use et_flush::{FlushRoom, flush_machine};
 use et_graph::Stamps;
 use et_graph::laws::reaching_is_decided;
 use et_heap::RootList;
-use et_named::laws::events_are_told;
 use et_program::Program;
 use et_sound::laws::answers_are_sound;
 use et_sound::steady_laws::events_keep_sound;
 use et_state::{EventEnd, Lines, Machine};
-use et_turns::turn_event;
 use std::alloc::Global;
 use std::sync::ledger::Ledger;
 

@@ -18,7 +18,7 @@ use Rattle.et_begin.specs.ClassNames.{HasClassName}
 use Rattle.et_event.specs.Sound.{IsSoundFor}
 use Rattle.et_event.specs.Start.{start}
 use Rattle.et_promises.specs.Programs.{IsOfFile, KeepRules, KeepsPromises}
-use Rattle.et_turns.specs.Runs.{IsRunnable}
+use Rattle.et_run.specs.Runs.{IsRunnable}
 use Rattle.et_top.specs.Faults.{Fault, LinkFault}
 use Rattle.et_top.specs.Loaded.{IsLinked, HasItsFile}
 use Rattle.et_top.specs.Told.{Cause, File, Reading, Memory, Other, IsCause}

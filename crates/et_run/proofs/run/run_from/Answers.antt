@@ -10,7 +10,7 @@ use Rattle.et_loop.specs.Visits.{allowed_visits}
 use Rattle.et_loop.specs.Traced.{WritesTrace, WritesFront}
 use Rattle.et_run.specs.Guests.{flush_visits_of}
 use Rattle.et_run.specs.Histories.{setting}
-use Rattle.et_named.specs.Telling.{names_of}
+use Rattle.et_run.specs.Telling.{names_of}
 use Rattle.et_run.proofs.Starting.{first_step, records_named}
 use Rattle.et_run.proofs.run.run_from.Goals as goal
 

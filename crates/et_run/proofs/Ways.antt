@@ -19,8 +19,8 @@ use Rattle.et_event.specs.Checks.{Reference, value_of, with_int, with_long, with
 use Rattle.et_event.specs.Errors.{class_called, error_class, error_of}
 use Rattle.et_event.specs.Initialization.{state_of, is_quiet, quietly_done, begun_by, begins_class, needed, initialized}
 use Rattle.et_event.specs.Moments.{Moment, Doing, next_object, instance_made, entry_given_up, pending_now, fits, goes, ends, throws, waits}
-use Rattle.et_named.specs.Telling.{IsTold}
-use Rattle.et_named.proofs.Words.{Tells, if_case, instance_told, pending_told, given_up_told, quietly_told, begun_by_told}
+use Rattle.et_run.specs.Telling.{IsTold}
+use Rattle.et_run.proofs.Words.{Tells, if_case, instance_told, pending_told, given_up_told, quietly_told, begun_by_told}
 
 -- what the machine itself makes is of classes of the program
 pub record KnowsErrors (e : Moment) : Type 0 where

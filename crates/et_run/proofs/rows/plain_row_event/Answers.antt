@@ -3,8 +3,8 @@ use Rattle.et_event.specs.Event.{does}
 use Rattle.et_event.specs.declared.rows.Row.{Row}
 use Rattle.et_parts.specs.Places.{is_frame, site_at}
 use Rattle.et_event.specs.Moments.{moment}
-use Rattle.et_turns.proofs.Answering.{plain_not_left, plain_answered}
-use Rattle.et_turns.proofs.rows.plain_row_event.Goals as goal
+use Rattle.et_run.proofs.TurnAnswers.{plain_not_left, plain_answered}
+use Rattle.et_run.proofs.rows.plain_row_event.Goals as goal
 
 pub plain_event-requires-clause-index : goal.plain_event-requires-clause-index
 plain_event-requires-clause-index c = λ e. c.requires.place.index (ap (λ (r : Row). is_frame r) e)

@@ -3,8 +3,8 @@ use Rattle.std.specs.Prelude.{IfOk}
 use Rattle.et_state.specs.State.{Kept, kept_of}
 use Rattle.et_state.specs.Outcome.{Outcome}
 use Rattle.et_event.specs.Answered.{EventAnswers}
-use Rattle.et_turns.proofs.Standing.{event_is_step}
-use Rattle.et_turns.proofs.turns.initializer_event.Goals as goal
+use Rattle.et_run.proofs.Standing.{event_is_step}
+use Rattle.et_run.proofs.turns.initializer_event.Goals as goal
 
 pub returns : goal.returns
 returns c =

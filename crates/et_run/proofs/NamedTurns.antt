@@ -20,11 +20,11 @@ use Rattle.et_event.specs.Sites.{Site, site_of, decoded_at, pool_index, constant
 use Rattle.et_event.specs.Sound.{IsStaged, AreSoundFrames, IsSoundFor}
 use Rattle.et_event.specs.Table.{row_of}
 use Rattle.et_sound.specs.Programs.{MakesSound}
-use Rattle.et_named.specs.Telling.{HasElementClasses, IsTold}
-use Rattle.et_named.proofs.Words.{IsMethodOf}
-use Rattle.et_named.proofs.Ways.{KnowsErrors, Told}
-use Rattle.et_named.proofs.Rows.{Knows, heap_told, monitor_told, throw_told, end_told, on_frame_told, constant_told, divides_told}
-use Rattle.et_named.proofs.Calls.{IsInMethod, frame_method, call_told, entry_told, unwinding_told, step_told}
+use Rattle.et_run.specs.Telling.{HasElementClasses, IsTold}
+use Rattle.et_run.proofs.Words.{IsMethodOf}
+use Rattle.et_run.proofs.Ways.{KnowsErrors, Told}
+use Rattle.et_run.proofs.NamedRows.{Knows, heap_told, monitor_told, throw_told, end_told, on_frame_told, constant_told, divides_told}
+use Rattle.et_run.proofs.Calls.{IsInMethod, frame_method, call_told, entry_told, unwinding_told, step_told}
 
 does_told : (e : Moment) (at : Site) (r : Row) → Knows e → IsMethodOf e.program (unwrap_or (frame_of e).method 0) → Told e (does e at r)
 does_told e at (row.Frame r) knows is = on_frame_told e (after at r (frame_of e))

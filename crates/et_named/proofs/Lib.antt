@@ -1,6 +1,0 @@
-mod Words
-mod Ways
-mod Members
-mod Rows
-mod Calls
-mod Turns
