@@ -1,7 +1,4 @@
 //! How the run of a program begins: its first state, which is sound (JVMS 5.2).
 #![tactic(auto)]
 
-mod first;
 pub mod laws;
-
-pub use first::{begin, start_lines};

@@ -1,6 +1,7 @@
 //! A linked program and its machine, as the run with stamps knows them.
 #![tactic(auto)]
 
+mod first;
 mod guest;
 mod heap;
 pub mod laws;
@@ -12,6 +13,7 @@ mod steps;
 mod threads;
 mod turns;
 
+pub use first::{begin, start_lines};
 pub use guest::ProgramGuest;
 pub use named::NamedProgram;
 pub use room::GuestRoom;

@@ -13,10 +13,10 @@ ghost use Rattle.et_loop.specs.Traced.{WritesTrace, WritesFront};
 ghost use Rattle.et_state.specs.Options.{AreOptions};
 ghost use Rattle.et_run.specs.Runs.{IsRunnable};
 
+use crate::first::{begin, start_lines};
 use crate::guest::ProgramGuest;
 use crate::named::NamedProgram;
 use et_base::{NoMemory, Steps};
-use et_begin::{begin, start_lines};
 use et_io::{RunFault, Sink};
 use et_loop::{Ran, run_stamped};
 use et_program::Program;

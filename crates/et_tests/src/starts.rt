@@ -1,9 +1,9 @@
 //! A class with nothing but a main, before its first event.
 
 use et_base::{ClassId, ObjectId, ThreadId};
-use et_begin::{begin, start_lines};
 use et_class::{ClassFault, ClassFile, read_class};
 use et_link::link;
+use et_run::{begin, start_lines};
 use et_state::Record;
 use std::alloc::Global;
 use std::process::Abort;

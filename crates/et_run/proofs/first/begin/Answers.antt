@@ -1,7 +1,7 @@
 use Rattle.std.proofs.Common.{rules, arith}
 use Rattle.std.proofs.lemmas.Grind.{common_steps}
 use Rattle.et_begin.proofs.Starting.{machine_sound, start_sound}
-use Rattle.et_begin.proofs.first.begin.Goals as goal
+use Rattle.et_run.proofs.first.begin.Goals as goal
 
 pub returns-clause-state : goal.returns-clause-state
 returns-clause-state c = first_of (search rules, grind (arith, common_steps))
