@@ -51,7 +51,7 @@ use Rattle.et_sound.proofs.Fields.{Passes, position_passes}
 use Rattle.et_begin.specs.ClassNames.{HasClassName}
 use Rattle.et_begin.proofs.Making.{class_in}
 use Rattle.et_begin.proofs.Places.{one_of}
-use Rattle.et_facts.proofs.Classes.{length_all, array_in}
+use Rattle.et_linked.proofs.Classes.{length_all, array_in}
 use Rattle.et_promises.specs.Rules.{KeepsCode, KeepsCodeRules}
 use Rattle.et_promises.proofs.ArrayNames.{IsArrayName, IsNumbered, all_names, met_is_named, one_more, known_below, number_of, flat_has, numbered_has}
 use Rattle.et_promises.proofs.Instructions.{base_opcode, single_opcode, multi_opcode, class_index}

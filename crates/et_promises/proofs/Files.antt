@@ -35,7 +35,7 @@ use Rattle.et_event.specs.Calls.{entry_count}
 use Rattle.et_link.specs.Files.{or_empty}
 use Rattle.et_link.specs.Loaded.{LoadedMember, loaded_class, loaded_method}
 use Rattle.et_link.specs.MembersOf.{text_of}
-use Rattle.et_facts.proofs.Marks.{AreWell, well_before, well_behind, well_first, well_rest, along_each}
+use Rattle.et_linked.proofs.Marks.{AreWell, well_before, well_behind, well_first, well_rest, along_each}
 use Rattle.et_promises.specs.Rules.{is_clinit, KeepsNames, KeepsCode, KeepsMethodRules, KeepsCodeRules}
 
 -- A METHOD

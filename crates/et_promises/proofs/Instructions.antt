@@ -15,7 +15,7 @@ use Rattle.et_event.specs.declared.rows.Row.{Row}
 use Rattle.et_event.specs.declared.rows.Row.TheVariants.{Frame, PoolConstant, Divide, Heap, Call, Throw, Monitor}
 use Rattle.et_event.specs.Sites.{Site, Member, member_of, natural}
 use Rattle.et_event.specs.Table.{rows, row_among, row_of}
-use Rattle.et_facts.proofs.Classes.{past}
+use Rattle.et_linked.proofs.Classes.{past}
 
 -- ROWS: the opcodes of the rows that pass a test
 

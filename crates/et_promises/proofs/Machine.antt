@@ -44,10 +44,10 @@ use Rattle.et_begin.proofs.Counts.{placed_at}
 use Rattle.et_begin.proofs.Making.{numbered_all, placed_all, class_in, named_in}
 use Rattle.et_begin.proofs.Places.{at_map, one_of}
 use Rattle.et_begin.proofs.Slotted.{has_slots}
-use Rattle.et_facts.specs.Fields.{HasStaticFields}
-use Rattle.et_facts.proofs.Above.{interface_is, knows_interfaces}
-use Rattle.et_facts.proofs.Classes.{length_all, array_in}
-use Rattle.et_facts.proofs.Static.{fields_static}
+use Rattle.et_linked.specs.Fields.{HasStaticFields}
+use Rattle.et_linked.proofs.Above.{interface_is, knows_interfaces}
+use Rattle.et_linked.proofs.Classes.{length_all, array_in}
+use Rattle.et_linked.proofs.Static.{fields_static}
 
 -- THE TABLE: class t of it is right below Object, is no interface, and declares so many slots
 

@@ -39,7 +39,7 @@ use Rattle.et_event.specs.Sites.{Site, Member, member_of, natural, no_constants,
 use Rattle.et_event.specs.Table.{row_of}
 use Rattle.et_sound.specs.Programs.{HasMethods}
 use Rattle.et_sound.proofs.Fields.{Passes, position_passes}
-use Rattle.et_facts.proofs.Lists.{all_numbered}
+use Rattle.et_linked.proofs.Lists.{all_numbered}
 use Rattle.et_promises.specs.Rules.{is_clinit, KeepsNames, KeepsCode, KeepsMethodRules, KeepsCodeRules}
 use Rattle.et_promises.proofs.Instructions.{NamesMember, call_opcode, member_index, member_named}
 use Rattle.et_promises.proofs.Threads.{IsPlain, run_is_plain, few_slots, pool_is, thread_slots}

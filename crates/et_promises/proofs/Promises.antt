@@ -17,13 +17,13 @@ use Rattle.et_begin.specs.Interfaces.{HaveStaticFields}
 use Rattle.et_begin.proofs.Making.{makes_sound, errors_hold}
 use Rattle.et_begin.proofs.Names.{has_class_name}
 use Rattle.et_begin.proofs.Slotted.{has_slots}
-use Rattle.et_facts.specs.Fields.{HasStaticFields, HasStaticConstants, HasTypedConstants, KeepsFieldRules}
-use Rattle.et_facts.proofs.Above.{knows_interfaces}
-use Rattle.et_facts.proofs.Classes.{length_all}
-use Rattle.et_facts.proofs.Elements.{elements_within}
-use Rattle.et_facts.proofs.Programs.{in_order, has_initializers}
-use Rattle.et_facts.proofs.Static.{fields_static}
-use Rattle.et_facts.proofs.Typed.{keeps_field_rules}
+use Rattle.et_linked.specs.Fields.{HasStaticFields, HasStaticConstants, HasTypedConstants, KeepsFieldRules}
+use Rattle.et_linked.proofs.Above.{knows_interfaces}
+use Rattle.et_linked.proofs.Classes.{length_all}
+use Rattle.et_linked.proofs.Elements.{elements_within}
+use Rattle.et_linked.proofs.Programs.{in_order, has_initializers}
+use Rattle.et_linked.proofs.Static.{fields_static}
+use Rattle.et_linked.proofs.Typed.{keeps_field_rules}
 use Rattle.et_promises.specs.Programs.{IsOfFile, KeepRules, KeepsPromises}
 use Rattle.et_promises.specs.Rules.{KeepsMethodRules, KeepsCodeRules}
 use Rattle.et_promises.proofs.Arrays.{has_arrays}

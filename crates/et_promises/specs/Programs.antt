@@ -18,7 +18,7 @@ use Rattle.et_throw.specs.Interfaces.{KnowsInterfaces}
 use Rattle.et_initialize.specs.Programs.{IsInOrder}
 use Rattle.et_begin.specs.ClassNames.{HasClassName}
 use Rattle.et_begin.specs.Interfaces.{HaveStaticFields}
-use Rattle.et_facts.specs.Fields.{KeepsFieldRules}
+use Rattle.et_linked.specs.Fields.{KeepsFieldRules}
 use Rattle.et_promises.specs.Rules.{KeepsMethodRules, KeepsCodeRules}
 
 -- the class is that of a class file

@@ -5,7 +5,7 @@ ghost use Rattle.std.specs.Prelude.{◌<◌, ℕ, List, All, length, map};
 ghost use Rattle.et_begin.specs.ClassNames.{HasClassName};
 ghost use Rattle.et_class.specs.Classes.{IsClassFile};
 ghost use Rattle.et_class.specs.Layout.{ClassOf};
-ghost use Rattle.et_facts.specs.Fields.{KeepsFieldRules};
+ghost use Rattle.et_linked.specs.Fields.{KeepsFieldRules};
 ghost use Rattle.et_base.specs.Numbers.{AreBytes};
 ghost use Rattle.et_link.specs.LinkFaults.{IsLinkable};
 ghost use Rattle.et_link.specs.Loaded.{LoadedClass, loaded_class};

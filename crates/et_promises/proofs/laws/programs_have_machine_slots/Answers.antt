@@ -1,5 +1,5 @@
 use Rattle.std.proofs.lemmas.List.Elements.{All-weaker}
-use Rattle.et_facts.specs.Fields.{HasStaticFields, KeepsFieldRules}
+use Rattle.et_linked.specs.Fields.{HasStaticFields, KeepsFieldRules}
 use Rattle.et_promises.proofs.Machine.{has_machine_slots as proof}
 use Rattle.et_promises.proofs.laws.programs_have_machine_slots.Goals as goal
 

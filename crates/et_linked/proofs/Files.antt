@@ -17,8 +17,8 @@ use Rattle.et_class.specs.Rules.{pool_marks, header_marks, header_of}
 use Rattle.et_class.specs.Methods.{method_marks}
 use Rattle.et_class.specs.Classes.{IsClassFile}
 use Rattle.et_link.specs.Loaded.{LoadedMember, loaded_class, loaded_field}
-use Rattle.et_facts.specs.Fields.{HasStaticFields, HasStaticConstants}
-use Rattle.et_facts.proofs.Marks.{AreWell, well_before, well_behind, well_first, well_rest, along_each}
+use Rattle.et_linked.specs.Fields.{HasStaticFields, HasStaticConstants}
+use Rattle.et_linked.proofs.Marks.{AreWell, well_before, well_behind, well_first, well_rest, along_each}
 
 -- the rules on a field
 pub record IsWellField (slots : List (Option Item)) (interface : Bool) (m : MemberOf) : Type 0 where

@@ -5,7 +5,7 @@ ghost use Rattle.std.specs.Prelude.{ℕ, List, All};
 ghost use Rattle.et_begin.specs.Interfaces.{HaveStaticFields};
 ghost use Rattle.et_class.specs.Classes.{IsClassFile};
 ghost use Rattle.et_class.specs.Layout.{ClassOf};
-ghost use Rattle.et_facts.specs.Fields.{KeepsFieldRules};
+ghost use Rattle.et_linked.specs.Fields.{KeepsFieldRules};
 ghost use Rattle.et_initialize.specs.Programs.{IsInOrder};
 ghost use Rattle.et_link.specs.LinkFaults.{IsLinkable};
 ghost use Rattle.et_link.specs.Loaded.{LoadedClass, loaded_class};

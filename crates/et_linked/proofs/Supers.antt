@@ -19,8 +19,8 @@ use Rattle.et_link.specs.Loaded.{LoadedClass}
 use Rattle.et_link.specs.LinkFaults.{IsLinkable}
 use Rattle.et_link.specs.declared.fault.LinkFaultKind.TheVariants.{NoSuper, Cycle}
 use Rattle.et_begin.proofs.Places.{at_mapped}
-use Rattle.et_facts.proofs.Ascending.{each}
-use Rattle.et_facts.proofs.Lists.{all_added, all_flat}
+use Rattle.et_linked.proofs.Ascending.{each}
+use Rattle.et_linked.proofs.Lists.{all_added, all_flat}
 
 -- class k of the set is no interface, or is one
 pub record IsClass (set : List Outline) (k : ℕ) : Type 0 where

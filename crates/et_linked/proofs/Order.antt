@@ -21,9 +21,9 @@ use Rattle.et_link.specs.MembersOf.{methods_of}
 use Rattle.et_link.specs.ProgramOf.{names_of, program_with}
 use Rattle.et_link.proofs.TabledLemmas.{order_within}
 use Rattle.et_begin.proofs.Making.{class_in}
-use Rattle.et_facts.proofs.Classes.{length_all, class_cases, array_in}
-use Rattle.et_facts.proofs.Supers.{IsClass, IsInterface, kinds, interfaces, below}
-use Rattle.et_facts.proofs.Lists.{all_added, all_flat, all_before, added_all_has, flat_has, reverse_all, reverse_has}
+use Rattle.et_linked.proofs.Classes.{length_all, class_cases, array_in}
+use Rattle.et_linked.proofs.Supers.{IsClass, IsInterface, kinds, interfaces, below}
+use Rattle.et_linked.proofs.Lists.{all_added, all_flat, all_before, added_all_has, flat_has, reverse_all, reverse_has}
 
 module _ (files : List LoadedClass) (rows : List Ancestry) (pools : List Constants) (is : IsAncestry (links (set_of files)) rows) (linkable : IsLinkable files) where
   abbrev set : List Outline

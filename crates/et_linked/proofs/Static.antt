@@ -25,9 +25,9 @@ use Rattle.et_link.proofs.TabledLemmas.{length-placed, fields_within}
 use Rattle.et_begin.specs.Interfaces.{HaveStaticFields}
 use Rattle.et_begin.proofs.Counts.{placed_at}
 use Rattle.et_begin.proofs.Places.{at_map, at_mapped}
-use Rattle.et_facts.specs.Fields.{HasStaticFields}
-use Rattle.et_facts.proofs.Above.{interface_is, knows_interfaces}
-use Rattle.et_facts.proofs.Lists.{all_numbered}
+use Rattle.et_linked.specs.Fields.{HasStaticFields}
+use Rattle.et_linked.proofs.Above.{interface_is, knows_interfaces}
+use Rattle.et_linked.proofs.Lists.{all_numbered}
 
 -- class k is an interface only if the field is static
 abbrev IsWell : List Outline → FieldInfo → Type 0

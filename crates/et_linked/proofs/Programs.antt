@@ -37,11 +37,11 @@ use Rattle.et_sound.proofs.Fields.{Passes, position_passes}
 use Rattle.et_initialize.specs.Programs.{IsStaticOf, HasConstants, IsInOrder}
 use Rattle.et_begin.proofs.Counts.{placed_at, StandsIn, places_at}
 use Rattle.et_begin.proofs.Places.{at_mapped}
-use Rattle.et_facts.specs.Fields.{HasStaticConstants, HasTypedConstants}
-use Rattle.et_facts.proofs.Classes.{length_all, class_cases}
-use Rattle.et_facts.proofs.Supers.{IsInterface}
-use Rattle.et_facts.proofs.Lists.{all_numbered, all_places, all_before, Ascends, places_ascend}
-use Rattle.et_facts.proofs.Order.{orders, own, within_all, run_kinds}
+use Rattle.et_linked.specs.Fields.{HasStaticConstants, HasTypedConstants}
+use Rattle.et_linked.proofs.Classes.{length_all, class_cases}
+use Rattle.et_linked.proofs.Supers.{IsInterface}
+use Rattle.et_linked.proofs.Lists.{all_numbered, all_places, all_before, Ascends, places_ascend}
+use Rattle.et_linked.proofs.Order.{orders, own, within_all, run_kinds}
 
 -- FIELDS WITH CONSTANTS
 

@@ -19,8 +19,8 @@ use Rattle.et_link.proofs.TabledLemmas.{length-set}
 use Rattle.et_throw.specs.Interfaces.{KnowsInterfaces}
 use Rattle.et_begin.proofs.Places.{at_map, one_of}
 use Rattle.et_begin.proofs.Making.{class_in}
-use Rattle.et_facts.proofs.Classes.{class_cases}
-use Rattle.et_facts.proofs.Supers.{IsClass, IsInterface, kinds}
+use Rattle.et_linked.proofs.Classes.{class_cases}
+use Rattle.et_linked.proofs.Supers.{IsClass, IsInterface, kinds}
 
 -- what the set says of a class, its flags say
 flags_say : (cs : List BootClassOf) (files : List LoadedClass) (k : ℕ)

@@ -1,7 +1,7 @@
 use Rattle.std.proofs.lemmas.List.Elements.{All-weaker}
-use Rattle.et_facts.specs.Fields.{HasStaticConstants, HasTypedConstants, KeepsFieldRules}
-use Rattle.et_facts.proofs.Programs.{has_initializers as proof}
-use Rattle.et_facts.proofs.laws.programs_have_initializers.Goals as goal
+use Rattle.et_linked.specs.Fields.{HasStaticConstants, HasTypedConstants, KeepsFieldRules}
+use Rattle.et_linked.proofs.Programs.{has_initializers as proof}
+use Rattle.et_linked.proofs.laws.programs_have_initializers.Goals as goal
 
 pub returns : goal.returns
 returns c =
