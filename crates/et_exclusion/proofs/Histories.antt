@@ -30,7 +30,7 @@ use Rattle.et_sound.specs.Outcomes.{KeepsSound}
 use Rattle.et_sound.specs.WellFormed.{IsThere}
 use Rattle.et_sound.proofs.Growing.{free_is_sound}
 use Rattle.et_sound.proofs.Turning.{event_sound}
-use Rattle.et_begin.proofs.Flushing.{sound_left}
+use Rattle.et_linked.proofs.Flushing.{sound_left}
 use Rattle.et_run.specs.Guests.{IsSoundRun}
 use Rattle.et_run.specs.Histories.{unended_of, flushed_of}
 use Rattle.et_exclusion.specs.Holding.{monitor_in}

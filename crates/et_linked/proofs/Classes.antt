@@ -13,8 +13,8 @@ use Rattle.et_link.specs.Loaded.{LoadedClass}
 use Rattle.et_link.specs.MembersOf.{numbered}
 use Rattle.et_link.specs.ProgramOf.{heads_of, names_of, program_with}
 use Rattle.et_link.proofs.TabledLemmas.{length-singles, length-classes}
-use Rattle.et_begin.proofs.Places.{at_numbered}
-use Rattle.et_begin.proofs.Making.{class_in}
+use Rattle.et_linked.proofs.Places.{at_numbered}
+use Rattle.et_linked.proofs.Making.{class_in}
 
 pub past : {X : Type 0} (xs : List X) (k : ℕ) (d : X) → length xs ≤ k → slice_index_or xs k d ≡ d
 past [] k d le = refl

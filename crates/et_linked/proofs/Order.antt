@@ -20,7 +20,7 @@ use Rattle.et_link.specs.LinkFaults.{IsLinkable}
 use Rattle.et_link.specs.MembersOf.{methods_of}
 use Rattle.et_link.specs.ProgramOf.{names_of, program_with}
 use Rattle.et_link.proofs.TabledLemmas.{order_within}
-use Rattle.et_begin.proofs.Making.{class_in}
+use Rattle.et_linked.proofs.Making.{class_in}
 use Rattle.et_linked.proofs.Classes.{length_all, class_cases, array_in}
 use Rattle.et_linked.proofs.Supers.{IsClass, IsInterface, kinds, interfaces, below}
 use Rattle.et_linked.proofs.Lists.{all_added, all_flat, all_before, added_all_has, flat_has, reverse_all, reverse_has}

@@ -35,8 +35,8 @@ use Rattle.et_event.specs.Sound.{is_of_kind, returned_of}
 use Rattle.et_sound.specs.Programs.{HasConstant, IsInitializer, HasInitializers, value_like}
 use Rattle.et_sound.proofs.Fields.{Passes, position_passes}
 use Rattle.et_initialize.specs.Programs.{IsStaticOf, HasConstants, IsInOrder}
-use Rattle.et_begin.proofs.Counts.{placed_at, StandsIn, places_at}
-use Rattle.et_begin.proofs.Places.{at_mapped}
+use Rattle.et_linked.proofs.Counts.{placed_at, StandsIn, places_at}
+use Rattle.et_linked.proofs.Places.{at_mapped}
 use Rattle.et_linked.specs.Fields.{HasStaticConstants, HasTypedConstants}
 use Rattle.et_linked.proofs.Classes.{length_all, class_cases}
 use Rattle.et_linked.proofs.Supers.{IsInterface}

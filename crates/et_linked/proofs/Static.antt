@@ -22,9 +22,9 @@ use Rattle.et_link.specs.MembersOf.{numbered, fields_of, boot_field, boot_fields
 use Rattle.et_link.specs.ProgramOf.{program_with, IsProgramOf}
 use Rattle.et_link.specs.Slots.{slots_above}
 use Rattle.et_link.proofs.TabledLemmas.{length-placed, fields_within}
-use Rattle.et_begin.specs.Interfaces.{HaveStaticFields}
-use Rattle.et_begin.proofs.Counts.{placed_at}
-use Rattle.et_begin.proofs.Places.{at_map, at_mapped}
+use Rattle.et_linked.specs.Interfaces.{HaveStaticFields}
+use Rattle.et_linked.proofs.Counts.{placed_at}
+use Rattle.et_linked.proofs.Places.{at_map, at_mapped}
 use Rattle.et_linked.specs.Fields.{HasStaticFields}
 use Rattle.et_linked.proofs.Above.{interface_is, knows_interfaces}
 use Rattle.et_linked.proofs.Lists.{all_numbered}

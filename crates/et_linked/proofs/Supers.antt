@@ -18,7 +18,7 @@ use Rattle.et_link.specs.Files.{set_of}
 use Rattle.et_link.specs.Loaded.{LoadedClass}
 use Rattle.et_link.specs.LinkFaults.{IsLinkable}
 use Rattle.et_link.specs.declared.fault.LinkFaultKind.TheVariants.{NoSuper, Cycle}
-use Rattle.et_begin.proofs.Places.{at_mapped}
+use Rattle.et_linked.proofs.Places.{at_mapped}
 use Rattle.et_linked.proofs.Ascending.{each}
 use Rattle.et_linked.proofs.Lists.{all_added, all_flat}
 

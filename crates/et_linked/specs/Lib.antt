@@ -1,1 +1,5 @@
 pub mod Fields
+pub mod Rules
+pub mod Programs
+pub mod ClassNames
+pub mod Interfaces

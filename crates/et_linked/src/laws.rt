@@ -2,7 +2,7 @@
 //! is its contract. `IsLinkable` is what linking answers beside the program.
 
 ghost use Rattle.std.specs.Prelude.{ℕ, List, All};
-ghost use Rattle.et_begin.specs.Interfaces.{HaveStaticFields};
+ghost use Rattle.et_linked.specs.Interfaces.{HaveStaticFields};
 ghost use Rattle.et_class.specs.Classes.{IsClassFile};
 ghost use Rattle.et_class.specs.Layout.{ClassOf};
 ghost use Rattle.et_linked.specs.Fields.{KeepsFieldRules};

@@ -14,10 +14,10 @@ use Rattle.et_link.specs.ProgramOf.{IsProgramOf}
 use Rattle.et_link.specs.Refusals.{LinkIs}
 use Rattle.et_link.specs.declared.fault.LinkFaultKind.{LinkFaultKind}
 use Rattle.et_link.specs.declared.fault.LinkFault.TheVariants as link
-use Rattle.et_begin.specs.ClassNames.{HasClassName}
+use Rattle.et_linked.specs.ClassNames.{HasClassName}
 use Rattle.et_event.specs.Sound.{IsSoundFor}
 use Rattle.et_event.specs.Start.{start}
-use Rattle.et_promises.specs.Programs.{IsOfFile, KeepRules, KeepsPromises}
+use Rattle.et_linked.specs.Programs.{IsOfFile, KeepRules, KeepsPromises}
 use Rattle.et_run.specs.Runs.{IsRunnable}
 use Rattle.et_top.specs.Faults.{Fault, LinkFault}
 use Rattle.et_top.specs.Loaded.{IsLinked, HasItsFile}

@@ -14,7 +14,7 @@ use Rattle.et_link.specs.ProgramOf.{IsProgramOf as IsLinkOf}
 use Rattle.et_link.specs.declared.fault.LinkFaultKind.{LinkFaultKind}
 use Rattle.et_link.specs.declared.fault.LinkFault.TheVariants as link
 use Rattle.et_program.specs.Entries.{Linked}
-use Rattle.et_promises.specs.Programs.{IsOfFile}
+use Rattle.et_linked.specs.Programs.{IsOfFile}
 use Rattle.et_top.specs.Faults.{Fault, Absent, TooLong, BadClass, BadText, BadTrace, LinkFault}
 
 -- the most bytes that are read of a class file or a listing, and of a trace

@@ -1,6 +1,6 @@
 use Rattle.std.proofs.Common.{rules, arith}
 use Rattle.std.proofs.lemmas.Grind.{common_steps}
-use Rattle.et_begin.proofs.Starting.{machine_sound, start_sound}
+use Rattle.et_linked.proofs.Starting.{machine_sound, start_sound}
 use Rattle.et_run.proofs.first.begin.Goals as goal
 
 pub returns-clause-state : goal.returns-clause-state

@@ -1,6 +1,6 @@
 use Rattle.std.proofs.Common.{ℕ, ◌∙◌, ap}
 use Rattle.et_event.specs.Start.{first_class_state}
-use Rattle.et_begin.proofs.Starting.{states_next}
+use Rattle.et_linked.proofs.Starting.{states_next}
 use Rattle.et_run.proofs.first.class_states.Goals as goal
 
 pub classes-preserved : goal.classes-preserved

@@ -1,9 +1,0 @@
-pub mod Machine
-pub mod Files
-pub mod Instructions
-pub mod Threads
-pub mod Methods
-pub mod ArrayNames
-pub mod Arrays
-pub mod Bodies
-pub mod Promises
