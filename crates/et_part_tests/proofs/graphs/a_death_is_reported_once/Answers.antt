@@ -1,7 +1,7 @@
 use Rattle.std.proofs.Common.{List, [], ◌∷◌, refl}
 use Rattle.et_graph.specs.Edit.{Edit}
 use Rattle.et_graph.proofs.Legality.{row, tested_steps}
-use Rattle.et_tests.proofs.graphs.a_death_is_reported_once.Goals as goal
+use Rattle.et_part_tests.proofs.graphs.a_death_is_reported_once.Goals as goal
 
 -- the table
 abbrev edits : List Edit

@@ -4,8 +4,8 @@ use Rattle.et_graph.specs.History.{Turn, steps}
 use Rattle.et_graph.specs.Book.{StandsFor}
 use Rattle.et_graph.specs.Edit.{Edit}
 use Rattle.et_graph.specs.Taken.{AreLegalSteps}
-use Rattle.et_tests.specs.declared.graphs.Row.{Row}
-use Rattle.et_tests.proofs.graphs.play.Given as goal
+use Rattle.et_part_tests.specs.declared.graphs.Row.{Row}
+use Rattle.et_part_tests.proofs.graphs.play.Given as goal
 
 abbrev pub edit_row : Row → Edit
 edit_row r = record { fresh = r.fresh.now; lost = r.lost.now; roots = r.roots.now; cut = r.cut.now; tied = r.tied.now }

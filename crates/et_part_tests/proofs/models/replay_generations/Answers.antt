@@ -1,11 +1,11 @@
 use Rattle.std.proofs.Common.{[], ◌∷◌, refl, inl, arith}
 use denote.Param.Object.{read_made}
-use Rattle.et_tests.proofs.models.replay_generations.OwnLists.{own-1}
+use Rattle.et_part_tests.proofs.models.replay_generations.OwnLists.{own-1}
 use Rattle.et_replay.specs.declared.model.HeapModel.{Ghosts}
 use Rattle.et_replay.specs.declared.model.Kind.TheVariants.{Generational}
 use Rattle.et_replay.specs.declared.model.Policy.{Policy}
 use Rattle.et_models.proofs.Boxes.{one_zip}
-use Rattle.et_tests.proofs.models.replay_generations.Goals as goal
+use Rattle.et_part_tests.proofs.models.replay_generations.Goals as goal
 
 pub replay-requires : goal.replay-requires
 replay-requires c =

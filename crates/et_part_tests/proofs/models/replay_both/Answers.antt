@@ -1,9 +1,9 @@
 use Rattle.std.proofs.Common.{[], ◌∷◌, refl, inl, inr}
 use denote.Param.Object.{read_made}
-use Rattle.et_tests.proofs.models.replay_both.OwnLists.{own-1}
+use Rattle.et_part_tests.proofs.models.replay_both.OwnLists.{own-1}
 use Rattle.et_replay.specs.declared.model.HeapModel.{Ghosts}
 use Rattle.et_models.proofs.Boxes.{two_items, two_zip}
-use Rattle.et_tests.proofs.models.replay_both.Goals as goal
+use Rattle.et_part_tests.proofs.models.replay_both.Goals as goal
 
 pub replay-requires : goal.replay-requires
 replay-requires c =

@@ -1,7 +1,7 @@
 use Rattle.std.proofs.Common.{List, [], ◌∷◌, refl}
 use Rattle.et_graph.specs.Edit.{Edit}
 use Rattle.et_graph.proofs.Legality.{row, tested_steps}
-use Rattle.et_tests.proofs.graphs.what_was_held_weakly_dies_at_its_last_stay.Goals as goal
+use Rattle.et_part_tests.proofs.graphs.what_was_held_weakly_dies_at_its_last_stay.Goals as goal
 
 -- the table
 abbrev edits : List Edit

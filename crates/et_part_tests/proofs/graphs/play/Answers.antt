@@ -6,9 +6,9 @@ use Rattle.et_graph.specs.Edit.{Edit, step_of}
 use Rattle.et_graph.specs.History.{Turn, graph_after}
 use Rattle.et_graph.specs.Book.{Book, StandsFor}
 use Rattle.et_graph.specs.Taken.{with_step, AreLegalSteps}
-use Rattle.et_tests.specs.declared.graphs.Row.{Row}
-use Rattle.et_tests.proofs.graphs.play.Invariants.{edit_row}
-use Rattle.et_tests.proofs.graphs.play.Goals as goal
+use Rattle.et_part_tests.specs.declared.graphs.Row.{Row}
+use Rattle.et_part_tests.proofs.graphs.play.Invariants.{edit_row}
+use Rattle.et_part_tests.proofs.graphs.play.Goals as goal
 
 -- the next row and those after it are legal
 next_legal : (rows : List Row) (i : ℕ) (d : Row) (turns : List Turn) (e : Edit) → i < length rows → e ≡ edit_row (get_or rows i d) → AreLegalSteps turns (map edit_row (drop i rows))
