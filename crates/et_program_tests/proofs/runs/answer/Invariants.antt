@@ -1,4 +1,4 @@
-use Rattle.et_rows.proofs.runs.answer.Given as goal
+use Rattle.et_program_tests.proofs.runs.answer.Given as goal
 
 -- the ledger is the one that the blank names
 abbrev pub ghosts-counted : goal.ghosts-counted
