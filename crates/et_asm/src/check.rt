@@ -61,7 +61,8 @@ fn entry_fits<'a>(symbols: &Symbols<'a>, e: &Entry<'a>) -> bool
 
 fn pair_fits<'a>(symbols: &Symbols<'a>, name: &Word<'a>, descriptor: &Word<'a>) -> bool
     requires { IsIndexed symbols.now symbols.now.entries.keys }
-    ensures { result ≡ list_all (entry_fits symbols.now.entries.keys) (Entry.Utf8 name.now ∷ Entry.Utf8 descriptor.now ∷ []) }
+    ensures { result ≡ list_all (entry_fits symbols.now.entries.keys)
+        (Entry.Utf8 name.now ∷ Entry.Utf8 descriptor.now ∷ []) }
 {
     let first = entry_fits(symbols, &Entry::Utf8(name.copy()));
     let second = entry_fits(symbols, &Entry::Utf8(descriptor.copy()));
@@ -123,7 +124,8 @@ fn line_fits<'a>(symbols: &Symbols<'a>, line: &Line<'a>) -> bool
 /// Whether the entries of a field's constant keep the limits.
 fn constant_fits<'a>(symbols: &Symbols<'a>, constant: &Option<Entry<'a>>) -> bool
     requires { IsIndexed symbols.now symbols.now.entries.keys }
-    ensures { result ≡ list_all (entry_fits symbols.now.entries.keys) (constant_entries constant.now) }
+    ensures { result
+        ≡ list_all (entry_fits symbols.now.entries.keys) (constant_entries constant.now) }
 {
     match constant {
         None => true,
@@ -138,7 +140,8 @@ fn constant_fits<'a>(symbols: &Symbols<'a>, constant: &Option<Entry<'a>>) -> boo
 /// Whether the name of a method's attribute keeps the limits, where it has one.
 fn body_fits(symbols: &Symbols, has_body: bool) -> bool
     requires { IsIndexed symbols.now symbols.now.entries.keys }
-    ensures { result ≡ (if has_body then entry_fits symbols.now.entries.keys (Entry.Utf8 (codes "Code")) else true) }
+    ensures { result ≡ (if has_body then entry_fits symbols.now.entries.keys
+        (Entry.Utf8 (codes "Code")) else true) }
 {
     if has_body {
         entry_fits(symbols, &Entry::Utf8(Word::new(b"Code")))
@@ -171,7 +174,8 @@ fn check_own<'a>(
     p: &Parsed<'a>,
 ) -> First
     requires { IsIndexed symbols.now symbols.now.entries.keys }
-    ensures { result ≡ first_from first (own_marks symbols.now.entries.keys number stage few p.now) }
+    ensures { result
+        ≡ first_from first (own_marks symbols.now.entries.keys number stage few p.now) }
 {
     let stands = may_stand(stage, &p.line);
     let fits = line_fits(symbols, &p.line);
@@ -190,7 +194,8 @@ fn are_defined(labels: &Labels, names: &[Word]) -> bool
 
 /// Whether the labels of the pairs of a `lookupswitch` are defined.
 fn pairs_defined(labels: &Labels, words: &[Word]) -> bool
-    ensures { result ≡ list_all (is_defined (places labels.now.entries)) (map (λ p. p.1) (pairs words.now)) }
+    ensures { result
+        ≡ list_all (is_defined (places labels.now.entries)) (map (λ p. p.1) (pairs words.now)) }
 {
     let mut rest = words;
     while let [_, target, more @ ..] = rest {
@@ -288,7 +293,8 @@ fn check_body_line<'a>(
     catches: usize,
     line: &Line<'a>,
 ) -> First
-    ensures { result ≡ first_from first (body_line_marks (places labels.now.entries) number (places seen.now.entries) at end catches line.now) }
+    ensures { result ≡ first_from first (body_line_marks
+        (places labels.now.entries) number (places seen.now.entries) at end catches line.now) }
 {
     let new = defines_new(seen, line);
     let defined = uses_defined(labels, line);
@@ -310,7 +316,8 @@ fn check_body<'a>(
 ) -> Result<First, AllocError>
     requires pool { IsIndexed symbols.now symbols.now.entries.keys }
     requires number { number < 2 ^ 62 }
-    ensures { IfOk result (λ found. found ≡ first_from first (body_marks symbols.now.entries.keys number body.now)) }
+    ensures { IfOk result
+        (λ found. found ≡ first_from first (body_marks symbols.now.entries.keys number body.now)) }
 {
     let labels = labels_of(alloc, symbols, body)?;
     let mut found = first;
@@ -339,7 +346,8 @@ fn check_outside<'a>(
 ) -> Result<First, AllocError>
     requires pool { IsIndexed symbols.now symbols.now.entries.keys }
     requires number { number < 2 ^ 61 }
-    ensures { IfOk result (λ found. found ≡ first_from first (outside_marks symbols.now.entries.keys number p.now more.now)) }
+    ensures { IfOk result (λ found.
+        found ≡ first_from first (outside_marks symbols.now.entries.keys number p.now more.now)) }
 {
     let first = mark(first, number, LABEL, uses_none(&p.line));
     if opens(&p.line) {
@@ -361,7 +369,8 @@ fn check_line<'a>(
 ) -> Result<First, AllocError>
     requires pool { IsIndexed symbols.now symbols.now.entries.keys }
     requires number { number < 2 ^ 61 }
-    ensures { IfOk result (λ found. found ≡ first_from first (stage_marks symbols.now.entries.keys number stage few p.now more.now)) }
+    ensures { IfOk result (λ found. found
+        ≡ first_from first (stage_marks symbols.now.entries.keys number stage few p.now more.now)) }
 {
     let first = check_own(first, symbols, number, stage, few, p);
     if is_inside(stage) {
@@ -377,7 +386,8 @@ pub(crate) fn check_lines<'a>(
     lines: &[Parsed<'a>],
 ) -> Result<First, AllocError>
     requires { IsIndexed symbols.now symbols.now.entries.keys }
-    ensures { IfOk result (λ found. found ≡ first_from None (listing_marks symbols.now.entries.keys lines.now)) }
+    ensures { IfOk result
+        (λ found. found ≡ first_from None (listing_marks symbols.now.entries.keys lines.now)) }
 {
     let mut found = None;
     let mut stage = Stage::Start;

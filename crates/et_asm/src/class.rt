@@ -35,7 +35,8 @@ fn put_header<'a>(
     line: &Line<'a>,
 ) -> Result<(), AllocError>
     requires { IsIndexed symbols.now symbols.now.entries.keys }
-    ensures { OnOk result (out.new.items ≡ out.old.items ++ header_bytes symbols.now.entries.keys line.now) }
+    ensures { OnOk result
+        (out.new.items ≡ out.old.items ++ header_bytes symbols.now.entries.keys line.now) }
 {
     match line {
         Line::Class(name, super_name, flags) => {
@@ -54,7 +55,8 @@ fn put_interface<'a>(
     line: &Line<'a>,
 ) -> Result<(), AllocError>
     requires { IsIndexed symbols.now symbols.now.entries.keys }
-    ensures { OnOk result (out.new.items ≡ out.old.items ++ interface_bytes symbols.now.entries.keys line.now) }
+    ensures { OnOk result
+        (out.new.items ≡ out.old.items ++ interface_bytes symbols.now.entries.keys line.now) }
 {
     match line {
         Line::Interface(name) => put_index(out, symbols, Entry::Class(name.copy())),
@@ -69,7 +71,8 @@ fn put_value<'a>(
     value: &Entry<'a>,
 ) -> Result<(), AllocError>
     requires { IsIndexed symbols.now symbols.now.entries.keys }
-    ensures { OnOk result (out.new.items ≡ out.old.items ++ constant_bytes symbols.now.entries.keys (Some value.now)) }
+    ensures { OnOk result (out.new.items
+        ≡ out.old.items ++ constant_bytes symbols.now.entries.keys (Some value.now)) }
 {
     put_u2(out, 1)?;
     put_index(out, symbols, Entry::Utf8(Word::new(b"ConstantValue")))?;
@@ -84,7 +87,8 @@ fn put_constant<'a>(
     constant: &Option<Entry<'a>>,
 ) -> Result<(), AllocError>
     requires { IsIndexed symbols.now symbols.now.entries.keys }
-    ensures { OnOk result (out.new.items ≡ out.old.items ++ constant_bytes symbols.now.entries.keys constant.now) }
+    ensures { OnOk result
+        (out.new.items ≡ out.old.items ++ constant_bytes symbols.now.entries.keys constant.now) }
 {
     match constant {
         None => put_u2(out, 0),
@@ -101,7 +105,8 @@ fn put_member<'a>(
     flags: u16,
 ) -> Result<(), AllocError>
     requires { IsIndexed symbols.now symbols.now.entries.keys }
-    ensures { OnOk result (out.new.items ≡ out.old.items ++ member_bytes symbols.now.entries.keys name.now descriptor.now flags) }
+    ensures { OnOk result (out.new.items
+        ≡ out.old.items ++ member_bytes symbols.now.entries.keys name.now descriptor.now flags) }
 {
     put_u2(out, flags as usize)?;
     put_index(out, symbols, Entry::Utf8(name.copy()))?;
@@ -115,7 +120,8 @@ fn put_field<'a>(
     line: &Line<'a>,
 ) -> Result<(), AllocError>
     requires { IsIndexed symbols.now symbols.now.entries.keys }
-    ensures { OnOk result (out.new.items ≡ out.old.items ++ field_bytes symbols.now.entries.keys line.now) }
+    ensures { OnOk result
+        (out.new.items ≡ out.old.items ++ field_bytes symbols.now.entries.keys line.now) }
 {
     match line {
         Line::Field(name, descriptor, flags, constant) => {
@@ -135,7 +141,8 @@ fn put_code_of<'a>(
     body: &[Parsed<'a>],
 ) -> Result<(), AllocError>
     requires { IsIndexed symbols.now symbols.now.entries.keys }
-    ensures { OnOk result (out.new.items ≡ out.old.items ++ body_bytes symbols.now.entries.keys (Some limits) body.now) }
+    ensures { OnOk result (out.new.items
+        ≡ out.old.items ++ body_bytes symbols.now.entries.keys (Some limits) body.now) }
 {
     put_u2(out, 1)?;
     put_index(out, symbols, Entry::Utf8(Word::new(b"Code")))?;
@@ -151,7 +158,8 @@ fn put_body<'a>(
     body: &[Parsed<'a>],
 ) -> Result<(), AllocError>
     requires { IsIndexed symbols.now symbols.now.entries.keys }
-    ensures { OnOk result (out.new.items ≡ out.old.items ++ body_bytes symbols.now.entries.keys limits body.now) }
+    ensures { OnOk result
+        (out.new.items ≡ out.old.items ++ body_bytes symbols.now.entries.keys limits body.now) }
 {
     match limits {
         None => put_u2(out, 0),
@@ -168,7 +176,8 @@ fn put_method<'a>(
     more: &[Parsed<'a>],
 ) -> Result<(), AllocError>
     requires { IsIndexed symbols.now symbols.now.entries.keys }
-    ensures { OnOk result (out.new.items ≡ out.old.items ++ method_bytes symbols.now.entries.keys line.now more.now) }
+    ensures { OnOk result
+        (out.new.items ≡ out.old.items ++ method_bytes symbols.now.entries.keys line.now more.now) }
 {
     match line {
         Line::Method(name, descriptor, flags, limits) => {
@@ -185,7 +194,8 @@ fn put_headers<'a>(
     lines: &[Parsed<'a>],
 ) -> Result<(), AllocError>
     requires { IsIndexed symbols.now symbols.now.entries.keys }
-    ensures { OnOk result (out.new.items ≡ out.old.items ++ flat_map (λ p. header_bytes symbols.now.entries.keys p.line) lines.now) }
+    ensures { OnOk result (out.new.items
+        ≡ out.old.items ++ flat_map (λ p. header_bytes symbols.now.entries.keys p.line) lines.now) }
 {
     for p in lines {
         put_header(out, symbols, &p.line)?;
@@ -199,7 +209,8 @@ fn put_interfaces<'a>(
     lines: &[Parsed<'a>],
 ) -> Result<(), AllocError>
     requires { IsIndexed symbols.now symbols.now.entries.keys }
-    ensures { OnOk result (out.new.items ≡ out.old.items ++ flat_map (λ p. interface_bytes symbols.now.entries.keys p.line) lines.now) }
+    ensures { OnOk result (out.new.items ≡ out.old.items
+        ++ flat_map (λ p. interface_bytes symbols.now.entries.keys p.line) lines.now) }
 {
     for p in lines {
         put_interface(out, symbols, &p.line)?;
@@ -213,7 +224,8 @@ fn put_fields<'a>(
     lines: &[Parsed<'a>],
 ) -> Result<(), AllocError>
     requires { IsIndexed symbols.now symbols.now.entries.keys }
-    ensures { OnOk result (out.new.items ≡ out.old.items ++ flat_map (λ p. field_bytes symbols.now.entries.keys p.line) lines.now) }
+    ensures { OnOk result (out.new.items
+        ≡ out.old.items ++ flat_map (λ p. field_bytes symbols.now.entries.keys p.line) lines.now) }
 {
     for p in lines {
         put_field(out, symbols, &p.line)?;
@@ -231,7 +243,8 @@ fn put_method_at<'a>(
     more: &[Parsed<'a>],
 ) -> Result<(), AllocError>
     requires { IsIndexed symbols.now symbols.now.entries.keys }
-    ensures { OnOk result (out.new.items ≡ out.old.items ++ stage_method symbols.now.entries.keys stage line.now more.now) }
+    ensures { OnOk result (out.new.items
+        ≡ out.old.items ++ stage_method symbols.now.entries.keys stage line.now more.now) }
 {
     if is_inside(stage) {
         return Ok(());
@@ -246,7 +259,8 @@ fn put_methods<'a>(
     lines: &[Parsed<'a>],
 ) -> Result<(), AllocError>
     requires { IsIndexed symbols.now symbols.now.entries.keys }
-    ensures { OnOk result (out.new.items ≡ out.old.items ++ methods_bytes symbols.now.entries.keys lines.now) }
+    ensures { OnOk result
+        (out.new.items ≡ out.old.items ++ methods_bytes symbols.now.entries.keys lines.now) }
 {
     let mut stage = Stage::Start;
     for i in 0..lines.len() {

@@ -35,7 +35,8 @@ fn put_code<'a>(
     body: &[Parsed<'a>],
 ) -> Result<(), AllocError>
     requires { IsIndexed symbols.now symbols.now.entries.keys }
-    ensures { OnOk result (out.new.items ≡ out.old.items ++ code_bytes symbols.now.entries.keys (places labels.now.entries) body.now) }
+    ensures { OnOk result (out.new.items ≡ out.old.items
+        ++ code_bytes symbols.now.entries.keys (places labels.now.entries) body.now) }
 {
     let mut at = 0;
     for p in body {
@@ -81,7 +82,8 @@ fn put_row<'a>(
     line: &Line<'a>,
 ) -> Result<(), AllocError>
     requires { IsIndexed symbols.now symbols.now.entries.keys }
-    ensures { OnOk result (out.new.items ≡ out.old.items ++ row_bytes symbols.now.entries.keys (places labels.now.entries) line.now) }
+    ensures { OnOk result (out.new.items ≡ out.old.items
+        ++ row_bytes symbols.now.entries.keys (places labels.now.entries) line.now) }
 {
     match line {
         Line::Catch(from, to, handler, class) => {
@@ -101,7 +103,8 @@ fn put_rows<'a>(
     body: &[Parsed<'a>],
 ) -> Result<(), AllocError>
     requires { IsIndexed symbols.now symbols.now.entries.keys }
-    ensures { OnOk result (out.new.items ≡ out.old.items ++ flat_map (λ p. row_bytes symbols.now.entries.keys (places labels.now.entries) p.line) body.now) }
+    ensures { OnOk result (out.new.items ≡ out.old.items ++ flat_map
+        (λ p. row_bytes symbols.now.entries.keys (places labels.now.entries) p.line) body.now) }
 {
     for p in body {
         put_row(out, symbols, labels, &p.line)?;
@@ -135,7 +138,8 @@ fn put_code_tail<'a>(
     body: &[Parsed<'a>],
 ) -> Result<(), AllocError>
     requires { IsIndexed symbols.now symbols.now.entries.keys }
-    ensures { OnOk result (out.new.items ≡ out.old.items ++ code_tail symbols.now.entries.keys (places labels.now.entries) body.now) }
+    ensures { OnOk result (out.new.items ≡ out.old.items
+        ++ code_tail symbols.now.entries.keys (places labels.now.entries) body.now) }
 {
     put_u2(out, catch_count(body))?;
     put_rows(out, symbols, labels, body)?;
@@ -151,7 +155,8 @@ pub(crate) fn put_code_attribute<'a>(
     body: &[Parsed<'a>],
 ) -> Result<(), AllocError>
     requires { IsIndexed symbols.now symbols.now.entries.keys }
-    ensures { OnOk result (out.new.items ≡ out.old.items ++ code_attribute symbols.now.entries.keys (labels_of symbols.now.entries.keys body.now) limits body.now) }
+    ensures { OnOk result (out.new.items ≡ out.old.items ++ code_attribute symbols.now.entries.keys
+        (labels_of symbols.now.entries.keys body.now) limits body.now) }
 {
     let labels = labels_of(alloc, symbols, body)?;
     let size = code_length(symbols, body)?;

@@ -56,7 +56,8 @@ impl Counts {
         requires interfaces { self.interfaces < 2 ^ 63 }
         requires fields { self.fields < 2 ^ 63 }
         requires methods { self.methods < 2 ^ 63 }
-        ensures interfaces { result.interfaces ≡ self.interfaces + (if is_interface line.now then 1 else 0) }
+        ensures interfaces { result.interfaces
+            ≡ self.interfaces + (if is_interface line.now then 1 else 0) }
         ensures fields { result.fields ≡ self.fields + (if is_field line.now then 1 else 0) }
         ensures methods { result.methods ≡ self.methods + (if is_method line.now then 1 else 0) }
     {
@@ -69,7 +70,8 @@ impl Counts {
 
     /// Whether a class file can count these.
     pub(crate) fn are_few(self) -> bool
-        ensures { result ≡ (nat_le self.interfaces 65535 && nat_le self.fields 65535 && nat_le self.methods 65535) }
+        ensures { result ≡ (nat_le
+            self.interfaces 65535 && nat_le self.fields 65535 && nat_le self.methods 65535) }
     {
         self.interfaces <= 0xffff && self.fields <= 0xffff && self.methods <= 0xffff
     }

@@ -39,7 +39,8 @@ pub(crate) fn put_index<'a>(
     e: Entry<'a>,
 ) -> Result<(), AllocError>
     requires { IsIndexed symbols.now symbols.now.entries.keys }
-    ensures { OnOk result (out.new.items ≡ out.old.items ++ u2 (index_of symbols.now.entries.keys e.entry)) }
+    ensures { OnOk result
+        (out.new.items ≡ out.old.items ++ u2 (index_of symbols.now.entries.keys e.entry)) }
 {
     put_u2(out, index_of(symbols, &e))
 }
@@ -54,7 +55,8 @@ fn put_member<'a>(
     descriptor: &Word<'a>,
 ) -> Result<(), AllocError>
     requires { IsIndexed symbols.now symbols.now.entries.keys }
-    ensures { OnOk result (out.new.items ≡ out.old.items ++ member_bytes symbols.now.entries.keys tag class.now name.now descriptor.now) }
+    ensures { OnOk result (out.new.items ≡ out.old.items
+        ++ member_bytes symbols.now.entries.keys tag class.now name.now descriptor.now) }
 {
     put_u1(out, tag)?;
     put_index(out, symbols, Entry::Class(class.copy()))?;
@@ -73,7 +75,8 @@ pub(crate) fn put_entry<'a>(
     e: &Entry<'a>,
 ) -> Result<(), AllocError>
     requires { IsIndexed symbols.now symbols.now.entries.keys }
-    ensures { OnOk result (out.new.items ≡ out.old.items ++ entry_bytes symbols.now.entries.keys e.now) }
+    ensures { OnOk result
+        (out.new.items ≡ out.old.items ++ entry_bytes symbols.now.entries.keys e.now) }
 {
     match e {
         Entry::Utf8(text) => {

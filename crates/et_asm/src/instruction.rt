@@ -101,7 +101,8 @@ fn offset_bits(labels: &Labels, at: usize, name: &Word) -> usize
 }
 
 fn put_offset4(out: &mut Vec<u8>, labels: &Labels, at: usize, name: &Word) -> Result<(), AllocError>
-    ensures { OnOk result (out.new.items ≡ out.old.items ++ offset4 (places labels.now.entries) at name.now) }
+    ensures { OnOk result
+        (out.new.items ≡ out.old.items ++ offset4 (places labels.now.entries) at name.now) }
 {
     put_u4(out, offset_bits(labels, at, name))
 }
@@ -132,7 +133,8 @@ fn put_offsets(
     at: usize,
     names: &[Word],
 ) -> Result<(), AllocError>
-    ensures { OnOk result (out.new.items ≡ out.old.items ++ flat_map (offset4 (places labels.now.entries) at) names.now) }
+    ensures { OnOk result (out.new.items
+        ≡ out.old.items ++ flat_map (offset4 (places labels.now.entries) at) names.now) }
 {
     for name in names {
         put_offset4(out, labels, at, name)?;
@@ -159,7 +161,8 @@ fn put_table(
     names: &[Word],
     otherwise: &Word,
 ) -> Result<(), AllocError>
-    ensures { OnOk result (out.new.items ≡ out.old.items ++ (switch_bytes TABLESWITCH at ++ table_bytes (places labels.now.entries) at low names.now otherwise.now)) }
+    ensures { OnOk result (out.new.items ≡ out.old.items ++ (switch_bytes TABLESWITCH at
+        ++ table_bytes (places labels.now.entries) at low names.now otherwise.now)) }
 {
     put_switch(out, TABLESWITCH, at)?;
     put_offset4(out, labels, at, otherwise)?;
@@ -184,7 +187,8 @@ fn put_pair(
     number: &Word,
     target: &Word,
 ) -> Result<(), AllocError>
-    ensures { OnOk result (out.new.items ≡ out.old.items ++ pair_bytes (places labels.now.entries) at (number.now, target.now)) }
+    ensures { OnOk result (out.new.items
+        ≡ out.old.items ++ pair_bytes (places labels.now.entries) at (number.now, target.now)) }
 {
     put_u4(out, key_bits(number) as usize)?;
     put_offset4(out, labels, at, target)
@@ -196,7 +200,8 @@ fn put_pairs(
     at: usize,
     words: &[Word],
 ) -> Result<(), AllocError>
-    ensures { OnOk result (out.new.items ≡ out.old.items ++ flat_map (pair_bytes (places labels.now.entries) at) (pairs words.now)) }
+    ensures { OnOk result (out.new.items
+        ≡ out.old.items ++ flat_map (pair_bytes (places labels.now.entries) at) (pairs words.now)) }
 {
     let mut rest = words;
     while let [number, target, more @ ..] = rest {
@@ -214,7 +219,8 @@ fn put_lookup(
     words: &[Word],
     otherwise: &Word,
 ) -> Result<(), AllocError>
-    ensures { OnOk result (out.new.items ≡ out.old.items ++ lookup_bytes (places labels.now.entries) at words.now otherwise.now) }
+    ensures { OnOk result (out.new.items
+        ≡ out.old.items ++ lookup_bytes (places labels.now.entries) at words.now otherwise.now) }
 {
     put_offset4(out, labels, at, otherwise)?;
     put_u4(out, pair_count(words))?;
@@ -265,7 +271,8 @@ fn put_branch(
     opcode: u8,
     target: &Word,
 ) -> Result<(), AllocError>
-    ensures { OnOk result (out.new.items ≡ out.old.items ++ branch_bytes (places labels.now.entries) at opcode target.now) }
+    ensures { OnOk result (out.new.items
+        ≡ out.old.items ++ branch_bytes (places labels.now.entries) at opcode target.now) }
 {
     put_u1(out, opcode)?;
     if opcode == GOTO_W {
@@ -283,7 +290,8 @@ fn put_interface<'a>(
     descriptor: &Word<'a>,
 ) -> Result<(), AllocError>
     requires { IsIndexed symbols.now symbols.now.entries.keys }
-    ensures { OnOk result (out.new.items ≡ out.old.items ++ (INVOKEINTERFACE ∷ u2 (index_of symbols.now.entries.keys e.entry) ++ argument_count descriptor.now ∷ 0 ∷ [])) }
+    ensures { OnOk result (out.new.items ≡ out.old.items ++ (INVOKEINTERFACE ∷ u2
+        (index_of symbols.now.entries.keys e.entry) ++ argument_count descriptor.now ∷ 0 ∷ [])) }
 {
     let count = argument_count(alloc, descriptor)?;
     put_u1(out, INVOKEINTERFACE)?;
@@ -302,7 +310,8 @@ fn put_instruction<'a>(
     instruction: &Instruction<'a>,
 ) -> Result<(), AllocError>
     requires { IsIndexed symbols.now symbols.now.entries.keys }
-    ensures { OnOk result (out.new.items ≡ out.old.items ++ instruction_bytes symbols.now.entries.keys (places labels.now.entries) at instruction.now) }
+    ensures { OnOk result (out.new.items ≡ out.old.items ++ instruction_bytes
+        symbols.now.entries.keys (places labels.now.entries) at instruction.now) }
 {
     match instruction {
         Instruction::Plain(opcode) => put_u1(out, *opcode),
@@ -351,7 +360,8 @@ pub(crate) fn put_line<'a>(
     line: &Line<'a>,
 ) -> Result<(), AllocError>
     requires { IsIndexed symbols.now symbols.now.entries.keys }
-    ensures { OnOk result (out.new.items ≡ out.old.items ++ line_bytes symbols.now.entries.keys (places labels.now.entries) at line.now) }
+    ensures { OnOk result (out.new.items ≡ out.old.items
+        ++ line_bytes symbols.now.entries.keys (places labels.now.entries) at line.now) }
 {
     match line {
         Line::Instruction(i) => put_instruction(out, alloc, symbols, labels, at, i),

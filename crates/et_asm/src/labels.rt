@@ -30,7 +30,8 @@ pub(crate) fn place_of(labels: &Labels, name: &Word) -> usize
 
 /// Defines a label, unless it is defined.
 fn define_label<'a>(labels: &mut Labels<'a>, name: &Word<'a>, at: usize) -> Result<(), AllocError>
-    ensures { OnOk result ((q : List ℕ) → places labels.new.entries q ≡ define at (Line.Label name.now) (places labels.old.entries) q) }
+    ensures { OnOk result ((q : List ℕ) → places labels.new.entries q
+        ≡ define at (Line.Label name.now) (places labels.old.entries) q) }
 {
     if is_defined(labels, name) {
         return Ok(());
@@ -45,7 +46,8 @@ pub(crate) fn define<'a>(
     at: usize,
     line: &Line<'a>,
 ) -> Result<(), AllocError>
-    ensures { OnOk result ((q : List ℕ) → places labels.new.entries q ≡ define at line.now (places labels.old.entries) q) }
+    ensures { OnOk result ((q : List ℕ) →
+        places labels.new.entries q ≡ define at line.now (places labels.old.entries) q) }
 {
     match line {
         Line::Label(name) => define_label(labels, name, at),
@@ -60,7 +62,8 @@ pub(crate) fn labels_of<'a>(
     body: &[Parsed<'a>],
 ) -> Result<Labels<'a>, AllocError>
     requires { IsIndexed symbols.now symbols.now.entries.keys }
-    ensures { IfOk result (λ labels. places labels.entries ≡ labels_of symbols.now.entries.keys body.now) }
+    ensures { IfOk result
+        (λ labels. places labels.entries ≡ labels_of symbols.now.entries.keys body.now) }
 {
     let mut labels = IndexMap::new(alloc);
     let mut at = 0;

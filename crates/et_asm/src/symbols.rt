@@ -32,7 +32,8 @@ pub(crate) fn sum(a: usize, b: usize) -> Result<usize, AllocError>
 /// The index of each entry, and the one behind them.
 fn indices(alloc: Global, entries: &[Entry]) -> Result<(Vec<usize>, usize), AllocError>
     ensures counted { IfOk result (λ x. length x.0.items ≡ length entries.now) }
-    ensures indices { IfOk result (λ x. (i : ℕ) → i < length entries.now → slice_index x.0.items i ≡ index_behind (take i entries.now)) }
+    ensures indices { IfOk result (λ x. (i : ℕ) →
+        i < length entries.now → slice_index x.0.items i ≡ index_behind (take i entries.now)) }
     ensures behind { IfOk result (λ x. x.1 ≡ index_behind entries.now) }
 {
     let mut indices = Vec::new(alloc);

@@ -29,7 +29,8 @@ fn insert_member_parts<'a>(
     name: &Word<'a>,
     descriptor: &Word<'a>,
 ) -> Result<(), AllocError>
-    ensures { OnOk result (pool.new.keys ≡ insert_all same_entry pool.old.keys (member_parts class.now name.now descriptor.now)) }
+    ensures { OnOk result (pool.new.keys
+        ≡ insert_all same_entry pool.old.keys (member_parts class.now name.now descriptor.now)) }
 {
     insert(pool, Entry::Utf8(class.copy()))?;
     insert(pool, Entry::Class(class.copy()))?;
@@ -98,7 +99,8 @@ fn add_class<'a>(pool: &mut IndexSet<Entry<'a>>, name: &Word<'a>) -> Result<(), 
 
 /// Adds the value of a field, behind the name of its attribute.
 fn add_value<'a>(pool: &mut IndexSet<Entry<'a>>, e: &Entry<'a>) -> Result<(), AllocError>
-    ensures { OnOk result (pool.new.keys ≡ added pool.old.keys (Entry.Utf8 (codes "ConstantValue") ∷ e.now ∷ [])) }
+    ensures { OnOk result
+        (pool.new.keys ≡ added pool.old.keys (Entry.Utf8 (codes "ConstantValue") ∷ e.now ∷ [])) }
 {
     add_text(pool, &Word::new(b"ConstantValue"))?;
     add(pool, e)?;
@@ -140,7 +142,8 @@ fn add_texts<'a>(
     name: &Word<'a>,
     descriptor: &Word<'a>,
 ) -> Result<(), AllocError>
-    ensures { OnOk result (pool.new.keys ≡ added pool.old.keys (Entry.Utf8 name.now ∷ Entry.Utf8 descriptor.now ∷ [])) }
+    ensures { OnOk result (pool.new.keys
+        ≡ added pool.old.keys (Entry.Utf8 name.now ∷ Entry.Utf8 descriptor.now ∷ [])) }
 {
     add_text(pool, name)?;
     add_text(pool, descriptor)
@@ -202,7 +205,8 @@ fn add_all_operands<'a>(
     pool: &mut IndexSet<Entry<'a>>,
     body: &[Parsed<'a>],
 ) -> Result<(), AllocError>
-    ensures { OnOk result (pool.new.keys ≡ added pool.old.keys (flat_map (λ p. code_entries p.line) body.now)) }
+    ensures { OnOk result
+        (pool.new.keys ≡ added pool.old.keys (flat_map (λ p. code_entries p.line) body.now)) }
 {
     for p in body {
         add_operands(pool, &p.line)?;
@@ -212,7 +216,8 @@ fn add_all_operands<'a>(
 
 /// Adds the classes that the handlers of a body catch.
 fn add_all_caught<'a>(pool: &mut IndexSet<Entry<'a>>, body: &[Parsed<'a>]) -> Result<(), AllocError>
-    ensures { OnOk result (pool.new.keys ≡ added pool.old.keys (flat_map (λ p. catch_entries p.line) body.now)) }
+    ensures { OnOk result
+        (pool.new.keys ≡ added pool.old.keys (flat_map (λ p. catch_entries p.line) body.now)) }
 {
     for p in body {
         add_caught(pool, &p.line)?;
@@ -253,7 +258,8 @@ fn add_line<'a>(
     line: &Line<'a>,
     more: &[Parsed<'a>],
 ) -> Result<(), AllocError>
-    ensures { OnOk result (pool.new.keys ≡ added pool.old.keys (stage_uses stage line.now more.now)) }
+    ensures { OnOk result
+        (pool.new.keys ≡ added pool.old.keys (stage_uses stage line.now more.now)) }
 {
     if is_inside(stage) {
         return Ok(());

@@ -18,7 +18,8 @@ use et_state::Machine;
 pub fn operands_are_few(machine: &Machine, thread: ThreadId)
     requires { HasFrame machine.now.guest thread }
     ensures few { length (top machine.now.guest thread).operands < 2 ^ 16 }
-    ensures fits { length (top machine.now.guest thread).operands ≤ (top machine.now.guest thread).room }
+    ensures fits { length (top machine.now.guest thread).operands
+        ≤ (top machine.now.guest thread).room }
 {
     let _room = machine.room(thread);
     let _depth = machine.depth(thread);
@@ -30,7 +31,8 @@ pub fn argument_at(machine: &Machine, thread: ThreadId, count: u32, j: u32) -> V
     requires frame { HasFrame machine.now.guest thread }
     requires operands { count ≤ length (top machine.now.guest thread).operands }
     ensures there { IsIn (top machine.now.guest thread) result }
-    ensures value { result ≡ slice_index_or (arguments_in (top machine.now.guest thread) count) j Unset }
+    ensures value { result
+        ≡ slice_index_or (arguments_in (top machine.now.guest thread) count) j Unset }
 {
     if j < count {
         operand_at(machine, thread, count - 1 - j)

@@ -36,7 +36,12 @@ fn pass(machine: &mut Machine, call: &Called)
     requires clock { machine.old.guest.clock < 2 ^ 40 }
     requires operands { call.now.count ≤ length (top machine.old.guest call.now.thread).operands }
     requires small { call.now.count < 2 ^ 16 }
-    ensures new { machine.new ≡ steps_top (begun machine.old) call.now.thread (record (top machine.old.guest call.now.thread) { pc = call.now.next; operands = drop call.now.count (top machine.old.guest call.now.thread).operands }) (refs_of (first call.now.count (top machine.old.guest call.now.thread).operands)) }
+    ensures new { machine.new ≡ steps_top (begun machine.old) call.now.thread
+        (record (top machine.old.guest call.now.thread) {
+          pc = call.now.next;
+          operands = drop call.now.count (top machine.old.guest call.now.thread).operands;
+        })
+        (refs_of (first call.now.count (top machine.old.guest call.now.thread).operands)) }
     ensures few { length machine.new.lost ≤ call.now.count }
 {
     machine.begin_event();
@@ -51,7 +56,10 @@ pub(crate) fn give_nothing(machine: &mut Machine, call: &Called) -> EventEnd
     requires clock { machine.old.guest.clock < 2 ^ 40 }
     requires operands { call.now.count ≤ length (top machine.old.guest call.now.thread).operands }
     requires small { call.now.count < 2 ^ 16 }
-    ensures { (p : Linked) (at : Site) (out : List Record) → at.next ≡ call.now.next → EventAnswers (goes (answering (moment p machine.old call.now.thread) at (arguments_of (moment p machine.old call.now.thread) call.now.count) [] (begins (moment p machine.old call.now.thread)))) result machine.old machine.new out out }
+    ensures { (p : Linked) (at : Site) (out : List Record) → at.next ≡ call.now.next →
+        EventAnswers (goes (answering (moment p machine.old call.now.thread) at
+        (arguments_of (moment p machine.old call.now.thread) call.now.count) []
+        (begins (moment p machine.old call.now.thread)))) result machine.old machine.new out out }
 {
     pass(machine, call);
     EventEnd::Done
@@ -64,9 +72,13 @@ pub(crate) fn give(machine: &mut Machine, call: &Called, value: Value) -> EventE
     requires clock { machine.old.guest.clock < 2 ^ 40 }
     requires operands { call.now.count ≤ length (top machine.old.guest call.now.thread).operands }
     requires small { call.now.count < 2 ^ 16 }
-    requires room { length (drop call.now.count (top machine.old.guest call.now.thread).operands) < (top machine.old.guest call.now.thread).room }
+    requires room { length (drop call.now.count (top machine.old.guest call.now.thread).operands)
+        < (top machine.old.guest call.now.thread).room }
     requires held { AreHeld machine.old (refs_of_value value) }
-    ensures { (p : Linked) (at : Site) (out : List Record) → at.next ≡ call.now.next → EventAnswers (goes (answering (moment p machine.old call.now.thread) at (arguments_of (moment p machine.old call.now.thread) call.now.count) (value ∷ []) (begins (moment p machine.old call.now.thread)))) result machine.old machine.new out out }
+    ensures { (p : Linked) (at : Site) (out : List Record) → at.next ≡ call.now.next →
+        EventAnswers (goes (answering (moment p machine.old call.now.thread) at
+        (arguments_of (moment p machine.old call.now.thread) call.now.count) (value ∷ [])
+        (begins (moment p machine.old call.now.thread)))) result machine.old machine.new out out }
 {
     pass(machine, call);
     machine.push(call.thread, value);
@@ -93,7 +105,9 @@ fn tell_update(
     old: Value,
     value: Value,
 ) -> Result<(), NoMemory>
-    ensures { OnOk result ((p : Linked) (b s : Kept) → s.guest.clock ≡ event → out.new ≡ (updated (record { program = p; before = b; thread = thread }) object slot old value (record { state = s; records = out.old })).records) }
+    ensures { OnOk result ((p : Linked) (b s : Kept) → s.guest.clock ≡ event → out.new
+        ≡ (updated (record { program = p; before = b; thread = thread }) object slot old value
+        (record { state = s; records = out.old })).records) }
 {
     match value {
         Value::Null | Value::Ref(_) => out.push(Record::Update {
@@ -121,8 +135,13 @@ fn write<L: Ledger>(
     requires held { IsHeld machine.old.heap object }
     requires slot { slot < length (object_at machine.old.heap object).slots }
     requires lost { length machine.old.lost < lost_room }
-    ensures new { OnOk result (machine.new ≡ steps_object machine.old object (with_slot slot value (object_at machine.old.heap object)) (refs_of_value (slot_of (object_at machine.old.heap object) slot))) }
-    ensures told { OnOk result ((p : Linked) (b s : Kept) → s.guest.clock ≡ machine.old.guest.clock → out.new ≡ (updated (record { program = p; before = b; thread = thread }) object slot (slot_of (object_at machine.old.heap object) slot) value (record { state = s; records = out.old })).records) }
+    ensures new { OnOk result (machine.new
+        ≡ steps_object machine.old object (with_slot slot value (object_at machine.old.heap object))
+        (refs_of_value (slot_of (object_at machine.old.heap object) slot))) }
+    ensures told { OnOk result
+        ((p : Linked) (b s : Kept) → s.guest.clock ≡ machine.old.guest.clock → out.new ≡ (updated
+        (record { program = p; before = b; thread = thread }) object slot (slot_of (object_at
+        machine.old.heap object) slot) value (record { state = s; records = out.old })).records) }
     ensures few { OnOk result (length machine.new.lost ≤ length machine.old.lost + 1) }
     ensures visits { visits.new ≡ visits.old + 1 }
 {
@@ -150,7 +169,11 @@ pub(crate) fn write_one<L: Ledger>(
     requires held { IsHeld machine.old.heap object }
     requires slots { 0 < length (object_at machine.old.heap object).slots }
     requires value { IsIn (top machine.old.guest call.now.thread) value }
-    ensures ok { IfOk result (λ end. (p : Linked) (at : Site) → at.next ≡ call.now.next → EventAnswers (goes (slot_written (moment p machine.old call.now.thread) object 0 value (answering (moment p machine.old call.now.thread) at (arguments_of (moment p machine.old call.now.thread) call.now.count) [] (begins (moment p machine.old call.now.thread))))) end machine.old machine.new out.old out.new) }
+    ensures ok { IfOk result (λ end. (p : Linked) (at : Site) → at.next ≡ call.now.next →
+        EventAnswers (goes (slot_written (moment p machine.old call.now.thread) object 0 value
+        (answering (moment p machine.old call.now.thread) at (arguments_of (moment p machine.old
+        call.now.thread) call.now.count) [] (begins (moment p machine.old call.now.thread)))))
+        end machine.old machine.new out.old out.new) }
     ensures visits { visits.new ≤ visits.old + 2 }
 {
     pass(machine, call);
@@ -178,7 +201,12 @@ pub(crate) fn write_two<L: Ledger>(
     requires slots { 2 ≤ length (object_at machine.old.heap object).slots }
     requires first_value { IsIn (top machine.old.guest call.now.thread) first_value }
     requires second_value { IsIn (top machine.old.guest call.now.thread) second_value }
-    ensures ok { IfOk result (λ end. (p : Linked) (at : Site) → at.next ≡ call.now.next → EventAnswers (goes (slot_written (moment p machine.old call.now.thread) object 1 second_value (slot_written (moment p machine.old call.now.thread) object 0 first_value (answering (moment p machine.old call.now.thread) at (arguments_of (moment p machine.old call.now.thread) call.now.count) [] (begins (moment p machine.old call.now.thread)))))) end machine.old machine.new out.old out.new) }
+    ensures ok { IfOk result (λ end. (p : Linked) (at : Site) → at.next ≡ call.now.next →
+        EventAnswers (goes (slot_written (moment p machine.old call.now.thread) object
+        1 second_value (slot_written (moment p machine.old call.now.thread) object 0 first_value
+        (answering (moment p machine.old call.now.thread) at (arguments_of (moment p machine.old
+        call.now.thread) call.now.count) [] (begins (moment p machine.old call.now.thread))))))
+        end machine.old machine.new out.old out.new) }
     ensures visits { visits.new ≤ visits.old + 2 }
 {
     pass(machine, call);
@@ -195,7 +223,8 @@ fn set_referent<L: Ledger>(
     visits: &mut Steps<L>,
 )
     requires { IsHeld machine.old.heap object }
-    ensures new { machine.new ≡ with_object machine.old object (with_referent (referent_of value) (object_at machine.old.heap object)) }
+    ensures new { machine.new ≡ with_object machine.old object
+        (with_referent (referent_of value) (object_at machine.old.heap object)) }
     ensures visits { visits.new ≡ visits.old + 1 }
 {
     machine.heap.set_referent(object, value, visits);
@@ -217,7 +246,11 @@ pub(crate) fn write_referent<L: Ledger>(
     requires small { call.now.count < 2 ^ 16 }
     requires held { IsHeld machine.old.heap object }
     requires value { IsIn (top machine.old.guest call.now.thread) value }
-    ensures ok { (p : Linked) (at : Site) (out : List Record) → at.next ≡ call.now.next → EventAnswers (goes (with_referent_of object (referent_of value) (answering (moment p machine.old call.now.thread) at (arguments_of (moment p machine.old call.now.thread) call.now.count) [] (begins (moment p machine.old call.now.thread))))) result machine.old machine.new out out }
+    ensures ok { (p : Linked) (at : Site) (out : List Record) →
+        at.next ≡ call.now.next → EventAnswers
+        (goes (with_referent_of object (referent_of value) (answering (moment p machine.old
+        call.now.thread) at (arguments_of (moment p machine.old call.now.thread) call.now.count) []
+        (begins (moment p machine.old call.now.thread))))) result machine.old machine.new out out }
     ensures visits { visits.new ≡ visits.old + 1 }
 {
     pass(machine, call);
@@ -239,7 +272,11 @@ pub(crate) fn start(
     requires held { IsHeld machine.old.heap object }
     requires few { length machine.old.guest.threads < most_threads }
     requires fresh { thread_with machine.old.guest.threads object ≡ None }
-    ensures { IfOk result (λ end. (p : Linked) (at : Site) (out : List Record) → at.next ≡ call.now.next → EventAnswers (goes (with_thread_for object (answering (moment p machine.old call.now.thread) at (arguments_of (moment p machine.old call.now.thread) call.now.count) [] (begins (moment p machine.old call.now.thread))))) end machine.old machine.new out out) }
+    ensures { IfOk result
+        (λ end. (p : Linked) (at : Site) (out : List Record) → at.next ≡ call.now.next →
+        EventAnswers (goes (with_thread_for object (answering (moment p machine.old call.now.thread)
+        at (arguments_of (moment p machine.old call.now.thread) call.now.count) []
+        (begins (moment p machine.old call.now.thread))))) end machine.old machine.new out out) }
 {
     pass(machine, call);
     let _thread = machine.start_thread(object)?;

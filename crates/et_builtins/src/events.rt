@@ -7,7 +7,7 @@ ghost use Rattle.et_event.specs.Answered.{EventAnswers};
 ghost use Rattle.et_event.specs.BuiltIns.{built_in_event};
 ghost use Rattle.et_event.specs.Calls.{arguments_of};
 ghost use Rattle.et_event.specs.Kinds.{returned_width};
-ghost use Rattle.et_event.specs.Moments.{begins};
+ghost use Rattle.et_event.specs.Moments.{begins, moment};
 ghost use Rattle.et_event.specs.Sites.{Site};
 ghost use Rattle.et_event.specs.Sound.{IsSoundFor, returned_of};
 ghost use Rattle.et_sound.specs.Programs.{HasMachineSlots};
@@ -42,9 +42,13 @@ pub fn built_in_method_event<L: Ledger>(
     requires clock { machine.old.guest.clock < 2 ^ 40 }
     requires method { method < length program.now.methods }
     requires operands { count ≤ length (top machine.old.guest thread).operands }
-    requires room { length (drop count (top machine.old.guest thread).operands) + returned_width (returned_of (method_at program.now method)) ≤ (top machine.old.guest thread).room }
+    requires room { length (drop count (top machine.old.guest thread).operands) + returned_width
+        (returned_of (method_at program.now method)) ≤ (top machine.old.guest thread).room }
     requires slots { HasMachineSlots program.now }
-    ensures ok { IfOk result (λ end. (at : Site) → at.next ≡ next → EventAnswers (built_in_event (record { program = program.now; before = kept_of machine.old; thread = thread }) at (begins (record { program = program.now; before = kept_of machine.old; thread = thread })) (arguments_of (record { program = program.now; before = kept_of machine.old; thread = thread }) count) (method_at program.now method)) end machine.old machine.new out.old out.new) }
+    ensures ok { IfOk result (λ end. (at : Site) → at.next ≡ next → EventAnswers (built_in_event
+        (moment program.now machine.old thread) at (begins (moment program.now machine.old thread))
+        (arguments_of (moment program.now machine.old thread) count) (method_at program.now method))
+        end machine.old machine.new out.old out.new) }
     ensures visits { visits.new ≤ visits.old + 3 }
 {
     operands_are_few(machine, thread);

@@ -13,7 +13,8 @@ use et_program::MethodInfo;
 
 /// Whether a method has this name and descriptor.
 fn is_called(method: &MethodInfo, name: &[u8], descriptor: &[u8]) -> bool
-    ensures { result ≡ (bytes_eq name.now method.now.name && bytes_eq descriptor.now method.now.descriptor) }
+    ensures { result
+        ≡ (bytes_eq name.now method.now.name && bytes_eq descriptor.now method.now.descriptor) }
 {
     name == method.name.as_slice() && descriptor == method.descriptor.as_slice()
 }
@@ -27,7 +28,8 @@ fn first_of(
     built_in: BuiltIn,
     behind: Option<BuiltIn>,
 ) -> Option<BuiltIn>
-    ensures { (rows : List (List ℕ × List ℕ × Kind)) → behind ≡ found_in method.now rows → result ≡ found_in method.now ((name.now, descriptor.now, built_in) ∷ rows) }
+    ensures { (rows : List (List ℕ × List ℕ × Kind)) → behind ≡ found_in method.now rows →
+        result ≡ found_in method.now ((name.now, descriptor.now, built_in) ∷ rows) }
 {
     if is_called(method, name, descriptor) {
         Some(built_in)
@@ -101,7 +103,8 @@ fn row_of(method: &MethodInfo) -> Option<BuiltIn>
 
 pub(crate) fn built_in_of(method: &MethodInfo) -> Option<BuiltIn>
     ensures value { result ≡ kind_of method.now }
-    ensures width { IfSome result (λ b. entries_answered b ≤ returned_width (returned_of method.now)) }
+    ensures width { IfSome result
+        (λ b. entries_answered b ≤ returned_width (returned_of method.now)) }
 {
     if has(method.flags, ABSTRACT) {
         None

@@ -43,7 +43,8 @@ fn is_of<L: Ledger>(
 ) -> bool
     requires sound { IsSoundFor program.now (kept_of machine.now) }
     requires held { IsHeld machine.now.heap object }
-    ensures value { (t : ℕ) → result ≡ is_of_class (moment program.now machine.now t) (begins (moment program.now machine.now t)) object name.now }
+    ensures value { (t : ℕ) → result ≡ is_of_class (moment program.now machine.now t)
+        (begins (moment program.now machine.now t)) object name.now }
     ensures visits { visits.new ≡ visits.old + 1 }
 {
     let class = machine.heap.class_of(object, visits);
@@ -79,8 +80,10 @@ fn is_fit<L: Ledger>(
     requires sound { IsSoundFor program.now (kept_of machine.now) }
     requires slots { HasMachineSlots program.now }
     requires held { IsHeld machine.now.heap object }
-    ensures value { (t : ℕ) → result ≡ fits_row (moment program.now machine.now t) (begins (moment program.now machine.now t)) object built_in }
-    ensures slots { result ≡ true → slots_used built_in ≤ length (object_at machine.now.heap object).slots }
+    ensures value { (t : ℕ) → result ≡ fits_row (moment program.now machine.now t)
+        (begins (moment program.now machine.now t)) object built_in }
+    ensures slots { result ≡ true →
+        slots_used built_in ≤ length (object_at machine.now.heap object).slots }
     ensures visits { visits.new ≤ visits.old + 1 }
 {
     if uses_throwable(built_in) {
@@ -115,10 +118,15 @@ fn give_slot<L: Ledger>(
     requires clock { machine.old.guest.clock < 2 ^ 40 }
     requires operands { call.now.count ≤ length (top machine.old.guest call.now.thread).operands }
     requires small { call.now.count < 2 ^ 16 }
-    requires room { length (drop call.now.count (top machine.old.guest call.now.thread).operands) < (top machine.old.guest call.now.thread).room }
+    requires room { length (drop call.now.count (top machine.old.guest call.now.thread).operands)
+        < (top machine.old.guest call.now.thread).room }
     requires held { IsHeld machine.old.heap object }
     requires slots { slot < length (object_at machine.old.heap object).slots }
-    ensures ok { (p : Linked) (at : Site) (out : List Record) → at.next ≡ call.now.next → EventAnswers (goes (answering (moment p machine.old call.now.thread) at (arguments_of (moment p machine.old call.now.thread) call.now.count) (reference_in (begins (moment p machine.old call.now.thread)) object slot ∷ []) (begins (moment p machine.old call.now.thread)))) result machine.old machine.new out out }
+    ensures ok { (p : Linked) (at : Site) (out : List Record) → at.next ≡ call.now.next →
+        EventAnswers (goes (answering (moment p machine.old call.now.thread) at
+        (arguments_of (moment p machine.old call.now.thread) call.now.count)
+        (reference_in (begins (moment p machine.old call.now.thread)) object slot ∷ [])
+        (begins (moment p machine.old call.now.thread)))) result machine.old machine.new out out }
     ensures visits { visits.new ≡ visits.old + 1 }
 {
     let value = or_null(machine.heap.slot(object, slot, visits));
@@ -138,9 +146,14 @@ fn give_referent<L: Ledger>(
     requires clock { machine.old.guest.clock < 2 ^ 40 }
     requires operands { call.now.count ≤ length (top machine.old.guest call.now.thread).operands }
     requires small { call.now.count < 2 ^ 16 }
-    requires room { length (drop call.now.count (top machine.old.guest call.now.thread).operands) < (top machine.old.guest call.now.thread).room }
+    requires room { length (drop call.now.count (top machine.old.guest call.now.thread).operands)
+        < (top machine.old.guest call.now.thread).room }
     requires held { IsHeld machine.old.heap object }
-    ensures ok { (p : Linked) (at : Site) (out : List Record) → at.next ≡ call.now.next → EventAnswers (goes (answering (moment p machine.old call.now.thread) at (arguments_of (moment p machine.old call.now.thread) call.now.count) (value_of (object_at machine.old.heap object).referent ∷ []) (begins (moment p machine.old call.now.thread)))) result machine.old machine.new out out }
+    ensures ok { (p : Linked) (at : Site) (out : List Record) → at.next ≡ call.now.next →
+        EventAnswers (goes (answering (moment p machine.old call.now.thread) at
+        (arguments_of (moment p machine.old call.now.thread) call.now.count)
+        (value_of (object_at machine.old.heap object).referent ∷ [])
+        (begins (moment p machine.old call.now.thread)))) result machine.old machine.new out out }
     ensures visits { visits.new ≡ visits.old + 1 }
 {
     let value = machine.heap.referent(object, visits);
@@ -161,7 +174,13 @@ fn start_event(
     requires operands { call.now.count ≤ length (top machine.old.guest call.now.thread).operands }
     requires small { call.now.count < 2 ^ 16 }
     requires held { IsHeld machine.old.heap object }
-    ensures { IfOk result (λ end. (at : Site) → at.next ≡ call.now.next → EventAnswers (starts (moment program.now machine.old call.now.thread) (begins (moment program.now machine.old call.now.thread)) object (goes (with_thread_for object (answering (moment program.now machine.old call.now.thread) at (arguments_of (moment program.now machine.old call.now.thread) call.now.count) [] (begins (moment program.now machine.old call.now.thread))))) (thread_with machine.old.guest.threads object)) end machine.old machine.new out.old out.new) }
+    ensures { IfOk result (λ end. (at : Site) → at.next ≡ call.now.next →
+        EventAnswers (starts (moment program.now machine.old call.now.thread)
+        (begins (moment program.now machine.old call.now.thread)) object
+        (goes (with_thread_for object (answering (moment program.now machine.old call.now.thread) at
+        (arguments_of (moment program.now machine.old call.now.thread) call.now.count) []
+        (begins (moment program.now machine.old call.now.thread))))) (thread_with
+        machine.old.guest.threads object)) end machine.old machine.new out.old out.new) }
 {
     if machine.thread_of(object).is_some() {
         let error = GuestError::IllegalThreadStateException;
@@ -177,7 +196,8 @@ fn start_event(
 /// Whether the thread of a Thread object has ended; also where there is none.
 #[tactic(auto, using(crate::proofs::Slots::thread_within))]
 fn has_ended(machine: &Machine, object: ObjectId) -> bool
-    ensures { (p : Linked) (t : ℕ) → result ≡ has_ended_in (begins (moment p machine.now t)) (thread_with machine.now.guest.threads object) }
+    ensures { (p : Linked) (t : ℕ) → result ≡ has_ended_in
+        (begins (moment p machine.now t)) (thread_with machine.now.guest.threads object) }
 {
     match machine.thread_of(object) {
         Some(thread) => machine.is_ended(thread),
@@ -192,7 +212,12 @@ fn join_event(machine: &mut Machine, call: &Called, object: ObjectId) -> EventEn
     requires clock { machine.old.guest.clock < 2 ^ 40 }
     requires operands { call.now.count ≤ length (top machine.old.guest call.now.thread).operands }
     requires small { call.now.count < 2 ^ 16 }
-    ensures { (p : Linked) (at : Site) (out : List Record) → at.next ≡ call.now.next → EventAnswers (waits_unless (moment p machine.old call.now.thread) (has_ended_in (begins (moment p machine.old call.now.thread)) (thread_with machine.old.guest.threads object)) (goes (answering (moment p machine.old call.now.thread) at (arguments_of (moment p machine.old call.now.thread) call.now.count) [] (begins (moment p machine.old call.now.thread))))) result machine.old machine.new out out }
+    ensures { (p : Linked) (at : Site) (out : List Record) → at.next ≡ call.now.next →
+        EventAnswers (waits_unless (moment p machine.old call.now.thread) (has_ended_in (begins
+        (moment p machine.old call.now.thread)) (thread_with machine.old.guest.threads object))
+        (goes (answering (moment p machine.old call.now.thread) at
+        (arguments_of (moment p machine.old call.now.thread) call.now.count) []
+        (begins (moment p machine.old call.now.thread))))) result machine.old machine.new out out }
 {
     if has_ended(machine, object) {
         return give_nothing(machine, call);
@@ -216,11 +241,15 @@ fn fit_row_event<L: Ledger>(
     requires clock { machine.old.guest.clock < 2 ^ 40 }
     requires operands { call.now.count ≤ length (top machine.old.guest call.now.thread).operands }
     requires small { call.now.count < 2 ^ 16 }
-    requires room { length (drop call.now.count (top machine.old.guest call.now.thread).operands) + entries_answered built_in ≤ (top machine.old.guest call.now.thread).room }
+    requires room { length (drop call.now.count (top machine.old.guest call.now.thread).operands)
+        + entries_answered built_in ≤ (top machine.old.guest call.now.thread).room }
     requires object { Contains (frame_roots (top machine.old.guest call.now.thread)) object }
     requires held { IsHeld machine.old.heap object }
     requires slots { slots_used built_in ≤ length (object_at machine.old.heap object).slots }
-    ensures ok { IfOk result (λ end. (at : Site) → at.next ≡ call.now.next → EventAnswers (row_done (moment program.now machine.old call.now.thread) at (begins (moment program.now machine.old call.now.thread)) (arguments_of (moment program.now machine.old call.now.thread) call.now.count) object built_in) end machine.old machine.new out.old out.new) }
+    ensures ok { IfOk result (λ end. (at : Site) → at.next ≡ call.now.next → EventAnswers
+        (row_done (moment program.now machine.old call.now.thread) at (begins (moment program.now
+        machine.old call.now.thread)) (arguments_of (moment program.now machine.old call.now.thread)
+        call.now.count) object built_in) end machine.old machine.new out.old out.new) }
     ensures visits { visits.new ≤ visits.old + 2 }
 {
     let value = argument_at(machine, call.thread, call.count, 1);
@@ -258,10 +287,14 @@ pub(crate) fn row_event<L: Ledger>(
     requires clock { machine.old.guest.clock < 2 ^ 40 }
     requires operands { call.now.count ≤ length (top machine.old.guest call.now.thread).operands }
     requires small { call.now.count < 2 ^ 16 }
-    requires room { length (drop call.now.count (top machine.old.guest call.now.thread).operands) + entries_answered built_in ≤ (top machine.old.guest call.now.thread).room }
+    requires room { length (drop call.now.count (top machine.old.guest call.now.thread).operands)
+        + entries_answered built_in ≤ (top machine.old.guest call.now.thread).room }
     requires object { Contains (frame_roots (top machine.old.guest call.now.thread)) object }
     requires held { IsHeld machine.old.heap object }
-    ensures ok { IfOk result (λ end. (at : Site) → at.next ≡ call.now.next → EventAnswers (row_of (moment program.now machine.old call.now.thread) at (begins (moment program.now machine.old call.now.thread)) (arguments_of (moment program.now machine.old call.now.thread) call.now.count) object built_in) end machine.old machine.new out.old out.new) }
+    ensures ok { IfOk result (λ end. (at : Site) → at.next ≡ call.now.next → EventAnswers
+        (row_of (moment program.now machine.old call.now.thread) at (begins (moment program.now
+        machine.old call.now.thread)) (arguments_of (moment program.now machine.old call.now.thread)
+        call.now.count) object built_in) end machine.old machine.new out.old out.new) }
     ensures visits { visits.new ≤ visits.old + 3 }
 {
     if is_fit(program, machine, object, built_in, visits) {

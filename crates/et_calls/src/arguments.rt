@@ -1,5 +1,6 @@
 //! The arguments of a call, read where they stand among the operands, and whether the call may be done with them (JVMS 6.5,
 //! the invokes).
+ghost use Rattle.et_event.specs.Moments.{moment};
 ghost use Rattle.std.specs.Prelude.{◌≡◌, ◌+◌, ◌<◌, ◌≤◌, ◌^◌, nat_le, if◌then◌else◌, Some, None, IfSome, length, drop, slice_index_or};
 ghost use Rattle.et_base.specs.declared.value.Value.TheVariants.{Unset};
 ghost use Rattle.et_pool.specs.Descriptors.{method_type};
@@ -41,7 +42,9 @@ fn entries_at(
     requires frame { HasFrame machine.now.guest thread }
     requires operands { count ≤ length (top machine.now.guest thread).operands }
     requires small { at < 2 ^ 16 }
-    ensures { result ≡ entries_among kind (slice_index_or (arguments_in (top machine.now.guest thread) count) at Unset) (slice_index_or (arguments_in (top machine.now.guest thread) count) (at + 1) Unset) }
+    ensures { result ≡ entries_among kind
+        (slice_index_or (arguments_in (top machine.now.guest thread) count) at Unset)
+        (slice_index_or (arguments_in (top machine.now.guest thread) count) (at + 1) Unset) }
 {
     let first = argument_at(machine, thread, count, at);
     let next = argument_at(machine, thread, count, at + 1);
@@ -54,7 +57,8 @@ fn are_of(machine: &Machine, thread: ThreadId, types: &[u8], count: u32, from: u
     requires operands { count ≤ length (top machine.now.guest thread).operands }
     requires from { from ≤ count }
     requires small { count < 2 ^ 16 }
-    ensures { result ≡ are_of_types types.now (drop from (arguments_in (top machine.now.guest thread) count)) }
+    ensures { result
+        ≡ are_of_types types.now (drop from (arguments_in (top machine.now.guest thread) count)) }
 {
     let mut rest = types;
     let mut at = from;
@@ -86,7 +90,8 @@ fn are_arguments(
     requires frame { HasFrame machine.now.guest thread }
     requires operands { count ≤ length (top machine.now.guest thread).operands }
     requires small { count < 2 ^ 16 }
-    ensures { result ≡ are_passed is_static types.now (arguments_in (top machine.now.guest thread) count) }
+    ensures { result
+        ≡ are_passed is_static types.now (arguments_in (top machine.now.guest thread) count) }
 {
     if is_static {
         return are_of(machine, thread, types, count, 0);
@@ -100,7 +105,8 @@ fn are_arguments(
 /// How many entries a call takes whose parameters take so many, if there are as many operands.
 fn count_within(entries: usize, is_static: bool, depth: u32) -> Option<u32>
     requires { depth < 2 ^ 16 }
-    ensures { result ≡ (if nat_le (entries + (if is_static then 0 else 1)) depth then Some (entries + (if is_static then 0 else 1)) else None) }
+    ensures { result ≡ (if nat_le (entries + (if is_static then 0 else 1)) depth then Some
+        (entries + (if is_static then 0 else 1)) else None) }
 {
     if entries > depth as usize {
         return None;
@@ -145,9 +151,13 @@ pub(crate) fn fitting_call(
     descriptor: &[u8],
 ) -> Option<u32>
     requires frame { HasFrame machine.now.guest thread }
-    ensures value { (p : Linked) → result ≡ fitting (record { program = p; before = kept_of machine.now; thread = thread }) is_static (method_type descriptor.now) }
-    ensures operands { IfSome result (λ count. count ≤ length (top machine.now.guest thread).operands) }
-    ensures room { IfSome result (λ count. length (drop count (top machine.now.guest thread).operands) + width_returned (returned_in descriptor.now) ≤ (top machine.now.guest thread).room) }
+    ensures value { (p : Linked) →
+        result ≡ fitting (moment p machine.now thread) is_static (method_type descriptor.now) }
+    ensures operands { IfSome result
+        (λ count. count ≤ length (top machine.now.guest thread).operands) }
+    ensures room { IfSome result
+        (λ count. length (drop count (top machine.now.guest thread).operands)
+        + width_returned (returned_in descriptor.now) ≤ (top machine.now.guest thread).room) }
 {
     let shape = method_shape(descriptor)?;
     operands_are_few(machine, thread);

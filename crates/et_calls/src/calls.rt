@@ -1,4 +1,5 @@
 //! The rows of calls and returns, where a class may have to be initialized first.
+ghost use Rattle.et_event.specs.Moments.{moment};
 ghost use Rattle.std.specs.Prelude.{◌≡◌, ◌+◌, ◌<◌, ◌≤◌, ◌^◌, false, IfOk, length};
 ghost use Rattle.et_state.specs.declared.stage.Turn.TheVariants as turns;
 ghost use Rattle.et_state.specs.Threads.{turn_of};
@@ -46,8 +47,11 @@ fn initialize_event<L: Ledger>(
     requires clock { machine.old.guest.clock < 2 ^ 40 }
     requires order { IsInOrder program.now }
     requires methods { HasMethods program.now }
-    requires plan { IsPlan (record { program = program.now; before = kept_of machine.old; thread = thread }) (plans.Initializes method count) }
-    ensures ok { IfOk result (λ end. (at : Site) → EventAnswers (planned (record { program = program.now; before = kept_of machine.old; thread = thread }) at (plans.Initializes method count)) end machine.old machine.new out.old out.new) }
+    requires plan { IsPlan
+        (moment program.now machine.old thread) (plans.Initializes method count) }
+    ensures ok { IfOk result
+        (λ end. (at : Site) → EventAnswers (planned (moment program.now machine.old thread) at
+        (plans.Initializes method count)) end machine.old machine.new out.old out.new) }
     ensures visits { visits.new ≤ visits.old + 3 }
 {
     let class = program.method(method).class;
@@ -82,9 +86,10 @@ fn plain_event<L: Ledger>(
     requires sound { IsSoundFor program.now (kept_of machine.old) }
     requires clock { machine.old.guest.clock < 2 ^ 40 }
     requires slots { HasMachineSlots program.now }
-    requires plan { IsPlan (record { program = program.now; before = kept_of machine.old; thread = thread }) plan }
-    requires plain { is_left (record { program = program.now; before = kept_of machine.old; thread = thread }) plan ≡ false }
-    ensures ok { IfOk result (λ end. EventAnswers (planned (record { program = program.now; before = kept_of machine.old; thread = thread }) (site_at place.now) plan) end machine.old machine.new out.old out.new) }
+    requires plan { IsPlan (moment program.now machine.old thread) plan }
+    requires plain { is_left (moment program.now machine.old thread) plan ≡ false }
+    ensures ok { IfOk result (λ end. EventAnswers (planned (moment program.now machine.old thread)
+        (site_at place.now) plan) end machine.old machine.new out.old out.new) }
     ensures visits { visits.new ≤ visits.old + 3 }
 {
     let end = plan_event(
@@ -115,7 +120,8 @@ fn invoke_event<L: Ledger>(
     requires methods { HasMethods program.now }
     requires class { place.now.class < length program.now.classes }
     requires index { natural place.now.instr.first < 2 ^ 16 }
-    ensures ok { IfOk result (λ end. EventAnswers (invoke (record { program = program.now; before = kept_of machine.old; thread = thread }) (site_at place.now) kind) end machine.old machine.new out.old out.new) }
+    ensures ok { IfOk result (λ end. EventAnswers (invoke (moment program.now machine.old thread)
+        (site_at place.now) kind) end machine.old machine.new out.old out.new) }
     ensures visits { visits.new ≤ visits.old + 4 }
 {
     let plan = invoke_plan(program, machine, thread, place, kind, visits);
@@ -142,7 +148,8 @@ fn return_event<L: Ledger>(
     requires slots { HasMachineSlots program.now }
     requires place { IsPlace program.now (top machine.old.guest thread) place.now }
     requires row { place.now.row ≡ rows.Call (call_rows.Return kind) }
-    ensures ok { IfOk result (λ end. EventAnswers (calling (record { program = program.now; before = kept_of machine.old; thread = thread }) (site_at place.now) (call_rows.Return kind)) end machine.old machine.new out.old out.new) }
+    ensures ok { IfOk result (λ end. EventAnswers (calling (moment program.now machine.old thread)
+        (site_at place.now) (call_rows.Return kind)) end machine.old machine.new out.old out.new) }
     ensures visits { visits.new ≤ visits.old + 4 }
 {
     let row = CallRow::Return(kind);
@@ -176,7 +183,8 @@ pub fn call_event<L: Ledger>(
     requires methods { HasMethods program.now }
     requires place { IsPlace program.now (top machine.old.guest thread) place.now }
     requires row { place.now.row ≡ rows.Call row }
-    ensures ok { IfOk result (λ end. EventAnswers (calling (record { program = program.now; before = kept_of machine.old; thread = thread }) (site_at place.now) row) end machine.old machine.new out.old out.new) }
+    ensures ok { IfOk result (λ end. EventAnswers (calling (moment program.now machine.old thread)
+        (site_at place.now) row) end machine.old machine.new out.old out.new) }
     ensures visits { visits.new ≤ visits.old + 4 }
 {
     match row {

@@ -19,7 +19,7 @@ ghost use Rattle.et_calls.specs.Plans.{HasRoom};
 ghost use Rattle.et_event.specs.BuiltIns.{built_in_event};
 ghost use Rattle.et_event.specs.Checks.{frame_fits, throws_unless};
 ghost use Rattle.et_event.specs.Frames.{enters_code, frame_entered, method_frame, receiver_of as receiver_in};
-ghost use Rattle.et_event.specs.Moments.{begins, ends, fits};
+ghost use Rattle.et_event.specs.Moments.{begins, ends, fits, moment};
 ghost use Rattle.et_event.specs.Monitors.{lock_for as lock_for_method};
 ghost use Rattle.et_event.specs.Sound.{IsSoundFor};
 ghost use Rattle.et_parts.specs.Locks.{HasSome, IsSomeFewTimes, entering_some, locks_of};
@@ -68,7 +68,8 @@ fn receiver_of(
     requires operands { count ≤ length (top machine.now.guest thread).operands }
     requires sound { IsSound (kept_of machine.now) }
     requires method { method < length program.now.methods }
-    ensures value { result ≡ receiver_in program.now method (arguments_in (top machine.now.guest thread) count) }
+    ensures value { result
+        ≡ receiver_in program.now method (arguments_in (top machine.now.guest thread) count) }
     ensures held { IfSome result (λ o. IsHeld machine.now.heap o) }
 {
     if has(program.method(method).flags, STATIC) {
@@ -80,7 +81,8 @@ fn receiver_of(
 
 /// What the lock slot of a frame holds: the receiver of a synchronized method.
 fn lock_slot(method: &MethodInfo, receiver: &Option<ObjectId>) -> Option<ObjectId>
-    ensures { result ≡ (if has_flag method.now.flags SYNCHRONIZED_FLAG then receiver.now else None) }
+    ensures { result
+        ≡ (if has_flag method.now.flags SYNCHRONIZED_FLAG then receiver.now else None) }
 {
     if has(method.flags, SYNCHRONIZED) {
         *receiver
@@ -121,7 +123,8 @@ pub fn new_frame(
     count: u16,
 ) -> NewFrame
     requires { length arguments.items ≡ count }
-    ensures frame { (p : Linked) → info.now ≡ method_at p method → receiver.now ≡ receiver_in p method arguments.items → frame_of result ≡ method_frame p method code.now arguments.items }
+    ensures frame { (p : Linked) → info.now ≡ method_at p method → receiver.now ≡ receiver_in p
+        method arguments.items → frame_of result ≡ method_frame p method code.now arguments.items }
     ensures arguments { length result.arguments.items ≤ result.max_locals }
 {
     let lock = lock_slot(info, receiver);
@@ -154,7 +157,8 @@ fn push_frame<L: Ledger>(
     requires arguments { length frame.arguments.items ≤ frame.max_locals }
     requires lock { HasSome machine.old (locks_of lock.now) }
     requires times { IsSomeFewTimes machine.old (locks_of lock.now) }
-    ensures ok { OnOk result (machine.new ≡ entering_some thread (locks_of lock.now) (pushed_by machine.old thread count (frame_of frame))) }
+    ensures ok { OnOk result (machine.new ≡ entering_some thread
+        (locks_of lock.now) (pushed_by machine.old thread count (frame_of frame))) }
     ensures visits { visits.new ≤ visits.old + 2 }
 {
     machine.begin_event();
@@ -186,9 +190,15 @@ fn enter_free<L: Ledger>(
     requires operands { count ≤ length (top machine.old.guest thread).operands }
     requires info { info.now ≡ method_at program.now method }
     requires method { method < length program.now.methods }
-    requires lock { locks_of lock.now ≡ lock_for_method (method_at program.now method) (receiver_in program.now method (arguments_in (top machine.old.guest thread) count)) }
+    requires lock { locks_of lock.now ≡ lock_for_method (method_at program.now method)
+        (receiver_in program.now method (arguments_in (top machine.old.guest thread) count)) }
     requires there { HasSome machine.old (locks_of lock.now) }
-    ensures ok { IfOk result (λ end. EventAnswers (frame_fits (record { program = program.now; before = kept_of machine.old; thread = thread }) (begins (record { program = program.now; before = kept_of machine.old; thread = thread })) (ends (frame_entered (record { program = program.now; before = kept_of machine.old; thread = thread }) method code.now (arguments_in (top machine.old.guest thread) count) (taking (record { program = program.now; before = kept_of machine.old; thread = thread }) count (begins (record { program = program.now; before = kept_of machine.old; thread = thread })))))) end machine.old machine.new out.old out.new) }
+    ensures ok { IfOk result (λ end. EventAnswers (frame_fits
+        (moment program.now machine.old thread) (begins (moment program.now machine.old thread))
+        (ends (frame_entered (moment program.now machine.old thread) method code.now (arguments_in
+        (top machine.old.guest thread) count) (taking (moment program.now machine.old thread) count
+        (begins (moment program.now machine.old thread))))))
+        end machine.old machine.new out.old out.new) }
     ensures visits { visits.new ≤ visits.old + 2 }
 {
     if machine.frames(thread) >= 1024 {
@@ -235,7 +245,11 @@ fn enter_code<L: Ledger>(
     requires method { method < length program.now.methods }
     requires info { info.now ≡ method_at program.now method }
     requires class { info.now.class < length program.now.classes }
-    ensures ok { IfOk result (λ end. EventAnswers (enters_code (record { program = program.now; before = kept_of machine.old; thread = thread }) (begins (record { program = program.now; before = kept_of machine.old; thread = thread })) (taking (record { program = program.now; before = kept_of machine.old; thread = thread }) count) method (arguments_of (record { program = program.now; before = kept_of machine.old; thread = thread }) count) code.now) end machine.old machine.new out.old out.new) }
+    ensures ok { IfOk result (λ end. EventAnswers (enters_code
+        (moment program.now machine.old thread) (begins (moment program.now machine.old thread))
+        (taking (moment program.now machine.old thread) count) method
+        (arguments_of (moment program.now machine.old thread) count) code.now)
+        end machine.old machine.new out.old out.new) }
     ensures visits { visits.new ≤ visits.old + 3 }
 {
     let lock = lock_for(info, receiver_of(program, machine, thread, method, count));
@@ -266,9 +280,15 @@ fn codeless_event<L: Ledger>(
     requires operands { count ≤ length (top machine.old.guest thread).operands }
     requires method { method < length program.now.methods }
     requires info { info.now ≡ method_at program.now method }
-    requires room { HasRoom (record { program = program.now; before = kept_of machine.old; thread = thread }) method count }
+    requires room { HasRoom (moment program.now machine.old thread) method count }
     requires slots { HasMachineSlots program.now }
-    ensures ok { IfOk result (λ end. (at : Site) → at.next ≡ next → EventAnswers (throws_unless (record { program = program.now; before = kept_of machine.old; thread = thread }) (begins (record { program = program.now; before = kept_of machine.old; thread = thread })) errors.UnsatisfiedLinkError (not (has_flag (method_at program.now method).flags NATIVE_FLAG)) (built_in_event (record { program = program.now; before = kept_of machine.old; thread = thread }) at (begins (record { program = program.now; before = kept_of machine.old; thread = thread })) (arguments_of (record { program = program.now; before = kept_of machine.old; thread = thread }) count) (method_at program.now method))) end machine.old machine.new out.old out.new) }
+    ensures ok { IfOk result (λ end. (at : Site) →
+        at.next ≡ next → EventAnswers (throws_unless (moment program.now machine.old thread)
+        (begins (moment program.now machine.old thread)) errors.UnsatisfiedLinkError
+        (not (has_flag (method_at program.now method).flags NATIVE_FLAG)) (built_in_event
+        (moment program.now machine.old thread) at (begins (moment program.now machine.old thread))
+        (arguments_of (moment program.now machine.old thread) count)
+        (method_at program.now method))) end machine.old machine.new out.old out.new) }
     ensures visits { visits.new ≤ visits.old + 3 }
 {
     if has(info.flags, NATIVE) {
@@ -297,9 +317,12 @@ pub fn enter_event<L: Ledger>(
     requires clock { machine.old.guest.clock < 2 ^ 40 }
     requires operands { count ≤ length (top machine.old.guest thread).operands }
     requires method { method < length program.now.methods }
-    requires room { HasRoom (record { program = program.now; before = kept_of machine.old; thread = thread }) method count }
+    requires room { HasRoom (moment program.now machine.old thread) method count }
     requires slots { HasMachineSlots program.now }
-    ensures ok { IfOk result (λ end. (at : Site) → at.next ≡ next → EventAnswers (enters_method (record { program = program.now; before = kept_of machine.old; thread = thread }) at (begins (record { program = program.now; before = kept_of machine.old; thread = thread })) (arguments_of (record { program = program.now; before = kept_of machine.old; thread = thread }) count) method) end machine.old machine.new out.old out.new) }
+    ensures ok { IfOk result (λ end. (at : Site) → at.next ≡ next → EventAnswers (enters_method
+        (moment program.now machine.old thread) at (begins (moment program.now machine.old thread))
+        (arguments_of (moment program.now machine.old thread) count) method)
+        end machine.old machine.new out.old out.new) }
     ensures visits { visits.new ≤ visits.old + 3 }
 {
     let info = program.method(method);

@@ -51,8 +51,13 @@ fn behind(program: &Program, machine: &Machine, thread: ThreadId) -> u32
 #[tactic(auto, using(crate::proofs::Returning::resumed_once))]
 pub(crate) fn resume(machine: &mut Machine, program: &Program, thread: ThreadId, values: &[Value])
     requires frame { HasFrame machine.old.guest thread }
-    requires room { length values.now + length (top machine.old.guest thread).operands ≤ (top machine.old.guest thread).room }
-    ensures { machine.new ≡ steps_top machine.old thread (record (top machine.old.guest thread) { pc = behind_of program.now (top machine.old.guest thread); operands = values.now ++ (top machine.old.guest thread).operands }) [] }
+    requires room { length values.now + length (top machine.old.guest thread).operands
+        ≤ (top machine.old.guest thread).room }
+    ensures { machine.new ≡ steps_top machine.old thread (record
+        (top machine.old.guest thread) {
+          pc = behind_of program.now (top machine.old.guest thread);
+          operands = values.now ++ (top machine.old.guest thread).operands;
+        }) [] }
 {
     let next = behind(program, machine, thread);
     give(machine, thread, values);

@@ -14,7 +14,7 @@ ghost use Rattle.et_event.specs.Calls.{arguments_of, dispatched, enters_method, 
 ghost use Rattle.et_event.specs.Checks.{resolved, selected as selected_in, throws_unless};
 ghost use Rattle.et_event.specs.Errors.{class_called};
 ghost use Rattle.et_event.specs.Frames.{first_reference};
-ghost use Rattle.et_event.specs.Moments.{Moment, begins, frame_of};
+ghost use Rattle.et_event.specs.Moments.{Moment, begins, frame_of, moment};
 ghost use Rattle.et_event.specs.Sites.{Site, natural};
 ghost use Rattle.et_event.specs.Initialization.{state_of};
 ghost use Rattle.et_event.specs.Sound.{IsSoundFor};
@@ -48,8 +48,10 @@ pub enum CallPlan {
 
 /// The selected method is entered, or the error of the selection is thrown.
 fn selected(answer: Result<MethodId, LinkError>, count: u32) -> CallPlan
-    ensures within { (e : Moment) → IfOk answer (λ m. m < length e.program.methods) → IfOk answer (λ m. HasRoom e m count) → count ≤ length (frame_of e).operands → IsPlan e result }
-    ensures plan { (e : Moment) (at : Site) → selected_in e (begins e) answer (enters_method e at (begins e) (arguments_of e count)) ≡ planned e at result }
+    ensures within { (e : Moment) → IfOk answer (λ m. m < length e.program.methods) → IfOk answer
+        (λ m. HasRoom e m count) → count ≤ length (frame_of e).operands → IsPlan e result }
+    ensures plan { (e : Moment) (at : Site) → selected_in e (begins e) answer
+        (enters_method e at (begins e) (arguments_of e count)) ≡ planned e at result }
 {
     match answer {
         Ok(method) => CallPlan::Enters { method, count },
@@ -71,9 +73,11 @@ fn virtual_plan<L: Ledger>(
     requires sound { IsSoundFor program.now (kept_of machine.now) }
     requires operands { count ≤ length (top machine.now.guest thread).operands }
     requires method { method < length program.now.methods }
-    requires room { HasRoom (record { program = program.now; before = kept_of machine.now; thread = thread }) method count }
-    ensures plan { (at : Site) (named : ℕ) → dispatched (record { program = program.now; before = kept_of machine.now; thread = thread }) at kinds.Virtual (arguments_of (record { program = program.now; before = kept_of machine.now; thread = thread }) count) named method ≡ planned (record { program = program.now; before = kept_of machine.now; thread = thread }) at result }
-    ensures within { IsPlan (record { program = program.now; before = kept_of machine.now; thread = thread }) result }
+    requires room { HasRoom (moment program.now machine.now thread) method count }
+    ensures plan { (at : Site) (named : ℕ) → dispatched (moment program.now machine.now thread)
+        at kinds.Virtual (arguments_of (moment program.now machine.now thread) count) named method
+        ≡ planned (moment program.now machine.now thread) at result }
+    ensures within { IsPlan (moment program.now machine.now thread) result }
     ensures visits { visits.new ≤ visits.old + 1 }
 {
     let Some(receiver) = receiver(machine, thread, count) else {
@@ -100,9 +104,11 @@ fn interface_plan<L: Ledger>(
     requires sound { IsSoundFor program.now (kept_of machine.now) }
     requires operands { count ≤ length (top machine.now.guest thread).operands }
     requires method { method < length program.now.methods }
-    requires room { HasRoom (record { program = program.now; before = kept_of machine.now; thread = thread }) method count }
-    ensures plan { (at : Site) (named : ℕ) → dispatched (record { program = program.now; before = kept_of machine.now; thread = thread }) at kinds.Interface (arguments_of (record { program = program.now; before = kept_of machine.now; thread = thread }) count) named method ≡ planned (record { program = program.now; before = kept_of machine.now; thread = thread }) at result }
-    ensures within { IsPlan (record { program = program.now; before = kept_of machine.now; thread = thread }) result }
+    requires room { HasRoom (moment program.now machine.now thread) method count }
+    ensures plan { (at : Site) (named : ℕ) → dispatched (moment program.now machine.now thread)
+        at kinds.Interface (arguments_of (moment program.now machine.now thread) count) named method
+        ≡ planned (moment program.now machine.now thread) at result }
+    ensures within { IsPlan (moment program.now machine.now thread) result }
     ensures visits { visits.new ≤ visits.old + 1 }
 {
     let Some(receiver) = receiver(machine, thread, count) else {
@@ -154,9 +160,12 @@ fn special_plan<L: Ledger>(
     requires current { current < length program.now.classes }
     requires named { named < length program.now.classes }
     requires method { method < length program.now.methods }
-    requires room { HasRoom (record { program = program.now; before = kept_of machine.now; thread = thread }) method count }
-    ensures plan { (at : Site) → at.class ≡ current → dispatched (record { program = program.now; before = kept_of machine.now; thread = thread }) at kinds.Special (arguments_of (record { program = program.now; before = kept_of machine.now; thread = thread }) count) named method ≡ planned (record { program = program.now; before = kept_of machine.now; thread = thread }) at result }
-    ensures within { IsPlan (record { program = program.now; before = kept_of machine.now; thread = thread }) result }
+    requires room { HasRoom (moment program.now machine.now thread) method count }
+    ensures plan { (at : Site) →
+        at.class ≡ current → dispatched (moment program.now machine.now thread) at kinds.Special
+        (arguments_of (moment program.now machine.now thread) count) named method
+        ≡ planned (moment program.now machine.now thread) at result }
+    ensures within { IsPlan (moment program.now machine.now thread) result }
     ensures visits { visits.new ≤ visits.old + 1 }
 {
     let Some(receiver) = receiver(machine, thread, count) else {
@@ -183,10 +192,12 @@ fn static_plan(
     requires sound { IsSoundFor program.now (kept_of machine.now) }
     requires operands { count ≤ length (top machine.now.guest thread).operands }
     requires method { method < length program.now.methods }
-    requires room { HasRoom (record { program = program.now; before = kept_of machine.now; thread = thread }) method count }
+    requires room { HasRoom (moment program.now machine.now thread) method count }
     requires is_static { is_static program.now method ≡ true }
-    ensures plan { (at : Site) (named : ℕ) → dispatched (record { program = program.now; before = kept_of machine.now; thread = thread }) at kinds.Static (arguments_of (record { program = program.now; before = kept_of machine.now; thread = thread }) count) named method ≡ planned (record { program = program.now; before = kept_of machine.now; thread = thread }) at result }
-    ensures within { IsPlan (record { program = program.now; before = kept_of machine.now; thread = thread }) result }
+    ensures plan { (at : Site) (named : ℕ) → dispatched (moment program.now machine.now thread)
+        at kinds.Static (arguments_of (moment program.now machine.now thread) count) named method
+        ≡ planned (moment program.now machine.now thread) at result }
+    ensures within { IsPlan (moment program.now machine.now thread) result }
 {
     let class = program.method(method).class;
     state_plan(machine.class_state(class), thread, method, count)
@@ -194,8 +205,13 @@ fn static_plan(
 
 /// The plan of `invokestatic` where the class of the method is in this state.
 fn state_plan(state: ClassState, thread: ThreadId, method: MethodId, count: u32) -> CallPlan
-    ensures plan { (e : Moment) (at : Site) (class named : ℕ) → e.thread ≡ thread → (method_at e.program method).class ≡ class → state_of (begins e) class ≡ state → dispatched e at kinds.Static (arguments_of e count) named method ≡ planned e at result }
-    ensures within { (e : Moment) → method < length e.program.methods → HasRoom e method count → count ≤ length (frame_of e).operands → state_of (begins e) (method_at e.program method).class ≡ state → is_static e.program method ≡ true → IsPlan e result }
+    ensures plan { (e : Moment) (at : Site) (class named : ℕ) → e.thread ≡ thread →
+        (method_at e.program method).class ≡ class → state_of (begins e) class ≡ state →
+        dispatched e at kinds.Static (arguments_of e count) named method ≡ planned e at result }
+    ensures within { (e : Moment) → method < length e.program.methods →
+        HasRoom e method count → count ≤ length (frame_of e).operands →
+        state_of (begins e) (method_at e.program method).class ≡ state →
+        is_static e.program method ≡ true → IsPlan e result }
 {
     match state {
         ClassState::Done => CallPlan::Enters { method, count },
@@ -227,10 +243,12 @@ fn dispatch_plan<L: Ledger>(
     requires current { current < length program.now.classes }
     requires named { named < length program.now.classes }
     requires method { method < length program.now.methods }
-    requires room { HasRoom (record { program = program.now; before = kept_of machine.now; thread = thread }) method count }
+    requires room { HasRoom (moment program.now machine.now thread) method count }
     requires is_static { is_as (calls_static kind) (is_static program.now method) ≡ true }
-    ensures plan { (at : Site) → at.class ≡ current → dispatched (record { program = program.now; before = kept_of machine.now; thread = thread }) at kind (arguments_of (record { program = program.now; before = kept_of machine.now; thread = thread }) count) named method ≡ planned (record { program = program.now; before = kept_of machine.now; thread = thread }) at result }
-    ensures within { IsPlan (record { program = program.now; before = kept_of machine.now; thread = thread }) result }
+    ensures plan { (at : Site) → at.class ≡ current → dispatched (moment program.now machine.now
+        thread) at kind (arguments_of (moment program.now machine.now thread) count) named method
+        ≡ planned (moment program.now machine.now thread) at result }
+    ensures within { IsPlan (moment program.now machine.now thread) result }
     ensures visits { visits.new ≤ visits.old + 1 }
 {
     match kind {
@@ -268,9 +286,14 @@ fn resolved_plan<L: Ledger>(
     requires current { current < length program.now.classes }
     requires named { named < length program.now.classes }
     requires method { method < length program.now.methods }
-    requires room { HasRoom (record { program = program.now; before = kept_of machine.now; thread = thread }) method count }
-    ensures plan { (at : Site) → at.class ≡ current → throws_unless (record { program = program.now; before = kept_of machine.now; thread = thread }) (begins (record { program = program.now; before = kept_of machine.now; thread = thread })) errors.IncompatibleClassChangeError (is_as (calls_static kind) (is_static program.now method)) (dispatched (record { program = program.now; before = kept_of machine.now; thread = thread }) at kind (arguments_of (record { program = program.now; before = kept_of machine.now; thread = thread }) count) named method) ≡ planned (record { program = program.now; before = kept_of machine.now; thread = thread }) at result }
-    ensures within { IsPlan (record { program = program.now; before = kept_of machine.now; thread = thread }) result }
+    requires room { HasRoom (moment program.now machine.now thread) method count }
+    ensures plan { (at : Site) → at.class ≡ current → throws_unless
+        (moment program.now machine.now thread) (begins (moment program.now machine.now thread))
+        errors.IncompatibleClassChangeError (is_as (calls_static kind)
+        (is_static program.now method)) (dispatched (moment program.now machine.now thread) at kind
+        (arguments_of (moment program.now machine.now thread) count) named method)
+        ≡ planned (moment program.now machine.now thread) at result }
+    ensures within { IsPlan (moment program.now machine.now thread) result }
     ensures visits { visits.new ≤ visits.old + 1 }
 {
     let is_static = has(program.method(method).flags, STATIC);
@@ -288,9 +311,14 @@ fn resolve(
     member: &MemberAt<'_>,
     by_interface: bool,
 ) -> Result<(ClassId, MethodId), GuestError>
-    ensures value { (e : Moment) (go : ℕ → ℕ → Outcome Kept) → e.program ≡ program.now → resolved e (begins e) (resolve_class e.program member.now.owner.now) (λ owner. resolved e (begins e) (resolve_method e.program owner by_interface member.now.name.now member.now.descriptor.now) (go owner)) ≡ resolving e result go }
-    ensures within { IfOk result (λ x. (x.0 < length program.now.classes) × (x.1 < length program.now.methods)) }
-    ensures same { IfOk result (λ x. (method_at program.now x.1).descriptor ≡ member.now.descriptor.now) }
+    ensures value { (e : Moment) (go : ℕ → ℕ → Outcome Kept) → e.program ≡ program.now →
+        resolved e (begins e) (resolve_class e.program member.now.owner.now)
+        (λ owner. resolved e (begins e) (resolve_method e.program owner by_interface
+        member.now.name.now member.now.descriptor.now) (go owner)) ≡ resolving e result go }
+    ensures within { IfOk result
+        (λ x. (x.0 < length program.now.classes) × (x.1 < length program.now.methods)) }
+    ensures same { IfOk result
+        (λ x. (method_at program.now x.1).descriptor ≡ member.now.descriptor.now) }
 {
     let owner = match program.resolve_class(member.owner) {
         Ok(owner) => owner,
@@ -315,8 +343,9 @@ pub fn invoke_plan<L: Ledger>(
     requires sound { IsSoundFor program.now (kept_of machine.now) }
     requires class { place.now.class < length program.now.classes }
     requires index { natural place.now.instr.first < 2 ^ 16 }
-    ensures plan { invoke (record { program = program.now; before = kept_of machine.now; thread = thread }) (site_at place.now) kind ≡ planned (record { program = program.now; before = kept_of machine.now; thread = thread }) (site_at place.now) result }
-    ensures within { IsPlan (record { program = program.now; before = kept_of machine.now; thread = thread }) result }
+    ensures plan { invoke (moment program.now machine.now thread) (site_at place.now) kind
+        ≡ planned (moment program.now machine.now thread) (site_at place.now) result }
+    ensures within { IsPlan (moment program.now machine.now thread) result }
     ensures visits { visits.new ≤ visits.old + 1 }
 {
     let Some(member) = member_at(place) else {

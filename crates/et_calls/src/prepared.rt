@@ -53,7 +53,8 @@ fn push_frame<L: Ledger>(
     requires arguments { length frame.arguments.items ≤ frame.max_locals }
     requires lock { HasSome machine.old (locks_of lock.now) }
     requires times { IsSomeFewTimes machine.old (locks_of lock.now) }
-    ensures ok { OnOk result (machine.new ≡ entering_some thread (locks_of lock.now) (pushed_on machine.old thread count (frame_of frame))) }
+    ensures ok { OnOk result (machine.new ≡ entering_some thread
+        (locks_of lock.now) (pushed_on machine.old thread count (frame_of frame))) }
     ensures visits { visits.new ≤ visits.old + 2 }
 {
     take(machine, thread, count);
@@ -89,8 +90,13 @@ fn enter_prepared<L: Ledger>(
     requires lock { locks_of lock.now ≡ lock_for_method (method_at program.now method) None }
     requires there { HasSome machine.old (locks_of lock.now) }
     requires few { length (thread_at machine.old.guest thread).frames < most_frames }
-    requires fits { fits (prepared (moment program.now machine.old thread) classes.now (begins (moment program.now machine.old thread))).state.heap ≡ true }
-    ensures ok { IfOk result (λ end. EventAnswers (ending (frame_entered (moment program.now machine.old thread) method code.now (arguments_of (moment program.now machine.old thread) count) (taking (moment program.now machine.old thread) count (prepared (moment program.now machine.old thread) classes.now (begins (moment program.now machine.old thread)))))) end machine.old machine.new out.old out.new) }
+    requires fits { fits (prepared (moment program.now machine.old thread) classes.now
+        (begins (moment program.now machine.old thread))).state.heap ≡ true }
+    ensures ok { IfOk result (λ end. EventAnswers
+        (ending (frame_entered (moment program.now machine.old thread) method code.now (arguments_of
+        (moment program.now machine.old thread) count) (taking (moment program.now machine.old
+        thread) count (prepared (moment program.now machine.old thread) classes.now (begins
+        (moment program.now machine.old thread)))))) end machine.old machine.new out.old out.new) }
     ensures visits { visits.new ≤ visits.old + 2 }
 {
     operands_are_few(machine, thread);
@@ -125,7 +131,8 @@ fn enter_free<L: Ledger>(
 ) -> Result<EventEnd, NoMemory>
     requires program { IsInOrder program.now }
     requires classes { All (λ c. c < length program.now.classes) classes.now }
-    requires ready { list_all (ready (moment program.now machine.old thread) (begins (moment program.now machine.old thread))) classes.now ≡ true }
+    requires ready { list_all (ready (moment program.now machine.old thread)
+        (begins (moment program.now machine.old thread))) classes.now ≡ true }
     requires frame { HasFrame machine.old.guest thread }
     requires sound { IsSoundFor program.now (kept_of machine.old) }
     requires clock { machine.old.guest.clock < 2 ^ 40 }
@@ -134,7 +141,13 @@ fn enter_free<L: Ledger>(
     requires is_static { is_static program.now method ≡ true }
     requires lock { locks_of lock.now ≡ lock_for_method (method_at program.now method) None }
     requires there { HasSome machine.old (locks_of lock.now) }
-    ensures ok { IfOk result (λ end. EventAnswers (frame_fits (moment program.now machine.old thread) (prepared (moment program.now machine.old thread) classes.now (begins (moment program.now machine.old thread))) (ending (frame_entered (moment program.now machine.old thread) method code.now (arguments_of (moment program.now machine.old thread) count) (taking (moment program.now machine.old thread) count (prepared (moment program.now machine.old thread) classes.now (begins (moment program.now machine.old thread))))))) end machine.old machine.new out.old out.new) }
+    ensures ok { IfOk result (λ end. EventAnswers
+        (frame_fits (moment program.now machine.old thread) (prepared (moment program.now
+        machine.old thread) classes.now (begins (moment program.now machine.old thread)))
+        (ending (frame_entered (moment program.now machine.old thread) method code.now (arguments_of
+        (moment program.now machine.old thread) count) (taking (moment program.now machine.old
+        thread) count (prepared (moment program.now machine.old thread) classes.now (begins
+        (moment program.now machine.old thread))))))) end machine.old machine.new out.old out.new) }
     ensures visits { visits.new ≤ visits.old + 2 }
 {
     if machine.frames(thread) >= 1024 {
@@ -166,7 +179,8 @@ fn enter_code<L: Ledger>(
 ) -> Result<EventEnd, NoMemory>
     requires program { IsInOrder program.now }
     requires classes { All (λ c. c < length program.now.classes) classes.now }
-    requires ready { list_all (ready (moment program.now machine.old thread) (begins (moment program.now machine.old thread))) classes.now ≡ true }
+    requires ready { list_all (ready (moment program.now machine.old thread)
+        (begins (moment program.now machine.old thread))) classes.now ≡ true }
     requires frame { HasFrame machine.old.guest thread }
     requires sound { IsSoundFor program.now (kept_of machine.old) }
     requires clock { machine.old.guest.clock < 2 ^ 40 }
@@ -174,7 +188,11 @@ fn enter_code<L: Ledger>(
     requires info { info.now ≡ method_at program.now method }
     requires class { info.now.class < length program.now.classes }
     requires is_static { is_static program.now method ≡ true }
-    ensures ok { IfOk result (λ end. EventAnswers (enters_code (moment program.now machine.old thread) (prepared (moment program.now machine.old thread) classes.now (begins (moment program.now machine.old thread))) (taking (moment program.now machine.old thread) count) method (arguments_of (moment program.now machine.old thread) count) code.now) end machine.old machine.new out.old out.new) }
+    ensures ok { IfOk result (λ end. EventAnswers (enters_code (moment program.now
+        machine.old thread) (prepared (moment program.now machine.old thread) classes.now
+        (begins (moment program.now machine.old thread))) (taking (moment program.now machine.old
+        thread) count) method (arguments_of (moment program.now machine.old thread) count) code.now)
+        end machine.old machine.new out.old out.new) }
     ensures visits { visits.new ≤ visits.old + 3 }
 {
     let lock = lock_for(info, None);
@@ -189,7 +207,8 @@ fn enter_code<L: Ledger>(
 
 /// What is thrown where a static method without code is called: a native one is not found (JVMS 2.11.8).
 fn codeless_error(info: &MethodInfo) -> GuestError
-    ensures { result ≡ (if has_flag info.now.flags NATIVE_FLAG then errors.UnsatisfiedLinkError else errors.AbstractMethodError) }
+    ensures { result ≡ (if has_flag info.now.flags
+        NATIVE_FLAG then errors.UnsatisfiedLinkError else errors.AbstractMethodError) }
 {
     if has(info.flags, NATIVE) {
         GuestError::UnsatisfiedLinkError
@@ -214,14 +233,18 @@ pub(crate) fn enter_after<L: Ledger>(
     requires program { IsInOrder program.now }
     requires methods { HasMethods program.now }
     requires classes { All (λ c. c < length program.now.classes) classes.now }
-    requires ready { list_all (ready (moment program.now machine.old thread) (begins (moment program.now machine.old thread))) classes.now ≡ true }
+    requires ready { list_all (ready (moment program.now machine.old thread)
+        (begins (moment program.now machine.old thread))) classes.now ≡ true }
     requires frame { HasFrame machine.old.guest thread }
     requires sound { IsSoundFor program.now (kept_of machine.old) }
     requires clock { machine.old.guest.clock < 2 ^ 40 }
     requires operands { count ≤ length (top machine.old.guest thread).operands }
     requires method { method < length program.now.methods }
     requires is_static { is_static program.now method ≡ true }
-    ensures ok { IfOk result (λ end. (at : Site) → EventAnswers (enters_method (moment program.now machine.old thread) at (prepared (moment program.now machine.old thread) classes.now (begins (moment program.now machine.old thread))) (arguments_of (moment program.now machine.old thread) count) method) end machine.old machine.new out.old out.new) }
+    ensures ok { IfOk result (λ end. (at : Site) → EventAnswers (enters_method (moment program.now
+        machine.old thread) at (prepared (moment program.now machine.old thread) classes.now
+        (begins (moment program.now machine.old thread))) (arguments_of (moment program.now
+        machine.old thread) count) method) end machine.old machine.new out.old out.new) }
     ensures visits { visits.new ≤ visits.old + 3 }
 {
     let info = program.method(method);

@@ -83,7 +83,8 @@ pub(crate) fn returned_values(
     descriptor: &[u8],
 ) -> Option<Option<Value>>
     requires { HasFrame machine.now.guest thread }
-    ensures value { result ≡ values kind (returned_in descriptor.now) (top machine.now.guest thread).operands }
+    ensures value { result
+        ≡ values kind (returned_in descriptor.now) (top machine.now.guest thread).operands }
     ensures there { AreValuesIn (top machine.now.guest thread) result }
 {
     if !may_return(kind, returned_type(descriptor)) {

@@ -9,7 +9,7 @@ ghost use Rattle.et_state.specs.Words.{HasFrame, thread_at, top, steps_thread, s
 ghost use Rattle.et_event.specs.Frames.{behind as behind_of, frames_after_return, resumed};
 ghost use Rattle.et_event.specs.Answered.{EventAnswers};
 ghost use Rattle.et_event.specs.Calls.{class_done_by, frame_returned, return as return_in_table};
-ghost use Rattle.et_event.specs.Moments.{Doing, Moment, begins, goes};
+ghost use Rattle.et_event.specs.Moments.{Doing, Moment, begins, goes, moment};
 ghost use Rattle.et_event.specs.Monitors.{left_some, lock_in as lock_in_frame};
 ghost use Rattle.et_event.specs.Sound.{IsSoundFor};
 ghost use Rattle.et_parts.specs.Places.{Runs};
@@ -33,8 +33,13 @@ use std::sync::ledger::Ledger;
 /// The frame gets what a call returns, if anything, and goes on behind it.
 fn resume_with(machine: &mut Machine, program: &Program, thread: ThreadId, value: Option<Value>)
     requires frame { HasFrame machine.old.guest thread }
-    requires room { length (entries_returned value) + length (top machine.old.guest thread).operands ≤ (top machine.old.guest thread).room }
-    ensures { machine.new ≡ steps_top machine.old thread (record (top machine.old.guest thread) { pc = behind_of program.now (top machine.old.guest thread); operands = entries_returned value ++ (top machine.old.guest thread).operands }) [] }
+    requires room { length (entries_returned value) + length (top machine.old.guest thread).operands
+        ≤ (top machine.old.guest thread).room }
+    ensures { machine.new ≡ steps_top machine.old thread (record
+        (top machine.old.guest thread) {
+          pc = behind_of program.now (top machine.old.guest thread);
+          operands = entries_returned value ++ (top machine.old.guest thread).operands;
+        }) [] }
 {
     match value {
         None => resume(machine, program, thread, &[]),
@@ -52,8 +57,13 @@ fn resume_with(machine: &mut Machine, program: &Program, thread: ThreadId, value
 #[tactic(auto, using(crate::proofs::Returning::stays, crate::proofs::Returning::resumes, crate::proofs::Returning::fits_top))]
 fn resume_topmost(machine: &mut Machine, program: &Program, thread: ThreadId, value: Option<Value>)
     requires started { thread < length machine.old.guest.threads }
-    requires room { FitsBelow Plain (entries_returned value) (thread_at machine.old.guest thread).frames }
-    ensures { machine.new ≡ steps_thread machine.old thread (record (thread_at machine.old.guest thread) { frames = resumed program.now (entries_returned value) (thread_at machine.old.guest thread).frames }) [] }
+    requires room { FitsBelow Plain
+        (entries_returned value) (thread_at machine.old.guest thread).frames }
+    ensures { machine.new ≡ steps_thread machine.old thread
+        (record (thread_at machine.old.guest thread) {
+          frames = resumed program.now
+              (entries_returned value) (thread_at machine.old.guest thread).frames;
+        }) [] }
 {
     if machine.frames(thread) == 0 {
         return;
@@ -71,8 +81,13 @@ fn go_on(
     value: Option<Value>,
 )
     requires started { thread < length machine.old.guest.threads }
-    requires room { FitsBelow stage (entries_returned value) (thread_at machine.old.guest thread).frames }
-    ensures { machine.new ≡ steps_thread machine.old thread (record (thread_at machine.old.guest thread) { frames = frames_after_return program.now stage (entries_returned value) (thread_at machine.old.guest thread).frames }) [] }
+    requires room { FitsBelow stage
+        (entries_returned value) (thread_at machine.old.guest thread).frames }
+    ensures { machine.new ≡ steps_thread machine.old thread
+        (record (thread_at machine.old.guest thread) {
+          frames = frames_after_return program.now
+              stage (entries_returned value) (thread_at machine.old.guest thread).frames;
+        }) [] }
 {
     match stage {
         Stage::Plain => resume_topmost(machine, program, thread, value),
@@ -84,9 +99,16 @@ fn go_on(
 #[tactic(auto, using(crate::proofs::Returning::dropped, crate::proofs::Returning::fits_dropped, crate::proofs::Returning::started_after))]
 fn drop_returned(machine: &mut Machine, program: &Program, thread: ThreadId, value: Option<Value>)
     requires frame { HasFrame machine.old.guest thread }
-    requires lost { length machine.old.lost + (length (top machine.old.guest thread).locals + length (top machine.old.guest thread).operands) < lost_room }
-    requires room { FitsBelow (top machine.old.guest thread).stage (entries_returned value) (rest_of (thread_at machine.old.guest thread).frames) }
-    ensures { machine.new ≡ steps_thread machine.old thread (record (thread_at machine.old.guest thread) { frames = frames_after_return program.now (top machine.old.guest thread).stage (entries_returned value) (rest_of (thread_at machine.old.guest thread).frames) }) (frame_roots (top machine.old.guest thread)) }
+    requires lost { length machine.old.lost + (length (top machine.old.guest thread).locals
+        + length (top machine.old.guest thread).operands) < lost_room }
+    requires room { FitsBelow (top machine.old.guest thread).stage
+        (entries_returned value) (rest_of (thread_at machine.old.guest thread).frames) }
+    ensures { machine.new ≡ steps_thread machine.old thread (record (thread_at machine.old.guest
+        thread) {
+          frames = frames_after_return program.now (top machine.old.guest thread).stage
+              (entries_returned value) (rest_of (thread_at machine.old.guest thread).frames);
+        })
+        (frame_roots (top machine.old.guest thread)) }
 {
     let stage = machine.stage(thread);
     machine.drop_frame(thread);
@@ -96,7 +118,8 @@ fn drop_returned(machine: &mut Machine, program: &Program, thread: ThreadId, val
 /// The class of an initializer that returns is done.
 fn finish_class(machine: &mut Machine, stage: Stage)
     requires { IsClassIn stage (length machine.old.guest.classes) }
-    ensures came { (s : Kept) (d : Doing) → Came s d machine.old → Came s (class_done_by stage d) machine.new }
+    ensures came { (s : Kept) (d : Doing) →
+        Came s d machine.old → Came s (class_done_by stage d) machine.new }
     ensures threads { machine.new.guest.threads ≡ machine.old.guest.threads }
     ensures lost { machine.new.lost ≡ machine.old.lost }
 {
@@ -119,7 +142,8 @@ fn begin_return<L: Ledger>(
     requires clock { machine.old.guest.clock < 2 ^ 40 }
     requires lock { HasSome machine.old (locks_of lock.now) }
     requires class { IsClassIn stage (length machine.old.guest.classes) }
-    ensures came { (e : Moment) → e.before ≡ kept_of machine.old → Came (kept_of machine.old) (class_done_by stage (left_some (locks_of lock.now) (begins e))) machine.new }
+    ensures came { (e : Moment) → e.before ≡ kept_of machine.old → Came (kept_of machine.old)
+        (class_done_by stage (left_some (locks_of lock.now) (begins e))) machine.new }
     ensures threads { machine.new.guest.threads ≡ machine.old.guest.threads }
     ensures lost { machine.new.lost ≡ [] }
     ensures visits { visits.new ≤ visits.old + 2 }
@@ -144,12 +168,17 @@ fn leave_frame<L: Ledger>(
     requires sound { IsSound (kept_of machine.old) }
     requires clock { machine.old.guest.clock < 2 ^ 40 }
     requires locals { length (top machine.old.guest thread).locals < 2 ^ 16 }
-    requires room { FitsBelow (top machine.old.guest thread).stage (entries_returned value) (rest_of (thread_at machine.old.guest thread).frames) }
+    requires room { FitsBelow (top machine.old.guest thread).stage
+        (entries_returned value) (rest_of (thread_at machine.old.guest thread).frames) }
     requires there { IsValueIn (top machine.old.guest thread) value }
-    requires class { IsClassIn (top machine.old.guest thread).stage (length machine.old.guest.classes) }
+    requires class { IsClassIn
+        (top machine.old.guest thread).stage (length machine.old.guest.classes) }
     requires lock { HasSome machine.old (locks_of lock.now) }
-    requires held { locks_of lock.now ≡ lock_in_frame (top machine.old.guest thread).stage (method_in program.now (top machine.old.guest thread)) (top machine.old.guest thread).lock }
-    ensures ok { OnOk result (EventAnswers (goes (frame_returned (record { program = program.now; before = kept_of machine.old; thread = thread }) (entries_returned value) (begins (record { program = program.now; before = kept_of machine.old; thread = thread })))) ends.Done machine.old machine.new out.old out.new) }
+    requires held { locks_of lock.now ≡ lock_in_frame (top machine.old.guest thread).stage
+        (method_in program.now (top machine.old.guest thread)) (top machine.old.guest thread).lock }
+    ensures ok { OnOk result (EventAnswers (goes (frame_returned (moment program.now machine.old
+        thread) (entries_returned value) (begins (moment program.now machine.old thread))))
+        ends.Done machine.old machine.new out.old out.new) }
     ensures err { OnErr result (machine.new ≡ machine.old) }
     ensures visits { visits.new ≤ visits.old + 2 }
 {
@@ -183,9 +212,11 @@ fn return_value<L: Ledger>(
     requires locals { length (top machine.old.guest thread).locals < 2 ^ 16 }
     requires method { method.now ≡ method_in program.now (top machine.old.guest thread) }
     requires class { method.now.class < length program.now.classes }
-    requires room { FitsBelow (top machine.old.guest thread).stage (entries_returned value) (rest_of (thread_at machine.old.guest thread).frames) }
+    requires room { FitsBelow (top machine.old.guest thread).stage
+        (entries_returned value) (rest_of (thread_at machine.old.guest thread).frames) }
     requires there { IsValueIn (top machine.old.guest thread) value }
-    ensures ok { IfOk result (λ end. EventAnswers (returning (record { program = program.now; before = kept_of machine.old; thread = thread }) value) end machine.old machine.new out.old out.new) }
+    ensures ok { IfOk result (λ end. EventAnswers (returning (moment program.now machine.old thread)
+        value) end machine.old machine.new out.old out.new) }
     ensures err { OnErr result (machine.new.guest ≡ machine.old.guest) }
     ensures visits { visits.new ≤ visits.old + 3 }
 {
@@ -219,7 +250,8 @@ pub(crate) fn return_event<L: Ledger>(
     requires sound { IsSoundFor program.now (kept_of machine.old) }
     requires clock { machine.old.guest.clock < 2 ^ 40 }
     requires locals { length (top machine.old.guest thread).locals < 2 ^ 16 }
-    ensures ok { IfOk result (λ end. EventAnswers (return_in_table (record { program = program.now; before = kept_of machine.old; thread = thread }) kind) end machine.old machine.new out.old out.new) }
+    ensures ok { IfOk result (λ end. EventAnswers (return_in_table
+        (moment program.now machine.old thread) kind) end machine.old machine.new out.old out.new) }
     ensures err { OnErr result (machine.new.guest ≡ machine.old.guest) }
     ensures visits { visits.new ≤ visits.old + 3 }
 {

@@ -10,7 +10,7 @@ ghost use Rattle.et_state.specs.Sound.{IsSound};
 ghost use Rattle.et_state.specs.declared.records.Record.{Record};
 ghost use Rattle.et_event.specs.Answered.{EventAnswers};
 ghost use Rattle.et_event.specs.Calls.{invoke};
-ghost use Rattle.et_event.specs.Moments.{Moment, waits};
+ghost use Rattle.et_event.specs.Moments.{Moment, waits, moment};
 ghost use Rattle.et_event.specs.Sites.{Site, natural};
 ghost use Rattle.et_event.specs.Sound.{IsSoundFor};
 ghost use Rattle.et_sound.specs.Programs.{HasMachineSlots};
@@ -32,7 +32,8 @@ use std::sync::ledger::Ledger;
 fn wait(machine: &mut Machine) -> EventEnd
     requires sound { IsSound (kept_of machine.old) }
     requires clock { machine.old.guest.clock < 2 ^ 40 }
-    ensures { (e : Moment) (out : List Record) → e.before ≡ kept_of machine.old → EventAnswers (waits e) result machine.old machine.new out out }
+    ensures { (e : Moment) (out : List Record) → e.before ≡ kept_of machine.old →
+        EventAnswers (waits e) result machine.old machine.new out out }
 {
     machine.begin_event();
     EventEnd::Waited
@@ -54,8 +55,10 @@ pub fn plan_event<L: Ledger>(
     requires sound { IsSoundFor program.now (kept_of machine.old) }
     requires clock { machine.old.guest.clock < 2 ^ 40 }
     requires slots { HasMachineSlots program.now }
-    requires plan { IsPlan (record { program = program.now; before = kept_of machine.old; thread = thread }) plan }
-    ensures ok { IfOk result (λ end. (at : Site) → at.next ≡ next → AnswersUnless (is_left (record { program = program.now; before = kept_of machine.old; thread = thread }) plan) (planned (record { program = program.now; before = kept_of machine.old; thread = thread }) at plan) end machine.old machine.new out.old out.new) }
+    requires plan { IsPlan (moment program.now machine.old thread) plan }
+    ensures ok { IfOk result (λ end. (at : Site) → at.next ≡ next →
+        AnswersUnless (is_left (moment program.now machine.old thread) plan) (planned (moment
+        program.now machine.old thread) at plan) end machine.old machine.new out.old out.new) }
     ensures visits { visits.new ≤ visits.old + 3 }
 {
     match plan {
@@ -92,7 +95,9 @@ fn invoke_event<L: Ledger>(
     requires slots { HasMachineSlots program.now }
     requires class { place.now.class < length program.now.classes }
     requires index { natural place.now.instr.first < 2 ^ 16 }
-    ensures ok { IfOk result (λ end. InvokeAnswers (record { program = program.now; before = kept_of machine.old; thread = thread }) (site_at place.now) (invoke (record { program = program.now; before = kept_of machine.old; thread = thread }) (site_at place.now) kind) end machine.old machine.new out.old out.new) }
+    ensures ok { IfOk result (λ end. InvokeAnswers (moment program.now machine.old thread)
+        (site_at place.now) (invoke (moment program.now machine.old thread)
+        (site_at place.now) kind) end machine.old machine.new out.old out.new) }
     ensures visits { visits.new ≤ visits.old + 4 }
 {
     let plan = invoke_plan(program, machine, thread, place, kind, visits);
@@ -121,7 +126,8 @@ pub fn call_row_event<L: Ledger>(
     requires slots { HasMachineSlots program.now }
     requires place { IsPlace program.now (top machine.old.guest thread) place.now }
     requires row { place.now.row ≡ rows.Call row }
-    ensures ok { IfOk result (λ end. CallAnswers (record { program = program.now; before = kept_of machine.old; thread = thread }) (site_at place.now) row end machine.old machine.new out.old out.new) }
+    ensures ok { IfOk result (λ end. CallAnswers (moment program.now machine.old thread)
+        (site_at place.now) row end machine.old machine.new out.old out.new) }
     ensures visits { visits.new ≤ visits.old + 4 }
 {
     match row {

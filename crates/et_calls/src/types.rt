@@ -74,7 +74,8 @@ pub(crate) fn behind_type(s: &[u8]) -> Option<&[u8]>
 
 /// What stands behind the types up to their `)`; `None` where they are no types, or have no `)`.
 fn behind_parameters(s: &[u8]) -> Option<&[u8]>
-    ensures { option_map (λ r. r.now) result ≡ option_map (λ x. x.1) (types_of (length s.now) s.now) }
+    ensures { option_map (λ r. r.now) result
+        ≡ option_map (λ x. x.1) (types_of (length s.now) s.now) }
 {
     let mut rest = s;
     'types: while !rest.is_empty() {

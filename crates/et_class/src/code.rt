@@ -165,7 +165,8 @@ fn check_names_of(first: First, pool: &Pool, place: usize, instr: &Instr) -> Fir
 /// at a place.
 pub fn check_instructions(first: First, pool: &Pool, place: usize, code: &[u8]) -> First
     requires { place + length code.now < 2 ^ 64 }
-    ensures { result ≡ first_from first (flat_map (named_marks pool.now.slots place code.now) (starts code.now)) }
+    ensures { result ≡ first_from first
+        (flat_map (named_marks pool.now.slots place code.now) (starts code.now)) }
 {
     let mut found = first;
     let mut pc = 0;

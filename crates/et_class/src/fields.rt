@@ -24,7 +24,8 @@ use et_pool::tags::{INTEGER, LONG, STRING};
 /// The first broken rule behind those on the names of attributes from a place on.
 pub fn check_names(first: First, pool: &Pool, start: usize, attributes: &[Attribute]) -> First
     requires { start + length (flat_map attribute_bytes (attributes_of attributes.now)) < 2 ^ 64 }
-    ensures { result ≡ first_from first (along attribute_bytes (attribute_marks pool.now.slots) [] start (attributes_of attributes.now)) }
+    ensures { result ≡ first_from first (along attribute_bytes
+        (attribute_marks pool.now.slots) [] start (attributes_of attributes.now)) }
 {
     let mut found = first;
     let mut place = start;
@@ -120,7 +121,8 @@ fn is_value(pool: &Pool, a: &Attribute) -> bool
 /// Whether the rules on an attribute of a field hold, where an earlier one was a ConstantValue or
 /// none was.
 fn is_attribute_well(pool: &Pool, field: &Member, seen: bool, a: &Attribute) -> bool
-    ensures { result ≡ is_field_attribute pool.now.slots (member_of field.now) seen (attribute_of a.now) }
+    ensures { result
+        ≡ is_field_attribute pool.now.slots (member_of field.now) seen (attribute_of a.now) }
 {
     is_utf8(pool, a.name_index)
         && (!is_value(pool, a)
@@ -137,7 +139,8 @@ fn check_field_attributes(
     attributes: &[Attribute],
 ) -> First
     requires { start + length (flat_map attribute_bytes (attributes_of attributes.now)) < 2 ^ 64 }
-    ensures { result ≡ first_from first (along attribute_bytes (field_attribute_marks pool.now.slots (member_of field.now)) [] start (attributes_of attributes.now)) }
+    ensures { result ≡ first_from first (along attribute_bytes (field_attribute_marks pool.now.slots
+        (member_of field.now)) [] start (attributes_of attributes.now)) }
 {
     let mut found = first;
     let mut place = start;
@@ -167,7 +170,8 @@ pub fn check_field(
     field: &Member,
 ) -> First
     requires { place + length (member_bytes (member_of field.now)) < 2 ^ 64 }
-    ensures { result ≡ first_from first (field_marks_if pool.now.slots interface new place (member_of field.now)) }
+    ensures { result ≡ first_from first
+        (field_marks_if pool.now.slots interface new place (member_of field.now)) }
 {
     let flags = has_field_flags(interface, field.access_flags);
     let named = names_some(pool, field.name_index);

@@ -75,7 +75,8 @@ fn indices_from(
 }
 
 fn read_indices(alloc: Global, bytes: &[u8], at: usize) -> Result<(Vec<u16>, usize), ClassFault>
-    ensures { Gives (λ x. (x.0.items, x.1)) result (counted_at bytes.now (number w16 bytes.now) at) }
+    ensures { Gives
+        (λ x. (x.0.items, x.1)) result (counted_at bytes.now (number w16 bytes.now) at) }
 {
     let (count, at) = u16_item(bytes, at)?;
     indices_from(alloc, bytes, count, at)
@@ -112,7 +113,8 @@ fn has_class_flags(flags: u16) -> bool
 /// The first broken rule behind those on interfaces from a place on.
 fn check_interfaces(first: First, pool: &Pool, start: usize, interfaces: &[u16]) -> First
     requires { start + length (flat_map u2 interfaces.now) < 2 ^ 64 }
-    ensures { result ≡ first_from first (along u2 (interface_marks pool.now.slots) [] start interfaces.now) }
+    ensures { result
+        ≡ first_from first (along u2 (interface_marks pool.now.slots) [] start interfaces.now) }
 {
     let mut found = first;
     let mut place = start;

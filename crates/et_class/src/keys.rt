@@ -19,7 +19,8 @@ fn add_key<'a>(
     descriptor: &'a [u8],
 ) -> Result<bool, AllocError>
     ensures added { IfOk result (λ new. new ≡ not (has_key keys.old (name.now, descriptor.now))) }
-    ensures keeps { IfOk result (λ new. (q : List ℕ × List ℕ) → has_key keys.new q ≡ (share (Some (name.now, descriptor.now)) (Some q) || has_key keys.old q)) }
+    ensures keeps { IfOk result (λ new. (q : List ℕ × List ℕ) → has_key keys.new q
+        ≡ (share (Some (name.now, descriptor.now)) (Some q) || has_key keys.old q)) }
 {
     Ok(keys.insert((name, descriptor))?)
 }
@@ -31,8 +32,10 @@ pub fn add_member<'a>(
     pool: &'a Pool,
     member: &Member,
 ) -> Result<bool, AllocError>
-    ensures added { IfOk result (λ new. new ≡ not (has_some_key keys.old (key_of pool.now.slots (member_of member.now)))) }
-    ensures keeps { IfOk result (λ new. (q : List ℕ × List ℕ) → has_key keys.new q ≡ (share (key_of pool.now.slots (member_of member.now)) (Some q) || has_key keys.old q)) }
+    ensures added { IfOk result
+        (λ new. new ≡ not (has_some_key keys.old (key_of pool.now.slots (member_of member.now)))) }
+    ensures keeps { IfOk result (λ new. (q : List ℕ × List ℕ) → has_key keys.new q
+        ≡ (share (key_of pool.now.slots (member_of member.now)) (Some q) || has_key keys.old q)) }
 {
     match pool.utf8(member.name_index) {
         None => Ok(true),

@@ -15,5 +15,6 @@ pub fn exactly_one()
 
 /// The first pass reads a class exactly where the bytes are those that spell it, and no others.
 pub fn spelled()
-    ensures { (bytes : List ℕ) (c : ClassOf) → AreBytes bytes → (IsRead bytes c ↔ IsSpelled bytes c) }
+    ensures { (bytes : List ℕ) (c : ClassOf) →
+        AreBytes bytes → (IsRead bytes c ↔ IsSpelled bytes c) }
 {}

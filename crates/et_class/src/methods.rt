@@ -186,7 +186,9 @@ fn check_body(
     requires tags_are { tags.now ≡ map tag_of_slot pool.now.slots }
     requires one { receiver ≤ 1 }
     requires room { place + 6 + length raw.code.items + 8 * length raw.table.items < 2 ^ 64 }
-    ensures { IfOk result (λ x. (x.0 ≡ first_from first (mark_of place CODE (fits_locals receiver raw.max_locals shape) ∷ body_marks pool.now.slots place (body_of raw))) × (x.1 ≡ kept_body pool.now.slots (body_of raw))) }
+    ensures { IfOk result (λ x. (x.0 ≡ first_from first (mark_of place CODE (fits_locals
+        receiver raw.max_locals shape) ∷ body_marks pool.now.slots place (body_of raw)))
+        × (x.1 ≡ kept_body pool.now.slots (body_of raw))) }
 {
     let fits = arguments_fit(receiver, raw.max_locals, shape);
     let found = mark(first, place, CODE, fits);
@@ -215,7 +217,9 @@ fn check_code_attribute(
     requires tags_are { tags.now ≡ map tag_of_slot pool.now.slots }
     requires one { receiver ≤ 1 }
     requires room { place + 6 + length body.now < 2 ^ 64 }
-    ensures { IfOk result (λ x. (x.0 ≡ first_from first (code_attribute_marks pool.now.slots receiver shape place (code_at body.now))) × (x.1 ≡ kept_attribute pool.now.slots (code_at body.now))) }
+    ensures { IfOk result (λ x. (x.0 ≡ first_from first
+        (code_attribute_marks pool.now.slots receiver shape place (code_at body.now)))
+        × (x.1 ≡ kept_attribute pool.now.slots (code_at body.now))) }
 {
     match read_code(alloc, body) {
         Err(ClassFault::NoMemory) => Err(AllocError),
@@ -246,7 +250,9 @@ fn check_method_attribute(
 ) -> Result<(First, Option<Code>), AllocError>
     requires tags_are { tags.now ≡ map tag_of_slot pool.now.slots }
     requires room { place + length (attribute_bytes (attribute_of a.now)) < 2 ^ 64 }
-    ensures { IfOk result (λ x. (x.0 ≡ first_from first (method_attribute_marks_if pool.now.slots (member_of method.now) seen place (attribute_of a.now))) × (x.1 ≡ kept_in pool.now.slots seen (attribute_of a.now))) }
+    ensures { IfOk result (λ x. (x.0 ≡ first_from first (method_attribute_marks_if pool.now.slots
+        (member_of method.now) seen place (attribute_of a.now)))
+        × (x.1 ≡ kept_in pool.now.slots seen (attribute_of a.now))) }
 {
     let found = mark(first, place, ATTRIBUTE, is_utf8(pool, a.name_index));
     if !is_code_attribute(pool, a) {
@@ -279,8 +285,12 @@ fn check_method_attributes(
     attributes: &[Attribute],
 ) -> Result<(First, Option<Code>), AllocError>
     requires tags_are { tags.now ≡ map tag_of_slot pool.now.slots }
-    requires room { start + length (flat_map attribute_bytes (attributes_of attributes.now)) < 2 ^ 64 }
-    ensures { IfOk result (λ x. (x.0 ≡ first_from first (along attribute_bytes (method_attribute_marks pool.now.slots (member_of method.now)) [] start (attributes_of attributes.now))) × (x.1 ≡ kept_among pool.now.slots (attributes_of attributes.now))) }
+    requires room { start + length (flat_map attribute_bytes (attributes_of attributes.now))
+        < 2 ^ 64 }
+    ensures { IfOk result
+        (λ x. (x.0 ≡ first_from first (along attribute_bytes (method_attribute_marks pool.now.slots
+        (member_of method.now)) [] start (attributes_of attributes.now)))
+        × (x.1 ≡ kept_among pool.now.slots (attributes_of attributes.now))) }
 {
     let mut found = first;
     let mut place = start;
@@ -312,7 +322,8 @@ pub fn check_method(
 ) -> Result<(First, Option<Code>), AllocError>
     requires tags_are { tags.now ≡ map tag_of_slot pool.now.slots }
     requires room { place + length (member_bytes (member_of method.now)) < 2 ^ 64 }
-    ensures { IfOk result (λ x. (x.0 ≡ first_from first (method_marks_if pool.now.slots new place (member_of method.now))) × (x.1 ≡ kept_code pool.now.slots (member_of method.now))) }
+    ensures { IfOk result (λ x. (x.0 ≡ first_from first (method_marks_if pool.now.slots new place
+        (member_of method.now))) × (x.1 ≡ kept_code pool.now.slots (member_of method.now))) }
 {
     let shape = shape(pool, method);
     let receiver = receiver_entries(pool, method);

@@ -78,7 +78,8 @@ pub fn first_named<'a>(
     attributes: &'a [Attribute],
     name: &[u8],
 ) -> Option<&'a Attribute>
-    ensures { option_map (λ a. attribute_of a.now) result ≡ find (is_named pool.now.slots name.now) (map attribute_of attributes.now) }
+    ensures { option_map (λ a. attribute_of a.now) result
+        ≡ find (is_named pool.now.slots name.now) (map attribute_of attributes.now) }
 {
     'attributes: for a in attributes {
         if names_text(pool, a.name_index, name) {

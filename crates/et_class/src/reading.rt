@@ -28,7 +28,8 @@ fn attributes_from(
     count: u16,
     start: usize,
 ) -> Result<(Vec<Attribute>, usize), ClassFault>
-    ensures { Gives (λ x. (attributes_of x.0.items, x.1)) result (many_at (attribute_at bytes.now) count start) }
+    ensures { Gives (λ x. (attributes_of x.0.items, x.1)) result
+        (many_at (attribute_at bytes.now) count start) }
 {
     let mut attributes = Vec::new(alloc);
     let mut at = start;
@@ -46,7 +47,8 @@ pub fn read_attributes(
     bytes: &[u8],
     at: usize,
 ) -> Result<(Vec<Attribute>, usize), ClassFault>
-    ensures items { Gives (λ x. (attributes_of x.0.items, x.1)) result (counted_at bytes.now (attribute_at bytes.now) at) }
+    ensures items { Gives (λ x. (attributes_of x.0.items, x.1)) result
+        (counted_at bytes.now (attribute_at bytes.now) at) }
     ensures room { IfOk result (λ x. x.1 < 2 ^ 64) }
 {
     let (count, at) = u16_item(bytes, at)?;

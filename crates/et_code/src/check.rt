@@ -23,7 +23,8 @@ use std::alloc::Global;
 /// The first broken rule behind those on the operands of an instruction at a place.
 #[tactic(auto, unfolding(et_base::specs::Marks::first_from))]
 fn check_operands(first: First, body: &RawCode, tags: &[u8], place: usize, instr: &Instr) -> First
-    ensures { result ≡ first_from first (operand_marks (body_of body.now) tags.now place instr.now) }
+    ensures { result
+        ≡ first_from first (operand_marks (body_of body.now) tags.now place instr.now) }
 {
     let tag = tag_at(tags, instr.first);
     let locals = fits_locals(body.max_locals, instr);
@@ -47,9 +48,12 @@ fn check_array(first: First, place: usize, instr: &Instr) -> First
 #[tactic(auto, unfolding(et_base::specs::Marks::first_from))]
 fn check_targets(first: First, body: &RawCode, flags: &[bool], pc: usize, instr: &Instr) -> First
     requires pc { pc < 2 ^ 62 }
-    requires table { instr.now.opcode ≡ TABLESWITCH → TableFits body.now.code.items instr.now.table }
-    requires lookup { instr.now.opcode ≡ LOOKUPSWITCH → LookupFits body.now.code.items instr.now.table }
-    ensures { result ≡ first_from first (target_marks (body_of body.now) (flag flags.now) (pc + 4) pc instr.now) }
+    requires table { instr.now.opcode ≡ TABLESWITCH →
+        TableFits body.now.code.items instr.now.table }
+    requires lookup { instr.now.opcode ≡ LOOKUPSWITCH →
+        LookupFits body.now.code.items instr.now.table }
+    ensures { result ≡ first_from first
+        (target_marks (body_of body.now) (flag flags.now) (pc + 4) pc instr.now) }
 {
     let targets = has_targets(flags, &body.code, pc, instr);
     let rising = has_rising_keys(&body.code, instr);
@@ -68,9 +72,12 @@ fn check_instruction(
     next: usize,
 ) -> First
     requires pc { pc < 2 ^ 62 }
-    requires table { instr.now.opcode ≡ TABLESWITCH → TableFits body.now.code.items instr.now.table }
-    requires lookup { instr.now.opcode ≡ LOOKUPSWITCH → LookupFits body.now.code.items instr.now.table }
-    ensures { result ≡ first_from first (decoded_marks (body_of body.now) tags.now (flag flags.now) pc (Ok (instr.now, next))) }
+    requires table { instr.now.opcode ≡ TABLESWITCH →
+        TableFits body.now.code.items instr.now.table }
+    requires lookup { instr.now.opcode ≡ LOOKUPSWITCH →
+        LookupFits body.now.code.items instr.now.table }
+    ensures { result ≡ first_from first
+        (decoded_marks (body_of body.now) tags.now (flag flags.now) pc (Ok (instr.now, next))) }
 {
     let first = check_operands(first, body, tags, pc + 4, instr);
     let first = check_array(first, pc + 4, instr);
@@ -88,7 +95,8 @@ fn check_no_instruction(
     fault: CodeFault,
 ) -> First
     requires { pc < 2 ^ 62 }
-    ensures { result ≡ first_from first (decoded_marks (body_of body.now) tags.now (flag flags.now) pc (Err fault)) }
+    ensures { result ≡ first_from first
+        (decoded_marks (body_of body.now) tags.now (flag flags.now) pc (Err fault)) }
 {
     match fault {
         CodeFault::Opcode => mark(first, pc + 4, CODE, false),
@@ -100,8 +108,8 @@ fn check_no_instruction(
 /// The first broken rule on instructions.
 fn check_instructions(body: &RawCode, tags: &[u8], flags: &[bool]) -> First
     requires { length body.now.code.items < 2 ^ 16 }
-    ensures { result
-        ≡ first_from None (flat_map (marks_at (body_of body.now) tags.now (flag flags.now)) (starts body.now.code.items)) }
+    ensures { result ≡ first_from None (flat_map
+        (marks_at (body_of body.now) tags.now (flag flags.now)) (starts body.now.code.items)) }
 {
     let code = body.code.as_slice();
     let mut first = None;
@@ -141,8 +149,8 @@ fn row_holds(code_length: usize, tags: &[u8], flags: &[bool], row: &TableRow) ->
 #[tactic(auto, using(crate::proofs::Checked::rows_step, crate::proofs::Checked::rows_end))]
 fn check_rows(first: First, body: &RawCode, tags: &[u8], flags: &[bool]) -> First
     requires { length body.now.code.items < 2 ^ 16 }
-    ensures { result
-        ≡ first_from first (rows_marks (length body.now.code.items) tags.now (flag flags.now) (length body.now.code.items + 6) body.now.table.items) }
+    ensures { result ≡ first_from first (rows_marks (length body.now.code.items) tags.now
+        (flag flags.now) (length body.now.code.items + 6) body.now.table.items) }
 {
     let code_length = body.code.len();
     let mut found = first;

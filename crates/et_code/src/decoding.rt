@@ -180,7 +180,8 @@ fn table_of(
 ) -> Result<(Instr, usize), CodeFault>
     requires pc { pc < length code.now }
     requires at { at ≤ length code.now }
-    ensures { result ≡ table_rows code.now pc opcode at (cast_signed w32 low) (cast_signed w32 high) }
+    ensures { result
+        ≡ table_rows code.now pc opcode at (cast_signed w32 low) (cast_signed w32 high) }
 {
     let low = low.cast_signed();
     let high = high.cast_signed();

@@ -132,7 +132,8 @@ fn is_branch(opcode: u8) -> bool
 fn rows_have_targets(flags: &[bool], code: &[u8], pc: usize, table: usize) -> bool
     requires pc { pc < 2 ^ 62 }
     requires fits { TableFits code.now table }
-    ensures { result ≡ list_all (λ offset. passes (flag flags.now) (pos pc +ℤ offset)) (table_rows code.now table) }
+    ensures { result ≡ list_all
+        (λ offset. passes (flag flags.now) (pos pc +ℤ offset)) (table_rows code.now table) }
 {
     for row in 0..row_count(code, table) {
         let offset = bits(code, table + 12 + row * 4).cast_signed();
@@ -147,7 +148,8 @@ fn rows_have_targets(flags: &[bool], code: &[u8], pc: usize, table: usize) -> bo
 fn pairs_have_targets(flags: &[bool], code: &[u8], pc: usize, table: usize) -> bool
     requires pc { pc < 2 ^ 62 }
     requires fits { LookupFits code.now table }
-    ensures { result ≡ list_all (λ offset. passes (flag flags.now) (pos pc +ℤ offset)) (map (λ p. p.1) (lookup_pairs code.now table)) }
+    ensures { result ≡ list_all (λ offset. passes (flag flags.now) (pos pc +ℤ offset))
+        (map (λ p. p.1) (lookup_pairs code.now table)) }
 {
     for pair in 0..bits(code, table + 4) {
         let offset = bits(code, table + 8 + pair as usize * 8 + 4).cast_signed();

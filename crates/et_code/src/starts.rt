@@ -9,7 +9,8 @@ use std::alloc::{AllocError, Global};
 
 /// A flag for each place of the code: whether an instruction begins there.
 pub fn start_flags(alloc: Global, code: &[u8]) -> Result<Vec<bool>, AllocError>
-    ensures { IfOk result (λ flags. (place : ℕ) → flag flags.items place ≡ is_start code.now place) }
+    ensures { IfOk result
+        (λ flags. (place : ℕ) → flag flags.items place ≡ is_start code.now place) }
 {
     let mut flags = vec![in alloc; false; code.len()]?;
     let mut pc = 0;

@@ -56,8 +56,8 @@ fn in_table(code: &[u8], table: usize, key: i32) -> i32
 /// The place of the offset beside the key, or that of the default.
 fn place_of_offset(code: &[u8], table: usize, key: u32, count: u32) -> usize
     requires { table + 8 + count * 8 ≤ length code.now }
-    ensures chosen { word_at code.now result
-        ≡ option_map_or (λ p. p.1) (find (λ p. p.0 == key) (pairs_from code.now count (table + 8))) (word_at code.now table) }
+    ensures chosen { word_at code.now result ≡ option_map_or (λ p. p.1)
+        (find (λ p. p.0 == key) (pairs_from code.now count (table + 8))) (word_at code.now table) }
     ensures within { result + 4 ≤ length code.now }
 {
     for i in 0..count {

@@ -30,15 +30,21 @@ pub fn events_keep_monitors()
 /// reported has it owned by the thread that holds it, with the entries of that thread less its exits; it has no owner
 /// exactly where nobody holds it.
 pub fn monitors_exclude()
-    ensures one { (reached : Graph → ℕ → Bool) (p : Linked) (options : Options) (pick : ℕ → ℕ) (e : ℕ) (lock : Lock) (t u : ℕ) →
-        Decides reached → IsSoundRun p (start p) → AreOptions options → ((k : ℕ) → k < e → GoesOn reached p options pick k) →
-        0 < times_held reached p options pick t lock e → 0 < times_held reached p options pick u lock e → t ≡ u }
-    ensures owner { (reached : Graph → ℕ → Bool) (p : Linked) (options : Options) (pick : ℕ → ℕ) (e : ℕ) (lock : Lock) (t : ℕ) →
-        Decides reached → IsSoundRun p (start p) → AreOptions options → ((k : ℕ) → k < e → GoesOn reached p options pick k) →
+    ensures one { (reached : Graph → ℕ → Bool) (p : Linked) (options : Options)
+        (pick : ℕ → ℕ) (e : ℕ) (lock : Lock) (t u : ℕ) → Decides reached → IsSoundRun p (start p) →
+        AreOptions options → ((k : ℕ) → k < e → GoesOn reached p options pick k) → 0 < times_held
+        reached p options pick t lock e → 0 < times_held reached p options pick u lock e → t ≡ u }
+    ensures owner { (reached : Graph → ℕ → Bool) (p : Linked) (options : Options)
+        (pick : ℕ → ℕ) (e : ℕ) (lock : Lock) (t : ℕ) → Decides reached → IsSoundRun p (start p) →
+        AreOptions options → ((k : ℕ) → k < e → GoesOn reached p options pick k) →
         IsThere (state_at reached p options pick e) lock →
-        ((monitor_in (state_at reached p options pick e) lock).owner ≡ Some t) ↔ (0 < times_held reached p options pick t lock e) }
-    ensures count { (reached : Graph → ℕ → Bool) (p : Linked) (options : Options) (pick : ℕ → ℕ) (e : ℕ) (lock : Lock) (t : ℕ) →
-        Decides reached → IsSoundRun p (start p) → AreOptions options → ((k : ℕ) → k < e → GoesOn reached p options pick k) →
-        IsThere (state_at reached p options pick e) lock → (monitor_in (state_at reached p options pick e) lock).owner ≡ Some t →
-        (monitor_in (state_at reached p options pick e) lock).count ≡ times_held reached p options pick t lock e }
+        ((monitor_in (state_at reached p options pick e) lock).owner ≡ Some t)
+        ↔ (0 < times_held reached p options pick t lock e) }
+    ensures count { (reached : Graph → ℕ → Bool) (p : Linked) (options : Options)
+        (pick : ℕ → ℕ) (e : ℕ) (lock : Lock) (t : ℕ) → Decides reached → IsSoundRun p (start p) →
+        AreOptions options → ((k : ℕ) → k < e → GoesOn reached p options pick k) →
+        IsThere (state_at reached p options pick e) lock →
+        (monitor_in (state_at reached p options pick e) lock).owner ≡ Some t →
+        (monitor_in (state_at reached p options pick e) lock).count
+        ≡ times_held reached p options pick t lock e }
 {}

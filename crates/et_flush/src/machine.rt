@@ -29,11 +29,17 @@ pub fn flush_machine<L: Ledger>(
     requires sound { IsSound (kept_of machine.old) }
     requires stamps { length machine.old.heap ≤ length stamps.now }
     requires places { (graph_of (kept_of machine.old)).made ≤ room.old.places }
-    ensures deaths { OnOk result (AreListed (graph_of (kept_of machine.old)) (slice_index stamps.now) room.new.deaths) }
-    ensures machine { (here : ℕ → Bool) → ((o : ℕ) → IsHeld machine.old.heap o → (here o ≡ true) ↔ IsReached (graph_of (kept_of machine.old)) o) → OnOk result (machine.new ≡ record machine.old { heap = remaining here 0 machine.old.heap }) }
-    ensures graph { OnOk result (IsCleared (graph_of (kept_of machine.old)) (graph_of (kept_of machine.new))) }
+    ensures deaths { OnOk result
+        (AreListed (graph_of (kept_of machine.old)) (slice_index stamps.now) room.new.deaths) }
+    ensures machine { (here : ℕ → Bool) → ((o : ℕ) → IsHeld machine.old.heap o →
+        (here o ≡ true) ↔ IsReached (graph_of (kept_of machine.old)) o) → OnOk result
+        (machine.new ≡ record machine.old { heap = remaining here 0 machine.old.heap }) }
+    ensures graph { OnOk result
+        (IsCleared (graph_of (kept_of machine.old)) (graph_of (kept_of machine.new))) }
     ensures sound { OnOk result (IsSound (kept_of machine.new)) }
-    ensures visits { (here : ℕ → Bool) → ((o : ℕ) → IsHeld machine.old.heap o → (here o ≡ true) ↔ IsReached (graph_of (kept_of machine.old)) o) → visits.new ≤ visits.old + 2 * held_count machine.old.heap + cleared_from here 0 machine.old.heap }
+    ensures visits { (here : ℕ → Bool) → ((o : ℕ) → IsHeld machine.old.heap o →
+        (here o ≡ true) ↔ IsReached (graph_of (kept_of machine.old)) o) → visits.new
+        ≤ visits.old + 2 * held_count machine.old.heap + cleared_from here 0 machine.old.heap }
     ensures places { room.new.places ≡ room.old.places }
     ensures err { OnErr result (machine.new ≡ machine.old) }
     ensures err_room { OnErr result (room.new ≡ room.old) }

@@ -80,12 +80,17 @@ impl FlushRoom {
         requires none { ¬ IsHeld heap.old 0 }
         requires roots { (o : ℕ) → Contains roots.now o → IsHeld heap.old o }
         requires slots { ArePairsHeld heap.old }
-        requires referents { (u o : ℕ) → (object_at heap.old u).referent ≡ Some o → IsHeld heap.old o }
+        requires referents { (u o : ℕ) →
+            (object_at heap.old u).referent ≡ Some o → IsHeld heap.old o }
         requires stamps { length heap.old ≤ length stamps.now }
         requires places { made_count heap.old ≤ self.old.places }
-        ensures deaths { AreListed (heap_graph heap.old roots.now) (slice_index stamps.now) self.new.deaths }
-        ensures heap { (here : ℕ → Bool) → ((o : ℕ) → IsHeld heap.old o → (here o ≡ true) ↔ IsReached (heap_graph heap.old roots.now) o) → heap.new ≡ remaining here 0 heap.old }
-        ensures visits { (here : ℕ → Bool) → ((o : ℕ) → IsHeld heap.old o → (here o ≡ true) ↔ IsReached (heap_graph heap.old roots.now) o) → visits.new ≤ visits.old + 2 * held_count heap.old + cleared_from here 0 heap.old }
+        ensures deaths { AreListed
+            (heap_graph heap.old roots.now) (slice_index stamps.now) self.new.deaths }
+        ensures heap { (here : ℕ → Bool) → ((o : ℕ) → IsHeld heap.old o → (here o ≡ true)
+            ↔ IsReached (heap_graph heap.old roots.now) o) → heap.new ≡ remaining here 0 heap.old }
+        ensures visits { (here : ℕ → Bool) → ((o : ℕ) →
+            IsHeld heap.old o → (here o ≡ true) ↔ IsReached (heap_graph heap.old roots.now) o) →
+            visits.new ≤ visits.old + 2 * held_count heap.old + cleared_from here 0 heap.old }
         ensures places { self.new.places ≡ self.old.places }
     {
         find_deaths(
@@ -116,10 +121,14 @@ pub fn flush<L: Ledger>(
     requires referents { (u o : ℕ) → (object_at heap.old u).referent ≡ Some o → IsHeld heap.old o }
     requires stamps { length heap.old ≤ length stamps.now }
     requires places { made_count heap.old ≤ room.old.places }
-    ensures deaths { AreListed (heap_graph heap.old roots.now) (slice_index stamps.now) room.new.deaths }
+    ensures deaths { AreListed
+        (heap_graph heap.old roots.now) (slice_index stamps.now) room.new.deaths }
     ensures count { result ≡ length room.new.deaths }
-    ensures heap { (here : ℕ → Bool) → ((o : ℕ) → IsHeld heap.old o → (here o ≡ true) ↔ IsReached (heap_graph heap.old roots.now) o) → heap.new ≡ remaining here 0 heap.old }
-    ensures visits { (here : ℕ → Bool) → ((o : ℕ) → IsHeld heap.old o → (here o ≡ true) ↔ IsReached (heap_graph heap.old roots.now) o) → visits.new ≤ visits.old + 2 * held_count heap.old + cleared_from here 0 heap.old }
+    ensures heap { (here : ℕ → Bool) → ((o : ℕ) → IsHeld heap.old o → (here o ≡ true)
+        ↔ IsReached (heap_graph heap.old roots.now) o) → heap.new ≡ remaining here 0 heap.old }
+    ensures visits { (here : ℕ → Bool) → ((o : ℕ) →
+        IsHeld heap.old o → (here o ≡ true) ↔ IsReached (heap_graph heap.old roots.now) o) →
+        visits.new ≤ visits.old + 2 * held_count heap.old + cleared_from here 0 heap.old }
     ensures places { room.new.places ≡ room.old.places }
 {
     room.run(heap, roots, stamps, visits);

@@ -51,9 +51,12 @@ fn visit<L: Ledger>(
     requires within { ArePairsWithin (length times.old) (pairs_of heap.now) }
     requires ready { IsReady times.old seen.old work.old }
     ensures ready { IsReady times.new seen.new work.new }
-    ensures visits { Visits (pairs_of heap.now) object time times.old seen.old work.old.items times.new seen.new work.new.items }
-    ensures held { ArePairsHeld heap.now → AreHeld heap.now work.old.items → AreHeld heap.now work.new.items }
-    ensures seen { ArePairsHeld heap.now → AreSeenHeld heap.now seen.old → AreSeenHeld heap.now seen.new }
+    ensures visits { Visits (pairs_of heap.now)
+        object time times.old seen.old work.old.items times.new seen.new work.new.items }
+    ensures held { ArePairsHeld heap.now →
+        AreHeld heap.now work.old.items → AreHeld heap.now work.new.items }
+    ensures seen { ArePairsHeld heap.now →
+        AreSeenHeld heap.now seen.old → AreSeenHeld heap.now seen.new }
     ensures counted { visits.new ≡ visits.old + 1 }
     ensures grows { vec_capacity work.old ≤ vec_capacity work.new }
 {

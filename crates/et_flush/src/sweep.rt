@@ -20,8 +20,10 @@ fn clear_referent<L: Ledger>(
 )
     requires held { IsHeld heap.old object }
     requires within { ReferentsWithin (length times.now) (object_at heap.old object) }
-    ensures heap { heap.new ≡ slice_set heap.old object (left_place (is_now times.now) true (Some (object_at heap.old object))) }
-    ensures visits { visits.new ≡ visits.old + visits_of (is_now times.now) true (Some (object_at heap.old object)) }
+    ensures heap { heap.new ≡ slice_set heap.old object
+        (left_place (is_now times.now) true (Some (object_at heap.old object))) }
+    ensures visits { visits.new
+        ≡ visits.old + visits_of (is_now times.now) true (Some (object_at heap.old object)) }
 {
     if let Value::Ref(referent) = heap.referent(object, visits) {
         if times[place_of(referent)] < NOW {
@@ -36,8 +38,10 @@ fn sweep_one<L: Ledger>(heap: &mut Heap, times: &[u64], object: ObjectId, visits
     requires last { object ≤ length times.now }
     requires long { length times.now + 1 ≡ length heap.old }
     requires within { ReferentsWithin (length times.now) (object_at heap.old object) }
-    ensures heap { heap.new ≡ slice_set heap.old object (left_place (is_now times.now) (is_now times.now object) (at heap.old object)) }
-    ensures visits { visits.new ≡ visits.old + visits_of (is_now times.now) (is_now times.now object) (at heap.old object) }
+    ensures heap { heap.new ≡ slice_set heap.old object
+        (left_place (is_now times.now) (is_now times.now object) (at heap.old object)) }
+    ensures visits { visits.new
+        ≡ visits.old + visits_of (is_now times.now) (is_now times.now object) (at heap.old object) }
 {
     if !heap.is_held(object) {
         return;

@@ -105,7 +105,8 @@ pub(crate) fn settle<L: Ledger>(
     ensures settled { IsSettled heap.now roots.now stamps.now work.new.times.items }
     ensures places { (n : ℕ) → HasPlaces n work.old → HasPlaces n work.new }
     ensures seen { AreSeenHeld heap.now work.new.seen.items }
-    ensures visits { visits.new + unset_count work.new.seen.items ≡ visits.old + made_count heap.now }
+    ensures visits { visits.new + unset_count work.new.seen.items
+        ≡ visits.old + made_count heap.now }
     ensures length { length work.new.seen.items ≡ made_count heap.now }
 {
     write_times(heap, stamps, &mut work.times);
@@ -141,7 +142,8 @@ pub(crate) fn find_deaths<L: Ledger>(
     ensures deaths { AreBelow heap.now work.new.times.items (death_pairs work.new.deaths.items) }
     ensures places { (n : ℕ) → HasPlaces n work.old → HasPlaces n work.new }
     ensures seen { AreSeenHeld heap.now work.new.seen.items }
-    ensures visits { visits.new + unset_count work.new.seen.items ≡ visits.old + made_count heap.now }
+    ensures visits { visits.new + unset_count work.new.seen.items
+        ≡ visits.old + made_count heap.now }
     ensures length { length work.new.seen.items ≡ made_count heap.now }
 {
     settle(heap, roots, stamps, work, visits);

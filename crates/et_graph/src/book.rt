@@ -95,7 +95,8 @@ impl StampBook {
         requires few { self.old.steps < 2 ^ 41 }
         ensures ok { OnOk result ((turns : List Turn) →
             StandsFor self.old turns → StandsFor self.new (with_step turns (edit_of step))) }
-        ensures graph { OnOk result (self.new.graph ≡ (step_of self.old.graph (edit_of step)).after) }
+        ensures graph { OnOk result
+            (self.new.graph ≡ (step_of self.old.graph (edit_of step)).after) }
         ensures steps { OnOk result (self.new.steps ≡ self.old.steps + 1) }
         ensures err { OnErr result (self.new ≡ self.old) }
     {
@@ -120,7 +121,8 @@ impl StampBook {
     /// which it was reached, in rising order of the objects. From then on they count as reported. It takes no memory.
     pub fn flush(&mut self) -> &[Death]
         ensures* stands { sem 𝓛 (EndsFlushed self.entry result.now) }
-        ensures deaths { (turns : List Turn) → StandsFor self.old turns → AreDeaths turns (death_pairs result.now) }
+        ensures deaths { (turns : List Turn) →
+            StandsFor self.old turns → AreDeaths turns (death_pairs result.now) }
     {
         self.report();
         self.deaths()
@@ -128,7 +130,8 @@ impl StampBook {
 
     /// Finds the deaths, and counts them as reported.
     fn report(&mut self)
-        ensures deaths { (turns : List Turn) → StandsFor self.old turns → AreDeaths turns self.new.deaths }
+        ensures deaths { (turns : List Turn) →
+            StandsFor self.old turns → AreDeaths turns self.new.deaths }
         ensures stands { (turns : List Turn) → StandsFor self.old turns →
             StandsFor self.new (Flushed self.new.graph (map (λ d. d.0) self.new.deaths) ∷ turns) }
     {

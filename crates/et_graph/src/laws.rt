@@ -38,7 +38,8 @@ pub fn deaths_are_dead()
 
 /// There is at most one list of deaths.
 pub fn deaths_are_one()
-    ensures { (turns : List Turn) (a b : List (ℕ × ℕ)) → AreDeaths turns a → AreDeaths turns b → a ≡ b }
+    ensures { (turns : List Turn) (a b : List (ℕ × ℕ)) →
+        AreDeaths turns a → AreDeaths turns b → a ≡ b }
 {}
 
 /// The objects that are gone are those that the flushes reported.
@@ -54,7 +55,8 @@ pub fn histories_are_sound()
 
 /// A step begins as a draft in which nothing is new and nothing is lost.
 pub fn drafts_begin()
-    ensures { (g : Graph) → IsSoundGraph g → IsDraft g (record { after = g; fresh = []; lost = [] }) }
+    ensures { (g : Graph) →
+        IsSoundGraph g → IsDraft g (record { after = g; fresh = []; lost = [] }) }
 {}
 
 /// A call that makes no object leads from a draft to a draft.

@@ -12,7 +12,8 @@ use et_base::ObjectId;
 #[derive(Drop)]
 struct Cut {
     pairs: Vec<(ObjectId, ObjectId)>,
-    ghost sorted: { IsSorted (λ (p q : ℕ × ℕ). ordering_then (nat_cmp p.0 q.0) (nat_cmp p.1 q.1)) pairs.items },
+    ghost sorted: { IsSorted
+        (λ (p q : ℕ × ℕ). ordering_then (nat_cmp p.0 q.0) (nat_cmp p.1 q.1)) pairs.items },
 }
 
 impl Cut {
@@ -37,7 +38,8 @@ pub fn edit(
     tied: &[(ObjectId, ObjectId)],
 )
     requires room { vec_len pairs.old + length tied.now ≤ vec_capacity pairs.old }
-    ensures { pairs.new.items ≡ filter (λ p. not (has_pair cut.items p)) pairs.old.items ++ tied.now }
+    ensures { pairs.new.items
+        ≡ filter (λ p. not (has_pair cut.items p)) pairs.old.items ++ tied.now }
 {
     if !cut.is_empty() {
         let cut = Cut::new(cut);
@@ -59,7 +61,8 @@ fn first_from(pairs: &[(ObjectId, ObjectId)], object: ObjectId) -> usize
     requires { IsNonDecreasingBy (λ (p : ℕ × ℕ). p.0) pairs.now }
     ensures bound { result ≤ length pairs.now }
     ensures before { (k : ℕ) (d : ℕ × ℕ) → k < result → (slice_index_or pairs.now k d).0 < object }
-    ensures after { (k : ℕ) (d : ℕ × ℕ) → result ≤ k → k < length pairs.now → object ≤ (slice_index_or pairs.now k d).0 }
+    ensures after { (k : ℕ) (d : ℕ × ℕ) →
+        result ≤ k → k < length pairs.now → object ≤ (slice_index_or pairs.now k d).0 }
 {
     pairs.partition_point(|pair| pair.0.number() < object.number())
 }
@@ -69,7 +72,8 @@ fn first_after(pairs: &[(ObjectId, ObjectId)], object: ObjectId) -> usize
     requires { IsNonDecreasingBy (λ (p : ℕ × ℕ). p.0) pairs.now }
     ensures bound { result ≤ length pairs.now }
     ensures before { (k : ℕ) (d : ℕ × ℕ) → k < result → (slice_index_or pairs.now k d).0 ≤ object }
-    ensures after { (k : ℕ) (d : ℕ × ℕ) → result ≤ k → k < length pairs.now → object < (slice_index_or pairs.now k d).0 }
+    ensures after { (k : ℕ) (d : ℕ × ℕ) →
+        result ≤ k → k < length pairs.now → object < (slice_index_or pairs.now k d).0 }
 {
     pairs.partition_point(|pair| pair.0.number() <= object.number())
 }

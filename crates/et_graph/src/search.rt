@@ -67,7 +67,8 @@ fn visit(
     requires within { ArePairsWithin (length times.old) pairs.now }
     requires ready { IsReady times.old seen.old work.old }
     ensures ready { IsReady times.new seen.new work.new }
-    ensures visits { Visits pairs.now object time times.old seen.old work.old.items times.new seen.new work.new.items }
+    ensures visits { Visits
+        pairs.now object time times.old seen.old work.old.items times.new seen.new work.new.items }
 {
     for pair in pairs_of(pairs, object) {
         if !seen[place_of(pair.1)] {

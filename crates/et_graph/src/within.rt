@@ -38,7 +38,8 @@ pub fn extend<T: Copy>(v: &mut Vec<T>, elements: &[T])
 /// Makes it `count` elements long, with copies of `value` at the end.
 pub fn resize<T: Copy + Drop>(v: &mut Vec<T>, count: usize, value: T)
     requires room { count ≤ vec_capacity v.old }
-    ensures items { v.new.items ≡ take count v.old.items ++ replicate (count - vec_len v.old) value }
+    ensures items { v.new.items
+        ≡ take count v.old.items ++ replicate (count - vec_len v.old) value }
     ensures grows { vec_capacity v.old ≤ vec_capacity v.new }
 {
     if v.resize(count, value).is_err() {

@@ -72,7 +72,8 @@ impl Heap {
     /// `MOST_OBJECTS` objects ever made or more than `MOST_SLOTS` slots of objects that are held.
     fn make(&mut self, class: ClassId, elements: u32, slots: u32) -> Result<ObjectId, MakeFault>
         ensures number { IfOk result (λ o. o ≡ length self.old) }
-        ensures new { OnOk result (self.new ≡ self.old ++ Some (new_object class elements slots) ∷ []) }
+        ensures new { OnOk result
+            (self.new ≡ self.old ++ Some (new_object class elements slots) ∷ []) }
         ensures room { OnOk result (IsTrue (has_room self.old 1 slots)) }
         ensures full { (result ≡ Err MakeFault.Full) ↔ (has_room self.old 1 slots ≡ false) }
         ensures err { OnErr result (self.new ≡ self.old) }
@@ -106,7 +107,8 @@ impl Heap {
     /// `make_object`, with a slot for each element.
     pub fn make_array(&mut self, class: ClassId, elements: u32) -> Result<ObjectId, MakeFault>
         ensures number { IfOk result (λ o. o ≡ length self.old) }
-        ensures new { OnOk result (self.new ≡ self.old ++ Some (new_object class elements elements) ∷ []) }
+        ensures new { OnOk result
+            (self.new ≡ self.old ++ Some (new_object class elements elements) ∷ []) }
         ensures room { OnOk result (IsTrue (has_room self.old 1 elements)) }
         ensures full { (result ≡ Err MakeFault.Full) ↔ (has_room self.old 1 elements ≡ false) }
         ensures err { OnErr result (self.new ≡ self.old) }

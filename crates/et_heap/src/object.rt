@@ -21,13 +21,25 @@ impl Model for Object {
 
     ghost Value = { ObjectState };
 
-    ghost view = { λ x. record { class = x.class; length = x.length; slots = x.slots.items; referent = x.referent; monitor = x.monitor } };
+    ghost view = { λ x. record {
+      class = x.class;
+      length = x.length;
+      slots = x.slots.items;
+      referent = x.referent;
+      monitor = x.monitor;
+    } };
 }
 
 impl Object {
     /// An object with these slots.
     pub fn new(class: ClassId, length: u32, slots: Vec<Value>) -> Self
-        ensures { result ≡ record { class = class; length = length; slots = slots.items; referent = None; monitor = free_monitor } }
+        ensures { result ≡ record {
+          class = class;
+          length = length;
+          slots = slots.items;
+          referent = None;
+          monitor = free_monitor;
+        } }
     {
         Object {
             class,

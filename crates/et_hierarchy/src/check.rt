@@ -16,7 +16,8 @@ use std::alloc::Global;
 /// was no memory.
 pub fn check_set(alloc: Global, set: &[ClassOutline]) -> Result<Vec<Links>, SetFault>
     requires { length set.now < 2 ^ 32 }
-    ensures { MatchResult result (λ table. IsFaultless set.now × (table.items ≡ links set.now)) (IsRefused set.now) }
+    ensures { MatchResult result
+        (λ table. IsFaultless set.now × (table.items ≡ links set.now)) (IsRefused set.now) }
 {
     let places = match index(alloc, set)? {
         Indexed::Places(places) => places,

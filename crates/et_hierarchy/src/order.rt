@@ -32,7 +32,8 @@ pub fn interfaces_to_run(
     links: &Links,
 ) -> Result<Vec<u32>, AllocError>
     requires { All (λ i. i < length rows.now) links.now.interfaces }
-    ensures { IfOk result (λ list. list.items ≡ interfaces_to_run (λ k. slice_index_or needs.now k false) rows.now links.now) }
+    ensures { IfOk result (λ list.
+        list.items ≡ interfaces_to_run (λ k. slice_index_or needs.now k false) rows.now links.now) }
 {
     let mut all = IndexSet::new(alloc);
     add_interfaces(&mut all, rows, links.interfaces())?;
@@ -43,7 +44,8 @@ ghost use Rattle.std.specs.Prelude.{filter};
 
 /// Those of these classes that are marked.
 fn marked_among(alloc: Global, marks: &[bool], classes: &[u32]) -> Result<Vec<u32>, AllocError>
-    ensures { IfOk result (λ list. list.items ≡ filter (λ k. slice_index_or marks.now k false) classes.now) }
+    ensures { IfOk result
+        (λ list. list.items ≡ filter (λ k. slice_index_or marks.now k false) classes.now) }
 {
     let mut list = Vec::new(alloc);
     for class in classes {
@@ -66,7 +68,8 @@ fn add_with_interfaces(
     requires class { class < length table.now }
     requires same { length rows.now ≡ length table.now }
     requires within { AreWithin (length table.now) table.now }
-    ensures { OnOk result (list.new.keys ≡ added_all list.old.keys (with_interfaces (λ k. slice_index_or needs.now k false) table.now rows.now class)) }
+    ensures { OnOk result (list.new.keys ≡ added_all list.old.keys
+        (with_interfaces (λ k. slice_index_or needs.now k false) table.now rows.now class)) }
 {
     let links = &table[class as usize];
     let found = interfaces_to_run(alloc, needs, rows, links)?;
@@ -87,7 +90,8 @@ fn add_downward(
     requires supers { All (λ k. k < length table.now) supers.now }
     requires same { length rows.now ≡ length table.now }
     requires within { AreWithin (length table.now) table.now }
-    ensures { OnOk result (list.new.keys ≡ added_all list.old.keys (flat_map (with_interfaces (λ k. slice_index_or needs.now k false) table.now rows.now) (reverse supers.now))) }
+    ensures { OnOk result (list.new.keys ≡ added_all list.old.keys (flat_map (with_interfaces
+        (λ k. slice_index_or needs.now k false) table.now rows.now) (reverse supers.now))) }
 {
     let mut left = supers.len();
     while left > 0 {
@@ -110,8 +114,10 @@ pub fn init_order(
     requires class { class < length table.now }
     requires same { length rows.now ≡ length table.now }
     requires within { AreWithin (length table.now) table.now }
-    requires below { (k : ℕ) → k < length table.now → IsBelow (length table.now) (ancestry_at rows.now k) }
-    ensures { IfOk result (λ list. list.items ≡ init_order is_interface (λ k. slice_index_or needs.now k false) table.now rows.now class) }
+    requires below { (k : ℕ) →
+        k < length table.now → IsBelow (length table.now) (ancestry_at rows.now k) }
+    ensures { IfOk result (λ list. list.items ≡ init_order is_interface
+        (λ k. slice_index_or needs.now k false) table.now rows.now class) }
 {
     if is_interface {
         let mut list = Vec::new(alloc);

@@ -20,7 +20,13 @@ impl Model for ClassOutline {
 
     ghost Value = { Outline };
 
-    ghost view = { λ c. record { name = c.name; super_name = c.super_name; interfaces = c.interfaces.items; is_interface = c.is_interface; is_final = c.is_final } };
+    ghost view = { λ c. record {
+      name = c.name;
+      super_name = c.super_name;
+      interfaces = c.interfaces.items;
+      is_interface = c.is_interface;
+      is_final = c.is_final;
+    } };
 }
 
 impl ClassOutline {
@@ -34,7 +40,13 @@ impl ClassOutline {
         is_interface: bool,
         is_final: bool,
     ) -> Self
-        ensures { result ≡ record { name = name; super_name = super_name; interfaces = interfaces.items; is_interface = is_interface; is_final = is_final } }
+        ensures { result ≡ record {
+          name = name;
+          super_name = super_name;
+          interfaces = interfaces.items;
+          is_interface = is_interface;
+          is_final = is_final;
+        } }
     {
         ClassOutline {
             name,

@@ -18,14 +18,22 @@ impl Model for Row {
 
     ghost Value = { Ancestry };
 
-    ghost view = { λ r. record { supers = r.supers.items; superinterfaces = r.superinterfaces.items; field_order = r.field_order.items } };
+    ghost view = { λ r. record {
+      supers = r.supers.items;
+      superinterfaces = r.superinterfaces.items;
+      field_order = r.field_order.items;
+    } };
 }
 
 impl Row {
     ghost use Rattle.et_hierarchy.specs.Ancestry.{no_ancestry};
 
     pub(crate) fn new(supers: Vec<u32>, superinterfaces: Vec<u32>, field_order: Vec<u32>) -> Self
-        ensures { result ≡ record { supers = supers.items; superinterfaces = superinterfaces.items; field_order = field_order.items } }
+        ensures { result ≡ record {
+          supers = supers.items;
+          superinterfaces = superinterfaces.items;
+          field_order = field_order.items;
+        } }
     {
         Row {
             supers,

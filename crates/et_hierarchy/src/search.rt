@@ -12,7 +12,8 @@ use std::alloc::{AllocError, Global};
 /// Marks a class and puts it on the list of work, unless it is marked.
 fn visit(marks: &mut Vec<bool>, work: &mut Vec<u32>, o: u32) -> Result<(), AllocError>
     requires { o < length marks.old.items }
-    ensures { OnOk result (Visits (o ∷ []) marks.old.items work.old.items marks.new.items work.new.items) }
+    ensures { OnOk result
+        (Visits (o ∷ []) marks.old.items work.old.items marks.new.items work.new.items) }
 {
     if !marks[o as usize] {
         marks[o as usize] = true;
@@ -24,7 +25,8 @@ fn visit(marks: &mut Vec<bool>, work: &mut Vec<u32>, o: u32) -> Result<(), Alloc
 /// Visits each of these classes.
 fn visit_all(marks: &mut Vec<bool>, work: &mut Vec<u32>, classes: &[u32]) -> Result<(), AllocError>
     requires { All (λ o. o < length marks.old.items) classes.now }
-    ensures { OnOk result (Visits classes.now marks.old.items work.old.items marks.new.items work.new.items) }
+    ensures { OnOk result
+        (Visits classes.now marks.old.items work.old.items marks.new.items work.new.items) }
 {
     for o in classes {
         visit(marks, work, *o)?;
@@ -39,7 +41,8 @@ fn visit_above(
     above: Option<u32>,
 ) -> Result<(), AllocError>
     requires { All (λ o. o < length marks.old.items) (option_to_list above) }
-    ensures { OnOk result (Visits (option_to_list above) marks.old.items work.old.items marks.new.items work.new.items) }
+    ensures { OnOk result (Visits
+        (option_to_list above) marks.old.items work.old.items marks.new.items work.new.items) }
 {
     match above {
         Some(o) => visit(marks, work, o),
@@ -54,7 +57,8 @@ fn visit_parents(
     links: &Links,
 ) -> Result<(), AllocError>
     requires { All (λ o. o < length marks.old.items) (parents_of links.now) }
-    ensures { OnOk result (Visits (parents_of links.now) marks.old.items work.old.items marks.new.items work.new.items) }
+    ensures { OnOk result (Visits
+        (parents_of links.now) marks.old.items work.old.items marks.new.items work.new.items) }
 {
     visit_above(marks, work, links.above())?;
     visit_all(marks, work, links.interfaces())?;
@@ -66,7 +70,8 @@ pub(crate) fn ancestors(alloc: Global, table: &[Links], class: u32) -> Result<Ve
     requires class { class < length table.now }
     requires within { AreWithin (length table.now) table.now }
     ensures length { IfOk result (λ marks. length marks.items ≡ length table.now) }
-    ensures marks { IfOk result (λ marks. (o : ℕ) → IsMarked marks.items o ↔ IsAncestor table.now class o) }
+    ensures marks { IfOk result
+        (λ marks. (o : ℕ) → IsMarked marks.items o ↔ IsAncestor table.now class o) }
 {
     let mut marks = vec![in alloc; false; table.len()]?;
     let mut work = Vec::new(alloc);

@@ -69,8 +69,10 @@ pub(crate) struct Sorting {
 /// How many of the classes right above, the first ones, are done. The first `from` of them are known to be.
 fn count_passed(done: &[bool], links: &Links, from: usize) -> usize
     requires { All (λ p. p < length done.now) (parents_of links.now) }
-    ensures passed { ArePassed done.now (parents_of links.now) from → ArePassed done.now (parents_of links.now) result }
-    ensures open { result < length (parents_of links.now) → is_done done.now (slice_index_or (parents_of links.now) result 0) ≡ false }
+    ensures passed { ArePassed done.now (parents_of links.now) from →
+        ArePassed done.now (parents_of links.now) result }
+    ensures open { result < length (parents_of links.now) →
+        is_done done.now (slice_index_or (parents_of links.now) result 0) ≡ false }
 {
     let count = links.parent_count();
     for i in from..count {
@@ -136,7 +138,8 @@ impl Sorting {
         requires done { length self.old.done.items ≡ length table.now }
         requires passed { length self.old.passed.items ≡ length table.now }
         requires waiting { length self.old.waiting.items ≡ length table.now }
-        ensures grows { (rest : List ℕ) → Grows table.now (class ∷ rest) self.old → OnOk result (Grows table.now rest self.new) }
+        ensures grows { (rest : List ℕ) →
+            Grows table.now (class ∷ rest) self.old → OnOk result (Grows table.now rest self.new) }
         ensures count { OnOk result (placed_count self.new ≡ placed_count self.old + 1) }
         ensures next { OnOk result (self.new.next ≡ self.old.next) }
     {
@@ -161,7 +164,8 @@ impl Sorting {
         requires within { AreWithin (length table.now) table.now }
         requires grows { Grows table.now classes.now self.old }
         ensures grows { OnOk result (Grows table.now [] self.new) }
-        ensures count { OnOk result (placed_count self.new ≡ placed_count self.old + length classes.now) }
+        ensures count { OnOk result
+            (placed_count self.new ≡ placed_count self.old + length classes.now) }
         ensures next { OnOk result (self.new.next ≡ self.old.next) }
     {
         for class in classes {

@@ -53,7 +53,8 @@ fn add_superinterfaces_over(
     above: Option<u32>,
 ) -> Result<(), AllocError>
     requires { IfSome above (λ s. s < length rows.now) }
-    ensures { OnOk result (list.new.keys ≡ added_all list.old.keys (superinterfaces_over rows.now above)) }
+    ensures { OnOk result
+        (list.new.keys ≡ added_all list.old.keys (superinterfaces_over rows.now above)) }
 {
     match above {
         Some(class) => {
@@ -71,7 +72,8 @@ fn add_field_order_over(
     above: Option<u32>,
 ) -> Result<(), AllocError>
     requires { IfSome above (λ s. s < length rows.now) }
-    ensures { OnOk result (list.new.keys ≡ added_all list.old.keys (field_order_over rows.now above)) }
+    ensures { OnOk result
+        (list.new.keys ≡ added_all list.old.keys (field_order_over rows.now above)) }
 {
     match above {
         Some(class) => {
@@ -90,7 +92,8 @@ pub(crate) fn add_interfaces(
     interfaces: &[u32],
 ) -> Result<(), AllocError>
     requires { All (λ i. i < length rows.now) interfaces.now }
-    ensures { OnOk result (list.new.keys ≡ added_all list.old.keys (flat_map (λ i. (ancestry_at rows.now i).superinterfaces ++ i ∷ []) interfaces.now)) }
+    ensures { OnOk result (list.new.keys ≡ added_all list.old.keys
+        (flat_map (λ i. (ancestry_at rows.now i).superinterfaces ++ i ∷ []) interfaces.now)) }
 {
     for interface in interfaces {
         let row = &rows[*interface as usize];
@@ -108,7 +111,8 @@ fn add_field_orders(
     interfaces: &[u32],
 ) -> Result<(), AllocError>
     requires { All (λ i. i < length rows.now) interfaces.now }
-    ensures { OnOk result (list.new.keys ≡ added_all list.old.keys (flat_map (λ i. (ancestry_at rows.now i).field_order) interfaces.now)) }
+    ensures { OnOk result (list.new.keys ≡ added_all list.old.keys
+        (flat_map (λ i. (ancestry_at rows.now i).field_order) interfaces.now)) }
 {
     for interface in interfaces {
         let row = &rows[*interface as usize];
@@ -146,7 +150,8 @@ pub fn ancestries(alloc: Global, table: &[Links]) -> Result<Vec<Row>, AllocError
     requires within { AreWithin (length table.now) table.now }
     requires acyclic { IsAcyclic table.now }
     ensures rows { IfOk result (λ rows. IsAncestry table.now rows.items) }
-    ensures below { IfOk result (λ rows. (k : ℕ) → k < length table.now → IsBelow (length table.now) (ancestry_at rows.items k)) }
+    ensures below { IfOk result (λ rows. (k : ℕ) →
+        k < length table.now → IsBelow (length table.now) (ancestry_at rows.items k)) }
 {
     let sorting = sort(alloc, table)?;
     let order = sorting.order();

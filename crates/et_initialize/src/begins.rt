@@ -32,7 +32,8 @@ pub(crate) const MOST_FRAMES: u32 = 1024;
 pub fn wait_event(machine: &mut Machine, thread: ThreadId) -> EventEnd
     requires sound { IsSound (kept_of machine.old) }
     requires clock { machine.old.guest.clock < 2 ^ 40 }
-    ensures { (p : Linked) (out : List Record) → EventAnswers (waits (moment p machine.old thread)) result machine.old machine.new out out }
+    ensures { (p : Linked) (out : List Record) →
+        EventAnswers (waits (moment p machine.old thread)) result machine.old machine.new out out }
 {
     let _ = thread;
     machine.begin_event();
@@ -70,9 +71,13 @@ fn begin_class(
     requires thread { thread < length machine.old.guest.threads }
     requires frames { length (thread_at machine.old.guest thread).frames < most_frames }
     requires untouched { class_state_at machine.old.guest class ≡ states.Untouched }
-    requires fits { fits (constants_set (moment program.now machine.old thread) class (with_state class (states.Begun thread) (begins (moment program.now machine.old thread)))).state.heap ≡ true }
-    ensures led { OnOk result (Led (kept_of machine.old) (begun_by (moment program.now machine.old thread) class (begins (moment program.now machine.old thread))).state machine.new) }
-    ensures records { OnOk result (out.new ≡ out.old ++ (begun_by (moment program.now machine.old thread) class (begins (moment program.now machine.old thread))).records) }
+    requires fits { fits
+        (constants_set (moment program.now machine.old thread) class (with_state class
+        (states.Begun thread) (begins (moment program.now machine.old thread)))).state.heap ≡ true }
+    ensures led { OnOk result (Led (kept_of machine.old) (begun_by (moment program.now machine.old
+        thread) class (begins (moment program.now machine.old thread))).state machine.new) }
+    ensures records { OnOk result (out.new ≡ out.old ++ (begun_by (moment program.now
+        machine.old thread) class (begins (moment program.now machine.old thread))).records) }
 {
     machine.begin_event();
     machine.set_class_state(class, ClassState::Begun(thread));
@@ -98,7 +103,9 @@ pub fn begin_class_event(
     requires clock { machine.old.guest.clock < 2 ^ 40 }
     requires thread { thread < length machine.old.guest.threads }
     requires untouched { class_state_at machine.old.guest class ≡ states.Untouched }
-    ensures { IfOk result (λ end. EventAnswers (begins_class (moment program.now machine.old thread) class (begins (moment program.now machine.old thread))) end machine.old machine.new out.old out.new) }
+    ensures { IfOk result
+        (λ end. EventAnswers (begins_class (moment program.now machine.old thread) class (begins
+        (moment program.now machine.old thread))) end machine.old machine.new out.old out.new) }
 {
     if machine.frames(thread) >= MOST_FRAMES {
         return throw_error(

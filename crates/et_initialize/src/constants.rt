@@ -54,10 +54,14 @@ fn make_string(
     out: &mut Lines,
 ) -> Result<ObjectId, NoMemory>
     requires first { object_of machine.old.guest.interned bytes.now ≡ None }
-    requires made { (o : ℕ) → Contains (objects_of machine.old.guest.interned) o → o < length machine.old.heap }
-    requires fits { fits (interned (moment program.now machine.old thread) bytes.now (so_far machine.old out.old)).state.heap ≡ true }
-    ensures object { IfOk result (λ o. o ≡ string_object bytes.now (interned (moment program.now machine.old thread) bytes.now (so_far machine.old out.old))) }
-    ensures made { OnOk result (ComesTo (interned (moment program.now machine.old thread) bytes.now (so_far machine.old out.old)) machine.old machine.new out.new) }
+    requires made { (o : ℕ) →
+        Contains (objects_of machine.old.guest.interned) o → o < length machine.old.heap }
+    requires fits { fits (interned (moment program.now machine.old thread) bytes.now
+        (so_far machine.old out.old)).state.heap ≡ true }
+    ensures object { IfOk result (λ o. o ≡ string_object bytes.now
+        (interned (moment program.now machine.old thread) bytes.now (so_far machine.old out.old))) }
+    ensures made { OnOk result (ComesTo (interned (moment program.now machine.old thread) bytes.now
+        (so_far machine.old out.old)) machine.old machine.new out.new) }
 {
     let class = class_called(program, b"java/lang/String");
     let slots = slots_of(program, class);
@@ -86,10 +90,14 @@ fn string_of(
     bytes: &[u8],
     out: &mut Lines,
 ) -> Result<ObjectId, NoMemory>
-    requires made { (o : ℕ) → Contains (objects_of machine.old.guest.interned) o → o < length machine.old.heap }
-    requires fits { fits (interned (moment program.now machine.old thread) bytes.now (so_far machine.old out.old)).state.heap ≡ true }
-    ensures object { IfOk result (λ o. o ≡ string_object bytes.now (interned (moment program.now machine.old thread) bytes.now (so_far machine.old out.old))) }
-    ensures made { OnOk result (ComesTo (interned (moment program.now machine.old thread) bytes.now (so_far machine.old out.old)) machine.old machine.new out.new) }
+    requires made { (o : ℕ) →
+        Contains (objects_of machine.old.guest.interned) o → o < length machine.old.heap }
+    requires fits { fits (interned (moment program.now machine.old thread) bytes.now
+        (so_far machine.old out.old)).state.heap ≡ true }
+    ensures object { IfOk result (λ o. o ≡ string_object bytes.now
+        (interned (moment program.now machine.old thread) bytes.now (so_far machine.old out.old))) }
+    ensures made { OnOk result (ComesTo (interned (moment program.now machine.old thread) bytes.now
+        (so_far machine.old out.old)) machine.old machine.new out.new) }
 {
     match machine.interned(bytes) {
         Some(object) => Ok(object),
@@ -102,7 +110,8 @@ fn set_number(machine: &mut Machine, slot: u32, value: Value)
     requires slot { slot < length machine.old.guest.statics }
     requires unset { static_at machine.old.guest slot ≡ Unset }
     requires lost { length machine.old.lost < lost_room }
-    ensures { machine.new ≡ record machine.old { guest = with_static machine.old.guest slot value } }
+    ensures { machine.new
+        ≡ record machine.old { guest = with_static machine.old.guest slot value } }
 {
     machine.set_static(slot, value);
 }
@@ -119,9 +128,12 @@ fn set_string(
     requires slot { field.now.slot < length machine.old.guest.statics }
     requires unset { static_at machine.old.guest field.now.slot ≡ Unset }
     requires lost { length machine.old.lost < lost_room }
-    requires made { (o : ℕ) → Contains (objects_of machine.old.guest.interned) o → o < length machine.old.heap }
-    requires fits { fits (interned (moment program.now machine.old thread) bytes.now (so_far machine.old out.old)).state.heap ≡ true }
-    ensures { OnOk result (ComesTo (constant_set (moment program.now machine.old thread) field.now (Some (AString bytes.now)) (so_far machine.old out.old)) machine.old machine.new out.new) }
+    requires made { (o : ℕ) →
+        Contains (objects_of machine.old.guest.interned) o → o < length machine.old.heap }
+    requires fits { fits (interned (moment program.now machine.old thread) bytes.now
+        (so_far machine.old out.old)).state.heap ≡ true }
+    ensures { OnOk result (ComesTo (constant_set (moment program.now machine.old thread) field.now
+        (Some (AString bytes.now)) (so_far machine.old out.old)) machine.old machine.new out.new) }
 {
     let object = string_of(program, machine, thread, bytes, out)?;
     machine.set_static(field.slot, Value::Ref(object));
@@ -148,9 +160,14 @@ fn set_constant(
     requires slot { field.now.slot < length machine.old.guest.statics }
     requires unset { static_at machine.old.guest field.now.slot ≡ Unset }
     requires lost { length machine.old.lost < lost_room }
-    requires made { (o : ℕ) → Contains (objects_of machine.old.guest.interned) o → o < length machine.old.heap }
-    requires fits { fits (constant_set (moment program.now machine.old thread) field.now (constant_at pool.now.slots field.now.constant) (so_far machine.old out.old)).state.heap ≡ true }
-    ensures { OnOk result (ComesTo (constant_set (moment program.now machine.old thread) field.now (constant_at pool.now.slots field.now.constant) (so_far machine.old out.old)) machine.old machine.new out.new) }
+    requires made { (o : ℕ) →
+        Contains (objects_of machine.old.guest.interned) o → o < length machine.old.heap }
+    requires fits { fits (constant_set (moment program.now machine.old thread) field.now
+        (constant_at pool.now.slots field.now.constant) (so_far machine.old out.old)).state.heap
+        ≡ true }
+    ensures { OnOk result (ComesTo (constant_set (moment program.now machine.old thread) field.now
+        (constant_at pool.now.slots field.now.constant) (so_far machine.old out.old))
+        machine.old machine.new out.new) }
 {
     if let Some(n) = pool.integer(field.constant) {
         let kept = narrowed(field.descriptor.as_slice(), n);
@@ -179,9 +196,12 @@ pub(crate) fn set_field(
     requires slot { (field_at program.now field).slot < length machine.old.guest.statics }
     requires unset { static_at machine.old.guest (field_at program.now field).slot ≡ Unset }
     requires lost { length machine.old.lost < lost_room }
-    requires made { (o : ℕ) → Contains (objects_of machine.old.guest.interned) o → o < length machine.old.heap }
-    requires fits { fits (field_set (moment program.now machine.old thread) (so_far machine.old out.old) field).state.heap ≡ true }
-    ensures { OnOk result (ComesTo (field_set (moment program.now machine.old thread) (so_far machine.old out.old) field) machine.old machine.new out.new) }
+    requires made { (o : ℕ) →
+        Contains (objects_of machine.old.guest.interned) o → o < length machine.old.heap }
+    requires fits { fits (field_set (moment program.now machine.old thread)
+        (so_far machine.old out.old) field).state.heap ≡ true }
+    ensures { OnOk result (ComesTo (field_set (moment program.now machine.old thread)
+        (so_far machine.old out.old) field) machine.old machine.new out.new) }
 {
     let info = program.field(field);
     match program.pool(info.class) {
@@ -200,8 +220,10 @@ pub(crate) fn make_object(
 ) -> Result<ObjectId, NoMemory>
     requires { has_room machine.old.heap 1 slots ≡ true }
     ensures object { IfOk result (λ o. o ≡ length machine.old.heap) }
-    ensures made { OnOk result (machine.new ≡ with_new_object machine.old (new_object class 0 slots)) }
-    ensures told { OnOk result (out.new ≡ out.old ++ Alloc machine.old.guest.clock thread (length machine.old.heap) class (16 + 8 * slots) 0 ∷ []) }
+    ensures made { OnOk result
+        (machine.new ≡ with_new_object machine.old (new_object class 0 slots)) }
+    ensures told { OnOk result (out.new ≡ out.old ++ Alloc machine.old.guest.clock thread
+        (length machine.old.heap) class (16 + 8 * slots) 0 ∷ []) }
 {
     let object = match machine.heap.make_object(class, slots) {
         Ok(object) => object,

@@ -23,15 +23,24 @@ pub fn begin()
 /// classes stay as they are, and no more than the classes, the static fields and the strings changes of the guest.
 #[tactic(auto, using(crate::proofs::Legal::quietly_threads, crate::proofs::Legal::quietly_monitors))]
 pub fn quietly()
-    ensures ready { (e : Moment) (c : ℕ) (d : Doing) → IsInOrder e.program → c < length e.program.classes → IsReady e.program d.state → IsReady e.program (quietly_done e c d).state }
-    ensures made { (e : Moment) (c : ℕ) (d : Doing) (s : Kept) (lost : List ℕ) → IsInOrder e.program → c < length e.program.classes → IsReady e.program d.state →
+    ensures ready { (e : Moment) (c : ℕ) (d : Doing) →
+        IsInOrder e.program → c < length e.program.classes →
+        IsReady e.program d.state → IsReady e.program (quietly_done e c d).state }
+    ensures made { (e : Moment) (c : ℕ) (d : Doing) (s : Kept) (lost : List ℕ) →
+        IsInOrder e.program → c < length e.program.classes → IsReady e.program d.state →
         HasMadeStrings s d.state lost → HasMadeStrings s (quietly_done e c d).state lost }
-    ensures threads { (e : Moment) (c : ℕ) (d : Doing) → (quietly_done e c d).state.guest.threads ≡ d.state.guest.threads }
-    ensures monitors { (e : Moment) (c : ℕ) (d : Doing) → (quietly_done e c d).state.guest.class_monitors ≡ d.state.guest.class_monitors }
+    ensures threads { (e : Moment) (c : ℕ) (d : Doing) →
+        (quietly_done e c d).state.guest.threads ≡ d.state.guest.threads }
+    ensures monitors { (e : Moment) (c : ℕ) (d : Doing) →
+        (quietly_done e c d).state.guest.class_monitors ≡ d.state.guest.class_monitors }
 {}
 
 /// The records stand behind those that were there.
 #[tactic(auto, using(crate::proofs::Records::behind_quietly))]
 pub fn records()
-    ensures { (r : List Record) (e : Moment) (c : ℕ) (d : Doing) → quietly_done e c (record { state = d.state; records = r ++ d.records }) ≡ record { state = (quietly_done e c d).state; records = r ++ (quietly_done e c d).records } }
+    ensures { (r : List Record) (e : Moment) (c : ℕ) (d : Doing) →
+        quietly_done e c (record { state = d.state; records = r ++ d.records }) ≡ record {
+          state = (quietly_done e c d).state;
+          records = r ++ (quietly_done e c d).records;
+        } }
 {}

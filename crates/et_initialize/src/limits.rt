@@ -60,7 +60,8 @@ fn is_seen(program: &Program, seen: &[FieldId], bytes: &[u8]) -> bool
 /// Whether the string of these bytes is there, or will be once the constants of these fields are set.
 fn is_known(program: &Program, machine: &Machine, seen: &[FieldId], bytes: &[u8]) -> bool
     requires { All (λ f. f < length program.now.fields) seen.now }
-    ensures { result ≡ (is_some (object_of machine.now.guest.interned bytes.now) || list_any (has_text program.now bytes.now) seen.now) }
+    ensures { result ≡ (is_some (object_of machine.now.guest.interned bytes.now) || list_any
+        (has_text program.now bytes.now) seen.now) }
 {
     machine.interned(bytes).is_some() || is_seen(program, seen, bytes)
 }
@@ -75,7 +76,9 @@ fn count_field(
     requires field { field < length program.now.fields }
     requires within { All (λ f. f < length program.now.fields) seen.old.items }
     ensures within { OnOk result (All (λ f. f < length program.now.fields) seen.new.items) }
-    ensures counted { OnOk result ((before : Kept) (thread : ℕ) (d : Doing) → Counted program.now machine.now seen.old.items d → Counted program.now machine.now seen.new.items (field_set (record { program = program.now; before = before; thread = thread }) d field)) }
+    ensures counted { OnOk result ((before : Kept) (thread : ℕ) (d : Doing) → Counted
+        program.now machine.now seen.old.items d → Counted program.now machine.now seen.new.items
+        (field_set (record { program = program.now; before = before; thread = thread }) d field)) }
 {
     if let Some(text) = text_of(program, field) {
         if !is_known(program, machine, seen.as_slice(), text) {
@@ -95,7 +98,9 @@ fn count_constants(
     requires class { class < length program.now.classes }
     requires within { All (λ f. f < length program.now.fields) seen.old.items }
     ensures within { OnOk result (All (λ f. f < length program.now.fields) seen.new.items) }
-    ensures counted { OnOk result ((before : Kept) (thread : ℕ) (d : Doing) → Counted program.now machine.now seen.old.items d → Counted program.now machine.now seen.new.items (constants_set (record { program = program.now; before = before; thread = thread }) class d)) }
+    ensures counted { OnOk result ((before : Kept) (thread : ℕ) (d : Doing) → Counted program.now
+        machine.now seen.old.items d → Counted program.now machine.now seen.new.items (constants_set
+        (record { program = program.now; before = before; thread = thread }) class d)) }
 {
     let constants = program.class(class).constants.as_slice();
     for k in 0..constants.len() {
@@ -115,7 +120,10 @@ fn count_class(
     requires classes { length machine.now.guest.classes ≡ length program.now.classes }
     requires within { All (λ f. f < length program.now.fields) seen.old.items }
     ensures within { OnOk result (All (λ f. f < length program.now.fields) seen.new.items) }
-    ensures counted { OnOk result ((before : Kept) (thread : ℕ) (d : Doing) → CountedAll program.now machine.now seen.old.items d → CountedAll program.now machine.now seen.new.items (class_done (record { program = program.now; before = before; thread = thread }) class (state_of d class) d)) }
+    ensures counted { OnOk result ((before : Kept) (thread : ℕ) (d : Doing) →
+        CountedAll program.now machine.now seen.old.items d →
+        CountedAll program.now machine.now seen.new.items (class_done (record
+        { program = program.now; before = before; thread = thread }) class (state_of d class) d)) }
 {
     match machine.class_state(class) {
         ClassState::Untouched => count_constants(program, machine, class, seen),
@@ -134,7 +142,10 @@ fn count_classes(
     requires classes { length machine.now.guest.classes ≡ length program.now.classes }
     requires within { All (λ f. f < length program.now.fields) seen.old.items }
     ensures within { OnOk result (All (λ f. f < length program.now.fields) seen.new.items) }
-    ensures counted { OnOk result ((before : Kept) (thread : ℕ) (d : Doing) → CountedAll program.now machine.now seen.old.items d → CountedAll program.now machine.now seen.new.items (fold (λ x k. class_done (record { program = program.now; before = before; thread = thread }) k (state_of x k) x) d classes.now)) }
+    ensures counted { OnOk result ((before : Kept) (thread : ℕ) (d : Doing) → CountedAll program.now
+        machine.now seen.old.items d → CountedAll program.now machine.now seen.new.items (fold
+        (λ x k. class_done (record { program = program.now; before = before; thread = thread }) k
+        (state_of x k) x) d classes.now)) }
 {
     for k in 0..classes.len() {
         count_class(program, machine, classes[k], seen)?;
@@ -174,7 +185,9 @@ pub fn quiet_fits(
 ) -> Result<bool, NoMemory>
     requires class { class < length program.now.classes }
     requires classes { length machine.now.guest.classes ≡ length program.now.classes }
-    ensures { IfOk result (λ fits. (thread : ℕ) → fits ≡ has_room (quietly_done (moment program.now machine.now thread) class (begins (moment program.now machine.now thread))).state.heap objects slots) }
+    ensures { IfOk result (λ fits. (thread : ℕ) →
+        fits ≡ has_room (quietly_done (moment program.now machine.now thread) class
+        (begins (moment program.now machine.now thread))).state.heap objects slots) }
 {
     let mut seen = Vec::new(alloc);
     count_classes(program, machine, program.init_order(class), &mut seen)?;
@@ -190,7 +203,9 @@ pub(crate) fn constants_fit(
 ) -> Result<bool, NoMemory>
     requires class { class < length program.now.classes }
     requires classes { length machine.now.guest.classes ≡ length program.now.classes }
-    ensures { IfOk result (λ fits. (thread : ℕ) (state : State) → fits ≡ all_fit (constants_set (moment program.now machine.now thread) class (with_state class state (begins (moment program.now machine.now thread)))).state.heap) }
+    ensures { IfOk result (λ fits. (thread : ℕ) (state : State) →
+        fits ≡ all_fit (constants_set (moment program.now machine.now thread) class
+        (with_state class state (begins (moment program.now machine.now thread)))).state.heap) }
 {
     let mut seen = Vec::new(alloc);
     count_constants(program, machine, class, &mut seen)?;
@@ -208,8 +223,12 @@ fn count_quiet(
     requires classes { length machine.now.guest.classes ≡ length program.now.classes }
     requires within { All (λ f. f < length program.now.fields) seen.old.items }
     ensures within { OnOk result (All (λ f. f < length program.now.fields) seen.new.items) }
-    ensures counted { OnOk result (class_state_at machine.now.guest class ≡ states.Untouched → (before : Kept) (thread : ℕ) (d : Doing) → CountedAll program.now machine.now seen.old.items d → CountedAll program.now machine.now seen.new.items (quietly_done (record { program = program.now; before = before; thread = thread }) class d)) }
-    ensures other { OnOk result ((class_state_at machine.now.guest class ≡ states.Untouched → ⊥) → seen.new.items ≡ seen.old.items) }
+    ensures counted { OnOk result (class_state_at machine.now.guest class ≡ states.Untouched →
+        (before : Kept) (thread : ℕ) (d : Doing) → CountedAll program.now machine.now
+        seen.old.items d → CountedAll program.now machine.now seen.new.items (quietly_done
+        (record { program = program.now; before = before; thread = thread }) class d)) }
+    ensures other { OnOk result ((class_state_at machine.now.guest class ≡ states.Untouched → ⊥) →
+        seen.new.items ≡ seen.old.items) }
 {
     match machine.class_state(class) {
         ClassState::Untouched => count_classes(program, machine, program.init_order(class), seen),
@@ -229,7 +248,11 @@ fn count_prepared(
     requires classes { length machine.now.guest.classes ≡ length program.now.classes }
     requires within { All (λ f. f < length program.now.fields) seen.old.items }
     ensures within { OnOk result (All (λ f. f < length program.now.fields) seen.new.items) }
-    ensures counted { OnOk result ((thread : ℕ) → list_all (is_ready (moment program.now machine.now thread) (begins (moment program.now machine.now thread))) classes.now ≡ true → CountedAll program.now machine.now seen.old.items (begins (moment program.now machine.now thread)) → CountedAll program.now machine.now seen.new.items (prepared (moment program.now machine.now thread) classes.now (begins (moment program.now machine.now thread)))) }
+    ensures counted { OnOk result ((thread : ℕ) → list_all (is_ready (moment program.now machine.now
+        thread) (begins (moment program.now machine.now thread))) classes.now ≡ true → CountedAll
+        program.now machine.now seen.old.items (begins (moment program.now machine.now thread)) →
+        CountedAll program.now machine.now seen.new.items (prepared (moment program.now
+        machine.now thread) classes.now (begins (moment program.now machine.now thread)))) }
 {
     for k in 0..classes.len() {
         count_quiet(program, machine, classes[k], seen)?;
@@ -250,7 +273,10 @@ pub fn prepared_fit(
     requires program { IsInOrder program.now }
     requires all { All (λ c. c < length program.now.classes) classes.now }
     requires classes { length machine.now.guest.classes ≡ length program.now.classes }
-    ensures { IfOk result (λ fits. (thread : ℕ) → list_all (is_ready (moment program.now machine.now thread) (begins (moment program.now machine.now thread))) classes.now ≡ true → fits ≡ has_room (prepared (moment program.now machine.now thread) classes.now (begins (moment program.now machine.now thread))).state.heap objects slots) }
+    ensures { IfOk result (λ fits. (thread : ℕ) → list_all (is_ready (moment program.now
+        machine.now thread) (begins (moment program.now machine.now thread))) classes.now ≡ true →
+        fits ≡ has_room (prepared (moment program.now machine.now thread) classes.now
+        (begins (moment program.now machine.now thread))).state.heap objects slots) }
 {
     let mut seen = Vec::new(alloc);
     count_prepared(program, machine, classes, &mut seen)?;
@@ -270,7 +296,11 @@ pub(crate) fn prepared_class_fits(
     requires all { All (λ c. c < length program.now.classes) classes.now }
     requires class { class < length program.now.classes }
     requires classes { length machine.now.guest.classes ≡ length program.now.classes }
-    ensures { IfOk result (λ fits. (thread : ℕ) → list_all (is_ready (moment program.now machine.now thread) (begins (moment program.now machine.now thread))) classes.now ≡ true → (state : State) → fits ≡ all_fit (constants_set (moment program.now machine.now thread) class (with_state class state (prepared (moment program.now machine.now thread) classes.now (begins (moment program.now machine.now thread))))).state.heap) }
+    ensures { IfOk result (λ fits. (thread : ℕ) → list_all (is_ready (moment program.now
+        machine.now thread) (begins (moment program.now machine.now thread))) classes.now ≡ true →
+        (state : State) → fits ≡ all_fit (constants_set (moment program.now machine.now thread)
+        class (with_state class state (prepared (moment program.now machine.now thread) classes.now
+        (begins (moment program.now machine.now thread))))).state.heap) }
 {
     let mut seen = Vec::new(alloc);
     count_prepared(program, machine, classes, &mut seen)?;

@@ -39,7 +39,8 @@ fn is_quiet_state(program: &Program, class: ClassId, state: ClassState) -> bool
 fn is_quiet(program: &Program, machine: &Machine, class: ClassId) -> bool
     requires class { class < length program.now.classes }
     requires classes { length machine.now.guest.classes ≡ length program.now.classes }
-    ensures { (thread : ℕ) → result ≡ quiet (moment program.now machine.now thread) (begins (moment program.now machine.now thread)) class }
+    ensures { (thread : ℕ) → result ≡ quiet (moment program.now machine.now thread)
+        (begins (moment program.now machine.now thread)) class }
 {
     let order = program.init_order(class);
     for k in 0..order.len() {
@@ -54,7 +55,8 @@ fn is_quiet(program: &Program, machine: &Machine, class: ClassId) -> bool
 pub fn need_of(program: &Program, machine: &Machine, thread: ThreadId, class: ClassId) -> Need
     requires class { class < length program.now.classes }
     requires classes { length machine.now.guest.classes ≡ length program.now.classes }
-    ensures { result ≡ needed (moment program.now machine.now thread) (begins (moment program.now machine.now thread)) class }
+    ensures { result ≡ needed (moment program.now machine.now thread)
+        (begins (moment program.now machine.now thread)) class }
 {
     match machine.class_state(class) {
         ClassState::Done => Need::Ready,

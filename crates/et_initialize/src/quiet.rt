@@ -25,10 +25,13 @@ pub(crate) fn set_constants(
     requires program { IsInOrder program.now }
     requires class { class < length program.now.classes }
     requires ready { IsReady program.now (kept_of machine.old) }
-    requires unset { (i : ℕ) → i < length program.now.statics → class_of_slot program.now i ≡ class → static_at machine.old.guest i ≡ Unset }
+    requires unset { (i : ℕ) → i < length program.now.statics →
+        class_of_slot program.now i ≡ class → static_at machine.old.guest i ≡ Unset }
     requires lost { length machine.old.lost < lost_room }
-    requires fits { fits (constants_set (moment program.now machine.old thread) class (so_far machine.old out.old)).state.heap ≡ true }
-    ensures { OnOk result (ComesTo (constants_set (moment program.now machine.old thread) class (so_far machine.old out.old)) machine.old machine.new out.new) }
+    requires fits { fits (constants_set (moment program.now machine.old thread) class
+        (so_far machine.old out.old)).state.heap ≡ true }
+    ensures { OnOk result (ComesTo (constants_set (moment program.now machine.old thread) class
+        (so_far machine.old out.old)) machine.old machine.new out.new) }
 {
     let constants = program.class(class).constants.as_slice();
     for k in 0..constants.len() {
@@ -49,8 +52,11 @@ fn set_done(
     requires class { class < length program.now.classes }
     requires ready { IsReady program.now (kept_of machine.old) }
     requires lost { length machine.old.lost < lost_room }
-    requires fits { fits (class_done (moment program.now machine.old thread) class (state_of (so_far machine.old out.old) class) (so_far machine.old out.old)).state.heap ≡ true }
-    ensures { OnOk result (ComesTo (class_done (moment program.now machine.old thread) class (state_of (so_far machine.old out.old) class) (so_far machine.old out.old)) machine.old machine.new out.new) }
+    requires fits { fits (class_done (moment program.now machine.old thread) class (state_of
+        (so_far machine.old out.old) class) (so_far machine.old out.old)).state.heap ≡ true }
+    ensures { OnOk result (ComesTo (class_done (moment program.now machine.old thread) class
+        (state_of (so_far machine.old out.old) class) (so_far machine.old out.old))
+        machine.old machine.new out.new) }
 {
     match machine.class_state(class) {
         ClassState::Untouched => {
@@ -75,8 +81,10 @@ pub fn set_quietly(
     requires class { class < length program.now.classes }
     requires ready { IsReady program.now (kept_of machine.old) }
     requires lost { length machine.old.lost < lost_room }
-    requires fits { fits (quietly_done (moment program.now machine.old thread) class (so_far machine.old out.old)).state.heap ≡ true }
-    ensures { OnOk result (ComesTo (quietly_done (moment program.now machine.old thread) class (so_far machine.old out.old)) machine.old machine.new out.new) }
+    requires fits { fits (quietly_done (moment program.now machine.old thread) class
+        (so_far machine.old out.old)).state.heap ≡ true }
+    ensures { OnOk result (ComesTo (quietly_done (moment program.now machine.old thread) class
+        (so_far machine.old out.old)) machine.old machine.new out.new) }
 {
     let order = program.init_order(class);
     for k in 0..order.len() {

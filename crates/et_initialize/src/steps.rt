@@ -41,8 +41,12 @@ fn prepare_class(
     requires class { class < length program.now.classes }
     requires ready { IsReady program.now (kept_of machine.old) }
     requires lost { length machine.old.lost < lost_room }
-    requires fits { fits (quietly_if_untouched (moment program.now machine.old thread) class (state_of (so_far machine.old out.old) class) (so_far machine.old out.old)).state.heap ≡ true }
-    ensures { OnOk result (ComesTo (quietly_if_untouched (moment program.now machine.old thread) class (state_of (so_far machine.old out.old) class) (so_far machine.old out.old)) machine.old machine.new out.new) }
+    requires fits { fits (quietly_if_untouched (moment program.now machine.old thread) class
+        (state_of (so_far machine.old out.old) class) (so_far machine.old out.old)).state.heap
+        ≡ true }
+    ensures { OnOk result (ComesTo (quietly_if_untouched (moment program.now machine.old thread)
+        class (state_of (so_far machine.old out.old) class) (so_far machine.old out.old))
+        machine.old machine.new out.new) }
 {
     match machine.class_state(class) {
         ClassState::Untouched => set_quietly(program, machine, thread, class, out),
@@ -62,8 +66,10 @@ pub(crate) fn prepare(
     requires classes { All (λ c. c < length program.now.classes) classes.now }
     requires ready { IsReady program.now (kept_of machine.old) }
     requires lost { length machine.old.lost < lost_room }
-    requires fits { fits (prepared (moment program.now machine.old thread) classes.now (so_far machine.old out.old)).state.heap ≡ true }
-    ensures { OnOk result (ComesTo (prepared (moment program.now machine.old thread) classes.now (so_far machine.old out.old)) machine.old machine.new out.new) }
+    requires fits { fits (prepared (moment program.now machine.old thread) classes.now
+        (so_far machine.old out.old)).state.heap ≡ true }
+    ensures { OnOk result (ComesTo (prepared (moment program.now machine.old thread) classes.now
+        (so_far machine.old out.old)) machine.old machine.new out.new) }
 {
     for k in 0..classes.len() {
         prepare_class(program, machine, thread, classes[k], out)?;
@@ -75,7 +81,8 @@ pub(crate) fn prepare(
 fn is_ready(program: &Program, machine: &Machine, thread: ThreadId, class: ClassId) -> bool
     requires class { class < length program.now.classes }
     requires classes { length machine.now.guest.classes ≡ length program.now.classes }
-    ensures { result ≡ ready (moment program.now machine.now thread) (begins (moment program.now machine.now thread)) class }
+    ensures { result ≡ ready (moment program.now machine.now thread)
+        (begins (moment program.now machine.now thread)) class }
 {
     match need_of(program, machine, thread, class) {
         Need::Ready | Need::Quiet => true,
@@ -88,8 +95,11 @@ fn ready_count(program: &Program, machine: &Machine, thread: ThreadId, classes: 
     requires all { All (λ c. c < length program.now.classes) classes.now }
     requires classes { length machine.now.guest.classes ≡ length program.now.classes }
     ensures few { result ≤ length classes.now }
-    ensures ready { list_all (ready (moment program.now machine.now thread) (begins (moment program.now machine.now thread))) (take result classes.now) ≡ true }
-    ensures blocker { result < length classes.now → ready (moment program.now machine.now thread) (begins (moment program.now machine.now thread)) (slice_index_or classes.now result 0) ≡ false }
+    ensures ready { list_all (ready (moment program.now machine.now thread)
+        (begins (moment program.now machine.now thread))) (take result classes.now) ≡ true }
+    ensures blocker { result < length classes.now → ready (moment program.now machine.now thread)
+        (begins (moment program.now machine.now thread)) (slice_index_or classes.now result 0)
+        ≡ false }
 {
     for k in 0..classes.len() {
         if !is_ready(program, machine, thread, classes[k]) {
@@ -126,8 +136,15 @@ pub fn begin_prepared(
     requires classes { All (λ c. c < length program.now.classes) classes.now }
     requires sound { IsSoundFor program.now (kept_of machine.old) }
     requires clock { machine.old.guest.clock < 2 ^ 40 }
-    requires fits { fits (prepared (moment program.now machine.old thread) classes.now (begins (moment program.now machine.old thread))).state.heap ≡ true }
-    ensures { OnOk result (ComesTo (record { state = (prepared (moment program.now machine.old thread) classes.now (begins (moment program.now machine.old thread))).state; records = out.old ++ (prepared (moment program.now machine.old thread) classes.now (begins (moment program.now machine.old thread))).records }) (begun machine.old) machine.new out.new) }
+    requires fits { fits (prepared (moment program.now machine.old thread) classes.now
+        (begins (moment program.now machine.old thread))).state.heap ≡ true }
+    ensures { OnOk result (ComesTo (record {
+      state = (prepared (moment program.now
+          machine.old thread) classes.now (begins (moment program.now machine.old thread))).state;
+      records = out.old ++ (prepared (moment program.now machine.old thread) classes.now
+          (begins (moment program.now machine.old thread))).records;
+    })
+        (begun machine.old) machine.new out.new) }
 {
     machine.begin_event();
     prepare(program, machine, thread, classes, out)
@@ -148,8 +165,11 @@ fn finish(
     requires clock { machine.old.guest.clock < 2 ^ 40 }
     requires frame { HasFrame machine.old.guest thread }
     requires stage { (top machine.old.guest thread).stage ≡ stages.Before class }
-    requires fits { fits (prepared (moment program.now machine.old thread) classes.now (begins (moment program.now machine.old thread))).state.heap ≡ true }
-    ensures { IfOk result (λ end. EventAnswers (enters_clinit (moment program.now machine.old thread) class None (prepared (moment program.now machine.old thread) classes.now (begins (moment program.now machine.old thread)))) end machine.old machine.new out.old out.new) }
+    requires fits { fits (prepared (moment program.now machine.old thread) classes.now
+        (begins (moment program.now machine.old thread))).state.heap ≡ true }
+    ensures { IfOk result (λ end. EventAnswers (enters_clinit (moment program.now machine.old
+        thread) class None (prepared (moment program.now machine.old thread) classes.now (begins
+        (moment program.now machine.old thread)))) end machine.old machine.new out.old out.new) }
 {
     begin_prepared(program, machine, thread, classes, out)?;
     machine.set_class_state(class, ClassState::Done);
@@ -174,8 +194,12 @@ fn enter(
     requires clock { machine.old.guest.clock < 2 ^ 40 }
     requires frame { HasFrame machine.old.guest thread }
     requires stage { (top machine.old.guest thread).stage ≡ stages.Before class }
-    requires fits { fits (prepared (moment program.now machine.old thread) classes.now (begins (moment program.now machine.old thread))).state.heap ≡ true }
-    ensures { IfOk result (λ end. EventAnswers (enters_clinit (moment program.now machine.old thread) class (Some clinit) (prepared (moment program.now machine.old thread) classes.now (begins (moment program.now machine.old thread)))) end machine.old machine.new out.old out.new) }
+    requires fits { fits (prepared (moment program.now machine.old thread) classes.now
+        (begins (moment program.now machine.old thread))).state.heap ≡ true }
+    ensures { IfOk result
+        (λ end. EventAnswers (enters_clinit (moment program.now machine.old thread) class
+        (Some clinit) (prepared (moment program.now machine.old thread) classes.now (begins
+        (moment program.now machine.old thread)))) end machine.old machine.new out.old out.new) }
 {
     let (max_stack, max_locals) = frame_size(program.method(clinit));
     begin_prepared(program, machine, thread, classes, out)?;
@@ -203,8 +227,12 @@ fn throw_prepared(
     requires sound { IsSoundFor program.now (kept_of machine.old) }
     requires clock { machine.old.guest.clock < 2 ^ 40 }
     requires frame { HasFrame machine.old.guest thread }
-    requires room { has_room (prepared (moment program.now machine.old thread) classes.now (begins (moment program.now machine.old thread))).state.heap 1 (class_at program.now (error_class program.now error)).info.slots ≡ true }
-    ensures { IfOk result (λ end. EventAnswers (throws (moment program.now machine.old thread) error (prepared (moment program.now machine.old thread) classes.now (begins (moment program.now machine.old thread)))) end machine.old machine.new out.old out.new) }
+    requires room { has_room (prepared (moment program.now machine.old thread) classes.now
+        (begins (moment program.now machine.old thread))).state.heap 1
+        (class_at program.now (error_class program.now error)).info.slots ≡ true }
+    ensures { IfOk result (λ end. EventAnswers (throws (moment program.now machine.old thread) error
+        (prepared (moment program.now machine.old thread) classes.now (begins
+        (moment program.now machine.old thread)))) end machine.old machine.new out.old out.new) }
 {
     let class = class_called(program, error.class_name());
     let slots = slots_of(program, class);
@@ -230,8 +258,11 @@ pub fn throw_after(
     requires sound { IsSoundFor program.now (kept_of machine.old) }
     requires clock { machine.old.guest.clock < 2 ^ 40 }
     requires frame { HasFrame machine.old.guest thread }
-    requires ready { list_all (ready (moment program.now machine.old thread) (begins (moment program.now machine.old thread))) classes.now ≡ true }
-    ensures { IfOk result (λ end. EventAnswers (throws (moment program.now machine.old thread) error (prepared (moment program.now machine.old thread) classes.now (begins (moment program.now machine.old thread)))) end machine.old machine.new out.old out.new) }
+    requires ready { list_all (ready (moment program.now machine.old thread)
+        (begins (moment program.now machine.old thread))) classes.now ≡ true }
+    ensures { IfOk result (λ end. EventAnswers (throws (moment program.now machine.old thread) error
+        (prepared (moment program.now machine.old thread) classes.now (begins
+        (moment program.now machine.old thread)))) end machine.old machine.new out.old out.new) }
 {
     let slots = slots_of(program, class_called(program, error.class_name()));
     if !prepared_fit(program, machine, alloc, classes, 1, slots)? {
@@ -257,9 +288,14 @@ fn begin_blocker(
     requires clock { machine.old.guest.clock < 2 ^ 40 }
     requires frame { HasFrame machine.old.guest thread }
     requires frames { length (thread_at machine.old.guest thread).frames < most_frames }
-    requires untouched { state_of (prepared (moment program.now machine.old thread) classes.now (begins (moment program.now machine.old thread))) class ≡ states.Untouched }
-    requires fits { fits (constants_set (moment program.now machine.old thread) class (with_state class (states.Begun thread) (prepared (moment program.now machine.old thread) classes.now (begins (moment program.now machine.old thread))))).state.heap ≡ true }
-    ensures { IfOk result (λ end. EventAnswers (begins_class (moment program.now machine.old thread) class (prepared (moment program.now machine.old thread) classes.now (begins (moment program.now machine.old thread)))) end machine.old machine.new out.old out.new) }
+    requires untouched { state_of (prepared (moment program.now machine.old thread) classes.now
+        (begins (moment program.now machine.old thread))) class ≡ states.Untouched }
+    requires fits { fits (constants_set (moment program.now machine.old thread) class
+        (with_state class (states.Begun thread) (prepared (moment program.now machine.old thread)
+        classes.now (begins (moment program.now machine.old thread))))).state.heap ≡ true }
+    ensures { IfOk result (λ end. EventAnswers (begins_class (moment program.now machine.old thread)
+        class (prepared (moment program.now machine.old thread) classes.now (begins
+        (moment program.now machine.old thread)))) end machine.old machine.new out.old out.new) }
 {
     begin_prepared(program, machine, thread, classes, out)?;
     machine.set_class_state(class, ClassState::Begun(thread));
@@ -285,9 +321,13 @@ fn begin_after(
     requires sound { IsSoundFor program.now (kept_of machine.old) }
     requires clock { machine.old.guest.clock < 2 ^ 40 }
     requires frame { HasFrame machine.old.guest thread }
-    requires ready { list_all (ready (moment program.now machine.old thread) (begins (moment program.now machine.old thread))) classes.now ≡ true }
-    requires untouched { state_of (prepared (moment program.now machine.old thread) classes.now (begins (moment program.now machine.old thread))) class ≡ states.Untouched }
-    ensures { IfOk result (λ end. EventAnswers (begins_class (moment program.now machine.old thread) class (prepared (moment program.now machine.old thread) classes.now (begins (moment program.now machine.old thread)))) end machine.old machine.new out.old out.new) }
+    requires ready { list_all (ready (moment program.now machine.old thread)
+        (begins (moment program.now machine.old thread))) classes.now ≡ true }
+    requires untouched { state_of (prepared (moment program.now machine.old thread) classes.now
+        (begins (moment program.now machine.old thread))) class ≡ states.Untouched }
+    ensures { IfOk result (λ end. EventAnswers (begins_class (moment program.now machine.old thread)
+        class (prepared (moment program.now machine.old thread) classes.now (begins
+        (moment program.now machine.old thread)))) end machine.old machine.new out.old out.new) }
 {
     if machine.frames(thread) >= MOST_FRAMES {
         let error = GuestError::StackOverflowError;
@@ -315,9 +355,13 @@ fn blocked_event(
     requires sound { IsSoundFor program.now (kept_of machine.old) }
     requires clock { machine.old.guest.clock < 2 ^ 40 }
     requires frame { HasFrame machine.old.guest thread }
-    requires ready { list_all (ready (moment program.now machine.old thread) (begins (moment program.now machine.old thread))) classes.now ≡ true }
-    requires blocked { ready (moment program.now machine.old thread) (begins (moment program.now machine.old thread)) blocker ≡ false }
-    ensures { IfOk result (λ end. EventAnswers (initialized (moment program.now machine.old thread) (prepared (moment program.now machine.old thread) classes.now (begins (moment program.now machine.old thread))) blocker ending) end machine.old machine.new out.old out.new) }
+    requires ready { list_all (ready (moment program.now machine.old thread)
+        (begins (moment program.now machine.old thread))) classes.now ≡ true }
+    requires blocked { ready (moment program.now machine.old thread)
+        (begins (moment program.now machine.old thread)) blocker ≡ false }
+    ensures { IfOk result (λ end. EventAnswers (initialized (moment program.now machine.old thread)
+        (prepared (moment program.now machine.old thread) classes.now (begins (moment program.now
+        machine.old thread))) blocker ending) end machine.old machine.new out.old out.new) }
 {
     match need_of(program, machine, thread, blocker) {
         Need::Begins => begin_after(program, machine, alloc, thread, classes, blocker, out),
@@ -347,8 +391,12 @@ fn enter_event(
     requires clock { machine.old.guest.clock < 2 ^ 40 }
     requires frame { HasFrame machine.old.guest thread }
     requires stage { (top machine.old.guest thread).stage ≡ stages.Before class }
-    requires ready { list_all (ready (moment program.now machine.old thread) (begins (moment program.now machine.old thread))) classes.now ≡ true }
-    ensures { IfOk result (λ end. EventAnswers (enters_clinit (moment program.now machine.old thread) class (class_at program.now class).info.clinit (prepared (moment program.now machine.old thread) classes.now (begins (moment program.now machine.old thread)))) end machine.old machine.new out.old out.new) }
+    requires ready { list_all (ready (moment program.now machine.old thread)
+        (begins (moment program.now machine.old thread))) classes.now ≡ true }
+    ensures { IfOk result (λ end. EventAnswers (enters_clinit
+        (moment program.now machine.old thread) class (class_at program.now class).info.clinit
+        (prepared (moment program.now machine.old thread) classes.now (begins
+        (moment program.now machine.old thread)))) end machine.old machine.new out.old out.new) }
 {
     if !prepared_fit(program, machine, alloc, classes, 0, 0)? {
         return Ok(EventEnd::ObjectLimit);
@@ -375,7 +423,8 @@ pub fn initialization_event(
     requires clock { machine.old.guest.clock < 2 ^ 40 }
     requires frame { HasFrame machine.old.guest thread }
     requires stage { (top machine.old.guest thread).stage ≡ stages.Before class }
-    ensures { IfOk result (λ end. EventAnswers (initialization_step (moment program.now machine.old thread) class) end machine.old machine.new out.old out.new) }
+    ensures { IfOk result (λ end. EventAnswers (initialization_step (moment
+        program.now machine.old thread) class) end machine.old machine.new out.old out.new) }
 {
     let classes = program.class(class).prerequisites.as_slice();
     let count = ready_count(program, machine, thread, classes);

@@ -28,7 +28,8 @@ impl Model for CallBook {
 
     ghost view = { λ c. record { made = c.made; failing = c.failing.keys; faults = c.faults } };
 
-    ghost invariant = { λ c. AreCounted (record { made = c.made; failing = c.failing.keys; faults = c.faults }) };
+    ghost invariant = { λ c.
+        AreCounted (record { made = c.made; failing = c.failing.keys; faults = c.faults }) };
 }
 
 impl CallBook {
@@ -46,7 +47,8 @@ impl CallBook {
     /// Lets the call of this number fail. After `NoMemory` all is as before.
     pub fn fail_at(&mut self, call: u64) -> Result<(), NoMemory>
         requires { call < 2 ^ 63 }
-        ensures ok { OnOk result (self.new ≡ record self.old { failing = insert_key nat_cmp self.old.failing call }) }
+        ensures ok { OnOk result
+            (self.new ≡ record self.old { failing = insert_key nat_cmp self.old.failing call }) }
         ensures err { OnErr result (self.new ≡ self.old) }
     {
         self.failing.insert(call)?;

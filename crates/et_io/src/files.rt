@@ -29,9 +29,11 @@ pub trait Files {
     /// Reads the file at the path, if it has at most this many bytes. A read changes no file. It fails only where the
     /// count of faults rises, and that never falls. `NoMemory` says nothing of the file.
     fn read(&mut self, alloc: Global, path: &str, most: u64) -> Result<Found, NoMemory>
-        ensures found { IfOk result (λ found. IfSome (holds self.old) (λ held. Finds found most (held path.now))) }
+        ensures found { IfOk result
+            (λ found. IfSome (holds self.old) (λ held. Finds found most (held path.now))) }
         ensures within { IfOk result (λ found. IsWithin found most) }
-        ensures failed { IfOk result (λ found. CountsFault found (faults self.old) (faults self.new)) }
+        ensures failed { IfOk result
+            (λ found. CountsFault found (faults self.old) (faults self.new)) }
         ensures kept { holds self.new ≡ holds self.old }
         ensures never_falls { faults self.old ≤ faults self.new };
 }

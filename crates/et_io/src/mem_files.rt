@@ -46,7 +46,8 @@ impl MemFiles {
     /// Lets the read of this number fail; the first is 1. After `NoMemory` all is as before.
     pub fn fail_at(&mut self, call: u64) -> Result<(), NoMemory>
         requires { call < 2 ^ 63 }
-        ensures ok { OnOk result (calls_of self.new ≡ record (calls_of self.old) { failing = insert_key nat_cmp (calls_of self.old).failing call }) }
+        ensures ok { OnOk result (calls_of self.new ≡ record (calls_of self.old)
+            { failing = insert_key nat_cmp (calls_of self.old).failing call }) }
         ensures files { (path : List ℕ) → held self.new path ≡ held self.old path }
         ensures err { OnErr result (calls_of self.new ≡ calls_of self.old) }
     {
@@ -68,7 +69,8 @@ impl Files for MemFiles {
     fn read(&mut self, alloc: Global, path: &str, most: u64) -> Result<Found, NoMemory>
         ensures found { IfOk result (λ found. Finds found most (held self.old path.now)) }
         ensures within { IfOk result (λ found. IsWithin found most) }
-        ensures failed { IfOk result (λ found. CountsFault found (calls_of self.old).faults (calls_of self.new).faults) }
+        ensures failed { IfOk result
+            (λ found. CountsFault found (calls_of self.old).faults (calls_of self.new).faults) }
         ensures kept { Some (held self.new) ≡ Some (held self.old) }
         ensures never_falls { (calls_of self.old).faults ≤ (calls_of self.new).faults }
         ensures fails { FailsAsTold result (next_fails (calls_of self.old)) }

@@ -37,7 +37,11 @@ impl MemSink {
     /// a call.
     pub fn begin(alloc: Global, most: u64) -> MemSink
         requires { 1 ≤ most }
-        ensures { result ≡ record { taken = []; most = most; calls = record { made = 0; failing = []; faults = 0 } } }
+        ensures { result ≡ record {
+          taken = [];
+          most = most;
+          calls = record { made = 0; failing = []; faults = 0 };
+        } }
     {
         MemSink {
             taken: Vec::new(alloc),
@@ -49,7 +53,10 @@ impl MemSink {
     /// Lets the put of this number fail; the first is 1. After `NoMemory` all is as before.
     pub fn fail_at(&mut self, call: u64) -> Result<(), NoMemory>
         requires { call < 2 ^ 63 }
-        ensures ok { OnOk result (self.new ≡ record self.old { calls = record self.old.calls { failing = insert_key nat_cmp self.old.calls.failing call } }) }
+        ensures ok { OnOk result (self.new ≡ record self.old {
+          calls = record self.old.calls
+              { failing = insert_key nat_cmp self.old.calls.failing call };
+        }) }
         ensures err { OnErr result (self.new ≡ self.old) }
     {
         self.calls.fail_at(call)

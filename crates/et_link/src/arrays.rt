@@ -118,7 +118,8 @@ fn add_made_at(
     is_start: bool,
 ) -> Result<(), NoMemory>
     requires { pc < length code.now }
-    ensures { OnOk result (list.new.items ≡ list.old.items ++ (if is_start then made_if pool.now.slots (instruction_at code.now pc) else [])) }
+    ensures { OnOk result (list.new.items ≡ list.old.items
+        ++ (if is_start then made_if pool.now.slots (instruction_at code.now pc) else [])) }
 {
     if !is_start {
         return Ok(());
@@ -154,7 +155,8 @@ fn add_named(alloc: Global, list: &mut Vec<Name>, pool: &Pool) -> Result<(), NoM
 
 /// Puts a name behind a list, if there is one and it is that of an array type.
 fn add_if_array(alloc: Global, list: &mut Vec<Name>, name: Option<&[u8]>) -> Result<(), NoMemory>
-    ensures { OnOk result (list.new.items ≡ list.old.items ++ option_to_list (if_array (option_map (λ s. s.now) name.entry))) }
+    ensures { OnOk result (list.new.items
+        ≡ list.old.items ++ option_to_list (if_array (option_map (λ s. s.now) name.entry))) }
 {
     let Some(name) = name else {
         return Ok(());
@@ -173,7 +175,8 @@ fn add_made_in_method(
     pool: &Pool,
     code: &Option<Code>,
 ) -> Result<(), NoMemory>
-    ensures { OnOk result (list.new.items ≡ list.old.items ++ made_in_method pool.now.slots code.now) }
+    ensures { OnOk result
+        (list.new.items ≡ list.old.items ++ made_in_method pool.now.slots code.now) }
 {
     match code {
         Some(code) => add_made_in(alloc, list, pool, code.raw().code.as_slice()),

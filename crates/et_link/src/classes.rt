@@ -56,7 +56,8 @@ fn prerequisites(
 ) -> Result<Vec<ClassId>, NoMemory>
     requires class { class < length known.now.table.items }
     requires sized { AreSized known.now }
-    ensures { IfOk result (λ list. list.items ≡ prerequisites_of (heads_in known.now) class is_interface) }
+    ensures { IfOk result
+        (λ list. list.items ≡ prerequisites_of (heads_in known.now) class is_interface) }
 {
     if is_interface {
         return Ok(Vec::new(alloc));
@@ -83,10 +84,14 @@ fn above_of(
 ) -> Result<Above, NoMemory>
     requires class { class < length known.now.table.items }
     requires sized { AreSized known.now }
-    ensures supers { IfOk result (λ a. a.supers.items ≡ (ancestry_at known.now.rows.items class).supers) }
-    ensures superinterfaces { IfOk result (λ a. a.superinterfaces.items ≡ (ancestry_at known.now.rows.items class).superinterfaces) }
-    ensures field_order { IfOk result (λ a. a.field_order.items ≡ (ancestry_at known.now.rows.items class).field_order) }
-    ensures init_order { IfOk result (λ a. a.init_order.items ≡ init_order is_interface (heads_in known.now).needs known.now.table.items known.now.rows.items class) }
+    ensures supers { IfOk result
+        (λ a. a.supers.items ≡ (ancestry_at known.now.rows.items class).supers) }
+    ensures superinterfaces { IfOk result
+        (λ a. a.superinterfaces.items ≡ (ancestry_at known.now.rows.items class).superinterfaces) }
+    ensures field_order { IfOk result
+        (λ a. a.field_order.items ≡ (ancestry_at known.now.rows.items class).field_order) }
+    ensures init_order { IfOk result (λ a. a.init_order.items ≡ init_order is_interface
+        (heads_in known.now).needs known.now.table.items known.now.rows.items class) }
 {
     let rows = known.rows.as_slice();
     let table = known.table.as_slice();
@@ -129,7 +134,8 @@ fn info_of_class(
 ) -> Result<ClassInfo, NoMemory>
     requires class { class < length known.now.table.items }
     requires sized { AreSized known.now }
-    ensures { IfOk result (λ i. info_of i ≡ (set_class (heads_in known.now) class outline.now).info) }
+    ensures { IfOk result
+        (λ i. info_of i ≡ (set_class (heads_in known.now) class outline.now).info) }
 {
     let name = Name::of(alloc, outline.name())?;
     let prerequisites = prerequisites(alloc, known, class, outline.is_interface())?;
@@ -174,7 +180,8 @@ fn set_class(
 fn set_classes(alloc: Global, known: &Known, set: &[ClassOutline]) -> Result<Vec<Class>, NoMemory>
     requires length { length set.now ≡ length known.now.table.items }
     requires sized { AreSized known.now }
-    ensures { IfOk result (λ list. list.items ≡ numbered (λ k c. set_class (heads_in known.now) k c ∷ []) 0 set.now) }
+    ensures { IfOk result
+        (λ list. list.items ≡ numbered (λ k c. set_class (heads_in known.now) k c ∷ []) 0 set.now) }
 {
     let mut list = Vec::new(alloc);
     for (k, outline) in set.iter().enumerate() {
@@ -196,8 +203,10 @@ const ARRAY_FLAGS: u16 = 0x0411;
 /// The classes above an array class.
 fn above_array(alloc: Global, class: ClassId) -> Result<Above, NoMemory>
     ensures supers { IfOk result (λ a. a.supers.items ≡ object ∷ []) }
-    ensures superinterfaces { IfOk result (λ a. a.superinterfaces.items ≡ cloneable ∷ serializable ∷ []) }
-    ensures field_order { IfOk result (λ a. a.field_order.items ≡ class ∷ cloneable ∷ object ∷ serializable ∷ []) }
+    ensures superinterfaces { IfOk result
+        (λ a. a.superinterfaces.items ≡ cloneable ∷ serializable ∷ []) }
+    ensures field_order { IfOk result
+        (λ a. a.field_order.items ≡ class ∷ cloneable ∷ object ∷ serializable ∷ []) }
     ensures init_order { IfOk result (λ a. a.init_order.items ≡ class ∷ []) }
 {
     let object = ClassId::new(OBJECT);
@@ -224,7 +233,8 @@ fn info_of_array(
     class: ClassId,
     name: &[u8],
 ) -> Result<ClassInfo, NoMemory>
-    ensures { IfOk result (λ i. info_of i ≡ (array_class (heads_in known.now) class name.now).info) }
+    ensures { IfOk result
+        (λ i. info_of i ≡ (array_class (heads_in known.now) class name.now).info) }
 {
     let element = element_of(&known.places, &known.arrays.index, name);
     Ok(ClassInfo {
@@ -257,7 +267,8 @@ pub(crate) fn all_classes(
 ) -> Result<Vec<Class>, NoMemory>
     requires length { length set.now ≡ length known.now.table.items }
     requires sized { AreSized known.now }
-    ensures { IfOk result (λ list. list.items ≡ classes_by (heads_in known.now) set.now known.now.arrays.names.items) }
+    ensures { IfOk result (λ list.
+        list.items ≡ classes_by (heads_in known.now) set.now known.now.arrays.names.items) }
 {
     let mut list = set_classes(alloc, known, set)?;
     let first = set.len();

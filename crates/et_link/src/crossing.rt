@@ -98,7 +98,8 @@ fn crosses(
 ) -> bool
     requires own { method.now.class < length set.now }
     requires rows { length rows.now ≡ length set.now }
-    requires below { (k : ℕ) → k < length set.now → IsBelow (length set.now) (ancestry_at rows.now k) }
+    requires below { (k : ℕ) →
+        k < length set.now → IsBelow (length set.now) (ancestry_at rows.now k) }
     requires index { FindsMethods index.now methods.now }
     ensures { result ≡ crosses set.now rows.now methods.now method.now }
 {
@@ -147,9 +148,11 @@ pub(crate) fn first_crossing(
 ) -> Option<u32>
     requires own { All (λ (m : MethodOf). m.class < length set.now) methods.now }
     requires rows { length rows.now ≡ length set.now }
-    requires below { (k : ℕ) → k < length set.now → IsBelow (length set.now) (ancestry_at rows.now k) }
+    requires below { (k : ℕ) →
+        k < length set.now → IsBelow (length set.now) (ancestry_at rows.now k) }
     requires index { FindsMethods index.now methods.now }
-    ensures { AnswersLeast (crosses set.now rows.now methods.now) methods.now (length methods.now) result }
+    ensures { AnswersLeast
+        (crosses set.now rows.now methods.now) methods.now (length methods.now) result }
 {
     let mut found: Option<u32> = None;
     for method in methods {

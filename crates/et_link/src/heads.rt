@@ -29,7 +29,8 @@ pub(crate) fn classes_to_run(
 ) -> Result<Vec<bool>, NoMemory>
     requires { All (λ (m : MethodOf). m.class < count) methods.now }
     ensures length { IfOk result (λ marks. length marks.items ≡ count) }
-    ensures marks { IfOk result (λ marks. (k : ℕ) → slice_index_or marks.items k false ≡ has_to_run methods.now k) }
+    ensures marks { IfOk result
+        (λ marks. (k : ℕ) → slice_index_or marks.items k false ≡ has_to_run methods.now k) }
 {
     let mut marks = vec![in alloc; false; count]?;
     for method in methods {
@@ -58,7 +59,8 @@ pub(crate) fn initializers(
     requires within { All (λ (m : MethodOf). m.class < count) methods.now }
     requires few { length methods.now < 2 ^ 32 }
     ensures length { IfOk result (λ found. length found.items ≡ count) }
-    ensures found { IfOk result (λ found. (k : ℕ) → k < count → slice_index_or found.items k None ≡ initializer_of methods.now k) }
+    ensures found { IfOk result (λ found. (k : ℕ) →
+        k < count → slice_index_or found.items k None ≡ initializer_of methods.now k) }
 {
     let mut found = vec![in alloc; None; count]?;
     for (i, method) in methods.iter().enumerate() {
@@ -71,7 +73,9 @@ pub(crate) fn initializers(
 fn put_initializer(found: &mut Vec<Option<MethodId>>, method: &MethodInfo, number: MethodId)
     requires { method.now.class < length found.old.items }
     ensures length { length found.new.items ≡ length found.old.items }
-    ensures found { (k : ℕ) → k < length found.old.items → slice_index_or found.new.items k None ≡ option_or (slice_index_or found.old.items k None) (if (method.now.class == k) && is_initializer method.now then Some number else None) }
+    ensures found { (k : ℕ) → k < length found.old.items →
+        slice_index_or found.new.items k None ≡ option_or (slice_index_or found.old.items k None)
+        (if (method.now.class == k) && is_initializer method.now then Some number else None) }
 {
     let class = method.class.number() as usize;
     if is_initializer(method) && found[class].is_none() {
@@ -143,7 +147,8 @@ pub(crate) fn constants(
     requires within { All (λ (f : FieldOf). f.class < count) fields.now }
     requires few { length fields.now < 2 ^ 32 }
     ensures length { IfOk result (λ lists. length lists.items ≡ count) }
-    ensures constants { IfOk result (λ lists. (k : ℕ) → k < count → slice_index_or lists.items k [] ≡ constants_of fields.now k) }
+    ensures constants { IfOk result (λ lists. (k : ℕ) →
+        k < count → slice_index_or lists.items k [] ≡ constants_of fields.now k) }
 {
     let mut lists = empty_lists(alloc, count)?;
     for (i, field) in fields.iter().enumerate() {

@@ -10,15 +10,18 @@ ghost use Rattle.et_program.specs.Entries.{Linked};
 
 /// What linking reads of class files that were read is what it reads of the classes that their bytes are.
 pub fn files_are_classes()
-    ensures { (files : List ClassFile) → All HasItsParts files → map loaded_file files ≡ map loaded_class (map class_of files) }
+    ensures { (files : List ClassFile) →
+        All HasItsParts files → map loaded_file files ≡ map loaded_class (map class_of files) }
 {}
 
 /// Files are at most one program, or have at most one fault, and not both.
 pub fn answers_are_one()
-    ensures { (files : List LoadedClass) (answer other : Result Linked (LinkFaultKind × ℕ)) → LinkIs files answer → LinkIs files other → answer ≡ other }
+    ensures { (files : List LoadedClass) (answer other : Result Linked (LinkFaultKind × ℕ)) →
+        LinkIs files answer → LinkIs files other → answer ≡ other }
 {}
 
 /// One file or more are a program, or have a fault.
 pub fn answers_exist()
-    ensures { (files : List LoadedClass) → 0 < length files → (answer : Result Linked (LinkFaultKind × ℕ)) × LinkIs files answer }
+    ensures { (files : List LoadedClass) →
+        0 < length files → (answer : Result Linked (LinkFaultKind × ℕ)) × LinkIs files answer }
 {}

@@ -60,7 +60,8 @@ fn know(
     requires rows { length hierarchy.rows.items ≡ length set.now }
     requires flags { length hierarchy.flags.items ≡ length set.now }
     requires within { AreWithin (length set.now) hierarchy.table.items }
-    requires below { (k : ℕ) → k < length set.now → IsBelow (length set.now) (ancestry_at hierarchy.rows.items k) }
+    requires below { (k : ℕ) →
+        k < length set.now → IsBelow (length set.now) (ancestry_at hierarchy.rows.items k) }
     requires methods { All (λ (m : MethodOf). m.class < length set.now) methods.now }
     requires fields { All (λ (f : FieldOf). f.class < length set.now) fields.now }
     requires few_methods { length methods.now < 2 ^ 32 }
@@ -68,14 +69,22 @@ fn know(
     ensures table { IfOk result (λ x. x.table.items ≡ hierarchy.table.items) }
     ensures rows { IfOk result (λ x. x.rows.items ≡ hierarchy.rows.items) }
     ensures flags { IfOk result (λ x. x.flags.items ≡ hierarchy.flags.items) }
-    ensures own { IfOk result (λ x. (k : ℕ) → k < length set.now → slice_index_or x.own.items k 0 ≡ own_slots fields.now k) }
-    ensures above { IfOk result (λ x. (k : ℕ) → k < length set.now → slice_index_or x.above.items k 0 ≡ slots_above fields.now hierarchy.rows.items k) }
-    ensures needs { IfOk result (λ x. (k : ℕ) → slice_index_or x.needs.items k false ≡ has_to_run methods.now k) }
-    ensures clinit { IfOk result (λ x. (k : ℕ) → k < length set.now → slice_index_or x.initializers.items k None ≡ initializer_of methods.now k) }
-    ensures constants { IfOk result (λ x. (k : ℕ) → k < length set.now → slice_index_or x.constants.items k [] ≡ constants_of fields.now k) }
-    ensures place { IfOk result (λ x. (name : List ℕ) → number_of x.places name ≡ place_of set.now name) }
-    ensures names { IfOk result (λ x. x.arrays.names.items ≡ array_names (number_of x.places) met.now) }
-    ensures index { IfOk result (λ x. IsIndexFrom (length set.now) x.arrays.names.items x.arrays.index) }
+    ensures own { IfOk result (λ x. (k : ℕ) →
+        k < length set.now → slice_index_or x.own.items k 0 ≡ own_slots fields.now k) }
+    ensures above { IfOk result (λ x. (k : ℕ) → k < length set.now →
+        slice_index_or x.above.items k 0 ≡ slots_above fields.now hierarchy.rows.items k) }
+    ensures needs { IfOk result
+        (λ x. (k : ℕ) → slice_index_or x.needs.items k false ≡ has_to_run methods.now k) }
+    ensures clinit { IfOk result (λ x. (k : ℕ) → k < length set.now →
+        slice_index_or x.initializers.items k None ≡ initializer_of methods.now k) }
+    ensures constants { IfOk result (λ x. (k : ℕ) →
+        k < length set.now → slice_index_or x.constants.items k [] ≡ constants_of fields.now k) }
+    ensures place { IfOk result
+        (λ x. (name : List ℕ) → number_of x.places name ≡ place_of set.now name) }
+    ensures names { IfOk result
+        (λ x. x.arrays.names.items ≡ array_names (number_of x.places) met.now) }
+    ensures index { IfOk result
+        (λ x. IsIndexFrom (length set.now) x.arrays.names.items x.arrays.index) }
     ensures sized { IfOk result AreSized }
 {
     let count = set.len();
@@ -131,8 +140,12 @@ fn assemble(
     requires fields { All (λ (f : FieldOf). f.class < length set.now) parts.fields.items }
     requires few_methods { length parts.methods.items < 2 ^ 32 }
     requires few_fields { length parts.fields.items < 2 ^ 32 }
-    requires tabled { IsTabled (linked_by (heads_in known.now) set.now known.now.arrays.names.items parts.methods.items (λ k. slice_index_or known.now.above.items k 0) parts.fields.items main parts.pools.items) }
-    ensures { IfOk result (λ p. p ≡ linked_by (heads_in known.now) set.now known.now.arrays.names.items parts.methods.items (λ k. slice_index_or known.now.above.items k 0) parts.fields.items main parts.pools.items) }
+    requires tabled { IsTabled
+        (linked_by (heads_in known.now) set.now known.now.arrays.names.items parts.methods.items
+        (λ k. slice_index_or known.now.above.items k 0) parts.fields.items main parts.pools.items) }
+    ensures { IfOk result (λ p.
+        p ≡ linked_by (heads_in known.now) set.now known.now.arrays.names.items parts.methods.items
+        (λ k. slice_index_or known.now.above.items k 0) parts.fields.items main parts.pools.items) }
 {
     let Parts {
         methods,
@@ -207,8 +220,10 @@ fn check_classes(set: usize, arrays: usize) -> Result<(), NoMemory>
 
 /// The program of what the files declare.
 fn build(alloc: Global, declared: Declared, main: MethodId) -> Result<Program, NoMemory>
-    requires { (files : List LoadedClass) × IsDeclared files declared × (main_of (methods_of files) ≡ Some main) }
-    ensures { IfOk result (λ p. (files : List LoadedClass) → IsDeclared files declared → main_of (methods_of files) ≡ Some main → IsProgramOf files p) }
+    requires { (files : List LoadedClass)
+        × IsDeclared files declared × (main_of (methods_of files) ≡ Some main) }
+    ensures { IfOk result (λ p. (files : List LoadedClass) →
+        IsDeclared files declared → main_of (methods_of files) ≡ Some main → IsProgramOf files p) }
 {
     let Declared {
         set,

@@ -64,7 +64,8 @@ fn add_file_fields(
     class: ClassId,
     file: &ClassFile,
 ) -> Result<(), NoMemory>
-    ensures { OnOk result (list.new.items ≡ list.old.items ++ file_fields class (loaded_file file.now)) }
+    ensures { OnOk result
+        (list.new.items ≡ list.old.items ++ file_fields class (loaded_file file.now)) }
 {
     for field in &file.fields {
         let info = field_of_file(alloc, class, &file.pool, field)?;
@@ -173,7 +174,8 @@ fn add_file_methods(
     pool: &Pool,
     methods: Vec<Member>,
 ) -> Result<(), NoMemory>
-    ensures { OnOk result (list.new.items ≡ list.old.items ++ map (file_method pool.now.slots class) (map loaded_member methods.items)) }
+    ensures { OnOk result (list.new.items ≡ list.old.items
+        ++ map (file_method pool.now.slots class) (map loaded_member methods.items)) }
 {
     for method in methods {
         let info = method_of_file(alloc, class, pool, method)?;
@@ -279,7 +281,8 @@ fn boot_members(alloc: Global) -> Result<Members, NoMemory>
 
 /// The methods of all classes, and the pools.
 pub(crate) fn all_members(alloc: Global, files: Vec<ClassFile>) -> Result<Members, NoMemory>
-    ensures methods { IfOk result (λ m. m.methods.items ≡ methods_of (map loaded_file files.items)) }
+    ensures methods { IfOk result
+        (λ m. m.methods.items ≡ methods_of (map loaded_file files.items)) }
     ensures pools { IfOk result (λ m. HasPools (map loaded_file files.items) m.pools.items) }
 {
     let boot = boot_members(alloc)?;

@@ -70,7 +70,8 @@ fn add_with_elements(
     name: &[u8],
 ) -> Result<(), NoMemory>
     requires { IsIndexFrom first names.old.items index.old }
-    ensures names { OnOk result (names.new.items ≡ names_added names.old.items (with_elements name.now)) }
+    ensures names { OnOk result
+        (names.new.items ≡ names_added names.old.items (with_elements name.now)) }
     ensures index { OnOk result (IsIndexFrom first names.new.items index.new) }
 {
     let mut at = 0;
@@ -123,7 +124,8 @@ fn add_if_known(
     name: &[u8],
 ) -> Result<(), NoMemory>
     requires { IsIndexFrom first names.old.items index.old }
-    ensures names { OnOk result (names.new.items ≡ names_added names.old.items (if is_known (number_of places.now) name.now then with_elements name.now else [])) }
+    ensures names { OnOk result (names.new.items ≡ names_added names.old.items
+        (if is_known (number_of places.now) name.now then with_elements name.now else [])) }
     ensures index { OnOk result (IsIndexFrom first names.new.items index.new) }
 {
     if leaf_of(places, name).is_some() {

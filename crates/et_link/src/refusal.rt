@@ -50,7 +50,8 @@ fn link_kind(kind: FaultKind) -> LinkFaultKind
 /// The links of the classes of the set, or the fault of their names.
 pub(crate) fn check_names(alloc: Global, set: &[ClassOutline]) -> Result<Vec<Links>, LinkFault>
     requires { length set.now < 2 ^ 32 }
-    ensures { MatchResult result (λ table. IsFaultless set.now × (table.items ≡ links set.now)) (RefusesSet set.now) }
+    ensures { MatchResult result
+        (λ table. IsFaultless set.now × (table.items ≡ links set.now)) (RefusesSet set.now) }
 {
     match check_set(alloc, set) {
         Ok(table) => Ok(table),
@@ -93,7 +94,8 @@ pub(crate) fn check_methods(
 ) -> Result<MethodId, (LinkFaultKind, u32)>
     requires own { All (λ (m : MethodOf). m.class < length set.now) methods.now }
     requires rows { length rows.now ≡ length set.now }
-    requires below { (k : ℕ) → k < length set.now → IsBelow (length set.now) (ancestry_at rows.now k) }
+    requires below { (k : ℕ) →
+        k < length set.now → IsBelow (length set.now) (ancestry_at rows.now k) }
     requires index { FindsMethods index.now methods.now }
     requires few { length methods.now < 2 ^ 32 }
     ensures { AnswersLate set.now rows.now methods.now files result }

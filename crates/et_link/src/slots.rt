@@ -28,7 +28,8 @@ fn one_more(count: u32) -> Result<u32, NoMemory>
 /// The slots that the built-in classes declare, and none for the others.
 fn boot_slots(alloc: Global, count: usize) -> Result<Vec<u32>, NoMemory>
     ensures length { IfOk result (λ own. length own.items ≡ count) }
-    ensures slots { IfOk result (λ own. (k : ℕ) → k < count → slice_index_or own.items k 0 ≡ own_slots [] k) }
+    ensures slots { IfOk result
+        (λ own. (k : ℕ) → k < count → slice_index_or own.items k 0 ≡ own_slots [] k) }
 {
     let mut own = Vec::new(alloc);
     'classes: for k in 0..count {
@@ -48,7 +49,8 @@ pub(crate) fn own_slots(
 ) -> Result<Vec<u32>, NoMemory>
     requires { All (λ (f : FieldOf). f.class < count) fields.now }
     ensures length { IfOk result (λ own. length own.items ≡ count) }
-    ensures slots { IfOk result (λ own. (k : ℕ) → k < count → slice_index_or own.items k 0 ≡ own_slots fields.now k) }
+    ensures slots { IfOk result
+        (λ own. (k : ℕ) → k < count → slice_index_or own.items k 0 ≡ own_slots fields.now k) }
 {
     let mut own = boot_slots(alloc, count)?;
     for field in fields {
@@ -80,7 +82,8 @@ fn sum_of(own: &[u32], classes: &[u32]) -> Result<u32, NoMemory>
 pub(crate) fn slots_above(alloc: Global, own: &[u32], rows: &[Row]) -> Result<Vec<u32>, NoMemory>
     requires { (k : ℕ) → k < length rows.now → IsBelow (length own.now) (ancestry_at rows.now k) }
     ensures length { IfOk result (λ above. length above.items ≡ length rows.now) }
-    ensures slots { IfOk result (λ above. (k : ℕ) → k < length rows.now → slice_index_or above.items k 0 ≡ sum_by (λ j. slice_index_or own.now j 0) (ancestry_at rows.now k).supers) }
+    ensures slots { IfOk result (λ above. (k : ℕ) → k < length rows.now → slice_index_or above.items
+        k 0 ≡ sum_by (λ j. slice_index_or own.now j 0) (ancestry_at rows.now k).supers) }
 {
     let mut above = Vec::new(alloc);
     for row in rows {
@@ -110,8 +113,11 @@ pub(crate) fn static_fields(alloc: Global, fields: &[FieldInfo]) -> Result<Vec<F
 fn take_slot(next: &mut Vec<u32>, statics: &mut u32, field: &FieldInfo) -> Result<u32, NoMemory>
     requires { field.now.class < length next.old.items }
     ensures length { length next.new.items ≡ length next.old.items }
-    ensures slot { IfOk result (λ slot. (base : ℕ → ℕ) (before : List FieldOf) → Counts base before next.old.items statics.old → slot ≡ slot_of base before field.now) }
-    ensures counts { IfOk result (λ slot. (base : ℕ → ℕ) (before : List FieldOf) → Counts base before next.old.items statics.old → Counts base (before ++ field.now ∷ []) next.new.items statics.new) }
+    ensures slot { IfOk result (λ slot. (base : ℕ → ℕ) (before : List FieldOf) →
+        Counts base before next.old.items statics.old → slot ≡ slot_of base before field.now) }
+    ensures counts { IfOk result (λ slot. (base : ℕ → ℕ) (before : List FieldOf) →
+        Counts base before next.old.items statics.old →
+        Counts base (before ++ field.now ∷ []) next.new.items statics.new) }
 {
     if has(field.flags, STATIC) {
         let slot = *statics;
@@ -131,7 +137,8 @@ pub(crate) fn place_fields(
     above: &[u32],
 ) -> Result<Vec<FieldInfo>, NoMemory>
     requires { All (λ (f : FieldOf). f.class < length above.now) fields.items }
-    ensures { IfOk result (λ list. list.items ≡ placed_behind (λ k. slice_index_or above.now k 0) [] fields.items) }
+    ensures { IfOk result
+        (λ list. list.items ≡ placed_behind (λ k. slice_index_or above.now k 0) [] fields.items) }
 {
     let mut list = Vec::new(alloc);
     let mut next = Vec::from_slice(alloc, above)?;

@@ -34,18 +34,21 @@ pub fn programs_make_sound()
 
 /// An exception of the machine may hold any value in any slot, as its cause: no class above it declares a field.
 pub fn errors_hold_values()
-    ensures { (files : List LoadedClass) (p : Linked) → IsProgramOf files p → (error : GuestError) (i : ℕ) (v : Value) → MayHold p (error_class p error) i v }
+    ensures { (files : List LoadedClass) (p : Linked) → IsProgramOf files p →
+        (error : GuestError) (i : ℕ) (v : Value) → MayHold p (error_class p error) i v }
 {}
 
 /// An instance and an array of each class are sound as they are made, and each field has a slot of its own, where the fields
 /// of interfaces are static.
 pub fn programs_have_slots()
-    ensures { (files : List LoadedClass) (p : Linked) → IsProgramOf files p → HaveStaticFields p → HasSlots p }
+    ensures { (files : List LoadedClass) (p : Linked) →
+        IsProgramOf files p → HaveStaticFields p → HasSlots p }
 {}
 
 /// The first state of a program is sound, where each file has the name of a class.
 pub fn first_state_is_sound()
-    ensures { (files : List LoadedClass) (p : Linked) → All HasClassName files → IsProgramOf files p → IsSoundFor p (start p) }
+    ensures { (files : List LoadedClass) (p : Linked) →
+        All HasClassName files → IsProgramOf files p → IsSoundFor p (start p) }
 {}
 
 /// A flush of what isn't reached leaves a sound state of the program.

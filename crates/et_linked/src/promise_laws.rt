@@ -18,37 +18,44 @@ ghost use Rattle.et_sound.specs.Programs.{HasArrays, HasMachineSlots, HasMethods
 /// The methods of a class file keep the rules: but for `<clinit>`, none is abstract and static, and one has code exactly
 /// where it is neither native nor abstract; the arguments of each are within its local variables (JVMS 4.6, 4.7.3).
 pub fn class_files_keep_method_rules()
-    ensures { (bytes : List ℕ) (c : ClassOf) → IsClassFile bytes c → KeepsMethodRules (loaded_class c) }
+    ensures { (bytes : List ℕ) (c : ClassOf) →
+        IsClassFile bytes c → KeepsMethodRules (loaded_class c) }
 {}
 
 /// The code of a class file keeps the rules on instructions, and on what they name (JVMS 4.9.1).
 pub fn class_files_keep_code_rules()
-    ensures { (bytes : List ℕ) (c : ClassOf) → AreBytes bytes → IsClassFile bytes c → KeepsCodeRules (loaded_class c) }
+    ensures { (bytes : List ℕ) (c : ClassOf) →
+        AreBytes bytes → IsClassFile bytes c → KeepsCodeRules (loaded_class c) }
 {}
 
 /// The arguments of each method with code are within its local variables, a static one without code is native, no instruction
 /// calls a `<clinit>`, and `main` is a static method with code that takes the argument array (JVMS 2.9, 4.6, 4.7.3).
 pub fn programs_have_methods()
-    ensures { (files : List LoadedClass) (p : Linked) → 0 < length files → All KeepsMethodRules files → All KeepsCodeRules files → IsLinkable files → IsProgramOf files p → HasMethods p }
+    ensures { (files : List LoadedClass) (p : Linked) → 0 < length files → All KeepsMethodRules
+        files → All KeepsCodeRules files → IsLinkable files → IsProgramOf files p → HasMethods p }
 {}
 
 /// The message and the cause of a Throwable stand in slots that are no field's, and the target of a Thread in that of its
 /// field `target`.
 pub fn programs_have_machine_slots()
-    ensures { (files : List LoadedClass) (p : Linked) → All KeepsFieldRules files → IsLinkable files → IsProgramOf files p → HasMachineSlots p }
+    ensures { (files : List LoadedClass) (p : Linked) →
+        All KeepsFieldRules files → IsLinkable files → IsProgramOf files p → HasMachineSlots p }
 {}
 
 /// The classes of the arrays that newarray, anewarray and multianewarray make are in the program (JVMS 6.5).
 pub fn programs_have_arrays()
-    ensures { (files : List LoadedClass) (p : Linked) → All HasClassName files → All KeepsCodeRules files → IsProgramOf files p → HasArrays p }
+    ensures { (files : List LoadedClass) (p : Linked) →
+        All HasClassName files → All KeepsCodeRules files → IsProgramOf files p → HasArrays p }
 {}
 
 /// What linking reads of class files keeps all rules of class files.
 pub fn files_keep_rules()
-    ensures { (classes : List ClassOf) → All IsOfFile classes → KeepRules (map loaded_class classes) }
+    ensures { (classes : List ClassOf) →
+        All IsOfFile classes → KeepRules (map loaded_class classes) }
 {}
 
 /// A program that was linked of one class file or more has all that its run asks.
 pub fn programs_may_run()
-    ensures { (files : List LoadedClass) (p : Linked) → 0 < length files → KeepRules files → IsLinkable files → IsProgramOf files p → KeepsPromises p }
+    ensures { (files : List LoadedClass) (p : Linked) → 0 < length files →
+        KeepRules files → IsLinkable files → IsProgramOf files p → KeepsPromises p }
 {}

@@ -120,7 +120,8 @@ pub(crate) fn flags_of(word: &[u8]) -> u16
 
 /// The value of a number, where it isn't negative and at most `high`.
 pub(crate) fn natural(word: &[u8], high: u16) -> Option<u16>
-    ensures { result ≡ (if is_natural_in high word.now then Some (unsigned_abs (value word.now)) else None) }
+    ensures { result
+        ≡ (if is_natural_in high word.now then Some (unsigned_abs (value word.now)) else None) }
 {
     let size = magnitude(digits(word));
     if (high as u64) < size || (is_negative(word) && size != 0) {

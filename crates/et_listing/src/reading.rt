@@ -33,7 +33,8 @@ fn instruction_of<'a>(
     words: &'a [Word<'a>],
 ) -> Result<Line<'a>, LineFault>
     requires { names.now.keys ≡ mnemonics }
-    ensures { result ≡ with_mnemonic words.now (position (λ name. same (word_at words.now 0) name) mnemonics) }
+    ensures { result
+        ≡ with_mnemonic words.now (position (λ name. same (word_at words.now 0) name) mnemonics) }
 {
     match opcode_of(names, &word_at(words, 0)) {
         None => Err(LineFault::Word),
@@ -77,7 +78,8 @@ fn is_silent(words: &[Word]) -> bool
 
 /// The label of a label line.
 fn label_of<'a>(words: &[Word<'a>]) -> Option<Word<'a>>
-    ensures { result ≡ (if is_label_line (word_at words.now 0) then Some (take (length (word_at words.now 0) - 1) (word_at words.now 0)) else None) }
+    ensures { result ≡ (if is_label_line (word_at words.now 0) then Some
+        (take (length (word_at words.now 0) - 1) (word_at words.now 0)) else None) }
 {
     let bytes = word_at(words, 0).bytes();
     if bytes.is_empty() || bytes[bytes.len() - 1] != b':' {

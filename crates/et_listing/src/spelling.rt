@@ -52,7 +52,8 @@ pub(crate) fn is_spelling(word: &[u8]) -> bool
 /// The byte whose spelling begins at a place, and how many bytes spell it.
 fn byte_at(word: &[u8], i: usize) -> (u8, usize)
     requires { i < length word.now }
-    ensures byte { unescaped (drop i word.now) ≡ result.0 ∷ unescaped (drop (i + result.1) word.now) }
+    ensures byte { unescaped (drop i word.now)
+        ≡ result.0 ∷ unescaped (drop (i + result.1) word.now) }
     ensures some { 0 < result.1 }
     ensures within { i + result.1 ≤ length word.now }
 {

@@ -8,7 +8,8 @@ use std::alloc::{AllocError, Global};
 
 /// Appends a word that isn't empty.
 fn push_some<'a>(words: &mut Vec<Word<'a>>, word: Word<'a>) -> Result<(), AllocError>
-    ensures { OnOk result (words.new.items ≡ words.old.items ++ filter is_some_text (word.entry ∷ [])) }
+    ensures { OnOk result
+        (words.new.items ≡ words.old.items ++ filter is_some_text (word.entry ∷ [])) }
 {
     if !word.bytes().is_empty() {
         words.push(word)?;

@@ -20,7 +20,8 @@ use std::sync::ledger::Ledger;
 /// Writes the lines of a flush.
 fn write_deaths(buffer: &mut Vec<u8>, event: u64, deaths: &[Death]) -> Result<(), NoMemory>
     requires { length deaths.now < 2 ^ 32 }
-    ensures { OnOk result (buffer.new.items ≡ buffer.old.items ++ text (flush_lines event (death_pairs deaths.now))) }
+    ensures { OnOk result
+        (buffer.new.items ≡ buffer.old.items ++ text (flush_lines event (death_pairs deaths.now))) }
 {
     let line = TraceLine::Flush {
         event,
@@ -50,11 +51,19 @@ fn report<G: StampedGuest, L: Ledger>(
     requires sound { G.is_sound code.now (G.state machine.old) }
     requires stamps { HasStamps (G.graph_of (G.state machine.old)) stamps.now }
     requires room { G.has_places room.old (G.graph_of (G.state machine.old)).made }
-    ensures lines { (deaths : List (ℕ × ℕ)) → AreListed (G.graph_of (G.state machine.old)) (slice_index stamps.now) deaths → OnOk result (buffer.new.items ≡ buffer.old.items ++ text (flush_lines e deaths)) }
-    ensures state { (here : ℕ → Bool) → ((o : ℕ) → IsTrue (here o) ↔ IsReached (G.graph_of (G.state machine.old)) o) → OnOk result (G.state machine.new ≡ G.flushed_of here (G.state machine.old)) }
-    ensures visits { (here : ℕ → Bool) → ((o : ℕ) → IsTrue (here o) ↔ IsReached (G.graph_of (G.state machine.old)) o) → OnOk result (visits.new ≤ visits.old + G.flush_visits_of here (G.state machine.old)) }
-    ensures graph { OnOk result (Settles true (G.graph_of (G.state machine.old)) (G.graph_of (G.state machine.new))) }
-    ensures clock { OnOk result (G.clock_of (G.state machine.new) ≡ G.clock_of (G.state machine.old)) }
+    ensures lines { (deaths : List (ℕ × ℕ)) →
+        AreListed (G.graph_of (G.state machine.old)) (slice_index stamps.now) deaths →
+        OnOk result (buffer.new.items ≡ buffer.old.items ++ text (flush_lines e deaths)) }
+    ensures state { (here : ℕ → Bool) →
+        ((o : ℕ) → IsTrue (here o) ↔ IsReached (G.graph_of (G.state machine.old)) o) →
+        OnOk result (G.state machine.new ≡ G.flushed_of here (G.state machine.old)) }
+    ensures visits { (here : ℕ → Bool) →
+        ((o : ℕ) → IsTrue (here o) ↔ IsReached (G.graph_of (G.state machine.old)) o) →
+        OnOk result (visits.new ≤ visits.old + G.flush_visits_of here (G.state machine.old)) }
+    ensures graph { OnOk result
+        (Settles true (G.graph_of (G.state machine.old)) (G.graph_of (G.state machine.new))) }
+    ensures clock { OnOk result
+        (G.clock_of (G.state machine.new) ≡ G.clock_of (G.state machine.old)) }
     ensures sound { OnOk result (G.is_sound code.now (G.state machine.new)) }
     ensures room { OnOk result (G.has_places room.new (G.graph_of (G.state machine.new)).made) }
 {
@@ -76,11 +85,19 @@ pub fn settle<G: StampedGuest, L: Ledger>(
     requires sound { G.is_sound code.now (G.state machine.old) }
     requires stamps { HasStamps (G.graph_of (G.state machine.old)) stamps.now }
     requires room { G.has_places room.old (G.graph_of (G.state machine.old)).made }
-    ensures lines { (deaths : List (ℕ × ℕ)) → AreListed (G.graph_of (G.state machine.old)) (slice_index stamps.now) deaths → OnOk result (buffer.new.items ≡ buffer.old.items ++ text (due_lines due (flush_lines e deaths))) }
-    ensures state { (here : ℕ → Bool) → ((o : ℕ) → IsTrue (here o) ↔ IsReached (G.graph_of (G.state machine.old)) o) → OnOk result (G.state machine.new ≡ due_state due (G.flushed_of here (G.state machine.old)) (G.state machine.old)) }
-    ensures visits { (here : ℕ → Bool) → ((o : ℕ) → IsTrue (here o) ↔ IsReached (G.graph_of (G.state machine.old)) o) → OnOk result (visits.new ≤ visits.old + due_visits due (G.flush_visits_of here (G.state machine.old))) }
-    ensures graph { OnOk result (Settles due (G.graph_of (G.state machine.old)) (G.graph_of (G.state machine.new))) }
-    ensures clock { OnOk result (G.clock_of (G.state machine.new) ≡ G.clock_of (G.state machine.old)) }
+    ensures lines { (deaths : List (ℕ × ℕ)) →
+        AreListed (G.graph_of (G.state machine.old)) (slice_index stamps.now) deaths → OnOk result
+        (buffer.new.items ≡ buffer.old.items ++ text (due_lines due (flush_lines e deaths))) }
+    ensures state { (here : ℕ → Bool) → ((o : ℕ) → IsTrue (here o)
+        ↔ IsReached (G.graph_of (G.state machine.old)) o) → OnOk result (G.state machine.new
+        ≡ due_state due (G.flushed_of here (G.state machine.old)) (G.state machine.old)) }
+    ensures visits { (here : ℕ → Bool) →
+        ((o : ℕ) → IsTrue (here o) ↔ IsReached (G.graph_of (G.state machine.old)) o) → OnOk result
+        (visits.new ≤ visits.old + due_visits due (G.flush_visits_of here (G.state machine.old))) }
+    ensures graph { OnOk result
+        (Settles due (G.graph_of (G.state machine.old)) (G.graph_of (G.state machine.new))) }
+    ensures clock { OnOk result
+        (G.clock_of (G.state machine.new) ≡ G.clock_of (G.state machine.old)) }
     ensures sound { OnOk result (G.is_sound code.now (G.state machine.new)) }
     ensures room { OnOk result (G.has_places room.new (G.graph_of (G.state machine.new)).made) }
 {
@@ -105,8 +122,12 @@ pub fn conclude<G: StampedGuest, L: Ledger>(
     requires sound { G.is_sound code.now (G.state machine.old) }
     requires stamps { HasStamps (G.graph_of (G.state machine.old)) stamps.now }
     requires room { G.has_places room.old (G.graph_of (G.state machine.old)).made }
-    ensures visits { (here : ℕ → Bool) → (due ≡ false → (o : ℕ) → IsTrue (here o) ↔ IsReached (G.graph_of (G.state machine.old)) o) → OnOk result (visits.new ≤ visits.old + last_visits due (G.flush_visits_of here (G.state machine.old))) }
-    ensures lines { (deaths : List (ℕ × ℕ)) → (due ≡ false → AreListed (G.graph_of (G.state machine.old)) (slice_index stamps.now) deaths) → OnOk result (buffer.new.items ≡ buffer.old.items ++ text (last_lines due end.now e (flush_lines e deaths))) }
+    ensures visits { (here : ℕ → Bool) → (due ≡ false →
+        (o : ℕ) → IsTrue (here o) ↔ IsReached (G.graph_of (G.state machine.old)) o) → OnOk result
+        (visits.new ≤ visits.old + last_visits due (G.flush_visits_of here (G.state machine.old))) }
+    ensures lines { (deaths : List (ℕ × ℕ)) → (due ≡ false → AreListed (G.graph_of
+        (G.state machine.old)) (slice_index stamps.now) deaths) → OnOk result (buffer.new.items
+        ≡ buffer.old.items ++ text (last_lines due end.now e (flush_lines e deaths))) }
 {
     if !due {
         report(code, e, machine, stamps, room, buffer, visits)?;

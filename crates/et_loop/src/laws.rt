@@ -9,14 +9,15 @@ ghost use Rattle.et_loop.specs.Kept.{IsKept};
 
 /// What is reached is the same in both.
 pub fn reached()
-    ensures { (g whole : Graph) → IsKept g whole → IsSoundGraph whole → (o : ℕ) → IsReached g o ↔ IsReached whole o }
+    ensures { (g whole : Graph) →
+        IsKept g whole → IsSoundGraph whole → (o : ℕ) → IsReached g o ↔ IsReached whole o }
 {}
 
 /// A step that is legal over what is kept is one over the whole graph.
 pub fn step()
     ensures { (g whole h : Graph) (fresh lost : List ℕ) → IsKept g whole → IsSoundGraph whole →
-        IsLegalStep g (record { after = h; fresh = fresh; lost = lost }) →
-        (after : Graph) × IsKept h after × IsLegalStep whole (record { after = after; fresh = fresh; lost = lost }) }
+        IsLegalStep g (record { after = h; fresh = fresh; lost = lost }) → (after : Graph) × IsKept
+        h after × IsLegalStep whole (record { after = after; fresh = fresh; lost = lost }) }
 {}
 
 /// A flush of what is kept is one of the whole graph.

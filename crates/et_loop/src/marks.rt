@@ -12,7 +12,8 @@ fn stamp_each(stamps: &mut Stamps, objects: &[ObjectId], event: u64)
     requires event { event ≤ 2 ^ 40 }
     ensures long { length stamps.new ≡ length stamps.old }
     ensures each { (o : ℕ) → Contains objects.now o → slice_index stamps.new o ≡ event }
-    ensures others { (o : ℕ) → ¬ Contains objects.now o → slice_index stamps.new o ≡ slice_index stamps.old o }
+    ensures others { (o : ℕ) →
+        ¬ Contains objects.now o → slice_index stamps.new o ≡ slice_index stamps.old o }
 {
     'each: for object in objects {
         stamps.set(*object, event);
@@ -26,7 +27,8 @@ fn stamp_new(stamps: &mut Stamps, before: u32, made: u32, event: u64)
     requires event { event ≤ 2 ^ 40 }
     ensures long { length stamps.new ≡ length stamps.old }
     ensures each { (o : ℕ) → before < o → o ≤ made → slice_index stamps.new o ≡ event }
-    ensures others { (o : ℕ) → (o ≤ before) ⊎ (made < o) → slice_index stamps.new o ≡ slice_index stamps.old o }
+    ensures others { (o : ℕ) →
+        (o ≤ before) ⊎ (made < o) → slice_index stamps.new o ≡ slice_index stamps.old o }
 {
     'new: for number in before..made {
         stamps.set(ObjectId::new(number + 1), event);
@@ -44,8 +46,10 @@ pub fn restamp<G: StampedGuest>(
 ) -> Result<(), NoMemory>
     requires clock { e < 2 ^ 40 }
     requires more { before ≤ (G.graph_of (G.state machine.now)).made }
-    requires lost { (o : ℕ) → Contains (G.lost_of machine.now) o → o ≤ (G.graph_of (G.state machine.now)).made }
-    ensures stamps { OnOk result (Restamps e before (G.graph_of (G.state machine.now)).made (G.lost_of machine.now) (slice_index stamps.old) (slice_index stamps.new)) }
+    requires lost { (o : ℕ) →
+        Contains (G.lost_of machine.now) o → o ≤ (G.graph_of (G.state machine.now)).made }
+    ensures stamps { OnOk result (Restamps e before (G.graph_of (G.state machine.now)).made
+        (G.lost_of machine.now) (slice_index stamps.old) (slice_index stamps.new)) }
     ensures places { OnOk result (HasStamps (G.graph_of (G.state machine.now)) stamps.new) }
     ensures room { OnOk result (G.has_places room.new (G.graph_of (G.state machine.now)).made) }
 {

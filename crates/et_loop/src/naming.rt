@@ -48,7 +48,8 @@ fn write_class<P: Program>(
     buffer: &mut Vec<u8>,
 ) -> Result<(), NoMemory>
     requires { class < (P.names code.now).class_count }
-    ensures { OnOk result (buffer.new.items ≡ buffer.old.items ++ text (new_class is_new number ((P.names code.now).class_name class))) }
+    ensures { OnOk result (buffer.new.items ≡ buffer.old.items
+        ++ text (new_class is_new number ((P.names code.now).class_name class))) }
 {
     if !is_new {
         return Ok(());
@@ -68,7 +69,8 @@ fn write_method<P: Program>(
     buffer: &mut Vec<u8>,
 ) -> Result<(), NoMemory>
     requires { method < (P.names code.now).method_count }
-    ensures { OnOk result (buffer.new.items ≡ buffer.old.items ++ text (new_method is_new number class (P.names code.now) method)) }
+    ensures { OnOk result (buffer.new.items
+        ≡ buffer.old.items ++ text (new_method is_new number class (P.names code.now) method)) }
 {
     if !is_new {
         return Ok(());
@@ -105,8 +107,10 @@ impl Numbering {
     ) -> Result<u32, NoMemory>
         requires { class < (P.names code.now).class_count }
         ensures number { IfOk result (λ n. n ≡ number_in self.new.classes class) }
-        ensures mentions { OnOk result (self.new ≡ record self.old { classes = with_new self.old.classes class }) }
-        ensures lines { OnOk result (buffer.new.items ≡ buffer.old.items ++ text (class_line (P.names code.now) self.old.classes class)) }
+        ensures mentions { OnOk result
+            (self.new ≡ record self.old { classes = with_new self.old.classes class }) }
+        ensures lines { OnOk result (buffer.new.items
+            ≡ buffer.old.items ++ text (class_line (P.names code.now) self.old.classes class)) }
     {
         let (place, is_new) = self.classes.insert_full(class)?;
         let number = number_at(place)?;
@@ -124,8 +128,10 @@ impl Numbering {
         requires method { method < (P.names code.now).method_count }
         requires class { (P.names code.now).method_class method < (P.names code.now).class_count }
         ensures number { IfOk result (λ n. n ≡ number_in self.new.methods method) }
-        ensures mentions { OnOk result (self.new ≡ mentions_method (P.names code.now) self.old method) }
-        ensures lines { OnOk result (buffer.new.items ≡ buffer.old.items ++ text (method_lines (P.names code.now) self.old method)) }
+        ensures mentions { OnOk result
+            (self.new ≡ mentions_method (P.names code.now) self.old method) }
+        ensures lines { OnOk result (buffer.new.items
+            ≡ buffer.old.items ++ text (method_lines (P.names code.now) self.old method)) }
     {
         let class = self.mention_class(code, code.method_class(method), buffer)?;
         let (place, is_new) = self.methods.insert_full(method)?;
@@ -142,8 +148,10 @@ impl Numbering {
         buffer: &mut Vec<u8>,
     ) -> Result<(), NoMemory>
         requires { IsNamed (P.names code.now) entry }
-        ensures mentions { OnOk result (self.new ≡ with_mentions (P.names code.now) self.old entry) }
-        ensures lines { OnOk result (buffer.new.items ≡ buffer.old.items ++ text (record_lines (P.names code.now) self.old entry)) }
+        ensures mentions { OnOk result
+            (self.new ≡ with_mentions (P.names code.now) self.old entry) }
+        ensures lines { OnOk result (buffer.new.items
+            ≡ buffer.old.items ++ text (record_lines (P.names code.now) self.old entry)) }
     {
         let line = match entry {
             Record::Alloc {
@@ -219,8 +227,10 @@ impl Numbering {
         buffer: &mut Vec<u8>,
     ) -> Result<(), NoMemory>
         requires { All (IsNamed (P.names code.now)) records.now }
-        ensures mentions { OnOk result (self.new ≡ mentions_after (P.names code.now) self.old records.now) }
-        ensures lines { OnOk result (buffer.new.items ≡ buffer.old.items ++ text (lines_of (P.names code.now) self.old records.now)) }
+        ensures mentions { OnOk result
+            (self.new ≡ mentions_after (P.names code.now) self.old records.now) }
+        ensures lines { OnOk result (buffer.new.items
+            ≡ buffer.old.items ++ text (lines_of (P.names code.now) self.old records.now)) }
     {
         'records: for entry in records {
             self.write_record(code, *entry, buffer)?;

@@ -100,11 +100,17 @@ pub trait StampedGuest {
         requires sound { is_sound code.now (state self.old) }
         requires stamps { (graph_of (state self.old)).made < length stamps.now }
         requires room { has_places room.old (graph_of (state self.old)).made }
-        ensures deaths { OnOk result (AreListed (graph_of (state self.old)) (slice_index stamps.now) (deaths_of room.new)) }
+        ensures deaths { OnOk result
+            (AreListed (graph_of (state self.old)) (slice_index stamps.now) (deaths_of room.new)) }
         ensures room { OnOk result (has_places room.new (graph_of (state self.old)).made) }
-        ensures state { (here : ℕ → Bool) → ((o : ℕ) → IsTrue (here o) ↔ IsReached (graph_of (state self.old)) o) → OnOk result (state self.new ≡ flushed_of here (state self.old)) }
-        ensures visits { (here : ℕ → Bool) → ((o : ℕ) → IsTrue (here o) ↔ IsReached (graph_of (state self.old)) o) → OnOk result (visits.new ≤ visits.old + flush_visits_of here (state self.old)) }
-        ensures graph { OnOk result (IsCleared (graph_of (state self.old)) (graph_of (state self.new))) }
+        ensures state { (here : ℕ → Bool) →
+            ((o : ℕ) → IsTrue (here o) ↔ IsReached (graph_of (state self.old)) o) →
+            OnOk result (state self.new ≡ flushed_of here (state self.old)) }
+        ensures visits { (here : ℕ → Bool) →
+            ((o : ℕ) → IsTrue (here o) ↔ IsReached (graph_of (state self.old)) o) →
+            OnOk result (visits.new ≤ visits.old + flush_visits_of here (state self.old)) }
+        ensures graph { OnOk result
+            (IsCleared (graph_of (state self.old)) (graph_of (state self.new))) }
         ensures clock { OnOk result (clock_of (state self.new) ≡ clock_of (state self.old)) }
         ensures sound { OnOk result (is_sound code.now (state self.new)) };
 
@@ -120,10 +126,15 @@ pub trait StampedGuest {
         requires clock { clock_of (state self.old) < 2 ^ 40 }
         requires sound { is_sound code.now (state self.old) }
         requires thread { Contains (unended_of (state self.old)) thread }
-        ensures answers { IfOk result (λ end. Answers (event_of code.now (state self.old) thread) end (state self.old) (state self.new) out.old out.new) }
-        ensures step { IfOk result (λ end. StepsWhereDone end (graph_of (state self.old)) (graph_of (state self.new)) (lost_of self.new)) }
-        ensures visits { IfOk result (λ end. visits.new ≤ visits.old + 8 + ((graph_of (state self.new)).made - (graph_of (state self.old)).made)) }
+        ensures answers { IfOk result (λ end. Answers (event_of code.now (state self.old) thread)
+            end (state self.old) (state self.new) out.old out.new) }
+        ensures step { IfOk result (λ end. StepsWhereDone end
+            (graph_of (state self.old)) (graph_of (state self.new)) (lost_of self.new)) }
+        ensures visits { IfOk result (λ end. visits.new ≤ visits.old
+            + 8 + ((graph_of (state self.new)).made - (graph_of (state self.old)).made)) }
         ensures sound { OnOk result (is_sound code.now (state self.new)) }
-        ensures clock { IfOk result (λ end. TicksWhereDone end (clock_of (state self.old)) (clock_of (state self.new))) }
-        ensures named { OnOk result (All (IsNamed (Self.Code.names code.now)) out.old → All (IsNamed (Self.Code.names code.now)) out.new) };
+        ensures clock { IfOk result
+            (λ end. TicksWhereDone end (clock_of (state self.old)) (clock_of (state self.new))) }
+        ensures named { OnOk result (All (IsNamed (Self.Code.names code.now)) out.old →
+            All (IsNamed (Self.Code.names code.now)) out.new) };
 }

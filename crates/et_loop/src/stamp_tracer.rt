@@ -53,12 +53,17 @@ fn step<G: StampedGuest, L: Ledger>(
     requires limit { e ≤ options.now.limit }
     requires clock { G.clock_of (G.state machine.old) ≡ e }
     requires sound { G.is_sound code.now (G.state machine.old) }
-    requires made { (o : ℕ) → IsReached (G.graph_of (G.state machine.old)) o → IsMade (G.graph_of (G.state machine.old)) o }
+    requires made { (o : ℕ) → IsReached (G.graph_of (G.state machine.old)) o →
+        IsMade (G.graph_of (G.state machine.old)) o }
     requires stamps { HasStamps (G.graph_of (G.state machine.old)) stamps.old }
     requires room { G.has_places room.old (G.graph_of (G.state machine.old)).made }
-    ensures goes { IfOk result (λ end. Goes (setting_of (G.event_of code.now) G.unended_of G.graph_of G.flushed_of (G.Code.names code.now) options.now) e (G.state machine.old) numbering.old (G.state machine.new) numbering.new buffer.old.items buffer.new.items end) }
-    ensures visits { IfOk result (λ end. visits.new ≤ visits.old + 8 + ((G.graph_of (G.state machine.new)).made - (G.graph_of (G.state machine.old)).made)) }
-    ensures stamped { IfOk result (λ end. Stamped end e (G.graph_of (G.state machine.old)) (G.graph_of (G.state machine.new)) stamps.old stamps.new) }
+    ensures goes { IfOk result (λ end. Goes (setting_of (G.event_of code.now) G.unended_of
+        G.graph_of G.flushed_of (G.Code.names code.now) options.now) e (G.state machine.old)
+        numbering.old (G.state machine.new) numbering.new buffer.old.items buffer.new.items end) }
+    ensures visits { IfOk result (λ end. visits.new ≤ visits.old
+        + 8 + ((G.graph_of (G.state machine.new)).made - (G.graph_of (G.state machine.old)).made)) }
+    ensures stamped { IfOk result (λ end. Stamped end e (G.graph_of (G.state machine.old))
+        (G.graph_of (G.state machine.new)) stamps.old stamps.new) }
     ensures stamps { OnOk result (HasStamps (G.graph_of (G.state machine.new)) stamps.new) }
     ensures room { OnOk result (G.has_places room.new (G.graph_of (G.state machine.new)).made) }
     ensures sound { OnOk result (G.is_sound code.now (G.state machine.new)) }
@@ -99,8 +104,10 @@ impl Tracer {
         requires { All (IsNamed (P.names code.now)) made.now }
         ensures stamps { IfOk result (λ t. (o : ℕ) → slice_index t.stamps o ≡ 0) }
         ensures places { IfOk result (λ t. objects < length t.stamps) }
-        ensures mentions { IfOk result (λ t. t.numbering ≡ mentions_after (P.names code.now) nothing_mentioned made.now) }
-        ensures lines { IfOk result (λ t. t.buffer.items ≡ text (Header 1 interval ∷ lines_of (P.names code.now) nothing_mentioned made.now)) }
+        ensures mentions { IfOk result
+            (λ t. t.numbering ≡ mentions_after (P.names code.now) nothing_mentioned made.now) }
+        ensures lines { IfOk result (λ t. t.buffer.items
+            ≡ text (Header 1 interval ∷ lines_of (P.names code.now) nothing_mentioned made.now)) }
     {
         let mut buffer = Vec::new(alloc);
         let line = TraceLine::Header {
@@ -135,17 +142,32 @@ impl Tracer {
         requires limit { e ≤ options.now.limit }
         requires clock { G.clock_of (G.state machine.old) ≡ e }
         requires sound { G.is_sound code.now (G.state machine.old) }
-        requires made { (o : ℕ) → IsReached (G.graph_of (G.state machine.old)) o → IsMade (G.graph_of (G.state machine.old)) o }
+        requires made { (o : ℕ) → IsReached (G.graph_of (G.state machine.old)) o →
+            IsMade (G.graph_of (G.state machine.old)) o }
         requires stamps { HasStamps (G.graph_of (G.state machine.old)) self.old.stamps }
         requires room { G.has_places room.old (G.graph_of (G.state machine.old)).made }
-        ensures turns { (reached : Graph → ℕ → Bool) → Decides reached → (last : ℕ → ℕ) →
-            AreListed (G.graph_of (G.state machine.old)) (slice_index self.old.stamps) (let g = G.graph_of (G.state machine.old) in deaths_to (reached g) (is_gone g) (noted (reached g) last e) g.made) →
-            IfOk result (λ end. Turns reached (setting_of (G.event_of code.now) G.unended_of G.graph_of G.flushed_of (G.Code.names code.now) options.now) e (G.state machine.old) last self.old.numbering (G.state machine.new) (noted (reached (G.graph_of (G.state machine.old))) last e) self.new.numbering self.old.buffer.items self.new.buffer.items end) }
-        ensures visits { (here : ℕ → Bool) → ((o : ℕ) → IsTrue (here o) ↔ IsReached (G.graph_of (G.state machine.old)) o) → IfOk result (λ end. TurnVisits end (is_flush_point options.now.interval e) (G.flush_visits_of here (G.state machine.old)) (G.graph_of (G.state machine.old)).made (G.graph_of (G.state machine.new)).made visits.old visits.new) }
-        ensures passes { IfOk result (λ end. IfNone end (Passes (is_flush_point options.now.interval e) e (G.graph_of (G.state machine.old)) (G.graph_of (G.state machine.new)) (slice_index self.old.stamps) (slice_index self.new.stamps))) }
-        ensures stamps { IfOk result (λ end. IfNone end (HasStamps (G.graph_of (G.state machine.new)) self.new.stamps)) }
-        ensures room { IfOk result (λ end. IfNone end (G.has_places room.new (G.graph_of (G.state machine.new)).made)) }
-        ensures sound { IfOk result (λ end. IfNone end (G.is_sound code.now (G.state machine.new))) }
+        ensures turns { (reached : Graph → ℕ → Bool) →
+            Decides reached → (last : ℕ → ℕ) → AreListed (G.graph_of (G.state machine.old))
+            (slice_index self.old.stamps) (let g = G.graph_of (G.state machine.old) in deaths_to
+            (reached g) (is_gone g) (noted (reached g) last e) g.made) → IfOk result (λ end.
+            Turns reached (setting_of (G.event_of code.now) G.unended_of G.graph_of G.flushed_of
+            (G.Code.names code.now) options.now) e (G.state machine.old) last self.old.numbering
+            (G.state machine.new) (noted (reached (G.graph_of (G.state machine.old))) last e)
+            self.new.numbering self.old.buffer.items self.new.buffer.items end) }
+        ensures visits { (here : ℕ → Bool) →
+            ((o : ℕ) → IsTrue (here o) ↔ IsReached (G.graph_of (G.state machine.old)) o) →
+            IfOk result (λ end. TurnVisits end (is_flush_point options.now.interval e)
+            (G.flush_visits_of here (G.state machine.old)) (G.graph_of (G.state machine.old)).made
+            (G.graph_of (G.state machine.new)).made visits.old visits.new) }
+        ensures passes { IfOk result (λ end. IfNone end (Passes
+            (is_flush_point options.now.interval e) e (G.graph_of (G.state machine.old)) (G.graph_of
+            (G.state machine.new)) (slice_index self.old.stamps) (slice_index self.new.stamps))) }
+        ensures stamps { IfOk result
+            (λ end. IfNone end (HasStamps (G.graph_of (G.state machine.new)) self.new.stamps)) }
+        ensures room { IfOk result
+            (λ end. IfNone end (G.has_places room.new (G.graph_of (G.state machine.new)).made)) }
+        ensures sound { IfOk result
+            (λ end. IfNone end (G.is_sound code.now (G.state machine.new))) }
         ensures limit { IfOk result (λ end. IfNone end (e < options.now.limit)) }
         ensures clock { IfOk result (λ end. IfNone end (G.clock_of (G.state machine.new) ≡ e + 1)) }
     {

@@ -44,7 +44,8 @@ impl HeapModel for Generational {
 
     ghost is_new = { λ m. both_of m.heap ≡ new_both };
 
-    ghost stands_for = { λ m policy objects past. StandsAs m.policy policy (both_of m.heap) objects past };
+    ghost stands_for = { λ m policy objects past.
+        StandsAs m.policy policy (both_of m.heap) objects past };
 
     fn kind(&self) -> Kind {
         Kind::Generational

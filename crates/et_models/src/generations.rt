@@ -97,7 +97,8 @@ impl Generations {
 
     /// Drops what is dead from the old space.
     fn sweep(&mut self)
-        requires bytes { sum_by (size_at self.old.sizes.items) self.old.space.items ≤ self.old.space_bytes }
+        requires bytes { sum_by (size_at self.old.sizes.items) self.old.space.items
+            ≤ self.old.space_bytes }
         requires major { self.old.major + 1 < 2 ^ 64 }
         requires freed { self.old.freed + self.old.space_bytes < 2 ^ 64 }
         ensures { both_of self.new ≡ swept (both_of self.old) }
@@ -112,9 +113,11 @@ impl Generations {
 
     /// Promotes what a minor collection finds, and empties the nursery.
     fn promote(&mut self) -> Result<(), NoMemory>
-        requires bytes { sum_by (size_at self.old.sizes.items) self.old.nursery.items + self.old.space_bytes < 2 ^ 64 }
+        requires bytes { sum_by (size_at self.old.sizes.items) self.old.nursery.items
+            + self.old.space_bytes < 2 ^ 64 }
         requires minor { self.old.minor + 1 < 2 ^ 64 }
-        requires kept { self.old.kept + sum_by (size_at self.old.sizes.items) self.old.nursery.items < 2 ^ 128 }
+        requires kept { self.old.kept + sum_by (size_at self.old.sizes.items) self.old.nursery.items
+            < 2 ^ 128 }
         ensures { OnOk result (Promotes (both_of self.old) (both_of self.new)) }
     {
         let mut work = Vec::new(self.alloc);
@@ -177,7 +180,8 @@ impl Generations {
 
     /// A minor collection, and a major one where the old space is too full then.
     fn collect(&mut self) -> Result<(), NoMemory>
-        requires ready { (objects : ℕ) × (past : List Item) × IsStable (both_of self.old) objects past }
+        requires ready { (objects : ℕ)
+            × (past : List Item) × IsStable (both_of self.old) objects past }
         ensures { OnOk result (Collects (both_of self.old) (both_of self.new)) }
     {
         self.promote()?;
@@ -190,10 +194,12 @@ impl Generations {
 
     /// An object that fits into an empty nursery comes.
     fn come_young(&mut self, event: u64, object: u32, size: u32) -> Result<(), NoMemory>
-        requires ready { (objects : ℕ) × (past : List Item) × IsStable (both_of self.old) objects past }
+        requires ready { (objects : ℕ)
+            × (past : List Item) × IsStable (both_of self.old) objects past }
         requires small { size ≤ 2 ^ 30 }
         requires fits { size ≤ self.old.first }
-        ensures { OnOk result (Steps (Alloc event object size) (both_of self.old) (both_of self.new)) }
+        ensures { OnOk result
+            (Steps (Alloc event object size) (both_of self.old) (both_of self.new)) }
     {
         if self.nursery_bytes + u64::from(size) <= self.first {
             self.place_young(object, size)?;
@@ -210,10 +216,12 @@ impl Generations {
 
     /// An object that is larger than the nursery comes.
     fn come_old(&mut self, event: u64, object: u32, size: u32) -> Result<(), NoMemory>
-        requires ready { (objects : ℕ) × (past : List Item) × IsStable (both_of self.old) objects past }
+        requires ready { (objects : ℕ)
+            × (past : List Item) × IsStable (both_of self.old) objects past }
         requires small { size ≤ 2 ^ 30 }
         requires large { self.old.first < size }
-        ensures { OnOk result (Steps (Alloc event object size) (both_of self.old) (both_of self.new)) }
+        ensures { OnOk result
+            (Steps (Alloc event object size) (both_of self.old) (both_of self.new)) }
     {
         let bytes = u64::from(size);
         if self.space_bytes + bytes <= self.second {
@@ -247,8 +255,10 @@ impl Generations {
 
     /// An object is written to a slot. What is written to an object that isn't made yet is ignored.
     fn write(&mut self, object: u32, slot: u32, new: u32) -> Result<(), NoMemory>
-        requires ready { (objects : ℕ) × (past : List Item) × IsStable (both_of self.old) objects past }
-        ensures { OnOk result ((event : ℕ) → Steps (Write event object slot new) (both_of self.old) (both_of self.new)) }
+        requires ready { (objects : ℕ)
+            × (past : List Item) × IsStable (both_of self.old) objects past }
+        ensures { OnOk result ((event : ℕ) →
+            Steps (Write event object slot new) (both_of self.old) (both_of self.new)) }
     {
         if !is_sized(&self.sizes, object) {
             return Ok(());
@@ -284,7 +294,8 @@ impl Generations {
 
     /// Takes an item. Where there is no room for its object, `exhausted` has the event.
     pub fn take(&mut self, item: &Item) -> Result<(), NoMemory>
-        requires ready { (objects : ℕ) × (past : List Item) × IsStable (both_of self.old) objects past × MayCome objects past item.now }
+        requires ready { (objects : ℕ) × (past : List Item)
+            × IsStable (both_of self.old) objects past × MayCome objects past item.now }
         ensures { OnOk result (Steps item.now (both_of self.old) (both_of self.new)) }
     {
         match item {

@@ -12,7 +12,8 @@ use std::collections::BTreeMap;
 
 /// Marks an object of the nursery, and lets it be visited.
 fn mark(object: u32, places: &mut [Place], work: &mut Vec<u32>) -> Result<(), NoMemory>
-    ensures { OnOk result (Marks (λ o. o ≡ object) places.old work.old.items places.new work.new.items × AllMarked (λ o. o ≡ object) places.new) }
+    ensures { OnOk result (Marks (λ o. o ≡ object) places.old
+        work.old.items places.new work.new.items × AllMarked (λ o. o ≡ object) places.new) }
 {
     let Place::Nursery = place_at(places, object) else {
         return Ok(());
@@ -29,7 +30,8 @@ fn seed(
     places: &mut [Place],
     work: &mut Vec<u32>,
 ) -> Result<(), NoMemory>
-    ensures { OnOk result (Marks (IsSeed nursery.now dead.now) places.old work.old.items places.new work.new.items × AllMarked (IsSeed nursery.now dead.now) places.new) }
+    ensures { OnOk result (Marks (IsSeed nursery.now dead.now) places.old work.old.items
+        places.new work.new.items × AllMarked (IsSeed nursery.now dead.now) places.new) }
 {
     for object in nursery {
         if !flag_at(dead, *object) {
@@ -45,7 +47,8 @@ fn visit(
     places: &mut [Place],
     work: &mut Vec<u32>,
 ) -> Result<(), NoMemory>
-    ensures { OnOk result (Marks (Refers slots.now) places.old work.old.items places.new work.new.items × AllMarked (Refers slots.now) places.new) }
+    ensures { OnOk result (Marks (Refers slots.now) places.old
+        work.old.items places.new work.new.items × AllMarked (Refers slots.now) places.new) }
 {
     for (_slot, target) in slots {
         mark(*target, places, work)?;
@@ -59,8 +62,9 @@ fn follow(
     places: &mut [Place],
     work: &mut Vec<u32>,
 ) -> Result<(), NoMemory>
-    ensures { OnOk result ((g : Graph) (space : List ℕ) (start : List Place) → Draws g slots.now space start →
-        IsGoing g slots.now space start places.old work.old.items → IsGoing g slots.now space start places.new []) }
+    ensures { OnOk result ((g : Graph) (space : List ℕ) (start : List Place) →
+        Draws g slots.now space start → IsGoing g slots.now space start places.old work.old.items →
+        IsGoing g slots.now space start places.new []) }
 {
     while let Some(object) = work.pop() {
         if (object as usize) < slots.len() {
@@ -72,7 +76,8 @@ fn follow(
 
 /// Lists those of the objects that are in the old space.
 fn push_old(objects: &[u32], places: &[Place], list: &mut Vec<u32>) -> Result<(), NoMemory>
-    ensures { OnOk result (list.new.items ≡ list.old.items ++ filter (λ o. is_old (place_at places.now o)) objects.now) }
+    ensures { OnOk result (list.new.items
+        ≡ list.old.items ++ filter (λ o. is_old (place_at places.now o)) objects.now) }
 {
     for object in objects {
         if let Place::Old = place_at(places, *object) {
@@ -93,7 +98,8 @@ pub fn search_nursery(
     places: &mut [Place],
     work: &mut Vec<u32>,
 ) -> Result<(), NoMemory>
-    ensures { OnOk result ((g : Graph) (space : List ℕ) → Begins g nursery.now space (remembered.now ++ early.now) dead.now slots.now places.old → IsFound g places.old places.new) }
+    ensures { OnOk result ((g : Graph) (space : List ℕ) → Begins g nursery.now space (remembered.now
+        ++ early.now) dead.now slots.now places.old → IsFound g places.old places.new) }
 {
     work.clear();
     push_old(remembered, places, work)?;
@@ -105,7 +111,8 @@ pub fn search_nursery(
 
 /// Lists the marked objects.
 pub fn push_kept(objects: &[u32], places: &[Place], kept: &mut Vec<u32>) -> Result<(), NoMemory>
-    ensures { OnOk result (kept.new.items ≡ kept.old.items ++ filter (λ o. is_kept (place_at places.now o)) objects.now) }
+    ensures { OnOk result (kept.new.items
+        ≡ kept.old.items ++ filter (λ o. is_kept (place_at places.now o)) objects.now) }
 {
     for object in objects {
         if let Place::Kept = place_at(places, *object) {

@@ -44,7 +44,8 @@ impl HeapModel for SemiSpace {
 
     ghost is_new = { λ m. view_of m.space ≡ new_view };
 
-    ghost stands_for = { λ m policy objects past. Accounts m.policy policy own_kind (policy.first / 2) m.space objects past };
+    ghost stands_for = { λ m policy objects past.
+        Accounts m.policy policy own_kind (policy.first / 2) m.space objects past };
 
     fn kind(&self) -> Kind {
         Kind::SemiSpace
@@ -58,12 +59,18 @@ impl HeapModel for SemiSpace {
 
     /// Takes an item, and no memory.
     fn feed(&mut self, item: &Item) -> Fed
-        requires stands { (policy : Policy) × (objects : ℕ) × (past : List Item) × ⟦<SemiSpace as HeapModel>⟧.stands_for self.old policy objects past × HasRoom policy past × MayCome objects past item.now }
+        requires stands { (policy : Policy) × (objects : ℕ) × (past : List Item)
+            × ⟦<SemiSpace as HeapModel>⟧.stands_for self.old policy objects past
+            × HasRoom policy past × MayCome objects past item.now }
         ensures taken { (policy : Policy) (objects : ℕ) (past : List Item) →
-            ⟦<SemiSpace as HeapModel>⟧.stands_for self.old policy objects past → OnTaken result (⟦<SemiSpace as HeapModel>⟧.stands_for self.new policy objects (item.now ∷ past)) }
-        ensures exhausted { (reached : Graph → ℕ → Bool) → Decides reached → (policy : Policy) (objects : ℕ) (past : List Item) →
-            ⟦<SemiSpace as HeapModel>⟧.stands_for self.old policy objects past → TellsExhausted result (is_exhausted reached policy (item.now ∷ past)) }
-        ensures kind { ⟦<SemiSpace as HeapModel>⟧.kind_of self.new ≡ ⟦<SemiSpace as HeapModel>⟧.kind_of self.old }
+            ⟦<SemiSpace as HeapModel>⟧.stands_for self.old policy objects past → OnTaken result
+            (⟦<SemiSpace as HeapModel>⟧.stands_for self.new policy objects (item.now ∷ past)) }
+        ensures exhausted { (reached : Graph → ℕ → Bool) →
+            Decides reached → (policy : Policy) (objects : ℕ) (past : List Item) →
+            ⟦<SemiSpace as HeapModel>⟧.stands_for self.old policy objects past →
+            TellsExhausted result (is_exhausted reached policy (item.now ∷ past)) }
+        ensures kind { ⟦<SemiSpace as HeapModel>⟧.kind_of self.new
+            ≡ ⟦<SemiSpace as HeapModel>⟧.kind_of self.old }
         ensures no_memory { result ≢ Fed.NoMemory }
     {
         self.space.feed(item);

@@ -69,7 +69,8 @@ impl Space {
 
     /// Drops what is dead from the space.
     fn collect(&mut self)
-        requires bytes { sum_by (size_at self.old.sizes.items) self.old.held.items ≤ self.old.bytes }
+        requires bytes { sum_by (size_at self.old.sizes.items) self.old.held.items
+            ≤ self.old.bytes }
         requires major { self.old.major + 1 < 2 ^ 64 }
         requires kept { self.old.kept + self.old.bytes < 2 ^ 128 }
         requires freed { self.old.freed + self.old.bytes < 2 ^ 64 }
@@ -87,7 +88,8 @@ impl Space {
     /// Collects where so many bytes don't fit.
     fn make_room(&mut self, size: u64)
         requires fits { self.old.bytes + size < 2 ^ 64 }
-        requires bytes { sum_by (size_at self.old.sizes.items) self.old.held.items ≤ self.old.bytes }
+        requires bytes { sum_by (size_at self.old.sizes.items) self.old.held.items
+            ≤ self.old.bytes }
         requires major { self.old.major + 1 < 2 ^ 64 }
         requires kept { self.old.kept + self.old.bytes < 2 ^ 128 }
         requires freed { self.old.freed + self.old.bytes < 2 ^ 64 }
@@ -119,8 +121,10 @@ impl Space {
 
     /// Takes an item. Where there is no room for its object, `exhausted` has the event.
     pub fn feed(&mut self, item: &Item)
-        requires stands { (objects : ℕ) × (past : List Item) × IsSpaceOf self.old objects past × (self.old.exhausted ≡ None) × MayCome objects past item.now }
-        ensures stands { (objects : ℕ) (past : List Item) → IsSpaceOf self.old objects past → IsSpaceOf self.new objects (item.now ∷ past) }
+        requires stands { (objects : ℕ) × (past : List Item) × IsSpaceOf self.old objects past
+            × (self.old.exhausted ≡ None) × MayCome objects past item.now }
+        ensures stands { (objects : ℕ) (past : List Item) →
+            IsSpaceOf self.old objects past → IsSpaceOf self.new objects (item.now ∷ past) }
         ensures capacity { self.new.capacity ≡ self.old.capacity }
     {
         match item {

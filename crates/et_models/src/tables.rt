@@ -59,7 +59,8 @@ pub fn bytes_of(sizes: &[Option<u32>], objects: &[u32]) -> u64
 
 /// Keeps the objects that aren't flagged, in their order.
 pub fn keep_unflagged(objects: &mut Vec<u32>, flags: &[bool])
-    ensures items { objects.new.items ≡ filter (λ object. not (flag_at flags.now object)) objects.old.items }
+    ensures items { objects.new.items
+        ≡ filter (λ object. not (flag_at flags.now object)) objects.old.items }
     ensures room { vec_capacity objects.new ≡ vec_capacity objects.old }
 {
     objects.retain(|object| !flag_at(flags, *object));

@@ -64,7 +64,12 @@ pub(crate) fn jump(
     requires pc { (top machine.old.guest thread).pc < 2 ^ 31 }
     requires operands { taken ≤ length (top machine.old.guest thread).operands }
     requires few { taken ≤ 16 }
-    ensures { Led (kept_of machine.old) (record { heap = machine.old.heap; guest = with_top (ticked machine.old.guest) thread (jumped offset next (top machine.old.guest thread) (holds, drop taken (top machine.old.guest thread).operands)) }) machine.new }
+    ensures { Led (kept_of machine.old) (record {
+      heap = machine.old.heap;
+      guest = with_top
+          (ticked machine.old.guest) thread (jumped offset next (top machine.old.guest thread)
+          (holds, drop taken (top machine.old.guest thread).operands));
+    }) machine.new }
 {
     let pc = machine.pc(thread);
     let _depth = machine.depth(thread);
@@ -78,7 +83,9 @@ fn go(machine: &mut Machine, thread: ThreadId, offset: i32, next: u32) -> bool
     requires sound { IsSound (kept_of machine.old) }
     requires clock { machine.old.guest.clock < 2 ^ 40 }
     requires pc { (top machine.old.guest thread).pc < 2 ^ 31 }
-    ensures { StepsFrame (option_map (jumped offset next (top machine.old.guest thread)) (tested when.Always (top machine.old.guest thread).operands)) result thread machine.old machine.new }
+    ensures { StepsFrame (option_map (jumped offset next (top machine.old.guest thread))
+        (tested when.Always (top machine.old.guest thread).operands))
+        result thread machine.old machine.new }
 {
     jump(machine, thread, 0, true, offset, next);
     true
@@ -96,7 +103,9 @@ fn branch_with_zero(
     requires sound { IsSound (kept_of machine.old) }
     requires clock { machine.old.guest.clock < 2 ^ 40 }
     requires pc { (top machine.old.guest thread).pc < 2 ^ 31 }
-    ensures { StepsFrame (option_map (jumped offset next (top machine.old.guest thread)) (tested (when.WithZero comparison) (top machine.old.guest thread).operands)) result thread machine.old machine.new }
+    ensures { StepsFrame (option_map (jumped offset next (top machine.old.guest thread))
+        (tested (when.WithZero comparison) (top machine.old.guest thread).operands))
+        result thread machine.old machine.new }
 {
     let Some(a) = int_at(machine, thread, 0) else {
         return false;
@@ -118,7 +127,9 @@ fn branch_of_ints(
     requires sound { IsSound (kept_of machine.old) }
     requires clock { machine.old.guest.clock < 2 ^ 40 }
     requires pc { (top machine.old.guest thread).pc < 2 ^ 31 }
-    ensures { StepsFrame (option_map (jumped offset next (top machine.old.guest thread)) (tested (when.OfInts comparison) (top machine.old.guest thread).operands)) result thread machine.old machine.new }
+    ensures { StepsFrame (option_map (jumped offset next (top machine.old.guest thread))
+        (tested (when.OfInts comparison) (top machine.old.guest thread).operands))
+        result thread machine.old machine.new }
 {
     let Some(b) = int_at(machine, thread, 0) else {
         return false;
@@ -137,7 +148,9 @@ fn branch_of_same(machine: &mut Machine, thread: ThreadId, offset: i32, next: u3
     requires sound { IsSound (kept_of machine.old) }
     requires clock { machine.old.guest.clock < 2 ^ 40 }
     requires pc { (top machine.old.guest thread).pc < 2 ^ 31 }
-    ensures { StepsFrame (option_map (jumped offset next (top machine.old.guest thread)) (tested when.SameReference (top machine.old.guest thread).operands)) result thread machine.old machine.new }
+    ensures { StepsFrame (option_map (jumped offset next (top machine.old.guest thread))
+        (tested when.SameReference (top machine.old.guest thread).operands))
+        result thread machine.old machine.new }
 {
     let Some(b) = reference_at(machine, thread, 0) else {
         return false;
@@ -156,7 +169,9 @@ fn branch_of_other(machine: &mut Machine, thread: ThreadId, offset: i32, next: u
     requires sound { IsSound (kept_of machine.old) }
     requires clock { machine.old.guest.clock < 2 ^ 40 }
     requires pc { (top machine.old.guest thread).pc < 2 ^ 31 }
-    ensures { StepsFrame (option_map (jumped offset next (top machine.old.guest thread)) (tested when.OtherReference (top machine.old.guest thread).operands)) result thread machine.old machine.new }
+    ensures { StepsFrame (option_map (jumped offset next (top machine.old.guest thread))
+        (tested when.OtherReference (top machine.old.guest thread).operands))
+        result thread machine.old machine.new }
 {
     let Some(b) = reference_at(machine, thread, 0) else {
         return false;
@@ -175,7 +190,8 @@ fn branch_of_null(machine: &mut Machine, thread: ThreadId, offset: i32, next: u3
     requires sound { IsSound (kept_of machine.old) }
     requires clock { machine.old.guest.clock < 2 ^ 40 }
     requires pc { (top machine.old.guest thread).pc < 2 ^ 31 }
-    ensures { StepsFrame (option_map (jumped offset next (top machine.old.guest thread)) (tested when.Null (top machine.old.guest thread).operands)) result thread machine.old machine.new }
+    ensures { StepsFrame (option_map (jumped offset next (top machine.old.guest thread)) (tested
+        when.Null (top machine.old.guest thread).operands)) result thread machine.old machine.new }
 {
     let Some(a) = reference_at(machine, thread, 0) else {
         return false;
@@ -191,7 +207,9 @@ fn branch_of_object(machine: &mut Machine, thread: ThreadId, offset: i32, next: 
     requires sound { IsSound (kept_of machine.old) }
     requires clock { machine.old.guest.clock < 2 ^ 40 }
     requires pc { (top machine.old.guest thread).pc < 2 ^ 31 }
-    ensures { StepsFrame (option_map (jumped offset next (top machine.old.guest thread)) (tested when.NotNull (top machine.old.guest thread).operands)) result thread machine.old machine.new }
+    ensures { StepsFrame (option_map (jumped offset next (top machine.old.guest thread))
+        (tested when.NotNull (top machine.old.guest thread).operands))
+        result thread machine.old machine.new }
 {
     let Some(a) = reference_at(machine, thread, 0) else {
         return false;
@@ -213,7 +231,8 @@ pub(crate) fn branch(
     requires sound { IsSound (kept_of machine.old) }
     requires clock { machine.old.guest.clock < 2 ^ 40 }
     requires pc { (top machine.old.guest thread).pc < 2 ^ 31 }
-    ensures { StepsFrame (option_map (jumped offset next (top machine.old.guest thread)) (tested condition (top machine.old.guest thread).operands)) result thread machine.old machine.new }
+    ensures { StepsFrame (option_map (jumped offset next (top machine.old.guest thread)) (tested
+        condition (top machine.old.guest thread).operands)) result thread machine.old machine.new }
 {
     match condition {
         Condition::Always => go(machine, thread, offset, next),

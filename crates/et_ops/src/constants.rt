@@ -9,7 +9,7 @@ ghost use Rattle.et_state.specs.State.{kept_of};
 ghost use Rattle.et_state.specs.Words.{HasFrame, top};
 ghost use Rattle.et_state.specs.Sound.{IsSound};
 ghost use Rattle.et_event.specs.Answered.{StepsFrame, EventAnswers};
-ghost use Rattle.et_event.specs.Moments.{fits};
+ghost use Rattle.et_event.specs.Moments.{fits, moment};
 ghost use Rattle.et_event.specs.Plain.{put, on_frame, constant};
 ghost use Rattle.et_event.specs.Sites.{constant_at};
 
@@ -25,7 +25,8 @@ pub(crate) fn push_null(machine: &mut Machine, thread: ThreadId, next: u32) -> b
     requires frame { HasFrame machine.old.guest thread }
     requires sound { IsSound (kept_of machine.old) }
     requires clock { machine.old.guest.clock < 2 ^ 40 }
-    ensures { StepsFrame (put next (Null ∷ (top machine.old.guest thread).operands) (top machine.old.guest thread)) result thread machine.old machine.new }
+    ensures { StepsFrame (put next (Null ∷ (top machine.old.guest thread).operands)
+        (top machine.old.guest thread)) result thread machine.old machine.new }
 {
     replace(machine, thread, 0, &[Value::Null], next)
 }
@@ -35,7 +36,8 @@ pub(crate) fn push_int(machine: &mut Machine, thread: ThreadId, n: i32, next: u3
     requires frame { HasFrame machine.old.guest thread }
     requires sound { IsSound (kept_of machine.old) }
     requires clock { machine.old.guest.clock < 2 ^ 40 }
-    ensures { StepsFrame (put next (Int n ∷ (top machine.old.guest thread).operands) (top machine.old.guest thread)) result thread machine.old machine.new }
+    ensures { StepsFrame (put next (Int n ∷ (top machine.old.guest thread).operands)
+        (top machine.old.guest thread)) result thread machine.old machine.new }
 {
     replace(machine, thread, 0, &[Value::Int(n)], next)
 }
@@ -45,7 +47,8 @@ pub(crate) fn push_long(machine: &mut Machine, thread: ThreadId, n: i64, next: u
     requires frame { HasFrame machine.old.guest thread }
     requires sound { IsSound (kept_of machine.old) }
     requires clock { machine.old.guest.clock < 2 ^ 40 }
-    ensures { StepsFrame (put next (LongHigh ∷ Long n ∷ (top machine.old.guest thread).operands) (top machine.old.guest thread)) result thread machine.old machine.new }
+    ensures { StepsFrame (put next (LongHigh ∷ Long n ∷ (top machine.old.guest thread).operands)
+        (top machine.old.guest thread)) result thread machine.old machine.new }
 {
     replace(machine, thread, 0, &[Value::LongHigh, Value::Long(n)], next)
 }
@@ -56,7 +59,9 @@ fn int_event(machine: &mut Machine, thread: ThreadId, n: i32, next: u32) -> Even
     requires frame { HasFrame machine.old.guest thread }
     requires sound { IsSound (kept_of machine.old) }
     requires clock { machine.old.guest.clock < 2 ^ 40 }
-    ensures { (p : Linked) (out : List Record) → EventAnswers (on_frame (record { program = p; before = kept_of machine.old; thread = thread }) (put next (Int n ∷ (top machine.old.guest thread).operands) (top machine.old.guest thread))) result machine.old machine.new out out }
+    ensures { (p : Linked) (out : List Record) → EventAnswers (on_frame
+        (moment p machine.old thread) (put next (Int n ∷ (top machine.old.guest thread).operands)
+        (top machine.old.guest thread))) result machine.old machine.new out out }
 {
     if push_int(machine, thread, n, next) {
         EventEnd::Done
@@ -71,7 +76,9 @@ fn long_event(machine: &mut Machine, thread: ThreadId, n: i64, next: u32) -> Eve
     requires frame { HasFrame machine.old.guest thread }
     requires sound { IsSound (kept_of machine.old) }
     requires clock { machine.old.guest.clock < 2 ^ 40 }
-    ensures { (p : Linked) (out : List Record) → EventAnswers (on_frame (record { program = p; before = kept_of machine.old; thread = thread }) (put next (LongHigh ∷ Long n ∷ (top machine.old.guest thread).operands) (top machine.old.guest thread))) result machine.old machine.new out out }
+    ensures { (p : Linked) (out : List Record) → EventAnswers (on_frame (moment p
+        machine.old thread) (put next (LongHigh ∷ Long n ∷ (top machine.old.guest thread).operands)
+        (top machine.old.guest thread))) result machine.old machine.new out out }
 {
     if push_long(machine, thread, n, next) {
         EventEnd::Done
@@ -96,7 +103,10 @@ pub fn constant_event(
     requires sound { IsSound (kept_of machine.old) }
     requires clock { machine.old.guest.clock < 2 ^ 40 }
     requires fits { fits machine.old.heap ≡ true }
-    ensures ok { IfOk result (λ end. (instr : Decoded) (code : List ℕ) (items : List (Option Item)) (class : ℕ) → EventAnswers (constant (record { program = program.now; before = kept_of machine.old; thread = thread }) (record { instr = instr; next = next; code = code; pool = items; class = class }) (constant_at pool.now.slots index)) end machine.old machine.new out.old out.new) }
+    ensures ok { IfOk result (λ end. (instr : Decoded) (code : List ℕ) (items : List (Option Item))
+        (class : ℕ) → EventAnswers (constant (moment program.now machine.old thread)
+        (record { instr = instr; next = next; code = code; pool = items; class = class })
+        (constant_at pool.now.slots index)) end machine.old machine.new out.old out.new) }
     ensures err { OnErr result (machine.new.guest ≡ machine.old.guest) }
 {
     if let Some(n) = pool.integer(index) {

@@ -1,4 +1,5 @@
 //! Division.
+ghost use Rattle.et_event.specs.Moments.{moment};
 ghost use Rattle.std.specs.Prelude.{◌≡◌, ℕ, ◌<◌, ◌^◌, List, Option, IfOk, OnErr};
 ghost use Rattle.std.specs.Int.{w32, w64};
 ghost use Rattle.et_pool.specs.Entries.{Item};
@@ -51,7 +52,8 @@ fn divide_ints(machine: &mut Machine, thread: ThreadId, division: Division, next
     requires frame { HasFrame machine.old.guest thread }
     requires sound { IsSound (kept_of machine.old) }
     requires clock { machine.old.guest.clock < 2 ^ 40 }
-    ensures { DividesFrame next (quotients numbers.Int division (top machine.old.guest thread).operands) result thread machine.old machine.new }
+    ensures { DividesFrame next (quotients numbers.Int division
+        (top machine.old.guest thread).operands) result thread machine.old machine.new }
 {
     let Some(b) = int_at(machine, thread, 0) else {
         return Divided::IllTyped;
@@ -74,7 +76,8 @@ fn divide_longs(machine: &mut Machine, thread: ThreadId, division: Division, nex
     requires frame { HasFrame machine.old.guest thread }
     requires sound { IsSound (kept_of machine.old) }
     requires clock { machine.old.guest.clock < 2 ^ 40 }
-    ensures { DividesFrame next (quotients numbers.Long division (top machine.old.guest thread).operands) result thread machine.old machine.new }
+    ensures { DividesFrame next (quotients numbers.Long division
+        (top machine.old.guest thread).operands) result thread machine.old machine.new }
 {
     let Some(b) = long_at(machine, thread, 0) else {
         return Divided::IllTyped;
@@ -103,7 +106,8 @@ fn divide(
     requires frame { HasFrame machine.old.guest thread }
     requires sound { IsSound (kept_of machine.old) }
     requires clock { machine.old.guest.clock < 2 ^ 40 }
-    ensures { DividesFrame next (quotients number division (top machine.old.guest thread).operands) result thread machine.old machine.new }
+    ensures { DividesFrame next (quotients number division (top machine.old.guest thread).operands)
+        result thread machine.old machine.new }
 {
     match number {
         Number::Int => divide_ints(machine, thread, division, next),
@@ -127,7 +131,10 @@ pub fn divide_event(
     requires frame { HasFrame machine.old.guest thread }
     requires sound { IsSound (kept_of machine.old) }
     requires clock { machine.old.guest.clock < 2 ^ 40 }
-    ensures ok { IfOk result (λ end. (instr : Decoded) (code : List ℕ) (pool : List (Option Item)) (class : ℕ) → EventAnswers (divides (record { program = program.now; before = kept_of machine.old; thread = thread }) (record { instr = instr; next = next; code = code; pool = pool; class = class }) number division) end machine.old machine.new out.old out.new) }
+    ensures ok { IfOk result (λ end. (instr : Decoded) (code : List ℕ) (pool : List (Option Item))
+        (class : ℕ) → EventAnswers (divides (moment program.now machine.old thread)
+        (record { instr = instr; next = next; code = code; pool = pool; class = class })
+        number division) end machine.old machine.new out.old out.new) }
     ensures err { OnErr result (machine.new.guest ≡ machine.old.guest) }
 {
     match divide(machine, thread, number, division, next) {

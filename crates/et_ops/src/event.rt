@@ -52,10 +52,14 @@ fn instruction_event(
     requires sound { IsSoundFor program.now (kept_of machine.old) }
     requires clock { machine.old.guest.clock < 2 ^ 40 }
     requires turn { IsPlainTurn program.now (kept_of machine.old) thread }
-    ensures event { IfOk result (λ end. EventAnswers (event program.now (kept_of machine.old) thread) end machine.old machine.new out.old out.new) }
-    ensures sound { MakesSound program.now → OnOk result (IsSoundFor program.now (kept_of machine.new)) }
-    ensures clock { IfOk result (λ end. TicksWhereDone end machine.old.guest.clock machine.new.guest.clock) }
-    ensures named { (names : Names) → names.class_count ≡ length program.now.classes → All (IsNamed names) out.old → OnOk result (All (IsNamed names) out.new) }
+    ensures event { IfOk result (λ end. EventAnswers (event program.now
+        (kept_of machine.old) thread) end machine.old machine.new out.old out.new) }
+    ensures sound { MakesSound program.now →
+        OnOk result (IsSoundFor program.now (kept_of machine.new)) }
+    ensures clock { IfOk result
+        (λ end. TicksWhereDone end machine.old.guest.clock machine.new.guest.clock) }
+    ensures named { (names : Names) → names.class_count ≡ length program.now.classes →
+        All (IsNamed names) out.old → OnOk result (All (IsNamed names) out.new) }
     ensures err { OnErr result (machine.new.guest ≡ machine.old.guest) }
 {
     let Some(place) = place_of(program, machine, thread) else {
@@ -95,11 +99,15 @@ pub fn ops_event<L: Ledger>(
     requires sound { IsSoundFor program.now (kept_of machine.old) }
     requires clock { machine.old.guest.clock < 2 ^ 40 }
     requires turn { IsPlainTurn program.now (kept_of machine.old) thread }
-    ensures event { IfOk result (λ end. EventAnswers (event program.now (kept_of machine.old) thread) end machine.old machine.new out.old out.new) }
+    ensures event { IfOk result (λ end. EventAnswers (event program.now
+        (kept_of machine.old) thread) end machine.old machine.new out.old out.new) }
     ensures visits { visits.new ≡ visits.old }
-    ensures sound { MakesSound program.now → OnOk result (IsSoundFor program.now (kept_of machine.new)) }
-    ensures clock { IfOk result (λ end. TicksWhereDone end machine.old.guest.clock machine.new.guest.clock) }
-    ensures named { (names : Names) → names.class_count ≡ length program.now.classes → All (IsNamed names) out.old → OnOk result (All (IsNamed names) out.new) }
+    ensures sound { MakesSound program.now →
+        OnOk result (IsSoundFor program.now (kept_of machine.new)) }
+    ensures clock { IfOk result
+        (λ end. TicksWhereDone end machine.old.guest.clock machine.new.guest.clock) }
+    ensures named { (names : Names) → names.class_count ≡ length program.now.classes →
+        All (IsNamed names) out.old → OnOk result (All (IsNamed names) out.new) }
     ensures err { OnErr result (machine.new.guest ≡ machine.old.guest) }
 {
     instruction_event(program, machine, thread, out)

@@ -47,7 +47,9 @@ pub fn frame_event(
     requires locals { length (top machine.old.guest thread).locals < 2 ^ 16 }
     requires pc { (top machine.old.guest thread).pc < 2 ^ 31 }
     requires switch { row ≡ rows.Switch → IsSwitch code.now instr.now }
-    ensures { (pool : List (Option Item)) (class : ℕ) → StepsFrame (after (record { instr = instr.now; next = next; code = code.now; pool = pool; class = class }) row (top machine.old.guest thread)) result thread machine.old machine.new }
+    ensures { (pool : List (Option Item)) (class : ℕ) → StepsFrame (after
+        (record { instr = instr.now; next = next; code = code.now; pool = pool; class = class }) row
+        (top machine.old.guest thread)) result thread machine.old machine.new }
 {
     match row {
         FrameRow::Null => push_null(machine, thread, next),

@@ -36,7 +36,10 @@ fn load_int(machine: &mut Machine, thread: ThreadId, i: u32, next: u32) -> bool
     requires clock { machine.old.guest.clock < 2 ^ 40 }
     requires locals { length (top machine.old.guest thread).locals < 2 ^ 16 }
     requires small { i + 1 < 2 ^ 32 }
-    ensures { StepsFrame (put_some next (option_map (λ vs. vs ++ (top machine.old.guest thread).operands) (loaded operand.Int i (top machine.old.guest thread))) (top machine.old.guest thread)) result thread machine.old machine.new }
+    ensures { StepsFrame
+        (put_some next (option_map (λ vs. vs ++ (top machine.old.guest thread).operands)
+        (loaded operand.Int i (top machine.old.guest thread))) (top machine.old.guest thread))
+        result thread machine.old machine.new }
 {
     match local_at(machine, thread, i) {
         Value::Int(n) => replace(machine, thread, 0, &[Value::Int(n)], next),
@@ -51,7 +54,10 @@ fn load_long(machine: &mut Machine, thread: ThreadId, i: u32, next: u32) -> bool
     requires clock { machine.old.guest.clock < 2 ^ 40 }
     requires locals { length (top machine.old.guest thread).locals < 2 ^ 16 }
     requires small { i + 1 < 2 ^ 32 }
-    ensures { StepsFrame (put_some next (option_map (λ vs. vs ++ (top machine.old.guest thread).operands) (loaded operand.Long i (top machine.old.guest thread))) (top machine.old.guest thread)) result thread machine.old machine.new }
+    ensures { StepsFrame
+        (put_some next (option_map (λ vs. vs ++ (top machine.old.guest thread).operands)
+        (loaded operand.Long i (top machine.old.guest thread))) (top machine.old.guest thread))
+        result thread machine.old machine.new }
 {
     match (
         local_at(machine, thread, i),
@@ -71,7 +77,10 @@ fn load_reference(machine: &mut Machine, thread: ThreadId, i: u32, next: u32) ->
     requires clock { machine.old.guest.clock < 2 ^ 40 }
     requires locals { length (top machine.old.guest thread).locals < 2 ^ 16 }
     requires small { i + 1 < 2 ^ 32 }
-    ensures { StepsFrame (put_some next (option_map (λ vs. vs ++ (top machine.old.guest thread).operands) (loaded operand.Reference i (top machine.old.guest thread))) (top machine.old.guest thread)) result thread machine.old machine.new }
+    ensures { StepsFrame
+        (put_some next (option_map (λ vs. vs ++ (top machine.old.guest thread).operands)
+        (loaded operand.Reference i (top machine.old.guest thread))) (top machine.old.guest thread))
+        result thread machine.old machine.new }
 {
     let value = local_at(machine, thread, i);
     match value {
@@ -93,7 +102,9 @@ pub(crate) fn load(
     requires clock { machine.old.guest.clock < 2 ^ 40 }
     requires locals { length (top machine.old.guest thread).locals < 2 ^ 16 }
     requires small { i + 1 < 2 ^ 32 }
-    ensures { StepsFrame (put_some next (option_map (λ vs. vs ++ (top machine.old.guest thread).operands) (loaded kind i (top machine.old.guest thread))) (top machine.old.guest thread)) result thread machine.old machine.new }
+    ensures { StepsFrame (put_some next (option_map (λ vs. vs
+        ++ (top machine.old.guest thread).operands) (loaded kind i (top machine.old.guest thread)))
+        (top machine.old.guest thread)) result thread machine.old machine.new }
 {
     match kind {
         Operand::Int => load_int(machine, thread, i, next),

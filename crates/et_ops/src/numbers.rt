@@ -69,7 +69,9 @@ fn combine_ints(machine: &mut Machine, thread: ThreadId, operation: Arithmetic, 
     requires frame { HasFrame machine.old.guest thread }
     requires sound { IsSound (kept_of machine.old) }
     requires clock { machine.old.guest.clock < 2 ^ 40 }
-    ensures { StepsFrame (put_some next (combined numbers.Int operation (top machine.old.guest thread).operands) (top machine.old.guest thread)) result thread machine.old machine.new }
+    ensures { StepsFrame
+        (put_some next (combined numbers.Int operation (top machine.old.guest thread).operands)
+        (top machine.old.guest thread)) result thread machine.old machine.new }
 {
     let Some(b) = int_at(machine, thread, 0) else {
         return false;
@@ -91,7 +93,9 @@ fn combine_longs(machine: &mut Machine, thread: ThreadId, operation: Arithmetic,
     requires frame { HasFrame machine.old.guest thread }
     requires sound { IsSound (kept_of machine.old) }
     requires clock { machine.old.guest.clock < 2 ^ 40 }
-    ensures { StepsFrame (put_some next (combined numbers.Long operation (top machine.old.guest thread).operands) (top machine.old.guest thread)) result thread machine.old machine.new }
+    ensures { StepsFrame
+        (put_some next (combined numbers.Long operation (top machine.old.guest thread).operands)
+        (top machine.old.guest thread)) result thread machine.old machine.new }
 {
     let Some(b) = long_at(machine, thread, 0) else {
         return false;
@@ -114,7 +118,9 @@ fn negate_int(machine: &mut Machine, thread: ThreadId, next: u32) -> bool
     requires frame { HasFrame machine.old.guest thread }
     requires sound { IsSound (kept_of machine.old) }
     requires clock { machine.old.guest.clock < 2 ^ 40 }
-    ensures { StepsFrame (put_some next (negated numbers.Int (top machine.old.guest thread).operands) (top machine.old.guest thread)) result thread machine.old machine.new }
+    ensures { StepsFrame
+        (put_some next (negated numbers.Int (top machine.old.guest thread).operands)
+        (top machine.old.guest thread)) result thread machine.old machine.new }
 {
     let Some(a) = int_at(machine, thread, 0) else {
         return false;
@@ -127,7 +133,9 @@ fn negate_long(machine: &mut Machine, thread: ThreadId, next: u32) -> bool
     requires frame { HasFrame machine.old.guest thread }
     requires sound { IsSound (kept_of machine.old) }
     requires clock { machine.old.guest.clock < 2 ^ 40 }
-    ensures { StepsFrame (put_some next (negated numbers.Long (top machine.old.guest thread).operands) (top machine.old.guest thread)) result thread machine.old machine.new }
+    ensures { StepsFrame
+        (put_some next (negated numbers.Long (top machine.old.guest thread).operands)
+        (top machine.old.guest thread)) result thread machine.old machine.new }
 {
     let Some(a) = long_at(machine, thread, 0) else {
         return false;
@@ -146,7 +154,9 @@ fn shift_int(machine: &mut Machine, thread: ThreadId, shift: Shift, next: u32) -
     requires frame { HasFrame machine.old.guest thread }
     requires sound { IsSound (kept_of machine.old) }
     requires clock { machine.old.guest.clock < 2 ^ 40 }
-    ensures { StepsFrame (put_some next (moved numbers.Int shift (top machine.old.guest thread).operands) (top machine.old.guest thread)) result thread machine.old machine.new }
+    ensures { StepsFrame
+        (put_some next (moved numbers.Int shift (top machine.old.guest thread).operands)
+        (top machine.old.guest thread)) result thread machine.old machine.new }
 {
     let Some(count) = int_at(machine, thread, 0) else {
         return false;
@@ -168,7 +178,9 @@ fn shift_long(machine: &mut Machine, thread: ThreadId, shift: Shift, next: u32) 
     requires frame { HasFrame machine.old.guest thread }
     requires sound { IsSound (kept_of machine.old) }
     requires clock { machine.old.guest.clock < 2 ^ 40 }
-    ensures { StepsFrame (put_some next (moved numbers.Long shift (top machine.old.guest thread).operands) (top machine.old.guest thread)) result thread machine.old machine.new }
+    ensures { StepsFrame
+        (put_some next (moved numbers.Long shift (top machine.old.guest thread).operands)
+        (top machine.old.guest thread)) result thread machine.old machine.new }
 {
     let Some(count) = int_at(machine, thread, 0) else {
         return false;
@@ -191,7 +203,8 @@ pub(crate) fn compare_longs(machine: &mut Machine, thread: ThreadId, next: u32) 
     requires frame { HasFrame machine.old.guest thread }
     requires sound { IsSound (kept_of machine.old) }
     requires clock { machine.old.guest.clock < 2 ^ 40 }
-    ensures { StepsFrame (put_some next (compared (top machine.old.guest thread).operands) (top machine.old.guest thread)) result thread machine.old machine.new }
+    ensures { StepsFrame (put_some next (compared (top machine.old.guest thread).operands)
+        (top machine.old.guest thread)) result thread machine.old machine.new }
 {
     let Some(b) = long_at(machine, thread, 0) else {
         return false;
@@ -207,7 +220,9 @@ fn int_to_byte(machine: &mut Machine, thread: ThreadId, next: u32) -> bool
     requires frame { HasFrame machine.old.guest thread }
     requires sound { IsSound (kept_of machine.old) }
     requires clock { machine.old.guest.clock < 2 ^ 40 }
-    ensures { StepsFrame (put_some next (converted conversions.IntToByte (top machine.old.guest thread).operands) (top machine.old.guest thread)) result thread machine.old machine.new }
+    ensures { StepsFrame
+        (put_some next (converted conversions.IntToByte (top machine.old.guest thread).operands)
+        (top machine.old.guest thread)) result thread machine.old machine.new }
 {
     let Some(a) = int_at(machine, thread, 0) else {
         return false;
@@ -220,7 +235,9 @@ fn int_to_char(machine: &mut Machine, thread: ThreadId, next: u32) -> bool
     requires frame { HasFrame machine.old.guest thread }
     requires sound { IsSound (kept_of machine.old) }
     requires clock { machine.old.guest.clock < 2 ^ 40 }
-    ensures { StepsFrame (put_some next (converted conversions.IntToChar (top machine.old.guest thread).operands) (top machine.old.guest thread)) result thread machine.old machine.new }
+    ensures { StepsFrame
+        (put_some next (converted conversions.IntToChar (top machine.old.guest thread).operands)
+        (top machine.old.guest thread)) result thread machine.old machine.new }
 {
     let Some(a) = int_at(machine, thread, 0) else {
         return false;
@@ -233,7 +250,9 @@ fn int_to_short(machine: &mut Machine, thread: ThreadId, next: u32) -> bool
     requires frame { HasFrame machine.old.guest thread }
     requires sound { IsSound (kept_of machine.old) }
     requires clock { machine.old.guest.clock < 2 ^ 40 }
-    ensures { StepsFrame (put_some next (converted conversions.IntToShort (top machine.old.guest thread).operands) (top machine.old.guest thread)) result thread machine.old machine.new }
+    ensures { StepsFrame
+        (put_some next (converted conversions.IntToShort (top machine.old.guest thread).operands)
+        (top machine.old.guest thread)) result thread machine.old machine.new }
 {
     let Some(a) = int_at(machine, thread, 0) else {
         return false;
@@ -246,7 +265,9 @@ fn int_to_long(machine: &mut Machine, thread: ThreadId, next: u32) -> bool
     requires frame { HasFrame machine.old.guest thread }
     requires sound { IsSound (kept_of machine.old) }
     requires clock { machine.old.guest.clock < 2 ^ 40 }
-    ensures { StepsFrame (put_some next (converted conversions.IntToLong (top machine.old.guest thread).operands) (top machine.old.guest thread)) result thread machine.old machine.new }
+    ensures { StepsFrame
+        (put_some next (converted conversions.IntToLong (top machine.old.guest thread).operands)
+        (top machine.old.guest thread)) result thread machine.old machine.new }
 {
     let Some(a) = int_at(machine, thread, 0) else {
         return false;
@@ -265,7 +286,9 @@ fn long_to_int(machine: &mut Machine, thread: ThreadId, next: u32) -> bool
     requires frame { HasFrame machine.old.guest thread }
     requires sound { IsSound (kept_of machine.old) }
     requires clock { machine.old.guest.clock < 2 ^ 40 }
-    ensures { StepsFrame (put_some next (converted conversions.LongToInt (top machine.old.guest thread).operands) (top machine.old.guest thread)) result thread machine.old machine.new }
+    ensures { StepsFrame
+        (put_some next (converted conversions.LongToInt (top machine.old.guest thread).operands)
+        (top machine.old.guest thread)) result thread machine.old machine.new }
 {
     let Some(a) = long_at(machine, thread, 0) else {
         return false;
@@ -284,7 +307,9 @@ pub(crate) fn combine(
     requires frame { HasFrame machine.old.guest thread }
     requires sound { IsSound (kept_of machine.old) }
     requires clock { machine.old.guest.clock < 2 ^ 40 }
-    ensures { StepsFrame (put_some next (combined number operation (top machine.old.guest thread).operands) (top machine.old.guest thread)) result thread machine.old machine.new }
+    ensures { StepsFrame
+        (put_some next (combined number operation (top machine.old.guest thread).operands)
+        (top machine.old.guest thread)) result thread machine.old machine.new }
 {
     match number {
         Number::Int => combine_ints(machine, thread, operation, next),
@@ -302,7 +327,8 @@ pub(crate) fn negate_number(
     requires frame { HasFrame machine.old.guest thread }
     requires sound { IsSound (kept_of machine.old) }
     requires clock { machine.old.guest.clock < 2 ^ 40 }
-    ensures { StepsFrame (put_some next (negated number (top machine.old.guest thread).operands) (top machine.old.guest thread)) result thread machine.old machine.new }
+    ensures { StepsFrame (put_some next (negated number (top machine.old.guest thread).operands)
+        (top machine.old.guest thread)) result thread machine.old machine.new }
 {
     match number {
         Number::Int => negate_int(machine, thread, next),
@@ -321,7 +347,8 @@ pub(crate) fn shift_number(
     requires frame { HasFrame machine.old.guest thread }
     requires sound { IsSound (kept_of machine.old) }
     requires clock { machine.old.guest.clock < 2 ^ 40 }
-    ensures { StepsFrame (put_some next (moved number shift (top machine.old.guest thread).operands) (top machine.old.guest thread)) result thread machine.old machine.new }
+    ensures { StepsFrame (put_some next (moved number shift (top machine.old.guest thread).operands)
+        (top machine.old.guest thread)) result thread machine.old machine.new }
 {
     match number {
         Number::Int => shift_int(machine, thread, shift, next),
@@ -339,7 +366,9 @@ pub(crate) fn convert(
     requires frame { HasFrame machine.old.guest thread }
     requires sound { IsSound (kept_of machine.old) }
     requires clock { machine.old.guest.clock < 2 ^ 40 }
-    ensures { StepsFrame (put_some next (converted conversion (top machine.old.guest thread).operands) (top machine.old.guest thread)) result thread machine.old machine.new }
+    ensures { StepsFrame
+        (put_some next (converted conversion (top machine.old.guest thread).operands)
+        (top machine.old.guest thread)) result thread machine.old machine.new }
 {
     match conversion {
         Conversion::IntToLong => int_to_long(machine, thread, next),

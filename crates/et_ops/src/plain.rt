@@ -13,7 +13,7 @@ ghost use Rattle.et_event.specs.declared.rows.FrameRow.TheVariants as frame_rows
 ghost use Rattle.et_event.specs.declared.rows.Row.TheVariants as rows;
 ghost use Rattle.et_event.specs.Answered.{EventAnswers};
 ghost use Rattle.et_event.specs.Event.{does};
-ghost use Rattle.et_event.specs.Moments.{fits};
+ghost use Rattle.et_event.specs.Moments.{fits, moment};
 ghost use Rattle.et_event.specs.Plain.{after, constant, on_frame};
 ghost use Rattle.et_event.specs.Sites.{constant_at, natural as natural_of};
 ghost use Rattle.et_parts.specs.Pools.{slots_of};
@@ -45,7 +45,10 @@ fn frame_row_event(
     requires locals { length (top machine.old.guest thread).locals < 2 ^ 16 }
     requires pc { (top machine.old.guest thread).pc < 2 ^ 31 }
     requires switch { row ≡ frame_rows.Switch → IsSwitch code.now instr.now }
-    ensures { (p : Linked) (pool : List (Option Item)) (class : ℕ) (out : List Record) → EventAnswers (on_frame (record { program = p; before = kept_of machine.old; thread = thread }) (after (record { instr = instr.now; next = next; code = code.now; pool = pool; class = class }) row (top machine.old.guest thread))) result machine.old machine.new out out }
+    ensures { (p : Linked) (pool : List (Option Item)) (class : ℕ) (out : List Record) →
+        EventAnswers (on_frame (moment p machine.old thread) (after
+        (record { instr = instr.now; next = next; code = code.now; pool = pool; class = class }) row
+        (top machine.old.guest thread))) result machine.old machine.new out out }
 {
     if frame_event(machine, thread, row, code, instr, next) {
         EventEnd::Done
@@ -68,7 +71,10 @@ fn pool_event(
     requires sound { IsSound (kept_of machine.old) }
     requires clock { machine.old.guest.clock < 2 ^ 40 }
     requires fits { fits machine.old.heap ≡ true }
-    ensures ok { IfOk result (λ end. (instr : Decoded) (code : List ℕ) (items : List (Option Item)) (class : ℕ) → EventAnswers (constant (record { program = program.now; before = kept_of machine.old; thread = thread }) (record { instr = instr; next = next; code = code; pool = items; class = class }) (constant_at (slots_of (option_copied pool.entry)) index)) end machine.old machine.new out.old out.new) }
+    ensures ok { IfOk result (λ end. (instr : Decoded) (code : List ℕ) (items : List (Option Item))
+        (class : ℕ) → EventAnswers (constant (moment program.now machine.old thread) (record
+        { instr = instr; next = next; code = code; pool = items; class = class }) (constant_at
+        (slots_of (option_copied pool.entry)) index)) end machine.old machine.new out.old out.new) }
     ensures err { OnErr result (machine.new.guest ≡ machine.old.guest) }
 {
     match pool {
@@ -99,7 +105,15 @@ pub fn plain_event(
     requires pc { (top machine.old.guest thread).pc < 2 ^ 31 }
     requires switch { row ≡ rows.Frame frame_rows.Switch → IsSwitch code.now instr.now }
     requires index { row ≡ rows.PoolConstant → natural_of instr.now.first < 2 ^ 16 }
-    ensures ok { IfOk result (λ end. (class : ℕ) → PlainAnswers (does (record { program = program.now; before = kept_of machine.old; thread = thread }) (record { instr = instr.now; next = next; code = code.now; pool = slots_of (option_copied pool.entry); class = class }) row) row end machine.old machine.new out.old out.new) }
+    ensures ok { IfOk result (λ end. (class : ℕ) → PlainAnswers
+        (does (moment program.now machine.old thread) (record {
+          instr = instr.now;
+          next = next;
+          code = code.now;
+          pool = slots_of (option_copied pool.entry);
+          class = class;
+        }) row)
+        row end machine.old machine.new out.old out.new) }
     ensures err { OnErr result (machine.new.guest ≡ machine.old.guest) }
 {
     match row {

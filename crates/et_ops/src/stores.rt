@@ -35,7 +35,12 @@ fn free(machine: &mut Machine, thread: ThreadId, i: u16)
     requires locals { length (top machine.old.guest thread).locals < 2 ^ 16 }
     requires local { i < length (top machine.old.guest thread).locals }
     requires lost { length machine.old.lost < lost_room }
-    ensures new { machine.new ≡ steps_top machine.old thread (record (top machine.old.guest thread) { locals = unset_at (half_of i (top machine.old.guest thread).locals) (top machine.old.guest thread).locals }) (refs_at (half_of i (top machine.old.guest thread).locals) (top machine.old.guest thread).locals) }
+    ensures new { machine.new ≡ steps_top machine.old thread
+        (record (top machine.old.guest thread) {
+          locals = unset_at (half_of i
+              (top machine.old.guest thread).locals) (top machine.old.guest thread).locals;
+        }) (refs_at
+        (half_of i (top machine.old.guest thread).locals) (top machine.old.guest thread).locals) }
     ensures few { length machine.new.lost ≤ length machine.old.lost + 1 }
 {
     let Some(j) = half_beside(machine.local(thread, i), i) else {
@@ -54,7 +59,17 @@ fn move_one(machine: &mut Machine, thread: ThreadId, i: u16, next: u32)
     requires locals { length (top machine.old.guest thread).locals < 2 ^ 16 }
     requires local { i < length (top machine.old.guest thread).locals }
     requires operand { 0 < length (top machine.old.guest thread).operands }
-    ensures { Led (kept_of machine.old) (record { heap = machine.old.heap; guest = with_top (ticked machine.old.guest) thread (record (top machine.old.guest thread) { pc = next; locals = one_stored i (operand_of (top machine.old.guest thread) 0) (top machine.old.guest thread).locals; operands = drop 1 (top machine.old.guest thread).operands }) }) machine.new }
+    ensures { Led (kept_of machine.old)
+        (record {
+          heap = machine.old.heap;
+          guest = with_top (ticked machine.old.guest) thread
+              (record (top machine.old.guest thread) {
+                pc = next;
+                locals = one_stored i
+                    (operand_of (top machine.old.guest thread) 0) (top machine.old.guest thread).locals;
+                operands = drop 1 (top machine.old.guest thread).operands;
+              });
+        }) machine.new }
 {
     machine.begin_event();
     let value = machine.pop(thread);
@@ -69,7 +84,8 @@ fn store_int(machine: &mut Machine, thread: ThreadId, i: u32, next: u32) -> bool
     requires sound { IsSound (kept_of machine.old) }
     requires clock { machine.old.guest.clock < 2 ^ 40 }
     requires locals { length (top machine.old.guest thread).locals < 2 ^ 16 }
-    ensures { StepsFrame (stored next operand.Int i (top machine.old.guest thread)) result thread machine.old machine.new }
+    ensures { StepsFrame (stored next operand.Int i (top machine.old.guest thread))
+        result thread machine.old machine.new }
 {
     if int_at(machine, thread, 0).is_none() || machine.locals(thread) <= i as usize {
         return false;
@@ -84,7 +100,8 @@ fn store_reference(machine: &mut Machine, thread: ThreadId, i: u32, next: u32) -
     requires sound { IsSound (kept_of machine.old) }
     requires clock { machine.old.guest.clock < 2 ^ 40 }
     requires locals { length (top machine.old.guest thread).locals < 2 ^ 16 }
-    ensures { StepsFrame (stored next operand.Reference i (top machine.old.guest thread)) result thread machine.old machine.new }
+    ensures { StepsFrame (stored next operand.Reference i (top machine.old.guest thread))
+        result thread machine.old machine.new }
 {
     if reference_at(machine, thread, 0).is_none() || machine.locals(thread) <= i as usize {
         return false;
@@ -101,7 +118,14 @@ fn move_long(machine: &mut Machine, thread: ThreadId, i: u16, n: i64, next: u32)
     requires locals { length (top machine.old.guest thread).locals < 2 ^ 16 }
     requires local { i + 1 < length (top machine.old.guest thread).locals }
     requires operands { 2 ≤ length (top machine.old.guest thread).operands }
-    ensures { Led (kept_of machine.old) (record { heap = machine.old.heap; guest = with_top (ticked machine.old.guest) thread (record (top machine.old.guest thread) { pc = next; locals = long_stored i n (top machine.old.guest thread).locals; operands = drop 2 (top machine.old.guest thread).operands }) }) machine.new }
+    ensures { Led (kept_of machine.old) (record {
+      heap = machine.old.heap;
+      guest = with_top (ticked machine.old.guest) thread (record (top machine.old.guest thread) {
+        pc = next;
+        locals = long_stored i n (top machine.old.guest thread).locals;
+        operands = drop 2 (top machine.old.guest thread).operands;
+      });
+    }) machine.new }
 {
     machine.begin_event();
     take(machine, thread, 2);
@@ -119,7 +143,8 @@ fn store_long(machine: &mut Machine, thread: ThreadId, i: u32, next: u32) -> boo
     requires clock { machine.old.guest.clock < 2 ^ 40 }
     requires locals { length (top machine.old.guest thread).locals < 2 ^ 16 }
     requires small { i + 1 < 2 ^ 32 }
-    ensures { StepsFrame (stored next operand.Long i (top machine.old.guest thread)) result thread machine.old machine.new }
+    ensures { StepsFrame (stored next operand.Long i (top machine.old.guest thread))
+        result thread machine.old machine.new }
 {
     let Some(n) = long_at(machine, thread, 0) else {
         return false;
@@ -144,7 +169,8 @@ pub(crate) fn store(
     requires clock { machine.old.guest.clock < 2 ^ 40 }
     requires locals { length (top machine.old.guest thread).locals < 2 ^ 16 }
     requires small { i + 1 < 2 ^ 32 }
-    ensures { StepsFrame (stored next kind i (top machine.old.guest thread)) result thread machine.old machine.new }
+    ensures { StepsFrame
+        (stored next kind i (top machine.old.guest thread)) result thread machine.old machine.new }
 {
     match kind {
         Operand::Int => store_int(machine, thread, i, next),
@@ -160,7 +186,14 @@ fn set_int(machine: &mut Machine, thread: ThreadId, i: u16, n: i32, next: u32)
     requires clock { machine.old.guest.clock < 2 ^ 40 }
     requires locals { length (top machine.old.guest thread).locals < 2 ^ 16 }
     requires local { i < length (top machine.old.guest thread).locals }
-    ensures { Led (kept_of machine.old) (record { heap = machine.old.heap; guest = with_top (ticked machine.old.guest) thread (record (top machine.old.guest thread) { pc = next; locals = slice_set (top machine.old.guest thread).locals i (Int n) }) }) machine.new }
+    ensures { Led (kept_of machine.old) (record {
+      heap = machine.old.heap;
+      guest = with_top
+          (ticked machine.old.guest) thread (record (top machine.old.guest thread) {
+            pc = next;
+            locals = slice_set (top machine.old.guest thread).locals i (Int n);
+          });
+    }) machine.new }
 {
     machine.begin_event();
     machine.set_local(thread, i, Value::Int(n));
@@ -173,7 +206,8 @@ pub(crate) fn increment(machine: &mut Machine, thread: ThreadId, i: u32, by: i32
     requires sound { IsSound (kept_of machine.old) }
     requires clock { machine.old.guest.clock < 2 ^ 40 }
     requires locals { length (top machine.old.guest thread).locals < 2 ^ 16 }
-    ensures { StepsFrame (increased next i by (top machine.old.guest thread)) result thread machine.old machine.new }
+    ensures { StepsFrame
+        (increased next i by (top machine.old.guest thread)) result thread machine.old machine.new }
 {
     let Value::Int(n) = local_at(machine, thread, i) else {
         return false;

@@ -10,7 +10,7 @@ ghost use Rattle.et_state.specs.Sound.{IsSound};
 ghost use Rattle.et_state.specs.Moves.{Led};
 ghost use Rattle.et_state.specs.Interned.{object_of};
 ghost use Rattle.et_event.specs.Answered.{EventAnswers};
-ghost use Rattle.et_event.specs.Moments.{fits};
+ghost use Rattle.et_event.specs.Moments.{fits, moment};
 ghost use Rattle.et_event.specs.Plain.{constant};
 ghost use Rattle.et_event.specs.Sites.{AString};
 
@@ -24,9 +24,17 @@ fn push_string(machine: &mut Machine, thread: ThreadId, object: ObjectId, next: 
     requires frame { HasFrame machine.old.guest thread }
     requires sound { IsSound (kept_of machine.old) }
     requires clock { machine.old.guest.clock < 2 ^ 40 }
-    requires room { length (top machine.old.guest thread).operands < (top machine.old.guest thread).room }
+    requires room { length (top machine.old.guest thread).operands
+        < (top machine.old.guest thread).room }
     requires object { IsHeld machine.old.heap object }
-    ensures { Led (kept_of machine.old) (record { heap = machine.old.heap; guest = with_top (ticked machine.old.guest) thread (record (top machine.old.guest thread) { pc = next; operands = Ref object ∷ (top machine.old.guest thread).operands }) }) machine.new }
+    ensures { Led (kept_of machine.old) (record {
+      heap = machine.old.heap;
+      guest = with_top
+          (ticked machine.old.guest) thread (record (top machine.old.guest thread) {
+            pc = next;
+            operands = Ref object ∷ (top machine.old.guest thread).operands;
+          });
+    }) machine.new }
 {
     machine.begin_event();
     machine.push(thread, Value::Ref(object));
@@ -45,9 +53,13 @@ fn make_string(
     requires frame { HasFrame machine.old.guest thread }
     requires sound { IsSound (kept_of machine.old) }
     requires clock { machine.old.guest.clock < 2 ^ 40 }
-    requires room { length (top machine.old.guest thread).operands < (top machine.old.guest thread).room }
+    requires room { length (top machine.old.guest thread).operands
+        < (top machine.old.guest thread).room }
     requires first { object_of machine.old.guest.interned bytes.now ≡ None }
-    ensures ok { IfOk result (λ end. (instr : Decoded) (code : List ℕ) (pool : List (Option Item)) (class : ℕ) → EventAnswers (constant (record { program = program.now; before = kept_of machine.old; thread = thread }) (record { instr = instr; next = next; code = code; pool = pool; class = class }) (Some (AString bytes.now))) end machine.old machine.new out.old out.new) }
+    ensures ok { IfOk result (λ end. (instr : Decoded) (code : List ℕ) (pool : List (Option Item))
+        (class : ℕ) → EventAnswers (constant (moment program.now machine.old thread)
+        (record { instr = instr; next = next; code = code; pool = pool; class = class })
+        (Some (AString bytes.now))) end machine.old machine.new out.old out.new) }
     ensures err { OnErr result (machine.new.guest ≡ machine.old.guest) }
 {
     let class = class_called(program, b"java/lang/String");
@@ -76,7 +88,10 @@ pub(crate) fn string_event(
     requires sound { IsSound (kept_of machine.old) }
     requires clock { machine.old.guest.clock < 2 ^ 40 }
     requires fits { fits machine.old.heap ≡ true }
-    ensures ok { IfOk result (λ end. (instr : Decoded) (code : List ℕ) (pool : List (Option Item)) (class : ℕ) → EventAnswers (constant (record { program = program.now; before = kept_of machine.old; thread = thread }) (record { instr = instr; next = next; code = code; pool = pool; class = class }) (Some (AString bytes.now))) end machine.old machine.new out.old out.new) }
+    ensures ok { IfOk result (λ end. (instr : Decoded) (code : List ℕ) (pool : List (Option Item))
+        (class : ℕ) → EventAnswers (constant (moment program.now machine.old thread)
+        (record { instr = instr; next = next; code = code; pool = pool; class = class })
+        (Some (AString bytes.now))) end machine.old machine.new out.old out.new) }
     ensures err { OnErr result (machine.new.guest ≡ machine.old.guest) }
 {
     if machine.depth(thread) >= machine.room(thread) as u32 {

@@ -188,7 +188,12 @@ fn what_was_held_weakly_dies_at_its_last_stay(rt: HostRuntime) -> Result<(), Fai
 
 /// Once object 2 is reported, a step that makes it a root again is not legal.
 fn reported_is_no_root()
-    ensures { let g : Graph = record { made = 2; roots = 1 ∷ []; pairs = []; gone = 2 ∷ [] } in
-        let revives : Edit = record { fresh = []; lost = []; roots = 1 ∷ 2 ∷ []; cut = []; tied = [] } in
-        ¬ IsLegalStep g (step_of g revives) }
+    ensures { let g : Graph = record { made = 2; roots = 1 ∷ []; pairs = []; gone = 2 ∷ [] }
+        in let revives : Edit = record {
+          fresh = [];
+          lost = [];
+          roots = 1 ∷ 2 ∷ [];
+          cut = [];
+          tied = [];
+        } in ¬ IsLegalStep g (step_of g revives) }
 {}

@@ -36,8 +36,10 @@ fn replay_both(
     semi_space: SemiSpace,
     sink: &mut MemSink,
 ) -> Result<u32, Fail>
-    requires first { (policy : Policy) × (objects : ℕ) × (length (made items.now) ≤ objects) × ⟦<MarkSweep as HeapModel>⟧.stands_for mark_sweep policy objects [] }
-    requires second { (policy : Policy) × (objects : ℕ) × (length (made items.now) ≤ objects) × ⟦<SemiSpace as HeapModel>⟧.stands_for semi_space policy objects [] }
+    requires first { (policy : Policy) × (objects : ℕ) × (length (made items.now) ≤ objects)
+        × ⟦<MarkSweep as HeapModel>⟧.stands_for mark_sweep policy objects [] }
+    requires second { (policy : Policy) × (objects : ℕ) × (length (made items.now) ≤ objects)
+        × ⟦<SemiSpace as HeapModel>⟧.stands_for semi_space policy objects [] }
 {
     let mut models: Vec<Box<dyn HeapModel>> = Vec::new(alloc);
     models.push(Box::new(alloc, mark_sweep)?)?;

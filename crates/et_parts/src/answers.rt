@@ -9,7 +9,8 @@ use et_state::{EventEnd, Machine};
 /// What an event without meaning answers: the method and the pc of the topmost frame.
 pub fn ill_typed(machine: &Machine, thread: ThreadId) -> EventEnd
     requires { HasFrame machine.now.guest thread }
-    ensures { result ≡ ends.IllTyped (unwrap_or (top machine.now.guest thread).method 0) (top machine.now.guest thread).pc }
+    ensures { result ≡ ends.IllTyped
+        (unwrap_or (top machine.now.guest thread).method 0) (top machine.now.guest thread).pc }
 {
     let method = machine.frame_method(thread).unwrap_or(MethodId::new(0));
     EventEnd::IllTyped {

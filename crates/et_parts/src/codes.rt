@@ -101,7 +101,8 @@ pub(crate) fn instruction(code: &[u8], pc: u32) -> Result<(Instr, u32), CodeFaul
     requires { length code.now < 2 ^ 16 }
     ensures decoded { result ≡ instruction_at code.now pc }
     ensures within { IfOk result (λ x. pc < length code.now) }
-    ensures index { IfOk result (λ x. (r : Row) → row_in_table x.0.opcode ≡ Some r → is_frame r ≡ false → natural x.0.first < 2 ^ 16) }
+    ensures index { IfOk result (λ x. (r : Row) →
+        row_in_table x.0.opcode ≡ Some r → is_frame r ≡ false → natural x.0.first < 2 ^ 16) }
 {
     let pc = pc as usize;
     if pc >= code.len() {

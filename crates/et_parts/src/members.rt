@@ -30,7 +30,8 @@ fn index_of(place: &Place<'_>) -> u16
 
 /// The member that an entry of a pool gives.
 fn described<'a>(pool: &'a Pool, index: u16) -> Option<MemberAt<'a>>
-    ensures { (at : Site) → at.pool ≡ pool.now.slots → pool_index at ≡ index → option_map shown_member result ≡ member_of at }
+    ensures { (at : Site) → at.pool ≡ pool.now.slots →
+        pool_index at ≡ index → option_map shown_member result ≡ member_of at }
 {
     let (owner, name_and_type) = pool.member(index)?;
     let owner = pool.class_name(owner)?;

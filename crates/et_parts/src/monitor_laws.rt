@@ -12,17 +12,20 @@ ghost use Rattle.et_parts.specs.Locks.{HasMonitor, with_monitor_at, entering_som
 
 /// A monitor that is written keeps an event on its way.
 pub fn on_way()
-    ensures { (s : Kept) (m : MachineState) (lock : TableLock) (x : Monitor) → IsOnWay s m → HasMonitor m lock → IsOnWay s (with_monitor_at lock x m) }
+    ensures { (s : Kept) (m : MachineState) (lock : TableLock) (x : Monitor) →
+        IsOnWay s m → HasMonitor m lock → IsOnWay s (with_monitor_at lock x m) }
 {}
 
 /// `enter_monitor` and `enter_some` come to what the table of events says.
 pub fn entered()
     ensures { (e : Moment) (lock : Option TableLock) (m : MachineState) (records : List Record) →
-        entered_some e lock (record { state = kept_of m; records = records }) ≡ record { state = kept_of (entering_some e.thread lock m); records = records } }
+        entered_some e lock (record { state = kept_of m; records = records })
+        ≡ record { state = kept_of (entering_some e.thread lock m); records = records } }
 {}
 
 /// So do `leave_monitor` and `leave_some`.
 pub fn left()
     ensures { (lock : Option TableLock) (m : MachineState) (records : List Record) →
-        left_some lock (record { state = kept_of m; records = records }) ≡ record { state = kept_of (leaving_some lock m); records = records } }
+        left_some lock (record { state = kept_of m; records = records })
+        ≡ record { state = kept_of (leaving_some lock m); records = records } }
 {}

@@ -3,7 +3,7 @@ ghost use Rattle.std.specs.Prelude.{◌≡◌, ◌<◌, ◌^◌, IfOk, OnErr};
 ghost use Rattle.et_state.specs.State.{kept_of};
 ghost use Rattle.et_state.specs.Sound.{IsSound};
 ghost use Rattle.et_program.specs.Entries.{class_at};
-ghost use Rattle.et_event.specs.Moments.{begins, instance_made};
+ghost use Rattle.et_event.specs.Moments.{begins, instance_made, moment};
 ghost use Rattle.et_event.specs.Errors.{class_called as called};
 ghost use Rattle.et_parts.specs.Making.{MakesObject};
 
@@ -43,7 +43,9 @@ pub fn make_instance(
     requires sound { IsSound (kept_of machine.old) }
     requires clock { machine.old.guest.clock < 2 ^ 40 }
     ensures err { OnErr result (machine.new.guest ≡ machine.old.guest) }
-    ensures made { IfOk result (λ made. MakesObject (instance_made (record { program = program.now; before = kept_of machine.old; thread = thread }) class (begins (record { program = program.now; before = kept_of machine.old; thread = thread }))) made machine.old machine.new out.old out.new) }
+    ensures made { IfOk result
+        (λ made. MakesObject (instance_made (moment program.now machine.old thread) class (begins
+        (moment program.now machine.old thread))) made machine.old machine.new out.old out.new) }
 {
     let slots = slots_of(program, class);
     let event = machine.clock() + 1;

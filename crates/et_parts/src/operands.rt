@@ -18,7 +18,9 @@ pub fn take(machine: &mut Machine, thread: ThreadId, count: u32)
     requires frame { HasFrame machine.old.guest thread }
     requires operands { count ≤ length (top machine.old.guest thread).operands }
     requires lost { length machine.old.lost + count ≤ lost_room }
-    ensures { machine.new ≡ steps_top machine.old thread (popped count (top machine.old.guest thread)) (refs_of (first count (top machine.old.guest thread).operands)) }
+    ensures { machine.new
+        ≡ steps_top machine.old thread (popped count (top machine.old.guest thread))
+        (refs_of (first count (top machine.old.guest thread).operands)) }
 {
     for _ in 0..count {
         machine.pop(thread);
@@ -28,8 +30,10 @@ pub fn take(machine: &mut Machine, thread: ThreadId, count: u32)
 /// Puts these operands on top, the first of them topmost.
 pub fn give(machine: &mut Machine, thread: ThreadId, values: &[Value])
     requires frame { HasFrame machine.old.guest thread }
-    requires room { length values.now + length (top machine.old.guest thread).operands ≤ (top machine.old.guest thread).room }
-    ensures { machine.new ≡ steps_top machine.old thread (record (top machine.old.guest thread) { operands = values.now ++ (top machine.old.guest thread).operands }) [] }
+    requires room { length values.now + length (top machine.old.guest thread).operands
+        ≤ (top machine.old.guest thread).room }
+    ensures { machine.new ≡ steps_top machine.old thread (record (top machine.old.guest thread)
+        { operands = values.now ++ (top machine.old.guest thread).operands }) [] }
 {
     for k in 0..values.len() {
         machine.push(thread, values[values.len() - 1 - k]);
@@ -44,9 +48,15 @@ pub fn put(machine: &mut Machine, thread: ThreadId, taken: u32, values: &[Value]
     requires clock { machine.old.guest.clock < 2 ^ 40 }
     requires operands { taken ≤ length (top machine.old.guest thread).operands }
     requires few { taken ≤ 16 }
-    requires room { length values.now + length (drop taken (top machine.old.guest thread).operands) ≤ (top machine.old.guest thread).room }
+    requires room { length values.now + length (drop taken (top machine.old.guest thread).operands)
+        ≤ (top machine.old.guest thread).room }
     requires there { AreIn (top machine.old.guest thread) values.now }
-    ensures { Led (kept_of machine.old) (record { heap = machine.old.heap; guest = with_top (ticked machine.old.guest) thread (record (top machine.old.guest thread) { pc = pc; operands = values.now ++ drop taken (top machine.old.guest thread).operands }) }) machine.new }
+    ensures { Led (kept_of machine.old) (record {
+      heap = machine.old.heap;
+      guest = with_top (ticked machine.old.guest) thread (record (top machine.old.guest thread)
+          { pc = pc; operands = values.now ++ drop taken (top machine.old.guest thread).operands });
+    })
+        machine.new }
 {
     machine.begin_event();
     take(machine, thread, taken);
@@ -70,7 +80,9 @@ pub fn replace(
     requires few { taken ≤ 16 }
     requires small { length values.now ≤ 16 }
     requires there { AreIn (top machine.old.guest thread) values.now }
-    ensures { StepsFrame (put_operands pc (values.now ++ drop taken (top machine.old.guest thread).operands) (top machine.old.guest thread)) result thread machine.old machine.new }
+    ensures { StepsFrame
+        (put_operands pc (values.now ++ drop taken (top machine.old.guest thread).operands)
+        (top machine.old.guest thread)) result thread machine.old machine.new }
 {
     let room = machine.room(thread) as u32;
     let left = machine.depth(thread) - taken;

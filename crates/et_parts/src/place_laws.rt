@@ -22,19 +22,21 @@ ghost use Rattle.et_event.specs.Table.{row_of};
 /// An event that does an instruction is what `does` says of the row of its opcode, at the place where it was decoded. At
 /// the end of the code, and where the opcode has no row, it has no meaning.
 pub fn instruction()
-    ensures row { (p : Linked) (s : Kept) (t : ℕ) (x : Decoded × ℕ) (r : Row) → turn_of (thread_at s.guest t) ≡ turns.Instruction →
-        decoded_at p (top s.guest t) ≡ Ok x → row_of x.0.opcode ≡ Some r →
-        event p s t ≡ does (record { program = p; before = s; thread = t }) (site_of p (top s.guest t) x) r }
-    ensures no_row { (p : Linked) (s : Kept) (t : ℕ) (x : Decoded × ℕ) → turn_of (thread_at s.guest t) ≡ turns.Instruction →
+    ensures row { (p : Linked) (s : Kept) (t : ℕ) (x : Decoded × ℕ) (r : Row) →
+        turn_of (thread_at s.guest t) ≡ turns.Instruction →
+        decoded_at p (top s.guest t) ≡ Ok x → row_of x.0.opcode ≡ Some r → event p s t
+        ≡ does (record { program = p; before = s; thread = t }) (site_of p (top s.guest t) x) r }
+    ensures no_row { (p : Linked) (s : Kept) (t : ℕ) (x : Decoded × ℕ) →
+        turn_of (thread_at s.guest t) ≡ turns.Instruction →
         decoded_at p (top s.guest t) ≡ Ok x → row_of x.0.opcode ≡ None →
         event p s t ≡ ill_typed (record { program = p; before = s; thread = t }) }
-    ensures end { (p : Linked) (s : Kept) (t : ℕ) (fault : CodeFault) → turn_of (thread_at s.guest t) ≡ turns.Instruction →
-        decoded_at p (top s.guest t) ≡ Err fault →
-        event p s t ≡ ill_typed (record { program = p; before = s; thread = t }) }
+    ensures end { (p : Linked) (s : Kept) (t : ℕ) (fault : CodeFault) →
+        turn_of (thread_at s.guest t) ≡ turns.Instruction → decoded_at p (top s.guest t)
+        ≡ Err fault → event p s t ≡ ill_typed (record { program = p; before = s; thread = t }) }
 {}
 
 /// What is decoded from code and has the row of a switch is one.
 pub fn switch()
-    ensures { (code : List ℕ) (pc : ℕ) (x : Decoded × ℕ) → instruction_at code pc ≡ Ok x → row_of x.0.opcode ≡ Some (rows.Frame frame_rows.Switch) →
-        IsSwitch code x.0 }
+    ensures { (code : List ℕ) (pc : ℕ) (x : Decoded × ℕ) → instruction_at code pc ≡ Ok x →
+        row_of x.0.opcode ≡ Some (rows.Frame frame_rows.Switch) → IsSwitch code x.0 }
 {}

@@ -5,7 +5,7 @@ ghost use Rattle.et_state.specs.Threads.{turn_of};
 ghost use Rattle.et_state.specs.State.{kept_of};
 ghost use Rattle.et_state.specs.Words.{thread_at, top};
 ghost use Rattle.et_event.specs.Event.{event, does};
-ghost use Rattle.et_event.specs.Moments.{ill_typed};
+ghost use Rattle.et_event.specs.Moments.{ill_typed, moment};
 ghost use Rattle.et_event.specs.Sites.{decoded_at};
 ghost use Rattle.et_event.specs.Sound.{IsSoundFor};
 ghost use Rattle.et_parts.specs.Places.{IsPlace, row_at, site_at};
@@ -40,8 +40,10 @@ pub struct Place<'a> {
 fn find_place<'a>(program: &'a Program, machine: &Machine, thread: ThreadId) -> Option<Place<'a>>
     requires sound { IsSoundFor program.now (kept_of machine.now) }
     requires turn { turn_of (thread_at machine.now.guest thread) ≡ turns.Instruction }
-    ensures found { IfSome result (λ place. IsPlace program.now (top machine.now.guest thread) place) }
-    ensures none { IfNone result (row_at (decoded_at program.now (top machine.now.guest thread)) ≡ None) }
+    ensures found { IfSome result
+        (λ place. IsPlace program.now (top machine.now.guest thread) place) }
+    ensures none { IfNone result
+        (row_at (decoded_at program.now (top machine.now.guest thread)) ≡ None) }
 {
     place_laws::switch();
     let method = method_of(program, machine, thread);
@@ -66,10 +68,14 @@ fn find_place<'a>(program: &'a Program, machine: &Machine, thread: ThreadId) -> 
 pub fn place_of<'a>(program: &'a Program, machine: &Machine, thread: ThreadId) -> Option<Place<'a>>
     requires sound { IsSoundFor program.now (kept_of machine.now) }
     requires turn { turn_of (thread_at machine.now.guest thread) ≡ turns.Instruction }
-    ensures found { IfSome result (λ place. IsPlace program.now (top machine.now.guest thread) place) }
-    ensures none { IfNone result (row_at (decoded_at program.now (top machine.now.guest thread)) ≡ None) }
-    ensures event { IfSome result (λ place. event program.now (kept_of machine.now) thread ≡ does (record { program = program.now; before = kept_of machine.now; thread = thread }) (site_at place) place.row) }
-    ensures no_event { IfNone result (event program.now (kept_of machine.now) thread ≡ ill_typed (record { program = program.now; before = kept_of machine.now; thread = thread })) }
+    ensures found { IfSome result
+        (λ place. IsPlace program.now (top machine.now.guest thread) place) }
+    ensures none { IfNone result
+        (row_at (decoded_at program.now (top machine.now.guest thread)) ≡ None) }
+    ensures event { IfSome result (λ place. event program.now (kept_of machine.now) thread
+        ≡ does (moment program.now machine.now thread) (site_at place) place.row) }
+    ensures no_event { IfNone result (event program.now (kept_of machine.now) thread
+        ≡ ill_typed (moment program.now machine.now thread)) }
 {
     place_laws::instruction();
     find_place(program, machine, thread)

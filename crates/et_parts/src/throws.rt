@@ -4,7 +4,7 @@ ghost use Rattle.et_state.specs.State.{kept_of};
 ghost use Rattle.et_state.specs.Words.{HasFrame};
 ghost use Rattle.et_state.specs.Sound.{IsSound};
 ghost use Rattle.et_event.specs.Answered.{EventAnswers};
-ghost use Rattle.et_event.specs.Moments.{begins, throws};
+ghost use Rattle.et_event.specs.Moments.{begins, throws, moment};
 
 use crate::objects::{class_called, make_instance};
 use et_base::{NoMemory, ThreadId};
@@ -26,7 +26,9 @@ pub fn throw_error(
     requires frame { HasFrame machine.old.guest thread }
     requires sound { IsSound (kept_of machine.old) }
     requires clock { machine.old.guest.clock < 2 ^ 40 }
-    ensures ok { IfOk result (λ end. EventAnswers (throws (record { program = program.now; before = kept_of machine.old; thread = thread }) error (begins (record { program = program.now; before = kept_of machine.old; thread = thread }))) end machine.old machine.new out.old out.new) }
+    ensures ok { IfOk result
+        (λ end. EventAnswers (throws (moment program.now machine.old thread) error (begins
+        (moment program.now machine.old thread))) end machine.old machine.new out.old out.new) }
     ensures err { OnErr result (machine.new.guest ≡ machine.old.guest) }
 {
     let class = class_called(program, error.class_name());

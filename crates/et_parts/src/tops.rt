@@ -37,7 +37,8 @@ pub fn int_at(machine: &Machine, thread: ThreadId, k: u32) -> Option<i32>
 pub fn long_at(machine: &Machine, thread: ThreadId, k: u32) -> Option<i64>
     requires frame { HasFrame machine.now.guest thread }
     requires small { k + 1 < 2 ^ 32 }
-    ensures { result ≡ long_of (operand_of (top machine.now.guest thread) k) (operand_of (top machine.now.guest thread) (k + 1)) }
+    ensures { result ≡ long_of (operand_of (top machine.now.guest thread) k)
+        (operand_of (top machine.now.guest thread) (k + 1)) }
 {
     match (
         operand_at(machine, thread, k),

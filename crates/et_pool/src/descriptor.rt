@@ -169,7 +169,8 @@ pub fn dimensions(s: &[u8]) -> usize
 /// The parameters that stand at the front of `s`, up to their `)`: their entries, whether one is
 /// floating, and what stands behind the `)`.
 fn parameters(s: &[u8]) -> Option<(usize, bool, &[u8])>
-    ensures { option_map (λ x. (x.0, x.1, x.2.now)) result ≡ option_map (parameters_of 0 false) (types_of (length s.now) s.now) }
+    ensures { option_map (λ x. (x.0, x.1, x.2.now)) result
+        ≡ option_map (parameters_of 0 false) (types_of (length s.now) s.now) }
 {
     let mut entries = 0;
     let mut floating = false;

@@ -14,5 +14,6 @@ pub fn exactly_one()
 /// The bytes have a pool at a place exactly where its count and its entries are spelled there, in
 /// order, whole.
 pub fn spelled()
-    ensures { (bytes : List ℕ) (at : ℕ) (slots : List (Option Item)) (after : ℕ) → AreBytes bytes → (IsPool bytes at slots after ↔ IsSpelled bytes at slots after) }
+    ensures { (bytes : List ℕ) (at : ℕ) (slots : List (Option Item)) (after : ℕ) →
+        AreBytes bytes → (IsPool bytes at slots after ↔ IsSpelled bytes at slots after) }
 {}

@@ -125,7 +125,8 @@ impl Pool {
     }
 
     fn named(&self, wanted: u8, i: usize) -> Option<&[u8]>
-        ensures { option_map (λ s. s.now) result ≡ named_by self.now.slots wanted (slot_at self.now.slots i) }
+        ensures { option_map (λ s. s.now) result
+            ≡ named_by self.now.slots wanted (slot_at self.now.slots i) }
     {
         match self.entry(i) {
             Some(Entry::Name(tag, index)) => {

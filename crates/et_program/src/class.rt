@@ -38,7 +38,15 @@ impl Model for Class {
 
     ghost Value = { ClassEntry };
 
-    ghost view = { λ c. record { info = info_of c.info; supers = c.supers.items; superinterfaces = c.superinterfaces.items; field_order = c.field_order.items; init_order = c.init_order.items; kind = c.kind; array = c.array } };
+    ghost view = { λ c. record {
+      info = info_of c.info;
+      supers = c.supers.items;
+      superinterfaces = c.superinterfaces.items;
+      field_order = c.field_order.items;
+      init_order = c.init_order.items;
+      kind = c.kind;
+      array = c.array;
+    } };
 }
 
 impl Class {
@@ -46,7 +54,15 @@ impl Class {
 
     /// A class of these parts.
     pub fn new(info: ClassInfo, above: Above, kind: Kind, array: Option<ClassId>) -> Self
-        ensures { result ≡ record { info = info_of info; supers = above.supers.items; superinterfaces = above.superinterfaces.items; field_order = above.field_order.items; init_order = above.init_order.items; kind = kind; array = array } }
+        ensures { result ≡ record {
+          info = info_of info;
+          supers = above.supers.items;
+          superinterfaces = above.superinterfaces.items;
+          field_order = above.field_order.items;
+          init_order = above.init_order.items;
+          kind = kind;
+          array = array;
+        } }
     {
         let Above {
             supers,

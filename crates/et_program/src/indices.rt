@@ -19,7 +19,8 @@ use std::alloc::Global;
 /// The classes by name; the first of a name.
 pub(crate) fn index_classes(alloc: Global, classes: &[Class]) -> Result<NameIndex, NoMemory>
     requires { length classes.now < 2 ^ 32 }
-    ensures { IfOk result (λ x. (name : List ℕ) → number_of x name ≡ position_from (λ (c : ClassEntry). bytes_eq name c.info.name) 0 classes.now) }
+    ensures { IfOk result (λ x. (name : List ℕ) → number_of x name
+        ≡ position_from (λ (c : ClassEntry). bytes_eq name c.info.name) 0 classes.now) }
 {
     let mut places = NameIndex::begin(alloc);
     for (i, class) in classes.iter().enumerate() {
@@ -34,7 +35,8 @@ pub(crate) fn index_base_arrays(
     classes: &[Class],
 ) -> Result<Vec<Option<ClassId>>, NoMemory>
     requires { length classes.now < 2 ^ 32 }
-    ensures { IfOk result (λ arrays. (kind : ℕ) → kind < 256 → slice_index_or arrays.items kind None ≡ position_from (λ (c : ClassEntry). is_base_array kind c.info.element) 0 classes.now) }
+    ensures { IfOk result (λ arrays. (kind : ℕ) → kind < 256 → slice_index_or arrays.items kind None
+        ≡ position_from (λ (c : ClassEntry). is_base_array kind c.info.element) 0 classes.now) }
 {
     let mut arrays = vec![in alloc; None; 256]?;
     for (i, class) in classes.iter().enumerate() {
@@ -47,7 +49,9 @@ pub(crate) fn index_base_arrays(
 fn put_base_array(arrays: &mut Vec<Option<ClassId>>, element: Element, class: ClassId)
     requires { length arrays.old.items ≡ 256 }
     ensures length { length arrays.new.items ≡ 256 }
-    ensures places { (kind : ℕ) → kind < 256 → slice_index_or arrays.new.items kind None ≡ option_or (slice_index_or arrays.old.items kind None) (if is_base_array kind element then Some class else None) }
+    ensures places { (kind : ℕ) → kind < 256 → slice_index_or arrays.new.items kind None
+        ≡ option_or (slice_index_or arrays.old.items kind None)
+        (if is_base_array kind element then Some class else None) }
 {
     if let Element::Base(kind) = element {
         if arrays[kind as usize].is_none() {
@@ -137,7 +141,8 @@ fn put_member(
 ) -> Result<(), NoMemory>
     requires apart { AreApart texts.now }
     requires has { HasTexts texts.now name.now descriptor.now }
-    ensures { OnOk result (PutsMember texts.now members.old members.new class name.now descriptor.now number) }
+    ensures { OnOk result
+        (PutsMember texts.now members.old members.new class name.now descriptor.now number) }
 {
     match texts.find(name) {
         Some(name) => match texts.find(descriptor) {
@@ -160,7 +165,8 @@ pub(crate) fn index_methods(
     requires few { length methods.now < 2 ^ 32 }
     requires apart { AreApart texts.now }
     requires has { HasMethods texts.now methods.now }
-    ensures { IfOk result (λ x. (name descriptor : List ℕ) (c : ℕ) → looked_up texts.now x name descriptor c ≡ position_from (is_method name descriptor c) 0 methods.now) }
+    ensures { IfOk result (λ x. (name descriptor : List ℕ) (c : ℕ) → looked_up
+        texts.now x name descriptor c ≡ position_from (is_method name descriptor c) 0 methods.now) }
 {
     let mut members = MemberIndex::begin(alloc);
     for (i, method) in methods.iter().enumerate() {
@@ -187,7 +193,8 @@ pub(crate) fn index_fields(
     requires few { length fields.now < 2 ^ 32 }
     requires apart { AreApart texts.now }
     requires has { HasFields texts.now fields.now }
-    ensures { IfOk result (λ x. (name descriptor : List ℕ) (c : ℕ) → looked_up texts.now x name descriptor c ≡ position_from (is_field name descriptor c) 0 fields.now) }
+    ensures { IfOk result (λ x. (name descriptor : List ℕ) (c : ℕ) → looked_up
+        texts.now x name descriptor c ≡ position_from (is_field name descriptor c) 0 fields.now) }
 {
     let mut members = MemberIndex::begin(alloc);
     for (i, field) in fields.iter().enumerate() {

@@ -40,8 +40,11 @@ impl MemberIndex {
         descriptor: u32,
         number: u32,
     ) -> Result<(), NoMemory>
-        ensures ok { OnOk result ((c n d : ℕ) → member_of self.new c n d ≡ option_or (member_of self.old c n d) (if ((class == c) && (name == n)) && (descriptor == d) then Some number else None)) }
-        ensures err { OnErr result ((c n d : ℕ) → member_of self.new c n d ≡ member_of self.old c n d) }
+        ensures ok { OnOk result
+            ((c n d : ℕ) → member_of self.new c n d ≡ option_or (member_of self.old c n d)
+            (if ((class == c) && (name == n)) && (descriptor == d) then Some number else None)) }
+        ensures err { OnErr result
+            ((c n d : ℕ) → member_of self.new c n d ≡ member_of self.old c n d) }
     {
         if self.places.contains_key(&(class, name, descriptor)) {
             return Ok(());

@@ -34,7 +34,8 @@ impl NameIndex {
 
     /// Gives a name a number, unless it has one. After `NoMemory` all is as before.
     pub fn put(&mut self, alloc: Global, name: &[u8], number: u32) -> Result<(), NoMemory>
-        ensures ok { OnOk result ((q : List ℕ) → number_of self.new q ≡ option_or (number_of self.old q) (if bytes_eq q name.now then Some number else None)) }
+        ensures ok { OnOk result ((q : List ℕ) → number_of self.new q ≡ option_or
+            (number_of self.old q) (if bytes_eq q name.now then Some number else None)) }
         ensures err { OnErr result ((q : List ℕ) → number_of self.new q ≡ number_of self.old q) }
     {
         if self.places.contains_key(name) {

@@ -40,9 +40,26 @@ impl Model for Program {
 
     ghost Value = { Linked };
 
-    ghost view = { λ p. record { classes = p.classes.items; methods = p.methods.items; fields = p.fields.items; statics = p.statics.items; file_methods = p.file_methods.items; main = p.main; pools = p.pools.items } };
+    ghost view = { λ p. record {
+      classes = p.classes.items;
+      methods = p.methods.items;
+      fields = p.fields.items;
+      statics = p.statics.items;
+      file_methods = p.file_methods.items;
+      main = p.main;
+      pools = p.pools.items;
+    } };
 
-    ghost invariant = { λ p. let l : Linked = record { classes = p.classes.items; methods = p.methods.items; fields = p.fields.items; statics = p.statics.items; file_methods = p.file_methods.items; main = p.main; pools = p.pools.items } in IsTabled l × AreIndexed l p.base_arrays.items p.places p.texts p.method_places p.field_places };
+    ghost invariant = { λ p. let l : Linked = record {
+      classes = p.classes.items;
+      methods = p.methods.items;
+      fields = p.fields.items;
+      statics = p.statics.items;
+      file_methods = p.file_methods.items;
+      main = p.main;
+      pools = p.pools.items;
+    } in IsTabled l
+        × AreIndexed l p.base_arrays.items p.places p.texts p.method_places p.field_places };
 }
 
 impl Program {
@@ -118,7 +135,8 @@ impl Program {
     pub fn class(&self, class: ClassId) -> &ClassInfo
         requires { class < length self.now.classes }
         ensures value { info_of result.now ≡ (class_at self.now class).info }
-        ensures within { IsInfoWithin (length self.now.classes) (length self.now.methods) (length self.now.fields) (info_of result.now) }
+        ensures within { IsInfoWithin (length self.now.classes)
+            (length self.now.methods) (length self.now.fields) (info_of result.now) }
     {
         self.entry(class).info()
     }
@@ -128,7 +146,8 @@ impl Program {
         requires { class < length self.now.classes }
         ensures value { result.now ≡ class_at self.now class }
         ensures within { IsWithin (length self.now.classes) result.now }
-        ensures info { IsInfoWithin (length self.now.classes) (length self.now.methods) (length self.now.fields) result.now.info }
+        ensures info { IsInfoWithin (length self.now.classes)
+            (length self.now.methods) (length self.now.fields) result.now.info }
     {
         &self.classes[class.number() as usize]
     }

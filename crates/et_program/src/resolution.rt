@@ -133,7 +133,8 @@ impl Program {
     #[tactic(auto, using(crate::proofs::Counting::counting_rules))]
     pub(crate) fn specific(&self, name: &[u8], descriptor: &[u8], all: &[ClassId]) -> Specific
         requires { All (λ k. k < length self.now.classes) all.now }
-        ensures value { result ≡ amount (filter_map (specific_in self.now name.now descriptor.now all.now) all.now) }
+        ensures value { result
+            ≡ amount (filter_map (specific_in self.now name.now descriptor.now all.now) all.now) }
         ensures within { IsOneBelow (length self.now.methods) result }
     {
         let mut found = Specific::Nothing;
@@ -168,7 +169,8 @@ impl Program {
         descriptor: &[u8],
     ) -> Result<MethodId, LinkError>
         requires { owner < length self.now.classes }
-        ensures value { result ≡ resolve_method self.now owner by_interface name.now descriptor.now }
+        ensures value { result
+            ≡ resolve_method self.now owner by_interface name.now descriptor.now }
         ensures within { IfOk result (λ m. m < length self.now.methods) }
     {
         let class = self.entry(owner);

@@ -50,7 +50,8 @@ impl Program {
         descriptor: &[u8],
         classes: &[ClassId],
     ) -> Option<MethodId>
-        ensures value { result ≡ first_in (selectable_in self.now special name.now descriptor.now) classes.now }
+        ensures value { result
+            ≡ first_in (selectable_in self.now special name.now descriptor.now) classes.now }
         ensures within { IfSome result (λ m. m < length self.now.methods) }
     {
         for class in classes {
@@ -70,7 +71,8 @@ impl Program {
         class: ClassId,
     ) -> Option<MethodId>
         requires { class < length self.now.classes }
-        ensures value { result ≡ first_in (selectable_in self.now special name.now descriptor.now) (lineage self.now class) }
+        ensures value { result ≡ first_in
+            (selectable_in self.now special name.now descriptor.now) (lineage self.now class) }
         ensures within { IfSome result (λ m. m < length self.now.methods) }
     {
         match self.selectable_in(special, name, descriptor, class) {

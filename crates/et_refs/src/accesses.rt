@@ -136,7 +136,8 @@ fn write_static(
     requires lost { length machine.old.lost + 3 ≤ lost_room }
     requires can { CanWrite machine.old (top machine.old.guest thread) x }
     ensures machine { OnOk result (machine.new ≡ writes thread next x machine.old) }
-    ensures told { OnOk result (TellsStatic machine.old.guest.clock thread x.slot (static_at machine.old.guest x.slot) x.value out.old out.new) }
+    ensures told { OnOk result (TellsStatic machine.old.guest.clock thread x.slot
+        (static_at machine.old.guest x.slot) x.value out.old out.new) }
 {
     leave(machine, thread, next, x.taken);
     let old = machine.set_static(x.slot, x.value);
@@ -154,8 +155,10 @@ fn make_object(
     requires class { class < length program.now.classes }
     requires room { has_room machine.old.heap 1 (class_at program.now class).info.slots ≡ true }
     ensures object { IfOk result (λ o. o ≡ length machine.old.heap) }
-    ensures made { OnOk result (machine.new ≡ with_new_object machine.old (new_object class 0 (class_at program.now class).info.slots)) }
-    ensures told { OnOk result (out.new ≡ out.old ++ Alloc machine.old.guest.clock thread (length machine.old.heap) class (16 + 8 * (class_at program.now class).info.slots) 0 ∷ []) }
+    ensures made { OnOk result (machine.new ≡ with_new_object machine.old
+        (new_object class 0 (class_at program.now class).info.slots)) }
+    ensures told { OnOk result (out.new ≡ out.old ++ Alloc machine.old.guest.clock thread
+        (length machine.old.heap) class (16 + 8 * (class_at program.now class).info.slots) 0 ∷ []) }
 {
     let slots = slots_of(program, class);
     let object = match machine.heap.make_object(class, slots) {
@@ -188,7 +191,8 @@ fn make_instance(
     requires class { class < length program.now.classes }
     requires can { CanMake program.now machine.old (top machine.old.guest thread) class }
     ensures machine { OnOk result (machine.new ≡ makes program.now thread next class machine.old) }
-    ensures told { OnOk result (out.new ≡ out.old ++ Alloc machine.old.guest.clock thread (length machine.old.heap) class (16 + 8 * (class_at program.now class).info.slots) 0 ∷ []) }
+    ensures told { OnOk result (out.new ≡ out.old ++ Alloc machine.old.guest.clock thread
+        (length machine.old.heap) class (16 + 8 * (class_at program.now class).info.slots) 0 ∷ []) }
 {
     let object = make_object(program, machine, thread, class, out)?;
     replace_top(machine, thread, 0, Value::Ref(object), next);
@@ -207,8 +211,10 @@ pub(crate) fn carry_out(
     requires frame { HasFrame machine.old.guest thread }
     requires lost { length machine.old.lost + 3 ≤ lost_room }
     requires class { wanted.now.class < length program.now.classes }
-    requires can { CanAccess program.now machine.old (top machine.old.guest thread) wanted.now.class wanted.now.access }
-    ensures { OnOk result (Accesses program.now thread place.now.next wanted.now.class wanted.now.access machine.old machine.new out.old out.new) }
+    requires can { CanAccess program.now machine.old
+        (top machine.old.guest thread) wanted.now.class wanted.now.access }
+    ensures { OnOk result (Accesses program.now thread
+        place.now.next wanted.now.class wanted.now.access machine.old machine.new out.old out.new) }
 {
     match wanted.access {
         Access::Read(x) => {

@@ -27,7 +27,8 @@ use et_state::Machine;
 
 /// An array of a class of so many elements; a NegativeArraySizeException where they are less than 0.
 fn sized(class: ClassId, elements: i32) -> Result<NewArray, Refusal>
-    ensures { (e : Moment) (at : Site) → new_array_of e at class elements (drop 1 (frame_of e).operands) ≡ decided e result (added e at) }
+    ensures { (e : Moment) (at : Site) → new_array_of e at class elements
+        (drop 1 (frame_of e).operands) ≡ decided e result (added e at) }
 {
     throws_unless(GuestError::NegativeArraySizeException, is_length(elements))?;
     Ok(NewArray {
@@ -73,7 +74,9 @@ pub(crate) fn new_array(
 ) -> Result<NewArray, Refusal>
     requires frame { HasFrame machine.now.guest thread }
     requires elements { AreElementsWithin program.now }
-    ensures is { base_type_array (moment program.now machine.now thread) (site_at place.now) ≡ decided (moment program.now machine.now thread) result (added (moment program.now machine.now thread) (site_at place.now)) }
+    ensures is { base_type_array (moment program.now machine.now thread) (site_at place.now)
+        ≡ decided (moment program.now machine.now thread) result
+        (added (moment program.now machine.now thread) (site_at place.now)) }
     ensures may { IfOk result (λ x. MayMake (top machine.now.guest thread)) }
 {
     operands_fit(machine, thread);
@@ -92,7 +95,9 @@ pub(crate) fn new_reference_array(
     requires frame { HasFrame machine.now.guest thread }
     requires sound { IsSoundFor program.now (kept_of machine.now) }
     requires index { natural_of place.now.instr.first < 2 ^ 16 }
-    ensures is { reference_array (moment program.now machine.now thread) (site_at place.now) ≡ decided (moment program.now machine.now thread) result (added (moment program.now machine.now thread) (site_at place.now)) }
+    ensures is { reference_array (moment program.now machine.now thread) (site_at place.now)
+        ≡ decided (moment program.now machine.now thread) result
+        (added (moment program.now machine.now thread) (site_at place.now)) }
     ensures may { IfOk result (λ x. MayMake (top machine.now.guest thread)) }
 {
     operands_fit(machine, thread);

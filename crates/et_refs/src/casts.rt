@@ -32,7 +32,8 @@ use std::sync::ledger::Ledger;
 /// The name of the class that an instruction has as its operand.
 pub fn class_named<'a>(place: &Place<'a>) -> Result<&'a [u8], Refusal>
     requires { natural place.now.instr.first < 2 ^ 16 }
-    ensures { (e : Moment) (go : List ℕ → Outcome Kept) → with_class e (operand_class (site_at place.now)) go ≡ decided e result (λ name. go name.now) }
+    ensures { (e : Moment) (go : List ℕ → Outcome Kept) → with_class e
+        (operand_class (site_at place.now)) go ≡ decided e result (λ name. go name.now) }
 {
     match class_operand(place) {
         Some(name) => Ok(name),
@@ -69,7 +70,9 @@ fn cast_object<L: Ledger>(
 ) -> Result<Value, Refusal>
     requires sound { IsSoundFor program.now (kept_of machine.now) }
     requires held { IsHeld machine.now.heap object }
-    ensures is { (at : Site) (below : List Entry) → casting (moment program.now machine.now thread) at name.now below (Some object) ≡ decided (moment program.now machine.now thread) result (left (moment program.now machine.now thread) at below) }
+    ensures is { (at : Site) (below : List Entry) → casting (moment program.now machine.now thread)
+        at name.now below (Some object) ≡ decided (moment program.now machine.now thread) result
+        (left (moment program.now machine.now thread) at below) }
     ensures few { IfOk result (λ v. length (entries_of v) ≤ 1) }
     ensures held { IfOk result (λ v. AreHeld machine.now (refs_of_value v)) }
     ensures visits { visits.new ≤ visits.old + 1 }
@@ -91,7 +94,9 @@ fn test_object<L: Ledger>(
 ) -> Result<Value, Refusal>
     requires sound { IsSoundFor program.now (kept_of machine.now) }
     requires held { IsHeld machine.now.heap object }
-    ensures is { (at : Site) (below : List Entry) → testing (moment program.now machine.now thread) at name.now below (Some object) ≡ decided (moment program.now machine.now thread) result (left (moment program.now machine.now thread) at below) }
+    ensures is { (at : Site) (below : List Entry) → testing (moment program.now machine.now thread)
+        at name.now below (Some object) ≡ decided (moment program.now machine.now thread) result
+        (left (moment program.now machine.now thread) at below) }
     ensures few { IfOk result (λ v. length (entries_of v) ≤ 1) }
     ensures held { IfOk result (λ v. AreHeld machine.now (refs_of_value v)) }
     ensures visits { visits.new ≤ visits.old + 1 }
@@ -119,7 +124,9 @@ fn cast<L: Ledger>(
 ) -> Result<Value, Refusal>
     requires sound { IsSoundFor program.now (kept_of machine.now) }
     requires named { IsNamed machine.now (top machine.now.guest thread) reference }
-    ensures is { (at : Site) (below : List Entry) → casting (moment program.now machine.now thread) at name.now below reference ≡ decided (moment program.now machine.now thread) result (left (moment program.now machine.now thread) at below) }
+    ensures is { (at : Site) (below : List Entry) → casting (moment program.now machine.now thread)
+        at name.now below reference ≡ decided (moment program.now machine.now thread) result
+        (left (moment program.now machine.now thread) at below) }
     ensures few { IfOk result (λ v. length (entries_of v) ≤ 1) }
     ensures held { IfOk result (λ v. AreHeld machine.now (refs_of_value v)) }
     ensures visits { visits.new ≤ visits.old + 1 }
@@ -141,7 +148,9 @@ fn test<L: Ledger>(
 ) -> Result<Value, Refusal>
     requires sound { IsSoundFor program.now (kept_of machine.now) }
     requires named { IsNamed machine.now (top machine.now.guest thread) reference }
-    ensures is { (at : Site) (below : List Entry) → testing (moment program.now machine.now thread) at name.now below reference ≡ decided (moment program.now machine.now thread) result (left (moment program.now machine.now thread) at below) }
+    ensures is { (at : Site) (below : List Entry) → testing (moment program.now machine.now thread)
+        at name.now below reference ≡ decided (moment program.now machine.now thread) result
+        (left (moment program.now machine.now thread) at below) }
     ensures few { IfOk result (λ v. length (entries_of v) ≤ 1) }
     ensures held { IfOk result (λ v. AreHeld machine.now (refs_of_value v)) }
     ensures visits { visits.new ≤ visits.old + 1 }
@@ -163,7 +172,9 @@ pub(crate) fn check_cast<L: Ledger>(
     requires frame { HasFrame machine.now.guest thread }
     requires sound { IsSoundFor program.now (kept_of machine.now) }
     requires index { natural place.now.instr.first < 2 ^ 16 }
-    ensures is { check_casting (moment program.now machine.now thread) (site_at place.now) ≡ decided (moment program.now machine.now thread) result (exchanged (moment program.now machine.now thread) (site_at place.now)) }
+    ensures is { check_casting (moment program.now machine.now thread) (site_at place.now)
+        ≡ decided (moment program.now machine.now thread) result
+        (exchanged (moment program.now machine.now thread) (site_at place.now)) }
     ensures may { IfOk result (λ x. MayExchange machine.now (top machine.now.guest thread) x) }
     ensures visits { visits.new ≤ visits.old + 1 }
 {
@@ -185,7 +196,9 @@ pub(crate) fn instance_of<L: Ledger>(
     requires frame { HasFrame machine.now.guest thread }
     requires sound { IsSoundFor program.now (kept_of machine.now) }
     requires index { natural place.now.instr.first < 2 ^ 16 }
-    ensures is { instance_testing (moment program.now machine.now thread) (site_at place.now) ≡ decided (moment program.now machine.now thread) result (exchanged (moment program.now machine.now thread) (site_at place.now)) }
+    ensures is { instance_testing (moment program.now machine.now thread) (site_at place.now)
+        ≡ decided (moment program.now machine.now thread) result
+        (exchanged (moment program.now machine.now thread) (site_at place.now)) }
     ensures may { IfOk result (λ x. MayExchange machine.now (top machine.now.guest thread) x) }
     ensures visits { visits.new ≤ visits.old + 1 }
 {

@@ -59,8 +59,10 @@ pub enum Change {
 /// Puts a value on top; a long takes two entries.
 fn give_value(machine: &mut Machine, thread: ThreadId, value: Value)
     requires frame { HasFrame machine.old.guest thread }
-    requires room { length (entries_of value) + length (top machine.old.guest thread).operands ≤ (top machine.old.guest thread).room }
-    ensures { machine.new ≡ steps_top machine.old thread (record (top machine.old.guest thread) { operands = entries_of value ++ (top machine.old.guest thread).operands }) [] }
+    requires room { length (entries_of value) + length (top machine.old.guest thread).operands
+        ≤ (top machine.old.guest thread).room }
+    ensures { machine.new ≡ steps_top machine.old thread (record (top machine.old.guest thread)
+        { operands = entries_of value ++ (top machine.old.guest thread).operands }) [] }
 {
     match value {
         Value::Long(_) => give(machine, thread, &[Value::LongHigh, value]),
@@ -75,8 +77,14 @@ pub fn replace_top(machine: &mut Machine, thread: ThreadId, taken: u32, value: V
     requires frame { HasFrame machine.old.guest thread }
     requires operands { taken ≤ length (top machine.old.guest thread).operands }
     requires lost { length machine.old.lost + taken ≤ lost_room }
-    requires room { length (entries_of value) + length (drop taken (top machine.old.guest thread).operands) ≤ (top machine.old.guest thread).room }
-    ensures { machine.new ≡ steps_top machine.old thread (record (top machine.old.guest thread) { pc = next; operands = entries_of value ++ drop taken (top machine.old.guest thread).operands }) (refs_of (first taken (top machine.old.guest thread).operands)) }
+    requires room { length (entries_of value) + length
+        (drop taken (top machine.old.guest thread).operands) ≤ (top machine.old.guest thread).room }
+    ensures { machine.new
+        ≡ steps_top machine.old thread (record (top machine.old.guest thread) {
+          pc = next;
+          operands = entries_of value ++ drop taken (top machine.old.guest thread).operands;
+        })
+        (refs_of (first taken (top machine.old.guest thread).operands)) }
 {
     take(machine, thread, taken);
     give_value(machine, thread, value);
@@ -89,7 +97,16 @@ fn put_value(machine: &mut Machine, thread: ThreadId, next: u32, x: Exchange)
     requires sound { IsSound (kept_of machine.old) }
     requires clock { machine.old.guest.clock < 2 ^ 40 }
     requires may { MayExchange machine.old (top machine.old.guest thread) x }
-    ensures { Led (kept_of machine.old) (record { heap = machine.old.heap; guest = with_top (ticked machine.old.guest) thread (record (top machine.old.guest thread) { pc = next; operands = entries_of x.value ++ drop x.taken (top machine.old.guest thread).operands }) }) machine.new }
+    ensures { Led (kept_of machine.old)
+        (record {
+          heap = machine.old.heap;
+          guest = with_top (ticked machine.old.guest) thread
+              (record (top machine.old.guest thread) {
+                pc = next;
+                operands = entries_of x.value
+                    ++ drop x.taken (top machine.old.guest thread).operands;
+              });
+        }) machine.new }
 {
     machine.begin_event();
     replace_top(machine, thread, x.taken, x.value, next);
@@ -116,7 +133,9 @@ fn tell_update(
     old: Value,
     value: Value,
 ) -> Result<(), NoMemory>
-    ensures ok { OnOk result ((p : Linked) (b s : Kept) → s.guest.clock ≡ event → out.new ≡ (updated (record { program = p; before = b; thread = thread }) object slot old value (record { state = s; records = out.old })).records) }
+    ensures ok { OnOk result ((p : Linked) (b s : Kept) → s.guest.clock ≡ event → out.new
+        ≡ (updated (record { program = p; before = b; thread = thread }) object slot old value
+        (record { state = s; records = out.old })).records) }
     ensures err { OnErr result (out.new ≡ out.old) }
 {
     match value {
@@ -144,7 +163,15 @@ fn set_slot<L: Ledger>(
     requires sound { IsSound (kept_of machine.old) }
     requires clock { machine.old.guest.clock < 2 ^ 40 }
     requires may { MayStore machine.old (top machine.old.guest thread) x }
-    ensures led { Led (kept_of machine.old) (record { heap = with_object_at machine.old.heap x.object (with_slot x.slot x.value (object_at machine.old.heap x.object)); guest = with_top (ticked machine.old.guest) thread (record (top machine.old.guest thread) { pc = next; operands = drop x.taken (top machine.old.guest thread).operands }) }) machine.new }
+    ensures led { Led (kept_of machine.old) (record {
+      heap = with_object_at machine.old.heap
+          x.object (with_slot x.slot x.value (object_at machine.old.heap x.object));
+      guest = with_top
+          (ticked machine.old.guest) thread (record (top machine.old.guest thread) {
+            pc = next;
+            operands = drop x.taken (top machine.old.guest thread).operands;
+          });
+    }) machine.new }
     ensures visits { visits.new ≡ visits.old + 1 }
 {
     machine.begin_event();
@@ -167,7 +194,8 @@ fn write_slot<L: Ledger>(
     requires sound { IsSound (kept_of machine.old) }
     requires clock { machine.old.guest.clock < 2 ^ 40 }
     requires may { MayStore machine.old (top machine.old.guest thread) x }
-    ensures ok { IfOk result (λ end. EventAnswers (stored (moment program.now machine.old thread) (site_at place.now) x) end machine.old machine.new out.old out.new) }
+    ensures ok { IfOk result (λ end. EventAnswers (stored (moment program.now machine.old thread)
+        (site_at place.now) x) end machine.old machine.new out.old out.new) }
     ensures err { OnErr result (machine.new ≡ machine.old) }
     ensures visits { visits.new ≤ visits.old + 2 }
 {
@@ -215,7 +243,9 @@ fn make_array(
     requires sound { IsSound (kept_of machine.old) }
     requires clock { machine.old.guest.clock < 2 ^ 40 }
     ensures err { OnErr result (machine.new.guest ≡ machine.old.guest) }
-    ensures made { IfOk result (λ made. MakesObject (array_made (moment program.now machine.old thread) x.class x.elements (begins (moment program.now machine.old thread))) made machine.old machine.new out.old out.new) }
+    ensures made { IfOk result (λ made.
+        MakesObject (array_made (moment program.now machine.old thread) x.class x.elements (begins
+        (moment program.now machine.old thread))) made machine.old machine.new out.old out.new) }
 {
     let width = width_in(program, x.class);
     let event = machine.clock() + 1;
@@ -249,7 +279,8 @@ fn add_array(
     requires sound { IsSound (kept_of machine.old) }
     requires clock { machine.old.guest.clock < 2 ^ 40 }
     requires may { MayMake (top machine.old.guest thread) }
-    ensures ok { IfOk result (λ end. EventAnswers (added (moment program.now machine.old thread) (site_at place.now) x) end machine.old machine.new out.old out.new) }
+    ensures ok { IfOk result (λ end. EventAnswers (added (moment program.now machine.old thread)
+        (site_at place.now) x) end machine.old machine.new out.old out.new) }
     ensures err { OnErr result (machine.new.guest ≡ machine.old.guest) }
 {
     let Some(array) = make_array(machine, program, thread, x, out)? else {
@@ -275,7 +306,8 @@ pub(crate) fn carry_out<L: Ledger>(
     requires sound { IsSound (kept_of machine.old) }
     requires clock { machine.old.guest.clock < 2 ^ 40 }
     requires may { MayChange machine.old (top machine.old.guest thread) change }
-    ensures ok { IfOk result (λ end. EventAnswers (changed (moment program.now machine.old thread) (site_at place.now) change) end machine.old machine.new out.old out.new) }
+    ensures ok { IfOk result (λ end. EventAnswers (changed (moment program.now machine.old thread)
+        (site_at place.now) change) end machine.old machine.new out.old out.new) }
     ensures err { OnErr result (machine.new.guest ≡ machine.old.guest) }
     ensures visits { visits.new ≤ visits.old + 2 }
 {

@@ -14,7 +14,8 @@ use et_program::Program;
 
 /// The event has no meaning unless this holds.
 pub fn ill_typed_unless(holds: bool) -> Result<(), Refusal>
-    ensures is { (e : Moment) (go : Outcome Kept) → ill_unless e holds go ≡ decided e result (λ (u : Unit {0}). go) }
+    ensures is { (e : Moment) (go : Outcome Kept) →
+        ill_unless e holds go ≡ decided e result (λ (u : Unit {0}). go) }
     ensures holds { IfOk result (λ (u : Unit {0}). holds ≡ true) }
 {
     if holds {
@@ -26,7 +27,8 @@ pub fn ill_typed_unless(holds: bool) -> Result<(), Refusal>
 
 /// The machine throws this error unless this holds.
 pub fn throws_unless(error: GuestError, holds: bool) -> Result<(), Refusal>
-    ensures is { (e : Moment) (go : Outcome Kept) → throwing_unless e (begins e) error holds go ≡ decided e result (λ (u : Unit {0}). go) }
+    ensures is { (e : Moment) (go : Outcome Kept) →
+        throwing_unless e (begins e) error holds go ≡ decided e result (λ (u : Unit {0}). go) }
     ensures holds { IfOk result (λ (u : Unit {0}). holds ≡ true) }
 {
     if holds {
@@ -38,7 +40,8 @@ pub fn throws_unless(error: GuestError, holds: bool) -> Result<(), Refusal>
 
 /// The object that a reference names; a NullPointerException where it is null.
 pub(crate) fn not_null(reference: Option<ObjectId>) -> Result<ObjectId, Refusal>
-    ensures is { (e : Moment) (go : ℕ → Outcome Kept) → object_of e (begins e) reference go ≡ decided e result go }
+    ensures is { (e : Moment) (go : ℕ → Outcome Kept) →
+        object_of e (begins e) reference go ≡ decided e result go }
     ensures object { IfOk result (λ o. reference ≡ Some o) }
 {
     match reference {
@@ -49,7 +52,10 @@ pub(crate) fn not_null(reference: Option<ObjectId>) -> Result<ObjectId, Refusal>
 
 /// The class of a name (JVMS 5.4.3.1).
 pub fn resolve(program: &Program, name: &[u8]) -> Result<ClassId, Refusal>
-    ensures is { (s : Kept) (t : ℕ) (go : ℕ → Outcome Kept) → resolved_class (record { program = program.now; before = s; thread = t }) (begins (record { program = program.now; before = s; thread = t })) name.now go ≡ decided (record { program = program.now; before = s; thread = t }) result go }
+    ensures is { (s : Kept) (t : ℕ) (go : ℕ → Outcome Kept) →
+        resolved_class (record { program = program.now; before = s; thread = t })
+        (begins (record { program = program.now; before = s; thread = t })) name.now go
+        ≡ decided (record { program = program.now; before = s; thread = t }) result go }
     ensures within { IfOk result (λ c. c < length program.now.classes) }
 {
     match program.resolve_class(name) {

@@ -33,7 +33,8 @@ fn has_room(machine: &Machine, objects: u32, slots: u32) -> bool
 /// Whether what an access makes fits.
 fn access_fits(program: &Program, machine: &Machine, wanted: &Wanted) -> bool
     requires { wanted.now.class < length program.now.classes }
-    ensures { result ≡ room_for machine.now.heap (objects_in wanted.now.access) (slots_in program.now wanted.now.class wanted.now.access) }
+    ensures { result ≡ room_for machine.now.heap
+        (objects_in wanted.now.access) (slots_in program.now wanted.now.class wanted.now.access) }
 {
     let objects = objects_made(wanted);
     has_room(machine, objects, slots_made(program, wanted))
@@ -52,7 +53,9 @@ fn ready_event(
     requires sound { IsSoundFor program.now (kept_of machine.old) }
     requires clock { machine.old.guest.clock < 2 ^ 40 }
     requires may { MayWant program.now (top machine.old.guest thread) wanted.now }
-    ensures { IfOk result (λ end. EventAnswers (accessed (moment program.now machine.old thread) (site_at place.now) wanted.now (begins (moment program.now machine.old thread))) end machine.old machine.new out.old out.new) }
+    ensures { IfOk result (λ end. EventAnswers (accessed (moment program.now machine.old thread)
+        (site_at place.now) wanted.now (begins (moment program.now machine.old thread)))
+        end machine.old machine.new out.old out.new) }
 {
     if !access_fits(program, machine, wanted) {
         return Ok(EventEnd::ObjectLimit);
@@ -74,9 +77,13 @@ fn begin_quietly(
     requires class { wanted.now.class < length program.now.classes }
     requires sound { IsSoundFor program.now (kept_of machine.old) }
     requires clock { machine.old.guest.clock < 2 ^ 40 }
-    requires fits { fits (quietly_done (moment program.now machine.old thread) wanted.now.class (begins (moment program.now machine.old thread))).state.heap ≡ true }
-    ensures machine { OnOk result (machine.new ≡ base machine.old (quietly_done (moment program.now machine.old thread) wanted.now.class (begins (moment program.now machine.old thread)))) }
-    ensures records { OnOk result (out.new ≡ out.old ++ (quietly_done (moment program.now machine.old thread) wanted.now.class (begins (moment program.now machine.old thread))).records) }
+    requires fits { fits (quietly_done (moment program.now machine.old thread) wanted.now.class
+        (begins (moment program.now machine.old thread))).state.heap ≡ true }
+    ensures machine { OnOk result (machine.new ≡ base machine.old (quietly_done (moment program.now
+        machine.old thread) wanted.now.class (begins (moment program.now machine.old thread)))) }
+    ensures records { OnOk result
+        (out.new ≡ out.old ++ (quietly_done (moment program.now machine.old thread) wanted.now.class
+        (begins (moment program.now machine.old thread))).records) }
 {
     machine.begin_event();
     set_quietly(program, machine, thread, wanted.class, out)
@@ -99,7 +106,10 @@ fn quiet_event(
     requires sound { IsSoundFor program.now (kept_of machine.old) }
     requires clock { machine.old.guest.clock < 2 ^ 40 }
     requires may { MayWant program.now (top machine.old.guest thread) wanted.now }
-    ensures { IfOk result (λ end. EventAnswers (accessed (moment program.now machine.old thread) (site_at place.now) wanted.now (quietly_done (moment program.now machine.old thread) wanted.now.class (begins (moment program.now machine.old thread)))) end machine.old machine.new out.old out.new) }
+    ensures { IfOk result
+        (λ end. EventAnswers (accessed (moment program.now machine.old thread) (site_at place.now)
+        wanted.now (quietly_done (moment program.now machine.old thread) wanted.now.class (begins
+        (moment program.now machine.old thread)))) end machine.old machine.new out.old out.new) }
 {
     let objects = objects_made(wanted);
     let slots = slots_made(program, wanted);
@@ -129,7 +139,8 @@ pub(crate) fn access_event(
     requires sound { IsSoundFor program.now (kept_of machine.old) }
     requires clock { machine.old.guest.clock < 2 ^ 40 }
     requires may { MayWant program.now (top machine.old.guest thread) wanted.now }
-    ensures { IfOk result (λ end. EventAnswers (wanting (moment program.now machine.old thread) (site_at place.now) wanted.now) end machine.old machine.new out.old out.new) }
+    ensures { IfOk result (λ end. EventAnswers (wanting (moment program.now machine.old thread)
+        (site_at place.now) wanted.now) end machine.old machine.new out.old out.new) }
 {
     match need_of(program, machine, thread, wanted.class) {
         Need::Ready => ready_event(program, machine, thread, place, wanted, out),

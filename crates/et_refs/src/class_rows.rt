@@ -39,8 +39,11 @@ fn wanted_by(
     requires frame { HasFrame machine.now.guest thread }
     requires sound { IsSoundFor program.now (kept_of machine.now) }
     requires index { natural place.now.instr.first < 2 ^ 16 }
-    ensures is { IfSome result (λ answer. heap_event (moment program.now machine.now thread) (site_at place.now) row ≡ decided (moment program.now machine.now thread) answer (wanting (moment program.now machine.now thread) (site_at place.now))) }
-    ensures may { IfSome result (λ answer. IfOk answer (λ x. MayWant program.now (top machine.now.guest thread) x)) }
+    ensures is { IfSome result (λ answer. heap_event (moment program.now machine.now thread)
+        (site_at place.now) row ≡ decided (moment program.now machine.now thread) answer
+        (wanting (moment program.now machine.now thread) (site_at place.now))) }
+    ensures may { IfSome result
+        (λ answer. IfOk answer (λ x. MayWant program.now (top machine.now.guest thread) x)) }
     ensures needs { IfSome result (λ answer. needs_class row ≡ true) }
     ensures none { IfNone result (needs_class row ≡ false) }
 {
@@ -78,7 +81,9 @@ fn perform(
     requires sound { IsSoundFor program.now (kept_of machine.old) }
     requires clock { machine.old.guest.clock < 2 ^ 40 }
     requires may { IfOk answer (λ x. MayWant program.now (top machine.old.guest thread) x) }
-    ensures { IfOk result (λ end. EventAnswers (decided (moment program.now machine.old thread) answer (wanting (moment program.now machine.old thread) (site_at place.now))) end machine.old machine.new out.old out.new) }
+    ensures { IfOk result (λ end. EventAnswers (decided (moment program.now machine.old thread)
+        answer (wanting (moment program.now machine.old thread) (site_at place.now)))
+        end machine.old machine.new out.old out.new) }
 {
     match answer {
         Ok(wanted) => access_event(alloc, program, machine, thread, place, &wanted, out),
@@ -109,7 +114,8 @@ pub fn class_row_event(
     requires clock { machine.old.guest.clock < 2 ^ 40 }
     requires place { IsPlace program.now (top machine.old.guest thread) place.now }
     requires row { place.now.row ≡ row_kinds.Heap row }
-    ensures { IfOk result (λ end. ClassAnswers (heap_event (moment program.now machine.old thread) (site_at place.now) row) row end machine.old machine.new out.old out.new) }
+    ensures { IfOk result (λ end. ClassAnswers (heap_event (moment program.now machine.old thread)
+        (site_at place.now) row) row end machine.old machine.new out.old out.new) }
 {
     let Some(answer) = wanted_by(program, machine, thread, place, row) else {
         return Ok(None);

@@ -45,7 +45,8 @@ fn count_slots(lengths: &[i32]) -> u64
 
 /// Whether so many objects, with so many slots, may be made.
 fn arrays_have_room(machine: &Machine, lengths: &[i32]) -> bool
-    ensures room { result ≡ has_room machine.now.heap (objects_of (naturals_of lengths.now)) (slots_of (naturals_of lengths.now)) }
+    ensures room { result ≡ has_room machine.now.heap
+        (objects_of (naturals_of lengths.now)) (slots_of (naturals_of lengths.now)) }
     ensures some { 0 < length machine.now.heap }
 {
     let objects = (MOST_OBJECTS - machine.heap.count()) as u64;
@@ -55,7 +56,8 @@ fn arrays_have_room(machine: &Machine, lengths: &[i32]) -> bool
 
 /// Whether arrays of these dimensions fit, in the event that comes next.
 pub fn arrays_fit(machine: &Machine, lengths: &[i32]) -> bool
-    ensures { (e : Moment) (class : ℕ) (d : Doing) → d.state.heap ≡ machine.now.heap → result ≡ fits (arrays_made e class (naturals_of lengths.now) d).state.heap }
+    ensures { (e : Moment) (class : ℕ) (d : Doing) → d.state.heap ≡ machine.now.heap →
+        result ≡ fits (arrays_made e class (naturals_of lengths.now) d).state.heap }
 {
     arrays_have_room(machine, lengths)
 }

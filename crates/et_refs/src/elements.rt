@@ -60,7 +60,8 @@ fn length_of<L: Ledger>(
 ) -> u32
     requires sound { IsSoundFor program.now (kept_of machine.now) }
     requires held { IsHeld machine.now.heap object }
-    requires array { is_such (class_at program.now (object_at machine.now.heap object).class).info.element ≡ true }
+    requires array { is_such
+        (class_at program.now (object_at machine.now.heap object).class).info.element ≡ true }
     ensures value { result ≡ (object_at machine.now.heap object).length }
     ensures slots { result ≡ length (object_at machine.now.heap object).slots }
     ensures few { result < 2 ^ 31 }
@@ -82,7 +83,9 @@ fn element_slot<L: Ledger>(
 ) -> Result<SlotAt, Refusal>
     requires sound { IsSoundFor program.now (kept_of machine.now) }
     requires named { IsNamed machine.now (top machine.now.guest thread) reference }
-    ensures is { (go : ℕ → ℕ → Outcome Kept) → with_element (moment program.now machine.now thread) elements reference index (λ o. go o (natural_of index)) ≡ decided (moment program.now machine.now thread) result (λ x. go x.object x.slot) }
+    ensures is { (go : ℕ → ℕ → Outcome Kept) → with_element (moment program.now machine.now thread)
+        elements reference index (λ o. go o (natural_of index))
+        ≡ decided (moment program.now machine.now thread) result (λ x. go x.object x.slot) }
     ensures object { IfOk result (λ x. reference ≡ Some x.object) }
     ensures at { IfOk result (λ x. IsSlotAt machine.now (Some (elements_kind elements)) x) }
     ensures visits { visits.new ≤ visits.old + 2 }
@@ -110,7 +113,8 @@ fn element_value<L: Ledger>(
 ) -> Value
     requires sound { IsSound (kept_of machine.now) }
     requires at { IsSlotAt machine.now (Some (elements_kind elements)) at.now }
-    ensures value { result ≡ zero_or (Some (elements_kind elements)) (slot_of (object_at machine.now.heap at.now.object) at.now.slot) }
+    ensures value { result ≡ zero_or (Some (elements_kind elements))
+        (slot_of (object_at machine.now.heap at.now.object) at.now.slot) }
     ensures few { length (entries_of result) ≤ 2 }
     ensures held { AreHeld machine.now (refs_of_value result) }
     ensures visits { visits.new ≡ visits.old + 1 }
@@ -129,7 +133,9 @@ pub(crate) fn read_element<L: Ledger>(
 ) -> Result<Exchange, Refusal>
     requires frame { HasFrame machine.now.guest thread }
     requires sound { IsSoundFor program.now (kept_of machine.now) }
-    ensures is { (at : Site) → load_element (moment program.now machine.now thread) at elements ≡ decided (moment program.now machine.now thread) result (exchanged (moment program.now machine.now thread) at) }
+    ensures is { (at : Site) → load_element (moment program.now machine.now thread) at elements
+        ≡ decided (moment program.now machine.now thread) result
+        (exchanged (moment program.now machine.now thread) at) }
     ensures may { IfOk result (λ x. MayExchange machine.now (top machine.now.guest thread) x) }
     ensures visits { visits.new ≤ visits.old + 3 }
 {
@@ -150,7 +156,8 @@ fn length_value<L: Ledger>(
 ) -> Value
     requires sound { IsSoundFor program.now (kept_of machine.now) }
     requires held { IsHeld machine.now.heap object }
-    requires array { is_such (class_at program.now (object_at machine.now.heap object).class).info.element ≡ true }
+    requires array { is_such
+        (class_at program.now (object_at machine.now.heap object).class).info.element ≡ true }
     ensures value { result ≡ Int (pos (object_at machine.now.heap object).length) }
     ensures few { length (entries_of result) ≤ 1 }
     ensures held { AreHeld machine.now (refs_of_value result) }
@@ -169,7 +176,9 @@ pub(crate) fn read_length<L: Ledger>(
 ) -> Result<Exchange, Refusal>
     requires frame { HasFrame machine.now.guest thread }
     requires sound { IsSoundFor program.now (kept_of machine.now) }
-    ensures is { (at : Site) → array_length (moment program.now machine.now thread) at ≡ decided (moment program.now machine.now thread) result (exchanged (moment program.now machine.now thread) at) }
+    ensures is { (at : Site) → array_length (moment program.now machine.now thread) at
+        ≡ decided (moment program.now machine.now thread) result
+        (exchanged (moment program.now machine.now thread) at) }
     ensures may { IfOk result (λ x. MayExchange machine.now (top machine.now.guest thread) x) }
     ensures visits { visits.new ≤ visits.old + 2 }
 {
@@ -194,7 +203,8 @@ fn passes_for<L: Ledger>(
     requires sound { IsSoundFor program.now (kept_of machine.now) }
     requires object { IsHeld machine.now.heap object }
     requires element { IsElementWithin (length program.now.classes) element }
-    ensures value { result ≡ passing_element (moment program.now machine.now thread) (Ref object) element }
+    ensures value { result
+        ≡ passing_element (moment program.now machine.now thread) (Ref object) element }
     ensures visits { visits.new ≤ visits.old + 1 }
 {
     match element {
@@ -217,7 +227,8 @@ fn passes_element<L: Ledger>(
     requires elements { AreElementsWithin program.now }
     requires array { IsHeld machine.now.heap array }
     requires value { AreHeld machine.now (refs_of_value value) }
-    ensures value { result ≡ passing_element (moment program.now machine.now thread) value (elements_of (moment program.now machine.now thread) array) }
+    ensures value { result ≡ passing_element (moment program.now machine.now thread) value
+        (elements_of (moment program.now machine.now thread) array) }
     ensures visits { visits.new ≤ visits.old + 2 }
 {
     let element = element_of(machine, program, thread, array, visits);
@@ -238,7 +249,9 @@ pub(crate) fn write_element<L: Ledger>(
     requires frame { HasFrame machine.now.guest thread }
     requires sound { IsSoundFor program.now (kept_of machine.now) }
     requires elements { AreElementsWithin program.now }
-    ensures is { (at : Site) → store_element (moment program.now machine.now thread) at elements ≡ decided (moment program.now machine.now thread) result (stored (moment program.now machine.now thread) at) }
+    ensures is { (at : Site) → store_element (moment program.now machine.now thread) at elements
+        ≡ decided (moment program.now machine.now thread) result
+        (stored (moment program.now machine.now thread) at) }
     ensures may { IfOk result (λ x. MayStore machine.now (top machine.now.guest thread) x) }
     ensures visits { visits.new ≤ visits.old + 4 }
 {

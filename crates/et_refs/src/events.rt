@@ -39,7 +39,8 @@ use std::sync::ledger::Ledger;
 /// A frame has fewer operands than 65,536.
 fn operands_are_few(machine: &Machine, thread: ThreadId)
     requires { HasFrame machine.now.guest thread }
-    ensures fit { length (top machine.now.guest thread).operands ≤ (top machine.now.guest thread).room }
+    ensures fit { length (top machine.now.guest thread).operands
+        ≤ (top machine.now.guest thread).room }
     ensures few { length (top machine.now.guest thread).operands < 2 ^ 16 }
 {
     let _depth = machine.depth(thread);
@@ -56,7 +57,9 @@ fn dimensions(place: &Place<'_>) -> u32
 /// The class of this name, over arrays of which arrays of these lengths may be made; a NegativeArraySizeException where one
 /// of them is less than 0.
 fn class_wanted(program: &Program, name: &[u8], lengths: &[i32]) -> Result<ClassId, Refusal>
-    ensures is { (s : Kept) (t : ℕ) (go : ℕ → Outcome Kept) → wanted (record { program = program.now; before = s; thread = t }) name.now lengths.now go ≡ decided (record { program = program.now; before = s; thread = t }) result go }
+    ensures is { (s : Kept) (t : ℕ) (go : ℕ → Outcome Kept) →
+        wanted (record { program = program.now; before = s; thread = t }) name.now lengths.now go
+        ≡ decided (record { program = program.now; before = s; thread = t }) result go }
     ensures resolves { IfOk result (λ c. resolve_class program.now name.now ≡ Ok c) }
 {
     let class = resolve(program, name)?;
@@ -78,9 +81,13 @@ fn make_arrays<L: Ledger>(
 ) -> Result<ObjectId, NoMemory>
     requires some { 0 < length lengths.now }
     requires heap { 0 < length machine.old.heap }
-    requires fits { (b : Kept) → fits (arrays_made (record { program = program.now; before = b; thread = thread }) class (naturals_of lengths.now) (so_far machine.old out.old)).state.heap ≡ true }
+    requires fits { (b : Kept) →
+        fits (arrays_made (record { program = program.now; before = b; thread = thread }) class
+        (naturals_of lengths.now) (so_far machine.old out.old)).state.heap ≡ true }
     ensures first { IfOk result (λ o. o ≡ length machine.old.heap) }
-    ensures made { OnOk result ((b : Kept) → so_far machine.new out.new ≡ arrays_made (record { program = program.now; before = b; thread = thread }) class (naturals_of lengths.now) (so_far machine.old out.old)) }
+    ensures made { OnOk result ((b : Kept) → so_far machine.new out.new
+        ≡ arrays_made (record { program = program.now; before = b; thread = thread }) class
+        (naturals_of lengths.now) (so_far machine.old out.old)) }
     ensures lost { OnOk result (machine.new.lost ≡ machine.old.lost) }
     ensures visits { visits.new + length machine.old.heap ≤ visits.old + length machine.new.heap }
 {
@@ -106,10 +113,15 @@ fn add_arrays<L: Ledger>(
     requires sound { IsSound (kept_of machine.old) }
     requires clock { machine.old.guest.clock < 2 ^ 40 }
     requires some { 0 < length lengths.now }
-    requires deep { natural_of place.now.instr.second ≤ length (top machine.old.guest thread).operands }
+    requires deep { natural_of place.now.instr.second
+        ≤ length (top machine.old.guest thread).operands }
     requires one { 0 < natural_of place.now.instr.second }
-    ensures ok { IfOk result (λ end. EventAnswers (arrays_added (moment program.now machine.old thread) (site_at place.now) lengths.now (drop (natural_of place.now.instr.second) (top machine.old.guest thread).operands) class) end machine.old machine.new out.old out.new) }
-    ensures visits { IfOk result (λ end. visits.new ≤ visits.old + (length machine.new.heap - length machine.old.heap)) }
+    ensures ok { IfOk result (λ end. EventAnswers
+        (arrays_added (moment program.now machine.old thread) (site_at place.now) lengths.now
+        (drop (natural_of place.now.instr.second) (top machine.old.guest thread).operands) class)
+        end machine.old machine.new out.old out.new) }
+    ensures visits { IfOk result
+        (λ end. visits.new ≤ visits.old + (length machine.new.heap - length machine.old.heap)) }
 {
     if !arrays_fit(machine, lengths) {
         return Ok(EventEnd::ObjectLimit);
@@ -138,10 +150,17 @@ fn add_named<L: Ledger>(
     requires sound { IsSound (kept_of machine.old) }
     requires clock { machine.old.guest.clock < 2 ^ 40 }
     requires count { length lengths.now ≡ natural_of place.now.instr.second }
-    requires some { (c : ℕ) → resolve_class program.now name.now ≡ Ok c → 0 < natural_of place.now.instr.second }
-    requires deep { natural_of place.now.instr.second ≤ length (top machine.old.guest thread).operands }
-    ensures ok { IfOk result (λ end. EventAnswers (wanted (moment program.now machine.old thread) name.now lengths.now (arrays_added (moment program.now machine.old thread) (site_at place.now) lengths.now (drop (natural_of place.now.instr.second) (top machine.old.guest thread).operands))) end machine.old machine.new out.old out.new) }
-    ensures visits { IfOk result (λ end. visits.new ≤ visits.old + (length machine.new.heap - length machine.old.heap)) }
+    requires some { (c : ℕ) →
+        resolve_class program.now name.now ≡ Ok c → 0 < natural_of place.now.instr.second }
+    requires deep { natural_of place.now.instr.second
+        ≤ length (top machine.old.guest thread).operands }
+    ensures ok { IfOk result
+        (λ end. EventAnswers (wanted (moment program.now machine.old thread) name.now lengths.now
+        (arrays_added (moment program.now machine.old thread) (site_at place.now) lengths.now
+        (drop (natural_of place.now.instr.second) (top machine.old.guest thread).operands)))
+        end machine.old machine.new out.old out.new) }
+    ensures visits { IfOk result
+        (λ end. visits.new ≤ visits.old + (length machine.new.heap - length machine.old.heap)) }
 {
     match class_wanted(program, name, lengths) {
         Ok(class) => add_arrays(
@@ -165,9 +184,12 @@ fn add_taken<L: Ledger>(
     requires frame { HasFrame machine.old.guest thread }
     requires sound { IsSound (kept_of machine.old) }
     requires clock { machine.old.guest.clock < 2 ^ 40 }
-    requires some { (c : ℕ) → resolve_class program.now name.now ≡ Ok c → 0 < natural_of place.now.instr.second }
-    ensures ok { IfOk result (λ end. EventAnswers (taken (moment program.now machine.old thread) (site_at place.now) name.now) end machine.old machine.new out.old out.new) }
-    ensures visits { IfOk result (λ end. visits.new ≤ visits.old + (length machine.new.heap - length machine.old.heap)) }
+    requires some { (c : ℕ) →
+        resolve_class program.now name.now ≡ Ok c → 0 < natural_of place.now.instr.second }
+    ensures ok { IfOk result (λ end. EventAnswers (taken (moment program.now machine.old thread)
+        (site_at place.now) name.now) end machine.old machine.new out.old out.new) }
+    ensures visits { IfOk result
+        (λ end. visits.new ≤ visits.old + (length machine.new.heap - length machine.old.heap)) }
 {
     let count = dimensions(place);
     match take_lengths(alloc, machine, thread, count)? {
@@ -196,8 +218,10 @@ pub fn multi_array_event<L: Ledger>(
     requires turn { turn_of (thread_at machine.old.guest thread) ≡ turns.Instruction }
     requires place { IsPlace program.now (top machine.old.guest thread) place.now }
     requires row { place.now.row ≡ row_kinds.Heap heap_rows.NewMultiArray }
-    ensures ok { IfOk result (λ end. EventAnswers (new_multi_array (moment program.now machine.old thread) (site_at place.now)) end machine.old machine.new out.old out.new) }
-    ensures visits { IfOk result (λ end. visits.new ≤ visits.old + 6 + (length machine.new.heap - length machine.old.heap)) }
+    ensures ok { IfOk result (λ end. EventAnswers (new_multi_array (moment program.now
+        machine.old thread) (site_at place.now)) end machine.old machine.new out.old out.new) }
+    ensures visits { IfOk result
+        (λ end. visits.new ≤ visits.old + 6 + (length machine.new.heap - length machine.old.heap)) }
 {
     match class_operand(place) {
         Some(name) => add_taken(alloc, program, machine, thread, place, name, out, visits),

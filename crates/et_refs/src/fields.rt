@@ -43,7 +43,8 @@ use std::sync::ledger::Ledger;
 /// The member that an instruction names, where it is a field.
 pub fn field_named<'a>(place: &Place<'a>) -> Result<MemberAt<'a>, Refusal>
     requires { natural place.now.instr.first < 2 ^ 16 }
-    ensures is { (e : Moment) (go : Member → Outcome Kept) → with_field e (member_of (site_at place.now)) go ≡ decided e result (λ m. go (shown_member m)) }
+    ensures is { (e : Moment) (go : Member → Outcome Kept) → with_field e
+        (member_of (site_at place.now)) go ≡ decided e result (λ m. go (shown_member m)) }
     ensures field { IfOk result (λ m. is_of_field m.descriptor.now ≡ true) }
 {
     let Some(member) = member_at(place) else {
@@ -63,7 +64,11 @@ pub fn resolve_field(
     descriptor: &[u8],
 ) -> Result<FieldId, Refusal>
     requires { owner < length program.now.classes }
-    ensures is { (s : Kept) (t : ℕ) (go : ℕ → Outcome Kept) → resolved (record { program = program.now; before = s; thread = t }) (begins (record { program = program.now; before = s; thread = t })) (field_meant program.now owner name.now descriptor.now) go ≡ decided (record { program = program.now; before = s; thread = t }) result go }
+    ensures is { (s : Kept) (t : ℕ) (go : ℕ → Outcome Kept) →
+        resolved (record { program = program.now; before = s; thread = t })
+        (begins (record { program = program.now; before = s; thread = t }))
+        (field_meant program.now owner name.now descriptor.now) go
+        ≡ decided (record { program = program.now; before = s; thread = t }) result go }
     ensures within { IfOk result (λ f. f < length program.now.fields) }
     ensures descriptor { IfOk result (λ f. (field_of program.now f).descriptor ≡ descriptor.now) }
 {
@@ -76,8 +81,11 @@ pub fn resolve_field(
 /// The instance field that an instruction names.
 fn instance_field(program: &Program, member: &MemberAt<'_>) -> Result<FieldId, Refusal>
     ensures is { (s : Kept) (t : ℕ) (go : ℕ → Outcome Kept) →
-        resolved_field (record { program = program.now; before = s; thread = t }) (begins (record { program = program.now; before = s; thread = t })) (shown_member member.now)
-        (λ f. throwing_unless (record { program = program.now; before = s; thread = t }) (begins (record { program = program.now; before = s; thread = t })) IncompatibleClassChangeError (not (is_static_field program.now f)) (go f))
+        resolved_field (record { program = program.now; before = s; thread = t }) (begins
+        (record { program = program.now; before = s; thread = t })) (shown_member member.now)
+        (λ f. throwing_unless (record { program = program.now; before = s; thread = t })
+        (begins (record { program = program.now; before = s; thread = t }))
+        IncompatibleClassChangeError (not (is_static_field program.now f)) (go f))
         ≡ decided (record { program = program.now; before = s; thread = t }) result go }
     ensures field { IfOk result (λ f. IsInstanceField program.now member.now.descriptor.now f) }
 {
@@ -101,7 +109,9 @@ fn holder<L: Ledger>(
     requires within { field < length program.now.fields }
     requires instance { has_flag (field_of program.now field).flags STATIC_FLAG ≡ false }
     requires named { IsNamed machine.now (top machine.now.guest thread) reference }
-    ensures is { (go : ℕ → Outcome Kept) → with_holder (moment program.now machine.now thread) (begins (moment program.now machine.now thread)) field reference go ≡ decided (moment program.now machine.now thread) result go }
+    ensures is { (go : ℕ → Outcome Kept) → with_holder (moment program.now machine.now thread)
+        (begins (moment program.now machine.now thread)) field reference go
+        ≡ decided (moment program.now machine.now thread) result go }
     ensures object { IfOk result (λ o. reference ≡ Some o) }
     ensures has { IfOk result (λ o. HasField program.now (object_at machine.now.heap o) field) }
     ensures visits { visits.new ≤ visits.old + 1 }
@@ -124,13 +134,17 @@ fn field_slot<L: Ledger>(
 ) -> Result<SlotAt, Refusal>
     requires sound { IsSoundFor program.now (kept_of machine.now) }
     requires named { IsNamed machine.now (top machine.now.guest thread) reference }
-    ensures is { (go : ℕ → ℕ → Outcome Kept) →
-        resolved_field (moment program.now machine.now thread) (begins (moment program.now machine.now thread)) (shown_member member.now)
-        (λ f. throwing_unless (moment program.now machine.now thread) (begins (moment program.now machine.now thread)) IncompatibleClassChangeError (not (is_static_field program.now f))
-        (with_holder (moment program.now machine.now thread) (begins (moment program.now machine.now thread)) f reference (λ o. go o (field_of program.now f).slot)))
+    ensures is { (go : ℕ → ℕ → Outcome Kept) → resolved_field
+        (moment program.now machine.now thread) (begins (moment program.now machine.now thread))
+        (shown_member member.now) (λ f. throwing_unless (moment program.now machine.now thread)
+        (begins (moment program.now machine.now thread)) IncompatibleClassChangeError
+        (not (is_static_field program.now f)) (with_holder (moment program.now machine.now thread)
+        (begins (moment program.now machine.now thread)) f reference
+        (λ o. go o (field_of program.now f).slot)))
         ≡ decided (moment program.now machine.now thread) result (λ x. go x.object x.slot) }
     ensures object { IfOk result (λ x. reference ≡ Some x.object) }
-    ensures at { IfOk result (λ x. IsSlotAt machine.now (descriptor_kind member.now.descriptor.now) x) }
+    ensures at { IfOk result
+        (λ x. IsSlotAt machine.now (descriptor_kind member.now.descriptor.now) x) }
     ensures visits { visits.new ≤ visits.old + 1 }
 {
     let field = instance_field(program, member)?;
@@ -151,7 +165,8 @@ fn field_value<L: Ledger>(
 ) -> Value
     requires sound { IsSound (kept_of machine.now) }
     requires at { IsSlotAt machine.now (descriptor_kind descriptor.now) at.now }
-    ensures value { result ≡ zero_or (descriptor_kind descriptor.now) (slot_of (object_at machine.now.heap at.now.object) at.now.slot) }
+    ensures value { result ≡ zero_or (descriptor_kind descriptor.now)
+        (slot_of (object_at machine.now.heap at.now.object) at.now.slot) }
     ensures few { length (entries_of result) ≤ descriptor_width descriptor.now }
     ensures held { AreHeld machine.now (refs_of_value result) }
     ensures visits { visits.new ≡ visits.old + 1 }
@@ -170,7 +185,9 @@ pub(crate) fn read_field<L: Ledger>(
     requires frame { HasFrame machine.now.guest thread }
     requires sound { IsSoundFor program.now (kept_of machine.now) }
     requires index { natural place.now.instr.first < 2 ^ 16 }
-    ensures is { get_field (moment program.now machine.now thread) (site_at place.now) ≡ decided (moment program.now machine.now thread) result (exchanged (moment program.now machine.now thread) (site_at place.now)) }
+    ensures is { get_field (moment program.now machine.now thread) (site_at place.now)
+        ≡ decided (moment program.now machine.now thread) result
+        (exchanged (moment program.now machine.now thread) (site_at place.now)) }
     ensures may { IfOk result (λ x. MayExchange machine.now (top machine.now.guest thread) x) }
     ensures visits { visits.new ≤ visits.old + 2 }
 {
@@ -193,7 +210,9 @@ pub(crate) fn write_field<L: Ledger>(
     requires frame { HasFrame machine.now.guest thread }
     requires sound { IsSoundFor program.now (kept_of machine.now) }
     requires index { natural place.now.instr.first < 2 ^ 16 }
-    ensures is { put_field (moment program.now machine.now thread) (site_at place.now) ≡ decided (moment program.now machine.now thread) result (stored (moment program.now machine.now thread) (site_at place.now)) }
+    ensures is { put_field (moment program.now machine.now thread) (site_at place.now)
+        ≡ decided (moment program.now machine.now thread) result
+        (stored (moment program.now machine.now thread) (site_at place.now)) }
     ensures may { IfOk result (λ x. MayStore machine.now (top machine.now.guest thread) x) }
     ensures visits { visits.new ≤ visits.old + 1 }
 {

@@ -53,7 +53,8 @@ fn make_array(
 ) -> Result<ObjectId, NoMemory>
     requires { has_room machine.old.heap 1 elements ≡ true }
     ensures object { IfOk result (λ o. o ≡ length machine.old.heap) }
-    ensures made { OnOk result (ComesTo (array_made (moment program.now machine.old thread) class elements (so_far machine.old out.old)) machine.old machine.new out.new) }
+    ensures made { OnOk result (ComesTo (array_made (moment program.now machine.old thread)
+        class elements (so_far machine.old out.old)) machine.old machine.new out.new) }
     ensures grown { length machine.old.heap ≤ length machine.new.heap }
 {
     let width = width_in(program, class);
@@ -85,7 +86,9 @@ fn write_element<L: Ledger>(
 ) -> Result<(), NoMemory>
     requires held { IsHeld machine.old.heap parent.now.array }
     requires slot { parent.now.next < length (object_at machine.old.heap parent.now.array).slots }
-    ensures written { OnOk result (ComesTo (slot_written (moment program.now machine.old thread) parent.now.array parent.now.next (Ref array) (so_far machine.old out.old)) machine.old machine.new out.new) }
+    ensures written { OnOk result
+        (ComesTo (slot_written (moment program.now machine.old thread) parent.now.array
+        parent.now.next (Ref array) (so_far machine.old out.old)) machine.old machine.new out.new) }
     ensures same { length machine.new.heap ≡ length machine.old.heap }
     ensures visits { visits.new ≡ visits.old + 1 }
 {
@@ -128,9 +131,15 @@ pub fn open_array(
     out: &mut Lines,
 ) -> Result<Filling, NoMemory>
     requires level { level < length lengths.now }
-    requires room { has_room machine.old.heap 1 (natural_of (slice_index_or lengths.now level (pos 0))) ≡ true }
-    ensures filling { IfOk result (λ f. (b : Kept) → f ≡ opened_as (record { program = program.now; before = b; thread = thread }) (length machine.old.heap) class (natural_of (slice_index_or lengths.now level (pos 0))) (drop (level + 1) (naturals_of lengths.now))) }
-    ensures made { OnOk result (ComesTo (array_made (moment program.now machine.old thread) class (natural_of (slice_index_or lengths.now level (pos 0))) (so_far machine.old out.old)) machine.old machine.new out.new) }
+    requires room { has_room machine.old.heap 1
+        (natural_of (slice_index_or lengths.now level (pos 0))) ≡ true }
+    ensures filling { IfOk result (λ f. (b : Kept) →
+        f ≡ opened_as (record { program = program.now; before = b; thread = thread })
+        (length machine.old.heap) class (natural_of (slice_index_or lengths.now level (pos 0)))
+        (drop (level + 1) (naturals_of lengths.now))) }
+    ensures made { OnOk result (ComesTo (array_made (moment program.now machine.old thread) class
+        (natural_of (slice_index_or lengths.now level (pos 0))) (so_far machine.old out.old))
+        machine.old machine.new out.new) }
     ensures grown { length machine.old.heap ≤ length machine.new.heap }
 {
     let elements = natural(lengths[level]);
@@ -154,10 +163,18 @@ fn descend(
     out: &mut Lines,
 ) -> Result<Filling, NoMemory>
     requires more { top.next < top.count }
-    requires fillings { AreFillings machine.old.heap (length lengths.now) 0 (stack.old.items ++ top ∷ []) }
-    requires fits { (b : Kept) → fits (finished (record { program = program.now; before = b; thread = thread }) (stack.old.items ++ top ∷ []) (lower (naturals_of lengths.now)) (so_far machine.old out.old)).state.heap ≡ true }
-    ensures same { IfOk result (λ last. (b : Kept) → finished (record { program = program.now; before = b; thread = thread }) (stack.new.items ++ last ∷ []) (lower (naturals_of lengths.now)) (so_far machine.new out.new) ≡ finished (record { program = program.now; before = b; thread = thread }) (stack.old.items ++ top ∷ []) (lower (naturals_of lengths.now)) (so_far machine.old out.old)) }
-    ensures fillings { IfOk result (λ last. AreFillings machine.new.heap (length lengths.now) 0 (stack.new.items ++ last ∷ [])) }
+    requires fillings { AreFillings machine.old.heap
+        (length lengths.now) 0 (stack.old.items ++ top ∷ []) }
+    requires fits { (b : Kept) → fits (finished
+        (record { program = program.now; before = b; thread = thread }) (stack.old.items ++ top
+        ∷ []) (lower (naturals_of lengths.now)) (so_far machine.old out.old)).state.heap ≡ true }
+    ensures same { IfOk result (λ last. (b : Kept) →
+        finished (record { program = program.now; before = b; thread = thread }) (stack.new.items
+        ++ last ∷ []) (lower (naturals_of lengths.now)) (so_far machine.new out.new)
+        ≡ finished (record { program = program.now; before = b; thread = thread }) (stack.old.items
+        ++ top ∷ []) (lower (naturals_of lengths.now)) (so_far machine.old out.old)) }
+    ensures fillings { IfOk result (λ last.
+        AreFillings machine.new.heap (length lengths.now) 0 (stack.new.items ++ last ∷ [])) }
     ensures lost { OnOk result (machine.new.lost ≡ machine.old.lost) }
     ensures stack { OnOk result (length stack.new.items ≡ length stack.old.items + 1) }
     ensures made { OnOk result (length machine.new.heap ≡ length machine.old.heap + 1) }
@@ -183,9 +200,15 @@ fn ascend<L: Ledger>(
 ) -> Result<Filling, NoMemory>
     requires whole { top.next ≡ top.count }
     requires some { 0 < length stack.old.items }
-    requires fillings { AreFillings machine.old.heap (length lengths.now) 0 (stack.old.items ++ top ∷ []) }
-    ensures same { IfOk result (λ last. (b : Kept) → finished (record { program = program.now; before = b; thread = thread }) (stack.new.items ++ last ∷ []) (lower (naturals_of lengths.now)) (so_far machine.new out.new) ≡ finished (record { program = program.now; before = b; thread = thread }) (stack.old.items ++ top ∷ []) (lower (naturals_of lengths.now)) (so_far machine.old out.old)) }
-    ensures fillings { IfOk result (λ last. AreFillings machine.new.heap (length lengths.now) 0 (stack.new.items ++ last ∷ [])) }
+    requires fillings { AreFillings machine.old.heap
+        (length lengths.now) 0 (stack.old.items ++ top ∷ []) }
+    ensures same { IfOk result (λ last. (b : Kept) →
+        finished (record { program = program.now; before = b; thread = thread }) (stack.new.items
+        ++ last ∷ []) (lower (naturals_of lengths.now)) (so_far machine.new out.new)
+        ≡ finished (record { program = program.now; before = b; thread = thread }) (stack.old.items
+        ++ top ∷ []) (lower (naturals_of lengths.now)) (so_far machine.old out.old)) }
+    ensures fillings { IfOk result (λ last.
+        AreFillings machine.new.heap (length lengths.now) 0 (stack.new.items ++ last ∷ [])) }
     ensures lost { OnOk result (machine.new.lost ≡ machine.old.lost) }
     ensures stack { length stack.new.items + 1 ≡ length stack.old.items }
     ensures same_length { length machine.new.heap ≡ length machine.old.heap }
@@ -217,8 +240,12 @@ pub fn fill<L: Ledger>(
     visits: &mut Steps<L>,
 ) -> Result<(), NoMemory>
     requires filling { IsFilling machine.old.heap (length lengths.now) 0 first }
-    requires fits { (b : Kept) → fits (finished (record { program = program.now; before = b; thread = thread }) (first ∷ []) (lower (naturals_of lengths.now)) (so_far machine.old out.old)).state.heap ≡ true }
-    ensures finished { OnOk result ((b : Kept) → so_far machine.new out.new ≡ finished (record { program = program.now; before = b; thread = thread }) (first ∷ []) (lower (naturals_of lengths.now)) (so_far machine.old out.old)) }
+    requires fits { (b : Kept) →
+        fits (finished (record { program = program.now; before = b; thread = thread }) (first ∷ [])
+        (lower (naturals_of lengths.now)) (so_far machine.old out.old)).state.heap ≡ true }
+    ensures finished { OnOk result ((b : Kept) → so_far machine.new out.new
+        ≡ finished (record { program = program.now; before = b; thread = thread })
+        (first ∷ []) (lower (naturals_of lengths.now)) (so_far machine.old out.old)) }
     ensures lost { OnOk result (machine.new.lost ≡ machine.old.lost) }
     ensures visits { visits.new + length machine.old.heap ≤ visits.old + length machine.new.heap }
 {

@@ -38,7 +38,9 @@ pub(crate) fn new_object(
 ) -> Result<Wanted, Refusal>
     requires frame { HasFrame machine.now.guest thread }
     requires index { natural place.now.instr.first < 2 ^ 16 }
-    ensures is { new_instance (moment program.now machine.now thread) (site_at place.now) ≡ decided (moment program.now machine.now thread) result (wanted (moment program.now machine.now thread) (site_at place.now)) }
+    ensures is { new_instance (moment program.now machine.now thread) (site_at place.now)
+        ≡ decided (moment program.now machine.now thread) result
+        (wanted (moment program.now machine.now thread) (site_at place.now)) }
     ensures may { IfOk result (λ x. MayWant program.now (top machine.now.guest thread) x) }
 {
     let name = class_named(place)?;

@@ -14,7 +14,8 @@ ghost use Rattle.et_refs.specs.Legal.{HasMadeArrays};
 /// Arrays of one dimension or more are made in an event: it stays under way, loses nothing more, and each of them but the
 /// first is in one that was made before it.
 pub fn arrays()
-    ensures { (e : Moment) (class n : ℕ) (ns : List ℕ) (d : Doing) (s : Kept) (lost : List ℕ) → IsUnderWay s d.state lost → length s.heap ≤ length d.state.heap →
+    ensures { (e : Moment) (class n : ℕ) (ns : List ℕ) (d : Doing) (s : Kept) (lost : List ℕ) →
+        IsUnderWay s d.state lost → length s.heap ≤ length d.state.heap →
         HasMadeArrays s lost d (arrays_made e class (n ∷ ns) d) }
 {}
 
@@ -22,12 +23,18 @@ pub fn arrays()
 /// goes on by the next array that is made, and by one that is whole and becomes an element; all of them are made where none
 /// is missing.
 pub fn finishing()
-    ensures opened { (e : Moment) (c n : ℕ) (ns : List ℕ) (d : Doing) → finished e (opened_as e (next_object d) c n ns ∷ []) ns (array_made e c n d) ≡ arrays_made e c (n ∷ ns) d }
-    ensures pushed { (e : Moment) (xs : List Filling) (f : Filling) (n : ℕ) (ns ms : List ℕ) (d : Doing) → f.next < f.count → drop (length xs) ms ≡ n ∷ ns →
-        finished e (xs ++ f ∷ opened_as e (next_object d) f.inner n ns ∷ []) ms (array_made e f.inner n d) ≡ finished e (xs ++ f ∷ []) ms d }
-    ensures popped { (e : Moment) (xs : List Filling) (f g : Filling) (ms : List ℕ) (d : Doing) → g.next ≡ g.count →
-        finished e (xs ++ stepped f ∷ []) ms (slot_written e f.array f.next (Ref g.array) d) ≡ finished e (xs ++ f ∷ g ∷ []) ms d }
-    ensures whole { (e : Moment) (f : Filling) (ns : List ℕ) (d : Doing) → f.next ≡ f.count → finished e (f ∷ []) ns d ≡ d }
-    ensures fits { (e : Moment) (xs : List Filling) (f : Filling) (n : ℕ) (ns ms : List ℕ) (d : Doing) → f.next < f.count → drop (length xs) ms ≡ n ∷ ns → 0 < length d.state.heap →
+    ensures opened { (e : Moment) (c n : ℕ) (ns : List ℕ) (d : Doing) → finished e (opened_as e
+        (next_object d) c n ns ∷ []) ns (array_made e c n d) ≡ arrays_made e c (n ∷ ns) d }
+    ensures pushed { (e : Moment) (xs : List Filling) (f : Filling)
+        (n : ℕ) (ns ms : List ℕ) (d : Doing) → f.next < f.count → drop (length xs) ms ≡ n ∷ ns →
+        finished e (xs ++ f ∷ opened_as e (next_object d) f.inner n ns ∷ []) ms
+        (array_made e f.inner n d) ≡ finished e (xs ++ f ∷ []) ms d }
+    ensures popped { (e : Moment) (xs : List Filling) (f g : Filling) (ms : List ℕ) (d : Doing) →
+        g.next ≡ g.count → finished e (xs ++ stepped f ∷ []) ms
+        (slot_written e f.array f.next (Ref g.array) d) ≡ finished e (xs ++ f ∷ g ∷ []) ms d }
+    ensures whole { (e : Moment) (f : Filling) (ns : List ℕ) (d : Doing) →
+        f.next ≡ f.count → finished e (f ∷ []) ns d ≡ d }
+    ensures fits { (e : Moment) (xs : List Filling) (f : Filling) (n : ℕ) (ns ms : List ℕ)
+        (d : Doing) → f.next < f.count → drop (length xs) ms ≡ n ∷ ns → 0 < length d.state.heap →
         fits (finished e (xs ++ f ∷ []) ms d).state.heap ≡ true → has_room d.state.heap 1 n ≡ true }
 {}

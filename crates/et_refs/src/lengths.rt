@@ -24,9 +24,12 @@ pub fn take_lengths(
     count: u32,
 ) -> Result<Result<Vec<i32>, Refusal>, NoMemory>
     requires { HasFrame machine.now.guest thread }
-    ensures is { IfOk result (λ answer. (e : Moment) (go : List ℤ → List Entry → Outcome Kept) → with_lengths count [] (ill_typed e) (top machine.now.guest thread).operands go ≡ decided e answer (λ lengths. go lengths.items (drop count (top machine.now.guest thread).operands))) }
+    ensures is { IfOk result (λ answer. (e : Moment) (go : List ℤ → List Entry → Outcome Kept) →
+        with_lengths count [] (ill_typed e) (top machine.now.guest thread).operands go ≡ decided e
+        answer (λ lengths. go lengths.items (drop count (top machine.now.guest thread).operands))) }
     ensures count { IfOk result (λ answer. IfOk answer (λ lengths. length lengths.items ≡ count)) }
-    ensures deep { IfOk result (λ answer. IfOk answer (λ lengths. count ≤ length (top machine.now.guest thread).operands)) }
+    ensures deep { IfOk result (λ answer.
+        IfOk answer (λ lengths. count ≤ length (top machine.now.guest thread).operands)) }
 {
     let mut lengths = Vec::new(alloc);
     for k in 0..count {

@@ -32,7 +32,9 @@ pub struct Taken {
 #[tactic(auto, using(crate::proofs::Below::int_there, crate::proofs::Below::no_int, crate::proofs::Below::int_deep))]
 pub fn take_int(machine: &Machine, thread: ThreadId, k: u32) -> Result<i32, Refusal>
     requires { HasFrame machine.now.guest thread }
-    ensures is { (e : Moment) (go : ℤ → List Entry → Outcome Kept) → with_int (ill_typed e) (drop k (top machine.now.guest thread).operands) go ≡ decided e result (λ n. go n (drop (k + 1) (top machine.now.guest thread).operands)) }
+    ensures is { (e : Moment) (go : ℤ → List Entry → Outcome Kept) →
+        with_int (ill_typed e) (drop k (top machine.now.guest thread).operands) go
+        ≡ decided e result (λ n. go n (drop (k + 1) (top machine.now.guest thread).operands)) }
     ensures deep { IfOk result (λ n. k < length (top machine.now.guest thread).operands) }
 {
     match int_at(machine, thread, k) {
@@ -45,7 +47,9 @@ pub fn take_int(machine: &Machine, thread: ThreadId, k: u32) -> Result<i32, Refu
 #[tactic(auto, using(crate::proofs::Below::long_there, crate::proofs::Below::no_long, crate::proofs::Below::long_deep))]
 fn take_long(machine: &Machine, thread: ThreadId) -> Result<i64, Refusal>
     requires { HasFrame machine.now.guest thread }
-    ensures is { (e : Moment) (go : ℤ → List Entry → Outcome Kept) → with_long (ill_typed e) (top machine.now.guest thread).operands go ≡ decided e result (λ n. go n (drop 2 (top machine.now.guest thread).operands)) }
+    ensures is { (e : Moment) (go : ℤ → List Entry → Outcome Kept) →
+        with_long (ill_typed e) (top machine.now.guest thread).operands go
+        ≡ decided e result (λ n. go n (drop 2 (top machine.now.guest thread).operands)) }
     ensures deep { IfOk result (λ n. 2 ≤ length (top machine.now.guest thread).operands) }
 {
     match long_at(machine, thread, 0) {
@@ -63,7 +67,9 @@ pub(crate) fn take_reference(
 ) -> Result<Option<ObjectId>, Refusal>
     requires frame { HasFrame machine.now.guest thread }
     requires sound { IsSound (kept_of machine.now) }
-    ensures is { (e : Moment) (go : Reference → List Entry → Outcome Kept) → with_reference (ill_typed e) (drop k (top machine.now.guest thread).operands) go ≡ decided e result (λ r. go r (drop (k + 1) (top machine.now.guest thread).operands)) }
+    ensures is { (e : Moment) (go : Reference → List Entry → Outcome Kept) →
+        with_reference (ill_typed e) (drop k (top machine.now.guest thread).operands) go
+        ≡ decided e result (λ r. go r (drop (k + 1) (top machine.now.guest thread).operands)) }
     ensures deep { IfOk result (λ r. k < length (top machine.now.guest thread).operands) }
     ensures named { IfOk result (λ r. IsNamed machine.now (top machine.now.guest thread) r) }
 {
@@ -91,7 +97,9 @@ pub(crate) fn take_value(
 ) -> Result<Taken, Refusal>
     requires frame { HasFrame machine.now.guest thread }
     requires sound { IsSound (kept_of machine.now) }
-    ensures is { (e : Moment) (go : Entry → List Entry → Outcome Kept) → with_value kind (ill_typed e) (top machine.now.guest thread).operands go ≡ decided e result (λ x. go x.value (drop x.width (top machine.now.guest thread).operands)) }
+    ensures is { (e : Moment) (go : Entry → List Entry → Outcome Kept) →
+        with_value kind (ill_typed e) (top machine.now.guest thread).operands go ≡ decided e result
+        (λ x. go x.value (drop x.width (top machine.now.guest thread).operands)) }
     ensures deep { IfOk result (λ x. x.width ≤ length (top machine.now.guest thread).operands) }
     ensures few { IfOk result (λ x. x.width ≤ 2) }
     ensures there { IfOk result (λ x. IsIn (top machine.now.guest thread) x.value) }
@@ -135,7 +143,8 @@ fn fits(machine: &Machine, thread: ThreadId, width: u32) -> bool
     requires frame { HasFrame machine.now.guest thread }
     requires operands { 0 < length (top machine.now.guest thread).operands }
     requires small { width ≤ 2 }
-    ensures { result ≡ nat_le (width + length (drop 1 (top machine.now.guest thread).operands)) (top machine.now.guest thread).room }
+    ensures { result ≡ nat_le (width + length (drop 1 (top machine.now.guest thread).operands))
+        (top machine.now.guest thread).room }
 {
     let room = machine.room(thread) as u32;
     let left = machine.depth(thread) - 1;
@@ -150,8 +159,11 @@ pub(crate) fn type_fits(
 ) -> Result<(), Refusal>
     requires frame { HasFrame machine.now.guest thread }
     requires operands { 0 < length (top machine.now.guest thread).operands }
-    ensures is { (e : Moment) (go : Outcome Kept) → ill_unless e (nat_le (descriptor_width descriptor.now + length (drop 1 (top machine.now.guest thread).operands)) (top machine.now.guest thread).room) go ≡ decided e result (λ u. go) }
-    ensures fits { OnOk result (descriptor_width descriptor.now + length (drop 1 (top machine.now.guest thread).operands) ≤ (top machine.now.guest thread).room) }
+    ensures is { (e : Moment) (go : Outcome Kept) → ill_unless e (nat_le
+        (descriptor_width descriptor.now + length (drop 1 (top machine.now.guest thread).operands))
+        (top machine.now.guest thread).room) go ≡ decided e result (λ u. go) }
+    ensures fits { OnOk result (descriptor_width descriptor.now + length
+        (drop 1 (top machine.now.guest thread).operands) ≤ (top machine.now.guest thread).room) }
 {
     ill_typed_unless(fits(machine, thread, width_of(descriptor)))
 }
@@ -161,7 +173,9 @@ pub fn take_typed(machine: &Machine, thread: ThreadId, descriptor: &[u8]) -> Res
     requires frame { HasFrame machine.now.guest thread }
     requires sound { IsSound (kept_of machine.now) }
     requires field { is_field_descriptor descriptor.now ≡ true }
-    ensures is { (e : Moment) (go : Entry → List Entry → Outcome Kept) → with_value (kind_of_field descriptor.now) (ill_typed e) (top machine.now.guest thread).operands go ≡ decided e result (λ x. go x.value (drop x.width (top machine.now.guest thread).operands)) }
+    ensures is { (e : Moment) (go : Entry → List Entry → Outcome Kept) → with_value (kind_of_field
+        descriptor.now) (ill_typed e) (top machine.now.guest thread).operands go ≡ decided e result
+        (λ x. go x.value (drop x.width (top machine.now.guest thread).operands)) }
     ensures deep { IfOk result (λ x. x.width ≤ length (top machine.now.guest thread).operands) }
     ensures few { IfOk result (λ x. x.width ≤ 2) }
     ensures there { IfOk result (λ x. IsIn (top machine.now.guest thread) x.value) }
@@ -177,7 +191,9 @@ pub(crate) fn take_element(
 ) -> Result<Taken, Refusal>
     requires frame { HasFrame machine.now.guest thread }
     requires sound { IsSound (kept_of machine.now) }
-    ensures is { (e : Moment) (go : Entry → List Entry → Outcome Kept) → with_value (Some (elements_kind elements)) (ill_typed e) (top machine.now.guest thread).operands go ≡ decided e result (λ x. go x.value (drop x.width (top machine.now.guest thread).operands)) }
+    ensures is { (e : Moment) (go : Entry → List Entry → Outcome Kept) → with_value (Some
+        (elements_kind elements)) (ill_typed e) (top machine.now.guest thread).operands go ≡ decided
+        e result (λ x. go x.value (drop x.width (top machine.now.guest thread).operands)) }
     ensures deep { IfOk result (λ x. x.width ≤ length (top machine.now.guest thread).operands) }
     ensures few { IfOk result (λ x. x.width ≤ 2) }
     ensures there { IfOk result (λ x. IsIn (top machine.now.guest thread) x.value) }

@@ -34,7 +34,8 @@ pub fn refuse(
     requires frame { HasFrame machine.old.guest thread }
     requires sound { IsSound (kept_of machine.old) }
     requires clock { machine.old.guest.clock < 2 ^ 40 }
-    ensures ok { IfOk result (λ end. EventAnswers (refused (moment program.now machine.old thread) refusal) end machine.old machine.new out.old out.new) }
+    ensures ok { IfOk result (λ end. EventAnswers (refused (moment program.now machine.old thread)
+        refusal) end machine.old machine.new out.old out.new) }
     ensures err { OnErr result (machine.new.guest ≡ machine.old.guest) }
 {
     match refusal {

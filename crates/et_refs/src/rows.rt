@@ -31,8 +31,10 @@ use std::sync::ledger::Ledger;
 
 /// A value that is put in the place of operands, as a change.
 fn put(answer: Result<Exchange, Refusal>) -> Result<Change, Refusal>
-    ensures is { (e : Moment) (at : Site) → decided e answer (exchanged e at) ≡ decided e result (changed e at) }
-    ensures may { (m : MachineState) (f : FrameState) → IfOk answer (λ x. MayExchange m f x) → IfOk result (λ x. MayChange m f x) }
+    ensures is { (e : Moment) (at : Site) →
+        decided e answer (exchanged e at) ≡ decided e result (changed e at) }
+    ensures may { (m : MachineState) (f : FrameState) →
+        IfOk answer (λ x. MayExchange m f x) → IfOk result (λ x. MayChange m f x) }
 {
     match answer {
         Ok(x) => Ok(Change::Put(x)),
@@ -42,8 +44,10 @@ fn put(answer: Result<Exchange, Refusal>) -> Result<Change, Refusal>
 
 /// A slot that is written, as a change.
 fn write(answer: Result<Store, Refusal>) -> Result<Change, Refusal>
-    ensures is { (e : Moment) (at : Site) → decided e answer (stored e at) ≡ decided e result (changed e at) }
-    ensures may { (m : MachineState) (f : FrameState) → IfOk answer (λ x. MayStore m f x) → IfOk result (λ x. MayChange m f x) }
+    ensures is { (e : Moment) (at : Site) →
+        decided e answer (stored e at) ≡ decided e result (changed e at) }
+    ensures may { (m : MachineState) (f : FrameState) →
+        IfOk answer (λ x. MayStore m f x) → IfOk result (λ x. MayChange m f x) }
 {
     match answer {
         Ok(x) => Ok(Change::Write(x)),
@@ -53,8 +57,10 @@ fn write(answer: Result<Store, Refusal>) -> Result<Change, Refusal>
 
 /// An array that is made, as a change.
 fn make(answer: Result<NewArray, Refusal>) -> Result<Change, Refusal>
-    ensures is { (e : Moment) (at : Site) → decided e answer (added e at) ≡ decided e result (changed e at) }
-    ensures may { (m : MachineState) (f : FrameState) → IfOk answer (λ x. MayMake f) → IfOk result (λ x. MayChange m f x) }
+    ensures is { (e : Moment) (at : Site) →
+        decided e answer (added e at) ≡ decided e result (changed e at) }
+    ensures may { (m : MachineState) (f : FrameState) →
+        IfOk answer (λ x. MayMake f) → IfOk result (λ x. MayChange m f x) }
 {
     match answer {
         Ok(x) => Ok(Change::Make(x)),
@@ -75,8 +81,11 @@ fn change_of<L: Ledger>(
     requires sound { IsSoundFor program.now (kept_of machine.now) }
     requires index { natural place.now.instr.first < 2 ^ 16 }
     requires elements { AreElementsWithin program.now }
-    ensures is { IfSome result (λ answer. heap_event (moment program.now machine.now thread) (site_at place.now) row ≡ decided (moment program.now machine.now thread) answer (changed (moment program.now machine.now thread) (site_at place.now))) }
-    ensures may { IfSome result (λ answer. IfOk answer (λ x. MayChange machine.now (top machine.now.guest thread) x)) }
+    ensures is { IfSome result (λ answer. heap_event (moment program.now machine.now thread)
+        (site_at place.now) row ≡ decided (moment program.now machine.now thread) answer
+        (changed (moment program.now machine.now thread) (site_at place.now))) }
+    ensures may { IfSome result
+        (λ answer. IfOk answer (λ x. MayChange machine.now (top machine.now.guest thread) x)) }
     ensures done { IfSome result (λ answer. is_done row ≡ true) }
     ensures none { IfNone result (is_done row ≡ false) }
     ensures visits { visits.new ≤ visits.old + 4 }
@@ -136,7 +145,9 @@ fn perform<L: Ledger>(
     requires sound { IsSound (kept_of machine.old) }
     requires clock { machine.old.guest.clock < 2 ^ 40 }
     requires may { IfOk answer (λ x. MayChange machine.old (top machine.old.guest thread) x) }
-    ensures ok { IfOk result (λ end. EventAnswers (decided (moment program.now machine.old thread) answer (changed (moment program.now machine.old thread) (site_at place.now))) end machine.old machine.new out.old out.new) }
+    ensures ok { IfOk result (λ end. EventAnswers (decided (moment program.now machine.old thread)
+        answer (changed (moment program.now machine.old thread) (site_at place.now)))
+        end machine.old machine.new out.old out.new) }
     ensures err { OnErr result (machine.new.guest ≡ machine.old.guest) }
     ensures visits { visits.new ≤ visits.old + 2 }
 {
@@ -165,7 +176,8 @@ pub fn heap_row_event<L: Ledger>(
     requires place { IsPlace program.now (top machine.old.guest thread) place.now }
     requires row { place.now.row ≡ row_kinds.Heap row }
     requires elements { AreElementsWithin program.now }
-    ensures ok { IfOk result (λ end. HeapAnswers (heap_event (moment program.now machine.old thread) (site_at place.now) row) row end machine.old machine.new out.old out.new) }
+    ensures ok { IfOk result (λ end. HeapAnswers (heap_event (moment program.now machine.old thread)
+        (site_at place.now) row) row end machine.old machine.new out.old out.new) }
     ensures err { OnErr result (machine.new.guest ≡ machine.old.guest) }
     ensures visits { visits.new ≤ visits.old + 6 }
 {

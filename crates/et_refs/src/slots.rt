@@ -41,7 +41,8 @@ pub(crate) fn read_slot<L: Ledger>(
 ) -> Value
     requires sound { IsSound (kept_of machine.now) }
     requires at { IsSlotAt machine.now kind at.now }
-    ensures value { result ≡ zero_or kind (slot_of (object_at machine.now.heap at.now.object) at.now.slot) }
+    ensures value { result
+        ≡ zero_or kind (slot_of (object_at machine.now.heap at.now.object) at.now.slot) }
     ensures few { length (entries_of result) ≤ entries kind }
     ensures held { AreHeld machine.now (refs_of_value result) }
     ensures visits { visits.new ≡ visits.old + 1 }

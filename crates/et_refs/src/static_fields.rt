@@ -32,7 +32,8 @@ use et_state::Machine;
 fn fits(machine: &Machine, thread: ThreadId, width: u32) -> bool
     requires frame { HasFrame machine.now.guest thread }
     requires small { width ≤ 2 }
-    ensures { result ≡ nat_le (width + length (top machine.now.guest thread).operands) (top machine.now.guest thread).room }
+    ensures { result ≡ nat_le (width + length (top machine.now.guest thread).operands)
+        (top machine.now.guest thread).room }
 {
     let room = machine.room(thread) as u32;
     width + machine.depth(thread) <= room
@@ -42,8 +43,11 @@ fn fits(machine: &Machine, thread: ThreadId, width: u32) -> bool
 pub(crate) fn width_fits(machine: &Machine, thread: ThreadId, width: u32) -> Result<(), Refusal>
     requires frame { HasFrame machine.now.guest thread }
     requires small { width ≤ 2 }
-    ensures is { (e : Moment) (go : Outcome Kept) → ill_unless e (nat_le (width + length (top machine.now.guest thread).operands) (top machine.now.guest thread).room) go ≡ decided e result (λ u. go) }
-    ensures fits { OnOk result (width + length (top machine.now.guest thread).operands ≤ (top machine.now.guest thread).room) }
+    ensures is { (e : Moment) (go : Outcome Kept) →
+        ill_unless e (nat_le (width + length (top machine.now.guest thread).operands)
+        (top machine.now.guest thread).room) go ≡ decided e result (λ u. go) }
+    ensures fits { OnOk result (width + length (top machine.now.guest thread).operands
+        ≤ (top machine.now.guest thread).room) }
 {
     ill_typed_unless(fits(machine, thread, width))
 }
@@ -51,8 +55,11 @@ pub(crate) fn width_fits(machine: &Machine, thread: ThreadId, width: u32) -> Res
 /// The static field that an instruction names.
 fn static_field(program: &Program, member: &MemberAt<'_>) -> Result<FieldId, Refusal>
     ensures is { (s : Kept) (t : ℕ) (go : ℕ → Outcome Kept) →
-        resolved_field (record { program = program.now; before = s; thread = t }) (begins (record { program = program.now; before = s; thread = t })) (shown_member member.now)
-        (λ f. throwing_unless (record { program = program.now; before = s; thread = t }) (begins (record { program = program.now; before = s; thread = t })) IncompatibleClassChangeError (is_static_field program.now f) (go f))
+        resolved_field (record { program = program.now; before = s; thread = t }) (begins
+        (record { program = program.now; before = s; thread = t })) (shown_member member.now)
+        (λ f. throwing_unless (record { program = program.now; before = s; thread = t })
+        (begins (record { program = program.now; before = s; thread = t }))
+        IncompatibleClassChangeError (is_static_field program.now f) (go f))
         ≡ decided (record { program = program.now; before = s; thread = t }) result go }
     ensures field { IfOk result (λ f. IsStaticField program.now member.now.descriptor.now f) }
 {
@@ -73,7 +80,9 @@ pub(crate) fn read_field(
     requires program { HasSlots program.now }
     requires frame { HasFrame machine.now.guest thread }
     requires index { natural place.now.instr.first < 2 ^ 16 }
-    ensures is { get_static (moment program.now machine.now thread) (site_at place.now) ≡ decided (moment program.now machine.now thread) result (wanted (moment program.now machine.now thread) (site_at place.now)) }
+    ensures is { get_static (moment program.now machine.now thread) (site_at place.now)
+        ≡ decided (moment program.now machine.now thread) result
+        (wanted (moment program.now machine.now thread) (site_at place.now)) }
     ensures may { IfOk result (λ x. MayWant program.now (top machine.now.guest thread) x) }
 {
     let member = field_named(place)?;
@@ -100,7 +109,9 @@ pub(crate) fn write_field(
     requires frame { HasFrame machine.now.guest thread }
     requires sound { IsSoundFor program.now (kept_of machine.now) }
     requires index { natural place.now.instr.first < 2 ^ 16 }
-    ensures is { put_static (moment program.now machine.now thread) (site_at place.now) ≡ decided (moment program.now machine.now thread) result (wanted (moment program.now machine.now thread) (site_at place.now)) }
+    ensures is { put_static (moment program.now machine.now thread) (site_at place.now)
+        ≡ decided (moment program.now machine.now thread) result
+        (wanted (moment program.now machine.now thread) (site_at place.now)) }
     ensures may { IfOk result (λ x. MayWant program.now (top machine.now.guest thread) x) }
 {
     let member = field_named(place)?;

@@ -51,7 +51,8 @@ fn moment(item: &Item) -> u128
 }
 
 fn push_item(items: &mut Vec<Item>, line: &TraceLine) -> Result<(), NoMemory>
-    ensures { OnOk result (items.new.items ≡ items.old.items ++ filter_map item_of (line.now ∷ [])) }
+    ensures { OnOk result
+        (items.new.items ≡ items.old.items ++ filter_map item_of (line.now ∷ [])) }
 {
     if let Some(item) = item_of(line) {
         items.push(item)?;

@@ -29,7 +29,8 @@ fn happens_at(line: &TraceLine) -> Option<u64>
 }
 
 fn push_event(events: &mut Vec<u64>, line: &TraceLine) -> Result<(), NoMemory>
-    ensures { OnOk result (events.new.items ≡ events.old.items ++ filter_map happens_at (line.now ∷ [])) }
+    ensures { OnOk result
+        (events.new.items ≡ events.old.items ++ filter_map happens_at (line.now ∷ [])) }
 {
     if let Some(event) = happens_at(line) {
         events.push(event)?;
@@ -50,7 +51,8 @@ fn curve_events(alloc: Global, lines: &[TraceLine]) -> Result<Vec<u64>, NoMemory
 }
 
 fn put_row(text: &mut Vec<u8>, event: u64, live: u64) -> Result<(), NoMemory>
-    ensures { OnOk result (text.new.items ≡ text.old.items ++ (decimal event ++ 32 ∷ decimal live ++ 10 ∷ [])) }
+    ensures { OnOk result
+        (text.new.items ≡ text.old.items ++ (decimal event ++ 32 ∷ decimal live ++ 10 ∷ [])) }
 {
     let mut digits = Buffer::new();
     text.extend_from_slice(digits.format(event).as_bytes())?;
@@ -82,9 +84,11 @@ fn curve_text(alloc: Global, lines: &[TraceLine]) -> Result<Vec<u8>, NoMemory>
 /// end where it has none. Bytes are put only once the whole text is there. `Write` comes only where the sink's count of
 /// faults rose; after `Write` and after `NoMemory` the sink took a front of the text.
 pub fn curve_lines<O: Sink>(alloc: Global, trace: &Trace, sink: &mut O) -> Result<(), RunFault>
-    ensures ok { OnOk result (O.taken sink.new ≡ with_more (O.taken sink.old) (curve_text trace.now)) }
+    ensures ok { OnOk result
+        (O.taken sink.new ≡ with_more (O.taken sink.old) (curve_text trace.now)) }
     ensures write { IsErrOf result RunFault.Write → Rose (O.faults sink.old) (O.faults sink.new) }
-    ensures err { OnErr result (TakesFront (O.taken sink.old) (O.taken sink.new) (curve_text trace.now)) }
+    ensures err { OnErr result
+        (TakesFront (O.taken sink.old) (O.taken sink.new) (curve_text trace.now)) }
     ensures never_falls { O.faults sink.old ≤ O.faults sink.new }
 {
     match curve_text(alloc, trace.lines()) {

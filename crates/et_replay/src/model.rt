@@ -87,15 +87,19 @@ pub trait HeapModel: Drop {
 
     /// Takes an item. `Exhausted` is answered exactly where a collection leaves too little room for the item's object.
     fn feed(&mut self, item: &Item) -> Fed
-        requires stands { (policy : Policy) × (objects : ℕ) × (past : List Item) × stands_for self.old policy objects past × HasRoom policy past × MayCome objects past item.now }
+        requires stands { (policy : Policy) × (objects : ℕ) × (past : List Item) × stands_for
+            self.old policy objects past × HasRoom policy past × MayCome objects past item.now }
         ensures taken { (policy : Policy) (objects : ℕ) (past : List Item) →
-            stands_for self.old policy objects past → OnTaken result (stands_for self.new policy objects (item.now ∷ past)) }
-        ensures exhausted { (reached : Graph → ℕ → Bool) → Decides reached → (policy : Policy) (objects : ℕ) (past : List Item) →
-            stands_for self.old policy objects past → TellsExhausted result (is_exhausted reached policy (item.now ∷ past)) }
+            stands_for self.old policy objects past →
+            OnTaken result (stands_for self.new policy objects (item.now ∷ past)) }
+        ensures exhausted { (reached : Graph → ℕ → Bool) → Decides reached → (policy : Policy)
+            (objects : ℕ) (past : List Item) → stands_for self.old policy objects past →
+            TellsExhausted result (is_exhausted reached policy (item.now ∷ past)) }
         ensures kind { kind_of self.new ≡ kind_of self.old };
 
     /// The account of what it was fed.
     fn report(&self) -> Report
-        ensures { (reached : Graph → ℕ → Bool) → Decides reached → (policy : Policy) (objects : ℕ) (past : List Item) →
+        ensures { (reached : Graph → ℕ → Bool) →
+            Decides reached → (policy : Policy) (objects : ℕ) (past : List Item) →
             stands_for self.now policy objects past → result ≡ tally reached policy past };
 }

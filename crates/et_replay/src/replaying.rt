@@ -28,10 +28,12 @@ struct Seat {
 
 /// Feeds an item to a model; where there is no room any more, gives its report.
 fn feed_model(model: &mut Box<dyn HeapModel>, item: &Item) -> Result<Option<Report>, NoMemory>
-    requires { (policy : Policy) × (objects : ℕ) × (past : List Item) × stands_for model.old policy objects past × HasRoom policy past × MayCome objects past item.now }
+    requires { (policy : Policy) × (objects : ℕ) × (past : List Item) × stands_for
+        model.old policy objects past × HasRoom policy past × MayCome objects past item.now }
     ensures { (policy : Policy) (objects : ℕ) (past : List Item) →
-        stands_for model.old policy objects past →
-        IfOk result (λ report. MatchOption report (stands_for model.new policy objects (item.now ∷ past) × HasRoom policy (item.now ∷ past)) (λ r. IsFinal r policy (item.now ∷ past))) }
+        stands_for model.old policy objects past → IfOk result
+        (λ report. MatchOption report (stands_for model.new policy objects (item.now ∷ past)
+        × HasRoom policy (item.now ∷ past)) (λ r. IsFinal r policy (item.now ∷ past))) }
 {
     match model.feed(item) {
         Fed::Ok => Ok(None),
@@ -42,10 +44,11 @@ fn feed_model(model: &mut Box<dyn HeapModel>, item: &Item) -> Result<Option<Repo
 
 /// Feeds an item to a model that has room. An exhausted model leaves its report, and is dropped.
 fn feed_seat(seat: &mut Seat, item: &Item) -> Result<(), NoMemory>
-    requires { (policy : Policy) × (objects : ℕ) × (past : List Item) × Sits (λ b. stands_for b) seat.old.model seat.old.report policy objects past × MayCome objects past item.now }
+    requires { (policy : Policy) × (objects : ℕ) × (past : List Item) × Sits (λ b. stands_for b)
+        seat.old.model seat.old.report policy objects past × MayCome objects past item.now }
     ensures { (policy : Policy) (objects : ℕ) (past : List Item) →
-        Sits (λ b. stands_for b) seat.old.model seat.old.report policy objects past →
-        OnOk result (Sits (λ b. stands_for b) seat.new.model seat.new.report policy objects (item.now ∷ past)) }
+        Sits (λ b. stands_for b) seat.old.model seat.old.report policy objects past → OnOk result
+        (Sits (λ b. stands_for b) seat.new.model seat.new.report policy objects (item.now ∷ past)) }
 {
     let Some(model) = &mut seat.model else {
         return Ok(());
@@ -61,10 +64,11 @@ fn feed_seat(seat: &mut Seat, item: &Item) -> Result<(), NoMemory>
 
 /// Feeds an item to each model that has room, in order.
 fn feed_all(seats: &mut [Seat], item: &Item) -> Result<(), NoMemory>
-    requires { (told : List Told) × (past : List Item) × EachZip (λ seat p. Sits (λ b. stands_for b) seat.model seat.report p.0 p.1 past) seats.old told × AllMayCome told past item.now }
-    ensures { (told : List Told) (past : List Item) →
-        EachZip (λ seat p. Sits (λ b. stands_for b) seat.model seat.report p.0 p.1 past) seats.old told →
-        OnOk result (EachZip (λ seat p. Sits (λ b. stands_for b) seat.model seat.report p.0 p.1 (item.now ∷ past)) seats.new told) }
+    requires { (told : List Told) × (past : List Item) × EachZip (λ seat p. Sits (λ b. stands_for b)
+        seat.model seat.report p.0 p.1 past) seats.old told × AllMayCome told past item.now }
+    ensures { (told : List Told) (past : List Item) → EachZip (λ seat p. Sits (λ b. stands_for b)
+        seat.model seat.report p.0 p.1 past) seats.old told → OnOk result (EachZip (λ seat p.
+        Sits (λ b. stands_for b) seat.model seat.report p.0 p.1 (item.now ∷ past)) seats.new told) }
 {
     for seat in seats.iter_mut() {
         feed_seat(seat, item)?;
@@ -75,10 +79,11 @@ fn feed_all(seats: &mut [Seat], item: &Item) -> Result<(), NoMemory>
 /// Feeds all items, in order.
 fn feed_items(seats: &mut [Seat], items: &[Item]) -> Result<(), NoMemory>
     requires made { MakesInOrder items.now }
-    requires sit { (told : List Told) × EachZip (λ seat p. Sits (λ b. stands_for b) seat.model seat.report p.0 p.1 []) seats.old told × All (λ p. length (made items.now) ≤ p.1) told }
-    ensures { (told : List Told) →
-        EachZip (λ seat p. Sits (λ b. stands_for b) seat.model seat.report p.0 p.1 []) seats.old told →
-        OnOk result (EachZip (λ seat p. Sits (λ b. stands_for b) seat.model seat.report p.0 p.1 (reverse items.now)) seats.new told) }
+    requires sit { (told : List Told) × EachZip (λ seat p. Sits (λ b. stands_for b) seat.model
+        seat.report p.0 p.1 []) seats.old told × All (λ p. length (made items.now) ≤ p.1) told }
+    ensures { (told : List Told) → EachZip (λ seat p. Sits (λ b. stands_for b)
+        seat.model seat.report p.0 p.1 []) seats.old told → OnOk result (EachZip (λ seat p. Sits
+        (λ b. stands_for b) seat.model seat.report p.0 p.1 (reverse items.now)) seats.new told) }
 {
     for item in items {
         feed_all(seats, item)?;
@@ -106,7 +111,8 @@ fn seat_of(model: Box<dyn HeapModel>) -> Seat
 
 /// Gives each model a seat.
 fn seats_of(alloc: Global, models: Vec<Box<dyn HeapModel>>) -> Result<Vec<Seat>, NoMemory>
-    ensures { IfOk result (λ seats. EachZip (λ seat b. (seat.model ≡ Some b) × (seat.report ≡ None)) seats.items models.items) }
+    ensures { IfOk result (λ seats.
+        EachZip (λ seat b. (seat.model ≡ Some b) × (seat.report ≡ None)) seats.items models.items) }
 {
     let mut seats = Vec::new(alloc);
     for model in models {
@@ -117,9 +123,11 @@ fn seats_of(alloc: Global, models: Vec<Box<dyn HeapModel>>) -> Result<Vec<Seat>,
 
 /// What the model accounts for, or did when it was exhausted.
 fn report_of(seat: &Seat) -> Report
-    requires { (policy : Policy) × (objects : ℕ) × (past : List Item) × Sits (λ b. stands_for b) seat.now.model seat.now.report policy objects past }
-    ensures { (reached : Graph → ℕ → Bool) → Decides reached → (policy : Policy) (objects : ℕ) (past : List Item) →
-        Sits (λ b. stands_for b) seat.now.model seat.now.report policy objects past → result ≡ tally reached policy past }
+    requires { (policy : Policy) × (objects : ℕ) × (past : List Item)
+        × Sits (λ b. stands_for b) seat.now.model seat.now.report policy objects past }
+    ensures { (reached : Graph → ℕ → Bool) → Decides reached →
+        (policy : Policy) (objects : ℕ) (past : List Item) → Sits (λ b. stands_for b)
+        seat.now.model seat.now.report policy objects past → result ≡ tally reached policy past }
 {
     match &seat.model {
         Some(model) => model.report(),
@@ -129,9 +137,11 @@ fn report_of(seat: &Seat) -> Report
 
 /// The lines of all reports.
 fn text_of(alloc: Global, seats: &[Seat]) -> Result<Vec<u8>, NoMemory>
-    requires { (told : List Told) × (past : List Item) × EachZip (λ seat p. Sits (λ b. stands_for b) seat.model seat.report p.0 p.1 past) seats.now told }
-    ensures { (reached : Graph → ℕ → Bool) → Decides reached → (told : List Told) (past : List Item) →
-        EachZip (λ seat p. Sits (λ b. stands_for b) seat.model seat.report p.0 p.1 past) seats.now told →
+    requires { (told : List Told) × (past : List Item) × EachZip
+        (λ seat p. Sits (λ b. stands_for b) seat.model seat.report p.0 p.1 past) seats.now told }
+    ensures { (reached : Graph → ℕ → Bool) →
+        Decides reached → (told : List Told) (past : List Item) → EachZip
+        (λ seat p. Sits (λ b. stands_for b) seat.model seat.report p.0 p.1 past) seats.now told →
         IfOk result (λ text. text.items ≡ flat_map (told_line reached past) told) }
 {
     let mut text = Vec::new(alloc);
@@ -144,9 +154,10 @@ fn text_of(alloc: Global, seats: &[Seat]) -> Result<Vec<u8>, NoMemory>
 /// Feeds all items, and gives the lines of all reports.
 fn run(alloc: Global, seats: &mut [Seat], items: &[Item]) -> Result<Vec<u8>, NoMemory>
     requires made { MakesInOrder items.now }
-    requires sit { (told : List Told) × EachZip (λ seat p. Sits (λ b. stands_for b) seat.model seat.report p.0 p.1 []) seats.old told × All (λ p. length (made items.now) ≤ p.1) told }
-    ensures { (reached : Graph → ℕ → Bool) → Decides reached → (told : List Told) →
-        EachZip (λ seat p. Sits (λ b. stands_for b) seat.model seat.report p.0 p.1 []) seats.old told →
+    requires sit { (told : List Told) × EachZip (λ seat p. Sits (λ b. stands_for b) seat.model
+        seat.report p.0 p.1 []) seats.old told × All (λ p. length (made items.now) ≤ p.1) told }
+    ensures { (reached : Graph → ℕ → Bool) → Decides reached → (told : List Told) → EachZip
+        (λ seat p. Sits (λ b. stands_for b) seat.model seat.report p.0 p.1 []) seats.old told →
         IfOk result (λ text. text.items ≡ flat_map (told_line reached (reverse items.now)) told) }
 {
     feed_items(seats, items)?;
@@ -159,7 +170,8 @@ fn lines_of(
     models: Vec<Box<dyn HeapModel>>,
 ) -> Result<Vec<u8>, NoMemory>
     requires made { MakesInOrder items.now }
-    requires told { (told : List Told) × EachZip (λ b p. stands_for b p.0 p.1 []) models.items told × All (λ p. length (made items.now) ≤ p.1) told }
+    requires told { (told : List Told) × EachZip (λ b p. stands_for b p.0 p.1 []) models.items told
+        × All (λ p. length (made items.now) ≤ p.1) told }
     ensures { (reached : Graph → ℕ → Bool) → Decides reached → (told : List Told) →
         EachZip (λ b p. stands_for b p.0 p.1 []) models.items told →
         IfOk result (λ text. text.items ≡ flat_map (told_line reached (reverse items.now)) told) }
@@ -179,15 +191,18 @@ pub fn replay<O: Sink>(
     models: Vec<Box<dyn HeapModel>>,
     sink: &mut O,
 ) -> Result<u32, RunFault>
-    requires { (policies : List Policy) × AllZip (λ b policy. (objects : ℕ) × (length (made timeline.now) ≤ objects) × stands_for b policy objects []) models.items policies }
+    requires { (policies : List Policy) × AllZip (λ b policy. (objects : ℕ) × (length
+        (made timeline.now) ≤ objects) × stands_for b policy objects []) models.items policies }
     ensures ok { (reached : Graph → ℕ → Bool) → Decides reached → (policies : List Policy) →
         AllZip (λ b policy. (objects : ℕ) × stands_for b policy objects []) models.items policies →
-        OnOk result (O.taken sink.new ≡ with_more (O.taken sink.old) (replay_text reached timeline.now policies)) }
+        OnOk result (O.taken sink.new
+        ≡ with_more (O.taken sink.old) (replay_text reached timeline.now policies)) }
     ensures count { IfOk result (λ lines. lines ≡ length models.items) }
     ensures write { IsErrOf result RunFault.Write → Rose (O.faults sink.old) (O.faults sink.new) }
     ensures err { (reached : Graph → ℕ → Bool) → Decides reached → (policies : List Policy) →
         AllZip (λ b policy. (objects : ℕ) × stands_for b policy objects []) models.items policies →
-        OnErr result (TakesFront (O.taken sink.old) (O.taken sink.new) (replay_text reached timeline.now policies)) }
+        OnErr result (TakesFront
+        (O.taken sink.old) (O.taken sink.new) (replay_text reached timeline.now policies)) }
     ensures never_falls { O.faults sink.old ≤ O.faults sink.new }
 {
     let Ok(count) = u32::try_from(models.len()) else {

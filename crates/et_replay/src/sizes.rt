@@ -19,7 +19,8 @@ impl Sizes {
         ensures counts { (limit : ℕ) → CountsTo result.sizes.items result.at result.sum limit }
         ensures sorted { IsNonDecreasingBy (λ (p : ℕ × ℕ). p.0) result.sizes.items }
         ensures fits { sum_by (λ (p : ℕ × ℕ). p.1) result.sizes.items < 2 ^ 64 }
-        ensures same { (limit : ℕ) → sum_below limit result.sizes.items ≡ sum_below limit sizes.items }
+        ensures same { (limit : ℕ) →
+            sum_below limit result.sizes.items ≡ sum_below limit sizes.items }
     {
         let mut sizes = sizes;
         sizes.sort_unstable_by_key(|p| p.0);

@@ -38,7 +38,8 @@ fn first_class_state(program: &Program, class: ClassId) -> ClassState
 
 /// How far each class is at first.
 fn class_states(alloc: Global, program: &Program) -> Result<Vec<ClassState>, NoMemory>
-    ensures { IfOk result (λ states. states.items ≡ class_states_from program.now 0 (length program.now.classes)) }
+    ensures { IfOk result
+        (λ states. states.items ≡ class_states_from program.now 0 (length program.now.classes)) }
 {
     let mut states = Vec::new(alloc);
     'classes: for class in 0..program.class_count() {
@@ -55,7 +56,8 @@ fn class_states(alloc: Global, program: &Program) -> Result<Vec<ClassState>, NoM
 pub fn begin(alloc: Global, program: &Program) -> Result<Machine, NoMemory>
     ensures state { IfOk result (λ machine. kept_of machine ≡ start program.now) }
     ensures lost { IfOk result (λ machine. machine.lost ≡ []) }
-    ensures sound { (files : List LoadedClass) → All HasClassName files → IsProgramOf files program.now → IfOk result (λ machine. IsSoundFor program.now (kept_of machine)) }
+    ensures sound { (files : List LoadedClass) → All HasClassName files → IsProgramOf
+        files program.now → IfOk result (λ machine. IsSoundFor program.now (kept_of machine)) }
 {
     let classes = class_states(alloc, program)?;
     let statics = vec![in alloc; Value::Unset; program.statics().len()]?;
@@ -66,7 +68,9 @@ pub fn begin(alloc: Global, program: &Program) -> Result<Machine, NoMemory>
 /// linked to. The only error is want of memory.
 pub fn start_lines(alloc: Global, program: &Program) -> Result<Lines, NoMemory>
     ensures records { IfOk result (λ lines. lines ≡ start_records program.now) }
-    ensures named { (names : Names) (files : List LoadedClass) → names.class_count ≡ length program.now.classes → IsProgramOf files program.now → IfOk result (λ lines. All (IsNamed names) lines) }
+    ensures named { (names : Names) (files : List LoadedClass) →
+        names.class_count ≡ length program.now.classes →
+        IsProgramOf files program.now → IfOk result (λ lines. All (IsNamed names) lines) }
 {
     let mut lines = Lines::begin(alloc);
     lines.push(Record::Alloc {

@@ -59,7 +59,8 @@ fn done_event<L: Ledger>(
     requires elements { AreElementsWithin program.now }
     requires place { IsPlace program.now (top machine.old.guest thread) place.now }
     requires row { place.now.row ≡ row_kinds.Heap row }
-    ensures event { IfOk result (λ end. EventAnswers (event_of_row (moment program.now machine.old thread) (site_at place.now) row) end machine.old machine.new out.old out.new) }
+    ensures event { IfOk result (λ end. EventAnswers (event_of_row (moment program.now
+        machine.old thread) (site_at place.now) row) end machine.old machine.new out.old out.new) }
     ensures visits { visits.new ≤ visits.old + 6 }
 {
     let end = heap_row_event(machine, program, thread, place, row, out, visits)?;
@@ -86,7 +87,8 @@ fn class_event(
     requires program { IsRunnable program.now }
     requires place { IsPlace program.now (top machine.old.guest thread) place.now }
     requires row { place.now.row ≡ row_kinds.Heap row }
-    ensures { IfOk result (λ end. EventAnswers (event_of_row (moment program.now machine.old thread) (site_at place.now) row) end machine.old machine.new out.old out.new) }
+    ensures { IfOk result (λ end. EventAnswers (event_of_row (moment program.now machine.old thread)
+        (site_at place.now) row) end machine.old machine.new out.old out.new) }
 {
     let end = class_row_event(alloc, program, machine, thread, place, row, out)?;
     match end {
@@ -113,8 +115,10 @@ pub fn heap_event<L: Ledger>(
     requires program { IsRunnable program.now }
     requires place { IsPlace program.now (top machine.old.guest thread) place.now }
     requires row { place.now.row ≡ row_kinds.Heap row }
-    ensures event { IfOk result (λ end. EventAnswers (event_of_row (moment program.now machine.old thread) (site_at place.now) row) end machine.old machine.new out.old out.new) }
-    ensures visits { IfOk result (λ end. visits.new ≤ visits.old + 8 + (length machine.new.heap - length machine.old.heap)) }
+    ensures event { IfOk result (λ end. EventAnswers (event_of_row (moment program.now
+        machine.old thread) (site_at place.now) row) end machine.old machine.new out.old out.new) }
+    ensures visits { IfOk result
+        (λ end. visits.new ≤ visits.old + 8 + (length machine.new.heap - length machine.old.heap)) }
 {
     if is_done(row) {
         done_event(program, machine, thread, place, row, out, visits)

@@ -12,5 +12,6 @@ ghost use Rattle.et_run.specs.Telling.{HasElementClasses, IsTold};
 /// An event that is done, or in which a thread waits, takes the clock on by one; and each class and method that its records
 /// name is one of the program.
 pub fn events_are_told()
-    ensures { (p : Linked) (s : Kept) (t : ℕ) → IsSoundFor p s → IsTabled p → MakesSound p → HasElementClasses p → IsTold p s (event p s t) }
+    ensures { (p : Linked) (s : Kept) (t : ℕ) → IsSoundFor p s →
+        IsTabled p → MakesSound p → HasElementClasses p → IsTold p s (event p s t) }
 {}

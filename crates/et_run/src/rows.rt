@@ -38,7 +38,8 @@ fn plain_row_event(
     requires turn { turn_of (thread_at machine.old.guest thread) ≡ turns.Instruction }
     requires place { IsPlace program.now (top machine.old.guest thread) place.now }
     requires plain { is_plain place.now.row ≡ true }
-    ensures { IfOk result (λ end. EventAnswers (does (moment program.now machine.old thread) (site_at place.now) place.now.row) end machine.old machine.new out.old out.new) }
+    ensures { IfOk result (λ end. EventAnswers (does (moment program.now machine.old thread)
+        (site_at place.now) place.now.row) end machine.old machine.new out.old out.new) }
 {
     let end = plain_event(
         machine,
@@ -72,8 +73,10 @@ fn row_event<L: Ledger>(
     requires program { IsRunnable program.now }
     requires turn { turn_of (thread_at machine.old.guest thread) ≡ turns.Instruction }
     requires place { IsPlace program.now (top machine.old.guest thread) place.now }
-    ensures event { IfOk result (λ end. EventAnswers (does (moment program.now machine.old thread) (site_at place.now) place.now.row) end machine.old machine.new out.old out.new) }
-    ensures visits { IfOk result (λ end. visits.new ≤ visits.old + 8 + (length machine.new.heap - length machine.old.heap)) }
+    ensures event { IfOk result (λ end. EventAnswers (does (moment program.now machine.old thread)
+        (site_at place.now) place.now.row) end machine.old machine.new out.old out.new) }
+    ensures visits { IfOk result
+        (λ end. visits.new ≤ visits.old + 8 + (length machine.new.heap - length machine.old.heap)) }
 {
     match place.row {
         Row::Frame(_) | Row::PoolConstant | Row::Divide(_, _) => {
@@ -101,8 +104,10 @@ pub fn instruction_event<L: Ledger>(
     requires clock { machine.old.guest.clock < 2 ^ 40 }
     requires program { IsRunnable program.now }
     requires turn { turn_of (thread_at machine.old.guest thread) ≡ turns.Instruction }
-    ensures event { IfOk result (λ end. EventAnswers (event program.now (kept_of machine.old) thread) end machine.old machine.new out.old out.new) }
-    ensures visits { IfOk result (λ end. visits.new ≤ visits.old + 8 + (length machine.new.heap - length machine.old.heap)) }
+    ensures event { IfOk result (λ end. EventAnswers (event program.now
+        (kept_of machine.old) thread) end machine.old machine.new out.old out.new) }
+    ensures visits { IfOk result
+        (λ end. visits.new ≤ visits.old + 8 + (length machine.new.heap - length machine.old.heap)) }
 {
     match place_of(program, machine, thread) {
         Some(place) => row_event(alloc, program, machine, thread, &place, out, visits),

@@ -50,9 +50,15 @@ fn run_from<O: Sink, L: Ledger>(
     requires tabled { IsTabled code.now }
     requires state { kept_of machine ≡ start code.now }
     requires records { made.now ≡ start_records code.now }
-    ensures trace { (reached : Graph → ℕ → Bool) → Decides reached → IfOk result (λ ran. WritesTrace reached (setting code.now options.now) (kept_of machine) made.now ran (O.taken sink.old) (O.taken sink.new)) }
-    ensures front { (reached : Graph → ℕ → Bool) → Decides reached → OnErr result (WritesFront reached (setting code.now options.now) (kept_of machine) made.now (O.taken sink.old) (O.taken sink.new)) }
-    ensures visits { (reached : Graph → ℕ → Bool) → Decides reached → IfOk result (λ ran. visits.new ≤ visits.old + allowed_visits reached (setting code.now options.now) flush_visits_of (kept_of machine) made.now ran.event) }
+    ensures trace { (reached : Graph → ℕ → Bool) →
+        Decides reached → IfOk result (λ ran. WritesTrace reached (setting code.now options.now)
+        (kept_of machine) made.now ran (O.taken sink.old) (O.taken sink.new)) }
+    ensures front { (reached : Graph → ℕ → Bool) →
+        Decides reached → OnErr result (WritesFront reached (setting code.now options.now)
+        (kept_of machine) made.now (O.taken sink.old) (O.taken sink.new)) }
+    ensures visits { (reached : Graph → ℕ → Bool) →
+        Decides reached → IfOk result (λ ran. visits.new ≤ visits.old + allowed_visits reached
+        (setting code.now options.now) flush_visits_of (kept_of machine) made.now ran.event) }
     ensures write { IsErrOf result RunFault.Write → Rose (O.faults sink.old) (O.faults sink.new) }
     ensures never_falls { O.faults sink.old ≤ O.faults sink.new }
 {
@@ -76,9 +82,15 @@ pub fn run_program<O: Sink, L: Ledger>(
     requires options { AreOptions options.now }
     requires runnable { IsRunnable code.now }
     requires start { IsSoundFor code.now (start code.now) }
-    ensures trace { (reached : Graph → ℕ → Bool) → Decides reached → IfOk result (λ ran. WritesTrace reached (setting code.now options.now) (start code.now) (start_records code.now) ran (O.taken sink.old) (O.taken sink.new)) }
-    ensures front { (reached : Graph → ℕ → Bool) → Decides reached → OnErr result (WritesFront reached (setting code.now options.now) (start code.now) (start_records code.now) (O.taken sink.old) (O.taken sink.new)) }
-    ensures visits { (reached : Graph → ℕ → Bool) → Decides reached → IfOk result (λ ran. visits.new ≤ visits.old + allowed_visits reached (setting code.now options.now) flush_visits_of (start code.now) (start_records code.now) ran.event) }
+    ensures trace { (reached : Graph → ℕ → Bool) →
+        Decides reached → IfOk result (λ ran. WritesTrace reached (setting code.now options.now)
+        (start code.now) (start_records code.now) ran (O.taken sink.old) (O.taken sink.new)) }
+    ensures front { (reached : Graph → ℕ → Bool) →
+        Decides reached → OnErr result (WritesFront reached (setting code.now options.now)
+        (start code.now) (start_records code.now) (O.taken sink.old) (O.taken sink.new)) }
+    ensures visits { (reached : Graph → ℕ → Bool) → Decides reached → IfOk result
+        (λ ran. visits.new ≤ visits.old + allowed_visits reached (setting code.now options.now)
+        flush_visits_of (start code.now) (start_records code.now) ran.event) }
     ensures write { IsErrOf result RunFault.Write → Rose (O.faults sink.old) (O.faults sink.new) }
     ensures never_falls { O.faults sink.old ≤ O.faults sink.new }
 {

@@ -40,12 +40,17 @@ pub fn machine_event<L: Ledger>(
     requires clock { machine.old.guest.clock < 2 ^ 40 }
     requires sound { IsSoundRun program.now (kept_of machine.old) }
     requires thread { Contains (unended_of (kept_of machine.old)) thread }
-    ensures answers { IfOk result (λ end. Answers (event program.now (kept_of machine.old) thread) end (kept_of machine.old) (kept_of machine.new) out.old out.new) }
-    ensures step { IfOk result (λ end. StepsWhereDone end (graph_of (kept_of machine.old)) (graph_of (kept_of machine.new)) machine.new.lost) }
-    ensures visits { IfOk result (λ end. visits.new ≤ visits.old + 8 + ((graph_of (kept_of machine.new)).made - (graph_of (kept_of machine.old)).made)) }
+    ensures answers { IfOk result (λ end. Answers (event program.now (kept_of machine.old) thread)
+        end (kept_of machine.old) (kept_of machine.new) out.old out.new) }
+    ensures step { IfOk result (λ end. StepsWhereDone end
+        (graph_of (kept_of machine.old)) (graph_of (kept_of machine.new)) machine.new.lost) }
+    ensures visits { IfOk result (λ end. visits.new ≤ visits.old
+        + 8 + ((graph_of (kept_of machine.new)).made - (graph_of (kept_of machine.old)).made)) }
     ensures sound { OnOk result (IsSoundRun program.now (kept_of machine.new)) }
-    ensures clock { IfOk result (λ end. TicksWhereDone end machine.old.guest.clock machine.new.guest.clock) }
-    ensures named { OnOk result (All (IsNamed (names_of program.now)) out.old → All (IsNamed (names_of program.now)) out.new) }
+    ensures clock { IfOk result
+        (λ end. TicksWhereDone end machine.old.guest.clock machine.new.guest.clock) }
+    ensures named { OnOk result (All (IsNamed (names_of program.now)) out.old →
+        All (IsNamed (names_of program.now)) out.new) }
 {
     answers_are_sound();
     events_keep_sound();
@@ -65,11 +70,17 @@ pub fn machine_flush<L: Ledger>(
     requires sound { IsSoundRun _program.now (kept_of machine.old) }
     requires stamps { (graph_of (kept_of machine.old)).made < length stamps.now }
     requires places { (graph_of (kept_of machine.old)).made ≤ room.old.places }
-    ensures deaths { OnOk result (AreListed (graph_of (kept_of machine.old)) (slice_index stamps.now) room.new.deaths) }
+    ensures deaths { OnOk result
+        (AreListed (graph_of (kept_of machine.old)) (slice_index stamps.now) room.new.deaths) }
     ensures places { room.new.places ≡ room.old.places }
-    ensures state { (here : ℕ → Bool) → ((o : ℕ) → IsTrue (here o) ↔ IsReached (graph_of (kept_of machine.old)) o) → OnOk result (kept_of machine.new ≡ flushed_of here (kept_of machine.old)) }
-    ensures visits { (here : ℕ → Bool) → ((o : ℕ) → IsTrue (here o) ↔ IsReached (graph_of (kept_of machine.old)) o) → OnOk result (visits.new ≤ visits.old + flush_visits_of here (kept_of machine.old)) }
-    ensures graph { OnOk result (IsCleared (graph_of (kept_of machine.old)) (graph_of (kept_of machine.new))) }
+    ensures state { (here : ℕ → Bool) →
+        ((o : ℕ) → IsTrue (here o) ↔ IsReached (graph_of (kept_of machine.old)) o) →
+        OnOk result (kept_of machine.new ≡ flushed_of here (kept_of machine.old)) }
+    ensures visits { (here : ℕ → Bool) →
+        ((o : ℕ) → IsTrue (here o) ↔ IsReached (graph_of (kept_of machine.old)) o) →
+        OnOk result (visits.new ≤ visits.old + flush_visits_of here (kept_of machine.old)) }
+    ensures graph { OnOk result
+        (IsCleared (graph_of (kept_of machine.old)) (graph_of (kept_of machine.new))) }
     ensures clock { OnOk result (machine.new.guest.clock ≡ machine.old.guest.clock) }
     ensures sound { OnOk result (IsSoundRun _program.now (kept_of machine.new)) }
 {

@@ -32,7 +32,8 @@ fn initializer_event(
     requires clock { machine.old.guest.clock < 2 ^ 40 }
     requires program { IsRunnable program.now }
     requires turn { turn_of (thread_at machine.old.guest thread) ≡ turns.Initialize }
-    ensures { IfOk result (λ end. EventAnswers (event program.now (kept_of machine.old) thread) end machine.old machine.new out.old out.new) }
+    ensures { IfOk result (λ end. EventAnswers (event program.now (kept_of machine.old) thread)
+        end machine.old machine.new out.old out.new) }
 {
     match machine.stage(thread) {
         Stage::Before(class) => initialization_event(program, machine, alloc, thread, class, out),
@@ -57,8 +58,10 @@ pub fn turn_event<L: Ledger>(
     requires clock { machine.old.guest.clock < 2 ^ 40 }
     requires thread { IsUnended machine.old.guest thread }
     requires program { IsRunnable program.now }
-    ensures event { IfOk result (λ end. EventAnswers (event program.now (kept_of machine.old) thread) end machine.old machine.new out.old out.new) }
-    ensures visits { IfOk result (λ end. visits.new ≤ visits.old + 8 + (length machine.new.heap - length machine.old.heap)) }
+    ensures event { IfOk result (λ end. EventAnswers (event program.now
+        (kept_of machine.old) thread) end machine.old machine.new out.old out.new) }
+    ensures visits { IfOk result
+        (λ end. visits.new ≤ visits.old + 8 + (length machine.new.heap - length machine.old.heap)) }
 {
     match machine.turn(thread) {
         Turn::Unwind => unwinding_event(program, machine, thread, out, visits),

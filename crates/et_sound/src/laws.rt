@@ -58,123 +58,144 @@ pub fn sound_states_are_well_formed()
 
 /// A well-formed state is sound where what it refers to is held, and its objects fit.
 pub fn well_formed_states_are_sound()
-    ensures { (p : Linked) (s : Kept) → IsSound s → fits s.heap ≡ true → IsWellFormed p s → IsSoundFor p s }
+    ensures { (p : Linked) (s : Kept) →
+        IsSound s → fits s.heap ≡ true → IsWellFormed p s → IsSoundFor p s }
 {}
 
 /// The clock goes on.
 pub fn clock_keeps_well_formed()
-    ensures { (p : Linked) (s : Kept) → s.guest.clock < 2 ^ 40 → IsWellFormed p s → IsWellFormed p (later s) }
+    ensures { (p : Linked) (s : Kept) →
+        s.guest.clock < 2 ^ 40 → IsWellFormed p s → IsWellFormed p (later s) }
 {}
 
 // THREADS
 
 /// A thread becomes another one.
 pub fn thread_becomes()
-    ensures { (p : Linked) (s : Kept) (t : ℕ) (x : ThreadState) → IsWellFormed p s → t < length s.guest.threads → MayBeThread p s t x →
+    ensures { (p : Linked) (s : Kept) (t : ℕ) (x : ThreadState) →
+        IsWellFormed p s → t < length s.guest.threads → MayBeThread p s t x →
         IsWellFormed p (record { heap = s.heap; guest = with_thread s.guest t x }) }
 {}
 
 /// .. which has other frames.
 pub fn frames_may_change()
-    ensures { (p : Linked) (s : Kept) (t : ℕ) (frames : List FrameState) → IsWellFormed p s → t < length s.guest.threads →
-        AreSoundFrames p frames → length frames ≤ most_frames → MayBeThread p s t (record (thread_at s.guest t) { frames = frames }) }
+    ensures { (p : Linked) (s : Kept) (t : ℕ) (frames : List FrameState) → IsWellFormed p s →
+        t < length s.guest.threads → AreSoundFrames p frames → length frames ≤ most_frames →
+        MayBeThread p s t (record (thread_at s.guest t) { frames = frames }) }
 {}
 
 /// .. whose exception becomes pending, or is caught (JVMS 2.10).
 pub fn exceptions_may_pend()
-    ensures { (p : Linked) (s : Kept) (t : ℕ) (pending : Option ℕ) → IsWellFormed p s → t < length s.guest.threads →
-        MayBeThread p s t (with_pending pending (thread_at s.guest t)) }
+    ensures { (p : Linked) (s : Kept) (t : ℕ) (pending : Option ℕ) → IsWellFormed p s → t
+        < length s.guest.threads → MayBeThread p s t (with_pending pending (thread_at s.guest t)) }
 {}
 
 /// .. which is entered.
 pub fn threads_may_be_entered()
-    ensures { (p : Linked) (s : Kept) (t : ℕ) → IsWellFormed p s → t < length s.guest.threads → MayBeThread p s t (as_entered (thread_at s.guest t)) }
+    ensures { (p : Linked) (s : Kept) (t : ℕ) → IsWellFormed p s →
+        t < length s.guest.threads → MayBeThread p s t (as_entered (thread_at s.guest t)) }
 {}
 
 /// .. which ends.
 pub fn threads_may_end()
-    ensures { (p : Linked) (s : Kept) (t : ℕ) → IsWellFormed p s → t < length s.guest.threads → MayBeThread p s t (as_ended (thread_at s.guest t)) }
+    ensures { (p : Linked) (s : Kept) (t : ℕ) → IsWellFormed p s →
+        t < length s.guest.threads → MayBeThread p s t (as_ended (thread_at s.guest t)) }
 {}
 
 // OBJECTS
 
 /// An object becomes another one of its class.
 pub fn object_becomes()
-    ensures { (p : Linked) (s : Kept) (o : ℕ) (x : ObjectState) → IsWellFormed p s → IsHeld s.heap o →
-        IsSoundObject p x → IsSoundMonitor s.guest x.monitor → x.class ≡ (object_at s.heap o).class →
+    ensures { (p : Linked) (s : Kept) (o : ℕ) (x : ObjectState) →
+        IsWellFormed p s → IsHeld s.heap o → IsSoundObject p x →
+        IsSoundMonitor s.guest x.monitor → x.class ≡ (object_at s.heap o).class →
         IsWellFormed p (record { heap = with_object_at s.heap o x; guest = s.guest }) }
 {}
 
 /// An object is made.
 pub fn object_is_made()
-    ensures { (p : Linked) (s : Kept) (x : ObjectState) → IsWellFormed p s → IsSoundObject p x → x.monitor ≡ free_monitor →
+    ensures { (p : Linked) (s : Kept) (x : ObjectState) →
+        IsWellFormed p s → IsSoundObject p x → x.monitor ≡ free_monitor →
         IsWellFormed p (record { heap = s.heap ++ Some x ∷ []; guest = s.guest }) }
 {}
 
 /// A slot of an object is written (JVMS 2.4, 6.5 putfield), and all fits as before.
 pub fn slot_is_written()
-    ensures well { (p : Linked) (e : Moment) (o i : ℕ) (v : Value) (d : Doing) → IsWellFormed p d.state → IsHeld d.state.heap o →
-        MayHold p (object_at d.state.heap o).class i v → IsWellFormed p (slot_written e o i v d).state }
-    ensures fits { (e : Moment) (o i : ℕ) (v : Value) (d : Doing) → IsHeld d.state.heap o → fits d.state.heap ≡ true →
-        fits (slot_written e o i v d).state.heap ≡ true }
+    ensures well { (p : Linked) (e : Moment) (o i : ℕ) (v : Value) (d : Doing) →
+        IsWellFormed p d.state → IsHeld d.state.heap o → MayHold p
+        (object_at d.state.heap o).class i v → IsWellFormed p (slot_written e o i v d).state }
+    ensures fits { (e : Moment) (o i : ℕ) (v : Value) (d : Doing) → IsHeld d.state.heap o →
+        fits d.state.heap ≡ true → fits (slot_written e o i v d).state.heap ≡ true }
 {}
 
 /// An object may hold a value of its type in the slot of a field (JVMS 2.4), also as the field keeps it, and an array of a
 /// kind may hold what an element keeps of a value of that kind.
 pub fn slots_may_be_written()
-    ensures field { (p : Linked) (c f : ℕ) (v : Value) → HasSlots p → HasInstanceField p c f →
-        is_of_kind (kind_of (field_at p f).descriptor) v ≡ true → MayHold p c (field_at p f).slot v }
-    ensures narrowed { (k : Option Operand) (descriptor : List ℕ) (v : Value) → is_of_kind k v ≡ true → is_of_kind k (narrowed descriptor v) ≡ true }
-    ensures element { (p : Linked) (kind : Elements) (c i : ℕ) (v : Value) → HasSlots p → are_elements kind (class_at p c).info.element ≡ true →
+    ensures field { (p : Linked) (c f : ℕ) (v : Value) → HasSlots p →
+        HasInstanceField p c f → is_of_kind (kind_of (field_at p f).descriptor) v ≡ true →
+        MayHold p c (field_at p f).slot v }
+    ensures narrowed { (k : Option Operand) (descriptor : List ℕ) (v : Value) →
+        is_of_kind k v ≡ true → is_of_kind k (narrowed descriptor v) ≡ true }
+    ensures element { (p : Linked) (kind : Elements) (c i : ℕ) (v : Value) →
+        HasSlots p → are_elements kind (class_at p c).info.element ≡ true →
         is_of_kind (Some (kind_of_elements kind)) v ≡ true → MayHold p c i (kept_element kind v) }
 {}
 
 /// What is read from a field takes no more entries than its type.
 pub fn reads_have_width()
-    ensures { (descriptor : List ℕ) (v : Value) → is_of_kind (kind_of descriptor) v ≡ true → length (entries_of (or_zero (kind_of descriptor) v)) ≤ width_of descriptor }
+    ensures { (descriptor : List ℕ) (v : Value) → is_of_kind (kind_of descriptor) v ≡ true →
+        length (entries_of (or_zero (kind_of descriptor) v)) ≤ width_of descriptor }
 {}
 
 /// What an object refers to weakly is set.
 pub fn referent_is_set()
-    ensures { (p : Linked) (o : ℕ) (r : Option ℕ) (d : Doing) → IsWellFormed p d.state → IsHeld d.state.heap o →
-        IsWellFormed p (with_referent_of o r d).state }
+    ensures { (p : Linked) (o : ℕ) (r : Option ℕ) (d : Doing) → IsWellFormed p d.state →
+        IsHeld d.state.heap o → IsWellFormed p (with_referent_of o r d).state }
 {}
 
 /// The monitor of an object or of a class is entered once (JVMS 2.11.10), and all fits as before. Before that nobody has
 /// entered it more often than there were events.
 pub fn monitor_is_entered()
-    ensures well { (p : Linked) (e : Moment) (lock : Lock) (d : Doing) → IsWellFormed p d.state → IsThere d.state lock →
-        e.thread < length d.state.guest.threads → (monitor_of d lock).count < d.state.guest.clock → IsWellFormed p (entered e lock d).state }
-    ensures fits { (e : Moment) (lock : Lock) (d : Doing) → IsThere d.state lock → fits d.state.heap ≡ true → fits (entered e lock d).state.heap ≡ true }
-    ensures count { (p : Linked) (d : Doing) (lock : Lock) → IsWellFormed p d.state → IsThere d.state lock → (monitor_of d lock).count ≤ d.state.guest.clock }
+    ensures well { (p : Linked) (e : Moment) (lock : Lock) (d : Doing) →
+        IsWellFormed p d.state → IsThere d.state lock → e.thread < length d.state.guest.threads →
+        (monitor_of d lock).count < d.state.guest.clock → IsWellFormed p (entered e lock d).state }
+    ensures fits { (e : Moment) (lock : Lock) (d : Doing) → IsThere d.state lock →
+        fits d.state.heap ≡ true → fits (entered e lock d).state.heap ≡ true }
+    ensures count { (p : Linked) (d : Doing) (lock : Lock) → IsWellFormed p d.state →
+        IsThere d.state lock → (monitor_of d lock).count ≤ d.state.guest.clock }
 {}
 
 /// .. and left once.
 pub fn monitor_is_left()
-    ensures well { (p : Linked) (lock : Lock) (d : Doing) → IsWellFormed p d.state → IsThere d.state lock → IsWellFormed p (left lock d).state }
-    ensures fits { (lock : Lock) (d : Doing) → IsThere d.state lock → fits d.state.heap ≡ true → fits (left lock d).state.heap ≡ true }
+    ensures well { (p : Linked) (lock : Lock) (d : Doing) →
+        IsWellFormed p d.state → IsThere d.state lock → IsWellFormed p (left lock d).state }
+    ensures fits { (lock : Lock) (d : Doing) →
+        IsThere d.state lock → fits d.state.heap ≡ true → fits (left lock d).state.heap ≡ true }
 {}
 
 // CLASSES
 
 /// A static slot is written, whose class is no longer untouched (JVMS 5.5).
 pub fn static_slot_is_written()
-    ensures { (p : Linked) (e : Moment) (i : ℕ) (v : Value) (d : Doing) → IsWellFormed p d.state → i < length p.statics →
+    ensures { (p : Linked) (e : Moment) (i : ℕ) (v : Value) (d : Doing) →
+        IsWellFormed p d.state → i < length p.statics →
         is_of_kind (kind_of (field_at p (slice_index_or p.statics i 0)).descriptor) v ≡ true →
-        (class_state_at d.state.guest (field_at p (slice_index_or p.statics i 0)).class ≡ classes.Untouched → ⊥) →
-        IsWellFormed p (static_written e i v d).state }
+        (class_state_at d.state.guest (field_at p (slice_index_or p.statics i 0)).class
+        ≡ classes.Untouched → ⊥) → IsWellFormed p (static_written e i v d).state }
 {}
 
 /// A class goes on with its initialization.
 pub fn class_goes_on()
-    ensures { (p : Linked) (c : ℕ) (x : ClassState) (d : Doing) → IsWellFormed p d.state → c < length p.classes →
-        IsSoundClassState d.state.guest x → (x ≡ classes.Untouched → ⊥) → IsWellFormed p (with_state c x d).state }
+    ensures { (p : Linked) (c : ℕ) (x : ClassState) (d : Doing) →
+        IsWellFormed p d.state → c < length p.classes → IsSoundClassState d.state.guest x →
+        (x ≡ classes.Untouched → ⊥) → IsWellFormed p (with_state c x d).state }
 {}
 
 /// A thread is started on its Thread object.
 pub fn thread_is_started()
-    ensures { (p : Linked) (o : ℕ) (d : Doing) → IsWellFormed p d.state → IsHeld d.state.heap o → HasThreadObject p d.state (Some o) →
-        0 < length d.state.guest.threads → length d.state.guest.threads < most_threads → IsWellFormed p (with_thread_for o d).state }
+    ensures { (p : Linked) (o : ℕ) (d : Doing) → IsWellFormed p d.state → IsHeld d.state.heap o →
+        HasThreadObject p d.state (Some o) → 0 < length d.state.guest.threads →
+        length d.state.guest.threads < most_threads → IsWellFormed p (with_thread_for o d).state }
 {}
 
 /// The object of a string is remembered (JVMS 5.1).
@@ -187,48 +208,58 @@ pub fn string_is_remembered()
 
 /// The topmost frame goes on, or is done again with fewer operands.
 pub fn top_changes()
-    ensures state { (p : Linked) (s : Kept) (t : ℕ) (f : FrameState) → IsWellFormed p s → HasFrame s.guest t → KeepsFrame p (top s.guest t) f →
+    ensures state { (p : Linked) (s : Kept) (t : ℕ) (f : FrameState) →
+        IsWellFormed p s → HasFrame s.guest t → KeepsFrame p (top s.guest t) f →
         IsWellFormed p (record { heap = s.heap; guest = with_top s.guest t f }) }
-    ensures frames { (p : Linked) (f f' : FrameState) (below : List FrameState) → KeepsFrame p f f' → AreSoundFrames p (f ∷ below) → AreSoundFrames p (f' ∷ below) }
+    ensures frames { (p : Linked) (f f' : FrameState) (below : List FrameState) →
+        KeepsFrame p f f' → AreSoundFrames p (f ∷ below) → AreSoundFrames p (f' ∷ below) }
 {}
 
 /// What stands behind an instruction of the code is a pc of it (JVMS 4.9.1).
 pub fn next_is_a_pc()
-    ensures { (b : Body) (pc : ℕ) (x : Instr × ℕ) → IsPc b pc → instruction_at b.code pc ≡ Ok x → IsPc b x.1 }
+    ensures { (b : Body) (pc : ℕ) (x : Instr × ℕ) →
+        IsPc b pc → instruction_at b.code pc ≡ Ok x → IsPc b x.1 }
 {}
 
 /// A method is entered: below its frame stands its caller, at its call (JVMS 2.6).
 pub fn callee_is_entered()
-    ensures { (p : Linked) (m : ℕ) (body : Body) (arguments : List Value) (f : FrameState) (below : List FrameState) → MayTake p m body arguments →
-        IsCaller p f (method_frame p m body arguments) → AreSoundFrames p (f ∷ below) → AreSoundFrames p (method_frame p m body arguments ∷ f ∷ below) }
+    ensures { (p : Linked) (m : ℕ) (body : Body) (arguments : List Value)
+        (f : FrameState) (below : List FrameState) → MayTake p m body arguments →
+        IsCaller p f (method_frame p m body arguments) → AreSoundFrames p (f ∷ below) →
+        AreSoundFrames p (method_frame p m body arguments ∷ f ∷ below) }
 {}
 
 /// The first method of a thread is entered, which returns nothing.
 pub fn first_method_is_entered()
-    ensures { (p : Linked) (m : ℕ) (body : Body) (arguments : List Value) → MayTake p m body arguments →
-        IsVoid p (method_frame p m body arguments) → AreSoundFrames p (method_frame p m body arguments ∷ []) }
+    ensures { (p : Linked) (m : ℕ) (body : Body) (arguments : List Value) →
+        MayTake p m body arguments → IsVoid p (method_frame p m body arguments) →
+        AreSoundFrames p (method_frame p m body arguments ∷ []) }
 {}
 
 /// An initializer begins (JVMS 5.5).
 pub fn initializer_begins()
-    ensures { (p : Linked) (c : ℕ) (frames : List FrameState) → c < length p.classes → AreSoundFrames p frames → AreSoundFrames p (initializer_frame c ∷ frames) }
+    ensures { (p : Linked) (c : ℕ) (frames : List FrameState) → c < length p.classes →
+        AreSoundFrames p frames → AreSoundFrames p (initializer_frame c ∷ frames) }
 {}
 
 /// .. and enters its method, which takes and returns nothing (JVMS 2.9).
 pub fn initializer_is_entered()
-    ensures { (p : Linked) (c m : ℕ) (body : Body) (f : FrameState) (below : List FrameState) → f.stage ≡ stages.Before c → m < length p.methods →
-        (method_at p m).code ≡ Some body → IsVoid p (in_clinit m body.max_stack body.max_locals f) →
-        AreSoundFrames p (f ∷ below) → AreSoundFrames p (in_clinit m body.max_stack body.max_locals f ∷ below) }
+    ensures { (p : Linked) (c m : ℕ) (body : Body) (f : FrameState) (below : List FrameState) →
+        f.stage ≡ stages.Before c → m < length p.methods → (method_at p m).code ≡ Some body →
+        IsVoid p (in_clinit m body.max_stack body.max_locals f) → AreSoundFrames p (f ∷ below) →
+        AreSoundFrames p (in_clinit m body.max_stack body.max_locals f ∷ below) }
 {}
 
 /// A frame is dropped.
 pub fn frame_is_dropped()
-    ensures { (p : Linked) (frames : List FrameState) → AreSoundFrames p frames → AreSoundFrames p (rest_of frames) }
+    ensures { (p : Linked) (frames : List FrameState) →
+        AreSoundFrames p frames → AreSoundFrames p (rest_of frames) }
 {}
 
 /// A frame returns: its caller gets what is returned and goes on behind its call (JVMS 2.6.4).
 pub fn frame_returns()
-    ensures { (p : Linked) (f : FrameState) (values : List Value) (below : List FrameState) → AreSoundFrames p (f ∷ below) →
+    ensures { (p : Linked) (f : FrameState) (values : List Value) (below : List FrameState) →
+        AreSoundFrames p (f ∷ below) →
         (f.stage ≡ stages.Plain → length values ≤ returned_width (returned_of (method_of p f))) →
         AreSoundFrames p (frames_after_return p f.stage values below) }
 {}
@@ -237,92 +268,119 @@ pub fn frame_returns()
 
 /// What the machine makes is sound as it is made: an instance, an array, the object of a string.
 pub fn new_objects_keep_well_formed()
-    ensures instance { (e : Moment) (class : ℕ) (d : Doing) → IsSoundObject e.program (new_object class 0 (class_at e.program class).info.slots) →
+    ensures instance { (e : Moment) (class : ℕ) (d : Doing) →
+        IsSoundObject e.program (new_object class 0 (class_at e.program class).info.slots) →
         IsWellFormed e.program d.state → IsWellFormed e.program (instance_made e class d).state }
-    ensures array { (e : Moment) (class elements : ℕ) (d : Doing) → IsSoundObject e.program (new_object class elements elements) →
-        IsWellFormed e.program d.state → IsWellFormed e.program (array_made e class elements d).state }
-    ensures string { (e : Moment) (bytes : List ℕ) (d : Doing) → MakesSound e.program → IsWellFormed e.program d.state → IsWellFormed e.program (interned e bytes d).state }
+    ensures array { (e : Moment) (class elements : ℕ) (d : Doing) → IsSoundObject e.program
+        (new_object class elements elements) → IsWellFormed e.program d.state →
+        IsWellFormed e.program (array_made e class elements d).state }
+    ensures string { (e : Moment) (bytes : List ℕ) (d : Doing) → MakesSound e.program →
+        IsWellFormed e.program d.state → IsWellFormed e.program (interned e bytes d).state }
 {}
 
 /// An event begins in a well-formed state.
 pub fn events_begin_well_formed()
-    ensures { (p : Linked) (e : Moment) → IsSoundFor p e.before → e.before.guest.clock < 2 ^ 40 → IsWellFormed p (begins e).state }
+    ensures { (p : Linked) (e : Moment) →
+        IsSoundFor p e.before → e.before.guest.clock < 2 ^ 40 → IsWellFormed p (begins e).state }
 {}
 
 /// An event that ends in a well-formed state leaves a sound one: where it is done and what it made fits, or made nothing;
 /// where the thread waits; and where an exception is thrown.
 pub fn events_end_sound()
     ensures fits { (p : Linked) (d : Doing) → IsWellFormed p d.state → KeepsSound p (ends d) }
-    ensures goes { (p : Linked) (d : Doing) → fits d.state.heap ≡ true → IsWellFormed p d.state → KeepsSound p (goes d) }
-    ensures waits { (p : Linked) (e : Moment) → IsSoundFor p e.before → e.before.guest.clock < 2 ^ 40 → KeepsSound p (waits e) }
-    ensures throws { (e : Moment) (error : GuestError) (d : Doing) → MakesSound e.program → IsGoing e d → KeepsSound e.program (throws e error d) }
+    ensures goes { (p : Linked) (d : Doing) →
+        fits d.state.heap ≡ true → IsWellFormed p d.state → KeepsSound p (goes d) }
+    ensures waits { (p : Linked) (e : Moment) →
+        IsSoundFor p e.before → e.before.guest.clock < 2 ^ 40 → KeepsSound p (waits e) }
+    ensures throws { (e : Moment) (error : GuestError) (d : Doing) →
+        MakesSound e.program → IsGoing e d → KeepsSound e.program (throws e error d) }
 {}
 
 /// What a call that does an event leaves is sound, where the outcome of the event is.
 pub fn answers_are_sound()
-    ensures { (p : Linked) (o : Outcome Kept) (end : EventEnd) (m m' : MachineState) (out out' : List Record) →
-        EventAnswers o end m m' out out' → IsSoundFor p (kept_of m) → KeepsSound p o → IsSoundFor p (kept_of m') }
+    ensures { (p : Linked) (o : Outcome Kept) (end : EventEnd)
+        (m m' : MachineState) (out out' : List Record) → EventAnswers o end m m' out out' →
+        IsSoundFor p (kept_of m) → KeepsSound p o → IsSoundFor p (kept_of m') }
 {}
 
 /// A thread whose turn is an instruction stands at it, at the place that `et_parts` looks up.
 pub fn instructions_stand_at_places()
-    ensures { (e : Moment) (place : Place) → IsSoundFor e.program e.before → e.before.guest.clock < 2 ^ 40 →
-        turn_of (thread_of e) ≡ turns.Instruction → IsPlace e.program (frame_of e) place → StandsAt e (site_at place) }
+    ensures { (e : Moment) (place : Place) → IsSoundFor e.program e.before →
+        e.before.guest.clock < 2 ^ 40 → turn_of (thread_of e) ≡ turns.Instruction →
+        IsPlace e.program (frame_of e) place → StandsAt e (site_at place) }
 {}
 
 // INSTRUCTIONS on fields and elements (JVMS 2.11.5)
 
 /// What reads or writes a field or an element leaves a sound state.
 pub fn slot_rows_keep_sound()
-    ensures get_field { (e : Moment) (at : Site) → StandsAt e at → MakesSound e.program → KeepsSound e.program (get_field e at) }
-    ensures put_field { (e : Moment) (at : Site) → StandsAt e at → MakesSound e.program → HasSlots e.program → KeepsSound e.program (put_field e at) }
-    ensures load_element { (e : Moment) (at : Site) (kind : Elements) → StandsAt e at → MakesSound e.program → KeepsSound e.program (load_element e at kind) }
-    ensures store_element { (e : Moment) (at : Site) (kind : Elements) → StandsAt e at → MakesSound e.program → HasSlots e.program → KeepsSound e.program (store_element e at kind) }
+    ensures get_field { (e : Moment) (at : Site) →
+        StandsAt e at → MakesSound e.program → KeepsSound e.program (get_field e at) }
+    ensures put_field { (e : Moment) (at : Site) → StandsAt e at →
+        MakesSound e.program → HasSlots e.program → KeepsSound e.program (put_field e at) }
+    ensures load_element { (e : Moment) (at : Site) (kind : Elements) →
+        StandsAt e at → MakesSound e.program → KeepsSound e.program (load_element e at kind) }
+    ensures store_element { (e : Moment) (at : Site) (kind : Elements) → StandsAt e at →
+        MakesSound e.program → HasSlots e.program → KeepsSound e.program (store_element e at kind) }
 {}
 
 /// What tells the length of an array, casts, tests a type, or makes an array of a class whose arrays are sound as they are made.
 pub fn type_rows_keep_sound()
-    ensures array_length { (e : Moment) (at : Site) → StandsAt e at → MakesSound e.program → KeepsSound e.program (array_length e at) }
-    ensures check_cast { (e : Moment) (at : Site) → StandsAt e at → MakesSound e.program → KeepsSound e.program (check_cast e at) }
-    ensures instance_of { (e : Moment) (at : Site) → StandsAt e at → MakesSound e.program → KeepsSound e.program (instance_of e at) }
-    ensures new_array { (e : Moment) (at : Site) (class : ℕ) (elements : ℤ) (below : List Value) → StandsAt e at → MakesSound e.program →
-        ((n : ℕ) → IsSoundObject e.program (new_object class n n)) → length below + 1 ≤ (frame_of e).room → KeepsSound e.program (new_array_of e at class elements below) }
+    ensures array_length { (e : Moment) (at : Site) →
+        StandsAt e at → MakesSound e.program → KeepsSound e.program (array_length e at) }
+    ensures check_cast { (e : Moment) (at : Site) →
+        StandsAt e at → MakesSound e.program → KeepsSound e.program (check_cast e at) }
+    ensures instance_of { (e : Moment) (at : Site) →
+        StandsAt e at → MakesSound e.program → KeepsSound e.program (instance_of e at) }
+    ensures new_array { (e : Moment) (at : Site) (class : ℕ) (elements : ℤ) (below : List Value) →
+        StandsAt e at → MakesSound e.program →
+        ((n : ℕ) → IsSoundObject e.program (new_object class n n)) → length below + 1
+        ≤ (frame_of e).room → KeepsSound e.program (new_array_of e at class elements below) }
 {}
 
 // MONITORS, AND THE END OF A THREAD
 
 /// A monitor is entered or left by an instruction (JVMS 6.5 monitorenter, monitorexit).
 pub fn monitor_rows_keep_sound()
-    ensures { (e : Moment) (at : Site) (row : MonitorRow) → StandsAt e at → MakesSound e.program → KeepsSound e.program (monitor_event e at row) }
+    ensures { (e : Moment) (at : Site) (row : MonitorRow) →
+        StandsAt e at → MakesSound e.program → KeepsSound e.program (monitor_event e at row) }
 {}
 
 /// A thread ends (JVMS 2.5.1).
 pub fn ends_of_threads_keep_sound()
-    ensures { (p : Linked) (e : Moment) → IsSoundFor p e.before → e.before.guest.clock < 2 ^ 40 → e.thread < length e.before.guest.threads → KeepsSound p (end_of_thread e) }
+    ensures { (p : Linked) (e : Moment) → IsSoundFor p e.before → e.before.guest.clock < 2 ^ 40 →
+        e.thread < length e.before.guest.threads → KeepsSound p (end_of_thread e) }
 {}
 
 // EXCEPTIONS (JVMS 2.10)
 
 /// athrow.
 pub fn throws_keep_sound()
-    ensures { (e : Moment) (at : Site) → StandsAt e at → MakesSound e.program → KeepsSound e.program (throw e) }
+    ensures { (e : Moment) (at : Site) →
+        StandsAt e at → MakesSound e.program → KeepsSound e.program (throw e) }
 {}
 
 /// A handler of the code begins at an instruction, and is entered.
 pub fn handlers_keep_sound()
-    ensures pc { (b : Body) (tags : List ℕ) (test : TableRow → Bool) (row : TableRow) → IsKept b tags → find test b.table ≡ Some row → IsPc b row.handler }
-    ensures caught { (e : Moment) (at : Site) (o handler : ℕ) → StandsAt e at → IsPc (code_of e.program (frame_of e)) handler → KeepsSound e.program (caught e o handler) }
+    ensures pc { (b : Body) (tags : List ℕ) (test : TableRow → Bool) (row : TableRow) →
+        IsKept b tags → find test b.table ≡ Some row → IsPc b row.handler }
+    ensures caught { (e : Moment) (at : Site) (o handler : ℕ) → StandsAt e at →
+        IsPc (code_of e.program (frame_of e)) handler → KeepsSound e.program (caught e o handler) }
 {}
 
 /// A frame is dropped by an exception: that of a method, with its monitor; that of an initializer, which was not entered yet
 /// or is in its method, and whose class has failed then. The exception that the machine makes for it holds a cause.
 pub fn unwinding_keeps_sound()
-    ensures plain { (e : Moment) (o : ℕ) → IsSoundFor e.program e.before → e.before.guest.clock < 2 ^ 40 → HasFrame e.before.guest e.thread →
+    ensures plain { (e : Moment) (o : ℕ) → IsSoundFor e.program e.before →
+        e.before.guest.clock < 2 ^ 40 → HasFrame e.before.guest e.thread →
         (frame_of e).stage ≡ stages.Plain → KeepsSound e.program (unwound e o) }
-    ensures before { (e : Moment) (c o : ℕ) → MakesSound e.program → MayHold e.program (error_class e.program errors.ExceptionInInitializerError) 1 (values.Ref o) →
-        c < length e.program.classes → IsGoing e (begins e) → KeepsSound e.program (ends (failed e c o (dropped e (begins e)))) }
-    ensures clinit { (e : Moment) (c o : ℕ) → MakesSound e.program → MayHold e.program (error_class e.program errors.ExceptionInInitializerError) 1 (values.Ref o) →
-        c < length e.program.classes → IsGoing e (begins e) → KeepsSound e.program (unwound_clinit e c o) }
+    ensures before { (e : Moment) (c o : ℕ) → MakesSound e.program →
+        MayHold e.program (error_class e.program errors.ExceptionInInitializerError) 1
+        (values.Ref o) → c < length e.program.classes →
+        IsGoing e (begins e) → KeepsSound e.program (ends (failed e c o (dropped e (begins e)))) }
+    ensures clinit { (e : Moment) (c o : ℕ) → MakesSound e.program → MayHold e.program
+        (error_class e.program errors.ExceptionInInitializerError) 1 (values.Ref o) → c < length
+        e.program.classes → IsGoing e (begins e) → KeepsSound e.program (unwound_clinit e c o) }
 {}
 
 // INITIALIZATION (JVMS 5.5)
@@ -331,27 +389,36 @@ pub fn unwinding_keeps_sound()
 /// in which the class is no longer untouched; the initializer that begins instead, the thread that waits and the exception
 /// that is thrown leave a sound state. So does a step of an initializer.
 pub fn initialization_keeps_sound()
-    ensures needed { (e : Moment) (d : Doing) (c : ℕ) (go : Doing → Outcome Kept) → IsSoundFor e.program e.before → e.before.guest.clock < 2 ^ 40 →
-        HasInitializers e.program → MakesSound e.program → c < length e.program.classes → IsGoing e d →
-        ((x : Doing) → IsGoing e x → IsFurther e d x → (state_of x c ≡ classes.Untouched → ⊥) → KeepsSound e.program (go x)) →
-        KeepsSound e.program (initialized e d c go) }
-    ensures begins { (e : Moment) (c : ℕ) (d : Doing) → HasInitializers e.program → MakesSound e.program → c < length e.program.classes → IsGoing e d →
-        KeepsSound e.program (begins_class e c d) }
-    ensures step { (e : Moment) (c : ℕ) → IsSoundFor e.program e.before → e.before.guest.clock < 2 ^ 40 → HasFrame e.before.guest e.thread →
-        (frame_of e).stage ≡ stages.Before c → c < length e.program.classes → HasInitializers e.program → MakesSound e.program →
-        KeepsSound e.program (initialization_step e c) }
+    ensures needed { (e : Moment) (d : Doing) (c : ℕ) (go : Doing → Outcome Kept) →
+        IsSoundFor e.program e.before → e.before.guest.clock < 2 ^ 40 → HasInitializers e.program →
+        MakesSound e.program → c < length e.program.classes → IsGoing e d →
+        ((x : Doing) → IsGoing e x → IsFurther e d x → (state_of x c ≡ classes.Untouched → ⊥) →
+        KeepsSound e.program (go x)) → KeepsSound e.program (initialized e d c go) }
+    ensures begins { (e : Moment) (c : ℕ) (d : Doing) →
+        HasInitializers e.program → MakesSound e.program →
+        c < length e.program.classes → IsGoing e d → KeepsSound e.program (begins_class e c d) }
+    ensures step { (e : Moment) (c : ℕ) → IsSoundFor e.program e.before →
+        e.before.guest.clock < 2 ^ 40 → HasFrame e.before.guest e.thread → (frame_of e).stage
+        ≡ stages.Before c → c < length e.program.classes → HasInitializers e.program →
+        MakesSound e.program → KeepsSound e.program (initialization_step e c) }
 {}
 
 /// What reads or writes a static field, and what makes an instance or an array, leaves a sound state, where the program has
 /// the arrays.
 pub fn class_rows_keep_sound()
-    ensures get_static { (e : Moment) (at : Site) → StandsAt e at → MakesSound e.program → HasSlots e.program → HasInitializers e.program → KeepsSound e.program (get_static e at) }
-    ensures put_static { (e : Moment) (at : Site) → StandsAt e at → MakesSound e.program → HasSlots e.program → HasInitializers e.program → KeepsSound e.program (put_static e at) }
-    ensures new { (e : Moment) (at : Site) → StandsAt e at → MakesSound e.program → HasSlots e.program → HasInitializers e.program → KeepsSound e.program (new_instance e at) }
-    ensures new_array { (e : Moment) (at : Site) (c : ℕ) → StandsAt e at → MakesSound e.program → HasSlots e.program →
-        base_array e.program (natural at.instr.first) ≡ Some c → KeepsSound e.program (new_array e at) }
-    ensures new_reference_array { (e : Moment) (at : Site) → StandsAt e at → MakesSound e.program → HasSlots e.program →
-        ((name : List ℕ) (class : ℕ) → class_operand at ≡ Some name → resolve_class e.program name ≡ Ok class → IsArrayClass e.program (unwrap_or (class_at e.program class).array 0)) →
+    ensures get_static { (e : Moment) (at : Site) → StandsAt e at → MakesSound e.program →
+        HasSlots e.program → HasInitializers e.program → KeepsSound e.program (get_static e at) }
+    ensures put_static { (e : Moment) (at : Site) → StandsAt e at → MakesSound e.program →
+        HasSlots e.program → HasInitializers e.program → KeepsSound e.program (put_static e at) }
+    ensures new { (e : Moment) (at : Site) → StandsAt e at → MakesSound e.program →
+        HasSlots e.program → HasInitializers e.program → KeepsSound e.program (new_instance e at) }
+    ensures new_array { (e : Moment) (at : Site) (c : ℕ) → StandsAt e at → MakesSound e.program →
+        HasSlots e.program → base_array e.program (natural at.instr.first) ≡ Some c →
+        KeepsSound e.program (new_array e at) }
+    ensures new_reference_array { (e : Moment) (at : Site) →
+        StandsAt e at → MakesSound e.program → HasSlots e.program →
+        ((name : List ℕ) (class : ℕ) → class_operand at ≡ Some name → resolve_class e.program name
+        ≡ Ok class → IsArrayClass e.program (unwrap_or (class_at e.program class).array 0)) →
         KeepsSound e.program (new_reference_array e at) }
 {}
 
@@ -359,16 +426,19 @@ pub fn class_rows_keep_sound()
 
 /// The frame of a method is pushed, whose monitor is entered.
 pub fn entered_frames_keep_well_formed()
-    ensures { (e : Moment) (m : ℕ) (body : Body) (arguments : List Value) (d : Doing) → IsGoing e d →
-        MayEnter d (lock_for (method_at e.program m) (receiver_of e.program m arguments)) → length (thread_at d.state.guest e.thread).frames < most_frames →
-        AreSoundFrames e.program (method_frame e.program m body arguments ∷ (thread_at d.state.guest e.thread).frames) →
+    ensures { (e : Moment) (m : ℕ) (body : Body) (arguments : List Value) (d : Doing) → IsGoing
+        e d → MayEnter d (lock_for (method_at e.program m) (receiver_of e.program m arguments)) →
+        length (thread_at d.state.guest e.thread).frames < most_frames → AreSoundFrames e.program
+        (method_frame e.program m body arguments ∷ (thread_at d.state.guest e.thread).frames) →
         IsWellFormed e.program (frame_entered e m body arguments d).state }
 {}
 
 /// A frame returns what has the width of its type, and its monitor is left once; an initializer
 /// makes its class done.
 pub fn returns_keep_sound()
-    ensures { (e : Moment) (returned : List Value) → IsSoundFor e.program e.before → e.before.guest.clock < 2 ^ 40 → HasFrame e.before.guest e.thread →
-        ((frame_of e).stage ≡ stages.Plain → length returned ≤ returned_width (returned_of (method_of e.program (frame_of e)))) →
+    ensures { (e : Moment) (returned : List Value) →
+        IsSoundFor e.program e.before → e.before.guest.clock < 2 ^ 40 →
+        HasFrame e.before.guest e.thread → ((frame_of e).stage ≡ stages.Plain →
+        length returned ≤ returned_width (returned_of (method_of e.program (frame_of e)))) →
         KeepsSound e.program (goes (frame_returned e returned (begins e))) }
 {}

@@ -209,7 +209,8 @@ impl Frame {
 
     /// Adds all the objects in the frame to the lost ones.
     pub fn lose_all(&self, lost: &mut Lost)
-        requires { length lost.old + (length self.now.locals + length self.now.operands) < lost_room }
+        requires { length lost.old + (length self.now.locals + length self.now.operands)
+            < lost_room }
         ensures { lost.new ≡ lost.old ++ frame_roots self.now }
     {
         lost.add_values(&self.locals);

@@ -37,10 +37,10 @@ pub fn guest()
 /// A call that changes an object, which was reached or is new. What it puts into slots is held, and was reached or is new.
 /// What it takes out was reached or is new, and is lost. What the object refers to weakly is held.
 pub fn object()
-    ensures { (s x : Kept) (lost : List ℕ) (o : ℕ) (y : ObjectState) (l : List ℕ) → IsUnderWay s x lost →
-        IsHeld x.heap o → WasThere s x o →
-        Moves (MayBeTied s x) (WasThere s x) (refs_of (object_at x.heap o).slots) (refs_of y.slots) l →
-        ((r : ℕ) → y.referent ≡ Some r → IsHeld x.heap r) →
+    ensures { (s x : Kept) (lost : List ℕ) (o : ℕ) (y : ObjectState) (l : List ℕ) →
+        IsUnderWay s x lost → IsHeld x.heap o →
+        WasThere s x o → Moves (MayBeTied s x) (WasThere s x) (refs_of (object_at x.heap o).slots)
+        (refs_of y.slots) l → ((r : ℕ) → y.referent ≡ Some r → IsHeld x.heap r) →
         IsUnderWay s (record { heap = with_object_at x.heap o y; guest = x.guest }) (lost ++ l) }
 {}
 
@@ -60,7 +60,8 @@ pub fn make()
 
 /// `Machine::lose`, of what was reached or is new.
 pub fn lose()
-    ensures { (s : Kept) (m : MachineState) (l : List ℕ) → IsOnWay s m → WereThere s m l → IsOnWay s (losing m l) }
+    ensures { (s : Kept) (m : MachineState) (l : List ℕ) →
+        IsOnWay s m → WereThere s m l → IsOnWay s (losing m l) }
 {}
 
 /// `Machine::set_pc`.
@@ -78,73 +79,75 @@ pub fn push()
 
 /// `Machine::pop`, of what was reached or is new.
 pub fn pop()
-    ensures { (s : Kept) (m : MachineState) (t : ℕ) → IsOnWay s m → HasFrame m.guest t →
-        0 < length (top m.guest t).operands → WereThere s m (refs_of_value (operand_of (top m.guest t) 0)) →
-        IsOnWay s (steps_top m t (popped 1 (top m.guest t)) (refs_of_value (operand_of (top m.guest t) 0))) }
+    ensures { (s : Kept) (m : MachineState) (t : ℕ) →
+        IsOnWay s m → HasFrame m.guest t → 0 < length (top m.guest t).operands →
+        WereThere s m (refs_of_value (operand_of (top m.guest t) 0)) → IsOnWay s
+        (steps_top m t (popped 1 (top m.guest t)) (refs_of_value (operand_of (top m.guest t) 0))) }
 {}
 
 /// `Machine::clear_operands`, where the operands refer to what was reached or is new.
 pub fn clear_operands()
-    ensures { (s : Kept) (m : MachineState) (t : ℕ) → IsOnWay s m → HasFrame m.guest t →
-        WereThere s m (refs_of (top m.guest t).operands) →
-        IsOnWay s (steps_top m t (without_operands (top m.guest t)) (refs_of (top m.guest t).operands)) }
+    ensures { (s : Kept) (m : MachineState) (t : ℕ) → IsOnWay s m →
+        HasFrame m.guest t → WereThere s m (refs_of (top m.guest t).operands) → IsOnWay s
+        (steps_top m t (without_operands (top m.guest t)) (refs_of (top m.guest t).operands)) }
 {}
 
 /// `Machine::set_local`, to what is held, over what was reached or is new.
 pub fn set_local()
-    ensures { (s : Kept) (m : MachineState) (t i : ℕ) (v : Value) → IsOnWay s m → HasFrame m.guest t →
-        i < length (top m.guest t).locals → AreHeld m (refs_of_value v) →
-        WereThere s m (refs_of_value (local_of (top m.guest t) i)) →
-        IsOnWay s (steps_top m t (with_local i v (top m.guest t)) (refs_of_value (local_of (top m.guest t) i))) }
+    ensures { (s : Kept) (m : MachineState) (t i : ℕ) (v : Value) → IsOnWay s m →
+        HasFrame m.guest t → i < length (top m.guest t).locals → AreHeld m (refs_of_value v) →
+        WereThere s m (refs_of_value (local_of (top m.guest t) i)) → IsOnWay s (steps_top m t
+        (with_local i v (top m.guest t)) (refs_of_value (local_of (top m.guest t) i))) }
 {}
 
 /// `Machine::enter_frame`, with what is held.
 pub fn enter_frame()
-    ensures { (s : Kept) (m : MachineState) (t : ℕ) (f : FrameState) → IsOnWay s m → t < length m.guest.threads →
-        AreHeld m (frame_roots f) →
+    ensures { (s : Kept) (m : MachineState) (t : ℕ) (f : FrameState) →
+        IsOnWay s m → t < length m.guest.threads → AreHeld m (frame_roots f) →
         IsOnWay s (steps_thread m t (entered_by f (thread_at m.guest t)) []) }
 {}
 
 /// `Machine::enter_clinit`.
 pub fn enter_clinit()
-    ensures { (s : Kept) (m : MachineState) (t method room locals : ℕ) → IsOnWay s m → HasFrame m.guest t →
-        (top m.guest t).locals ≡ [] → (top m.guest t).operands ≡ [] →
+    ensures { (s : Kept) (m : MachineState) (t method room locals : ℕ) → IsOnWay s m →
+        HasFrame m.guest t → (top m.guest t).locals ≡ [] → (top m.guest t).operands ≡ [] →
         IsOnWay s (steps_top m t (in_clinit method room locals (top m.guest t)) []) }
 {}
 
 /// `Machine::drop_frame`, where the frame refers to what was reached or is new.
 pub fn drop_frame()
-    ensures { (s : Kept) (m : MachineState) (t : ℕ) → IsOnWay s m → HasFrame m.guest t →
-        WereThere s m (frame_roots (top m.guest t)) →
-        IsOnWay s (steps_thread m t (without_top (thread_at m.guest t)) (frame_roots (top m.guest t))) }
+    ensures { (s : Kept) (m : MachineState) (t : ℕ) →
+        IsOnWay s m → HasFrame m.guest t → WereThere s m (frame_roots (top m.guest t)) → IsOnWay s
+        (steps_thread m t (without_top (thread_at m.guest t)) (frame_roots (top m.guest t))) }
 {}
 
 /// `Machine::throw`, of what is held.
 pub fn throw()
-    ensures { (s : Kept) (m : MachineState) (t o : ℕ) → IsOnWay s m → t < length m.guest.threads → IsHeld m.heap o →
-        WereThere s m (option_to_list (thread_at m.guest t).pending) →
-        IsOnWay s (steps_thread m t (with_pending (Some o) (thread_at m.guest t)) (option_to_list (thread_at m.guest t).pending)) }
+    ensures { (s : Kept) (m : MachineState) (t o : ℕ) → IsOnWay s m → t < length m.guest.threads →
+        IsHeld m.heap o → WereThere s m (option_to_list (thread_at m.guest t).pending) →
+        IsOnWay s (steps_thread m t (with_pending (Some o) (thread_at m.guest t))
+        (option_to_list (thread_at m.guest t).pending)) }
 {}
 
 /// `Machine::take_pending`, of what was reached or is new.
 pub fn take_pending()
     ensures { (s : Kept) (m : MachineState) (t : ℕ) → IsOnWay s m → t < length m.guest.threads →
-        WereThere s m (option_to_list (thread_at m.guest t).pending) →
-        IsOnWay s (steps_thread m t (with_pending None (thread_at m.guest t)) (option_to_list (thread_at m.guest t).pending)) }
+        WereThere s m (option_to_list (thread_at m.guest t).pending) → IsOnWay s (steps_thread m t
+        (with_pending None (thread_at m.guest t)) (option_to_list (thread_at m.guest t).pending)) }
 {}
 
 /// `Machine::set_entered`, where the entry slot holds what was reached or is new.
 pub fn set_entered()
     ensures { (s : Kept) (m : MachineState) (t : ℕ) → IsOnWay s m → IsUnended m.guest t →
-        WereThere s m (option_to_list (thread_at m.guest t).entry) →
-        IsOnWay s (steps_thread m t (as_entered (thread_at m.guest t)) (option_to_list (thread_at m.guest t).entry)) }
+        WereThere s m (option_to_list (thread_at m.guest t).entry) → IsOnWay s (steps_thread m t
+        (as_entered (thread_at m.guest t)) (option_to_list (thread_at m.guest t).entry)) }
 {}
 
 /// `Machine::end_thread`, where the thread's own root places hold what was reached or is new.
 pub fn end_thread()
-    ensures { (s : Kept) (m : MachineState) (t : ℕ) → IsOnWay s m → IsUnended m.guest t →
-        WereThere s m (ended_roots (thread_at m.guest t)) →
-        IsOnWay s (steps_thread m t (as_ended (thread_at m.guest t)) (ended_roots (thread_at m.guest t))) }
+    ensures { (s : Kept) (m : MachineState) (t : ℕ) → IsOnWay s m →
+        IsUnended m.guest t → WereThere s m (ended_roots (thread_at m.guest t)) → IsOnWay s
+        (steps_thread m t (as_ended (thread_at m.guest t)) (ended_roots (thread_at m.guest t))) }
 {}
 
 /// `Machine::start_thread`, with an object that is held.
@@ -155,7 +158,8 @@ pub fn start_thread()
 
 /// `Machine::set_static`, to what is held, over what was reached or is new.
 pub fn set_static()
-    ensures { (s : Kept) (m : MachineState) (i : ℕ) (v : Value) → IsOnWay s m → i < length m.guest.statics →
+    ensures { (s : Kept) (m : MachineState) (i : ℕ) (v : Value) →
+        IsOnWay s m → i < length m.guest.statics →
         AreHeld m (refs_of_value v) → WereThere s m (refs_of_value (static_at m.guest i)) →
         IsOnWay s (steps_guest m (with_static m.guest i v) (refs_of_value (static_at m.guest i))) }
 {}
@@ -174,8 +178,8 @@ pub fn set_class_monitor()
 
 /// `Machine::intern`, of an object that is held.
 pub fn intern()
-    ensures { (s : Kept) (m : MachineState) (text : List ℕ) (o : ℕ) → IsOnWay s m → IsHeld m.heap o →
-        IsOnWay s (with_guest m (with_string m.guest text o)) }
+    ensures { (s : Kept) (m : MachineState) (text : List ℕ) (o : ℕ) →
+        IsOnWay s m → IsHeld m.heap o → IsOnWay s (with_guest m (with_string m.guest text o)) }
 {}
 
 /// `Machine::set_slot`, of an object that was reached or is new, to what is held and was reached or is new, over what was
@@ -184,8 +188,8 @@ pub fn set_slot()
     ensures { (s : Kept) (m : MachineState) (o i : ℕ) (v : Value) → IsOnWay s m →
         IsHeld m.heap o → WasThere s (kept_of m) o → i < length (object_at m.heap o).slots →
         AreHeld m (refs_of_value v) → WereThere s m (refs_of_value v) →
-        WereThere s m (refs_of_value (slot_of (object_at m.heap o) i)) →
-        IsOnWay s (steps_object m o (with_slot i v (object_at m.heap o)) (refs_of_value (slot_of (object_at m.heap o) i))) }
+        WereThere s m (refs_of_value (slot_of (object_at m.heap o) i)) → IsOnWay s (steps_object m o
+        (with_slot i v (object_at m.heap o)) (refs_of_value (slot_of (object_at m.heap o) i))) }
 {}
 
 /// `Heap::set_slot`, of such an object and to such a value, where the old target is on the list of the lost ones already.
@@ -193,8 +197,8 @@ pub fn heap_set_slot()
     ensures { (s : Kept) (m : MachineState) (o i : ℕ) (v : Value) → IsOnWay s m →
         IsHeld m.heap o → WasThere s (kept_of m) o → i < length (object_at m.heap o).slots →
         AreHeld m (refs_of_value v) → WereThere s m (refs_of_value v) →
-        ((r : ℕ) → Contains (refs_of_value (slot_of (object_at m.heap o) i)) r → Contains m.lost r) →
-        IsOnWay s (with_object m o (with_slot i v (object_at m.heap o))) }
+        ((r : ℕ) → Contains (refs_of_value (slot_of (object_at m.heap o) i)) r →
+        Contains m.lost r) → IsOnWay s (with_object m o (with_slot i v (object_at m.heap o))) }
 {}
 
 /// `Heap::set_referent`, to what is held. A weak reference is no pair of the graph.
@@ -218,8 +222,9 @@ pub fn end()
 
 /// A step that is legal over what is kept is legal over it and the reported objects.
 pub fn whole()
-    ensures { (s x : Kept) (lost : List ℕ) (reported : Objects) → IsLegalStep (graph_of s) (step_of s x lost) →
-        IsLegalStep (graph (record { kept = s; reported = reported })) (whole_step reported x (fresh_of s x) lost) }
+    ensures { (s x : Kept) (lost : List ℕ) (reported : Objects) → IsLegalStep (graph_of s)
+        (step_of s x lost) → IsLegalStep (graph (record { kept = s; reported = reported }))
+        (whole_step reported x (fresh_of s x) lost) }
 {}
 
 /// An event keeps what is reported apart from what is held.
@@ -230,9 +235,9 @@ pub fn past()
 
 /// A flush of a state is a flush of its graph. The test says of each object that is held whether it is reached.
 pub fn flush()
-    ensures { (s : State) (here : ℕ → Bool) (reports : List ℕ) → IsSound s.kept → IsPast s.kept.heap s.reported →
-        ((o : ℕ) → IsHeld s.kept.heap o → (here o ≡ true) ↔ IsReached (graph s) o) → AreDead (graph s) reports →
-        IsFlush (graph s) reports (graph (flushed here s)) }
+    ensures { (s : State) (here : ℕ → Bool) (reports : List ℕ) → IsSound s.kept → IsPast s.kept.heap
+        s.reported → ((o : ℕ) → IsHeld s.kept.heap o → (here o ≡ true) ↔ IsReached (graph s) o) →
+        AreDead (graph s) reports → IsFlush (graph s) reports (graph (flushed here s)) }
 {}
 
 /// A flush leaves a sound state ..

@@ -64,7 +64,8 @@ impl Machine {
         classes: Vec<ClassState>,
         statics: Vec<Value>,
     ) -> Result<Machine, NoMemory>
-        ensures { IfOk result (λ machine. machine ≡ first_state array_class classes.items statics.items) }
+        ensures { IfOk result
+            (λ machine. machine ≡ first_state array_class classes.items statics.items) }
     {
         let mut heap = Heap::begin(alloc);
         let arguments = match heap.make_array(array_class, 0) {
@@ -285,7 +286,8 @@ impl Machine {
     pub fn depth(&self, thread: ThreadId) -> u32
         requires { HasFrame self.now.guest thread }
         ensures value { result ≡ length (top self.now.guest thread).operands }
-        ensures few { length (top self.now.guest thread).operands ≤ (top self.now.guest thread).room }
+        ensures few { length (top self.now.guest thread).operands
+            ≤ (top self.now.guest thread).room }
     {
         self.threads[thread.number() as usize].top().depth()
     }
@@ -304,7 +306,8 @@ impl Machine {
     /// Puts an operand on top.
     pub fn push(&mut self, thread: ThreadId, v: Value)
         requires frame { HasFrame self.old.guest thread }
-        requires room { length (top self.old.guest thread).operands < (top self.old.guest thread).room }
+        requires room { length (top self.old.guest thread).operands
+            < (top self.old.guest thread).room }
         ensures { self.new ≡ steps_top self.old thread (pushed v (top self.old.guest thread)) [] }
     {
         let t = &mut self.threads[thread.number() as usize];
@@ -333,7 +336,8 @@ impl Machine {
     /// Takes all operands away, and loses the objects that they refer to.
     pub fn clear_operands(&mut self, thread: ThreadId)
         requires frame { HasFrame self.old.guest thread }
-        requires lost { length self.old.lost + length (top self.old.guest thread).operands ≤ lost_room }
+        requires lost { length self.old.lost + length (top self.old.guest thread).operands
+            ≤ lost_room }
         ensures { self.new ≡ steps_top self.old thread
             (without_operands (top self.old.guest thread))
             (refs_of (top self.old.guest thread).operands) }
@@ -416,8 +420,8 @@ impl Machine {
     /// Takes the frame away, and loses the objects in its locals, its operands and its lock slot.
     pub fn drop_frame(&mut self, thread: ThreadId)
         requires frame { HasFrame self.old.guest thread }
-        requires lost { length self.old.lost
-            + (length (top self.old.guest thread).locals + length (top self.old.guest thread).operands) < lost_room }
+        requires lost { length self.old.lost + (length (top self.old.guest thread).locals
+            + length (top self.old.guest thread).operands) < lost_room }
         ensures { self.new ≡ steps_thread self.old thread
             (without_top (thread_at self.old.guest thread))
             (frame_roots (top self.old.guest thread)) }

@@ -212,7 +212,8 @@ impl Thread {
         max_locals: u16,
     ) -> Result<(), NoMemory>
         requires { 0 < length self.old.frames }
-        ensures ok { OnOk result (self.new ≡ with_top_of self.old (in_clinit method max_stack max_locals (top_of self.old))) }
+        ensures ok { OnOk result (self.new
+            ≡ with_top_of self.old (in_clinit method max_stack max_locals (top_of self.old))) }
         ensures err { OnErr result (self.new ≡ self.old) }
     {
         let last = self.frames.len() - 1;

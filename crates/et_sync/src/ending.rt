@@ -22,8 +22,10 @@ pub fn end_event(machine: &mut Machine, thread: ThreadId) -> EventEnd
     requires clock { machine.old.guest.clock < 2 ^ 40 }
     requires thread { IsUnended machine.old.guest thread }
     requires turn { turn_of (thread_at machine.old.guest thread) ≡ turns.EndThread }
-    ensures event { (p : Linked) (out : List Record) → EventAnswers (event p (kept_of machine.old) thread) result machine.old machine.new out out }
-    ensures sound { (p : Linked) → IsSoundFor p (kept_of machine.old) → IsSoundFor p (kept_of machine.new) }
+    ensures event { (p : Linked) (out : List Record) →
+        EventAnswers (event p (kept_of machine.old) thread) result machine.old machine.new out out }
+    ensures sound { (p : Linked) →
+        IsSoundFor p (kept_of machine.old) → IsSoundFor p (kept_of machine.new) }
     ensures clock { machine.new.guest.clock ≡ machine.old.guest.clock + 1 }
 {
     machine.begin_event();

@@ -40,7 +40,14 @@ fn enter_object<L: Ledger>(
     requires operand { 0 < length (top machine.old.guest thread).operands }
     requires held { IsHeld machine.old.heap object }
     requires count { (object_at machine.old.heap object).monitor.count ≤ 2 ^ 40 }
-    ensures led { Led (kept_of machine.old) (record { heap = with_object_at machine.old.heap object (with_monitor (record { owner = Some thread; count = (object_at machine.old.heap object).monitor.count + 1 }) (object_at machine.old.heap object)); guest = with_top (ticked machine.old.guest) thread (record (top machine.old.guest thread) { pc = next; operands = drop 1 (top machine.old.guest thread).operands }) }) machine.new }
+    ensures led { Led (kept_of machine.old)
+        (record {
+          heap = with_object_at machine.old.heap object (with_monitor (record
+              { owner = Some thread; count = (object_at machine.old.heap object).monitor.count + 1 })
+              (object_at machine.old.heap object));
+          guest = with_top (ticked machine.old.guest) thread (record (top machine.old.guest thread)
+              { pc = next; operands = drop 1 (top machine.old.guest thread).operands });
+        }) machine.new }
     ensures visits { visits.new ≤ visits.old + 2 }
 {
     machine.begin_event();
@@ -62,7 +69,13 @@ fn exit_object<L: Ledger>(
     requires clock { machine.old.guest.clock < 2 ^ 40 }
     requires operand { 0 < length (top machine.old.guest thread).operands }
     requires held { IsHeld machine.old.heap object }
-    ensures led { Led (kept_of machine.old) (record { heap = with_object_at machine.old.heap object (with_monitor (left_once (object_at machine.old.heap object).monitor) (object_at machine.old.heap object)); guest = with_top (ticked machine.old.guest) thread (record (top machine.old.guest thread) { pc = next; operands = drop 1 (top machine.old.guest thread).operands }) }) machine.new }
+    ensures led { Led (kept_of machine.old)
+        (record {
+          heap = with_object_at machine.old.heap object (with_monitor (left_once
+              (object_at machine.old.heap object).monitor) (object_at machine.old.heap object));
+          guest = with_top (ticked machine.old.guest) thread (record (top machine.old.guest thread)
+              { pc = next; operands = drop 1 (top machine.old.guest thread).operands });
+        }) machine.new }
     ensures visits { visits.new ≤ visits.old + 2 }
 {
     machine.begin_event();
@@ -84,9 +97,12 @@ fn monitorenter<L: Ledger>(
     requires sound { IsSoundFor program.now (kept_of machine.old) }
     requires frame { HasFrame machine.old.guest thread }
     requires clock { machine.old.guest.clock < 2 ^ 40 }
-    requires operand { reference_of (operand_of (top machine.old.guest thread) 0) ≡ Some (Some object) }
+    requires operand { reference_of (operand_of (top machine.old.guest thread) 0)
+        ≡ Some (Some object) }
     requires held { IsHeld machine.old.heap object }
-    ensures ok { (at : Site) (out : List Record) → at.next ≡ next → EventAnswers (monitor_event (moment program.now machine.old thread) at rows.Enter) result machine.old machine.new out out }
+    ensures ok { (at : Site) (out : List Record) → at.next ≡ next →
+        EventAnswers (monitor_event (moment program.now machine.old thread) at rows.Enter)
+        result machine.old machine.new out out }
     ensures visits { visits.new ≤ visits.old + 3 }
 {
     if !may_enter(machine, thread, &Lock::OfObject(object), visits) {
@@ -110,9 +126,12 @@ fn monitorexit<L: Ledger>(
     requires sound { IsSoundFor program.now (kept_of machine.old) }
     requires frame { HasFrame machine.old.guest thread }
     requires clock { machine.old.guest.clock < 2 ^ 40 }
-    requires operand { reference_of (operand_of (top machine.old.guest thread) 0) ≡ Some (Some object) }
+    requires operand { reference_of (operand_of (top machine.old.guest thread) 0)
+        ≡ Some (Some object) }
     requires held { IsHeld machine.old.heap object }
-    ensures ok { IfOk result (λ end. (at : Site) → at.next ≡ next → EventAnswers (monitor_event (moment program.now machine.old thread) at rows.Exit) end machine.old machine.new out.old out.new) }
+    ensures ok { IfOk result (λ end. (at : Site) → at.next ≡ next →
+        EventAnswers (monitor_event (moment program.now machine.old thread) at rows.Exit)
+        end machine.old machine.new out.old out.new) }
     ensures err { OnErr result (machine.new.guest ≡ machine.old.guest) }
     ensures visits { visits.new ≤ visits.old + 3 }
 {
@@ -149,7 +168,9 @@ pub fn monitor_row_event<L: Ledger>(
     requires sound { IsSoundFor program.now (kept_of machine.old) }
     requires frame { HasFrame machine.old.guest thread }
     requires clock { machine.old.guest.clock < 2 ^ 40 }
-    ensures ok { IfOk result (λ end. (at : Site) → at.next ≡ next → EventAnswers (monitor_event (moment program.now machine.old thread) at row) end machine.old machine.new out.old out.new) }
+    ensures ok { IfOk result (λ end. (at : Site) →
+        at.next ≡ next → EventAnswers (monitor_event (moment program.now machine.old thread) at row)
+        end machine.old machine.new out.old out.new) }
     ensures err { OnErr result (machine.new.guest ≡ machine.old.guest) }
     ensures visits { visits.new ≤ visits.old + 3 }
 {

@@ -13,7 +13,8 @@ use et_state::{EventEnd, Machine};
 pub fn wait_event(machine: &mut Machine) -> EventEnd
     requires sound { IsSound (kept_of machine.old) }
     requires clock { machine.old.guest.clock < 2 ^ 40 }
-    ensures { (p : Linked) (t : ℕ) (out : List Record) → EventAnswers (waits (moment p machine.old t)) result machine.old machine.new out out }
+    ensures { (p : Linked) (t : ℕ) (out : List Record) →
+        EventAnswers (waits (moment p machine.old t)) result machine.old machine.new out out }
 {
     machine.begin_event();
     EventEnd::Waited

@@ -57,7 +57,8 @@ fn note(alloc: Global, s: &mut Standing, line: &TraceLine) -> Result<bool, NoMem
 
 /// The kind of the first rule that the line breaks after those so far; where it breaks none, it is noted.
 pub fn follow(alloc: Global, s: &mut Standing, line: &TraceLine) -> Result<Option<u8>, NoMemory>
-    ensures { (past : List TraceLine) → IfOk result (λ found. Follows s.old s.new past line.now found) }
+    ensures { (past : List TraceLine) →
+        IfOk result (λ found. Follows s.old s.new past line.now found) }
 {
     match fault_of(s, line) {
         Some(kind) => Ok(Some(kind)),

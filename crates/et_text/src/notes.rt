@@ -18,21 +18,30 @@ pub fn leave_group(s: &mut Standing)
 }
 
 pub fn note_header(s: &mut Standing, interval: u64)
-    ensures { s.new ≡ record s.old { begun = true; interval = interval; stands = false; awaited = 0; last_dead = 0 } }
+    ensures { s.new ≡ record s.old
+        { begun = true; interval = interval; stands = false; awaited = 0; last_dead = 0 } }
 {
     leave_group(s);
     s.interval = interval;
 }
 
 pub fn note_event(s: &mut Standing, event: u64)
-    ensures { s.new ≡ record s.old { begun = true; latest = event; stands = false; awaited = 0; last_dead = 0 } }
+    ensures { s.new ≡ record s.old
+        { begun = true; latest = event; stands = false; awaited = 0; last_dead = 0 } }
 {
     leave_group(s);
     s.latest = event;
 }
 
 pub fn note_flush(s: &mut Standing, event: u64, deaths: u32)
-    ensures { s.new ≡ record s.old { begun = true; latest = event; flushed = Some event; stands = true; awaited = deaths; last_dead = 0 } }
+    ensures { s.new ≡ record s.old {
+      begun = true;
+      latest = event;
+      flushed = Some event;
+      stands = true;
+      awaited = deaths;
+      last_dead = 0;
+    } }
 {
     leave_group(s);
     s.latest = event;
@@ -42,7 +51,8 @@ pub fn note_flush(s: &mut Standing, event: u64, deaths: u32)
 }
 
 pub fn note_finish(s: &mut Standing)
-    ensures { s.new ≡ record s.old { begun = true; ended = true; stands = false; awaited = 0; last_dead = 0 } }
+    ensures { s.new
+        ≡ record s.old { begun = true; ended = true; stands = false; awaited = 0; last_dead = 0 } }
 {
     leave_group(s);
     s.ended = true;

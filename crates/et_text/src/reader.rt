@@ -55,7 +55,8 @@ impl TextReader {
     /// and changes nothing.
     pub fn feed(&mut self, piece: &[u8]) -> Result<(), TraceFault>
         ensures ok { OnOk result (Grows self.old self.new piece.now) }
-        ensures again { (fault : TraceFault) → self.old.fault ≡ Some fault → (result ≡ Err fault) × (self.new ≡ self.old) }
+        ensures again { (fault : TraceFault) →
+            self.old.fault ≡ Some fault → (result ≡ Err fault) × (self.new ≡ self.old) }
         ensures err { self.old.fault ≡ None → IfErr result (Stops self.old self.new piece.now) }
     {
         match self.fault {
@@ -99,7 +100,8 @@ impl TextReader {
     fn end_line(&mut self, line: &[u8]) -> Result<(), TraceFault>
         requires unharmed { self.old.fault ≡ None }
         requires one_line { IsOneLine line.now }
-        ensures ok { OnOk result (self.new ≡ record self.old { bytes = self.old.bytes ++ (line.now ++ 10 ∷ []) }) }
+        ensures ok { OnOk result
+            (self.new ≡ record self.old { bytes = self.old.bytes ++ (line.now ++ 10 ∷ []) }) }
         ensures err { IfErr result (Stops self.old self.new (line.now ++ 10 ∷ [])) }
     {
         let taken = take_rest(
@@ -127,7 +129,8 @@ impl TextReader {
         requires unharmed { self.old.fault ≡ None }
         requires one_line { IsOneLine front.now }
         ensures ok { OnOk result (Grows self.old self.new front.now) }
-        ensures err { IfErr result (λ fault. (fault ≡ OutOfMemory) × (self.new.fault ≡ Some OutOfMemory)) }
+        ensures err { IfErr result
+            (λ fault. (fault ≡ OutOfMemory) × (self.new.fault ≡ Some OutOfMemory)) }
     {
         self.fault = Some(TraceFault::NoMemory);
         self.rest.extend_from_slice(front)?;

@@ -414,7 +414,8 @@ fn line_at(alloc: Global, bytes: &[u8]) -> Result<TraceLine, LineError>
 /// escaped. It takes memory for names and descriptors alone.
 pub fn read_line(alloc: Global, bytes: &[u8]) -> Result<TraceLine, LineError>
     ensures found { IfOk result (λ line. IsSpelled line bytes.now) }
-    ensures form { IsErrOf result LineError.Form → (line : TraceLine) → IsSpelled line bytes.now → ⊥ }
+    ensures form { IsErrOf result LineError.Form →
+        (line : TraceLine) → IsSpelled line bytes.now → ⊥ }
 {
     line_at(alloc, bytes)
 }

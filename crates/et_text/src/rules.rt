@@ -66,7 +66,8 @@ impl Rules {
         requires range { IsInRange 1 line }
         ensures ok { OnOk result (Takes self.old self.new line) }
         ensures fine { OnOk result (AreFine 1 (reverse self.new.lines)) }
-        ensures again { (fault : TraceFault) → self.old.fault ≡ Some fault → (result ≡ Err fault) × (self.new ≡ self.old) }
+        ensures again { (fault : TraceFault) →
+            self.old.fault ≡ Some fault → (result ≡ Err fault) × (self.new ≡ self.old) }
         ensures err { self.old.fault ≡ None → IfErr result (Refuses self.old self.new line) }
     {
         match self.fault {

@@ -71,7 +71,8 @@ fn put_name(buffer: &mut Vec<u8>, name: &Name) -> Result<(), NoMemory>
 }
 
 fn put_numbers(buffer: &mut Vec<u8>, letter: u8, numbers: &[u64]) -> Result<(), NoMemory>
-    ensures ok { OnOk result (buffer.new.items ≡ buffer.old.items ++ letter ∷ flat_map number_field numbers.now) }
+    ensures ok { OnOk result
+        (buffer.new.items ≡ buffer.old.items ++ letter ∷ flat_map number_field numbers.now) }
     ensures err { OnErr result (Extends buffer.old.items buffer.new.items) }
 {
     buffer.push(letter)?;
@@ -82,7 +83,8 @@ fn put_numbers(buffer: &mut Vec<u8>, letter: u8, numbers: &[u64]) -> Result<(), 
 }
 
 fn put_names(buffer: &mut Vec<u8>, name: &Name, descriptor: &Name) -> Result<(), NoMemory>
-    ensures ok { OnOk result (buffer.new.items ≡ buffer.old.items ++ (text_field name.now ++ text_field descriptor.now)) }
+    ensures ok { OnOk result (buffer.new.items
+        ≡ buffer.old.items ++ (text_field name.now ++ text_field descriptor.now)) }
     ensures err { OnErr result (Extends buffer.old.items buffer.new.items) }
 {
     put_name(buffer, name)?;

@@ -23,7 +23,8 @@ fn enter_handler(machine: &mut Machine, thread: ThreadId, exception: ObjectId, h
     requires small { length (top machine.old.guest thread).operands < 2 ^ 17 }
     requires room { 0 < (top machine.old.guest thread).room }
     requires pending { (thread_at machine.old.guest thread).pending ≡ Some exception }
-    ensures { Led (kept_of machine.old) (handled_state machine.old thread exception handler) machine.new }
+    ensures { Led
+        (kept_of machine.old) (handled_state machine.old thread exception handler) machine.new }
 {
     machine.begin_event();
     machine.clear_operands(thread);
@@ -45,7 +46,8 @@ pub(crate) fn catch_event(
     requires clock { machine.old.guest.clock < 2 ^ 40 }
     requires small { length (top machine.old.guest thread).operands < 2 ^ 17 }
     requires pending { (thread_at machine.old.guest thread).pending ≡ Some exception }
-    ensures { (p : Linked) (out : List Record) → EventAnswers (caught (moment p machine.old thread) exception handler) result machine.old machine.new out out }
+    ensures { (p : Linked) (out : List Record) → EventAnswers (caught
+        (moment p machine.old thread) exception handler) result machine.old machine.new out out }
 {
     if machine.room(thread) == 0 {
         return ill_typed(machine, thread);

@@ -29,7 +29,8 @@ use std::sync::ledger::Ledger;
 fn drop_initializer(machine: &mut Machine, thread: ThreadId, class: ClassId)
     requires frame { HasFrame machine.old.guest thread }
     requires clock { machine.old.guest.clock < 2 ^ 40 }
-    requires small { length (top machine.old.guest thread).locals + length (top machine.old.guest thread).operands < 2 ^ 17 }
+    requires small { length (top machine.old.guest thread).locals
+        + length (top machine.old.guest thread).operands < 2 ^ 17 }
     requires class { class < length machine.old.guest.classes }
     ensures new { machine.new ≡ initializer_dropped thread class machine.old }
     ensures few { length machine.new.lost ≤ 2 ^ 17 }
@@ -52,9 +53,12 @@ fn fail_by_error(
     requires sound { IsSound (kept_of machine.old) }
     requires clock { machine.old.guest.clock < 2 ^ 40 }
     requires fits { fits machine.old.heap ≡ true }
-    requires small { length (top machine.old.guest thread).locals + length (top machine.old.guest thread).operands < 2 ^ 17 }
+    requires small { length (top machine.old.guest thread).locals
+        + length (top machine.old.guest thread).operands < 2 ^ 17 }
     requires class { class < length machine.old.guest.classes }
-    ensures ok { IfOk result (λ end. (p : Linked) → EventAnswers (ends (with_state class states.Failed (initializer_left (moment p machine.old thread) tells exception))) end machine.old machine.new out.old out.new) }
+    ensures ok { IfOk result (λ end. (p : Linked) → EventAnswers (ends (with_state
+        class states.Failed (initializer_left (moment p machine.old thread) tells exception)))
+        end machine.old machine.new out.old out.new) }
     ensures err { OnErr result (machine.new.guest ≡ machine.old.guest) }
 {
     tell_unwind(machine, thread, exception, tells, out)?;
@@ -96,7 +100,9 @@ fn write_cause<L: Ledger>(
     requires held { IsHeld machine.old.heap error }
     requires slots { length (object_at machine.old.heap error).slots ≡ slots }
     requires lost { length machine.old.lost ≤ 2 ^ 17 }
-    ensures new { machine.new ≡ steps_object machine.old error (with_slot 1 (Ref cause) (object_at machine.old.heap error)) (refs_of_value (slot_of (object_at machine.old.heap error) 1)) }
+    ensures new { machine.new ≡ steps_object machine.old error
+        (with_slot 1 (Ref cause) (object_at machine.old.heap error))
+        (refs_of_value (slot_of (object_at machine.old.heap error) 1)) }
     ensures few { length machine.new.lost ≤ 2 ^ 17 + 1 }
     ensures visits { visits.new ≤ visits.old + 1 }
 {
@@ -120,10 +126,14 @@ fn fail_by_exception<L: Ledger>(
     requires frame { HasFrame machine.old.guest thread }
     requires sound { IsSound (kept_of machine.old) }
     requires clock { machine.old.guest.clock < 2 ^ 40 }
-    requires small { length (top machine.old.guest thread).locals + length (top machine.old.guest thread).operands < 2 ^ 17 }
+    requires small { length (top machine.old.guest thread).locals
+        + length (top machine.old.guest thread).operands < 2 ^ 17 }
     requires class { class < length machine.old.guest.classes }
     requires pending { (thread_at machine.old.guest thread).pending ≡ Some exception }
-    ensures ok { IfOk result (λ end. EventAnswers (ends (replaced (moment program.now machine.old thread) exception (with_state class states.Failed (initializer_left (moment program.now machine.old thread) tells exception)))) end machine.old machine.new out.old out.new) }
+    ensures ok { IfOk result (λ end. EventAnswers
+        (ends (replaced (moment program.now machine.old thread) exception (with_state class
+        states.Failed (initializer_left (moment program.now machine.old thread) tells exception))))
+        end machine.old machine.new out.old out.new) }
     ensures err { OnErr result (machine.new.guest ≡ machine.old.guest) }
     ensures visits { visits.new ≤ visits.old + 1 }
 {
@@ -157,11 +167,15 @@ pub(crate) fn fail_event<L: Ledger>(
     visits: &mut Steps<L>,
 ) -> Result<EventEnd, NoMemory>
     requires unwinds { Unwinds program.now machine.old thread exception }
-    requires small { length (top machine.old.guest thread).locals + length (top machine.old.guest thread).operands < 2 ^ 17 }
+    requires small { length (top machine.old.guest thread).locals
+        + length (top machine.old.guest thread).operands < 2 ^ 17 }
     requires class { class < length program.now.classes }
     requires thrown { thrown ≡ (object_at machine.old.heap exception).class }
     requires known { thrown < length program.now.classes }
-    ensures ok { IfOk result (λ end. EventAnswers (ends (failed (moment program.now machine.old thread) class exception (initializer_left (moment program.now machine.old thread) tells exception))) end machine.old machine.new out.old out.new) }
+    ensures ok { IfOk result
+        (λ end. EventAnswers (ends (failed (moment program.now machine.old thread) class exception
+        (initializer_left (moment program.now machine.old thread) tells exception)))
+        end machine.old machine.new out.old out.new) }
     ensures err { OnErr result (machine.new.guest ≡ machine.old.guest) }
     ensures visits { visits.new ≤ visits.old + 1 }
 {

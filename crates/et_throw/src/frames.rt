@@ -48,7 +48,8 @@ fn locals_are_few(method: &MethodInfo)
 pub(crate) fn frame_is_small(program: &Program, machine: &Machine, thread: ThreadId)
     requires frame { HasFrame machine.now.guest thread }
     requires runs { Runs program.now (top machine.now.guest thread) }
-    ensures { length (top machine.now.guest thread).locals + length (top machine.now.guest thread).operands < 2 ^ 17 }
+    ensures { length (top machine.now.guest thread).locals
+        + length (top machine.now.guest thread).operands < 2 ^ 17 }
 {
     locals_are_few(method_of(program, machine, thread));
     let _room = machine.room(thread);

@@ -47,7 +47,8 @@ fn is_caught_by(program: &Program, class: ClassId, name: Option<&[u8]>) -> bool
 
 /// The name of a class in a pool.
 fn class_name(pool: Option<&Pool>, index: u16) -> Option<&[u8]>
-    ensures { option_map (λ s. s.now) result ≡ class_name_at (slots_of (option_copied pool.entry)) index }
+    ensures { option_map (λ s. s.now) result
+        ≡ class_name_at (slots_of (option_copied pool.entry)) index }
 {
     match pool {
         Some(pool) => pool.class_name(index),
@@ -59,7 +60,8 @@ fn class_name(pool: Option<&Pool>, index: u16) -> Option<&[u8]>
 fn catches(program: &Program, pool: Option<&Pool>, pc: u32, class: ClassId, row: TableRow) -> bool
     requires class { class < length program.now.classes }
     requires interfaces { KnowsInterfaces program.now }
-    ensures { result ≡ catches_there program.now (slots_of (option_copied pool.entry)) pc class row }
+    ensures { result
+        ≡ catches_there program.now (slots_of (option_copied pool.entry)) pc class row }
 {
     row.start as u32 <= pc
         && pc < row.end as u32
@@ -76,7 +78,8 @@ fn first_handler(
 ) -> Option<u32>
     requires class { class < length program.now.classes }
     requires interfaces { KnowsInterfaces program.now }
-    ensures { result ≡ option_map (λ (row : Row). row.handler) (find (catches_there program.now (slots_of (option_copied pool.entry)) pc class) rows.now) }
+    ensures { result ≡ option_map (λ (row : Row). row.handler)
+        (find (catches_there program.now (slots_of (option_copied pool.entry)) pc class) rows.now) }
 {
     let row = rows
         .iter()
@@ -97,7 +100,8 @@ pub(crate) fn handler(
     requires runs { Runs program.now (top machine.now.guest thread) }
     requires class { class < length program.now.classes }
     requires interfaces { KnowsInterfaces program.now }
-    ensures { result ≡ option_map (λ (row : Row). row.handler) (handler_of program.now (top machine.now.guest thread) class) }
+    ensures { result ≡ option_map
+        (λ (row : Row). row.handler) (handler_of program.now (top machine.now.guest thread) class) }
 {
     let method = method_of(program, machine, thread);
     let pool = program.pool(method.class);

@@ -11,7 +11,8 @@ use et_state::{Lines, Machine, Record};
 pub(crate) fn unwind_record(machine: &Machine, thread: ThreadId, exception: ObjectId) -> Record
     requires frame { HasFrame machine.now.guest thread }
     requires clock { machine.now.guest.clock < 2 ^ 40 }
-    ensures { result ≡ Unwind (machine.now.guest.clock + 1) thread (unwrap_or (top machine.now.guest thread).method 0) exception }
+    ensures { result ≡ Unwind (machine.now.guest.clock + 1) thread
+        (unwrap_or (top machine.now.guest thread).method 0) exception }
 {
     Record::Unwind {
         event: machine.clock() + 1,
@@ -50,7 +51,9 @@ pub(crate) fn tell_error(
     out: &mut Lines,
 ) -> Result<(), NoMemory>
     requires { machine.now.guest.clock < 2 ^ 40 }
-    ensures { OnOk result (out.new ≡ out.old ++ (Alloc (machine.now.guest.clock + 1) thread error class (16 + 8 * slots) 0 ∷ Update (machine.now.guest.clock + 1) thread error 1 0 cause ∷ [])) }
+    ensures { OnOk result
+        (out.new ≡ out.old ++ (Alloc (machine.now.guest.clock + 1) thread error class
+        (16 + 8 * slots) 0 ∷ Update (machine.now.guest.clock + 1) thread error 1 0 cause ∷ [])) }
 {
     let event = machine.clock() + 1;
     out.push(Record::Alloc {

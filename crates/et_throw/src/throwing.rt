@@ -24,7 +24,12 @@ fn throw_object(machine: &mut Machine, thread: ThreadId, exception: ObjectId)
     requires sound { IsSound (kept_of machine.old) }
     requires clock { machine.old.guest.clock < 2 ^ 40 }
     requires held { IsHeld machine.old.heap exception }
-    ensures { Led (kept_of machine.old) (record { heap = machine.old.heap; guest = with_thread (ticked machine.old.guest) thread (with_pending (Some exception) (thread_at machine.old.guest thread)) }) machine.new }
+    ensures { Led (kept_of machine.old)
+        (record {
+          heap = machine.old.heap;
+          guest = with_thread (ticked machine.old.guest) thread
+              (with_pending (Some exception) (thread_at machine.old.guest thread));
+        }) machine.new }
 {
     machine.begin_event();
     machine.throw(thread, exception);
@@ -64,7 +69,8 @@ pub fn athrow_event<L: Ledger>(
     requires sound { IsSoundFor program.now (kept_of machine.old) }
     requires clock { machine.old.guest.clock < 2 ^ 40 }
     requires frame { HasFrame machine.old.guest thread }
-    ensures ok { IfOk result (λ end. EventAnswers (throw (moment program.now machine.old thread)) end machine.old machine.new out.old out.new) }
+    ensures ok { IfOk result (λ end. EventAnswers (throw (moment program.now machine.old thread))
+        end machine.old machine.new out.old out.new) }
     ensures err { OnErr result (machine.new.guest ≡ machine.old.guest) }
     ensures visits { visits.new ≤ visits.old + 6 }
 {

@@ -61,10 +61,13 @@ fn unwind_frame<L: Ledger>(
     requires frame { HasFrame machine.old.guest thread }
     requires sound { IsSound (kept_of machine.old) }
     requires clock { machine.old.guest.clock < 2 ^ 40 }
-    requires small { length (top machine.old.guest thread).locals + length (top machine.old.guest thread).operands < 2 ^ 17 }
+    requires small { length (top machine.old.guest thread).locals
+        + length (top machine.old.guest thread).operands < 2 ^ 17 }
     requires there { HasSome machine.old (locks_of lock.now) }
-    requires lock { locks_of lock.now ≡ lock_in_frame (top machine.old.guest thread).stage (method_in program.now (top machine.old.guest thread)) (top machine.old.guest thread).lock }
-    ensures ok { IfOk result (λ end. EventAnswers (unwound (moment program.now machine.old thread) exception) end machine.old machine.new out.old out.new) }
+    requires lock { locks_of lock.now ≡ lock_in_frame (top machine.old.guest thread).stage
+        (method_in program.now (top machine.old.guest thread)) (top machine.old.guest thread).lock }
+    ensures ok { IfOk result (λ end. EventAnswers (unwound (moment program.now machine.old thread)
+        exception) end machine.old machine.new out.old out.new) }
     ensures err { OnErr result (machine.new.guest ≡ machine.old.guest) }
     ensures visits { visits.new ≤ visits.old + 3 }
 {
@@ -81,7 +84,8 @@ fn lock_of_frame(program: &Program, machine: &Machine, thread: ThreadId) -> Opti
     requires sound { IsSoundFor program.now (kept_of machine.now) }
     requires frame { HasFrame machine.now.guest thread }
     requires runs { Runs program.now (top machine.now.guest thread) }
-    ensures is { locks_of result ≡ lock_in_frame (top machine.now.guest thread).stage (method_in program.now (top machine.now.guest thread)) (top machine.now.guest thread).lock }
+    ensures is { locks_of result ≡ lock_in_frame (top machine.now.guest thread).stage
+        (method_in program.now (top machine.now.guest thread)) (top machine.now.guest thread).lock }
     ensures there { HasSome machine.now (locks_of result) }
 {
     let method = method_of(program, machine, thread);
@@ -104,7 +108,8 @@ fn unwind_method<L: Ledger>(
     requires thrown { thrown ≡ (object_at machine.old.heap exception).class }
     requires known { thrown < length program.now.classes }
     requires interfaces { KnowsInterfaces program.now }
-    ensures ok { IfOk result (λ end. EventAnswers (unwinds (moment program.now machine.old thread) exception stages.Plain) end machine.old machine.new out.old out.new) }
+    ensures ok { IfOk result (λ end. EventAnswers (unwinds (moment program.now machine.old thread)
+        exception stages.Plain) end machine.old machine.new out.old out.new) }
     ensures err { OnErr result (machine.new.guest ≡ machine.old.guest) }
     ensures visits { visits.new ≤ visits.old + 3 }
 {
@@ -136,7 +141,8 @@ fn unwind_clinit<L: Ledger>(
     requires thrown { thrown ≡ (object_at machine.old.heap exception).class }
     requires known { thrown < length program.now.classes }
     requires interfaces { KnowsInterfaces program.now }
-    ensures ok { IfOk result (λ end. EventAnswers (unwinds (moment program.now machine.old thread) exception (stages.Clinit class)) end machine.old machine.new out.old out.new) }
+    ensures ok { IfOk result (λ end. EventAnswers (unwinds (moment program.now machine.old thread)
+        exception (stages.Clinit class)) end machine.old machine.new out.old out.new) }
     ensures err { OnErr result (machine.new.guest ≡ machine.old.guest) }
     ensures visits { visits.new ≤ visits.old + 1 }
 {
@@ -169,7 +175,9 @@ fn unwind_event<L: Ledger>(
 ) -> Result<EventEnd, NoMemory>
     requires unwinds { Unwinds program.now machine.old thread exception }
     requires interfaces { KnowsInterfaces program.now }
-    ensures ok { IfOk result (λ end. EventAnswers (unwinds (moment program.now machine.old thread) exception (top machine.old.guest thread).stage) end machine.old machine.new out.old out.new) }
+    ensures ok { IfOk result
+        (λ end. EventAnswers (unwinds (moment program.now machine.old thread) exception
+        (top machine.old.guest thread).stage) end machine.old machine.new out.old out.new) }
     ensures err { OnErr result (machine.new.guest ≡ machine.old.guest) }
     ensures visits { visits.new ≤ visits.old + 4 }
 {
@@ -204,7 +212,8 @@ pub fn unwinding_event<L: Ledger>(
     requires clock { machine.old.guest.clock < 2 ^ 40 }
     requires turn { turn_of (thread_at machine.old.guest thread) ≡ turns.Unwind }
     requires interfaces { KnowsInterfaces program.now }
-    ensures event { IfOk result (λ end. EventAnswers (event program.now (kept_of machine.old) thread) end machine.old machine.new out.old out.new) }
+    ensures event { IfOk result (λ end. EventAnswers (event program.now
+        (kept_of machine.old) thread) end machine.old machine.new out.old out.new) }
     ensures err { OnErr result (machine.new.guest ≡ machine.old.guest) }
     ensures visits { visits.new ≤ visits.old + 6 }
 {

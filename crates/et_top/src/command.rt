@@ -56,7 +56,8 @@ fn schedule_of(
     words: Option<&[u8]>,
 ) -> Result<Option<Schedule>, NoMemory>
     ensures range { IfOk result (λ schedule. IfSome schedule IsSchedule) }
-    ensures schedule { IfOk result (λ schedule. schedule ≡ command.schedule_of (option_map (λ text. text.now) quantum.entry) (option_map (λ text. text.now) words.entry)) }
+    ensures schedule { IfOk result (λ schedule. schedule ≡ command.schedule_of
+        (option_map (λ text. text.now) quantum.entry) (option_map (λ text. text.now) words.entry)) }
 {
     match (quantum, words) {
         (_, None) => Ok(number_or(100, 1, MOST_EVENTS, quantum).map(Schedule::Quantum)),
@@ -129,7 +130,8 @@ fn replay_options(given: &[Given<'_>]) -> Option<Models>
 
 /// The one operand.
 fn only_path<'a>(operands: &'a [String]) -> Option<&'a str>
-    ensures { option_map (λ path. path.now) result ≡ command.only_path (map string_bytes operands.now) }
+    ensures { option_map (λ path. path.now) result
+        ≡ command.only_path (map string_bytes operands.now) }
 {
     match operands {
         [path] => Some(path.as_str()),
@@ -150,7 +152,8 @@ fn plain_path<'a>(parts: &Split<'a>) -> Option<&'a str>
 
 /// The command `trace`.
 fn trace<'a>(alloc: Global, parts: &Split<'a>) -> Result<Option<Command<'a>>, NoMemory>
-    ensures asked { IfOk result (λ asked. option_map asked_by asked ≡ command.trace (split_of parts.now)) }
+    ensures asked { IfOk result
+        (λ asked. option_map asked_by asked ≡ command.trace (split_of parts.now)) }
     ensures range { IfOk result (λ asked. IfSome asked AreInRange) }
 {
     if parts.operands.is_empty() {
@@ -175,7 +178,8 @@ fn replay<'a>(parts: &Split<'a>) -> Option<Command<'a>>
 
 /// The command of this name, with these parts behind it.
 fn asked<'a>(alloc: Global, name: &str, parts: &Split<'a>) -> Result<Option<Command<'a>>, NoMemory>
-    ensures asked { IfOk result (λ asked. option_map asked_by asked ≡ command.asked name.now (split_of parts.now)) }
+    ensures asked { IfOk result
+        (λ asked. option_map asked_by asked ≡ command.asked name.now (split_of parts.now)) }
     ensures range { IfOk result (λ asked. IfSome asked AreInRange) }
 {
     match name {
@@ -191,7 +195,8 @@ fn asked<'a>(alloc: Global, name: &str, parts: &Split<'a>) -> Result<Option<Comm
 /// options as `--name=value` or `--name value`, each at most once and in any order, then operands; a word `--` alone
 /// ends the options. A number is 1 to 20 decimal digits.
 pub fn read_words<'a>(alloc: Global, words: &'a [String]) -> Result<Option<Command<'a>>, NoMemory>
-    ensures command { IfOk result (λ asked. option_map asked_by asked ≡ command.command (map string_bytes words.now)) }
+    ensures command { IfOk result
+        (λ asked. option_map asked_by asked ≡ command.command (map string_bytes words.now)) }
     ensures range { IfOk result (λ asked. IfSome asked AreInRange) }
 {
     let [name, behind @ ..] = words else {

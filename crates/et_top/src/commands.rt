@@ -34,10 +34,15 @@ pub fn trace<F: Files, O: Sink, E: Sink, L: Ledger>(
 ) -> Status
     requires options { AreOptions options.now }
     requires some { 0 < length paths.now }
-    ensures gives { (held : Held) → F.holds files.old ≡ Some held → (kinds : List Kind) (d : Defined) → IsAskedDefined kinds (Some (words.Trace options.now (map string_bytes paths.now))) held d → (reached : Graph → ℕ → Bool) → Decides reached →
-        Gives reached (O.taken out.old) (O.taken out.new) visits.old visits.new (Rose (F.faults files.old) (F.faults files.new)) (Rose (O.faults out.old) (O.faults out.new)) d result }
+    ensures gives { (held : Held) →
+        F.holds files.old ≡ Some held → (kinds : List Kind) (d : Defined) →
+        IsAskedDefined kinds (Some (words.Trace options.now (map string_bytes paths.now))) held d →
+        (reached : Graph → ℕ → Bool) → Decides reached → Gives reached (O.taken out.old)
+        (O.taken out.new) visits.old visits.new (Rose (F.faults files.old) (F.faults files.new))
+        (Rose (O.faults out.old) (O.faults out.new)) d result }
     ensures usage { result ≡ Status.Usage → ⊥ }
-    ensures read_fault { result ≡ Status.ReadFault → Rose (F.faults files.old) (F.faults files.new) }
+    ensures read_fault { result ≡ Status.ReadFault →
+        Rose (F.faults files.old) (F.faults files.new) }
     ensures write_fault { result ≡ Status.WriteFault → Rose (O.faults out.old) (O.faults out.new) }
 {
     match load_program(alloc, paths, files) {
@@ -54,10 +59,14 @@ pub fn assemble<F: Files, O: Sink, E: Sink>(
     out: &mut O,
     err: &mut E,
 ) -> Status
-    ensures gives { (held : Held) → F.holds files.old ≡ Some held → (kinds : List Kind) (d : Defined) → IsAskedDefined kinds (Some (words.Assemble path.now)) held d → (reached : Graph → ℕ → Bool) → Decides reached → (old new : ℕ) →
-        Gives reached (O.taken out.old) (O.taken out.new) old new (Rose (F.faults files.old) (F.faults files.new)) (Rose (O.faults out.old) (O.faults out.new)) d result }
+    ensures gives { (held : Held) → F.holds files.old ≡ Some held → (kinds : List Kind)
+        (d : Defined) → IsAskedDefined kinds (Some (words.Assemble path.now)) held d →
+        (reached : Graph → ℕ → Bool) → Decides reached → (old new : ℕ) → Gives reached
+        (O.taken out.old) (O.taken out.new) old new (Rose (F.faults files.old) (F.faults files.new))
+        (Rose (O.faults out.old) (O.faults out.new)) d result }
     ensures usage { result ≡ Status.Usage → ⊥ }
-    ensures read_fault { result ≡ Status.ReadFault → Rose (F.faults files.old) (F.faults files.new) }
+    ensures read_fault { result ≡ Status.ReadFault →
+        Rose (F.faults files.old) (F.faults files.new) }
     ensures write_fault { result ≡ Status.WriteFault → Rose (O.faults out.old) (O.faults out.new) }
 {
     match load_listing(alloc, path, files) {
@@ -74,10 +83,14 @@ pub fn curve<F: Files, O: Sink, E: Sink>(
     out: &mut O,
     err: &mut E,
 ) -> Status
-    ensures gives { (held : Held) → F.holds files.old ≡ Some held → (kinds : List Kind) (d : Defined) → IsAskedDefined kinds (Some (words.Curve path.now)) held d → (reached : Graph → ℕ → Bool) → Decides reached → (old new : ℕ) →
-        Gives reached (O.taken out.old) (O.taken out.new) old new (Rose (F.faults files.old) (F.faults files.new)) (Rose (O.faults out.old) (O.faults out.new)) d result }
+    ensures gives { (held : Held) → F.holds files.old ≡ Some held → (kinds : List Kind)
+        (d : Defined) → IsAskedDefined kinds (Some (words.Curve path.now)) held d →
+        (reached : Graph → ℕ → Bool) → Decides reached → (old new : ℕ) → Gives reached
+        (O.taken out.old) (O.taken out.new) old new (Rose (F.faults files.old) (F.faults files.new))
+        (Rose (O.faults out.old) (O.faults out.new)) d result }
     ensures usage { result ≡ Status.Usage → ⊥ }
-    ensures read_fault { result ≡ Status.ReadFault → Rose (F.faults files.old) (F.faults files.new) }
+    ensures read_fault { result ≡ Status.ReadFault →
+        Rose (F.faults files.old) (F.faults files.new) }
     ensures write_fault { result ≡ Status.WriteFault → Rose (O.faults out.old) (O.faults out.new) }
 {
     match load_trace(alloc, path, files) {
@@ -97,10 +110,14 @@ pub fn replay<F: Files, O: Sink, E: Sink>(
     models: Vec<Box<dyn HeapModel>>,
 ) -> Status
     requires new { All (λ b. is_new b) models.items }
-    ensures gives { (held : Held) → F.holds files.old ≡ Some held → (d : Defined) → IsAskedDefined (map (λ b. kind_of b) models.items) (Some (words.Replay asked.now path.now)) held d → (reached : Graph → ℕ → Bool) → Decides reached → (old new : ℕ) →
-        Gives reached (O.taken out.old) (O.taken out.new) old new (Rose (F.faults files.old) (F.faults files.new)) (Rose (O.faults out.old) (O.faults out.new)) d result }
+    ensures gives { (held : Held) → F.holds files.old ≡ Some held → (d : Defined) → IsAskedDefined
+        (map (λ b. kind_of b) models.items) (Some (words.Replay asked.now path.now)) held d →
+        (reached : Graph → ℕ → Bool) → Decides reached → (old new : ℕ) → Gives reached
+        (O.taken out.old) (O.taken out.new) old new (Rose (F.faults files.old) (F.faults files.new))
+        (Rose (O.faults out.old) (O.faults out.new)) d result }
     ensures usage { result ≡ Status.Usage → ⊥ }
-    ensures read_fault { result ≡ Status.ReadFault → Rose (F.faults files.old) (F.faults files.new) }
+    ensures read_fault { result ≡ Status.ReadFault →
+        Rose (F.faults files.old) (F.faults files.new) }
     ensures write_fault { result ≡ Status.WriteFault → Rose (O.faults out.old) (O.faults out.new) }
 {
     match load_trace(alloc, path, files) {

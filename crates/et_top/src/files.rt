@@ -16,8 +16,10 @@ pub fn read_file<'a, F: Files>(
     most: u64,
     files: &mut F,
 ) -> Result<Vec<u8>, Refusal<'a>>
-    ensures tells { (held : Held) → F.holds files.old ≡ Some held → Tells (Rose (F.faults files.old) (F.faults files.new)) (λ bytes. bytes.items) (bytes_of most (held path.now)) result }
-    ensures fault { IfErr result (λ refusal. IsReading (cause_of refusal) → Rose (F.faults files.old) (F.faults files.new)) }
+    ensures tells { (held : Held) → F.holds files.old ≡ Some held → Tells (Rose (F.faults files.old)
+        (F.faults files.new)) (λ bytes. bytes.items) (bytes_of most (held path.now)) result }
+    ensures fault { IfErr result
+        (λ refusal. IsReading (cause_of refusal) → Rose (F.faults files.old) (F.faults files.new)) }
     ensures file { IfErr result (λ refusal. IsFileRefusal (cause_of refusal)) }
     ensures never_falls { F.faults files.old ≤ F.faults files.new }
     ensures kept { F.holds files.new ≡ F.holds files.old }

@@ -20,7 +20,8 @@ const MOST_CLASS_BYTES: u64 = 1_048_576;
 
 /// The class file of these bytes, which the file at the path holds.
 fn class_in<'a>(alloc: Global, path: &'a str, bytes: &[u8]) -> Result<ClassFile, Refusal<'a>>
-    ensures tells { (class : Result ClassOf Fault) → IsClassOf (Ok bytes.now) class → Tells ⊥ class_of class result }
+    ensures tells { (class : Result ClassOf Fault) →
+        IsClassOf (Ok bytes.now) class → Tells ⊥ class_of class result }
     ensures parts { IfOk result HasItsParts }
     ensures of_file { IfOk result HasItsFile }
     ensures bytes { IfErr result (λ refusal. IsOfBytes (cause_of refusal)) }
@@ -39,10 +40,13 @@ fn load_class<'a, F: Files>(
     path: &'a str,
     files: &mut F,
 ) -> Result<ClassFile, Refusal<'a>>
-    ensures tells { (held : Held) → F.holds files.old ≡ Some held → (class : Result ClassOf Fault) → IsClassOf (bytes_of most_of_class (held path.now)) class → Tells (Rose (F.faults files.old) (F.faults files.new)) class_of class result }
+    ensures tells { (held : Held) → F.holds files.old ≡ Some held →
+        (class : Result ClassOf Fault) → IsClassOf (bytes_of most_of_class (held path.now)) class →
+        Tells (Rose (F.faults files.old) (F.faults files.new)) class_of class result }
     ensures parts { IfOk result HasItsParts }
     ensures of_file { IfOk result HasItsFile }
-    ensures fault { IfErr result (λ refusal. IsReading (cause_of refusal) → Rose (F.faults files.old) (F.faults files.new)) }
+    ensures fault { IfErr result
+        (λ refusal. IsReading (cause_of refusal) → Rose (F.faults files.old) (F.faults files.new)) }
     ensures file { IfErr result (λ refusal. IsFileRefusal (cause_of refusal)) }
     ensures never_falls { F.faults files.old ≤ F.faults files.new }
     ensures kept { F.holds files.new ≡ F.holds files.old }
@@ -59,11 +63,14 @@ pub fn load_classes<'a, F: Files>(
     paths: &'a [String],
     files: &mut F,
 ) -> Result<Vec<ClassFile>, Refusal<'a>>
-    ensures tells { (held : Held) → F.holds files.old ≡ Some held → (classes : Result (List ClassOf) Fault) → AreClassesOf (map held (map string_bytes paths.now)) classes → Tells (Rose (F.faults files.old) (F.faults files.new)) classes_of classes result }
+    ensures tells { (held : Held) → F.holds files.old ≡ Some held → (classes : Result
+        (List ClassOf) Fault) → AreClassesOf (map held (map string_bytes paths.now)) classes →
+        Tells (Rose (F.faults files.old) (F.faults files.new)) classes_of classes result }
     ensures parts { IfOk result (λ classes. All HasItsParts classes.items) }
     ensures of_files { IfOk result (λ classes. All HasItsFile classes.items) }
     ensures count { IfOk result (λ classes. length classes.items ≡ length paths.now) }
-    ensures fault { IfErr result (λ refusal. IsReading (cause_of refusal) → Rose (F.faults files.old) (F.faults files.new)) }
+    ensures fault { IfErr result
+        (λ refusal. IsReading (cause_of refusal) → Rose (F.faults files.old) (F.faults files.new)) }
     ensures file { IfErr result (λ refusal. IsFileRefusal (cause_of refusal)) }
     ensures never_falls { F.faults files.old ≤ F.faults files.new }
 {

@@ -18,7 +18,8 @@ const MOST_LISTING_BYTES: u64 = 1_048_576;
 
 /// The class file of this listing, which the file at the path holds.
 fn listing_in<'a>(alloc: Global, path: &'a str, text: &[u8]) -> Result<Vec<u8>, Refusal<'a>>
-    ensures tells { (class : Result (List ℕ) Fault) → IsListingOf (Ok text.now) class → Tells ⊥ (λ bytes. bytes.items) class result }
+    ensures tells { (class : Result (List ℕ) Fault) →
+        IsListingOf (Ok text.now) class → Tells ⊥ (λ bytes. bytes.items) class result }
     ensures bytes { IfErr result (λ refusal. IsOfBytes (cause_of refusal)) }
 {
     exactly_one();
@@ -35,8 +36,11 @@ pub fn load_listing<'a, F: Files>(
     path: &'a str,
     files: &mut F,
 ) -> Result<Vec<u8>, Refusal<'a>>
-    ensures tells { (held : Held) → F.holds files.old ≡ Some held → (class : Result (List ℕ) Fault) → IsListingOf (bytes_of most_of_class (held path.now)) class → Tells (Rose (F.faults files.old) (F.faults files.new)) (λ bytes. bytes.items) class result }
-    ensures fault { IfErr result (λ refusal. IsReading (cause_of refusal) → Rose (F.faults files.old) (F.faults files.new)) }
+    ensures tells { (held : Held) → F.holds files.old ≡ Some held → (class : Result
+        (List ℕ) Fault) → IsListingOf (bytes_of most_of_class (held path.now)) class →
+        Tells (Rose (F.faults files.old) (F.faults files.new)) (λ bytes. bytes.items) class result }
+    ensures fault { IfErr result
+        (λ refusal. IsReading (cause_of refusal) → Rose (F.faults files.old) (F.faults files.new)) }
     ensures file { IfErr result (λ refusal. IsFileRefusal (cause_of refusal)) }
     ensures never_falls { F.faults files.old ≤ F.faults files.new }
 {

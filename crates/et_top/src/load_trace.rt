@@ -30,7 +30,8 @@ fn trace_of(alloc: Global, bytes: &[u8]) -> Result<Trace, TraceFault>
 
 /// The trace of these bytes, which the file at the path holds.
 fn trace_in<'a>(alloc: Global, path: &'a str, bytes: &[u8]) -> Result<Trace, Refusal<'a>>
-    ensures tells { (trace : Result (List TraceLine) Fault) → IsTraceOf (Ok bytes.now) trace → Tells ⊥ (λ lines. lines) trace result }
+    ensures tells { (trace : Result (List TraceLine) Fault) →
+        IsTraceOf (Ok bytes.now) trace → Tells ⊥ (λ lines. lines) trace result }
     ensures bytes { IfErr result (λ refusal. IsOfBytes (cause_of refusal)) }
 {
     faults_are_one();
@@ -49,8 +50,11 @@ pub fn load_trace<'a, F: Files>(
     path: &'a str,
     files: &mut F,
 ) -> Result<Trace, Refusal<'a>>
-    ensures tells { (held : Held) → F.holds files.old ≡ Some held → (trace : Result (List TraceLine) Fault) → IsTraceOf (bytes_of most_of_trace (held path.now)) trace → Tells (Rose (F.faults files.old) (F.faults files.new)) (λ lines. lines) trace result }
-    ensures fault { IfErr result (λ refusal. IsReading (cause_of refusal) → Rose (F.faults files.old) (F.faults files.new)) }
+    ensures tells { (held : Held) → F.holds files.old ≡ Some held → (trace : Result
+        (List TraceLine) Fault) → IsTraceOf (bytes_of most_of_trace (held path.now)) trace →
+        Tells (Rose (F.faults files.old) (F.faults files.new)) (λ lines. lines) trace result }
+    ensures fault { IfErr result
+        (λ refusal. IsReading (cause_of refusal) → Rose (F.faults files.old) (F.faults files.new)) }
     ensures file { IfErr result (λ refusal. IsFileRefusal (cause_of refusal)) }
     ensures never_falls { F.faults files.old ≤ F.faults files.new }
 {

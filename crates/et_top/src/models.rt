@@ -68,7 +68,8 @@ fn prepare(
 ) -> Result<Option<Box<dyn HeapModel>>, NoMemory>
     requires new { is_new model }
     requires few { objects ≤ 16777215 }
-    ensures { IfOk result (λ chosen. IsPrepared (λ b policy. stands_for b policy objects []) (policy_of asked.now (kind_of model)) chosen) }
+    ensures { IfOk result (λ chosen. IsPrepared
+        (λ b policy. stands_for b policy objects []) (policy_of asked.now (kind_of model)) chosen) }
 {
     let Some(policy) = policy_of(asked, model.kind()) else {
         return Ok(None);
@@ -87,7 +88,8 @@ fn choose(
 ) -> Result<Vec<Box<dyn HeapModel>>, NoMemory>
     requires new { All (λ b. is_new b) models.items }
     requires few { objects ≤ 16777215 }
-    ensures { IfOk result (λ chosen. AllZip (λ b policy. stands_for b policy objects []) chosen.items (policies_of asked.now (map (λ b. kind_of b) models.items))) }
+    ensures { IfOk result (λ chosen. AllZip (λ b policy. stands_for b policy objects [])
+        chosen.items (policies_of asked.now (map (λ b. kind_of b) models.items))) }
 {
     let mut chosen = Vec::new(alloc);
     'models: for model in models {
@@ -109,9 +111,13 @@ pub fn replay_trace<O: Sink>(
     out: &mut O,
 ) -> Result<(), RunFault>
     requires new { All (λ b. is_new b) models.items }
-    ensures ok { (reached : Graph → ℕ → Bool) → Decides reached → OnOk result (O.taken out.new ≡ with_more (O.taken out.old) (replay_text reached (timeline_items trace.now) (policies_of asked.now (map (λ b. kind_of b) models.items)))) }
+    ensures ok { (reached : Graph → ℕ → Bool) → Decides reached →
+        OnOk result (O.taken out.new ≡ with_more (O.taken out.old) (replay_text reached
+        (timeline_items trace.now) (policies_of asked.now (map (λ b. kind_of b) models.items)))) }
     ensures write { IsErrOf result RunFault.Write → Rose (O.faults out.old) (O.faults out.new) }
-    ensures err { (reached : Graph → ℕ → Bool) → Decides reached → OnErr result (TakesFront (O.taken out.old) (O.taken out.new) (replay_text reached (timeline_items trace.now) (policies_of asked.now (map (λ b. kind_of b) models.items)))) }
+    ensures err { (reached : Graph → ℕ → Bool) → Decides reached →
+        OnErr result (TakesFront (O.taken out.old) (O.taken out.new) (replay_text reached
+        (timeline_items trace.now) (policies_of asked.now (map (λ b. kind_of b) models.items)))) }
     ensures never_falls { O.faults out.old ≤ O.faults out.new }
 {
     let items = match timeline(alloc, trace) {

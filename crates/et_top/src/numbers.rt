@@ -43,7 +43,8 @@ fn is_number(text: &[u8]) -> bool
 fn spelled(digits: &[u8], high: u64) -> Option<u64>
     requires digits { list_all is_digit digits.now ≡ true }
     requires high { high ≤ 2 ^ 60 }
-    ensures { result ≡ (if nat_le (spelled digits.now) high then Some (spelled digits.now) else None) }
+    ensures { result
+        ≡ (if nat_le (spelled digits.now) high then Some (spelled digits.now) else None) }
 {
     let mut number = 0;
     'digits: for digit in digits {
@@ -72,7 +73,8 @@ pub fn number(text: &[u8], low: u64, high: u64) -> Option<u64>
 
 /// The pieces of a text between commas.
 fn pieces(alloc: Global, text: &[u8]) -> Result<Vec<&[u8]>, AllocError>
-    ensures { IfOk result (λ pieces. map (λ piece. piece.now) pieces.items ≡ slice_split (λ byte. byte == 44) text.now) }
+    ensures { IfOk result (λ pieces.
+        map (λ piece. piece.now) pieces.items ≡ slice_split (λ byte. byte == 44) text.now) }
 {
     text.split(|byte| *byte == b',').collect(alloc)
 }
@@ -80,7 +82,8 @@ fn pieces(alloc: Global, text: &[u8]) -> Result<Vec<&[u8]>, AllocError>
 /// The numbers of at most 63 that the pieces spell.
 #[tactic(auto, using(crate::proofs::NumberLemmas::each_next))]
 fn each_number(alloc: Global, pieces: &[&[u8]]) -> Result<Option<WordList>, NoMemory>
-    ensures numbers { IfOk result (λ words. words ≡ each (map (λ piece. number 0 63 piece.now) pieces.now)) }
+    ensures numbers { IfOk result
+        (λ words. words ≡ each (map (λ piece. number 0 63 piece.now) pieces.now)) }
     ensures count { IfOk result (λ words. IfSome words (λ list. length list ≡ length pieces.now)) }
     ensures range { IfOk result (λ words. IfSome words (λ list. All (λ word. word < 64) list)) }
 {
@@ -98,7 +101,8 @@ fn each_number(alloc: Global, pieces: &[&[u8]]) -> Result<Option<WordList>, NoMe
 #[tactic(auto, using(crate::proofs::NumberLemmas::shown, crate::proofs::NumberLemmas::shown_length, crate::proofs::NumberLemmas::some_pieces))]
 pub fn numbers(alloc: Global, text: &[u8]) -> Result<Option<WordList>, NoMemory>
     ensures numbers { IfOk result (λ words. words ≡ numbers text.now) }
-    ensures range { IfOk result (λ words. IfSome words (λ list. (1 ≤ length list) × (length list ≤ 1024) × All (λ word. word < 64) list)) }
+    ensures range { IfOk result (λ words. IfSome words
+        (λ list. (1 ≤ length list) × (length list ≤ 1024) × All (λ word. word < 64) list)) }
 {
     let pieces = pieces(alloc, text)?;
     if pieces.len() > MOST_WORDS {

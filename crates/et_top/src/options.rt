@@ -27,7 +27,8 @@ fn has(names: &[&[u8]], name: &[u8]) -> bool
 
 /// Whether the name is one of these.
 fn is_among(name: &[u8], names: &[&[u8]]) -> bool
-    ensures { result ≡ list_any (λ other. bytes_eq other name.now) (map (λ other. other.now) names.now) }
+    ensures { result
+        ≡ list_any (λ other. bytes_eq other name.now) (map (λ other. other.now) names.now) }
 {
     has(names, name)
 }
@@ -49,7 +50,8 @@ pub fn are_options(names: &[&[u8]], options: &[Given<'_>]) -> bool
 /// A number in a range, or the default where the option isn't there.
 pub fn number_or(default: u64, low: u64, high: u64, value: Option<&[u8]>) -> Option<u64>
     requires { high ≤ 2 ^ 60 }
-    ensures number { result ≡ number_or default low high (option_map (λ text. text.now) value.entry) }
+    ensures number { result
+        ≡ number_or default low high (option_map (λ text. text.now) value.entry) }
     ensures range { low ≤ default → default ≤ high → IfSome result (λ n. (low ≤ n) × (n ≤ high)) }
 {
     match value {

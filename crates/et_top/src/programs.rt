@@ -36,7 +36,8 @@ fn program<'a>(alloc: Global, classes: Vec<ClassFile>) -> Result<NamedProgram, R
     requires some { 0 < length classes.items }
     requires parts { All HasItsParts classes.items }
     requires of_files { All HasItsFile classes.items }
-    ensures tells { (program : Result Linked Fault) → IsLinked (Ok (map class_of classes.items)) program → Tells ⊥ (λ p. p) program result }
+    ensures tells { (program : Result Linked Fault) →
+        IsLinked (Ok (map class_of classes.items)) program → Tells ⊥ (λ p. p) program result }
     ensures runnable { IfOk result (λ p. IsRunnable p) }
     ensures start { IfOk result (λ p. IsSoundFor p (start p)) }
     ensures bytes { IfErr result (λ refusal. IsOfBytes (cause_of refusal)) }
@@ -60,10 +61,13 @@ pub fn load_program<'a, F: Files>(
     files: &mut F,
 ) -> Result<NamedProgram, Refusal<'a>>
     requires some { 0 < length paths.now }
-    ensures tells { (held : Held) → F.holds files.old ≡ Some held → (program : Result Linked Fault) → IsProgramOf (map held (map string_bytes paths.now)) program → Tells (Rose (F.faults files.old) (F.faults files.new)) (λ p. p) program result }
+    ensures tells { (held : Held) → F.holds files.old ≡ Some held →
+        (program : Result Linked Fault) → IsProgramOf (map held (map string_bytes paths.now))
+        program → Tells (Rose (F.faults files.old) (F.faults files.new)) (λ p. p) program result }
     ensures runnable { IfOk result (λ p. IsRunnable p) }
     ensures start { IfOk result (λ p. IsSoundFor p (start p)) }
-    ensures fault { IfErr result (λ refusal. IsReading (cause_of refusal) → Rose (F.faults files.old) (F.faults files.new)) }
+    ensures fault { IfErr result
+        (λ refusal. IsReading (cause_of refusal) → Rose (F.faults files.old) (F.faults files.new)) }
     ensures file { IfErr result (λ refusal. IsFileRefusal (cause_of refusal)) }
     ensures never_falls { F.faults files.old ≤ F.faults files.new }
 {
@@ -75,7 +79,8 @@ pub fn load_program<'a, F: Files>(
 
 /// The method of this number. Where the program has none, its `main`.
 fn method_or_main(program: &Program, method: MethodId) -> &MethodInfo
-    ensures value { method < length program.now.methods → result.now ≡ method_at program.now method }
+    ensures value { method < length program.now.methods →
+        result.now ≡ method_at program.now method }
     ensures class { result.now.class < length program.now.classes }
 {
     if method.number() < program.method_count() {
@@ -117,8 +122,11 @@ pub fn run<O: Sink, E: Sink, L: Ledger>(
     requires options { AreOptions options.now }
     requires runnable { IsRunnable program.now }
     requires start { IsSoundFor program.now (start program.now) }
-    ensures gives { (reached : Graph → ℕ → Bool) → Decides reached → Gives reached (O.taken out.old) (O.taken out.new) visits.old visits.new ⊥ (Rose (O.faults out.old) (O.faults out.new)) (Traces program.now options.now) result }
-    ensures fault { (result ≡ Status.WriteFault → Rose (O.faults out.old) (O.faults out.new)) × (result ≡ Status.Usage → ⊥) × (result ≡ Status.ReadFault → ⊥) }
+    ensures gives { (reached : Graph → ℕ → Bool) →
+        Decides reached → Gives reached (O.taken out.old) (O.taken out.new) visits.old visits.new ⊥
+        (Rose (O.faults out.old) (O.faults out.new)) (Traces program.now options.now) result }
+    ensures fault { (result ≡ Status.WriteFault → Rose (O.faults out.old) (O.faults out.new))
+        × (result ≡ Status.Usage → ⊥) × (result ≡ Status.ReadFault → ⊥) }
     ensures never_falls { O.faults out.old ≤ O.faults out.new }
 {
     match run_program(alloc, program, options, out, visits) {

@@ -116,7 +116,8 @@ fn first_part<'a>(words: &'a [String]) -> Step<'a>
 
 /// The options and the operands; none where the last option has no value.
 pub fn split_words<'a>(alloc: Global, words: &'a [String]) -> Result<Option<Split<'a>>, NoMemory>
-    ensures { IfOk result (λ parts. option_map split_of parts ≡ split (map string_bytes words.now)) }
+    ensures { IfOk result
+        (λ parts. option_map split_of parts ≡ split (map string_bytes words.now)) }
 {
     let mut options = Vec::new(alloc);
     let mut rest = words;

@@ -30,10 +30,14 @@ fn perform<F: Files, O: Sink, E: Sink, L: Ledger>(
 ) -> Status
     requires new { All (λ b. is_new b) models.items }
     requires range { AreInRange command.now }
-    ensures gives { (held : Held) → F.holds files.old ≡ Some held → (d : Defined) → IsAskedDefined (map (λ b. kind_of b) models.items) (Some (asked_by command.now)) held d → (reached : Graph → ℕ → Bool) → Decides reached →
-        Gives reached (O.taken out.old) (O.taken out.new) visits.old visits.new (Rose (F.faults files.old) (F.faults files.new)) (Rose (O.faults out.old) (O.faults out.new)) d result }
+    ensures gives { (held : Held) → F.holds files.old ≡ Some held → (d : Defined) →
+        IsAskedDefined (map (λ b. kind_of b) models.items) (Some (asked_by command.now)) held d →
+        (reached : Graph → ℕ → Bool) → Decides reached → Gives reached (O.taken out.old)
+        (O.taken out.new) visits.old visits.new (Rose (F.faults files.old) (F.faults files.new))
+        (Rose (O.faults out.old) (O.faults out.new)) d result }
     ensures usage { result ≡ Status.Usage → ⊥ }
-    ensures read_fault { result ≡ Status.ReadFault → Rose (F.faults files.old) (F.faults files.new) }
+    ensures read_fault { result ≡ Status.ReadFault →
+        Rose (F.faults files.old) (F.faults files.new) }
     ensures write_fault { result ≡ Status.WriteFault → Rose (O.faults out.old) (O.faults out.new) }
 {
     match command {
@@ -72,11 +76,16 @@ pub fn elephant<F: Files, O: Sink, E: Sink, L: Ledger>(
     visits: &mut Steps<L>,
 ) -> Status
     requires new { All (λ b. is_new b) models.items }
-    ensures answers { (held : Held) → F.holds files.old ≡ Some held → (d : Defined) → IsDefined (map (λ b. kind_of b) models.items) (map string_bytes words.now) held d → (reached : Graph → ℕ → Bool) → Decides reached →
-        Gives reached (O.taken out.old) (O.taken out.new) visits.old visits.new (Rose (F.faults files.old) (F.faults files.new)) (Rose (O.faults out.old) (O.faults out.new)) d result }
+    ensures answers { (held : Held) → F.holds files.old ≡ Some held → (d : Defined) →
+        IsDefined (map (λ b. kind_of b) models.items) (map string_bytes words.now) held d →
+        (reached : Graph → ℕ → Bool) → Decides reached → Gives reached (O.taken out.old)
+        (O.taken out.new) visits.old visits.new (Rose (F.faults files.old) (F.faults files.new))
+        (Rose (O.faults out.old) (O.faults out.new)) d result }
     ensures usage { result ≡ Status.Usage → command (map string_bytes words.now) ≡ None }
-    ensures no_command { command (map string_bytes words.now) ≡ None → (result ≡ Status.Usage) ⊎ (result ≡ Status.NoMemory) }
-    ensures read_fault { result ≡ Status.ReadFault → Rose (F.faults files.old) (F.faults files.new) }
+    ensures no_command { command (map string_bytes words.now) ≡ None →
+        (result ≡ Status.Usage) ⊎ (result ≡ Status.NoMemory) }
+    ensures read_fault { result ≡ Status.ReadFault →
+        Rose (F.faults files.old) (F.faults files.new) }
     ensures write_fault { result ≡ Status.WriteFault → Rose (O.faults out.old) (O.faults out.new) }
 {
     let asked = match read_words(alloc, words) {

@@ -40,9 +40,13 @@ fn open_event<L: Ledger>(
     requires fresh { IsFresh machine.old.guest thread }
     requires method { method < length program.now.methods }
     requires argument { IsArgument machine.old.guest thread argument.now }
-    requires lock { locks_of lock.now ≡ lock_for_method (method_at program.now method) (receiver_in program.now method (entry_arguments argument.now)) }
+    requires lock { locks_of lock.now ≡ lock_for_method (method_at program.now method)
+        (receiver_in program.now method (entry_arguments argument.now)) }
     requires there { HasSome machine.old (locks_of lock.now) }
-    ensures ok { IfOk result (λ end. EventAnswers (ends (frame_entered (moment program.now machine.old thread) method code.now (entry_arguments argument.now) (entering (moment program.now machine.old thread) (begins (moment program.now machine.old thread))))) end machine.old machine.new out.old out.new) }
+    ensures ok { IfOk result (λ end.
+        EventAnswers (ends (frame_entered (moment program.now machine.old thread) method code.now
+        (entry_arguments argument.now) (entering (moment program.now machine.old thread) (begins
+        (moment program.now machine.old thread))))) end machine.old machine.new out.old out.new) }
     ensures visits { visits.new ≤ visits.old + 2 }
 {
     machine.begin_event();
@@ -69,7 +73,10 @@ fn code_event<L: Ledger>(
     requires fresh { IsFresh machine.old.guest thread }
     requires method { method < length program.now.methods }
     requires argument { IsArgument machine.old.guest thread argument.now }
-    ensures ok { IfOk result (λ end. EventAnswers (enters_code (moment program.now machine.old thread) (begins (moment program.now machine.old thread)) (entering (moment program.now machine.old thread)) method (entry_arguments argument.now) code.now) end machine.old machine.new out.old out.new) }
+    ensures ok { IfOk result (λ end. EventAnswers (enters_code
+        (moment program.now machine.old thread) (begins (moment program.now machine.old thread))
+        (entering (moment program.now machine.old thread)) method
+        (entry_arguments argument.now) code.now) end machine.old machine.new out.old out.new) }
     ensures visits { visits.new ≤ visits.old + 3 }
 {
     let lock = lock_for(
@@ -101,7 +108,9 @@ pub(crate) fn method_event<L: Ledger>(
     requires fresh { IsFresh machine.old.guest thread }
     requires method { method < length program.now.methods }
     requires argument { IsArgument machine.old.guest thread argument.now }
-    ensures ok { IfOk result (λ end. EventAnswers (enters_first (moment program.now machine.old thread) (begins (moment program.now machine.old thread)) (entry_arguments argument.now) method) end machine.old machine.new out.old out.new) }
+    ensures ok { IfOk result (λ end. EventAnswers (enters_first
+        (moment program.now machine.old thread) (begins (moment program.now machine.old thread))
+        (entry_arguments argument.now) method) end machine.old machine.new out.old out.new) }
     ensures visits { visits.new ≤ visits.old + 3 }
 {
     let info = program.method(method);

@@ -91,7 +91,8 @@ fn first_frame(
     argument: &Option<ObjectId>,
 ) -> Result<NewFrame, NoMemory>
     requires { method < length program.now.methods }
-    ensures frame { IfOk result (λ f. frame_of f ≡ method_frame program.now method code.now (entry_arguments argument.now)) }
+    ensures frame { IfOk result (λ f.
+        frame_of f ≡ method_frame program.now method code.now (entry_arguments argument.now)) }
     ensures arguments { IfOk result (λ f. length f.arguments.items ≤ f.max_locals) }
 {
     let arguments = arguments_of(alloc, argument)?;
@@ -122,7 +123,8 @@ fn push_first<L: Ledger>(
     requires arguments { length frame.arguments.items ≤ frame.max_locals }
     requires lock { HasSome machine.old (locks_of lock.now) }
     requires times { IsSomeFewTimes machine.old (locks_of lock.now) }
-    ensures ok { OnOk result (machine.new ≡ entering_some thread (locks_of lock.now) (first_pushed machine.old thread (frame_of frame))) }
+    ensures ok { OnOk result (machine.new ≡ entering_some thread
+        (locks_of lock.now) (first_pushed machine.old thread (frame_of frame))) }
     ensures visits { visits.new ≤ visits.old + 2 }
 {
     machine.set_entered(thread);
@@ -159,8 +161,11 @@ pub(crate) fn enter<L: Ledger>(
     requires lost { length machine.old.lost < lost_room }
     requires lock { HasSome machine.old (locks_of lock.now) }
     requires times { IsSomeFewTimes machine.old (locks_of lock.now) }
-    ensures machine { OnOk result (machine.new ≡ entering_some thread (locks_of lock.now) (first_pushed machine.old thread (method_frame program.now method code.now (entry_arguments argument.now)))) }
-    ensures told { OnOk result (out.new ≡ out.old ++ Enter machine.old.guest.clock thread method (unwrap_or (receiver_in program.now method (entry_arguments argument.now)) 0) ∷ []) }
+    ensures machine { OnOk result
+        (machine.new ≡ entering_some thread (locks_of lock.now) (first_pushed machine.old thread
+        (method_frame program.now method code.now (entry_arguments argument.now)))) }
+    ensures told { OnOk result (out.new ≡ out.old ++ Enter machine.old.guest.clock thread method
+        (unwrap_or (receiver_in program.now method (entry_arguments argument.now)) 0) ∷ []) }
     ensures visits { visits.new ≤ visits.old + 2 }
 {
     let receiver = receiver_of(program, method, argument);

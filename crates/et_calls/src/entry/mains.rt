@@ -43,7 +43,10 @@ fn ready_event<L: Ledger>(
     requires clock { machine.old.guest.clock < 2 ^ 40 }
     requires fresh { IsFresh machine.old.guest thread }
     requires method { method < length program.now.methods }
-    ensures ok { IfOk result (λ end. EventAnswers (enters_first (moment program.now machine.old thread) (begins (moment program.now machine.old thread)) (entry_arguments (thread_at machine.old.guest thread).entry) method) end machine.old machine.new out.old out.new) }
+    ensures ok { IfOk result (λ end. EventAnswers (enters_first
+        (moment program.now machine.old thread) (begins (moment program.now machine.old thread))
+        (entry_arguments (thread_at machine.old.guest thread).entry) method)
+        end machine.old machine.new out.old out.new) }
     ensures visits { visits.new ≤ visits.old + 3 }
 {
     let argument = machine.entry_slot(thread);
@@ -64,9 +67,12 @@ fn begin_quietly(
     requires class { class < length program.now.classes }
     requires sound { IsSoundFor program.now (kept_of machine.old) }
     requires clock { machine.old.guest.clock < 2 ^ 40 }
-    requires fits { fits (quietly_done (moment program.now machine.old thread) class (begins (moment program.now machine.old thread))).state.heap ≡ true }
-    ensures machine { OnOk result (machine.new ≡ base machine.old (quietly_done (moment program.now machine.old thread) class (begins (moment program.now machine.old thread)))) }
-    ensures records { OnOk result (out.new ≡ out.old ++ (quietly_done (moment program.now machine.old thread) class (begins (moment program.now machine.old thread))).records) }
+    requires fits { fits (quietly_done (moment program.now machine.old thread) class
+        (begins (moment program.now machine.old thread))).state.heap ≡ true }
+    ensures machine { OnOk result (machine.new ≡ base machine.old (quietly_done (moment
+        program.now machine.old thread) class (begins (moment program.now machine.old thread)))) }
+    ensures records { OnOk result (out.new ≡ out.old ++ (quietly_done (moment program.now
+        machine.old thread) class (begins (moment program.now machine.old thread))).records) }
 {
     machine.begin_event();
     set_quietly(program, machine, thread, class, out)
@@ -95,7 +101,11 @@ fn open_quiet_event<L: Ledger>(
     requires class { class < length program.now.classes }
     requires own { (method_at program.now method).class < length program.now.classes }
     requires lock { locks_of lock.now ≡ lock_for_method (method_at program.now method) None }
-    ensures ok { IfOk result (λ end. EventAnswers (ends (frame_entered (moment program.now machine.old thread) method code.now (entry_arguments (thread_at machine.old.guest thread).entry) (entering (moment program.now machine.old thread) (quietly_done (moment program.now machine.old thread) class (begins (moment program.now machine.old thread)))))) end machine.old machine.new out.old out.new) }
+    ensures ok { IfOk result (λ end.
+        EventAnswers (ends (frame_entered (moment program.now machine.old thread) method code.now
+        (entry_arguments (thread_at machine.old.guest thread).entry) (entering (moment program.now
+        machine.old thread) (quietly_done (moment program.now machine.old thread) class (begins
+        (moment program.now machine.old thread)))))) end machine.old machine.new out.old out.new) }
     ensures visits { visits.new ≤ visits.old + 2 }
 {
     if !quiet_fits(program, machine, alloc, class, 0, 0)? {
@@ -129,7 +139,11 @@ fn quiet_code_event<L: Ledger>(
     requires method { method < length program.now.methods }
     requires no_receiver { is_static program.now method ≡ true }
     requires class { class < length program.now.classes }
-    ensures ok { IfOk result (λ end. EventAnswers (enters_code (moment program.now machine.old thread) (quietly_done (moment program.now machine.old thread) class (begins (moment program.now machine.old thread))) (entering (moment program.now machine.old thread)) method (entry_arguments (thread_at machine.old.guest thread).entry) code.now) end machine.old machine.new out.old out.new) }
+    ensures ok { IfOk result (λ end. EventAnswers (enters_code (moment program.now
+        machine.old thread) (quietly_done (moment program.now machine.old thread) class (begins
+        (moment program.now machine.old thread))) (entering (moment program.now machine.old thread))
+        method (entry_arguments (thread_at machine.old.guest thread).entry) code.now)
+        end machine.old machine.new out.old out.new) }
     ensures visits { visits.new ≤ visits.old + 3 }
 {
     let lock = lock_for(program.method(method), None);
@@ -160,7 +174,11 @@ fn quiet_event<L: Ledger>(
     requires no_receiver { is_static program.now method ≡ true }
     requires code { IsSome (method_at program.now method).code }
     requires class { class < length program.now.classes }
-    ensures ok { IfOk result (λ end. EventAnswers (enters_first (moment program.now machine.old thread) (quietly_done (moment program.now machine.old thread) class (begins (moment program.now machine.old thread))) (entry_arguments (thread_at machine.old.guest thread).entry) method) end machine.old machine.new out.old out.new) }
+    ensures ok { IfOk result (λ end.
+        EventAnswers (enters_first (moment program.now machine.old thread) (quietly_done (moment
+        program.now machine.old thread) class (begins (moment program.now machine.old thread)))
+        (entry_arguments (thread_at machine.old.guest thread).entry) method)
+        end machine.old machine.new out.old out.new) }
     ensures visits { visits.new ≤ visits.old + 3 }
 {
     match &program.method(method).code {
@@ -186,7 +204,8 @@ pub(crate) fn main_event<L: Ledger>(
     requires sound { IsSoundFor program.now (kept_of machine.old) }
     requires clock { machine.old.guest.clock < 2 ^ 40 }
     requires fresh { IsFresh machine.old.guest thread }
-    ensures ok { IfOk result (λ end. EventAnswers (enters_main (moment program.now machine.old thread)) end machine.old machine.new out.old out.new) }
+    ensures ok { IfOk result (λ end. EventAnswers (enters_main
+        (moment program.now machine.old thread)) end machine.old machine.new out.old out.new) }
     ensures visits { visits.new ≤ visits.old + 3 }
 {
     let method = program.main();

@@ -51,7 +51,8 @@ fn run_plan<L: Ledger>(
 ) -> RunPlan
     requires sound { IsSoundFor program.now (kept_of machine.now) }
     requires fresh { IsFresh machine.now.guest thread }
-    ensures plan { enters_run (moment program.now machine.now thread) (thread_at machine.now.guest thread).object ≡ planned (moment program.now machine.now thread) result }
+    ensures plan { enters_run (moment program.now machine.now thread) (thread_at
+        machine.now.guest thread).object ≡ planned (moment program.now machine.now thread) result }
     ensures within { IsPlan (moment program.now machine.now thread) result }
     ensures visits { visits.new ≤ visits.old + 1 }
 {
@@ -87,7 +88,9 @@ pub(crate) fn run_event<L: Ledger>(
     requires sound { IsSoundFor program.now (kept_of machine.old) }
     requires clock { machine.old.guest.clock < 2 ^ 40 }
     requires fresh { IsFresh machine.old.guest thread }
-    ensures ok { IfOk result (λ end. EventAnswers (enters_run (moment program.now machine.old thread) (thread_at machine.old.guest thread).object) end machine.old machine.new out.old out.new) }
+    ensures ok { IfOk result
+        (λ end. EventAnswers (enters_run (moment program.now machine.old thread)
+        (thread_at machine.old.guest thread).object) end machine.old machine.new out.old out.new) }
     ensures visits { visits.new ≤ visits.old + 4 }
 {
     match run_plan(program, machine, thread, visits) {

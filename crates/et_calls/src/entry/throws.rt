@@ -30,7 +30,9 @@ pub(crate) fn throw_first(
     requires fresh { IsFresh machine.old.guest thread }
     requires sound { IsSound (kept_of machine.old) }
     requires clock { machine.old.guest.clock < 2 ^ 40 }
-    ensures { IfOk result (λ end. EventAnswers (throws (moment program.now machine.old thread) error (begins (moment program.now machine.old thread))) end machine.old machine.new out.old out.new) }
+    ensures { IfOk result
+        (λ end. EventAnswers (throws (moment program.now machine.old thread) error (begins
+        (moment program.now machine.old thread))) end machine.old machine.new out.old out.new) }
 {
     let class = class_called(program, error.class_name());
     let Some(object) = make_instance(machine, program, thread, class, out)? else {
@@ -44,7 +46,9 @@ pub(crate) fn throw_first(
 
 /// The error of a method without code: it is native (JVMS 2.11.8), or abstract (JVMS 5.4.6).
 pub(crate) fn codeless_error(info: &MethodInfo) -> GuestError
-    ensures { (e : Moment) (d : Doing) → throws_unless e d errors.UnsatisfiedLinkError (not (has_flag info.now.flags NATIVE_FLAG)) (throws e errors.AbstractMethodError d) ≡ throws e result d }
+    ensures { (e : Moment) (d : Doing) →
+        throws_unless e d errors.UnsatisfiedLinkError (not (has_flag info.now.flags NATIVE_FLAG))
+        (throws e errors.AbstractMethodError d) ≡ throws e result d }
 {
     if has(info.flags, NATIVE) {
         GuestError::UnsatisfiedLinkError
