@@ -1,5 +1,6 @@
-//! What every crate of the workspace speaks of: the numbers of things, values, the lines of a trace, names, and
-//! the counter of visits.
+//! What every crate of the workspace speaks of: the numbers of things, values, the lines of a trace, names, and the counter of
+//! visits; big-endian numbers at a place of a list of bytes, and rules that are marked at the items that they speak of; vectors
+//! that grow within the room that was reserved for them.
 #![tactic(auto)]
 
 mod ids;
@@ -12,6 +13,7 @@ mod name;
 pub mod numbers;
 mod steps;
 mod value;
+pub mod within;
 mod words;
 
 pub use ids::{ClassId, FieldId, MethodId, ObjectId, ThreadId};

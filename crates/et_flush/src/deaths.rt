@@ -5,8 +5,7 @@ ghost use Rattle.et_heap.specs.Objects.{IsHeld};
 ghost use Rattle.et_flush.specs.Searches.{AreBelow};
 
 use crate::times::NOW;
-use crate::within;
-use et_base::ObjectId;
+use et_base::{ObjectId, within};
 use et_graph::Death;
 use et_heap::Heap;
 

@@ -9,7 +9,6 @@ mod room;
 mod search;
 mod sweep;
 mod times;
-mod within;
 mod work;
 
 pub use machine::flush_machine;

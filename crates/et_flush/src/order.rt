@@ -7,8 +7,7 @@ ghost use Rattle.et_flush.specs.Searches.{ArePairsHeld, AreSeenHeld, AreSources,
 
 use crate::search::spread;
 use crate::times::NOW;
-use crate::within;
-use et_base::{ObjectId, Steps};
+use et_base::{ObjectId, Steps, within};
 use et_heap::Heap;
 use std::sync::ledger::Ledger;
 

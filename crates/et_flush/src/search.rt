@@ -5,8 +5,7 @@ ghost use Rattle.et_heap.specs.Objects.{IsHeld};
 ghost use Rattle.et_heap.specs.Refs.{pairs_of};
 ghost use Rattle.et_flush.specs.Searches.{ArePairsHeld, AreHeld, AreSeenHeld};
 
-use crate::within;
-use et_base::{ObjectId, Steps};
+use et_base::{ObjectId, Steps, within};
 use et_heap::Heap;
 use std::sync::ledger::Ledger;
 

@@ -5,8 +5,7 @@ ghost use Rattle.et_heap.specs.Objects.{IsHeld};
 ghost use Rattle.et_flush.specs.Searches.{AreTimes};
 
 use crate::search::place_of;
-use crate::within;
-use et_base::ObjectId;
+use et_base::{ObjectId, within};
 use et_heap::Heap;
 
 /// Greater than the number of any event: the time of what is reached now.

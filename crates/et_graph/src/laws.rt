@@ -2,6 +2,7 @@
 
 ghost use Rattle.std.specs.Prelude.{◌≡◌, ◌↔◌, ℕ, Bool, List, [], map, Contains};
 ghost use Rattle.et_graph.specs.Graph.{Graph, IsMade, IsReached, Decides, AreDead, IsSoundGraph};
+ghost use Rattle.et_graph.specs.Listed.{AreListed};
 ghost use Rattle.et_graph.specs.Steps.{Step, IsDraft, IsLegalStep};
 ghost use Rattle.et_graph.specs.Drafts.{IsMove, IsMaking};
 ghost use Rattle.et_graph.specs.History.{Turn, graph_after, IsHistory, StampsTell, stamp, IsGreatestMark, WasReported, AreDeaths, AreStamped};
@@ -73,4 +74,16 @@ pub fn drafts_make()
 pub fn drafts_end()
     ensures { (g : Graph) (s : Step) → IsDraft g s →
         ((o : ℕ) → Contains s.fresh o → IsReached s.after o) → IsLegalStep g s }
+{}
+
+/// There is at most one list of what a flush reports by these stamps.
+pub fn lists_are_one()
+    ensures { (g : Graph) (stamps : ℕ → ℕ) (a b : List (ℕ × ℕ)) →
+        AreListed g stamps a → AreListed g stamps b → a ≡ b }
+{}
+
+/// Over the graph of a history, with the stamps of that history, the list is the one that shows its deaths.
+pub fn lists_show_deaths()
+    ensures { (turns : List Turn) (deaths : List (ℕ × ℕ)) →
+        AreListed (graph_after turns) (stamp turns) deaths → AreStamped turns deaths }
 {}

@@ -1,16 +1,14 @@
-//! Graphs of objects, the steps by which they change, and the stamp law: one number per object tells when it was last
-//! reached.
+//! Graphs of objects, the steps by which they change, and the stamp law: one number per object, its stamp, tells when it was
+//! last reached. `StampBook` keeps a graph and its stamps; `Stamps` keeps the stamps alone, beside a graph that stands elsewhere.
 #![tactic(auto)]
 
 mod book;
 pub mod laws;
-pub mod list_laws;
 mod objects;
 mod pairs;
 mod places;
 mod search;
 mod stamps;
-mod within;
 
 pub use book::{GraphStep, StampBook};
 pub use objects::Death;

@@ -7,8 +7,8 @@ ghost use Rattle.et_graph.specs.Order.{HasRoom};
 ghost use Rattle.et_graph.specs.Listing.{listed, death_pairs};
 
 use crate::places::place_of;
-use crate::{search, within};
-use et_base::ObjectId;
+use crate::search;
+use et_base::{ObjectId, within};
 use std::alloc::{AllocError, Global};
 
 /// A death: an object, and the number of the last step after which it was reached.

@@ -5,8 +5,7 @@ ghost use Rattle.std.specs.Ordering.{nat_cmp, ordering_then};
 ghost use Rattle.std.specs.List.Sorted.{IsSorted, IsNonDecreasingBy};
 ghost use Rattle.et_graph.specs.Edit.{has_pair};
 
-use crate::within;
-use et_base::ObjectId;
+use et_base::{ObjectId, within};
 
 /// The pairs that a step takes away, in order.
 #[derive(Drop)]

@@ -7,8 +7,7 @@ ghost use Rattle.et_graph.specs.Order.{sources, IsOrder, HasRoom};
 
 use crate::pairs::pairs_of;
 use crate::places::place_of;
-use crate::within;
-use et_base::ObjectId;
+use et_base::{ObjectId, within};
 use std::alloc::AllocError;
 
 /// An object from which a search begins, and how far back its time is.
