@@ -138,10 +138,11 @@ fn write<L: Ledger>(
     ensures new { OnOk result (machine.new
         ≡ steps_object machine.old object (with_slot slot value (object_at machine.old.heap object))
         (refs_of_value (slot_of (object_at machine.old.heap object) slot))) }
-    ensures told { OnOk result
-        ((p : Linked) (b s : Kept) → s.guest.clock ≡ machine.old.guest.clock → out.new ≡ (updated
-        (record { program = p; before = b; thread = thread }) object slot (slot_of (object_at
-        machine.old.heap object) slot) value (record { state = s; records = out.old })).records) }
+    ensures told { OnOk result ((p : Linked) (b s : Kept) →
+        s.guest.clock ≡ machine.old.guest.clock →
+        out.new ≡ (updated (record { program = p; before = b; thread = thread }) object slot
+        (slot_of (object_at machine.old.heap object) slot) value
+        (record { state = s; records = out.old })).records) }
     ensures few { OnOk result (length machine.new.lost ≤ length machine.old.lost + 1) }
     ensures visits { visits.new ≡ visits.old + 1 }
 {
@@ -171,9 +172,9 @@ pub(crate) fn write_one<L: Ledger>(
     requires value { IsIn (top machine.old.guest call.now.thread) value }
     ensures ok { IfOk result (λ end. (p : Linked) (at : Site) → at.next ≡ call.now.next →
         EventAnswers (goes (slot_written (moment p machine.old call.now.thread) object 0 value
-        (answering (moment p machine.old call.now.thread) at (arguments_of (moment p machine.old
-        call.now.thread) call.now.count) [] (begins (moment p machine.old call.now.thread)))))
-        end machine.old machine.new out.old out.new) }
+        (answering (moment p machine.old call.now.thread) at
+        (arguments_of (moment p machine.old call.now.thread) call.now.count) [] (begins
+        (moment p machine.old call.now.thread))))) end machine.old machine.new out.old out.new) }
     ensures visits { visits.new ≤ visits.old + 2 }
 {
     pass(machine, call);
@@ -204,9 +205,9 @@ pub(crate) fn write_two<L: Ledger>(
     ensures ok { IfOk result (λ end. (p : Linked) (at : Site) → at.next ≡ call.now.next →
         EventAnswers (goes (slot_written (moment p machine.old call.now.thread) object
         1 second_value (slot_written (moment p machine.old call.now.thread) object 0 first_value
-        (answering (moment p machine.old call.now.thread) at (arguments_of (moment p machine.old
-        call.now.thread) call.now.count) [] (begins (moment p machine.old call.now.thread))))))
-        end machine.old machine.new out.old out.new) }
+        (answering (moment p machine.old call.now.thread) at
+        (arguments_of (moment p machine.old call.now.thread) call.now.count) [] (begins
+        (moment p machine.old call.now.thread)))))) end machine.old machine.new out.old out.new) }
     ensures visits { visits.new ≤ visits.old + 2 }
 {
     pass(machine, call);
@@ -247,9 +248,9 @@ pub(crate) fn write_referent<L: Ledger>(
     requires held { IsHeld machine.old.heap object }
     requires value { IsIn (top machine.old.guest call.now.thread) value }
     ensures ok { (p : Linked) (at : Site) (out : List Record) →
-        at.next ≡ call.now.next → EventAnswers
-        (goes (with_referent_of object (referent_of value) (answering (moment p machine.old
-        call.now.thread) at (arguments_of (moment p machine.old call.now.thread) call.now.count) []
+        at.next ≡ call.now.next → EventAnswers (goes (with_referent_of object
+        (referent_of value) (answering (moment p machine.old call.now.thread) at
+        (arguments_of (moment p machine.old call.now.thread) call.now.count) []
         (begins (moment p machine.old call.now.thread))))) result machine.old machine.new out out }
     ensures visits { visits.new ≡ visits.old + 1 }
 {
@@ -272,10 +273,10 @@ pub(crate) fn start(
     requires held { IsHeld machine.old.heap object }
     requires few { length machine.old.guest.threads < most_threads }
     requires fresh { thread_with machine.old.guest.threads object ≡ None }
-    ensures { IfOk result
-        (λ end. (p : Linked) (at : Site) (out : List Record) → at.next ≡ call.now.next →
-        EventAnswers (goes (with_thread_for object (answering (moment p machine.old call.now.thread)
-        at (arguments_of (moment p machine.old call.now.thread) call.now.count) []
+    ensures { IfOk result (λ end. (p : Linked) (at : Site) (out : List Record) →
+        at.next ≡ call.now.next → EventAnswers
+        (goes (with_thread_for object (answering (moment p machine.old call.now.thread) at
+        (arguments_of (moment p machine.old call.now.thread) call.now.count) []
         (begins (moment p machine.old call.now.thread))))) end machine.old machine.new out out) }
 {
     pass(machine, call);

@@ -47,8 +47,8 @@ pub fn built_in_method_event<L: Ledger>(
     requires slots { HasMachineSlots program.now }
     ensures ok { IfOk result (λ end. (at : Site) → at.next ≡ next → EventAnswers (built_in_event
         (moment program.now machine.old thread) at (begins (moment program.now machine.old thread))
-        (arguments_of (moment program.now machine.old thread) count) (method_at program.now method))
-        end machine.old machine.new out.old out.new) }
+        (arguments_of (moment program.now machine.old thread) count)
+        (method_at program.now method)) end machine.old machine.new out.old out.new) }
     ensures visits { visits.new ≤ visits.old + 3 }
 {
     operands_are_few(machine, thread);

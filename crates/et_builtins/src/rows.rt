@@ -246,10 +246,11 @@ fn fit_row_event<L: Ledger>(
     requires object { Contains (frame_roots (top machine.old.guest call.now.thread)) object }
     requires held { IsHeld machine.old.heap object }
     requires slots { slots_used built_in ≤ length (object_at machine.old.heap object).slots }
-    ensures ok { IfOk result (λ end. (at : Site) → at.next ≡ call.now.next → EventAnswers
-        (row_done (moment program.now machine.old call.now.thread) at (begins (moment program.now
-        machine.old call.now.thread)) (arguments_of (moment program.now machine.old call.now.thread)
-        call.now.count) object built_in) end machine.old machine.new out.old out.new) }
+    ensures ok { IfOk result (λ end. (at : Site) → at.next ≡ call.now.next →
+        EventAnswers (row_done (moment program.now machine.old call.now.thread) at
+        (begins (moment program.now machine.old call.now.thread))
+        (arguments_of (moment program.now machine.old call.now.thread) call.now.count)
+        object built_in) end machine.old machine.new out.old out.new) }
     ensures visits { visits.new ≤ visits.old + 2 }
 {
     let value = argument_at(machine, call.thread, call.count, 1);
@@ -291,10 +292,11 @@ pub(crate) fn row_event<L: Ledger>(
         + entries_answered built_in ≤ (top machine.old.guest call.now.thread).room }
     requires object { Contains (frame_roots (top machine.old.guest call.now.thread)) object }
     requires held { IsHeld machine.old.heap object }
-    ensures ok { IfOk result (λ end. (at : Site) → at.next ≡ call.now.next → EventAnswers
-        (row_of (moment program.now machine.old call.now.thread) at (begins (moment program.now
-        machine.old call.now.thread)) (arguments_of (moment program.now machine.old call.now.thread)
-        call.now.count) object built_in) end machine.old machine.new out.old out.new) }
+    ensures ok { IfOk result (λ end. (at : Site) → at.next ≡ call.now.next →
+        EventAnswers (row_of (moment program.now machine.old call.now.thread) at
+        (begins (moment program.now machine.old call.now.thread))
+        (arguments_of (moment program.now machine.old call.now.thread) call.now.count)
+        object built_in) end machine.old machine.new out.old out.new) }
     ensures visits { visits.new ≤ visits.old + 3 }
 {
     if is_fit(program, machine, object, built_in, visits) {

@@ -12,11 +12,11 @@ ghost use Rattle.et_calls.specs.Types.{returned_in};
 ghost use Rattle.et_builtins.specs.Arguments.{arguments_in};
 ghost use Rattle.et_calls.specs.Arguments.{are_of_types, are_passed, entries_in as entries_among, fitting, is_passing};
 
-use crate::types::{behind_type, kind_of, returned_type, returned_width};
+use crate::types::{kind_of, returned_type, returned_width};
 use et_base::{ThreadId, Value};
 use et_builtins::{argument_at, operands_are_few};
 use et_event::Operand;
-use et_pool::descriptor::method_shape;
+use et_pool::descriptor::{behind_type, method_shape};
 use et_state::Machine;
 
 /// How many entries the value of a kind takes that begins with this entry and the next; `None` where it is of another kind.

@@ -123,8 +123,9 @@ pub fn new_frame(
     count: u16,
 ) -> NewFrame
     requires { length arguments.items ≡ count }
-    ensures frame { (p : Linked) → info.now ≡ method_at p method → receiver.now ≡ receiver_in p
-        method arguments.items → frame_of result ≡ method_frame p method code.now arguments.items }
+    ensures frame { (p : Linked) →
+        info.now ≡ method_at p method → receiver.now ≡ receiver_in p method arguments.items →
+        frame_of result ≡ method_frame p method code.now arguments.items }
     ensures arguments { length result.arguments.items ≤ result.max_locals }
 {
     let lock = lock_slot(info, receiver);

@@ -245,8 +245,9 @@ fn dispatch_plan<L: Ledger>(
     requires method { method < length program.now.methods }
     requires room { HasRoom (moment program.now machine.now thread) method count }
     requires is_static { is_as (calls_static kind) (is_static program.now method) ≡ true }
-    ensures plan { (at : Site) → at.class ≡ current → dispatched (moment program.now machine.now
-        thread) at kind (arguments_of (moment program.now machine.now thread) count) named method
+    ensures plan { (at : Site) →
+        at.class ≡ current → dispatched (moment program.now machine.now thread) at kind
+        (arguments_of (moment program.now machine.now thread) count) named method
         ≡ planned (moment program.now machine.now thread) at result }
     ensures within { IsPlan (moment program.now machine.now thread) result }
     ensures visits { visits.new ≤ visits.old + 1 }
@@ -287,10 +288,11 @@ fn resolved_plan<L: Ledger>(
     requires named { named < length program.now.classes }
     requires method { method < length program.now.methods }
     requires room { HasRoom (moment program.now machine.now thread) method count }
-    ensures plan { (at : Site) → at.class ≡ current → throws_unless
-        (moment program.now machine.now thread) (begins (moment program.now machine.now thread))
-        errors.IncompatibleClassChangeError (is_as (calls_static kind)
-        (is_static program.now method)) (dispatched (moment program.now machine.now thread) at kind
+    ensures plan { (at : Site) →
+        at.class ≡ current → throws_unless (moment program.now machine.now thread)
+        (begins (moment program.now machine.now thread)) errors.IncompatibleClassChangeError
+        (is_as (calls_static kind) (is_static program.now method))
+        (dispatched (moment program.now machine.now thread) at kind
         (arguments_of (moment program.now machine.now thread) count) named method)
         ≡ planned (moment program.now machine.now thread) at result }
     ensures within { IsPlan (moment program.now machine.now thread) result }
@@ -311,10 +313,10 @@ fn resolve(
     member: &MemberAt<'_>,
     by_interface: bool,
 ) -> Result<(ClassId, MethodId), GuestError>
-    ensures value { (e : Moment) (go : ℕ → ℕ → Outcome Kept) → e.program ≡ program.now →
-        resolved e (begins e) (resolve_class e.program member.now.owner.now)
-        (λ owner. resolved e (begins e) (resolve_method e.program owner by_interface
-        member.now.name.now member.now.descriptor.now) (go owner)) ≡ resolving e result go }
+    ensures value { (e : Moment) (go : ℕ → ℕ → Outcome Kept) → e.program ≡ program.now → resolved e
+        (begins e) (resolve_class e.program member.now.owner.now) (λ owner. resolved e (begins e)
+        (resolve_method e.program owner by_interface member.now.name.now member.now.descriptor.now)
+        (go owner)) ≡ resolving e result go }
     ensures within { IfOk result
         (λ x. (x.0 < length program.now.classes) × (x.1 < length program.now.methods)) }
     ensures same { IfOk result

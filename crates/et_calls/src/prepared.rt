@@ -188,11 +188,11 @@ fn enter_code<L: Ledger>(
     requires info { info.now ≡ method_at program.now method }
     requires class { info.now.class < length program.now.classes }
     requires is_static { is_static program.now method ≡ true }
-    ensures ok { IfOk result (λ end. EventAnswers (enters_code (moment program.now
-        machine.old thread) (prepared (moment program.now machine.old thread) classes.now
-        (begins (moment program.now machine.old thread))) (taking (moment program.now machine.old
-        thread) count) method (arguments_of (moment program.now machine.old thread) count) code.now)
-        end machine.old machine.new out.old out.new) }
+    ensures ok { IfOk result (λ end. EventAnswers
+        (enters_code (moment program.now machine.old thread) (prepared (moment program.now
+        machine.old thread) classes.now (begins (moment program.now machine.old thread))) (taking
+        (moment program.now machine.old thread) count) method (arguments_of (moment program.now
+        machine.old thread) count) code.now) end machine.old machine.new out.old out.new) }
     ensures visits { visits.new ≤ visits.old + 3 }
 {
     let lock = lock_for(info, None);

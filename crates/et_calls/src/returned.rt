@@ -5,10 +5,11 @@ ghost use Rattle.et_event.specs.Kinds.{is_kind as kind_is, may_return as may};
 ghost use Rattle.et_calls.specs.Returned.{AreValuesIn, IsValueIn, value_in as value_among, value_of, values_of, returned_values as values};
 ghost use Rattle.et_calls.specs.Types.{returned_in};
 
-use crate::types::{is_void, kind_of, returned_type};
+use crate::types::{kind_of, returned_type};
 use et_base::{ThreadId, Value};
 use et_event::Operand;
 use et_parts::operand_at;
+use et_pool::descriptor::is_void_text;
 use et_state::Machine;
 
 /// Whether a type has operands of this kind.
@@ -28,7 +29,7 @@ fn may_return(kind: Option<Operand>, returned: &[u8]) -> bool
     ensures { result ≡ may kind returned.now }
 {
     match kind {
-        None => is_void(returned),
+        None => is_void_text(returned),
         Some(kind) => is_kind(kind, kind_of(returned)),
     }
 }

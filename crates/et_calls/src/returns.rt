@@ -83,10 +83,10 @@ fn go_on(
     requires started { thread < length machine.old.guest.threads }
     requires room { FitsBelow stage
         (entries_returned value) (thread_at machine.old.guest thread).frames }
-    ensures { machine.new ≡ steps_thread machine.old thread
-        (record (thread_at machine.old.guest thread) {
-          frames = frames_after_return program.now
-              stage (entries_returned value) (thread_at machine.old.guest thread).frames;
+    ensures { machine.new ≡ steps_thread machine.old thread (record
+        (thread_at machine.old.guest thread) {
+          frames = frames_after_return program.now stage
+              (entries_returned value) (thread_at machine.old.guest thread).frames;
         }) [] }
 {
     match stage {

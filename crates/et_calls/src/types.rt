@@ -1,76 +1,11 @@
 //! The types in a method descriptor (JVMS 4.3.3), one after another.
-ghost use Rattle.std.specs.Prelude.{◌≡◌, ◌<◌, ◌≤◌, length, option_map, IfSome};
-ghost use Rattle.et_pool.specs.Descriptors.{is_base, after_name, after_class, after_element, after_type, types_of, is_void as void};
+ghost use Rattle.std.specs.Prelude.{◌≡◌, ◌≤◌, length, option_map};
+ghost use Rattle.et_pool.specs.Descriptors.{types_of};
 ghost use Rattle.et_event.specs.Kinds.{kind_of as kind, returned_width as width};
 ghost use Rattle.et_calls.specs.Types.{returned_in, returned_after};
 
 use et_event::Operand;
-use et_pool::descriptor::is_field_descriptor;
-
-/// Whether a letter stands for a base type.
-fn is_base_type(a: u8) -> bool
-    ensures { result ≡ is_base a }
-{
-    matches!(a, b'B' | b'C' | b'D' | b'F' | b'I' | b'J' | b'S' | b'Z')
-}
-
-/// What stands behind the name of a class and its `;`.
-#[tactic(auto, unfolding(et_pool::specs::Descriptors::after_name), using(std::proofs::lemmas::List::take_rest, et_pool::proofs::Types::name_at, std::proofs::lemmas::List::drop_all))]
-fn behind_name(s: &[u8]) -> Option<&[u8]>
-    ensures value { option_map (λ r. r.now) result ≡ after_name s.now }
-    ensures shorter { IfSome result (λ r. length r.now < length s.now) }
-{
-    let mut i = 0;
-    'bytes: while i < s.len() {
-        if s[i] == b';' {
-            return Some(&s[i + 1..]);
-        }
-        i += 1;
-    }
-    None
-}
-
-fn behind_class(s: &[u8]) -> Option<&[u8]>
-    ensures value { option_map (λ r. r.now) result ≡ after_class s.now }
-    ensures shorter { IfSome result (λ r. length r.now < length s.now) }
-{
-    match s {
-        [] => None,
-        [a, rest @ ..] => { if *a == b';' { None } else { behind_name(rest) } }
-    }
-}
-
-fn behind_element(a: u8, rest: &[u8]) -> Option<&[u8]>
-    ensures value { option_map (λ r. r.now) result ≡ after_element a rest.now }
-    ensures shorter { IfSome result (λ r. length r.now ≤ length rest.now) }
-{
-    if a == b'L' {
-        behind_class(rest)
-    } else if is_base_type(a) {
-        Some(rest)
-    } else {
-        None
-    }
-}
-
-/// What stands behind the type at the front.
-#[tactic(auto, unfolding(et_pool::specs::Descriptors::after_dimensions), using(std::proofs::lemmas::List::take_rest, et_pool::proofs::Types::dimensions_at, std::proofs::lemmas::List::drop_all))]
-pub(crate) fn behind_type(s: &[u8]) -> Option<&[u8]>
-    ensures value { option_map (λ r. r.now) result ≡ after_type s.now }
-    ensures shorter { IfSome result (λ r. length r.now < length s.now) }
-{
-    let mut i = 0;
-    'dimensions: while i < s.len() {
-        if s[i] != b'[' {
-            return behind_element(s[i], &s[i + 1..]);
-        }
-        if i == 255 {
-            return None;
-        }
-        i += 1;
-    }
-    None
-}
+use et_pool::descriptor::{behind_type, is_field_descriptor, is_void_text};
 
 /// What stands behind the types up to their `)`; `None` where they are no types, or have no `)`.
 fn behind_parameters(s: &[u8]) -> Option<&[u8]>
@@ -85,16 +20,6 @@ fn behind_parameters(s: &[u8]) -> Option<&[u8]>
         rest = behind_type(rest)?;
     }
     None
-}
-
-/// Whether nothing is returned.
-pub(crate) fn is_void(returned: &[u8]) -> bool
-    ensures { result ≡ void returned.now }
-{
-    match returned {
-        [] => false,
-        [a, rest @ ..] => *a == b'V' && rest.is_empty(),
-    }
 }
 
 /// What a method of this descriptor returns, `V` or a type; nothing where the bytes are no descriptor.
@@ -116,7 +41,7 @@ fn returned_behind(s: &[u8]) -> &[u8]
     ensures { result.now ≡ returned_after s.now }
 {
     match behind_parameters(s) {
-        Some(returned) => if is_void(returned) || is_field_descriptor(returned) {
+        Some(returned) => if is_void_text(returned) || is_field_descriptor(returned) {
             returned
         } else {
             b""

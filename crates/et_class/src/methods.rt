@@ -186,8 +186,9 @@ fn check_body(
     requires tags_are { tags.now ≡ map tag_of_slot pool.now.slots }
     requires one { receiver ≤ 1 }
     requires room { place + 6 + length raw.code.items + 8 * length raw.table.items < 2 ^ 64 }
-    ensures { IfOk result (λ x. (x.0 ≡ first_from first (mark_of place CODE (fits_locals
-        receiver raw.max_locals shape) ∷ body_marks pool.now.slots place (body_of raw)))
+    ensures { IfOk result (λ x.
+        (x.0 ≡ first_from first (mark_of place CODE (fits_locals receiver raw.max_locals shape)
+        ∷ body_marks pool.now.slots place (body_of raw)))
         × (x.1 ≡ kept_body pool.now.slots (body_of raw))) }
 {
     let fits = arguments_fit(receiver, raw.max_locals, shape);

@@ -32,8 +32,9 @@ pub fn events_keep_monitors()
 pub fn monitors_exclude()
     ensures one { (reached : Graph → ℕ → Bool) (p : Linked) (options : Options)
         (pick : ℕ → ℕ) (e : ℕ) (lock : Lock) (t u : ℕ) → Decides reached → IsSoundRun p (start p) →
-        AreOptions options → ((k : ℕ) → k < e → GoesOn reached p options pick k) → 0 < times_held
-        reached p options pick t lock e → 0 < times_held reached p options pick u lock e → t ≡ u }
+        AreOptions options → ((k : ℕ) → k < e → GoesOn reached p options pick k) →
+        0 < times_held reached p options pick t lock e →
+        0 < times_held reached p options pick u lock e → t ≡ u }
     ensures owner { (reached : Graph → ℕ → Bool) (p : Linked) (options : Options)
         (pick : ℕ → ℕ) (e : ℕ) (lock : Lock) (t : ℕ) → Decides reached → IsSoundRun p (start p) →
         AreOptions options → ((k : ℕ) → k < e → GoesOn reached p options pick k) →

@@ -17,6 +17,7 @@ pub fn order_goes_on()
 /// The lists of superclasses and superinterfaces are determined by the direct ones, where no class is its own ancestor
 /// (JVMS 5.3.5).
 pub fn ancestries_are_one()
-    ensures { (table : List LinkEntry) (rows others : List Ancestry) → AreWithin (length table)
-        table → IsAcyclic table → IsAncestry table rows → IsAncestry table others → rows ≡ others }
+    ensures { (table : List LinkEntry) (rows others : List Ancestry) →
+        AreWithin (length table) table →
+        IsAcyclic table → IsAncestry table rows → IsAncestry table others → rows ≡ others }
 {}

@@ -166,8 +166,8 @@ fn set_constant(
         (constant_at pool.now.slots field.now.constant) (so_far machine.old out.old)).state.heap
         ≡ true }
     ensures { OnOk result (ComesTo (constant_set (moment program.now machine.old thread) field.now
-        (constant_at pool.now.slots field.now.constant) (so_far machine.old out.old))
-        machine.old machine.new out.new) }
+        (constant_at pool.now.slots field.now.constant)
+        (so_far machine.old out.old)) machine.old machine.new out.new) }
 {
     if let Some(n) = pool.integer(field.constant) {
         let kept = narrowed(field.descriptor.as_slice(), n);

@@ -76,8 +76,9 @@ fn count_field(
     requires field { field < length program.now.fields }
     requires within { All (λ f. f < length program.now.fields) seen.old.items }
     ensures within { OnOk result (All (λ f. f < length program.now.fields) seen.new.items) }
-    ensures counted { OnOk result ((before : Kept) (thread : ℕ) (d : Doing) → Counted
-        program.now machine.now seen.old.items d → Counted program.now machine.now seen.new.items
+    ensures counted { OnOk result ((before : Kept) (thread : ℕ) (d : Doing) →
+        Counted program.now machine.now seen.old.items d →
+        Counted program.now machine.now seen.new.items
         (field_set (record { program = program.now; before = before; thread = thread }) d field)) }
 {
     if let Some(text) = text_of(program, field) {
@@ -98,8 +99,9 @@ fn count_constants(
     requires class { class < length program.now.classes }
     requires within { All (λ f. f < length program.now.fields) seen.old.items }
     ensures within { OnOk result (All (λ f. f < length program.now.fields) seen.new.items) }
-    ensures counted { OnOk result ((before : Kept) (thread : ℕ) (d : Doing) → Counted program.now
-        machine.now seen.old.items d → Counted program.now machine.now seen.new.items (constants_set
+    ensures counted { OnOk result ((before : Kept) (thread : ℕ) (d : Doing) →
+        Counted program.now machine.now seen.old.items d →
+        Counted program.now machine.now seen.new.items (constants_set
         (record { program = program.now; before = before; thread = thread }) class d)) }
 {
     let constants = program.class(class).constants.as_slice();
@@ -142,8 +144,9 @@ fn count_classes(
     requires classes { length machine.now.guest.classes ≡ length program.now.classes }
     requires within { All (λ f. f < length program.now.fields) seen.old.items }
     ensures within { OnOk result (All (λ f. f < length program.now.fields) seen.new.items) }
-    ensures counted { OnOk result ((before : Kept) (thread : ℕ) (d : Doing) → CountedAll program.now
-        machine.now seen.old.items d → CountedAll program.now machine.now seen.new.items (fold
+    ensures counted { OnOk result ((before : Kept) (thread : ℕ) (d : Doing) →
+        CountedAll program.now machine.now seen.old.items d →
+        CountedAll program.now machine.now seen.new.items (fold
         (λ x k. class_done (record { program = program.now; before = before; thread = thread }) k
         (state_of x k) x) d classes.now)) }
 {
@@ -224,8 +227,9 @@ fn count_quiet(
     requires within { All (λ f. f < length program.now.fields) seen.old.items }
     ensures within { OnOk result (All (λ f. f < length program.now.fields) seen.new.items) }
     ensures counted { OnOk result (class_state_at machine.now.guest class ≡ states.Untouched →
-        (before : Kept) (thread : ℕ) (d : Doing) → CountedAll program.now machine.now
-        seen.old.items d → CountedAll program.now machine.now seen.new.items (quietly_done
+        (before : Kept) (thread : ℕ) (d : Doing) →
+        CountedAll program.now machine.now seen.old.items d →
+        CountedAll program.now machine.now seen.new.items (quietly_done
         (record { program = program.now; before = before; thread = thread }) class d)) }
     ensures other { OnOk result ((class_state_at machine.now.guest class ≡ states.Untouched → ⊥) →
         seen.new.items ≡ seen.old.items) }
@@ -296,10 +300,11 @@ pub(crate) fn prepared_class_fits(
     requires all { All (λ c. c < length program.now.classes) classes.now }
     requires class { class < length program.now.classes }
     requires classes { length machine.now.guest.classes ≡ length program.now.classes }
-    ensures { IfOk result (λ fits. (thread : ℕ) → list_all (is_ready (moment program.now
-        machine.now thread) (begins (moment program.now machine.now thread))) classes.now ≡ true →
-        (state : State) → fits ≡ all_fit (constants_set (moment program.now machine.now thread)
-        class (with_state class state (prepared (moment program.now machine.now thread) classes.now
+    ensures { IfOk result (λ fits. (thread : ℕ) →
+        list_all (is_ready (moment program.now machine.now thread)
+        (begins (moment program.now machine.now thread))) classes.now ≡ true → (state : State) →
+        fits ≡ all_fit (constants_set (moment program.now machine.now thread) class
+        (with_state class state (prepared (moment program.now machine.now thread) classes.now
         (begins (moment program.now machine.now thread))))).state.heap) }
 {
     let mut seen = Vec::new(alloc);

@@ -54,9 +54,9 @@ fn set_done(
     requires lost { length machine.old.lost < lost_room }
     requires fits { fits (class_done (moment program.now machine.old thread) class (state_of
         (so_far machine.old out.old) class) (so_far machine.old out.old)).state.heap ≡ true }
-    ensures { OnOk result (ComesTo (class_done (moment program.now machine.old thread) class
-        (state_of (so_far machine.old out.old) class) (so_far machine.old out.old))
-        machine.old machine.new out.new) }
+    ensures { OnOk result (ComesTo (class_done
+        (moment program.now machine.old thread) class (state_of (so_far machine.old out.old) class)
+        (so_far machine.old out.old)) machine.old machine.new out.new) }
 {
     match machine.class_state(class) {
         ClassState::Untouched => {

@@ -44,9 +44,9 @@ fn prepare_class(
     requires fits { fits (quietly_if_untouched (moment program.now machine.old thread) class
         (state_of (so_far machine.old out.old) class) (so_far machine.old out.old)).state.heap
         ≡ true }
-    ensures { OnOk result (ComesTo (quietly_if_untouched (moment program.now machine.old thread)
-        class (state_of (so_far machine.old out.old) class) (so_far machine.old out.old))
-        machine.old machine.new out.new) }
+    ensures { OnOk result (ComesTo (quietly_if_untouched
+        (moment program.now machine.old thread) class (state_of (so_far machine.old out.old) class)
+        (so_far machine.old out.old)) machine.old machine.new out.new) }
 {
     match machine.class_state(class) {
         ClassState::Untouched => set_quietly(program, machine, thread, class, out),

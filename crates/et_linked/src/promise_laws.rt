@@ -31,8 +31,9 @@ pub fn class_files_keep_code_rules()
 /// The arguments of each method with code are within its local variables, a static one without code is native, no instruction
 /// calls a `<clinit>`, and `main` is a static method with code that takes the argument array (JVMS 2.9, 4.6, 4.7.3).
 pub fn programs_have_methods()
-    ensures { (files : List LoadedClass) (p : Linked) → 0 < length files → All KeepsMethodRules
-        files → All KeepsCodeRules files → IsLinkable files → IsProgramOf files p → HasMethods p }
+    ensures { (files : List LoadedClass) (p : Linked) →
+        0 < length files → All KeepsMethodRules files →
+        All KeepsCodeRules files → IsLinkable files → IsProgramOf files p → HasMethods p }
 {}
 
 /// The message and the cause of a Throwable stand in slots that are no field's, and the target of a Thread in that of its

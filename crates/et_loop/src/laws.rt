@@ -15,9 +15,10 @@ pub fn reached()
 
 /// A step that is legal over what is kept is one over the whole graph.
 pub fn step()
-    ensures { (g whole h : Graph) (fresh lost : List ℕ) → IsKept g whole → IsSoundGraph whole →
-        IsLegalStep g (record { after = h; fresh = fresh; lost = lost }) → (after : Graph) × IsKept
-        h after × IsLegalStep whole (record { after = after; fresh = fresh; lost = lost }) }
+    ensures { (g whole h : Graph) (fresh lost : List ℕ) → IsKept g whole →
+        IsSoundGraph whole → IsLegalStep g (record { after = h; fresh = fresh; lost = lost }) →
+        (after : Graph) × IsKept h after
+        × IsLegalStep whole (record { after = after; fresh = fresh; lost = lost }) }
 {}
 
 /// A flush of what is kept is one of the whole graph.

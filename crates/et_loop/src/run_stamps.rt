@@ -48,18 +48,18 @@ pub fn run_stamped<G: StampedGuest, O: Sink, L: Ledger>(
     requires sound { G.is_sound code.now (G.state machine.old) }
     requires first { IsStepTo nothing_made (G.graph_of (G.state machine.old)) [] }
     requires named { All (IsNamed (G.Code.names code.now)) made.now }
-    ensures trace { (reached : Graph → ℕ → Bool) →
-        Decides reached → IfOk result (λ ran. WritesTrace reached (setting_of (G.event_of code.now)
-        G.unended_of G.graph_of G.flushed_of (G.Code.names code.now) options.now)
+    ensures trace { (reached : Graph → ℕ → Bool) → Decides reached → IfOk result (λ ran.
+        WritesTrace reached (setting_of (G.event_of code.now) G.unended_of G.graph_of G.flushed_of
+        (G.Code.names code.now) options.now)
         (G.state machine.old) made.now ran (O.taken sink.old) (O.taken sink.new)) }
-    ensures front { (reached : Graph → ℕ → Bool) →
-        Decides reached → OnErr result (WritesFront reached (setting_of (G.event_of code.now)
-        G.unended_of G.graph_of G.flushed_of (G.Code.names code.now) options.now)
+    ensures front { (reached : Graph → ℕ → Bool) → Decides reached → OnErr result
+        (WritesFront reached (setting_of (G.event_of code.now) G.unended_of G.graph_of G.flushed_of
+        (G.Code.names code.now) options.now)
         (G.state machine.old) made.now (O.taken sink.old) (O.taken sink.new)) }
-    ensures visits { (reached : Graph → ℕ → Bool) → Decides reached → IfOk result
-        (λ ran. visits.new ≤ visits.old + allowed_visits reached (setting_of (G.event_of code.now)
-        G.unended_of G.graph_of G.flushed_of (G.Code.names code.now) options.now) G.flush_visits_of
-        (G.state machine.old) made.now ran.event) }
+    ensures visits { (reached : Graph → ℕ → Bool) →
+        Decides reached → IfOk result (λ ran. visits.new ≤ visits.old + allowed_visits reached
+        (setting_of (G.event_of code.now) G.unended_of G.graph_of G.flushed_of (G.Code.names
+        code.now) options.now) G.flush_visits_of (G.state machine.old) made.now ran.event) }
     ensures write { IsErrOf result RunFault.Write → Rose (O.faults sink.old) (O.faults sink.new) }
     ensures never_falls { O.faults sink.old ≤ O.faults sink.new }
 {

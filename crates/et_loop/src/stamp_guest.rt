@@ -126,8 +126,8 @@ pub trait StampedGuest {
         requires clock { clock_of (state self.old) < 2 ^ 40 }
         requires sound { is_sound code.now (state self.old) }
         requires thread { Contains (unended_of (state self.old)) thread }
-        ensures answers { IfOk result (λ end. Answers (event_of code.now (state self.old) thread)
-            end (state self.old) (state self.new) out.old out.new) }
+        ensures answers { IfOk result (λ end. Answers (event_of code.now
+            (state self.old) thread) end (state self.old) (state self.new) out.old out.new) }
         ensures step { IfOk result (λ end. StepsWhereDone end
             (graph_of (state self.old)) (graph_of (state self.new)) (lost_of self.new)) }
         ensures visits { IfOk result (λ end. visits.new ≤ visits.old

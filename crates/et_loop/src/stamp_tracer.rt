@@ -57,9 +57,10 @@ fn step<G: StampedGuest, L: Ledger>(
         IsMade (G.graph_of (G.state machine.old)) o }
     requires stamps { HasStamps (G.graph_of (G.state machine.old)) stamps.old }
     requires room { G.has_places room.old (G.graph_of (G.state machine.old)).made }
-    ensures goes { IfOk result (λ end. Goes (setting_of (G.event_of code.now) G.unended_of
-        G.graph_of G.flushed_of (G.Code.names code.now) options.now) e (G.state machine.old)
-        numbering.old (G.state machine.new) numbering.new buffer.old.items buffer.new.items end) }
+    ensures goes { IfOk result
+        (λ end. Goes (setting_of (G.event_of code.now) G.unended_of G.graph_of G.flushed_of
+        (G.Code.names code.now) options.now) e (G.state machine.old) numbering.old
+        (G.state machine.new) numbering.new buffer.old.items buffer.new.items end) }
     ensures visits { IfOk result (λ end. visits.new ≤ visits.old
         + 8 + ((G.graph_of (G.state machine.new)).made - (G.graph_of (G.state machine.old)).made)) }
     ensures stamped { IfOk result (λ end. Stamped end e (G.graph_of (G.state machine.old))

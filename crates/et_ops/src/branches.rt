@@ -83,9 +83,9 @@ fn go(machine: &mut Machine, thread: ThreadId, offset: i32, next: u32) -> bool
     requires sound { IsSound (kept_of machine.old) }
     requires clock { machine.old.guest.clock < 2 ^ 40 }
     requires pc { (top machine.old.guest thread).pc < 2 ^ 31 }
-    ensures { StepsFrame (option_map (jumped offset next (top machine.old.guest thread))
-        (tested when.Always (top machine.old.guest thread).operands))
-        result thread machine.old machine.new }
+    ensures { StepsFrame
+        (option_map (jumped offset next (top machine.old.guest thread)) (tested when.Always
+        (top machine.old.guest thread).operands)) result thread machine.old machine.new }
 {
     jump(machine, thread, 0, true, offset, next);
     true
@@ -148,9 +148,9 @@ fn branch_of_same(machine: &mut Machine, thread: ThreadId, offset: i32, next: u3
     requires sound { IsSound (kept_of machine.old) }
     requires clock { machine.old.guest.clock < 2 ^ 40 }
     requires pc { (top machine.old.guest thread).pc < 2 ^ 31 }
-    ensures { StepsFrame (option_map (jumped offset next (top machine.old.guest thread))
-        (tested when.SameReference (top machine.old.guest thread).operands))
-        result thread machine.old machine.new }
+    ensures { StepsFrame
+        (option_map (jumped offset next (top machine.old.guest thread)) (tested when.SameReference
+        (top machine.old.guest thread).operands)) result thread machine.old machine.new }
 {
     let Some(b) = reference_at(machine, thread, 0) else {
         return false;
@@ -169,9 +169,9 @@ fn branch_of_other(machine: &mut Machine, thread: ThreadId, offset: i32, next: u
     requires sound { IsSound (kept_of machine.old) }
     requires clock { machine.old.guest.clock < 2 ^ 40 }
     requires pc { (top machine.old.guest thread).pc < 2 ^ 31 }
-    ensures { StepsFrame (option_map (jumped offset next (top machine.old.guest thread))
-        (tested when.OtherReference (top machine.old.guest thread).operands))
-        result thread machine.old machine.new }
+    ensures { StepsFrame
+        (option_map (jumped offset next (top machine.old.guest thread)) (tested when.OtherReference
+        (top machine.old.guest thread).operands)) result thread machine.old machine.new }
 {
     let Some(b) = reference_at(machine, thread, 0) else {
         return false;
@@ -207,9 +207,9 @@ fn branch_of_object(machine: &mut Machine, thread: ThreadId, offset: i32, next: 
     requires sound { IsSound (kept_of machine.old) }
     requires clock { machine.old.guest.clock < 2 ^ 40 }
     requires pc { (top machine.old.guest thread).pc < 2 ^ 31 }
-    ensures { StepsFrame (option_map (jumped offset next (top machine.old.guest thread))
-        (tested when.NotNull (top machine.old.guest thread).operands))
-        result thread machine.old machine.new }
+    ensures { StepsFrame
+        (option_map (jumped offset next (top machine.old.guest thread)) (tested when.NotNull
+        (top machine.old.guest thread).operands)) result thread machine.old machine.new }
 {
     let Some(a) = reference_at(machine, thread, 0) else {
         return false;

@@ -76,8 +76,9 @@ fn long_event(machine: &mut Machine, thread: ThreadId, n: i64, next: u32) -> Eve
     requires frame { HasFrame machine.old.guest thread }
     requires sound { IsSound (kept_of machine.old) }
     requires clock { machine.old.guest.clock < 2 ^ 40 }
-    ensures { (p : Linked) (out : List Record) → EventAnswers (on_frame (moment p
-        machine.old thread) (put next (LongHigh ∷ Long n ∷ (top machine.old.guest thread).operands)
+    ensures { (p : Linked) (out : List Record) →
+        EventAnswers (on_frame (moment p machine.old thread)
+        (put next (LongHigh ∷ Long n ∷ (top machine.old.guest thread).operands)
         (top machine.old.guest thread))) result machine.old machine.new out out }
 {
     if push_long(machine, thread, n, next) {

@@ -106,8 +106,8 @@ fn divide(
     requires frame { HasFrame machine.old.guest thread }
     requires sound { IsSound (kept_of machine.old) }
     requires clock { machine.old.guest.clock < 2 ^ 40 }
-    ensures { DividesFrame next (quotients number division (top machine.old.guest thread).operands)
-        result thread machine.old machine.new }
+    ensures { DividesFrame next (quotients number division
+        (top machine.old.guest thread).operands) result thread machine.old machine.new }
 {
     match number {
         Number::Int => divide_ints(machine, thread, division, next),

@@ -38,8 +38,8 @@ fn load_int(machine: &mut Machine, thread: ThreadId, i: u32, next: u32) -> bool
     requires small { i + 1 < 2 ^ 32 }
     ensures { StepsFrame
         (put_some next (option_map (λ vs. vs ++ (top machine.old.guest thread).operands)
-        (loaded operand.Int i (top machine.old.guest thread))) (top machine.old.guest thread))
-        result thread machine.old machine.new }
+        (loaded operand.Int i (top machine.old.guest thread)))
+        (top machine.old.guest thread)) result thread machine.old machine.new }
 {
     match local_at(machine, thread, i) {
         Value::Int(n) => replace(machine, thread, 0, &[Value::Int(n)], next),
@@ -56,8 +56,8 @@ fn load_long(machine: &mut Machine, thread: ThreadId, i: u32, next: u32) -> bool
     requires small { i + 1 < 2 ^ 32 }
     ensures { StepsFrame
         (put_some next (option_map (λ vs. vs ++ (top machine.old.guest thread).operands)
-        (loaded operand.Long i (top machine.old.guest thread))) (top machine.old.guest thread))
-        result thread machine.old machine.new }
+        (loaded operand.Long i (top machine.old.guest thread)))
+        (top machine.old.guest thread)) result thread machine.old machine.new }
 {
     match (
         local_at(machine, thread, i),
@@ -79,8 +79,8 @@ fn load_reference(machine: &mut Machine, thread: ThreadId, i: u32, next: u32) ->
     requires small { i + 1 < 2 ^ 32 }
     ensures { StepsFrame
         (put_some next (option_map (λ vs. vs ++ (top machine.old.guest thread).operands)
-        (loaded operand.Reference i (top machine.old.guest thread))) (top machine.old.guest thread))
-        result thread machine.old machine.new }
+        (loaded operand.Reference i (top machine.old.guest thread)))
+        (top machine.old.guest thread)) result thread machine.old machine.new }
 {
     let value = local_at(machine, thread, i);
     match value {

@@ -105,15 +105,15 @@ pub fn plain_event(
     requires pc { (top machine.old.guest thread).pc < 2 ^ 31 }
     requires switch { row ≡ rows.Frame frame_rows.Switch → IsSwitch code.now instr.now }
     requires index { row ≡ rows.PoolConstant → natural_of instr.now.first < 2 ^ 16 }
-    ensures ok { IfOk result (λ end. (class : ℕ) → PlainAnswers
-        (does (moment program.now machine.old thread) (record {
+    ensures ok { IfOk result (λ end. (class : ℕ) →
+        PlainAnswers (does (moment program.now machine.old thread) (record {
           instr = instr.now;
           next = next;
           code = code.now;
           pool = slots_of (option_copied pool.entry);
           class = class;
-        }) row)
-        row end machine.old machine.new out.old out.new) }
+        })
+        row) row end machine.old machine.new out.old out.new) }
     ensures err { OnErr result (machine.new.guest ≡ machine.old.guest) }
 {
     match row {

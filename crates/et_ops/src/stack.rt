@@ -17,8 +17,8 @@ fn nop(machine: &mut Machine, thread: ThreadId, next: u32) -> bool
     requires frame { HasFrame machine.old.guest thread }
     requires sound { IsSound (kept_of machine.old) }
     requires clock { machine.old.guest.clock < 2 ^ 40 }
-    ensures { StepsFrame (rearranged next stack.Nop (top machine.old.guest thread))
-        result thread machine.old machine.new }
+    ensures { StepsFrame (rearranged next stack.Nop
+        (top machine.old.guest thread)) result thread machine.old machine.new }
 {
     replace(machine, thread, 0, &[], next)
 }
@@ -28,8 +28,8 @@ fn pop(machine: &mut Machine, thread: ThreadId, next: u32) -> bool
     requires frame { HasFrame machine.old.guest thread }
     requires sound { IsSound (kept_of machine.old) }
     requires clock { machine.old.guest.clock < 2 ^ 40 }
-    ensures { StepsFrame (rearranged next stack.Pop (top machine.old.guest thread))
-        result thread machine.old machine.new }
+    ensures { StepsFrame (rearranged next stack.Pop
+        (top machine.old.guest thread)) result thread machine.old machine.new }
 {
     if !is_one(machine, thread, 0) {
         return false;
@@ -42,8 +42,8 @@ fn pop2(machine: &mut Machine, thread: ThreadId, next: u32) -> bool
     requires frame { HasFrame machine.old.guest thread }
     requires sound { IsSound (kept_of machine.old) }
     requires clock { machine.old.guest.clock < 2 ^ 40 }
-    ensures { StepsFrame (rearranged next stack.Pop2 (top machine.old.guest thread))
-        result thread machine.old machine.new }
+    ensures { StepsFrame (rearranged next stack.Pop2
+        (top machine.old.guest thread)) result thread machine.old machine.new }
 {
     if !is_pair(machine, thread, 0) {
         return false;
@@ -56,8 +56,8 @@ fn dup(machine: &mut Machine, thread: ThreadId, next: u32) -> bool
     requires frame { HasFrame machine.old.guest thread }
     requires sound { IsSound (kept_of machine.old) }
     requires clock { machine.old.guest.clock < 2 ^ 40 }
-    ensures { StepsFrame (rearranged next stack.Dup (top machine.old.guest thread))
-        result thread machine.old machine.new }
+    ensures { StepsFrame (rearranged next stack.Dup
+        (top machine.old.guest thread)) result thread machine.old machine.new }
 {
     if !is_one(machine, thread, 0) {
         return false;
@@ -72,8 +72,8 @@ fn dup_x1(machine: &mut Machine, thread: ThreadId, next: u32) -> bool
     requires frame { HasFrame machine.old.guest thread }
     requires sound { IsSound (kept_of machine.old) }
     requires clock { machine.old.guest.clock < 2 ^ 40 }
-    ensures { StepsFrame (rearranged next stack.DupX1 (top machine.old.guest thread))
-        result thread machine.old machine.new }
+    ensures { StepsFrame (rearranged next stack.DupX1
+        (top machine.old.guest thread)) result thread machine.old machine.new }
 {
     if !is_one(machine, thread, 0) {
         return false;
@@ -92,8 +92,8 @@ fn dup_x2(machine: &mut Machine, thread: ThreadId, next: u32) -> bool
     requires frame { HasFrame machine.old.guest thread }
     requires sound { IsSound (kept_of machine.old) }
     requires clock { machine.old.guest.clock < 2 ^ 40 }
-    ensures { StepsFrame (rearranged next stack.DupX2 (top machine.old.guest thread))
-        result thread machine.old machine.new }
+    ensures { StepsFrame (rearranged next stack.DupX2
+        (top machine.old.guest thread)) result thread machine.old machine.new }
 {
     if !is_one(machine, thread, 0) {
         return false;
@@ -119,8 +119,8 @@ fn dup2(machine: &mut Machine, thread: ThreadId, next: u32) -> bool
     requires frame { HasFrame machine.old.guest thread }
     requires sound { IsSound (kept_of machine.old) }
     requires clock { machine.old.guest.clock < 2 ^ 40 }
-    ensures { StepsFrame (rearranged next stack.Dup2 (top machine.old.guest thread))
-        result thread machine.old machine.new }
+    ensures { StepsFrame (rearranged next stack.Dup2
+        (top machine.old.guest thread)) result thread machine.old machine.new }
 {
     if !is_pair(machine, thread, 0) {
         return false;
@@ -143,8 +143,8 @@ fn dup2_x1(machine: &mut Machine, thread: ThreadId, next: u32) -> bool
     requires frame { HasFrame machine.old.guest thread }
     requires sound { IsSound (kept_of machine.old) }
     requires clock { machine.old.guest.clock < 2 ^ 40 }
-    ensures { StepsFrame (rearranged next stack.Dup2X1 (top machine.old.guest thread))
-        result thread machine.old machine.new }
+    ensures { StepsFrame (rearranged next stack.Dup2X1
+        (top machine.old.guest thread)) result thread machine.old machine.new }
 {
     if !is_pair(machine, thread, 0) {
         return false;
@@ -171,8 +171,8 @@ fn dup2_x2(machine: &mut Machine, thread: ThreadId, next: u32) -> bool
     requires frame { HasFrame machine.old.guest thread }
     requires sound { IsSound (kept_of machine.old) }
     requires clock { machine.old.guest.clock < 2 ^ 40 }
-    ensures { StepsFrame (rearranged next stack.Dup2X2 (top machine.old.guest thread))
-        result thread machine.old machine.new }
+    ensures { StepsFrame (rearranged next stack.Dup2X2
+        (top machine.old.guest thread)) result thread machine.old machine.new }
 {
     if !is_pair(machine, thread, 0) {
         return false;
@@ -200,8 +200,8 @@ fn swap(machine: &mut Machine, thread: ThreadId, next: u32) -> bool
     requires frame { HasFrame machine.old.guest thread }
     requires sound { IsSound (kept_of machine.old) }
     requires clock { machine.old.guest.clock < 2 ^ 40 }
-    ensures { StepsFrame (rearranged next stack.Swap (top machine.old.guest thread))
-        result thread machine.old machine.new }
+    ensures { StepsFrame (rearranged next stack.Swap
+        (top machine.old.guest thread)) result thread machine.old machine.new }
 {
     if !is_one(machine, thread, 0) {
         return false;
@@ -224,8 +224,8 @@ pub(crate) fn rearrange(
     requires frame { HasFrame machine.old.guest thread }
     requires sound { IsSound (kept_of machine.old) }
     requires clock { machine.old.guest.clock < 2 ^ 40 }
-    ensures { StepsFrame (rearranged next rearrangement (top machine.old.guest thread))
-        result thread machine.old machine.new }
+    ensures { StepsFrame (rearranged next rearrangement
+        (top machine.old.guest thread)) result thread machine.old machine.new }
 {
     match rearrangement {
         Rearrangement::Nop => nop(machine, thread, next),

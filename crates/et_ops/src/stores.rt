@@ -84,8 +84,8 @@ fn store_int(machine: &mut Machine, thread: ThreadId, i: u32, next: u32) -> bool
     requires sound { IsSound (kept_of machine.old) }
     requires clock { machine.old.guest.clock < 2 ^ 40 }
     requires locals { length (top machine.old.guest thread).locals < 2 ^ 16 }
-    ensures { StepsFrame (stored next operand.Int i (top machine.old.guest thread))
-        result thread machine.old machine.new }
+    ensures { StepsFrame (stored next operand.Int i
+        (top machine.old.guest thread)) result thread machine.old machine.new }
 {
     if int_at(machine, thread, 0).is_none() || machine.locals(thread) <= i as usize {
         return false;
@@ -100,8 +100,8 @@ fn store_reference(machine: &mut Machine, thread: ThreadId, i: u32, next: u32) -
     requires sound { IsSound (kept_of machine.old) }
     requires clock { machine.old.guest.clock < 2 ^ 40 }
     requires locals { length (top machine.old.guest thread).locals < 2 ^ 16 }
-    ensures { StepsFrame (stored next operand.Reference i (top machine.old.guest thread))
-        result thread machine.old machine.new }
+    ensures { StepsFrame (stored next operand.Reference i
+        (top machine.old.guest thread)) result thread machine.old machine.new }
 {
     if reference_at(machine, thread, 0).is_none() || machine.locals(thread) <= i as usize {
         return false;
@@ -143,8 +143,8 @@ fn store_long(machine: &mut Machine, thread: ThreadId, i: u32, next: u32) -> boo
     requires clock { machine.old.guest.clock < 2 ^ 40 }
     requires locals { length (top machine.old.guest thread).locals < 2 ^ 16 }
     requires small { i + 1 < 2 ^ 32 }
-    ensures { StepsFrame (stored next operand.Long i (top machine.old.guest thread))
-        result thread machine.old machine.new }
+    ensures { StepsFrame (stored next operand.Long i
+        (top machine.old.guest thread)) result thread machine.old machine.new }
 {
     let Some(n) = long_at(machine, thread, 0) else {
         return false;

@@ -51,12 +51,16 @@ pub fn put(machine: &mut Machine, thread: ThreadId, taken: u32, values: &[Value]
     requires room { length values.now + length (drop taken (top machine.old.guest thread).operands)
         ≤ (top machine.old.guest thread).room }
     requires there { AreIn (top machine.old.guest thread) values.now }
-    ensures { Led (kept_of machine.old) (record {
-      heap = machine.old.heap;
-      guest = with_top (ticked machine.old.guest) thread (record (top machine.old.guest thread)
-          { pc = pc; operands = values.now ++ drop taken (top machine.old.guest thread).operands });
-    })
-        machine.new }
+    ensures { Led (kept_of machine.old)
+        (record {
+          heap = machine.old.heap;
+          guest = with_top (ticked machine.old.guest) thread
+              (record (top machine.old.guest thread) {
+                pc = pc;
+                operands = values.now
+                    ++ drop taken (top machine.old.guest thread).operands;
+              });
+        }) machine.new }
 {
     machine.begin_event();
     take(machine, thread, taken);

@@ -14,17 +14,11 @@ pub struct MethodShape {
     pub void: bool,
 }
 
+/// Whether a letter stands for a base type.
 fn is_base_type(a: u8) -> bool
     ensures { result ≡ is_base a }
 {
-    a == b'B'
-        || a == b'C'
-        || a == b'D'
-        || a == b'F'
-        || a == b'I'
-        || a == b'J'
-        || a == b'S'
-        || a == b'Z'
+    matches!(a, b'B' | b'C' | b'D' | b'F' | b'I' | b'J' | b'S' | b'Z')
 }
 
 #[tactic(auto, unfolding(crate::specs::Descriptors::after_name), using(std::proofs::lemmas::List::take_rest, crate::proofs::Types::name_at, std::proofs::lemmas::List::drop_all))]
@@ -65,8 +59,9 @@ fn behind_element(a: u8, rest: &[u8]) -> Option<&[u8]>
     }
 }
 
+/// What stands behind the type at the front (JVMS 4.3.2); `None` where no type stands there.
 #[tactic(auto, unfolding(crate::specs::Descriptors::after_dimensions), using(std::proofs::lemmas::List::take_rest, crate::proofs::Types::dimensions_at, std::proofs::lemmas::List::drop_all))]
-fn behind_type(s: &[u8]) -> Option<&[u8]>
+pub fn behind_type(s: &[u8]) -> Option<&[u8]>
     ensures value { option_map (λ r. r.now) result ≡ after_type s.now }
     ensures shorter { IfSome result (λ r. length r.now < length s.now) }
 {
@@ -93,7 +88,8 @@ pub fn is_field_descriptor(s: &[u8]) -> bool
     }
 }
 
-fn is_void_text(s: &[u8]) -> bool
+/// Whether the bytes are `V`, by which a method returns nothing (JVMS 4.3.3).
+pub fn is_void_text(s: &[u8]) -> bool
     ensures { result ≡ is_void s.now }
 {
     match s {

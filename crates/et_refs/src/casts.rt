@@ -70,8 +70,9 @@ fn cast_object<L: Ledger>(
 ) -> Result<Value, Refusal>
     requires sound { IsSoundFor program.now (kept_of machine.now) }
     requires held { IsHeld machine.now.heap object }
-    ensures is { (at : Site) (below : List Entry) → casting (moment program.now machine.now thread)
-        at name.now below (Some object) ≡ decided (moment program.now machine.now thread) result
+    ensures is { (at : Site) (below : List Entry) →
+        casting (moment program.now machine.now thread) at name.now below (Some object)
+        ≡ decided (moment program.now machine.now thread) result
         (left (moment program.now machine.now thread) at below) }
     ensures few { IfOk result (λ v. length (entries_of v) ≤ 1) }
     ensures held { IfOk result (λ v. AreHeld machine.now (refs_of_value v)) }
@@ -94,8 +95,9 @@ fn test_object<L: Ledger>(
 ) -> Result<Value, Refusal>
     requires sound { IsSoundFor program.now (kept_of machine.now) }
     requires held { IsHeld machine.now.heap object }
-    ensures is { (at : Site) (below : List Entry) → testing (moment program.now machine.now thread)
-        at name.now below (Some object) ≡ decided (moment program.now machine.now thread) result
+    ensures is { (at : Site) (below : List Entry) →
+        testing (moment program.now machine.now thread) at name.now below (Some object)
+        ≡ decided (moment program.now machine.now thread) result
         (left (moment program.now machine.now thread) at below) }
     ensures few { IfOk result (λ v. length (entries_of v) ≤ 1) }
     ensures held { IfOk result (λ v. AreHeld machine.now (refs_of_value v)) }
@@ -124,8 +126,9 @@ fn cast<L: Ledger>(
 ) -> Result<Value, Refusal>
     requires sound { IsSoundFor program.now (kept_of machine.now) }
     requires named { IsNamed machine.now (top machine.now.guest thread) reference }
-    ensures is { (at : Site) (below : List Entry) → casting (moment program.now machine.now thread)
-        at name.now below reference ≡ decided (moment program.now machine.now thread) result
+    ensures is { (at : Site) (below : List Entry) →
+        casting (moment program.now machine.now thread) at name.now below reference
+        ≡ decided (moment program.now machine.now thread) result
         (left (moment program.now machine.now thread) at below) }
     ensures few { IfOk result (λ v. length (entries_of v) ≤ 1) }
     ensures held { IfOk result (λ v. AreHeld machine.now (refs_of_value v)) }
@@ -148,8 +151,9 @@ fn test<L: Ledger>(
 ) -> Result<Value, Refusal>
     requires sound { IsSoundFor program.now (kept_of machine.now) }
     requires named { IsNamed machine.now (top machine.now.guest thread) reference }
-    ensures is { (at : Site) (below : List Entry) → testing (moment program.now machine.now thread)
-        at name.now below reference ≡ decided (moment program.now machine.now thread) result
+    ensures is { (at : Site) (below : List Entry) →
+        testing (moment program.now machine.now thread) at name.now below reference
+        ≡ decided (moment program.now machine.now thread) result
         (left (moment program.now machine.now thread) at below) }
     ensures few { IfOk result (λ v. length (entries_of v) ≤ 1) }
     ensures held { IfOk result (λ v. AreHeld machine.now (refs_of_value v)) }

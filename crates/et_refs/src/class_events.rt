@@ -53,9 +53,9 @@ fn ready_event(
     requires sound { IsSoundFor program.now (kept_of machine.old) }
     requires clock { machine.old.guest.clock < 2 ^ 40 }
     requires may { MayWant program.now (top machine.old.guest thread) wanted.now }
-    ensures { IfOk result (λ end. EventAnswers (accessed (moment program.now machine.old thread)
-        (site_at place.now) wanted.now (begins (moment program.now machine.old thread)))
-        end machine.old machine.new out.old out.new) }
+    ensures { IfOk result (λ end. EventAnswers
+        (accessed (moment program.now machine.old thread) (site_at place.now) wanted.now (begins
+        (moment program.now machine.old thread))) end machine.old machine.new out.old out.new) }
 {
     if !access_fits(program, machine, wanted) {
         return Ok(EventEnd::ObjectLimit);
@@ -106,9 +106,9 @@ fn quiet_event(
     requires sound { IsSoundFor program.now (kept_of machine.old) }
     requires clock { machine.old.guest.clock < 2 ^ 40 }
     requires may { MayWant program.now (top machine.old.guest thread) wanted.now }
-    ensures { IfOk result
-        (λ end. EventAnswers (accessed (moment program.now machine.old thread) (site_at place.now)
-        wanted.now (quietly_done (moment program.now machine.old thread) wanted.now.class (begins
+    ensures { IfOk result (λ end. EventAnswers
+        (accessed (moment program.now machine.old thread) (site_at place.now) wanted.now
+        (quietly_done (moment program.now machine.old thread) wanted.now.class (begins
         (moment program.now machine.old thread)))) end machine.old machine.new out.old out.new) }
 {
     let objects = objects_made(wanted);

@@ -83,9 +83,9 @@ fn instance_field(program: &Program, member: &MemberAt<'_>) -> Result<FieldId, R
     ensures is { (s : Kept) (t : ℕ) (go : ℕ → Outcome Kept) →
         resolved_field (record { program = program.now; before = s; thread = t }) (begins
         (record { program = program.now; before = s; thread = t })) (shown_member member.now)
-        (λ f. throwing_unless (record { program = program.now; before = s; thread = t })
-        (begins (record { program = program.now; before = s; thread = t }))
-        IncompatibleClassChangeError (not (is_static_field program.now f)) (go f))
+        (λ f. throwing_unless (record { program = program.now; before = s; thread = t }) (begins
+        (record { program = program.now; before = s; thread = t })) IncompatibleClassChangeError
+        (not (is_static_field program.now f)) (go f))
         ≡ decided (record { program = program.now; before = s; thread = t }) result go }
     ensures field { IfOk result (λ f. IsInstanceField program.now member.now.descriptor.now f) }
 {

@@ -86,9 +86,9 @@ fn write_element<L: Ledger>(
 ) -> Result<(), NoMemory>
     requires held { IsHeld machine.old.heap parent.now.array }
     requires slot { parent.now.next < length (object_at machine.old.heap parent.now.array).slots }
-    ensures written { OnOk result
-        (ComesTo (slot_written (moment program.now machine.old thread) parent.now.array
-        parent.now.next (Ref array) (so_far machine.old out.old)) machine.old machine.new out.new) }
+    ensures written { OnOk result (ComesTo
+        (slot_written (moment program.now machine.old thread) parent.now.array parent.now.next
+        (Ref array) (so_far machine.old out.old)) machine.old machine.new out.new) }
     ensures same { length machine.new.heap ≡ length machine.old.heap }
     ensures visits { visits.new ≡ visits.old + 1 }
 {
@@ -138,8 +138,8 @@ pub fn open_array(
         (length machine.old.heap) class (natural_of (slice_index_or lengths.now level (pos 0)))
         (drop (level + 1) (naturals_of lengths.now))) }
     ensures made { OnOk result (ComesTo (array_made (moment program.now machine.old thread) class
-        (natural_of (slice_index_or lengths.now level (pos 0))) (so_far machine.old out.old))
-        machine.old machine.new out.new) }
+        (natural_of (slice_index_or lengths.now level (pos 0)))
+        (so_far machine.old out.old)) machine.old machine.new out.new) }
     ensures grown { length machine.old.heap ≤ length machine.new.heap }
 {
     let elements = natural(lengths[level]);

@@ -173,8 +173,9 @@ pub fn take_typed(machine: &Machine, thread: ThreadId, descriptor: &[u8]) -> Res
     requires frame { HasFrame machine.now.guest thread }
     requires sound { IsSound (kept_of machine.now) }
     requires field { is_field_descriptor descriptor.now ≡ true }
-    ensures is { (e : Moment) (go : Entry → List Entry → Outcome Kept) → with_value (kind_of_field
-        descriptor.now) (ill_typed e) (top machine.now.guest thread).operands go ≡ decided e result
+    ensures is { (e : Moment) (go : Entry → List Entry → Outcome Kept) →
+        with_value (kind_of_field descriptor.now)
+        (ill_typed e) (top machine.now.guest thread).operands go ≡ decided e result
         (λ x. go x.value (drop x.width (top machine.now.guest thread).operands)) }
     ensures deep { IfOk result (λ x. x.width ≤ length (top machine.now.guest thread).operands) }
     ensures few { IfOk result (λ x. x.width ≤ 2) }
@@ -191,9 +192,10 @@ pub(crate) fn take_element(
 ) -> Result<Taken, Refusal>
     requires frame { HasFrame machine.now.guest thread }
     requires sound { IsSound (kept_of machine.now) }
-    ensures is { (e : Moment) (go : Entry → List Entry → Outcome Kept) → with_value (Some
-        (elements_kind elements)) (ill_typed e) (top machine.now.guest thread).operands go ≡ decided
-        e result (λ x. go x.value (drop x.width (top machine.now.guest thread).operands)) }
+    ensures is { (e : Moment) (go : Entry → List Entry → Outcome Kept) →
+        with_value (Some (elements_kind elements))
+        (ill_typed e) (top machine.now.guest thread).operands go ≡ decided e result
+        (λ x. go x.value (drop x.width (top machine.now.guest thread).operands)) }
     ensures deep { IfOk result (λ x. x.width ≤ length (top machine.now.guest thread).operands) }
     ensures few { IfOk result (λ x. x.width ≤ 2) }
     ensures there { IfOk result (λ x. IsIn (top machine.now.guest thread) x.value) }

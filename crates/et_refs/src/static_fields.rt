@@ -57,9 +57,9 @@ fn static_field(program: &Program, member: &MemberAt<'_>) -> Result<FieldId, Ref
     ensures is { (s : Kept) (t : ℕ) (go : ℕ → Outcome Kept) →
         resolved_field (record { program = program.now; before = s; thread = t }) (begins
         (record { program = program.now; before = s; thread = t })) (shown_member member.now)
-        (λ f. throwing_unless (record { program = program.now; before = s; thread = t })
-        (begins (record { program = program.now; before = s; thread = t }))
-        IncompatibleClassChangeError (is_static_field program.now f) (go f))
+        (λ f. throwing_unless (record { program = program.now; before = s; thread = t }) (begins
+        (record { program = program.now; before = s; thread = t })) IncompatibleClassChangeError
+        (is_static_field program.now f) (go f))
         ≡ decided (record { program = program.now; before = s; thread = t }) result go }
     ensures field { IfOk result (λ f. IsStaticField program.now member.now.descriptor.now f) }
 {

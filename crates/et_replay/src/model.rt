@@ -87,8 +87,9 @@ pub trait HeapModel: Drop {
 
     /// Takes an item. `Exhausted` is answered exactly where a collection leaves too little room for the item's object.
     fn feed(&mut self, item: &Item) -> Fed
-        requires stands { (policy : Policy) × (objects : ℕ) × (past : List Item) × stands_for
-            self.old policy objects past × HasRoom policy past × MayCome objects past item.now }
+        requires stands { (policy : Policy)
+            × (objects : ℕ) × (past : List Item) × stands_for self.old policy objects past
+            × HasRoom policy past × MayCome objects past item.now }
         ensures taken { (policy : Policy) (objects : ℕ) (past : List Item) →
             stands_for self.old policy objects past →
             OnTaken result (stands_for self.new policy objects (item.now ∷ past)) }

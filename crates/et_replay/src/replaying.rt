@@ -28,8 +28,9 @@ struct Seat {
 
 /// Feeds an item to a model; where there is no room any more, gives its report.
 fn feed_model(model: &mut Box<dyn HeapModel>, item: &Item) -> Result<Option<Report>, NoMemory>
-    requires { (policy : Policy) × (objects : ℕ) × (past : List Item) × stands_for
-        model.old policy objects past × HasRoom policy past × MayCome objects past item.now }
+    requires { (policy : Policy)
+        × (objects : ℕ) × (past : List Item) × stands_for model.old policy objects past
+        × HasRoom policy past × MayCome objects past item.now }
     ensures { (policy : Policy) (objects : ℕ) (past : List Item) →
         stands_for model.old policy objects past → IfOk result
         (λ report. MatchOption report (stands_for model.new policy objects (item.now ∷ past)
@@ -44,8 +45,9 @@ fn feed_model(model: &mut Box<dyn HeapModel>, item: &Item) -> Result<Option<Repo
 
 /// Feeds an item to a model that has room. An exhausted model leaves its report, and is dropped.
 fn feed_seat(seat: &mut Seat, item: &Item) -> Result<(), NoMemory>
-    requires { (policy : Policy) × (objects : ℕ) × (past : List Item) × Sits (λ b. stands_for b)
-        seat.old.model seat.old.report policy objects past × MayCome objects past item.now }
+    requires { (policy : Policy) × (objects : ℕ) × (past : List Item)
+        × Sits (λ b. stands_for b) seat.old.model seat.old.report policy objects past
+        × MayCome objects past item.now }
     ensures { (policy : Policy) (objects : ℕ) (past : List Item) →
         Sits (λ b. stands_for b) seat.old.model seat.old.report policy objects past → OnOk result
         (Sits (λ b. stands_for b) seat.new.model seat.new.report policy objects (item.now ∷ past)) }
@@ -64,10 +66,12 @@ fn feed_seat(seat: &mut Seat, item: &Item) -> Result<(), NoMemory>
 
 /// Feeds an item to each model that has room, in order.
 fn feed_all(seats: &mut [Seat], item: &Item) -> Result<(), NoMemory>
-    requires { (told : List Told) × (past : List Item) × EachZip (λ seat p. Sits (λ b. stands_for b)
-        seat.model seat.report p.0 p.1 past) seats.old told × AllMayCome told past item.now }
-    ensures { (told : List Told) (past : List Item) → EachZip (λ seat p. Sits (λ b. stands_for b)
-        seat.model seat.report p.0 p.1 past) seats.old told → OnOk result (EachZip (λ seat p.
+    requires { (told : List Told) × (past : List Item) × EachZip
+        (λ seat p. Sits (λ b. stands_for b) seat.model seat.report p.0 p.1 past) seats.old told
+        × AllMayCome told past item.now }
+    ensures { (told : List Told) (past : List Item) → EachZip
+        (λ seat p. Sits (λ b. stands_for b) seat.model seat.report p.0 p.1 past) seats.old told →
+        OnOk result (EachZip (λ seat p.
         Sits (λ b. stands_for b) seat.model seat.report p.0 p.1 (item.now ∷ past)) seats.new told) }
 {
     for seat in seats.iter_mut() {
@@ -79,10 +83,12 @@ fn feed_all(seats: &mut [Seat], item: &Item) -> Result<(), NoMemory>
 /// Feeds all items, in order.
 fn feed_items(seats: &mut [Seat], items: &[Item]) -> Result<(), NoMemory>
     requires made { MakesInOrder items.now }
-    requires sit { (told : List Told) × EachZip (λ seat p. Sits (λ b. stands_for b) seat.model
-        seat.report p.0 p.1 []) seats.old told × All (λ p. length (made items.now) ≤ p.1) told }
-    ensures { (told : List Told) → EachZip (λ seat p. Sits (λ b. stands_for b)
-        seat.model seat.report p.0 p.1 []) seats.old told → OnOk result (EachZip (λ seat p. Sits
+    requires sit { (told : List Told) × EachZip
+        (λ seat p. Sits (λ b. stands_for b) seat.model seat.report p.0 p.1 []) seats.old told
+        × All (λ p. length (made items.now) ≤ p.1) told }
+    ensures { (told : List Told) → EachZip
+        (λ seat p. Sits (λ b. stands_for b) seat.model seat.report p.0 p.1 []) seats.old told →
+        OnOk result (EachZip (λ seat p. Sits
         (λ b. stands_for b) seat.model seat.report p.0 p.1 (reverse items.now)) seats.new told) }
 {
     for item in items {
@@ -125,9 +131,10 @@ fn seats_of(alloc: Global, models: Vec<Box<dyn HeapModel>>) -> Result<Vec<Seat>,
 fn report_of(seat: &Seat) -> Report
     requires { (policy : Policy) × (objects : ℕ) × (past : List Item)
         × Sits (λ b. stands_for b) seat.now.model seat.now.report policy objects past }
-    ensures { (reached : Graph → ℕ → Bool) → Decides reached →
-        (policy : Policy) (objects : ℕ) (past : List Item) → Sits (λ b. stands_for b)
-        seat.now.model seat.now.report policy objects past → result ≡ tally reached policy past }
+    ensures { (reached : Graph → ℕ → Bool) →
+        Decides reached → (policy : Policy) (objects : ℕ) (past : List Item) →
+        Sits (λ b. stands_for b) seat.now.model seat.now.report policy objects past →
+        result ≡ tally reached policy past }
 {
     match &seat.model {
         Some(model) => model.report(),
@@ -154,8 +161,9 @@ fn text_of(alloc: Global, seats: &[Seat]) -> Result<Vec<u8>, NoMemory>
 /// Feeds all items, and gives the lines of all reports.
 fn run(alloc: Global, seats: &mut [Seat], items: &[Item]) -> Result<Vec<u8>, NoMemory>
     requires made { MakesInOrder items.now }
-    requires sit { (told : List Told) × EachZip (λ seat p. Sits (λ b. stands_for b) seat.model
-        seat.report p.0 p.1 []) seats.old told × All (λ p. length (made items.now) ≤ p.1) told }
+    requires sit { (told : List Told) × EachZip
+        (λ seat p. Sits (λ b. stands_for b) seat.model seat.report p.0 p.1 []) seats.old told
+        × All (λ p. length (made items.now) ≤ p.1) told }
     ensures { (reached : Graph → ℕ → Bool) → Decides reached → (told : List Told) → EachZip
         (λ seat p. Sits (λ b. stands_for b) seat.model seat.report p.0 p.1 []) seats.old told →
         IfOk result (λ text. text.items ≡ flat_map (told_line reached (reverse items.now)) told) }

@@ -56,8 +56,9 @@ fn class_states(alloc: Global, program: &Program) -> Result<Vec<ClassState>, NoM
 pub fn begin(alloc: Global, program: &Program) -> Result<Machine, NoMemory>
     ensures state { IfOk result (λ machine. kept_of machine ≡ start program.now) }
     ensures lost { IfOk result (λ machine. machine.lost ≡ []) }
-    ensures sound { (files : List LoadedClass) → All HasClassName files → IsProgramOf
-        files program.now → IfOk result (λ machine. IsSoundFor program.now (kept_of machine)) }
+    ensures sound { (files : List LoadedClass) →
+        All HasClassName files → IsProgramOf files program.now →
+        IfOk result (λ machine. IsSoundFor program.now (kept_of machine)) }
 {
     let classes = class_states(alloc, program)?;
     let statics = vec![in alloc; Value::Unset; program.statics().len()]?;

@@ -88,9 +88,9 @@ pub fn run_program<O: Sink, L: Ledger>(
     ensures front { (reached : Graph → ℕ → Bool) →
         Decides reached → OnErr result (WritesFront reached (setting code.now options.now)
         (start code.now) (start_records code.now) (O.taken sink.old) (O.taken sink.new)) }
-    ensures visits { (reached : Graph → ℕ → Bool) → Decides reached → IfOk result
-        (λ ran. visits.new ≤ visits.old + allowed_visits reached (setting code.now options.now)
-        flush_visits_of (start code.now) (start_records code.now) ran.event) }
+    ensures visits { (reached : Graph → ℕ → Bool) → Decides reached → IfOk result (λ ran. visits.new
+        ≤ visits.old + allowed_visits reached (setting code.now options.now) flush_visits_of
+        (start code.now) (start_records code.now) ran.event) }
     ensures write { IsErrOf result RunFault.Write → Rose (O.faults sink.old) (O.faults sink.new) }
     ensures never_falls { O.faults sink.old ≤ O.faults sink.new }
 {

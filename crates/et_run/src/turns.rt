@@ -32,8 +32,8 @@ fn initializer_event(
     requires clock { machine.old.guest.clock < 2 ^ 40 }
     requires program { IsRunnable program.now }
     requires turn { turn_of (thread_at machine.old.guest thread) ≡ turns.Initialize }
-    ensures { IfOk result (λ end. EventAnswers (event program.now (kept_of machine.old) thread)
-        end machine.old machine.new out.old out.new) }
+    ensures { IfOk result (λ end. EventAnswers (event program.now
+        (kept_of machine.old) thread) end machine.old machine.new out.old out.new) }
 {
     match machine.stage(thread) {
         Stage::Before(class) => initialization_event(program, machine, alloc, thread, class, out),

@@ -378,9 +378,10 @@ pub fn unwinding_keeps_sound()
         MayHold e.program (error_class e.program errors.ExceptionInInitializerError) 1
         (values.Ref o) → c < length e.program.classes →
         IsGoing e (begins e) → KeepsSound e.program (ends (failed e c o (dropped e (begins e)))) }
-    ensures clinit { (e : Moment) (c o : ℕ) → MakesSound e.program → MayHold e.program
-        (error_class e.program errors.ExceptionInInitializerError) 1 (values.Ref o) → c < length
-        e.program.classes → IsGoing e (begins e) → KeepsSound e.program (unwound_clinit e c o) }
+    ensures clinit { (e : Moment) (c o : ℕ) → MakesSound e.program →
+        MayHold e.program (error_class e.program errors.ExceptionInInitializerError) 1
+        (values.Ref o) → c < length e.program.classes →
+        IsGoing e (begins e) → KeepsSound e.program (unwound_clinit e c o) }
 {}
 
 // INITIALIZATION (JVMS 5.5)
@@ -426,8 +427,9 @@ pub fn class_rows_keep_sound()
 
 /// The frame of a method is pushed, whose monitor is entered.
 pub fn entered_frames_keep_well_formed()
-    ensures { (e : Moment) (m : ℕ) (body : Body) (arguments : List Value) (d : Doing) → IsGoing
-        e d → MayEnter d (lock_for (method_at e.program m) (receiver_of e.program m arguments)) →
+    ensures { (e : Moment) (m : ℕ) (body : Body) (arguments : List Value) (d : Doing) →
+        IsGoing e d →
+        MayEnter d (lock_for (method_at e.program m) (receiver_of e.program m arguments)) →
         length (thread_at d.state.guest e.thread).frames < most_frames → AreSoundFrames e.program
         (method_frame e.program m body arguments ∷ (thread_at d.state.guest e.thread).frames) →
         IsWellFormed e.program (frame_entered e m body arguments d).state }

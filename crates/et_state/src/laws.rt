@@ -235,8 +235,9 @@ pub fn past()
 
 /// A flush of a state is a flush of its graph. The test says of each object that is held whether it is reached.
 pub fn flush()
-    ensures { (s : State) (here : ℕ → Bool) (reports : List ℕ) → IsSound s.kept → IsPast s.kept.heap
-        s.reported → ((o : ℕ) → IsHeld s.kept.heap o → (here o ≡ true) ↔ IsReached (graph s) o) →
+    ensures { (s : State) (here : ℕ → Bool) (reports : List ℕ) →
+        IsSound s.kept → IsPast s.kept.heap s.reported →
+        ((o : ℕ) → IsHeld s.kept.heap o → (here o ≡ true) ↔ IsReached (graph s) o) →
         AreDead (graph s) reports → IsFlush (graph s) reports (graph (flushed here s)) }
 {}
 

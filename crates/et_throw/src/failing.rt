@@ -56,9 +56,9 @@ fn fail_by_error(
     requires small { length (top machine.old.guest thread).locals
         + length (top machine.old.guest thread).operands < 2 ^ 17 }
     requires class { class < length machine.old.guest.classes }
-    ensures ok { IfOk result (λ end. (p : Linked) → EventAnswers (ends (with_state
-        class states.Failed (initializer_left (moment p machine.old thread) tells exception)))
-        end machine.old machine.new out.old out.new) }
+    ensures ok { IfOk result (λ end. (p : Linked) →
+        EventAnswers (ends (with_state class states.Failed (initializer_left (moment
+        p machine.old thread) tells exception))) end machine.old machine.new out.old out.new) }
     ensures err { OnErr result (machine.new.guest ≡ machine.old.guest) }
 {
     tell_unwind(machine, thread, exception, tells, out)?;
@@ -130,9 +130,9 @@ fn fail_by_exception<L: Ledger>(
         + length (top machine.old.guest thread).operands < 2 ^ 17 }
     requires class { class < length machine.old.guest.classes }
     requires pending { (thread_at machine.old.guest thread).pending ≡ Some exception }
-    ensures ok { IfOk result (λ end. EventAnswers
-        (ends (replaced (moment program.now machine.old thread) exception (with_state class
-        states.Failed (initializer_left (moment program.now machine.old thread) tells exception))))
+    ensures ok { IfOk result (λ end. EventAnswers (ends
+        (replaced (moment program.now machine.old thread) exception (with_state class states.Failed
+        (initializer_left (moment program.now machine.old thread) tells exception))))
         end machine.old machine.new out.old out.new) }
     ensures err { OnErr result (machine.new.guest ≡ machine.old.guest) }
     ensures visits { visits.new ≤ visits.old + 1 }

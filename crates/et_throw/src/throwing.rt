@@ -69,8 +69,8 @@ pub fn athrow_event<L: Ledger>(
     requires sound { IsSoundFor program.now (kept_of machine.old) }
     requires clock { machine.old.guest.clock < 2 ^ 40 }
     requires frame { HasFrame machine.old.guest thread }
-    ensures ok { IfOk result (λ end. EventAnswers (throw (moment program.now machine.old thread))
-        end machine.old machine.new out.old out.new) }
+    ensures ok { IfOk result (λ end. EventAnswers (throw
+        (moment program.now machine.old thread)) end machine.old machine.new out.old out.new) }
     ensures err { OnErr result (machine.new.guest ≡ machine.old.guest) }
     ensures visits { visits.new ≤ visits.old + 6 }
 {

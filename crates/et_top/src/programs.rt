@@ -61,9 +61,10 @@ pub fn load_program<'a, F: Files>(
     files: &mut F,
 ) -> Result<NamedProgram, Refusal<'a>>
     requires some { 0 < length paths.now }
-    ensures tells { (held : Held) → F.holds files.old ≡ Some held →
-        (program : Result Linked Fault) → IsProgramOf (map held (map string_bytes paths.now))
-        program → Tells (Rose (F.faults files.old) (F.faults files.new)) (λ p. p) program result }
+    ensures tells { (held : Held) →
+        F.holds files.old ≡ Some held → (program : Result Linked Fault) →
+        IsProgramOf (map held (map string_bytes paths.now)) program →
+        Tells (Rose (F.faults files.old) (F.faults files.new)) (λ p. p) program result }
     ensures runnable { IfOk result (λ p. IsRunnable p) }
     ensures start { IfOk result (λ p. IsSoundFor p (start p)) }
     ensures fault { IfErr result

@@ -35,8 +35,8 @@ pub fn entry_event<L: Ledger>(
     requires turn { turn_of (thread_at machine.old.guest thread) ≡ turns.Entry }
     requires order { IsInOrder program.now }
     requires methods { HasMethods program.now }
-    ensures ok { IfOk result (λ end. EventAnswers (event program.now (kept_of machine.old) thread)
-        end machine.old machine.new out.old out.new) }
+    ensures ok { IfOk result (λ end. EventAnswers (event program.now
+        (kept_of machine.old) thread) end machine.old machine.new out.old out.new) }
     ensures visits { visits.new ≤ visits.old + 6 }
 {
     if thread.number() == 0 {

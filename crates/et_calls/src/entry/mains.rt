@@ -139,11 +139,11 @@ fn quiet_code_event<L: Ledger>(
     requires method { method < length program.now.methods }
     requires no_receiver { is_static program.now method ≡ true }
     requires class { class < length program.now.classes }
-    ensures ok { IfOk result (λ end. EventAnswers (enters_code (moment program.now
-        machine.old thread) (quietly_done (moment program.now machine.old thread) class (begins
-        (moment program.now machine.old thread))) (entering (moment program.now machine.old thread))
-        method (entry_arguments (thread_at machine.old.guest thread).entry) code.now)
-        end machine.old machine.new out.old out.new) }
+    ensures ok { IfOk result (λ end.
+        EventAnswers (enters_code (moment program.now machine.old thread) (quietly_done (moment
+        program.now machine.old thread) class (begins (moment program.now machine.old thread)))
+        (entering (moment program.now machine.old thread)) method (entry_arguments (thread_at
+        machine.old.guest thread).entry) code.now) end machine.old machine.new out.old out.new) }
     ensures visits { visits.new ≤ visits.old + 3 }
 {
     let lock = lock_for(program.method(method), None);

@@ -51,8 +51,9 @@ fn run_plan<L: Ledger>(
 ) -> RunPlan
     requires sound { IsSoundFor program.now (kept_of machine.now) }
     requires fresh { IsFresh machine.now.guest thread }
-    ensures plan { enters_run (moment program.now machine.now thread) (thread_at
-        machine.now.guest thread).object ≡ planned (moment program.now machine.now thread) result }
+    ensures plan { enters_run
+        (moment program.now machine.now thread) (thread_at machine.now.guest thread).object
+        ≡ planned (moment program.now machine.now thread) result }
     ensures within { IsPlan (moment program.now machine.now thread) result }
     ensures visits { visits.new ≤ visits.old + 1 }
 {
