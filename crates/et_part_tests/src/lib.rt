@@ -29,10 +29,6 @@ mod models;
 #[cfg(test)]
 mod pools;
 #[cfg(test)]
-mod starts;
-#[cfg(test)]
 mod timelines;
 #[cfg(test)]
 mod traces;
-#[cfg(test)]
-mod words;

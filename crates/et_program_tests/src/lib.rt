@@ -23,4 +23,8 @@ mod runs;
 #[cfg(test)]
 mod schedules;
 #[cfg(test)]
+mod starts;
+#[cfg(test)]
 mod traces;
+#[cfg(test)]
+mod words;
