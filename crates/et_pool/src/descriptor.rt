@@ -1,7 +1,7 @@
 //! Descriptors (JVMS 4.3), and the names of classes in a pool.
 
-ghost use Rattle.std.specs.Prelude.{◌≡◌, ◌<◌, ◌≤◌, false, length, option_map, is_some, IfSome};
-ghost use Rattle.et_pool.specs.Descriptors.{is_base, after_name, after_class, after_element, after_type, first_type, types_of, parameters_of, method_type, is_end, is_void, is_return, element_of, is_floating, is_array, is_floating_array, width_of, shape_of_method, is_method_descriptor as method, is_field_descriptor as field, dimensions as count_of, is_class_name};
+ghost use Rattle.std.specs.Prelude.{◌≡◌, ◌<◌, ◌≤◌, false, length, option_map, IfSome};
+ghost use Rattle.et_pool.specs.Descriptors.{is_base, after_name, after_class, after_element, after_type, first_type, types_of, parameters_of, method_type, is_end, is_void, is_return, element_of, is_floating, is_array, is_floating_array, width_of, shape_of_method, is_field_descriptor as field, dimensions as count_of, is_class_name};
 
 /// What the rules on methods ask of a method descriptor.
 #[derive(Clone, Copy, Debug, PartialEq, Eq)]
@@ -205,14 +205,6 @@ pub fn method_shape(s: &[u8]) -> Option<MethodShape>
             })
         }
     }
-}
-
-/// Whether the bytes are a method descriptor (JVMS 4.3.3). The bound of 255 entries isn't looked
-/// at.
-pub fn is_method_descriptor(s: &[u8]) -> bool
-    ensures { result ≡ method s.now }
-{
-    method_shape(s).is_some()
 }
 
 /// Whether a Class entry may name these bytes: they aren't empty, and behind a `[` they are a
