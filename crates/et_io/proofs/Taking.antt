@@ -18,14 +18,14 @@ with_more-with_more (Some taken) a b = ap Some (append_assoc taken a b)
 
 -- at the start the whole piece is the rest
 pub takes_nothing : (old : Option (List ℕ)) (piece : List ℕ) → TakesUpTo old old piece piece
-takes_nothing old piece = record { front = []; parts = refl; taken = sym (with_more-nil old) }
+takes_nothing old piece = record { prefix = []; parts = refl; taken = sym (with_more-nil old) }
 
 -- a put of the rest takes more of it
 pub takes_on : (old mid new : Option (List ℕ)) (piece rest : List ℕ) (n : ℕ) → TakesUpTo old mid piece rest → new ≡ with_more mid (take n rest) → TakesUpTo old new piece (drop n rest)
 takes_on old mid new piece rest n h e = record {
-  front = h.front ++ take n rest;
-  parts = h.parts ∙ (ap (λ t. h.front ++ t) (sym (take-append-drop n rest)) ∙ sym (append_assoc h.front (take n rest) (drop n rest)));
-  taken = e ∙ (ap (λ t. with_more t (take n rest)) h.taken ∙ with_more-with_more old h.front (take n rest));
+  prefix = h.prefix ++ take n rest;
+  parts = h.parts ∙ (ap (λ t. h.prefix ++ t) (sym (take-append-drop n rest)) ∙ sym (append_assoc h.prefix (take n rest) (drop n rest)));
+  taken = e ∙ (ap (λ t. with_more t (take n rest)) h.taken ∙ with_more-with_more old h.prefix (take n rest));
 }
 
 -- the same with the rest as a slice of what was left
@@ -37,12 +37,12 @@ takes_on_slice old mid new piece rest n h e =
 -- where something is left, the piece isn't empty
 pub rest_of_nothing : (old new : Option (List ℕ)) (piece rest : List ℕ) → TakesUpTo old new piece rest → piece ≡ [] → length rest ≡ 0
 rest_of_nothing old new piece rest h e =
-    let none : length (h.front ++ rest) ≡ 0 = ap length (sym h.parts ∙ e) in
-    omega (arith, none, length-append h.front rest)
+    let none : length (h.prefix ++ rest) ≡ 0 = ap length (sym h.parts ∙ e) in
+    omega (arith, none, length-append h.prefix rest)
 
 -- nothing is left of the piece: it was taken whole
 pub takes_whole : (old new : Option (List ℕ)) (piece : List ℕ) → TakesUpTo old new piece [] → new ≡ with_more old piece
-takes_whole old new piece h = h.taken ∙ ap (λ t. with_more old t) (sym (h.parts ∙ append-nil h.front))
+takes_whole old new piece h = h.taken ∙ ap (λ t. with_more old t) (sym (h.parts ∙ append-nil h.prefix))
 
 -- a count that rose later rose from before on
 pub rose_since : (old mid new : ℕ) → old ≤ mid → Rose mid new → Rose old new

@@ -22,10 +22,10 @@ CountsFault NoMemory old new = Unit {0}
 
 -- the sink took the piece up to this rest
 pub record TakesUpTo (old new : Option (List ℕ)) (piece rest : List ℕ) : Type 0 where
-  pub front : List ℕ
-  pub parts : piece ≡ front ++ rest
-  pub taken : new ≡ with_more old front
+  pub prefix : List ℕ
+  pub parts : piece ≡ prefix ++ rest
+  pub taken : new ≡ with_more old prefix
 
--- the sink took a front of the piece, and nothing else
-abbrev pub TakesFront : Option (List ℕ) → Option (List ℕ) → List ℕ → Type 0
-TakesFront old new piece = (rest : List ℕ) × TakesUpTo old new piece rest
+-- the sink took a prefix of the piece, and nothing else
+abbrev pub TakesPrefix : Option (List ℕ) → Option (List ℕ) → List ℕ → Type 0
+TakesPrefix old new piece = (rest : List ℕ) × TakesUpTo old new piece rest

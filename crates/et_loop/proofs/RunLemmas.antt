@@ -12,9 +12,9 @@ use Rattle.et_state.specs.Outcome.{state_after, records_of}
 use Rattle.et_state.specs.Naming.{Mentions, nothing_mentioned, mentions_after, lines_of}
 use Rattle.et_state.specs.History.{Setting, is_flush_point, flush_lines, how_of, ending, step_of, settled, left_by, records_at, last_reached, deaths, mentions_to, lines_to, trace_of, IsLast}
 use Rattle.et_text.specs.Spelling.{text, spelling}
-use Rattle.et_io.specs.Sink.{with_more, TakesFront}
+use Rattle.et_io.specs.Sink.{with_more, TakesPrefix}
 use Rattle.et_loop.specs.Run.{noted, flush_of, due_lines, flush_now, Turns, Advances, Concludes}
-use Rattle.et_loop.specs.Traced.{WritesTrace, WritesFront}
+use Rattle.et_loop.specs.Traced.{WritesTrace, WritesPrefix}
 
 -- WHAT IS TAKEN
 
@@ -26,20 +26,20 @@ pub more_twice : (taken : Option (List ℕ)) (a b : List ℕ) → with_more (wit
 more_twice None a b = refl
 more_twice (Some xs) a b = ap (λ ys. Some ys) (append_assoc xs a b)
 
--- a front of what comes next, behind what was taken, is a front of the whole
-pub front_on : (taken mid new : Option (List ℕ)) (a p w r : List ℕ) → mid ≡ with_more taken a → w ≡ (a ++ p) ++ r → TakesFront mid new p → TakesFront taken new w
+-- a prefix of what comes next, behind what was taken, is a prefix of the whole
+pub front_on : (taken mid new : Option (List ℕ)) (a p w r : List ℕ) → mid ≡ with_more taken a → w ≡ (a ++ p) ++ r → TakesPrefix mid new p → TakesPrefix taken new w
 front_on taken mid new a p w r em ew (rest, h) = (
   rest ++ r,
   record {
-    front = a ++ h.front;
-    parts = ew ∙ (ap (λ q. (a ++ q) ++ r) h.parts ∙ (ap (λ q. q ++ r) (sym (append_assoc a h.front rest)) ∙ append_assoc (a ++ h.front) rest r));
-    taken = h.taken ∙ (ap (λ t. with_more t h.front) em ∙ more_twice taken a h.front);
+    prefix = a ++ h.prefix;
+    parts = ew ∙ (ap (λ q. (a ++ q) ++ r) h.parts ∙ (ap (λ q. q ++ r) (sym (append_assoc a h.prefix rest)) ∙ append_assoc (a ++ h.prefix) rest r));
+    taken = h.taken ∙ (ap (λ t. with_more t h.prefix) em ∙ more_twice taken a h.prefix);
   },
 )
 
--- what was taken so far is a front of the whole
-pub front_so_far : (taken new : Option (List ℕ)) (a w r : List ℕ) → new ≡ with_more taken a → w ≡ a ++ r → TakesFront taken new w
-front_so_far taken new a w r en ew = (r, record { front = a; parts = ew; taken = en })
+-- what was taken so far is a prefix of the whole
+pub front_so_far : (taken new : Option (List ℕ)) (a w r : List ℕ) → new ≡ with_more taken a → w ≡ a ++ r → TakesPrefix taken new w
+front_so_far taken new a w r en ew = (r, record { prefix = a; parts = ew; taken = en })
 
 -- HOW THE LINES GROW
 
@@ -122,14 +122,14 @@ module _ {S : Type 0} (reached : Graph → ℕ → Bool) (given : Setting S) (st
     lines = en ∙ ap (λ b. with_more before b) eb;
   }
 
-  -- nothing but a front of the first lines was put
-  pub front_start : (before now : Option (List ℕ)) (bytes : List ℕ) → bytes ≡ text (Header 1 given.interval ∷ lines_of given.names nothing_mentioned made) → TakesFront before now bytes → WritesFront reached given start made before now
+  -- nothing but a prefix of the first lines was put
+  pub front_start : (before now : Option (List ℕ)) (bytes : List ℕ) → bytes ≡ text (Header 1 given.interval ∷ lines_of given.names nothing_mentioned made) → TakesPrefix before now bytes → WritesPrefix reached given start made before now
   unfolding lines_to
   front_start before now bytes eb h n end last =
       let ext = text_front _ _ (lines_traced 0 n end (search rules)) in
       front_on before before now [] bytes (text (trace_of reached given start made n end)) ext.0 (more_nothing before) (ext.1 ∙ ap (λ b. b ++ ext.0) (sym eb)) h
 
-  pub front_nothing : (before : Option (List ℕ)) → WritesFront reached given start made before before
+  pub front_nothing : (before : Option (List ℕ)) → WritesPrefix reached given start made before before
   front_nothing before n end last = front_so_far before before [] (text (trace_of reached given start made n end)) (text (trace_of reached given start made n end)) (more_nothing before) refl
 
   module _ (e : ℕ) (s : S) (last : ℕ → ℕ) (m : Mentions) (before now : Option (List ℕ)) (r : Running e s last m before now) where
@@ -140,8 +140,8 @@ module _ {S : Type 0} (reached : Graph → ℕ → Bool) (given : Setting S) (st
         ∙ (ap (λ x. flush_of (reached (given.rule.graph x)) (noted (reached (given.rule.graph x)) (λ o. noted_before o e) e) e (given.rule.graph x)) r.state
         ∙ ap (λ f. flush_of (reached (given.rule.graph (left_by reached given start made e))) f e (given.rule.graph (left_by reached given start made e))) (fun_ext (λ o. noted_is o e)))
 
-    -- so far only a front of the trace was put
-    pub front_now : WritesFront reached given start made before now
+    -- so far only a prefix of the trace was put
+    pub front_now : WritesPrefix reached given start made before now
     front_now n end last' =
         let ext = text_front _ _ (lines_traced e n end (up_to_last e n end last' r.first)) in
         front_so_far before now (text (lines_to reached given start made e)) (text (trace_of reached given start made n end)) ext.0 r.lines ext.1
@@ -184,8 +184,8 @@ module _ {S : Type 0} (reached : Graph → ℕ → Bool) (given : Setting S) (st
       pub running_on : (n : ℕ) (now' : Option (List ℕ)) → n ≡ suc e → now' ≡ with_more now out' → Running n s' last' m' before now'
       running_on n now' h en = subst (λ j. Running j s' last' m' before now') (sym h) (running_next now' en)
 
-      -- only a front of its lines was put
-      pub front_next : (now' : Option (List ℕ)) → TakesFront now now' out' → WritesFront reached given start made before now'
+      -- only a prefix of its lines was put
+      pub front_next : (now' : Option (List ℕ)) → TakesPrefix now now' out' → WritesPrefix reached given start made before now'
       front_next now' h n end last'' =
           let ext = text_front _ _ (lines_traced (suc e) n end (up_to_last (suc e) n end last'' first_next)) in
           front_on before now now' (text (lines_to reached given start made e)) out' (text (trace_of reached given start made n end)) ext.0 r.lines
@@ -214,8 +214,8 @@ module _ {S : Type 0} (reached : Graph → ℕ → Bool) (given : Setting S) (st
         taken = en ∙ (ap (λ t. with_more t out') r.lines ∙ (more_twice before (text (lines_to reached given start made e)) out' ∙ ap (λ o. with_more before o) (sym trace_is)));
       }
 
-      -- only a front of its lines was put
-      pub front_end : (now' : Option (List ℕ)) → TakesFront now now' out' → WritesFront reached given start made before now'
+      -- only a prefix of its lines was put
+      pub front_end : (now' : Option (List ℕ)) → TakesPrefix now now' out' → WritesPrefix reached given start made before now'
       front_end now' h n other last'' =
           let up = up_to_last e n other last'' r.first in
           let down = up_to_last n e end is_last last''.first in
@@ -227,7 +227,7 @@ module _ {S : Type 0} (reached : Graph → ℕ → Bool) (given : Setting S) (st
           front_on before now now' (text (lines_to reached given start made e)) out' (text (trace_of reached given start made n other)) [] r.lines whole h
 
     -- .. whichever of the two it was
-    pub front_turn : (next : Option End) (s' : S) (last' : ℕ → ℕ) (m' : Mentions) (out out' : List ℕ) → out ≡ [] → Turns reached given e s last m s' last' m' out out' next → (now' : Option (List ℕ)) → TakesFront now now' out' → WritesFront reached given start made before now'
+    pub front_turn : (next : Option End) (s' : S) (last' : ℕ → ℕ) (m' : Mentions) (out out' : List ℕ) → out ≡ [] → Turns reached given e s last m s' last' m' out out' next → (now' : Option (List ℕ)) → TakesPrefix now now' out' → WritesPrefix reached given start made before now'
     front_turn None s' last' m' out out' empty a now' h = front_next s' last' m' out out' empty a now' h
     front_turn (Some end) s' last' m' out out' empty a now' h = front_end s' last' m' end out out' empty a now' h
 

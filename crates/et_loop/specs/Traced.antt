@@ -5,7 +5,7 @@ use Rattle.et_graph.specs.Graph.{Graph}
 use Rattle.et_state.specs.declared.records.Record.{Record}
 use Rattle.et_state.specs.History.{Setting, IsLast, trace_of}
 use Rattle.et_text.specs.Spelling.{text}
-use Rattle.et_io.specs.Sink.{with_more, TakesFront}
+use Rattle.et_io.specs.Sink.{with_more, TakesPrefix}
 use Rattle.et_loop.specs.declared.options.Ran.{Ran}
 
 module _ {S : Type 0} (reached : Graph → ℕ → Bool) (given : Setting S) (start : S) (made : List Record) where
@@ -14,6 +14,6 @@ module _ {S : Type 0} (reached : Graph → ℕ → Bool) (given : Setting S) (st
     pub ends : IsLast reached given start made ran.event ran.end
     pub taken : after ≡ with_more before (text (trace_of reached given start made ran.event ran.end))
 
-  -- the sink took a front of the trace, and nothing else
-  abbrev pub WritesFront : Option (List ℕ) → Option (List ℕ) → Type 0
-  WritesFront before after = (e : ℕ) (end : End) → IsLast reached given start made e end → TakesFront before after (text (trace_of reached given start made e end))
+  -- the sink took a prefix of the trace, and nothing else
+  abbrev pub WritesPrefix : Option (List ℕ) → Option (List ℕ) → Type 0
+  WritesPrefix before after = (e : ℕ) (end : End) → IsLast reached given start made e end → TakesPrefix before after (text (trace_of reached given start made e end))

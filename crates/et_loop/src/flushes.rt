@@ -10,8 +10,8 @@ ghost use Rattle.et_loop.specs.Kept.{Settles};
 ghost use Rattle.et_loop.specs.Stamping.{HasStamps};
 ghost use Rattle.et_loop.specs.Visits.{due_visits, last_visits};
 
+use crate::guest::Guest;
 use crate::schedule::ended_as;
-use crate::stamp_guest::StampedGuest;
 use et_base::{End, NoMemory, Steps, TraceLine};
 use et_graph::{Death, Stamps};
 use et_text::write_line;
@@ -39,7 +39,7 @@ fn write_deaths(buffer: &mut Vec<u8>, event: u64, deaths: &[Death]) -> Result<()
 }
 
 /// A flush after event e, and its lines.
-fn report<G: StampedGuest, L: Ledger>(
+fn report<G: Guest, L: Ledger>(
     code: &G::Code,
     e: u64,
     machine: &mut G,
@@ -72,7 +72,7 @@ fn report<G: StampedGuest, L: Ledger>(
 }
 
 /// The flush after event e, where it is due.
-pub fn settle<G: StampedGuest, L: Ledger>(
+pub fn settle<G: Guest, L: Ledger>(
     code: &G::Code,
     due: bool,
     e: u64,
@@ -108,7 +108,7 @@ pub fn settle<G: StampedGuest, L: Ledger>(
 }
 
 /// Writes what stands at the end: a last flush, unless there was one after the same event, and the Z line.
-pub fn conclude<G: StampedGuest, L: Ledger>(
+pub fn conclude<G: Guest, L: Ledger>(
     code: &G::Code,
     due: bool,
     e: u64,

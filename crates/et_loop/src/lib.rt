@@ -1,21 +1,20 @@
-//! What a run is, beside its loop: its options and its end, and the names that its trace gives.
+//! The loop of a run: the schedule, the flushes by stamps, and the numbering of what a trace names, over any guest and any sink.
+//! It finds the deaths by one stamp for each object, and searches nothing after an event.
 #![tactic(auto)]
 
 mod flushes;
+mod guest;
 pub mod laws;
 mod marks;
 mod naming;
 mod options;
 mod program;
-mod run_stamps;
+mod run;
 mod schedule;
-mod stamp_guest;
-mod stamp_tracer;
+mod tracer;
 
 pub use et_state::{Options, Schedule};
-pub use naming::Numbering;
+pub use guest::Guest;
 pub use options::Ran;
 pub use program::Program;
-pub use run_stamps::run_stamped;
-pub use schedule::{ended_as, is_due, pick};
-pub use stamp_guest::StampedGuest;
+pub use run::run_guest;

@@ -2,7 +2,7 @@
 ghost use Rattle.std.specs.Prelude.{◌≡◌, ℕ, ◌+◌, ◌<◌, ◌≤◌, ◌^◌, ◌⊎◌, length, OnOk, Contains, slice_index};
 ghost use Rattle.et_loop.specs.Stamping.{Restamps, HasStamps};
 
-use crate::stamp_guest::StampedGuest;
+use crate::guest::Guest;
 use et_base::{NoMemory, ObjectId};
 use et_graph::Stamps;
 
@@ -37,7 +37,7 @@ fn stamp_new(stamps: &mut Stamps, before: u32, made: u32, event: u64)
 
 /// Stamps what the event after e lost with e, the last event after which it was reached for certain, and what it made
 /// with its own number. There were so many objects before it. All of them have places afterwards.
-pub fn restamp<G: StampedGuest>(
+pub fn restamp<G: Guest>(
     machine: &G,
     e: u64,
     before: u32,

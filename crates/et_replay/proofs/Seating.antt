@@ -7,7 +7,7 @@ use Rattle.std.specs.List.{flat_map, AllZip, All}
 use Rattle.std.proofs.lemmas.List.{take_more, append-nil}
 use Rattle.std.proofs.lemmas.Grind.{flat_map-append}
 use Rattle.std.proofs.lemmas.List.Elements.{All-cons}
-use Rattle.et_io.specs.Sink.{with_more, TakesFront}
+use Rattle.et_io.specs.Sink.{with_more, TakesPrefix}
 use Rattle.et_graph.specs.Graph.{Graph, Decides}
 use Rattle.et_graph.proofs.Walks.{is_reached, is_reached_decides}
 use Rattle.et_replay.specs.declared.item.Item.{Item}
@@ -213,5 +213,5 @@ with_none : (told : Option (List ℕ)) → told ≡ with_more told []
 with_none (Some taken) = ap (λ (t : List ℕ). Some t) (sym (append-nil taken))
 with_none None = refl
 
-pub none_taken : (told : Option (List ℕ)) (text : List ℕ) → TakesFront told told text
-none_taken told text = (text, record { front = []; parts = refl; taken = with_none told })
+pub none_taken : (told : Option (List ℕ)) (text : List ℕ) → TakesPrefix told told text
+none_taken told text = (text, record { prefix = []; parts = refl; taken = with_none told })

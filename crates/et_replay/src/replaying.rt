@@ -2,7 +2,7 @@
 ghost use Rattle.std.specs.Prelude.{◌≡◌, ◌<◌, ◌≤◌, ◌++◌, ◌∷◌, [], ℕ, Bool, List, length, reverse, All, OnOk, IfOk, MatchOption, Some, None, OnErr, IsErrOf};
 ghost use Rattle.std.specs.List.{flat_map, AllZip};
 ghost use Rattle.et_io.specs.Faults.{Rose};
-ghost use Rattle.et_io.specs.Sink.{with_more, TakesFront};
+ghost use Rattle.et_io.specs.Sink.{with_more, TakesPrefix};
 ghost use Rattle.et_graph.specs.Graph.{Graph, Decides};
 ghost use Rattle.et_replay.specs.Feeding.{HasRoom, MayCome};
 ghost use Rattle.et_replay.specs.Items.{made, MakesInOrder};
@@ -192,7 +192,7 @@ fn lines_of(
 /// the models. A model that answers `Exhausted` has its report taken and is dropped there; the others go on. The
 /// models have their policies, were told of at least as many objects as the timeline makes, and were fed nothing. The
 /// answer is the number of lines. Bytes are put only once all lines are there. `Write` comes only where the sink's
-/// count of faults rose; after `Write` and after `NoMemory` the sink took a front of the lines.
+/// count of faults rose; after `Write` and after `NoMemory` the sink took a prefix of the lines.
 pub fn replay<O: Sink>(
     alloc: Global,
     timeline: &Timeline,
@@ -209,7 +209,7 @@ pub fn replay<O: Sink>(
     ensures write { IsErrOf result RunFault.Write → Rose (O.faults sink.old) (O.faults sink.new) }
     ensures err { (reached : Graph → ℕ → Bool) → Decides reached → (policies : List Policy) →
         AllZip (λ b policy. (objects : ℕ) × stands_for b policy objects []) models.items policies →
-        OnErr result (TakesFront
+        OnErr result (TakesPrefix
         (O.taken sink.old) (O.taken sink.new) (replay_text reached timeline.now policies)) }
     ensures never_falls { O.faults sink.old ≤ O.faults sink.new }
 {

@@ -12,7 +12,7 @@ use crate::steps::{machine_event, machine_flush};
 use crate::threads::{nth_unended, unended_count};
 use et_base::{NoMemory, ObjectId, Steps, ThreadId};
 use et_graph::{Death, Stamps};
-use et_loop::StampedGuest;
+use et_loop::Guest;
 use et_state::{EventEnd, Lines, Machine};
 use std::alloc::Global;
 use std::marker::Model;
@@ -41,7 +41,7 @@ impl ProgramGuest {
     }
 }
 
-impl StampedGuest for ProgramGuest {
+impl Guest for ProgramGuest {
     type Code = NamedProgram;
 
     type Room = GuestRoom;

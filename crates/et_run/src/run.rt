@@ -9,7 +9,7 @@ ghost use Rattle.et_io.specs.Faults.{Rose};
 ghost use Rattle.et_state.specs.State.{kept_of};
 ghost use Rattle.et_loop.specs.Visits.{allowed_visits};
 ghost use Rattle.et_program.specs.Tables.{IsTabled};
-ghost use Rattle.et_loop.specs.Traced.{WritesTrace, WritesFront};
+ghost use Rattle.et_loop.specs.Traced.{WritesTrace, WritesPrefix};
 ghost use Rattle.et_state.specs.Options.{AreOptions};
 ghost use Rattle.et_run.specs.Runs.{IsRunnable};
 
@@ -18,7 +18,7 @@ use crate::guest::ProgramGuest;
 use crate::named::NamedProgram;
 use et_base::{NoMemory, Steps};
 use et_io::{RunFault, Sink};
-use et_loop::{Ran, run_stamped};
+use et_loop::{Ran, run_guest};
 use et_program::Program;
 use et_state::{Lines, Machine, Options};
 use std::alloc::Global;
@@ -53,8 +53,8 @@ fn run_from<O: Sink, L: Ledger>(
     ensures trace { (reached : Graph → ℕ → Bool) →
         Decides reached → IfOk result (λ ran. WritesTrace reached (setting code.now options.now)
         (kept_of machine) made.now ran (O.taken sink.old) (O.taken sink.new)) }
-    ensures front { (reached : Graph → ℕ → Bool) →
-        Decides reached → OnErr result (WritesFront reached (setting code.now options.now)
+    ensures prefix { (reached : Graph → ℕ → Bool) →
+        Decides reached → OnErr result (WritesPrefix reached (setting code.now options.now)
         (kept_of machine) made.now (O.taken sink.old) (O.taken sink.new)) }
     ensures visits { (reached : Graph → ℕ → Bool) →
         Decides reached → IfOk result (λ ran. visits.new ≤ visits.old + allowed_visits reached
@@ -63,14 +63,14 @@ fn run_from<O: Sink, L: Ledger>(
     ensures never_falls { O.faults sink.old ≤ O.faults sink.new }
 {
     let mut guest = ProgramGuest::of(machine);
-    run_stamped(alloc, code, options, &mut guest, made, sink, visits)
+    run_guest(alloc, code, options, &mut guest, made, sink, visits)
 }
 
 /// Runs a linked program from its first state, and writes the trace of its history to the sink. The machine keeps a stamp for
 /// each object, and searches nothing but at a flush: the visits of objects are at most those of the history's flushes, eight
 /// for each event, and one for each object that an event makes.
 ///
-/// `Write` comes only where the sink's count of faults rose. After `Write` and after `NoMemory` the sink took a front of the
+/// `Write` comes only where the sink's count of faults rose. After `Write` and after `NoMemory` the sink took a prefix of the
 /// trace.
 pub fn run_program<O: Sink, L: Ledger>(
     alloc: Global,
@@ -85,8 +85,8 @@ pub fn run_program<O: Sink, L: Ledger>(
     ensures trace { (reached : Graph → ℕ → Bool) →
         Decides reached → IfOk result (λ ran. WritesTrace reached (setting code.now options.now)
         (start code.now) (start_records code.now) ran (O.taken sink.old) (O.taken sink.new)) }
-    ensures front { (reached : Graph → ℕ → Bool) →
-        Decides reached → OnErr result (WritesFront reached (setting code.now options.now)
+    ensures prefix { (reached : Graph → ℕ → Bool) →
+        Decides reached → OnErr result (WritesPrefix reached (setting code.now options.now)
         (start code.now) (start_records code.now) (O.taken sink.old) (O.taken sink.new)) }
     ensures visits { (reached : Graph → ℕ → Bool) → Decides reached → IfOk result (λ ran. visits.new
         ≤ visits.old + allowed_visits reached (setting code.now options.now) flush_visits_of

@@ -4,12 +4,12 @@ use Rattle.std.specs.Prelude.{OnErr, OnOk}
 use Rattle.et_base.specs.declared.value.End.{End}
 use Rattle.et_base.specs.declared.value.End.TheVariants as ends
 use Rattle.et_graph.specs.Graph.{Graph}
-use Rattle.et_io.specs.Sink.{TakesFront, with_more}
+use Rattle.et_io.specs.Sink.{TakesPrefix, with_more}
 use Rattle.et_io.specs.declared.putting.RunFault.{RunFault}
 use Rattle.et_io.specs.declared.putting.RunFault.TheVariants as write
 use Rattle.et_state.specs.declared.options.Options.{Options}
 use Rattle.et_loop.specs.declared.options.Ran.{Ran}
-use Rattle.et_loop.specs.Traced.{WritesTrace, WritesFront}
+use Rattle.et_loop.specs.Traced.{WritesTrace, WritesPrefix}
 use Rattle.et_program.specs.Entries.{Linked}
 use Rattle.et_event.specs.Start.{start, start_records}
 use Rattle.et_run.specs.Histories.{setting}
@@ -30,9 +30,9 @@ use Rattle.et_top.specs.Refusals.{status_of}
 use Rattle.et_top.specs.Told.{Cause, File, Reading, Other, IsCause, cause_of, refusal_of, status_of_writing}
 
 -- nothing of a piece was taken
-pub front_nothing : (taken : Option (List ℕ)) (piece : List ℕ) → TakesFront taken taken piece
-front_nothing None piece = (piece, record { front = []; parts = refl; taken = refl })
-front_nothing (Some xs) piece = (piece, record { front = []; parts = refl; taken = ap (λ ys. Some ys) (sym (append-nil xs)) })
+pub front_nothing : (taken : Option (List ℕ)) (piece : List ℕ) → TakesPrefix taken taken piece
+front_nothing None piece = (piece, record { prefix = []; parts = refl; taken = refl })
+front_nothing (Some xs) piece = (piece, record { prefix = []; parts = refl; taken = ap (λ ys. Some ys) (sym (append-nil xs)) })
 
 -- A HISTORY THAT WAS RUN
 
@@ -53,8 +53,8 @@ module _ (reached : Graph → ℕ → Bool) (before after : Option (List ℕ)) (
       by (ends.IllTyped t m p) e = history ran (ends.IllTyped t m p) status.IllTyped e refl w v
       by ends.ObjectLimit e = history ran ends.ObjectLimit status.ObjectLimit e refl w v
 
-  -- a history that was not run to its end left a front of its trace
-  pub front_gives : (fault : RunFault) (answer : Status) → answer ≡ status_of (refusal_of fault) → WritesFront reached (setting program options) (start program) (start_records program) before after → ((fault ≡ write.Write) → written) → Gives reached before after old new read written (Traces program options) answer
+  -- a history that was not run to its end left a prefix of its trace
+  pub front_gives : (fault : RunFault) (answer : Status) → answer ≡ status_of (refusal_of fault) → WritesPrefix reached (setting program options) (start program) (start_records program) before after → ((fault ≡ write.Write) → written) → Gives reached before after old new read written (Traces program options) answer
   front_gives write.Write answer is front rose = subst (Gives reached before after old new read written (Traces program options)) (sym is) (rose refl, front)
   front_gives write.NoMemory answer is front rose = subst (Gives reached before after old new read written (Traces program options)) (sym is) front
 
@@ -77,7 +77,7 @@ module _ (reached : Graph → ℕ → Bool) (before after : Option (List ℕ)) (
 -- A TEXT THAT WAS WRITTEN
 
 pub writing_gives : (reached : Graph → ℕ → Bool) (before after : Option (List ℕ)) (old new : ℕ) (read written : Type 0) (text : (Graph → ℕ → Bool) → List ℕ) (wrote : Result (Unit {0}) RunFault)
-    → OnOk wrote (after ≡ with_more before (text reached)) → OnErr wrote (TakesFront before after (text reached)) → ((wrote ≡ Err write.Write) → written)
+    → OnOk wrote (after ≡ with_more before (text reached)) → OnErr wrote (TakesPrefix before after (text reached)) → ((wrote ≡ Err write.Write) → written)
     → Gives reached before after old new read written (Writes text) (status_of_writing wrote)
 writing_gives reached before after old new read written text (Ok done) ok err rose = ok
 writing_gives reached before after old new read written text (Err write.Write) ok err rose = (rose refl, err)
@@ -86,7 +86,7 @@ writing_gives reached before after old new read written text (Err write.NoMemory
 -- .. where that is what is defined
 pub text_gives : {A : Type 0} (reached : Graph → ℕ → Bool) (before after : Option (List ℕ)) (old new : ℕ) (read written : Type 0) (text : (Graph → ℕ → Bool) → A → List ℕ) (found : Result A Fault) (a : A) (d : Defined) (wrote : Result (Unit {0}) RunFault) (answer : Status)
     → d ≡ writes text found → found ≡ Ok a → answer ≡ status_of_writing wrote
-    → OnOk wrote (after ≡ with_more before (text reached a)) → OnErr wrote (TakesFront before after (text reached a)) → ((wrote ≡ Err write.Write) → written)
+    → OnOk wrote (after ≡ with_more before (text reached a)) → OnErr wrote (TakesPrefix before after (text reached a)) → ((wrote ≡ Err write.Write) → written)
     → Gives reached before after old new read written d answer
 text_gives reached before after old new read written text found a d wrote answer is was how ok err rose =
     subst (λ x. Gives reached before after old new read written x answer) (sym (is ∙ ap (writes text) was))

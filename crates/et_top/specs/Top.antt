@@ -5,10 +5,10 @@ use Rattle.et_base.specs.declared.value.End.{End}
 use Rattle.et_base.specs.declared.value.End.TheVariants as ends
 use Rattle.et_graph.specs.Graph.{Graph}
 use Rattle.et_io.specs.Files.{Held}
-use Rattle.et_io.specs.Sink.{with_more, TakesFront}
+use Rattle.et_io.specs.Sink.{with_more, TakesPrefix}
 use Rattle.et_state.specs.declared.options.Options.{Options}
 use Rattle.et_loop.specs.declared.options.Ran.{Ran}
-use Rattle.et_loop.specs.Traced.{WritesTrace, WritesFront}
+use Rattle.et_loop.specs.Traced.{WritesTrace, WritesPrefix}
 use Rattle.et_replay.specs.Curve.{curve_text}
 use Rattle.et_replay.specs.Replay.{replay_text}
 use Rattle.et_replay.specs.Timeline.{timeline_items}
@@ -88,20 +88,20 @@ module _ (reached : Graph → ℕ → Bool) (before after : Option (List ℕ)) (
   -- THE ANSWER where the files and out tell what they hold and took. `read` and `written` say that the count of faults
   -- of the files and of out rose in this call. Each answer has what is defined; but a fault of reading or writing comes
   -- where its count rose, and want of memory anywhere. Where nothing is defined to be written nothing was taken; after
-  -- a fault of writing and want of memory a front of what is. The visits of objects are counted in the run of a history.
+  -- a fault of writing and want of memory a prefix of what is. The visits of objects are counted in the run of a history.
   abbrev pub Gives : (read written : Type 0) → Defined → Status → Type 0
   Gives read written Usage answer = (after ≡ before) × ((answer ≡ status.Usage) ⊎ (answer ≡ status.NoMemory))
   Gives read written (Refused fault) answer =
       (after ≡ before) × ((answer ≡ status_of_fault fault) ⊎ (((answer ≡ status.ReadFault) × read) ⊎ (answer ≡ status.NoMemory)))
   Gives read written (Writes text) status.Done = after ≡ with_more before (text reached)
   Gives read written (Writes text) status.ReadFault = read × (after ≡ before)
-  Gives read written (Writes text) status.WriteFault = written × TakesFront before after (text reached)
-  Gives read written (Writes text) status.NoMemory = TakesFront before after (text reached)
+  Gives read written (Writes text) status.WriteFault = written × TakesPrefix before after (text reached)
+  Gives read written (Writes text) status.NoMemory = TakesPrefix before after (text reached)
   Gives read written (Writes text) answer = ⊥
   Gives read written (Traces program options) status.Done = WritesHistory program options status.Done
   Gives read written (Traces program options) status.IllTyped = WritesHistory program options status.IllTyped
   Gives read written (Traces program options) status.ObjectLimit = WritesHistory program options status.ObjectLimit
   Gives read written (Traces program options) status.ReadFault = read × (after ≡ before)
-  Gives read written (Traces program options) status.WriteFault = written × WritesFront reached (setting program options) (start program) (start_records program) before after
-  Gives read written (Traces program options) status.NoMemory = WritesFront reached (setting program options) (start program) (start_records program) before after
+  Gives read written (Traces program options) status.WriteFault = written × WritesPrefix reached (setting program options) (start program) (start_records program) before after
+  Gives read written (Traces program options) status.NoMemory = WritesPrefix reached (setting program options) (start program) (start_records program) before after
   Gives read written (Traces program options) answer = ⊥

@@ -3,7 +3,7 @@ ghost use Rattle.std.specs.Prelude.{◌≡◌, ◌≤◌, ◌<◌, ◌^◌, ◌�
 ghost use Rattle.std.specs.List.{AllZip};
 ghost use Rattle.et_graph.specs.Graph.{Graph, Decides};
 ghost use Rattle.et_io.specs.Faults.{Rose};
-ghost use Rattle.et_io.specs.Sink.{with_more, TakesFront};
+ghost use Rattle.et_io.specs.Sink.{with_more, TakesPrefix};
 ghost use Rattle.et_replay.specs.Replay.{replay_text};
 ghost use Rattle.et_replay.specs.Timeline.{timeline_items};
 ghost use Rattle.et_replay.specs.Items.{made};
@@ -116,7 +116,7 @@ pub fn replay_trace<O: Sink>(
         (timeline_items trace.now) (policies_of asked.now (map (λ b. kind_of b) models.items)))) }
     ensures write { IsErrOf result RunFault.Write → Rose (O.faults out.old) (O.faults out.new) }
     ensures err { (reached : Graph → ℕ → Bool) → Decides reached →
-        OnErr result (TakesFront (O.taken out.old) (O.taken out.new) (replay_text reached
+        OnErr result (TakesPrefix (O.taken out.old) (O.taken out.new) (replay_text reached
         (timeline_items trace.now) (policies_of asked.now (map (λ b. kind_of b) models.items)))) }
     ensures never_falls { O.faults out.old ≤ O.faults out.new }
 {

@@ -17,9 +17,9 @@ pub enum Status {
     LinkFault,
     /// A read failed.
     ReadFault,
-    /// A write failed. What was taken is a front of the output.
+    /// A write failed. What was taken is a prefix of the output.
     WriteFault,
-    /// Memory ran out. What was taken is a front of the output.
+    /// Memory ran out. What was taken is a prefix of the output.
     NoMemory,
     /// A file is no trace.
     BadTrace,

@@ -64,7 +64,7 @@ fn perform<F: Files, O: Sink, E: Sink, L: Ledger>(
 /// - `curve` reads a trace and writes its live curve.
 ///
 /// Refusals come in this order: the words; of each file the read, the length and what it holds; linking; the run. Until
-/// all that is read is known to be good, and to link, nothing is put to out; after `WriteFault` and `NoMemory` out took a front of the output. A
+/// all that is read is known to be good, and to link, nothing is put to out; after `WriteFault` and `NoMemory` out took a prefix of the output. A
 /// fault of err changes nothing.
 pub fn elephant<F: Files, O: Sink, E: Sink, L: Ledger>(
     alloc: Global,

@@ -7,7 +7,7 @@ use Rattle.et_loop.proofs.flushes.conclude.Goals as goal
 
 pub returns-clause-visits : goal.returns-clause-visits
 returns-clause-visits g c here decides =
-    let G = g.G.StampedGuest in
+    let G = g.G.Guest in
     let flush : ℕ = G.flush_visits_of here (G.state c.args.machine.now) in
     ok_any c.write_line.result (elim c.if-not-due.branch [
       | then-not-due+in_ok-report w ↦

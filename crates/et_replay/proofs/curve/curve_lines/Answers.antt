@@ -1,7 +1,7 @@
 use Rattle.std.proofs.Common.{◌≡◌, ◌∙◌, List, ℕ, [], Option, Some, None, refl, sym, ap, subst}
 use Rattle.std.specs.Prelude.{OnOk, OnErr}
 use Rattle.std.proofs.lemmas.List.{append-nil}
-use Rattle.et_io.specs.Sink.{with_more, TakesFront}
+use Rattle.et_io.specs.Sink.{with_more, TakesPrefix}
 use Rattle.et_replay.specs.Curve.{curve_text}
 use Rattle.et_replay.proofs.curve.curve_lines.Goals as goal
 
@@ -13,11 +13,11 @@ returns-in-Ok-clause-ok g c =
 pub returns-in-Ok-clause-err : goal.returns-in-Ok-clause-err
 returns-in-Ok-clause-err g c =
     let text = c.as_slice.ensures.value ∙ (c.in-Ok.ensures ∙ ap curve_text c.lines.ensures.value) in
-    subst (λ (t : List ℕ). OnErr c.put_all.result (TakesFront (g.O.Sink.taken c.args.sink.now) (g.O.Sink.taken c.put_all.new.sink) t)) text c.put_all.ensures.err
+    subst (λ (t : List ℕ). OnErr c.put_all.result (TakesPrefix (g.O.Sink.taken c.args.sink.now) (g.O.Sink.taken c.put_all.new.sink) t)) text c.put_all.ensures.err
 
 with_none : (told : Option (List ℕ)) → told ≡ with_more told []
 with_none (Some taken) = ap (λ (t : List ℕ). Some t) (sym (append-nil taken))
 with_none None = refl
 
 pub returns-in-Err-clause-err : goal.returns-in-Err-clause-err
-returns-in-Err-clause-err g c = (curve_text c.args.trace.now, record { front = []; parts = refl; taken = with_none (g.O.Sink.taken c.args.sink.now) })
+returns-in-Err-clause-err g c = (curve_text c.args.trace.now, record { prefix = []; parts = refl; taken = with_none (g.O.Sink.taken c.args.sink.now) })

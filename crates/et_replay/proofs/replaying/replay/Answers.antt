@@ -1,7 +1,7 @@
 use Rattle.std.proofs.Common.{◌≡◌, ◌∙◌, List, ℕ, Result, Ok, Err, ap, subst, reverse, length}
 use Rattle.std.specs.Prelude.{OnErr}
 use Rattle.std.specs.List.{flat_map}
-use Rattle.et_io.specs.Sink.{with_more, TakesFront}
+use Rattle.et_io.specs.Sink.{with_more, TakesPrefix}
 use Rattle.et_replay.specs.Items.{made}
 use Rattle.et_replay.specs.Replay.{replay_text}
 use Rattle.et_replay.specs.Seats.{told_line}
@@ -29,7 +29,7 @@ returns-in_err-put_all-clause-err g c = λ reached decides policies z.
     let items = c.args.timeline.now in
     let text : c.as_slice.result.now ≡ replay_text reached items policies =
     c.as_slice.ensures.value ∙ (c.in-Ok-lines_of.ensures reached decides t.told t.zip ∙ (ap (λ is. flat_map (told_line reached (reverse is)) t.told) c.items.ensures.value ∙ text_is _ reached items c.args.models.items policies t)) in
-    on_err c.from_residual.result (subst (λ (u : List ℕ). TakesFront (g.O.Sink.taken c.args.sink.now) (g.O.Sink.taken c.put_all.new.sink) u) text c.in_err-put_all.ensures.err))
+    on_err c.from_residual.result (subst (λ (u : List ℕ). TakesPrefix (g.O.Sink.taken c.args.sink.now) (g.O.Sink.taken c.put_all.new.sink) u) text c.in_err-put_all.ensures.err))
 
 pub returns-clause-ok : goal.returns-clause-ok
 returns-clause-ok g c = λ reached decides policies z.

@@ -4,7 +4,7 @@ use Rattle.et_state.specs.State.{Kept, kept_of}
 use Rattle.et_state.specs.declared.records.Record.{Record}
 use Rattle.et_event.specs.Start.{start, start_records}
 use Rattle.et_loop.specs.Visits.{allowed_visits}
-use Rattle.et_loop.specs.Traced.{WritesTrace, WritesFront}
+use Rattle.et_loop.specs.Traced.{WritesTrace, WritesPrefix}
 use Rattle.et_loop.proofs.RunLemmas.{front_nothing}
 use Rattle.et_run.specs.Guests.{flush_visits_of}
 use Rattle.et_run.specs.Histories.{setting}
@@ -16,11 +16,11 @@ returns-in-Ok-clause-trace g c reached decides =
     (subst (λ (s : Kept). IfOk c.run_from.result (λ ran. WritesTrace reached (setting c.args.code.now c.args.options.now) s c.in-Ok.made ran (g.O.Sink.taken c.args.sink.now) (g.O.Sink.taken c.run_from.new.sink))) (c.in-Ok.ensures.state ∙ ap start c.program-program.ensures)
     (c.run_from.ensures.trace reached decides))
 
-pub returns-in-Ok-clause-front : goal.returns-in-Ok-clause-front
-returns-in-Ok-clause-front g c reached decides =
-    subst (λ (rs : List Record). OnErr c.run_from.result (WritesFront reached (setting c.args.code.now c.args.options.now) (start c.args.code.now) rs (g.O.Sink.taken c.args.sink.now) (g.O.Sink.taken c.run_from.new.sink))) (c.in-Ok.ensures.records ∙ ap start_records c.program-program.ensures)
-    (subst (λ (s : Kept). OnErr c.run_from.result (WritesFront reached (setting c.args.code.now c.args.options.now) s c.in-Ok.made (g.O.Sink.taken c.args.sink.now) (g.O.Sink.taken c.run_from.new.sink))) (c.in-Ok.ensures.state ∙ ap start c.program-program.ensures)
-    (c.run_from.ensures.front reached decides))
+pub returns-in-Ok-clause-prefix : goal.returns-in-Ok-clause-prefix
+returns-in-Ok-clause-prefix g c reached decides =
+    subst (λ (rs : List Record). OnErr c.run_from.result (WritesPrefix reached (setting c.args.code.now c.args.options.now) (start c.args.code.now) rs (g.O.Sink.taken c.args.sink.now) (g.O.Sink.taken c.run_from.new.sink))) (c.in-Ok.ensures.records ∙ ap start_records c.program-program.ensures)
+    (subst (λ (s : Kept). OnErr c.run_from.result (WritesPrefix reached (setting c.args.code.now c.args.options.now) s c.in-Ok.made (g.O.Sink.taken c.args.sink.now) (g.O.Sink.taken c.run_from.new.sink))) (c.in-Ok.ensures.state ∙ ap start c.program-program.ensures)
+    (c.run_from.ensures.prefix reached decides))
 
 pub returns-in-Ok-clause-visits : goal.returns-in-Ok-clause-visits
 returns-in-Ok-clause-visits g c reached decides =
@@ -28,5 +28,5 @@ returns-in-Ok-clause-visits g c reached decides =
     (subst (λ (s : Kept). IfOk c.run_from.result (λ ran. c.run_from.new.visits ≤ c.args.visits.now + allowed_visits reached (setting c.args.code.now c.args.options.now) flush_visits_of s c.in-Ok.made ran.event)) (c.in-Ok.ensures.state ∙ ap start c.program-program.ensures)
     (c.run_from.ensures.visits reached decides))
 
-pub returns-in-Err-clause-front : goal.returns-in-Err-clause-front
-returns-in-Err-clause-front g c reached decides = front_nothing reached (setting c.args.code.now c.args.options.now) (start c.args.code.now) (start_records c.args.code.now) (g.O.Sink.taken c.args.sink.now)
+pub returns-in-Err-clause-prefix : goal.returns-in-Err-clause-prefix
+returns-in-Err-clause-prefix g c reached decides = front_nothing reached (setting c.args.code.now c.args.options.now) (start c.args.code.now) (start_records c.args.code.now) (g.O.Sink.taken c.args.sink.now)

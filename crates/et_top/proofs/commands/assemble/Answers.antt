@@ -1,6 +1,6 @@
 use Rattle.std.proofs.Common.{◌≡◌, subst}
 use Rattle.std.specs.Prelude.{OnOk, OnErr}
-use Rattle.et_io.specs.Sink.{with_more, TakesFront}
+use Rattle.et_io.specs.Sink.{with_more, TakesPrefix}
 use Rattle.et_io.specs.Faults.{Rose}
 use Rattle.et_top.proofs.TopLemmas.{text_gives, refused_text}
 use Rattle.et_top.proofs.commands.assemble.Goals as goal
@@ -13,7 +13,7 @@ returns-in-Ok-clause-gives g c held told kinds d defined reached decides old new
     let written = Rose (g.O.Sink.faults c.args.out.now) (g.O.Sink.faults c.put_all.new.sink) in
     text_gives reached before after old new read written _ defined.0 c.in-Ok.bytes.items d c.put_all.result c.written.result defined.2 (c.in-Ok.ensures.tells held told defined.0 defined.1) c.written.ensures
     (subst (λ bytes. OnOk c.put_all.result (after ≡ with_more before bytes)) c.as_slice.ensures.value c.put_all.ensures.ok)
-    (subst (λ bytes. OnErr c.put_all.result (TakesFront before after bytes)) c.as_slice.ensures.value c.put_all.ensures.err) c.put_all.ensures.write
+    (subst (λ bytes. OnErr c.put_all.result (TakesPrefix before after bytes)) c.as_slice.ensures.value c.put_all.ensures.err) c.put_all.ensures.write
 
 pub returns-in-Err-clause-gives : goal.returns-in-Err-clause-gives
 returns-in-Err-clause-gives g c held told kinds d defined reached decides old new =

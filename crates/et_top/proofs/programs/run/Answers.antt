@@ -16,4 +16,4 @@ returns-in-Err-ended-clause-gives g c reached decides =
 
 pub returns-in-Err-clause-gives : goal.returns-in-Err-clause-gives
 returns-in-Err-clause-gives g c reached decides =
-    front_gives reached (g.O.Sink.taken c.args.out.now) (g.O.Sink.taken c.run_program.new.sink) c.args.visits.now c.run_program.new.visits ⊥ (Rose (g.O.Sink.faults c.args.out.now) (g.O.Sink.faults c.run_program.new.sink)) c.args.program.now c.args.options.now c.in-Err.fault c.refuse-in-Err.result (c.refuse-in-Err.ensures ∙ ap status_of c.of_fault.ensures) (c.in-Err.ensures.front reached decides) (λ e. c.in-Err.ensures.write (ap (λ (f : RunFault). Err f) e))
+    front_gives reached (g.O.Sink.taken c.args.out.now) (g.O.Sink.taken c.run_program.new.sink) c.args.visits.now c.run_program.new.visits ⊥ (Rose (g.O.Sink.faults c.args.out.now) (g.O.Sink.faults c.run_program.new.sink)) c.args.program.now c.args.options.now c.in-Err.fault c.refuse-in-Err.result (c.refuse-in-Err.ensures ∙ ap status_of c.of_fault.ensures) (c.in-Err.ensures.prefix reached decides) (λ e. c.in-Err.ensures.write (ap (λ (f : RunFault). Err f) e))

@@ -1,7 +1,7 @@
 use Rattle.std.proofs.Common.{◌≡◌, [], All, subst, sym, arith}
 use Rattle.et_state.specs.Naming.{IsNamed}
 use Rattle.et_loop.proofs.Marking.{done_lost_made}
-use Rattle.et_loop.proofs.stamp_tracer.step.Goals as goal
+use Rattle.et_loop.proofs.tracer.step.Goals as goal
 
 -- no record stands there before the event, and the event's are named
 pub write_records-requires : goal.write_records-requires
@@ -14,5 +14,5 @@ write_records-requires g c =
 
 pub restamp-requires-clause-lost : goal.restamp-requires-clause-lost
 restamp-requires-clause-lost g c =
-    let G = g.G.StampedGuest in
+    let G = g.G.Guest in
     done_lost_made c.in_ok-event.field-0 (G.graph_of (G.state c.args.machine.now)) (G.graph_of (G.state c.event.new.self)) (G.lost_of c.event.new.self) c.requires.made c.in_ok-event.ensures.step c.in-Done.is

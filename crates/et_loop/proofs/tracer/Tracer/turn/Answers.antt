@@ -6,17 +6,17 @@ use Rattle.et_loop.specs.Stamping.{Stamped}
 use Rattle.et_loop.specs.Visits.{TurnVisits}
 use Rattle.et_loop.proofs.Counts.{settled_as_many, turn_on_visits, turn_last_visits}
 use Rattle.et_loop.proofs.TurnSteps.{settled_made, deaths_now, goes_on, goes_out, still_listed}
-use Rattle.et_loop.proofs.stamp_tracer.Tracer.turn.Goals as goal
+use Rattle.et_loop.proofs.tracer.Tracer.turn.Goals as goal
 
 pub step-requires-clause-made : goal.step-requires-clause-made
 step-requires-clause-made g c =
-    let G = g.G.StampedGuest in
+    let G = g.G.Guest in
     settled_made c.is_due-due.result (G.graph_of (G.state c.args.machine.now)) (G.graph_of (G.state c.settle.new.machine)) c.in_ok-settle.ensures.graph c.requires.made
 
 -- the next event was done
 pub returns-in-None-clause-turns : goal.returns-in-None-clause-turns
 returns-in-None-clause-turns g c reached decides last listed =
-    let G = g.G.StampedGuest in
+    let G = g.G.Guest in
     let s = G.state c.args.machine.now in
     let graph = G.graph_of s in
     let given = setting_of (G.event_of c.args.code.now) G.unended_of G.graph_of G.flushed_of (g.G.Code.Program.names c.args.code.now) c.args.options.now in
@@ -30,7 +30,7 @@ returns-in-None-clause-turns g c reached decides last listed =
 -- the history ended
 pub returns-in_ok-conclude-in-Some-clause-turns : goal.returns-in_ok-conclude-in-Some-clause-turns
 returns-in_ok-conclude-in-Some-clause-turns g c reached decides last listed =
-    let G = g.G.StampedGuest in
+    let G = g.G.Guest in
     let s = G.state c.args.machine.now in
     let graph = G.graph_of s in
     let given = setting_of (G.event_of c.args.code.now) G.unended_of G.graph_of G.flushed_of (g.G.Code.Program.names c.args.code.now) c.args.options.now in
@@ -48,7 +48,7 @@ returns-in_ok-conclude-in-Some-clause-turns g c reached decides last listed =
 -- the visits of a turn
 pub returns-in-None-clause-visits : goal.returns-in-None-clause-visits
 returns-in-None-clause-visits g c here decides =
-    let G = g.G.StampedGuest in
+    let G = g.G.Guest in
     let s = G.state c.args.machine.now in
     let t = turn_on_visits c.is_due-due.result (G.flush_visits_of here s) (G.graph_of s).made (G.graph_of (G.state c.settle.new.machine)).made (G.graph_of (G.state c.step.new.machine)).made c.args.visits.now c.settle.new.visits c.step.new.visits
     (c.in_ok-settle.ensures.visits here decides) c.in_ok-step.ensures.visits (settled_as_many c.is_due-due.result (G.graph_of s) (G.graph_of (G.state c.settle.new.machine)) c.in_ok-settle.ensures.graph) in
@@ -56,7 +56,7 @@ returns-in-None-clause-visits g c here decides =
 
 pub returns-in_ok-conclude-in-Some-clause-visits : goal.returns-in_ok-conclude-in-Some-clause-visits
 returns-in_ok-conclude-in-Some-clause-visits g c here decides =
-    let G = g.G.StampedGuest in
+    let G = g.G.Guest in
     let s = G.state c.args.machine.now in
     let given = setting_of (G.event_of c.args.code.now) G.unended_of G.graph_of G.flushed_of (g.G.Code.Program.names c.args.code.now) c.args.options.now in
     let goes = subst (λ end. Goes given c.args.e (G.state c.settle.new.machine) c.args.self.now.numbering (G.state c.step.new.machine) c.step.new.numbering c.settle.new.buffer.items c.step.new.buffer.items end) c.in-Some.is c.in_ok-step.ensures.goes in

@@ -1,6 +1,6 @@
 use Rattle.std.proofs.Common.{◌≡◌, ℕ, ◌+◌, ◌<◌, Option, IfNone, refl, ◌∙◌, sym, subst, add-one, get_or, arith, rules}
 use Rattle.et_base.specs.declared.value.End.{End}
-use Rattle.et_io.specs.Sink.{with_more, TakesFront}
+use Rattle.et_io.specs.Sink.{with_more, TakesPrefix}
 use Rattle.et_graph.proofs.Walks.{is_reached, is_reached_decides}
 use Rattle.et_state.specs.History.{is_flush_point}
 use Rattle.et_loop.specs.Options.{setting_of}
@@ -10,45 +10,45 @@ use Rattle.et_loop.proofs.Turns.{told_first, told_made}
 use Rattle.et_loop.specs.Visits.{TurnVisits}
 use Rattle.et_loop.proofs.Counts.{none_so_far, more_so_far, last_allowed, passes_grow}
 use Rattle.et_loop.proofs.Joins.{graphs, graph_first, running_as, listed_here, next_runs, next_told}
-use Rattle.et_loop.proofs.run_stamps.run_stamped.Goals as goal
+use Rattle.et_loop.proofs.run.run_guest.Goals as goal
 
 -- no room for the first objects
-pub returns-in-Err-clause-front : goal.returns-in-Err-clause-front
-returns-in-Err-clause-front g c reached decides =
-    let G = g.G.StampedGuest in
+pub returns-in-Err-clause-prefix : goal.returns-in-Err-clause-prefix
+returns-in-Err-clause-prefix g c reached decides =
+    let G = g.G.Guest in
     let given = setting_of (G.event_of c.args.code.now) G.unended_of G.graph_of G.flushed_of (g.G.Code.Program.names c.args.code.now) c.args.options.now in
     front_nothing reached given (G.state c.args.machine.now) c.args.made.now (g.O.Sink.taken c.args.sink.now)
 
-pub returns-in-Err-begin-clause-front : goal.returns-in-Err-begin-clause-front
-returns-in-Err-begin-clause-front g c reached decides =
-    let G = g.G.StampedGuest in
+pub returns-in-Err-begin-clause-prefix : goal.returns-in-Err-begin-clause-prefix
+returns-in-Err-begin-clause-prefix g c reached decides =
+    let G = g.G.Guest in
     let given = setting_of (G.event_of c.args.code.now) G.unended_of G.graph_of G.flushed_of (g.G.Code.Program.names c.args.code.now) c.args.options.now in
     front_nothing reached given (G.state c.args.machine.now) c.args.made.now (g.O.Sink.taken c.args.sink.now)
 
-pub returns-in_err-put_all-clause-front : goal.returns-in_err-put_all-clause-front
-returns-in_err-put_all-clause-front g c reached decides =
-    let G = g.G.StampedGuest in
+pub returns-in_err-put_all-clause-prefix : goal.returns-in_err-put_all-clause-prefix
+returns-in_err-put_all-clause-prefix g c reached decides =
+    let G = g.G.Guest in
     let given = setting_of (G.event_of c.args.code.now) G.unended_of G.graph_of G.flushed_of (g.G.Code.Program.names c.args.code.now) c.args.options.now in
     let start = G.state c.args.machine.now in
     on_any c.from_residual.result (front_start reached given start c.args.made.now (g.O.Sink.taken c.args.sink.now) (g.O.Sink.taken c.put_all.new.sink) c.deref.result.now (c.deref.ensures.value ∙ c.in-Ok-begin.ensures.lines) c.in_err-put_all.ensures.err)
 
 pub events-init : goal.events-init
 events-init g c =
-    let made : (g.G.StampedGuest.graph_of (g.G.StampedGuest.state c.args.machine.now)).made ≡ c.made-objects.result = sym c.made-objects.ensures in
+    let made : (g.G.Guest.graph_of (g.G.Guest.state c.args.machine.now)).made ≡ c.made-objects.result = sym c.made-objects.ensures in
     record {
       runs = λ reached decides.
-          let G = g.G.StampedGuest in
+          let G = g.G.Guest in
           let given = setting_of (G.event_of c.args.code.now) G.unended_of G.graph_of G.flushed_of (g.G.Code.Program.names c.args.code.now) c.args.options.now in
           let start = G.state c.args.machine.now in
           running_as reached decides given start c.args.made.now 0 start (λ o. 0) _ _ _
           (running_start reached given start c.args.made.now (λ o. 0) _ _ _ c.deref.result.now (λ o. refl) c.in-Ok-begin.ensures.mentions (c.deref.ensures.value ∙ c.in-Ok-begin.ensures.lines) c.in_ok-put_all.ensures.ok);
       told = λ reached decides.
-          let G = g.G.StampedGuest in
+          let G = g.G.Guest in
           let given = setting_of (G.event_of c.args.code.now) G.unended_of G.graph_of G.flushed_of (g.G.Code.Program.names c.args.code.now) c.args.options.now in
           let start = G.state c.args.machine.now in
           told_first (graphs reached decides given start c.args.made.now) (G.graph_of start) (λ o. get_or c.in-Ok-begin.tracer.stamps o 0) c.requires.first.0 c.requires.first.1 c.in-Ok-begin.ensures.stamps (graph_first reached decides given start c.args.made.now);
       visits = λ reached decides.
-          let G = g.G.StampedGuest in
+          let G = g.G.Guest in
           let given = setting_of (G.event_of c.args.code.now) G.unended_of G.graph_of G.flushed_of (g.G.Code.Program.names c.args.code.now) c.args.options.now in
           let start = G.state c.args.machine.now in
           none_so_far reached given G.flush_visits_of start c.args.made.now c.args.visits.now;
@@ -56,7 +56,7 @@ events-init g c =
         few = omega (arith, made);
         places = omega (arith, made, c.in-Ok-begin.ensures.places);
       };
-      room = subst (λ (n : ℕ). g.G.StampedGuest.has_places c.in-Ok.room n) c.made-objects.ensures c.in-Ok.ensures;
+      room = subst (λ (n : ℕ). g.G.Guest.has_places c.in-Ok.room n) c.made-objects.ensures c.in-Ok.ensures;
       limit = search rules;
       clock = c.requires.clock;
       sound = c.requires.sound;
@@ -65,31 +65,31 @@ events-init g c =
 
 pub turn-requires-clause-made : goal.turn-requires-clause-made
 turn-requires-clause-made g c =
-    let G = g.G.StampedGuest in
+    let G = g.G.Guest in
     let given = setting_of (G.event_of c.args.code.now) G.unended_of G.graph_of G.flushed_of (g.G.Code.Program.names c.args.code.now) c.args.options.now in
     let start = G.state c.args.machine.now in
     told_made (graphs is_reached is_reached_decides given start c.args.made.now) c.events.e (G.graph_of (G.state c.events.machine)) (λ o. get_or c.events.tracer.stamps o 0) (c.events.invariant.told is_reached is_reached_decides)
 
-pub returns-in-Err-turn-clause-front : goal.returns-in-Err-turn-clause-front
-returns-in-Err-turn-clause-front g c reached decides =
-    let G = g.G.StampedGuest in
+pub returns-in-Err-turn-clause-prefix : goal.returns-in-Err-turn-clause-prefix
+returns-in-Err-turn-clause-prefix g c reached decides =
+    let G = g.G.Guest in
     let given = setting_of (G.event_of c.args.code.now) G.unended_of G.graph_of G.flushed_of (g.G.Code.Program.names c.args.code.now) c.args.options.now in
     let start = G.state c.args.machine.now in
     front_now reached given start c.args.made.now c.events.e _ _ _ _ _ (c.events.invariant.runs reached decides)
 
-pub returns-in_err-put_all-2-clause-front : goal.returns-in_err-put_all-2-clause-front
-returns-in_err-put_all-2-clause-front g c reached decides =
-    let G = g.G.StampedGuest in
+pub returns-in_err-put_all-2-clause-prefix : goal.returns-in_err-put_all-2-clause-prefix
+returns-in_err-put_all-2-clause-prefix g c reached decides =
+    let G = g.G.Guest in
     let given = setting_of (G.event_of c.args.code.now) G.unended_of G.graph_of G.flushed_of (g.G.Code.Program.names c.args.code.now) c.args.options.now in
     let start = G.state c.args.machine.now in
     let last = λ (o : ℕ). noted_before reached given start c.args.made.now o c.events.e in
     let runs = c.events.invariant.runs reached decides in
     let listed = listed_here reached decides given start c.args.made.now c.events.e _ _ _ _ runs (λ o. get_or c.events.tracer.stamps o 0) (c.events.invariant.told reached decides) in
-    on_any c.from_residual-in_err-put_all-2.result (front_turn reached given start c.args.made.now c.events.e _ _ _ _ _ runs c.in-Ok-turn.next _ _ _ _ _ c.clear.ensures.items (c.in-Ok-turn.ensures.turns reached decides last listed) (g.O.Sink.taken c.put_all-in-events.new.sink) (subst (λ b. TakesFront (g.O.Sink.taken c.events.sink) (g.O.Sink.taken c.put_all-in-events.new.sink) b) c.deref-in-events.ensures.value c.in_err-put_all-2.ensures.err))
+    on_any c.from_residual-in_err-put_all-2.result (front_turn reached given start c.args.made.now c.events.e _ _ _ _ _ runs c.in-Ok-turn.next _ _ _ _ _ c.clear.ensures.items (c.in-Ok-turn.ensures.turns reached decides last listed) (g.O.Sink.taken c.put_all-in-events.new.sink) (subst (λ b. TakesPrefix (g.O.Sink.taken c.events.sink) (g.O.Sink.taken c.put_all-in-events.new.sink) b) c.deref-in-events.ensures.value c.in_err-put_all-2.ensures.err))
 
 pub returns-in-Some-clause-trace : goal.returns-in-Some-clause-trace
 returns-in-Some-clause-trace g c reached decides =
-    let G = g.G.StampedGuest in
+    let G = g.G.Guest in
     let given = setting_of (G.event_of c.args.code.now) G.unended_of G.graph_of G.flushed_of (g.G.Code.Program.names c.args.code.now) c.args.options.now in
     let start = G.state c.args.machine.now in
     let last = λ (o : ℕ). noted_before reached given start c.args.made.now o c.events.e in
@@ -100,14 +100,14 @@ returns-in-Some-clause-trace g c reached decides =
 
 pub events-preserved : goal.events-preserved
 events-preserved g c =
-    let S = g.G.StampedGuest.state in
-    let graph = λ (m : g.row.G.Denot). g.G.StampedGuest.graph_of (S m) in
+    let S = g.G.Guest.state in
+    let graph = λ (m : g.row.G.Denot). g.G.Guest.graph_of (S m) in
     let limit : c.events.e < c.args.options.now.limit = subst (λ (end : Option End). IfNone end (c.events.e < c.args.options.now.limit)) c.in-None.is c.in-Ok-turn.ensures.limit in
     let before = c.events.invariant.faults in
     let rose = c.in_ok-put_all-2.ensures.never_falls in
     record {
       runs = λ reached decides.
-          let G = g.G.StampedGuest in
+          let G = g.G.Guest in
           let given = setting_of (G.event_of c.args.code.now) G.unended_of G.graph_of G.flushed_of (g.G.Code.Program.names c.args.code.now) c.args.options.now in
           let start = G.state c.args.machine.now in
           let last = λ (o : ℕ). noted_before reached given start c.args.made.now o c.events.e in
@@ -117,7 +117,7 @@ events-preserved g c =
           next_runs reached decides given start c.args.made.now c.events.e _ _ _ _ runs (λ o. get_or c.events.tracer.stamps o 0) told c.in-Ok-turn.next _ _ _ _ _ c.clear.ensures.items c.in-None.is (c.in-Ok-turn.ensures.turns reached decides last listed) (c.events.e + 1) (g.O.Sink.taken c.put_all-in-events.new.sink) (add-one c.events.e)
           (subst (λ b. g.O.Sink.taken c.put_all-in-events.new.sink ≡ with_more (g.O.Sink.taken c.events.sink) b) c.deref-in-events.ensures.value c.in_ok-put_all-2.ensures.ok);
       told = λ reached decides.
-          let G = g.G.StampedGuest in
+          let G = g.G.Guest in
           let given = setting_of (G.event_of c.args.code.now) G.unended_of G.graph_of G.flushed_of (g.G.Code.Program.names c.args.code.now) c.args.options.now in
           let start = G.state c.args.machine.now in
           let last = λ (o : ℕ). noted_before reached given start c.args.made.now o c.events.e in
@@ -131,7 +131,7 @@ events-preserved g c =
           (subst (λ b. g.O.Sink.taken c.put_all-in-events.new.sink ≡ with_more (g.O.Sink.taken c.events.sink) b) c.deref-in-events.ensures.value c.in_ok-put_all-2.ensures.ok)
           due (λ o. get_or c.turn.new.self.stamps o 0) passes;
       visits = λ reached decides.
-          let G = g.G.StampedGuest in
+          let G = g.G.Guest in
           let given = setting_of (G.event_of c.args.code.now) G.unended_of G.graph_of G.flushed_of (g.G.Code.Program.names c.args.code.now) c.args.options.now in
           let start = G.state c.args.machine.now in
           let s = S c.events.machine in
@@ -142,17 +142,17 @@ events-preserved g c =
           more_so_far reached given G.flush_visits_of start c.args.made.now c.events.e s c.args.visits.now c.events.visits (c.events.invariant.visits reached decides) ((c.events.invariant.runs reached decides).state) (S c.turn.new.machine) c.turn.new.visits
           (passes_grow due c.events.e (graph c.events.machine) (graph c.turn.new.machine) (λ o. get_or c.events.tracer.stamps o 0) (λ o. get_or c.turn.new.self.stamps o 0) passes) turn (c.events.e + 1) (add-one c.events.e);
       stamps = subst (λ (end : Option End). IfNone end (HasStamps (graph c.turn.new.machine) c.turn.new.self.stamps)) c.in-None.is c.in-Ok-turn.ensures.stamps;
-      room = subst (λ (end : Option End). IfNone end (g.G.StampedGuest.has_places c.turn.new.room (graph c.turn.new.machine).made)) c.in-None.is c.in-Ok-turn.ensures.room;
+      room = subst (λ (end : Option End). IfNone end (g.G.Guest.has_places c.turn.new.room (graph c.turn.new.machine).made)) c.in-None.is c.in-Ok-turn.ensures.room;
       limit = omega arith;
-      clock = subst (λ (end : Option End). IfNone end (g.G.StampedGuest.clock_of (S c.turn.new.machine) ≡ c.events.e + 1)) c.in-None.is c.in-Ok-turn.ensures.clock;
-      sound = subst (λ (end : Option End). IfNone end (g.G.StampedGuest.is_sound c.args.code.now (S c.turn.new.machine))) c.in-None.is c.in-Ok-turn.ensures.sound;
+      clock = subst (λ (end : Option End). IfNone end (g.G.Guest.clock_of (S c.turn.new.machine) ≡ c.events.e + 1)) c.in-None.is c.in-Ok-turn.ensures.clock;
+      sound = subst (λ (end : Option End). IfNone end (g.G.Guest.is_sound c.args.code.now (S c.turn.new.machine))) c.in-None.is c.in-Ok-turn.ensures.sound;
       faults = omega (arith, before, rose);
     }
 
 -- the visits of the whole run
 pub returns-in-Some-clause-visits : goal.returns-in-Some-clause-visits
 returns-in-Some-clause-visits g c reached decides =
-    let G = g.G.StampedGuest in
+    let G = g.G.Guest in
     let given = setting_of (G.event_of c.args.code.now) G.unended_of G.graph_of G.flushed_of (g.G.Code.Program.names c.args.code.now) c.args.options.now in
     let start = G.state c.args.machine.now in
     let s = G.state c.events.machine in

@@ -18,7 +18,7 @@ use std::sync::ledger::Ledger;
 
 /// A machine that does events of a program, one at a time, says which objects an event took a reference away from, and
 /// finds the deaths of a flush by stamps. The run knows of it nothing but this.
-pub trait StampedGuest {
+pub trait Guest {
     /// What it runs.
     type Code: Program;
 

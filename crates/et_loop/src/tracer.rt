@@ -13,11 +13,11 @@ ghost use Rattle.et_loop.specs.Stamping.{HasStamps, Stamped, Passes};
 ghost use Rattle.et_loop.specs.Visits.{TurnVisits};
 
 use crate::flushes::{conclude, settle};
+use crate::guest::Guest;
 use crate::marks::restamp;
 use crate::naming::Numbering;
 use crate::program::Program;
 use crate::schedule::{is_due, pick};
-use crate::stamp_guest::StampedGuest;
 use et_base::{End, NoMemory, Steps, TraceLine};
 use et_graph::Stamps;
 use et_state::{EventEnd, Lines, Options};
@@ -37,7 +37,7 @@ pub struct Tracer {
 }
 
 /// The next event, or how the history ends after event e.
-fn step<G: StampedGuest, L: Ledger>(
+fn step<G: Guest, L: Ledger>(
     alloc: Global,
     code: &G::Code,
     options: &Options,
@@ -129,7 +129,7 @@ impl Tracer {
 
     /// One turn of the run after event e: a flush comes where it is due, and then the next event is done, or the history
     /// ends.
-    pub fn turn<G: StampedGuest, L: Ledger>(
+    pub fn turn<G: Guest, L: Ledger>(
         &mut self,
         alloc: Global,
         code: &G::Code,

@@ -6,11 +6,11 @@ use Rattle.et_loop.specs.Stamping.{HasStamps}
 use Rattle.et_loop.specs.Told.{IsTold}
 use Rattle.et_loop.proofs.Counts.{AreSoFar}
 use Rattle.et_loop.proofs.Joins.{graphs}
-use Rattle.et_loop.proofs.run_stamps.run_stamped.Given as goal
+use Rattle.et_loop.proofs.run.run_guest.Given as goal
 
 abbrev pub invariant-events : goal.invariant-events
 invariant-events g l =
-    let G = g.G.StampedGuest in
+    let G = g.G.Guest in
     let given = setting_of (G.event_of l.code) G.unended_of G.graph_of G.flushed_of (g.G.Code.Program.names l.code) l.options in
     record {
       runs : (reached : Graph → ℕ → Bool) → Decides reached → Running reached given (G.state l.fn.machine) l.made l.e (G.state l.machine) (λ o. noted_before reached given (G.state l.fn.machine) l.made o l.e) l.tracer.numbering (g.O.Sink.taken l.fn.sink) (g.O.Sink.taken l.sink);

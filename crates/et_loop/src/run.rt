@@ -5,13 +5,13 @@ ghost use Rattle.et_graph.specs.Graph.{Graph, nothing_made, Decides};
 ghost use Rattle.et_state.specs.Naming.{IsNamed};
 ghost use Rattle.et_state.specs.Options.{AreOptions};
 ghost use Rattle.et_loop.specs.Options.{setting_of};
-ghost use Rattle.et_loop.specs.Traced.{WritesTrace, WritesFront};
+ghost use Rattle.et_loop.specs.Traced.{WritesTrace, WritesPrefix};
 ghost use Rattle.et_loop.specs.Kept.{IsStepTo};
 ghost use Rattle.et_loop.specs.Visits.{allowed_visits};
 
+use crate::guest::Guest;
 use crate::options::Ran;
-use crate::stamp_guest::StampedGuest;
-use crate::stamp_tracer::Tracer;
+use crate::tracer::Tracer;
 use et_base::{NoMemory, Steps};
 use et_io::{RunFault, Sink, put_all};
 use et_state::{Lines, Options};
@@ -19,7 +19,7 @@ use std::alloc::Global;
 use std::sync::ledger::Ledger;
 
 /// Room with a place for each of so many objects.
-fn first_room<G: StampedGuest>(alloc: Global, objects: u32) -> Result<G::Room, NoMemory>
+fn first_room<G: Guest>(alloc: Global, objects: u32) -> Result<G::Room, NoMemory>
     ensures { IfOk result (λ room. G.has_places room objects) }
 {
     let mut room = G::begin_room(alloc);
@@ -32,9 +32,9 @@ fn first_room<G: StampedGuest>(alloc: Global, objects: u32) -> Result<G::Room, N
 /// object, and searches nothing but at a flush: the visits are at most those that the flushes of the history make, eight
 /// for each event, and one for each object that an event makes.
 ///
-/// `Write` comes only where the sink's count of faults rose. After `Write` and after `NoMemory` the sink took a front
+/// `Write` comes only where the sink's count of faults rose. After `Write` and after `NoMemory` the sink took a prefix
 /// of the trace, and the machine may only be dropped.
-pub fn run_stamped<G: StampedGuest, O: Sink, L: Ledger>(
+pub fn run_guest<G: Guest, O: Sink, L: Ledger>(
     alloc: Global,
     code: &G::Code,
     options: &Options,
@@ -52,8 +52,8 @@ pub fn run_stamped<G: StampedGuest, O: Sink, L: Ledger>(
         WritesTrace reached (setting_of (G.event_of code.now) G.unended_of G.graph_of G.flushed_of
         (G.Code.names code.now) options.now)
         (G.state machine.old) made.now ran (O.taken sink.old) (O.taken sink.new)) }
-    ensures front { (reached : Graph → ℕ → Bool) → Decides reached → OnErr result
-        (WritesFront reached (setting_of (G.event_of code.now) G.unended_of G.graph_of G.flushed_of
+    ensures prefix { (reached : Graph → ℕ → Bool) → Decides reached → OnErr result
+        (WritesPrefix reached (setting_of (G.event_of code.now) G.unended_of G.graph_of G.flushed_of
         (G.Code.names code.now) options.now)
         (G.state machine.old) made.now (O.taken sink.old) (O.taken sink.new)) }
     ensures visits { (reached : Graph → ℕ → Bool) →
