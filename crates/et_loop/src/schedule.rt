@@ -1,17 +1,10 @@
-//! What a run reads off its options and its end: where flushes come, whose turn it is, and how a Z line spells the end.
+//! What a run reads off its options and its end: whose turn it is, and how a Z line spells the end.
 ghost use Rattle.std.specs.Prelude.{◌≡◌};
-ghost use Rattle.et_state.specs.History.{is_flush_point, how_of};
+ghost use Rattle.et_state.specs.History.{how_of};
 ghost use Rattle.et_state.specs.Options.{pick_of, AreOptions};
 
 use et_base::End;
 use et_state::{Options, Schedule};
-
-/// Whether a flush follows this event even where it is not the last.
-pub fn is_due(interval: u64, e: u64) -> bool
-    ensures { result ≡ is_flush_point interval e }
-{
-    interval > 0 && e > 0 && e % interval == 0
-}
 
 /// The number that the schedule has for an event.
 pub fn pick(options: &Options, e: u64) -> u64

@@ -17,11 +17,11 @@ use crate::guest::Guest;
 use crate::marks::restamp;
 use crate::naming::Numbering;
 use crate::program::Program;
-use crate::schedule::{is_due, pick};
+use crate::schedule::pick;
 use et_base::{End, NoMemory, Steps, TraceLine};
 use et_graph::Stamps;
 use et_state::{EventEnd, Lines, Options};
-use et_text::write_line;
+use et_text::{is_flush_point, write_line};
 use std::alloc::Global;
 use std::sync::ledger::Ledger;
 
@@ -172,7 +172,7 @@ impl Tracer {
         ensures limit { IfOk result (λ end. IfNone end (e < options.now.limit)) }
         ensures clock { IfOk result (λ end. IfNone end (G.clock_of (G.state machine.new) ≡ e + 1)) }
     {
-        let due = is_due(options.interval, e);
+        let due = is_flush_point(options.interval, e);
         settle(
             code,
             due,

@@ -1,5 +1,5 @@
 -- The history of a run, the deaths at its flushes and its trace, for any rule of events. S is what a state is.
-use Rattle.std.specs.Prelude.{◌≡◌, ℕ, zero, suc, ◌%◌, ◌<◌, Bool, ◌&&◌, ◌||◌, ◌==◌, nat_lt, if◌then◌else◌, List, [], ◌∷◌, ◌++◌, Option, Some, None, length, map, slice_index}
+use Rattle.std.specs.Prelude.{◌≡◌, ℕ, zero, suc, ◌%◌, ◌<◌, Bool, ◌||◌, ◌==◌, if◌then◌else◌, List, [], ◌∷◌, ◌++◌, Option, Some, None, length, map, slice_index}
 use Rattle.std.specs.List.{list_any}
 use Rattle.et_base.specs.declared.line.TraceLine.{TraceLine}
 use Rattle.et_base.specs.declared.line.TraceLine.TheVariants.{Header, Flush, Death, Finish}
@@ -8,6 +8,7 @@ use Rattle.et_base.specs.declared.value.End.TheVariants.{Finished, EventLimit, I
 use Rattle.et_graph.specs.Graph.{Graph}
 use Rattle.et_state.specs.declared.records.Record.{Record}
 use Rattle.et_state.specs.Outcome.{Outcome, state_after, records_of, end_by}
+pub use Rattle.et_text.specs.Rules.{is_flush_point}
 use Rattle.et_state.specs.Naming.{Names, Mentions, nothing_mentioned, mentions_after, lines_of}
 
 -- the rule of events
@@ -31,10 +32,6 @@ pub record Setting (S : Type 0) : Type 0 where
   pub interval : ℕ
   -- the greatest number of events
   pub limit : ℕ
-
--- a flush follows event e even where it is not the last
-abbrev pub is_flush_point : ℕ → ℕ → Bool
-is_flush_point interval e = nat_lt 0 interval && nat_lt 0 e && (e % interval == 0)
 
 -- the object was reported
 abbrev pub is_gone : Graph → ℕ → Bool

@@ -7,8 +7,9 @@ use crate::fault::{AFTER, ORDER, TWICE, UNKNOWN};
 use crate::standing::Standing;
 use et_base::TraceLine;
 
-/// Whether a flush follows the event whatever comes.
-fn is_flush_point(interval: u64, event: u64) -> bool
+/// Whether a flush follows the event even where it is not the last: the interval is not 0, and the event is a multiple of it
+/// from 1 on.
+pub fn is_flush_point(interval: u64, event: u64) -> bool
     ensures { result ≡ is_flush_point interval event }
 {
     0 < interval && 0 < event && event % interval == 0

@@ -15,6 +15,7 @@ mod standing;
 mod trace;
 mod writing;
 
+pub use breaking::is_flush_point;
 pub use fault::TraceFault;
 pub use reader::TextReader;
 pub use trace::Trace;

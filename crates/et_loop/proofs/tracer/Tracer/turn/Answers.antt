@@ -11,7 +11,7 @@ use Rattle.et_loop.proofs.tracer.Tracer.turn.Goals as goal
 pub step-requires-clause-made : goal.step-requires-clause-made
 step-requires-clause-made g c =
     let G = g.G.Guest in
-    settled_made c.is_due-due.result (G.graph_of (G.state c.args.machine.now)) (G.graph_of (G.state c.settle.new.machine)) c.in_ok-settle.ensures.graph c.requires.made
+    settled_made c.is_flush_point-due.result (G.graph_of (G.state c.args.machine.now)) (G.graph_of (G.state c.settle.new.machine)) c.in_ok-settle.ensures.graph c.requires.made
 
 -- the next event was done
 pub returns-in-None-clause-turns : goal.returns-in-None-clause-turns
@@ -24,8 +24,8 @@ returns-in-None-clause-turns g c reached decides last listed =
     let lines = c.in_ok-settle.ensures.lines deaths listed in
     let state = c.in_ok-settle.ensures.state (reached graph) (decides graph) in
     let goes = subst (λ end. Goes given c.args.e (G.state c.settle.new.machine) c.args.self.now.numbering (G.state c.step.new.machine) c.step.new.numbering c.settle.new.buffer.items c.step.new.buffer.items end) c.in-None.is c.in_ok-step.ensures.goes in
-    goes_on reached given c.args.e s (G.state c.settle.new.machine) (G.state c.step.new.machine) last c.args.self.now.numbering c.step.new.numbering c.is_due-due.result c.args.self.now.buffer.items c.settle.new.buffer.items c.step.new.buffer.items
-    c.is_due-due.ensures lines state goes
+    goes_on reached given c.args.e s (G.state c.settle.new.machine) (G.state c.step.new.machine) last c.args.self.now.numbering c.step.new.numbering c.is_flush_point-due.result c.args.self.now.buffer.items c.settle.new.buffer.items c.step.new.buffer.items
+    c.is_flush_point-due.ensures lines state goes
 
 -- the history ended
 pub returns-in_ok-conclude-in-Some-clause-turns : goal.returns-in_ok-conclude-in-Some-clause-turns
@@ -39,10 +39,10 @@ returns-in_ok-conclude-in-Some-clause-turns g c reached decides last listed =
     let state = c.in_ok-settle.ensures.state (reached graph) (decides graph) in
     let goes = subst (λ end. Goes given c.args.e (G.state c.settle.new.machine) c.args.self.now.numbering (G.state c.step.new.machine) c.step.new.numbering c.settle.new.buffer.items c.step.new.buffer.items end) c.in-Some.is c.in_ok-step.ensures.goes in
     let kept = subst (λ end. Stamped end c.args.e (G.graph_of (G.state c.settle.new.machine)) (G.graph_of (G.state c.step.new.machine)) c.args.self.now.stamps c.step.new.stamps) c.in-Some.is c.in_ok-step.ensures.stamped in
-    let still = still_listed reached given c.args.e s (G.state c.settle.new.machine) (G.state c.step.new.machine) last c.args.self.now.numbering c.step.new.numbering c.is_due-due.result c.args.self.now.buffer.items c.settle.new.buffer.items c.step.new.buffer.items
-    c.is_due-due.ensures lines state c.in-Some.end c.args.self.now.stamps c.step.new.stamps goes kept listed in
-    let out = goes_out reached given c.args.e s (G.state c.settle.new.machine) (G.state c.step.new.machine) last c.args.self.now.numbering c.step.new.numbering c.is_due-due.result c.args.self.now.buffer.items c.settle.new.buffer.items c.step.new.buffer.items
-    c.is_due-due.ensures lines state c.in-Some.end c.conclude.new.buffer.items goes (c.in_ok-conclude-in-Some.ensures.lines deaths still) in
+    let still = still_listed reached given c.args.e s (G.state c.settle.new.machine) (G.state c.step.new.machine) last c.args.self.now.numbering c.step.new.numbering c.is_flush_point-due.result c.args.self.now.buffer.items c.settle.new.buffer.items c.step.new.buffer.items
+    c.is_flush_point-due.ensures lines state c.in-Some.end c.args.self.now.stamps c.step.new.stamps goes kept listed in
+    let out = goes_out reached given c.args.e s (G.state c.settle.new.machine) (G.state c.step.new.machine) last c.args.self.now.numbering c.step.new.numbering c.is_flush_point-due.result c.args.self.now.buffer.items c.settle.new.buffer.items c.step.new.buffer.items
+    c.is_flush_point-due.ensures lines state c.in-Some.end c.conclude.new.buffer.items goes (c.in_ok-conclude-in-Some.ensures.lines deaths still) in
     record { ends = out.ends; lines = out.lines }
 
 -- the visits of a turn
@@ -50,9 +50,9 @@ pub returns-in-None-clause-visits : goal.returns-in-None-clause-visits
 returns-in-None-clause-visits g c here decides =
     let G = g.G.Guest in
     let s = G.state c.args.machine.now in
-    let t = turn_on_visits c.is_due-due.result (G.flush_visits_of here s) (G.graph_of s).made (G.graph_of (G.state c.settle.new.machine)).made (G.graph_of (G.state c.step.new.machine)).made c.args.visits.now c.settle.new.visits c.step.new.visits
-    (c.in_ok-settle.ensures.visits here decides) c.in_ok-step.ensures.visits (settled_as_many c.is_due-due.result (G.graph_of s) (G.graph_of (G.state c.settle.new.machine)) c.in_ok-settle.ensures.graph) in
-    subst (λ (due : Bool). TurnVisits None due (G.flush_visits_of here s) (G.graph_of s).made (G.graph_of (G.state c.step.new.machine)).made c.args.visits.now c.step.new.visits) c.is_due-due.ensures t
+    let t = turn_on_visits c.is_flush_point-due.result (G.flush_visits_of here s) (G.graph_of s).made (G.graph_of (G.state c.settle.new.machine)).made (G.graph_of (G.state c.step.new.machine)).made c.args.visits.now c.settle.new.visits c.step.new.visits
+    (c.in_ok-settle.ensures.visits here decides) c.in_ok-step.ensures.visits (settled_as_many c.is_flush_point-due.result (G.graph_of s) (G.graph_of (G.state c.settle.new.machine)) c.in_ok-settle.ensures.graph) in
+    subst (λ (due : Bool). TurnVisits None due (G.flush_visits_of here s) (G.graph_of s).made (G.graph_of (G.state c.step.new.machine)).made c.args.visits.now c.step.new.visits) c.is_flush_point-due.ensures t
 
 pub returns-in_ok-conclude-in-Some-clause-visits : goal.returns-in_ok-conclude-in-Some-clause-visits
 returns-in_ok-conclude-in-Some-clause-visits g c here decides =
@@ -61,9 +61,9 @@ returns-in_ok-conclude-in-Some-clause-visits g c here decides =
     let given = setting_of (G.event_of c.args.code.now) G.unended_of G.graph_of G.flushed_of (g.G.Code.Program.names c.args.code.now) c.args.options.now in
     let goes = subst (λ end. Goes given c.args.e (G.state c.settle.new.machine) c.args.self.now.numbering (G.state c.step.new.machine) c.step.new.numbering c.settle.new.buffer.items c.step.new.buffer.items end) c.in-Some.is c.in_ok-step.ensures.goes in
     let state = c.in_ok-settle.ensures.state here decides in
-    let same : c.is_due-due.result ≡ false → G.state c.step.new.machine ≡ s =
+    let same : c.is_flush_point-due.result ≡ false → G.state c.step.new.machine ≡ s =
     λ none. goes.state ∙ (state ∙ ap (λ (b : Bool). due_state b (G.flushed_of here s) s) none) in
-    turn_last_visits c.is_due-due.result (G.flush_visits_of here s) (G.flush_visits_of here (G.state c.step.new.machine)) (G.graph_of (G.state c.settle.new.machine)).made (G.graph_of (G.state c.step.new.machine)).made c.args.visits.now c.settle.new.visits c.step.new.visits c.conclude.new.visits
+    turn_last_visits c.is_flush_point-due.result (G.flush_visits_of here s) (G.flush_visits_of here (G.state c.step.new.machine)) (G.graph_of (G.state c.settle.new.machine)).made (G.graph_of (G.state c.step.new.machine)).made c.args.visits.now c.settle.new.visits c.step.new.visits c.conclude.new.visits
     (c.in_ok-settle.ensures.visits here decides) c.in_ok-step.ensures.visits (ap (λ (x : G.State). (G.graph_of x).made) goes.state)
     (c.in_ok-conclude-in-Some.ensures.visits here (λ none. subst (λ (x : G.State). (o : ℕ) → IsTrue (here o) ↔ IsReached (G.graph_of x) o) (sym (same none)) decides))
     (λ none. ap (λ (x : G.State). G.flush_visits_of here x) (same none))
