@@ -1,5 +1,5 @@
 -- A static method is called whose class is untouched.
-use Rattle.std.proofs.Common.{◌≡◌, ℕ, Bool, true, false, List, [], ◌∷◌, Option, Some, None, refl, sym, ◌∙◌, ap, subst}
+use Rattle.std.proofs.Common.{◌≡◌, ℕ, Bool, true, false, List, [], ◌∷◌, refl, sym, ◌∙◌, ap, subst}
 use Rattle.std.specs.Prelude.{if◌then◌else◌}
 use Rattle.et_state.specs.declared.class_state.ClassState.{ClassState}
 use Rattle.et_state.specs.declared.class_state.ClassState.TheVariants.{Untouched}
@@ -9,18 +9,20 @@ use Rattle.et_state.specs.declared.records.Record.{Record}
 use Rattle.et_state.specs.declared.ends.EventEnd.{EventEnd}
 use Rattle.et_state.specs.Outcome.{Outcome}
 use Rattle.et_event.specs.Answered.{EventAnswers}
-use Rattle.et_event.specs.Calls.{arguments_of, enters_method}
+use Rattle.et_event.specs.Calls.{arguments_of, call_event, enters_method, invoke}
+use Rattle.et_event.specs.declared.rows.CallKind.{CallKind}
+use Rattle.et_event.specs.declared.rows.CallRow.{CallRow}
+use Rattle.et_event.specs.declared.rows.CallRow.TheVariants.{Invoke}
 use Rattle.et_event.specs.Initialization.{begins_class, is_quiet, needed, prepared, quietly_done, state_of}
 use Rattle.et_event.specs.Moments.{Doing, Moment, begins}
 use Rattle.et_event.specs.Sites.{Site}
 use Rattle.et_calls.specs.declared.plans.CallPlan.{CallPlan}
-use Rattle.et_calls.specs.declared.plans.CallPlan.TheVariants.{IllTyped, Throws, Waits, Initializes, Enters}
+use Rattle.et_calls.specs.declared.plans.CallPlan.TheVariants.{Initializes}
 use Rattle.et_calls.specs.Plans.{planned}
-use Rattle.et_calls.specs.Rows.{AnswersUnless, is_left}
 use Rattle.et_initialize.specs.Needs.{need_by, need_of}
 use Rattle.et_initialize.specs.declared.needs.Need.{Need}
 use Rattle.et_initialize.specs.declared.needs.Need.TheVariants.{Quiet, Begins}
-use Rattle.et_calls.proofs.Called.{one_prepared}
+use Rattle.et_calls.proofs.CalledByCode.{one_prepared}
 
 -- WHAT AN UNTOUCHED CLASS NEEDS
 
@@ -72,22 +74,12 @@ quiet_answers e at method count class end m m' out out' name un quiet a =
 
 -- BY THE PLAN
 
-pub same_plan : (e : Moment) (at : Site) (plan same : CallPlan) (o : Outcome Kept) (end : EventEnd) (m m' : MachineState) (out out' : List Record) → o ≡ planned e at plan → plan ≡ same
-    → EventAnswers (planned e at same) end m m' out out' → EventAnswers o end m m' out out'
-same_plan e at plan same o end m m' out out' is alike a =
-    subst (λ (x : Outcome Kept). EventAnswers x end m m' out out') (sym (is ∙ ap (λ (q : CallPlan). planned e at q) alike)) a
+pub plan_answers : (e : Moment) (at : Site) (plan same : CallPlan) (end : EventEnd) (m m' : MachineState) (out out' : List Record) → plan ≡ same
+    → EventAnswers (planned e at same) end m m' out out' → EventAnswers (planned e at plan) end m m' out out'
+plan_answers e at plan same end m m' out out' is a = subst (λ (q : CallPlan). EventAnswers (planned e at q) end m m' out out') (sym is) a
 
--- a plan that needs no class
-pub never_left : (e : Moment) (plan : CallPlan) → ((method count : ℕ) → plan ≡ Initializes method count → ⊥) → is_left e plan ≡ false
-never_left e IllTyped none = refl
-never_left e (Throws error) none = refl
-never_left e Waits none = refl
-never_left e (Initializes method count) none = absurd (none method count refl)
-never_left e (Enters method count) none = refl
-
--- .. is answered
-pub plain_answers : (left : Bool) (o : Outcome Kept) (some : Option EventEnd) (end : EventEnd) (m m' : MachineState) (out out' : List Record) → some ≡ Some end → AnswersUnless left o some m m' out out' → EventAnswers o end m m' out out'
-plain_answers left o some end m m' out out' is a = (subst (λ (x : Option EventEnd). AnswersUnless left o x m m' out out') is a).1
-
-pub not_none : (left : Bool) (o : Outcome Kept) (answer : Option EventEnd) (m m' : MachineState) (out out' : List Record) → answer ≡ None → left ≡ false → AnswersUnless left o answer m m' out out' → ⊥
-not_none left o answer m m' out out' is plain a = let b : left ≡ true = (subst (λ (x : Option EventEnd). AnswersUnless left o x m m' out out') is a).0 in cc
+-- .. of an invoke
+pub row_answers : (e : Moment) (at : Site) (plan : CallPlan) (row : CallRow) (kind : CallKind) (end : EventEnd) (m m' : MachineState) (out out' : List Record) → row ≡ Invoke kind → invoke e at kind ≡ planned e at plan
+    → EventAnswers (planned e at plan) end m m' out out' → EventAnswers (call_event e at row) end m m' out out'
+row_answers e at plan row kind end m m' out out' named is a =
+    subst (λ (o : Outcome Kept). EventAnswers o end m m' out out') (sym (ap (λ (r : CallRow). call_event e at r) named ∙ is)) a

@@ -6,16 +6,15 @@ mod Leaving
 mod Passing
 mod Fitting
 mod Planning
-pub mod Entered
+mod EnteredFrames
+mod NewFrames
+mod Passed
 mod Calling
 mod Choosing
-mod Called
-mod PreparedEntered
+mod CalledByCode
 mod Initial
 mod Fresh
 mod Thrown
-mod EntryEntered
 mod EntryComing
-mod Monitors
-mod Quiet
+mod Mains
 mod Running

@@ -26,7 +26,7 @@ use Rattle.et_event.specs.Moments.{Moment, moment, Doing, with_thread_state, beg
 use Rattle.et_event.specs.Answered.{EventAnswers}
 use Rattle.et_parts.specs.Making.{MakesObject}
 use Rattle.et_parts.proofs.Throwing.{ends_fit, ends_full}
-use Rattle.et_calls.specs.EntryEntering.{given_up}
+use Rattle.et_calls.specs.Entering.{given_up}
 use Rattle.et_calls.specs.Fresh.{IsFresh}
 
 -- WHAT STANDS IN THE ENTRY SLOT

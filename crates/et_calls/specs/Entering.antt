@@ -1,14 +1,82 @@
--- The machine as a method is entered.
-use Rattle.std.specs.Prelude.{ℕ, [], take}
+-- A method is entered (JVMS 2.6, 2.11.8, 2.11.10): where its arguments stand, and what its event comes to.
+use Rattle.std.specs.Prelude.{◌≡◌, ℕ, ◌<◌, ◌≤◌, not, true, List, [], length, take, All, option_to_list}
+use Rattle.std.specs.List.{list_all}
+use Rattle.et_base.specs.declared.value.Value.{Value}
+use Rattle.et_class.specs.Names.{has}
+use Rattle.et_class.specs.declared.flags.TheConstants.{NATIVE}
 use Rattle.et_heap.specs.Refs.{refs_of}
-use Rattle.et_state.specs.Threads.{FrameState, entered_by, popped}
-use Rattle.et_state.specs.State.{MachineState}
-use Rattle.et_state.specs.Words.{thread_at, top, begun, steps_top, steps_thread}
+use Rattle.et_state.specs.Threads.{FrameState, as_entered, entered_by, popped}
+use Rattle.et_state.specs.State.{GuestState, Kept, MachineState}
+use Rattle.et_state.specs.Words.{HasFrame, thread_at, top, steps_top, steps_thread}
+use Rattle.et_state.specs.Outcome.{Outcome}
+use Rattle.et_program.specs.Entries.{Linked, method_at}
+use Rattle.et_event.specs.declared.errors.GuestError.TheVariants.{UnsatisfiedLinkError}
+use Rattle.et_event.specs.BuiltIns.{built_in_event}
+use Rattle.et_event.specs.Calls.{arguments_of, entering, entry_arguments, taking}
+use Rattle.et_event.specs.Checks.{frame_fits, throws_unless}
+use Rattle.et_event.specs.Frames.{enters_code, frame_entered}
+use Rattle.et_event.specs.Initialization.{is_ready, prepared}
+use Rattle.et_event.specs.Moments.{Doing, Moment, begins, ends, frame_of, moment}
+use Rattle.et_event.specs.Sites.{Site}
+use Rattle.et_builtins.specs.Arguments.{arguments_in}
+use Rattle.et_calls.specs.declared.new_frames.Entered.{Entered}
+use Rattle.et_calls.specs.declared.new_frames.Passed.{Passed}
+use Rattle.et_calls.specs.declared.new_frames.Passed.TheVariants.{Operands, Object}
+use Rattle.et_calls.specs.Fresh.{IsArgument, IsFresh}
 
--- the event has begun, and so many entries were taken from the topmost frame
-abbrev pub taken_by : MachineState → ℕ → ℕ → MachineState
-taken_by m t count = steps_top (begun m) t (popped count (top m.guest t)) (refs_of (take count (top m.guest t).operands))
+-- the arguments, in the order of the locals
+abbrev pub arguments_passed : FrameState → Passed → List Value
+arguments_passed f (Operands count) = arguments_in f count
+arguments_passed f (Object argument) = entry_arguments argument
 
--- .. and a frame was put on top
-abbrev pub pushed_by : MachineState → ℕ → ℕ → FrameState → MachineState
-pushed_by m t count f = steps_thread (taken_by m t count) t (entered_by f (thread_at (taken_by m t count).guest t)) []
+-- they are there: so many operands of the topmost frame, or an object of a thread that is to be entered
+abbrev pub ArePassed : GuestState → ℕ → Passed → Type 0
+ArePassed g t (Operands count) = HasFrame g t × (count ≤ length (top g t).operands)
+ArePassed g t (Object argument) = IsFresh g t × IsArgument g t argument
+
+-- they are taken from where they stand; a thread that is entered first counts as entered then, and its entry slot is empty
+abbrev pub passing : Moment → Passed → Doing → Doing
+passing e (Operands count) d = taking e count d
+passing e (Object argument) d = entering e d
+
+abbrev pub given_up : MachineState → ℕ → MachineState
+given_up m t = steps_thread m t (as_entered (thread_at m.guest t)) (option_to_list (thread_at m.guest t).entry)
+
+-- .. in the machine
+abbrev pub passed_by : MachineState → ℕ → Passed → MachineState
+passed_by m t (Operands count) = steps_top m t (popped count (top m.guest t)) (refs_of (take count (top m.guest t).operands))
+passed_by m t (Object argument) = given_up m t
+
+-- .. and a frame is put on top
+abbrev pub pushed_by : MachineState → ℕ → Passed → FrameState → MachineState
+pushed_by m t passed f = steps_thread (passed_by m t passed) t (entered_by f (thread_at (passed_by m t passed).guest t)) []
+
+-- a method of the program, whose arguments are there, and before which the quiet ones among its classes may become done
+pub record IsEntered (p : Linked) (m : MachineState) (t : ℕ) (x : Entered) : Type 0 where
+  pub info : x.info.now ≡ method_at p x.method
+  pub class : x.info.now.class < length p.classes
+  pub passed : ArePassed m.guest t x.passed
+  pub classes : All (λ c. c < length p.classes) x.classes.now
+  pub ready : list_all (is_ready (moment p m t) (begins (moment p m t))) x.classes.now ≡ true
+
+-- what was done as they became done
+abbrev pub prepared_for : Moment → Entered → Doing
+prepared_for e x = prepared e x.classes.now (begins e)
+
+-- the event in which its frame is put on top
+abbrev pub pushed_event : Moment → Entered → Outcome Kept
+pushed_event e x = ends (frame_entered e x.method x.code.now (arguments_passed (frame_of e) x.passed) (passing e x.passed (prepared_for e x)))
+
+-- .. if the thread has room for it
+abbrev pub fitting_event : Moment → Entered → Outcome Kept
+fitting_event e x = frame_fits e (prepared_for e x) (pushed_event e x)
+
+-- .. and if the thread may enter the monitor of the method
+abbrev pub entering_event : Moment → Entered → Outcome Kept
+entering_event e x = enters_code e (prepared_for e x) (passing e x.passed) x.method (arguments_passed (frame_of e) x.passed) x.code.now
+
+-- the event of a method without code: a native one throws, and another one is built in or abstract
+abbrev pub codeless_call : Moment → Site → ℕ → ℕ → Outcome Kept
+codeless_call e at method count =
+    throws_unless e (begins e) UnsatisfiedLinkError (not (has (method_at e.program method).flags NATIVE))
+    (built_in_event e at (begins e) (arguments_of e count) (method_at e.program method))

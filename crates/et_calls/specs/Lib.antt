@@ -2,11 +2,8 @@ pub mod Arguments
 pub mod Entering
 pub mod Plans
 pub mod Returned
-pub mod Rows
 pub mod Stages
 pub mod Types
 pub mod Ways
-pub mod Prepared
-pub mod EntryEntering
 pub mod Fresh
 pub mod Runs

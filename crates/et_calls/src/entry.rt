@@ -1,9 +1,7 @@
 //! The turn in which a thread without a frame is entered (JVMS 5.2, 2.6): thread 0 enters `main`, whose class is initialized
 //! first, and each other thread the method `run` of its Thread object.
 
-mod entering;
 mod events;
-mod frames;
 mod mains;
 mod runs;
 mod throws;

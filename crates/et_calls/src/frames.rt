@@ -49,7 +49,7 @@ fn behind(program: &Program, machine: &Machine, thread: ThreadId) -> u32
 
 /// The frame gets what a call returns, and goes on behind it.
 #[tactic(auto, using(crate::proofs::Returning::resumed_once))]
-pub(crate) fn resume(machine: &mut Machine, program: &Program, thread: ThreadId, values: &[Value])
+pub(crate) fn resume(program: &Program, machine: &mut Machine, thread: ThreadId, values: &[Value])
     requires frame { HasFrame machine.old.guest thread }
     requires room { length values.now + length (top machine.old.guest thread).operands
         ≤ (top machine.old.guest thread).room }

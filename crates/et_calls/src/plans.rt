@@ -33,7 +33,7 @@ use std::sync::ledger::Ledger;
 
 /// What an invoke comes to.
 #[derive(Clone, Copy, Debug, PartialEq, Eq)]
-pub enum CallPlan {
+pub(crate) enum CallPlan {
     /// It has no meaning.
     IllTyped,
     /// An error is thrown.
@@ -44,6 +44,17 @@ pub enum CallPlan {
     Initializes { method: MethodId, count: u32 },
     /// The selected method is entered, or done where it is built in, with so many entries as arguments.
     Enters { method: MethodId, count: u32 },
+}
+
+/// A method that an invoke names, as it was resolved (JVMS 5.4.3.3, 5.4.3.4), and how many entries are its arguments.
+#[derive(Clone, Copy)]
+struct Callee {
+    /// The class of the method that calls.
+    current: ClassId,
+    /// The class that the invoke names.
+    named: ClassId,
+    method: MethodId,
+    count: u32,
 }
 
 /// The selected method is entered, or the error of the selection is thrown.
@@ -148,36 +159,34 @@ fn special_plan<L: Ledger>(
     program: &Program,
     machine: &Machine,
     thread: ThreadId,
-    current: ClassId,
-    named: ClassId,
-    method: MethodId,
-    count: u32,
+    callee: Callee,
     visits: &mut Steps<L>,
 ) -> CallPlan
     requires frame { HasFrame machine.now.guest thread }
     requires sound { IsSoundFor program.now (kept_of machine.now) }
-    requires operands { count ≤ length (top machine.now.guest thread).operands }
-    requires current { current < length program.now.classes }
-    requires named { named < length program.now.classes }
-    requires method { method < length program.now.methods }
-    requires room { HasRoom (moment program.now machine.now thread) method count }
-    ensures plan { (at : Site) →
-        at.class ≡ current → dispatched (moment program.now machine.now thread) at kinds.Special
-        (arguments_of (moment program.now machine.now thread) count) named method
+    requires operands { callee.count ≤ length (top machine.now.guest thread).operands }
+    requires current { callee.current < length program.now.classes }
+    requires named { callee.named < length program.now.classes }
+    requires method { callee.method < length program.now.methods }
+    requires room { HasRoom (moment program.now machine.now thread) callee.method callee.count }
+    ensures plan { (at : Site) → at.class ≡ callee.current →
+        dispatched (moment program.now machine.now thread) at kinds.Special (arguments_of
+        (moment program.now machine.now thread) callee.count) callee.named callee.method
         ≡ planned (moment program.now machine.now thread) at result }
     ensures within { IsPlan (moment program.now machine.now thread) result }
     ensures visits { visits.new ≤ visits.old + 1 }
 {
-    let Some(receiver) = receiver(machine, thread, count) else {
+    let Some(receiver) = receiver(machine, thread, callee.count) else {
         return CallPlan::Throws(GuestError::NullPointerException);
     };
     let class = machine.heap.class_of(receiver, visits);
-    if !program.is_subclass(class, program.method(method).class) {
+    if !program.is_subclass(class, program.method(callee.method).class) {
         return CallPlan::IllTyped;
     }
+    let from = special_class(program, callee.named);
     selected(
-        program.select_special(current, special_class(program, named), method),
-        count,
+        program.select_special(callee.current, from, callee.method),
+        callee.count,
     )
 }
 
@@ -230,35 +239,48 @@ fn dispatch_plan<L: Ledger>(
     program: &Program,
     machine: &Machine,
     thread: ThreadId,
-    current: ClassId,
     kind: CallKind,
-    named: ClassId,
-    method: MethodId,
-    count: u32,
+    callee: Callee,
     visits: &mut Steps<L>,
 ) -> CallPlan
     requires frame { HasFrame machine.now.guest thread }
     requires sound { IsSoundFor program.now (kept_of machine.now) }
-    requires operands { count ≤ length (top machine.now.guest thread).operands }
-    requires current { current < length program.now.classes }
-    requires named { named < length program.now.classes }
-    requires method { method < length program.now.methods }
-    requires room { HasRoom (moment program.now machine.now thread) method count }
-    requires is_static { is_as (calls_static kind) (is_static program.now method) ≡ true }
-    ensures plan { (at : Site) →
-        at.class ≡ current → dispatched (moment program.now machine.now thread) at kind
-        (arguments_of (moment program.now machine.now thread) count) named method
+    requires operands { callee.count ≤ length (top machine.now.guest thread).operands }
+    requires current { callee.current < length program.now.classes }
+    requires named { callee.named < length program.now.classes }
+    requires method { callee.method < length program.now.methods }
+    requires room { HasRoom (moment program.now machine.now thread) callee.method callee.count }
+    requires is_static { is_as (calls_static kind) (is_static program.now callee.method) ≡ true }
+    ensures plan { (at : Site) → at.class ≡ callee.current →
+        dispatched (moment program.now machine.now thread) at kind (arguments_of
+        (moment program.now machine.now thread) callee.count) callee.named callee.method
         ≡ planned (moment program.now machine.now thread) at result }
     ensures within { IsPlan (moment program.now machine.now thread) result }
     ensures visits { visits.new ≤ visits.old + 1 }
 {
     match kind {
-        CallKind::Virtual => virtual_plan(program, machine, thread, method, count, visits),
-        CallKind::Special => special_plan(
-            program, machine, thread, current, named, method, count, visits,
-        ),
-        CallKind::Static => static_plan(program, machine, thread, method, count),
-        CallKind::Interface => interface_plan(program, machine, thread, method, count, visits),
+        CallKind::Virtual => {
+            virtual_plan(
+                program,
+                machine,
+                thread,
+                callee.method,
+                callee.count,
+                visits,
+            )
+        }
+        CallKind::Special => special_plan(program, machine, thread, callee, visits),
+        CallKind::Static => { static_plan(program, machine, thread, callee.method, callee.count) }
+        CallKind::Interface => {
+            interface_plan(
+                program,
+                machine,
+                thread,
+                callee.method,
+                callee.count,
+                visits,
+            )
+        }
     }
 }
 
@@ -274,37 +296,32 @@ fn resolved_plan<L: Ledger>(
     program: &Program,
     machine: &Machine,
     thread: ThreadId,
-    current: ClassId,
     kind: CallKind,
-    named: ClassId,
-    method: MethodId,
-    count: u32,
+    callee: Callee,
     visits: &mut Steps<L>,
 ) -> CallPlan
     requires frame { HasFrame machine.now.guest thread }
     requires sound { IsSoundFor program.now (kept_of machine.now) }
-    requires operands { count ≤ length (top machine.now.guest thread).operands }
-    requires current { current < length program.now.classes }
-    requires named { named < length program.now.classes }
-    requires method { method < length program.now.methods }
-    requires room { HasRoom (moment program.now machine.now thread) method count }
+    requires operands { callee.count ≤ length (top machine.now.guest thread).operands }
+    requires current { callee.current < length program.now.classes }
+    requires named { callee.named < length program.now.classes }
+    requires method { callee.method < length program.now.methods }
+    requires room { HasRoom (moment program.now machine.now thread) callee.method callee.count }
     ensures plan { (at : Site) →
-        at.class ≡ current → throws_unless (moment program.now machine.now thread)
+        at.class ≡ callee.current → throws_unless (moment program.now machine.now thread)
         (begins (moment program.now machine.now thread)) errors.IncompatibleClassChangeError
-        (is_as (calls_static kind) (is_static program.now method))
-        (dispatched (moment program.now machine.now thread) at kind
-        (arguments_of (moment program.now machine.now thread) count) named method)
+        (is_as (calls_static kind) (is_static program.now callee.method))
+        (dispatched (moment program.now machine.now thread) at kind (arguments_of
+        (moment program.now machine.now thread) callee.count) callee.named callee.method)
         ≡ planned (moment program.now machine.now thread) at result }
     ensures within { IsPlan (moment program.now machine.now thread) result }
     ensures visits { visits.new ≤ visits.old + 1 }
 {
-    let is_static = has(program.method(method).flags, STATIC);
+    let is_static = has(program.method(callee.method).flags, STATIC);
     if is_static != is_static_call(kind) {
         return CallPlan::Throws(GuestError::IncompatibleClassChangeError);
     }
-    dispatch_plan(
-        program, machine, thread, current, kind, named, method, count, visits,
-    )
+    dispatch_plan(program, machine, thread, kind, callee, visits)
 }
 
 /// The class and the method that an invoke names (JVMS 5.4.3.3, 5.4.3.4), or the error that is thrown.
@@ -333,7 +350,7 @@ fn resolve(
 }
 
 /// What an invoke comes to at a place. It visits one object at most.
-pub fn invoke_plan<L: Ledger>(
+pub(crate) fn invoke_plan<L: Ledger>(
     program: &Program,
     machine: &Machine,
     thread: ThreadId,
@@ -357,17 +374,15 @@ pub fn invoke_plan<L: Ledger>(
         return CallPlan::IllTyped;
     };
     match resolve(program, &member, names_interface(place)) {
-        Ok(found) => resolved_plan(
-            program,
-            machine,
-            thread,
-            place.class,
-            kind,
-            found.0,
-            found.1,
-            count,
-            visits,
-        ),
+        Ok(found) => {
+            let callee = Callee {
+                current: place.class,
+                named: found.0,
+                method: found.1,
+                count,
+            };
+            resolved_plan(program, machine, thread, kind, callee, visits)
+        }
         Err(error) => CallPlan::Throws(error),
     }
 }

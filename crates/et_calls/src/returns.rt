@@ -31,7 +31,7 @@ use et_state::{ClassState, EventEnd, Lines, Machine, Record, Stage};
 use std::sync::ledger::Ledger;
 
 /// The frame gets what a call returns, if anything, and goes on behind it.
-fn resume_with(machine: &mut Machine, program: &Program, thread: ThreadId, value: Option<Value>)
+fn resume_with(program: &Program, machine: &mut Machine, thread: ThreadId, value: Option<Value>)
     requires frame { HasFrame machine.old.guest thread }
     requires room { length (entries_returned value) + length (top machine.old.guest thread).operands
         ≤ (top machine.old.guest thread).room }
@@ -42,20 +42,20 @@ fn resume_with(machine: &mut Machine, program: &Program, thread: ThreadId, value
         }) [] }
 {
     match value {
-        None => resume(machine, program, thread, &[]),
+        None => resume(program, machine, thread, &[]),
         Some(Value::Long(n)) => resume(
-            machine,
             program,
+            machine,
             thread,
             &[Value::LongHigh, Value::Long(n)],
         ),
-        Some(value) => resume(machine, program, thread, &[value]),
+        Some(value) => resume(program, machine, thread, &[value]),
     }
 }
 
 /// The topmost frame, if there is one, gets what a call returns, and goes on behind it.
 #[tactic(auto, using(crate::proofs::Returning::stays, crate::proofs::Returning::resumes, crate::proofs::Returning::fits_top))]
-fn resume_topmost(machine: &mut Machine, program: &Program, thread: ThreadId, value: Option<Value>)
+fn resume_topmost(program: &Program, machine: &mut Machine, thread: ThreadId, value: Option<Value>)
     requires started { thread < length machine.old.guest.threads }
     requires room { FitsBelow Plain
         (entries_returned value) (thread_at machine.old.guest thread).frames }
@@ -68,14 +68,14 @@ fn resume_topmost(machine: &mut Machine, program: &Program, thread: ThreadId, va
     if machine.frames(thread) == 0 {
         return;
     }
-    resume_with(machine, program, thread, value);
+    resume_with(program, machine, thread, value);
 }
 
 /// The frame below one of this stage that has returned goes on, if there is one and a method was called there.
 #[tactic(auto, using(crate::proofs::Returning::itself))]
 fn go_on(
-    machine: &mut Machine,
     program: &Program,
+    machine: &mut Machine,
     thread: ThreadId,
     stage: Stage,
     value: Option<Value>,
@@ -90,14 +90,14 @@ fn go_on(
         }) [] }
 {
     match stage {
-        Stage::Plain => resume_topmost(machine, program, thread, value),
+        Stage::Plain => resume_topmost(program, machine, thread, value),
         Stage::Before(_) | Stage::Clinit(_) => (),
     }
 }
 
 /// The frame is dropped, and the one below it goes on.
 #[tactic(auto, using(crate::proofs::Returning::dropped, crate::proofs::Returning::fits_dropped, crate::proofs::Returning::started_after))]
-fn drop_returned(machine: &mut Machine, program: &Program, thread: ThreadId, value: Option<Value>)
+fn drop_returned(program: &Program, machine: &mut Machine, thread: ThreadId, value: Option<Value>)
     requires frame { HasFrame machine.old.guest thread }
     requires lost { length machine.old.lost + (length (top machine.old.guest thread).locals
         + length (top machine.old.guest thread).operands) < lost_room }
@@ -112,7 +112,7 @@ fn drop_returned(machine: &mut Machine, program: &Program, thread: ThreadId, val
 {
     let stage = machine.stage(thread);
     machine.drop_frame(thread);
-    go_on(machine, program, thread, stage, value);
+    go_on(program, machine, thread, stage, value);
 }
 
 /// The class of an initializer that returns is done.
@@ -156,8 +156,8 @@ fn begin_return<L: Ledger>(
 /// The event in which a frame returns that owns the monitor of this lock, if it holds one (JVMS 2.6.4, 2.11.10). After
 /// `NoMemory` the machine is as before. It visits two objects at most.
 fn leave_frame<L: Ledger>(
-    machine: &mut Machine,
     program: &Program,
+    machine: &mut Machine,
     thread: ThreadId,
     value: Option<Value>,
     lock: &Option<Lock>,
@@ -190,7 +190,7 @@ fn leave_frame<L: Ledger>(
         method: machine.frame_method(thread).unwrap_or(MethodId::new(0)),
     })?;
     begin_return(machine, stage, lock, visits);
-    drop_returned(machine, program, thread, value);
+    drop_returned(program, machine, thread, value);
     Ok(())
 }
 
@@ -198,8 +198,8 @@ fn leave_frame<L: Ledger>(
 /// objects at most.
 #[tactic(auto, using(crate::proofs::Leaving::class_is_in, et_parts::proofs::There::frame_lock_there, crate::proofs::Leaving::unowned_answers))]
 fn return_value<L: Ledger>(
-    machine: &mut Machine,
     program: &Program,
+    machine: &mut Machine,
     thread: ThreadId,
     method: &MethodInfo,
     value: Option<Value>,
@@ -230,7 +230,7 @@ fn return_value<L: Ledger>(
             out,
         );
     }
-    leave_frame(machine, program, thread, value, &lock, out, visits)?;
+    leave_frame(program, machine, thread, value, &lock, out, visits)?;
     Ok(EventEnd::Done)
 }
 
@@ -238,8 +238,8 @@ fn return_value<L: Ledger>(
 /// have one object more, to which nothing refers, and there may be its record or that of the return; all else is as before.
 #[tactic(auto, using(crate::proofs::Leaving::fits_returned))]
 pub(crate) fn return_event<L: Ledger>(
-    machine: &mut Machine,
     program: &Program,
+    machine: &mut Machine,
     thread: ThreadId,
     kind: Option<Operand>,
     out: &mut Lines,
@@ -259,5 +259,5 @@ pub(crate) fn return_event<L: Ledger>(
     let Some(value) = returned_values(machine, thread, kind, method.descriptor.as_slice()) else {
         return Ok(ill_typed(machine, thread));
     };
-    return_value(machine, program, thread, method, value, out, visits)
+    return_value(program, machine, thread, method, value, out, visits)
 }

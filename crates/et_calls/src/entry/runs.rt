@@ -3,16 +3,19 @@ ghost use Rattle.std.specs.Prelude.{◌≡◌, ◌+◌, ◌<◌, ◌≤◌, ◌^
 ghost use Rattle.et_state.specs.State.{kept_of};
 ghost use Rattle.et_state.specs.Words.{thread_at};
 ghost use Rattle.et_event.specs.Answered.{EventAnswers};
-ghost use Rattle.et_event.specs.Calls.{enters_run};
+ghost use Rattle.et_event.specs.Calls.{enters_first, enters_run, entry_arguments};
 ghost use Rattle.et_event.specs.Errors.{class_called};
 ghost use Rattle.et_event.specs.Sound.{IsSoundFor};
-ghost use Rattle.et_event.specs.Moments.{moment};
+ghost use Rattle.et_event.specs.Moments.{begins, moment};
+ghost use Rattle.et_initialize.specs.Programs.{IsInOrder};
 ghost use Rattle.et_calls.specs.Fresh.{IsFresh};
 ghost use Rattle.et_calls.specs.Runs.{planned, IsPlan};
 
-use crate::entry::entering::method_event;
+use crate::called::codeless_error;
+use crate::entering::enter_code;
 use crate::entry::throws::throw_first;
-use et_base::{ClassId, MethodId, NoMemory, ObjectId, Steps, ThreadId};
+use crate::new_frames::{Entered, Passed};
+use et_base::{ClassId, MethodId, NoMemory, Steps, ThreadId};
 use et_event::GuestError;
 use et_program::Program;
 use et_state::{EventEnd, Lines, Machine};
@@ -27,7 +30,7 @@ pub(crate) enum RunPlan {
     /// An error is thrown.
     Throws(GuestError),
     /// The selected method is entered on the Thread object.
-    Enters { method: MethodId, object: ObjectId },
+    Enters(MethodId),
 }
 
 /// The class `java/lang/Thread`.
@@ -69,11 +72,46 @@ fn run_plan<L: Ledger>(
         return RunPlan::IllTyped;
     }
     match program.select(class, method, false) {
-        Ok(selected) => RunPlan::Enters {
-            method: selected,
-            object,
-        },
+        Ok(selected) => RunPlan::Enters(selected),
         Err(error) => RunPlan::Throws(GuestError::of(error)),
+    }
+}
+
+/// The event in which a thread without a frame enters a method on its Thread object; where the method has no code an error is
+/// thrown. It visits three objects at most.
+fn enter_run<L: Ledger>(
+    alloc: Global,
+    program: &Program,
+    machine: &mut Machine,
+    thread: ThreadId,
+    method: MethodId,
+    out: &mut Lines,
+    visits: &mut Steps<L>,
+) -> Result<EventEnd, NoMemory>
+    requires order { IsInOrder program.now }
+    requires sound { IsSoundFor program.now (kept_of machine.old) }
+    requires clock { machine.old.guest.clock < 2 ^ 40 }
+    requires fresh { IsFresh machine.old.guest thread }
+    requires method { method < length program.now.methods }
+    ensures ok { IfOk result (λ end. EventAnswers (enters_first
+        (moment program.now machine.old thread) (begins (moment program.now machine.old thread))
+        (entry_arguments (thread_at machine.old.guest thread).object) method)
+        end machine.old machine.new out.old out.new) }
+    ensures visits { visits.new ≤ visits.old + 3 }
+{
+    let info = program.method(method);
+    match &info.code {
+        Some(code) => {
+            let entered = Entered {
+                method,
+                info,
+                code,
+                passed: Passed::Object(machine.object_of(thread)),
+                classes: &[],
+            };
+            enter_code(alloc, program, machine, thread, &entered, out, visits)
+        }
+        None => throw_first(program, machine, thread, codeless_error(info), out),
     }
 }
 
@@ -86,6 +124,7 @@ pub(crate) fn run_event<L: Ledger>(
     out: &mut Lines,
     visits: &mut Steps<L>,
 ) -> Result<EventEnd, NoMemory>
+    requires order { IsInOrder program.now }
     requires sound { IsSoundFor program.now (kept_of machine.old) }
     requires clock { machine.old.guest.clock < 2 ^ 40 }
     requires fresh { IsFresh machine.old.guest thread }
@@ -99,12 +138,9 @@ pub(crate) fn run_event<L: Ledger>(
             method: MethodId::new(0),
             pc: 0,
         }),
-        RunPlan::Throws(error) => throw_first(machine, program, thread, error, out),
-        RunPlan::Enters { method, object } => {
-            let argument = Some(object);
-            method_event(
-                alloc, program, machine, thread, method, &argument, out, visits,
-            )
+        RunPlan::Throws(error) => throw_first(program, machine, thread, error, out),
+        RunPlan::Enters(method) => {
+            enter_run(alloc, program, machine, thread, method, out, visits)
         }
     }
 }

@@ -1,28 +1,23 @@
 //! What the machine throws where a thread without a frame was to be entered.
-ghost use Rattle.std.specs.Prelude.{◌≡◌, ◌<◌, ◌^◌, not, IfOk};
-ghost use Rattle.et_class.specs.Names.{has as has_flag};
-ghost use Rattle.et_class.specs.declared.flags.TheConstants.{NATIVE as NATIVE_FLAG};
+ghost use Rattle.std.specs.Prelude.{◌≡◌, ◌<◌, ◌^◌, IfOk};
 ghost use Rattle.et_state.specs.State.{kept_of};
 ghost use Rattle.et_state.specs.Sound.{IsSound};
-ghost use Rattle.et_event.specs.declared.errors.GuestError.TheVariants as errors;
 ghost use Rattle.et_event.specs.Answered.{EventAnswers};
-ghost use Rattle.et_event.specs.Checks.{throws_unless};
-ghost use Rattle.et_event.specs.Moments.{Moment, moment, Doing, begins, throws};
+ghost use Rattle.et_event.specs.Moments.{moment, begins, throws};
 ghost use Rattle.et_calls.specs.Fresh.{IsFresh};
 
 use et_base::{NoMemory, ThreadId};
-use et_class::flags::{NATIVE, has};
 use et_event::GuestError;
 use et_parts::{class_called, make_instance};
-use et_program::{MethodInfo, Program};
+use et_program::Program;
 use et_state::{EventEnd, Lines, Machine};
 
 /// The event of a thread without a frame in which the machine throws an error (JVMS 2.10): a new object of its class is
 /// pending then, and the thread counts as entered. After `NoMemory` the machine may have one object more, to which nothing
 /// refers, and there may be its record.
 pub(crate) fn throw_first(
-    machine: &mut Machine,
     program: &Program,
+    machine: &mut Machine,
     thread: ThreadId,
     error: GuestError,
     out: &mut Lines,
@@ -42,17 +37,4 @@ pub(crate) fn throw_first(
     machine.set_entered(thread);
     machine.throw(thread, object);
     Ok(EventEnd::Done)
-}
-
-/// The error of a method without code: it is native (JVMS 2.11.8), or abstract (JVMS 5.4.6).
-pub(crate) fn codeless_error(info: &MethodInfo) -> GuestError
-    ensures { (e : Moment) (d : Doing) →
-        throws_unless e d errors.UnsatisfiedLinkError (not (has_flag info.now.flags NATIVE_FLAG))
-        (throws e errors.AbstractMethodError d) ≡ throws e result d }
-{
-    if has(info.flags, NATIVE) {
-        GuestError::UnsatisfiedLinkError
-    } else {
-        GuestError::AbstractMethodError
-    }
 }

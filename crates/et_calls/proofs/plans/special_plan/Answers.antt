@@ -13,15 +13,15 @@ pub returns-clause-plan : goal.returns-clause-plan
 returns-clause-plan g c = λ at same.
     let e = moment c.args.program.now c.args.machine.now c.args.thread in
     let p = c.args.program.now in
-    let args = arguments_of e c.args.count in
-    let owner : is_of_owner e (begins e) c.args.method c.in-Some.receiver ≡ true = search rules in
-    let answer : select_special p at.class (special_class p c.args.named) c.args.method ≡ c.select_special.result =
-    ap (λ (k : ℕ). select_special p k (special_class p c.args.named) c.args.method) same
-    ∙ (ap (λ (k : ℕ). select_special p c.args.current k c.args.method) (sym c.special_class.ensures.value) ∙ sym c.select_special.ensures.value) in
-    special_selected e at args c.args.named c.args.method c.in-Some.receiver (sym c.in-Some.ensures.value) owner
+    let args = arguments_of e c.args.callee.count in
+    let owner : is_of_owner e (begins e) c.args.callee.method c.in-Some.receiver ≡ true = search rules in
+    let answer : select_special p at.class (special_class p c.args.callee.named) c.args.callee.method ≡ c.select_special.result =
+    ap (λ (k : ℕ). select_special p k (special_class p c.args.callee.named) c.args.callee.method) same
+    ∙ (ap (λ (k : ℕ). select_special p c.args.callee.current k c.args.callee.method) (sym c.special_class-from.ensures.value) ∙ sym c.select_special.ensures.value) in
+    special_selected e at args c.args.callee.named c.args.callee.method c.in-Some.receiver (sym c.in-Some.ensures.value) owner
     ∙ (ap (λ (r : Result ℕ LinkError). selected e (begins e) r (enters_method e at (begins e) args)) answer ∙ c.selected.ensures.plan e at)
 
 pub returns-clause-within : goal.returns-clause-within
 returns-clause-within g c =
     let e = moment c.args.program.now c.args.machine.now c.args.thread in
-    c.selected.ensures.within e c.select_special.ensures.within (special_room e c.args.current c.special_class.result c.args.method c.args.count c.select_special.result c.select_special.ensures.value c.requires.room) c.requires.operands
+    c.selected.ensures.within e c.select_special.ensures.within (special_room e c.args.callee.current c.special_class-from.result c.args.callee.method c.args.callee.count c.select_special.result c.select_special.ensures.value c.requires.room) c.requires.operands

@@ -1,0 +1,41 @@
+use Rattle.std.proofs.Common.{◌≡◌, length, Some, None, refl, sym, ◌∙◌, ap, subst}
+use Rattle.et_program.specs.Entries.{method_at}
+use Rattle.et_program.specs.declared.info.MethodInfo.{MethodInfo}
+use Rattle.et_state.specs.Outcome.{Outcome}
+use Rattle.et_state.specs.State.{Kept}
+use Rattle.et_event.specs.Answered.{EventAnswers}
+use Rattle.et_event.specs.Moments.{moment, begins}
+use Rattle.et_parts.proofs.Answering.{if_ok}
+use Rattle.et_calls.proofs.CalledByCode.{code_called, none_within}
+use Rattle.et_calls.proofs.Calling.{no_code_answers}
+use Rattle.et_calls.proofs.called.enter_event.Goals as goal
+
+pub enter_code-requires-clause-entered : goal.enter_code-requires-clause-entered
+enter_code-requires-clause-entered g c = record {
+  info = c.method-info.ensures.value;
+  class = c.method-info.ensures.class;
+  passed = (c.requires.frame, c.requires.operands);
+  classes = none_within (length c.args.program.now.classes);
+  ready = refl;
+}
+
+pub returns-in-Some-clause-ok : goal.returns-in-Some-clause-ok
+returns-in-Some-clause-ok g c =
+    let p = c.args.program.now in
+    let m = c.args.machine.now in
+    let e = moment p m c.args.thread in
+    let call = c.args.call in
+    let code : (method_at p call.method).code ≡ Some c.in-Some.code = ap (λ (i : MethodInfo). i.code) (sym c.method-info.ensures.value) ∙ c.in-Some.is in
+    if_ok c.enter_code.result
+    (λ end a at same. subst (λ (o : Outcome Kept). EventAnswers o end m c.enter_code.new.machine c.args.out.now c.enter_code.new.out) (sym (code_called e at (begins e) call.count call.method c.in-Some.code c.requires.operands code)) a)
+    c.enter_code.ensures.ok
+
+pub returns-in-None-clause-ok : goal.returns-in-None-clause-ok
+returns-in-None-clause-ok g c =
+    let p = c.args.program.now in
+    let m = c.args.machine.now in
+    let call = c.args.call in
+    let code : (method_at p call.method).code ≡ None = ap (λ (i : MethodInfo). i.code) (sym c.method-info.ensures.value) ∙ c.in-None.is in
+    if_ok c.codeless_event.result
+    (λ end a at same. no_code_answers p c.args.thread m c.codeless_event.new.machine c.args.out.now c.codeless_event.new.out end at call.count call.method c.requires.operands code (a at same))
+    c.codeless_event.ensures.ok

@@ -1,0 +1,63 @@
+use Rattle.std.proofs.Common.{◌≡◌, ℕ, List, Option, ◌∷◌, ◌++◌, [], sym, ◌∙◌, ap}
+use Rattle.std.specs.Prelude.{unwrap_or}
+use Rattle.et_base.specs.declared.value.Value.{Value}
+use Rattle.et_state.specs.NewFrames.{frame_of}
+use Rattle.et_state.specs.Threads.{FrameState}
+use Rattle.et_state.specs.Words.{top}
+use Rattle.et_state.specs.declared.records.Record.TheVariants.{Enter}
+use Rattle.et_event.specs.Frames.{method_frame, receiver_of}
+use Rattle.et_parts.specs.Locks.{entering_some, locks_of}
+use Rattle.et_calls.specs.Entering.{arguments_passed, pushed_by}
+use Rattle.et_calls.proofs.EnteredFrames.{base_few, base_lock, base_passed, entered_lock, method_entered}
+use Rattle.et_calls.proofs.entering.push_event.Goals as goal
+
+pub push_frame-requires-clause-passed : goal.push_frame-requires-clause-passed
+push_frame-requires-clause-passed g c =
+    base_passed c.args.program.now c.args.thread c.args.entered.now.classes.now c.args.entered.now.passed c.args.machine.now c.begin_prepared.new.machine c.in_ok-begin_prepared.ensures.0 c.requires.entered.passed
+
+pub push_frame-requires-clause-few : goal.push_frame-requires-clause-few
+push_frame-requires-clause-few g c =
+    base_few c.args.program.now c.args.thread c.args.entered.now.classes.now c.args.machine.now c.begin_prepared.new.machine c.in_ok-begin_prepared.ensures.0 c.requires.few
+
+pub push_frame-requires-clause-lock : goal.push_frame-requires-clause-lock
+push_frame-requires-clause-lock g c =
+    let p = c.args.program.now in
+    let x = c.args.entered.now in
+    let lock = locks_of c.lock_for-lock.result in
+    let received = c.receiver_of-receiver.ensures.value p c.requires.entered.info in
+    let locked = entered_lock p c.args.thread x c.args.machine.now c.receiver_of-receiver.result lock c.requires.sound c.requires.entered received c.receiver_of-receiver.ensures.held c.lock_for-lock.ensures in
+    (base_lock p c.args.thread x.classes.now c.args.machine.now c.begin_prepared.new.machine lock c.in_ok-begin_prepared.ensures.0 c.requires.sound locked.1).0
+
+pub push_frame-requires-clause-times : goal.push_frame-requires-clause-times
+push_frame-requires-clause-times g c =
+    let p = c.args.program.now in
+    let x = c.args.entered.now in
+    let lock = locks_of c.lock_for-lock.result in
+    let received = c.receiver_of-receiver.ensures.value p c.requires.entered.info in
+    let locked = entered_lock p c.args.thread x c.args.machine.now c.receiver_of-receiver.result lock c.requires.sound c.requires.entered received c.receiver_of-receiver.ensures.held c.lock_for-lock.ensures in
+    (base_lock p c.args.thread x.classes.now c.args.machine.now c.begin_prepared.new.machine lock c.in_ok-begin_prepared.ensures.0 c.requires.sound locked.1).1
+
+pub returns-clause-ok : goal.returns-clause-ok
+returns-clause-ok g c =
+    let p = c.args.program.now in
+    let t = c.args.thread in
+    let m = c.args.machine.now in
+    let m₂ = c.begin_prepared.new.machine in
+    let x = c.args.entered.now in
+    let method = x.method in
+    let body = x.code.now in
+    let lock = locks_of c.lock_for-lock.result in
+    let vs = arguments_passed (top m.guest t) x.passed in
+    let items : c.in_ok-arguments.arguments.items ≡ vs = c.in_ok-arguments.ensures.items in
+    let received : c.receiver_of-receiver.result ≡ receiver_of p method vs = c.receiver_of-receiver.ensures.value p c.requires.entered.info in
+    let locked = entered_lock p t x m c.receiver_of-receiver.result lock c.requires.sound c.requires.entered received c.receiver_of-receiver.ensures.held c.lock_for-lock.ensures in
+    let frame : frame_of c.new_frame-frame.result ≡ method_frame p method body vs =
+    c.new_frame-frame.ensures.frame p c.requires.entered.info (received ∙ ap (λ (us : List Value). receiver_of p method us) (sym items)) ∙ ap (λ (us : List Value). method_frame p method body us) items in
+    let is = c.in_ok-push_frame.ensures.ok ∙ ap (λ (f : FrameState). entering_some t lock (pushed_by m₂ t x.passed f)) frame in
+    let number = c.number_of.ensures ∙ ap (λ (r : Option ℕ). unwrap_or r 0) received in
+    let told = c.in_ok-push.ensures.ok
+    ∙ (ap (λ (n : ℕ). c.begin_prepared.new.out ++ Enter n c.number.result method c.number_of.result ∷ []) c.clock.ensures
+    ∙ (ap (λ (n : ℕ). c.begin_prepared.new.out ++ Enter m₂.guest.clock n method c.number_of.result ∷ []) c.number.ensures.value
+    ∙ ap (λ (n : ℕ). c.begin_prepared.new.out ++ Enter m₂.guest.clock t method n ∷ []) number)) in
+    method_entered p t method x.classes.now body x.passed lock m m₂ c.push_frame.new.machine c.args.out.now c.begin_prepared.new.out c.push.new.self c.requires.order c.requires.entered.classes
+    c.requires.sound c.requires.entered.passed c.requires.fits locked.0 locked.1 c.in_ok-begin_prepared.ensures.0 c.in_ok-begin_prepared.ensures.1 is told

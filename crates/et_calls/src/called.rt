@@ -1,0 +1,184 @@
+//! The methods that are called: those with code are entered, a built-in one is done, and others throw (JVMS 2.11.8, 5.5).
+ghost use Rattle.std.specs.Prelude.{◌≡◌, ◌+◌, ◌<◌, ◌≤◌, ◌^◌, true, [], ◌∷◌, if◌then◌else◌, IfOk, length};
+ghost use Rattle.std.specs.List.{list_all};
+ghost use Rattle.et_class.specs.Names.{has as has_flag};
+ghost use Rattle.et_class.specs.declared.flags.TheConstants.{NATIVE as NATIVE_FLAG};
+ghost use Rattle.et_state.specs.State.{kept_of};
+ghost use Rattle.et_state.specs.Words.{HasFrame, top};
+ghost use Rattle.et_program.specs.Entries.{is_static, method_at};
+ghost use Rattle.et_event.specs.Answered.{EventAnswers};
+ghost use Rattle.et_event.specs.Calls.{arguments_of, enters_method};
+ghost use Rattle.et_event.specs.declared.errors.GuestError.TheVariants as errors;
+ghost use Rattle.et_event.specs.Initialization.{is_ready as ready, prepared};
+ghost use Rattle.et_event.specs.Moments.{moment, begins};
+ghost use Rattle.et_event.specs.Sites.{Site};
+ghost use Rattle.et_event.specs.Sound.{IsSoundFor};
+ghost use Rattle.et_sound.specs.Programs.{HasMachineSlots, HasMethods};
+ghost use Rattle.et_initialize.specs.Programs.{IsInOrder};
+ghost use Rattle.et_calls.specs.Entering.{codeless_call};
+ghost use Rattle.et_calls.specs.Plans.{HasRoom};
+
+use crate::entering::enter_code;
+use crate::new_frames::{Entered, Passed};
+use et_base::{MethodId, NoMemory, Steps, ThreadId};
+use et_builtins::built_in_method_event;
+use et_class::flags::{NATIVE, has};
+use et_event::GuestError;
+use et_initialize::throw_after;
+use et_parts::throw_error;
+use et_program::{MethodInfo, Program};
+use et_state::{EventEnd, Lines, Machine};
+use std::alloc::Global;
+use std::sync::ledger::Ledger;
+
+/// A method that is called.
+#[derive(Clone, Copy)]
+pub(crate) struct Call {
+    /// The method, as it was selected.
+    pub method: MethodId,
+    /// So many entries on top of the operands are its arguments.
+    pub count: u32,
+    /// The pc behind the call.
+    pub next: u32,
+}
+
+/// What is thrown where a method without code that is not built in is called: a native one is not found (JVMS 2.11.8), and
+/// another one is abstract (JVMS 5.4.6).
+pub(crate) fn codeless_error(info: &MethodInfo) -> GuestError
+    ensures { result ≡ (if has_flag info.now.flags
+        NATIVE_FLAG then errors.UnsatisfiedLinkError else errors.AbstractMethodError) }
+{
+    if has(info.flags, NATIVE) {
+        GuestError::UnsatisfiedLinkError
+    } else {
+        GuestError::AbstractMethodError
+    }
+}
+
+/// The event of a method without code: a native one throws, and another one is built in or abstract. It visits three objects at
+/// most.
+fn codeless_event<L: Ledger>(
+    program: &Program,
+    machine: &mut Machine,
+    thread: ThreadId,
+    call: Call,
+    out: &mut Lines,
+    visits: &mut Steps<L>,
+) -> Result<EventEnd, NoMemory>
+    requires frame { HasFrame machine.old.guest thread }
+    requires sound { IsSoundFor program.now (kept_of machine.old) }
+    requires clock { machine.old.guest.clock < 2 ^ 40 }
+    requires operands { call.count ≤ length (top machine.old.guest thread).operands }
+    requires method { call.method < length program.now.methods }
+    requires room { HasRoom (moment program.now machine.old thread) call.method call.count }
+    requires slots { HasMachineSlots program.now }
+    ensures ok { IfOk result (λ end. (at : Site) →
+        at.next ≡ call.next → EventAnswers (codeless_call (moment program.now machine.old thread)
+        at call.method call.count) end machine.old machine.new out.old out.new) }
+    ensures visits { visits.new ≤ visits.old + 3 }
+{
+    if has(program.method(call.method).flags, NATIVE) {
+        let error = GuestError::UnsatisfiedLinkError;
+        return throw_error(machine, program, thread, error, out);
+    }
+    built_in_method_event(
+        program,
+        machine,
+        thread,
+        call.method,
+        call.count,
+        call.next,
+        out,
+        visits,
+    )
+}
+
+/// The event in which a selected method is called that needs no class (JVMS 2.6, 2.11.8, 2.11.10): one without code is done,
+/// where it is built in, and else throws. It visits three objects at most. After `NoMemory` the event may be half done.
+pub(crate) fn enter_event<L: Ledger>(
+    alloc: Global,
+    program: &Program,
+    machine: &mut Machine,
+    thread: ThreadId,
+    call: Call,
+    out: &mut Lines,
+    visits: &mut Steps<L>,
+) -> Result<EventEnd, NoMemory>
+    requires frame { HasFrame machine.old.guest thread }
+    requires sound { IsSoundFor program.now (kept_of machine.old) }
+    requires clock { machine.old.guest.clock < 2 ^ 40 }
+    requires order { IsInOrder program.now }
+    requires operands { call.count ≤ length (top machine.old.guest thread).operands }
+    requires method { call.method < length program.now.methods }
+    requires room { HasRoom (moment program.now machine.old thread) call.method call.count }
+    requires slots { HasMachineSlots program.now }
+    ensures ok { IfOk result (λ end. (at : Site) → at.next ≡ call.next → EventAnswers (enters_method
+        (moment program.now machine.old thread) at (begins (moment program.now machine.old thread))
+        (arguments_of (moment program.now machine.old thread) call.count) call.method)
+        end machine.old machine.new out.old out.new) }
+    ensures visits { visits.new ≤ visits.old + 3 }
+{
+    let info = program.method(call.method);
+    match &info.code {
+        Some(code) => {
+            let entered = Entered {
+                method: call.method,
+                info,
+                code,
+                passed: Passed::Operands(call.count),
+                classes: &[],
+            };
+            enter_code(alloc, program, machine, thread, &entered, out, visits)
+        }
+        None => codeless_event(program, machine, thread, call, out, visits),
+    }
+}
+
+/// The event in which a static method is called, after its class, which is ready or quiet, became done (JVMS 5.5, 2.6, 2.11.8,
+/// 2.11.10). It visits three objects at most. After `NoMemory` the event may be half done.
+pub(crate) fn enter_after<L: Ledger>(
+    alloc: Global,
+    program: &Program,
+    machine: &mut Machine,
+    thread: ThreadId,
+    call: Call,
+    out: &mut Lines,
+    visits: &mut Steps<L>,
+) -> Result<EventEnd, NoMemory>
+    requires frame { HasFrame machine.old.guest thread }
+    requires sound { IsSoundFor program.now (kept_of machine.old) }
+    requires clock { machine.old.guest.clock < 2 ^ 40 }
+    requires order { IsInOrder program.now }
+    requires methods { HasMethods program.now }
+    requires ready { list_all (ready (moment program.now machine.old thread)
+        (begins (moment program.now machine.old thread)))
+        ((method_at program.now call.method).class ∷ []) ≡ true }
+    requires operands { call.count ≤ length (top machine.old.guest thread).operands }
+    requires method { call.method < length program.now.methods }
+    requires is_static { is_static program.now call.method ≡ true }
+    ensures ok { IfOk result (λ end. (at : Site) →
+        EventAnswers (enters_method (moment program.now machine.old thread) at
+        (prepared (moment program.now machine.old thread) ((method_at program.now call.method).class
+        ∷ []) (begins (moment program.now machine.old thread))) (arguments_of (moment program.now
+        machine.old thread) call.count) call.method) end machine.old machine.new out.old out.new) }
+    ensures visits { visits.new ≤ visits.old + 3 }
+{
+    let info = program.method(call.method);
+    let class = info.class;
+    match &info.code {
+        Some(code) => {
+            let entered = Entered {
+                method: call.method,
+                info,
+                code,
+                passed: Passed::Operands(call.count),
+                classes: &[class],
+            };
+            enter_code(alloc, program, machine, thread, &entered, out, visits)
+        }
+        None => {
+            let error = codeless_error(info);
+            throw_after(program, machine, alloc, thread, &[class], error, out)
+        }
+    }
+}
