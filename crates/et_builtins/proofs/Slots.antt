@@ -25,7 +25,7 @@ use Rattle.et_event.specs.Moments.{Moment, Doing}
 use Rattle.et_event.specs.declared.rows.BuiltIn.{BuiltIn}
 use Rattle.et_event.specs.declared.rows.BuiltIn.TheVariants.{Nothing, SetMessage, SetMessageAndCause, GetMessage, GetCause, SetTarget, Start, Join, SetReferent, GetReferent, ClearReferent}
 use Rattle.et_builtins.specs.Kinds.{slots_used}
-use Rattle.et_sound.specs.Programs.{HasMachineSlots, KeepsFree, KeepsTarget}
+use Rattle.et_event.specs.Programs.{HasMachineSlots, KeepsFree, KeepsTarget}
 
 there_is : (x : Option ObjectState) → is_there x → x ≡ Some (found x)
 there_is None h = absurd h

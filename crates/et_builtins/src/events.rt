@@ -10,7 +10,7 @@ ghost use Rattle.et_event.specs.Kinds.{returned_width};
 ghost use Rattle.et_event.specs.Moments.{begins, moment};
 ghost use Rattle.et_event.specs.Sites.{Site};
 ghost use Rattle.et_event.specs.Sound.{IsSoundFor, returned_of};
-ghost use Rattle.et_sound.specs.Programs.{HasMachineSlots};
+ghost use Rattle.et_event.specs.Programs.{HasMachineSlots};
 
 use crate::arguments::{operands_are_few, receiver};
 use crate::changes::Called;

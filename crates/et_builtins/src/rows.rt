@@ -17,7 +17,7 @@ ghost use Rattle.et_event.specs.Moments.{moment, begins, goes};
 ghost use Rattle.et_event.specs.declared.rows.Operand.TheVariants as operand;
 ghost use Rattle.et_event.specs.Sites.{Site};
 ghost use Rattle.et_event.specs.Sound.{IsSoundFor};
-ghost use Rattle.et_sound.specs.Programs.{HasMachineSlots};
+ghost use Rattle.et_event.specs.Programs.{HasMachineSlots};
 ghost use Rattle.et_builtins.specs.Kinds.{entries_answered, slots_used};
 
 use crate::arguments::argument_at;

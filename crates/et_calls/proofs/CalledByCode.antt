@@ -25,7 +25,7 @@ use Rattle.et_event.specs.Initialization.{is_quiet, is_ready, is_ready_state, pr
 use Rattle.et_event.specs.Moments.{Moment, Doing, frame_of, throws}
 use Rattle.et_event.specs.Sites.{Site}
 use Rattle.et_builtins.proofs.Standing.{length_arguments}
-use Rattle.et_sound.specs.Programs.{HasMethods, is_initializing}
+use Rattle.et_event.specs.Programs.{HasMethods, is_initializing}
 
 -- A METHOD NAMED <clinit> is no built-in one
 

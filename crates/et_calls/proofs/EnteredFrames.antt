@@ -39,7 +39,7 @@ use Rattle.et_parts.proofs.Keeping.{entered_is, monitor_on_way}
 use Rattle.et_parts.proofs.Entering.{commutes, entered_clock, entered_records, fits_locked, frame_holds}
 use Rattle.et_parts.proofs.There.{few_times, method_lock_there, there_later}
 use Rattle.et_parts.proofs.Throwing.{ends_fit, ends_full}
-use Rattle.et_initialize.specs.Programs.{IsInOrder}
+use Rattle.et_event.specs.InitializationOrder.{IsInOrder}
 use Rattle.et_initialize.proofs.Beginning.{strings_led}
 use Rattle.et_initialize.proofs.Preparing.{grown_prepared}
 use Rattle.et_initialize.proofs.Stepping.{after, base, base_threads, has_frame_on, made_after, monitors_after, threads_after, top_on}

@@ -13,8 +13,8 @@ ghost use Rattle.et_event.specs.Initialization.{is_ready as ready, prepared};
 ghost use Rattle.et_event.specs.Moments.{moment, begins};
 ghost use Rattle.et_event.specs.Sites.{Site};
 ghost use Rattle.et_event.specs.Sound.{IsSoundFor};
-ghost use Rattle.et_sound.specs.Programs.{HasMachineSlots, HasMethods};
-ghost use Rattle.et_initialize.specs.Programs.{IsInOrder};
+ghost use Rattle.et_event.specs.Programs.{HasMachineSlots, HasMethods};
+ghost use Rattle.et_event.specs.InitializationOrder.{IsInOrder};
 ghost use Rattle.et_calls.specs.Entering.{codeless_call};
 ghost use Rattle.et_calls.specs.Plans.{HasRoom};
 

@@ -8,7 +8,7 @@ ghost use Rattle.et_event.specs.Answered.{EventAnswers};
 ghost use Rattle.et_event.specs.Moments.{fits, moment};
 ghost use Rattle.et_event.specs.Sound.{IsSoundFor};
 ghost use Rattle.et_parts.specs.Locks.{HasSome, IsSomeFewTimes, entering_some, locks_of};
-ghost use Rattle.et_initialize.specs.Programs.{IsInOrder};
+ghost use Rattle.et_event.specs.InitializationOrder.{IsInOrder};
 ghost use Rattle.et_calls.specs.Entering.{ArePassed, IsEntered, entering_event, fitting_event, passed_by, prepared_for, pushed_by, pushed_event};
 
 use crate::new_frames::{Entered, Passed, new_frame, number_of, passed_arguments, receiver_of};

@@ -11,10 +11,10 @@ ghost use Rattle.et_event.specs.Calls.{call_event as calling};
 ghost use Rattle.et_event.specs.Moments.{moment};
 ghost use Rattle.et_event.specs.Sites.{Site};
 ghost use Rattle.et_event.specs.Sound.{IsSoundFor};
-ghost use Rattle.et_sound.specs.Programs.{HasMachineSlots, HasMethods};
+ghost use Rattle.et_event.specs.Programs.{HasMachineSlots, HasMethods};
 ghost use Rattle.et_calls.specs.Plans.{IsPlan, planned};
 ghost use Rattle.et_calls.specs.declared.plans.CallPlan.TheVariants as plans;
-ghost use Rattle.et_initialize.specs.Programs.{IsInOrder};
+ghost use Rattle.et_event.specs.InitializationOrder.{IsInOrder};
 
 use crate::called::{Call, enter_after, enter_event};
 use crate::plans::{CallPlan, invoke_plan};

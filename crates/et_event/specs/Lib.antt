@@ -19,3 +19,7 @@ pub mod Start
 pub mod Sound
 pub mod Answered
 pub mod PlainRows
+pub mod Programs
+pub mod InitializationOrder
+pub mod Interfaces
+pub mod Runnable

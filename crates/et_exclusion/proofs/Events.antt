@@ -9,7 +9,7 @@ use Rattle.et_event.specs.Event.{event}
 use Rattle.et_event.specs.Moments.{Moment, thread_of, frame_of}
 use Rattle.et_event.specs.Sound.{AreSoundFrames, IsSoundFor}
 use Rattle.et_sound.proofs.Frames.{RunsSome, runs_some, with_first}
-use Rattle.et_sound.specs.SteadyPrograms.{MayRun}
+use Rattle.et_event.specs.Runnable.{IsRunnable}
 use Rattle.et_sound.proofs.Arrays.{names_class}
 use Rattle.et_sound.proofs.Entering.{StandsIn, stands_in}
 use Rattle.et_sound.proofs.Turning.{parts, some_frame, runs_by}
@@ -18,7 +18,7 @@ use Rattle.et_exclusion.proofs.Turns.{HasDimensions, turn_keeps}
 use Rattle.et_exclusion.proofs.Ways.{Knows}
 
 -- a multianewarray of the code has a dimension
-dimensions : (e : Moment) → Knows e → MayRun e.program → turn_of (thread_of e) ≡ Instruction → HasDimensions e
+dimensions : (e : Moment) → Knows e → IsRunnable e.program → turn_of (thread_of e) ≡ Instruction → HasDimensions e
 dimensions e knows may turn x decoded row name class named resolves =
     let p : Linked = e.program in
     let f : FrameState = frame_of e in
@@ -30,7 +30,7 @@ dimensions e knows may turn x decoded row name class named resolves =
     let s : StandsIn e x = stands_in e x some decoded in
     (may.arrays.multi s.method x class s.is row (names_class e x s name class named resolves)).0
 
-pub event_keeps : (p : Linked) (s : Kept) (t : ℕ) → IsSoundFor p s → IsUnended s.guest t → MayRun p → KeepsMonitors (record { program = p; before = s; thread = t }) (event p s t)
+pub event_keeps : (p : Linked) (s : Kept) (t : ℕ) → IsSoundFor p s → IsUnended s.guest t → IsRunnable p → KeepsMonitors (record { program = p; before = s; thread = t }) (event p s t)
 unfolding event
 event_keeps p s t sound unended may =
     let e : Moment = record { program = p; before = s; thread = t } in

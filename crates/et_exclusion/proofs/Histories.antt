@@ -207,7 +207,7 @@ module _ (reached : Graph → ℕ → Bool) (p : Linked) (options : Options) (pi
       let unended : IsUnended s.guest thread = picked_unended s (pick (suc e)) on.some in
       record {
         sound = now.state;
-        keeps = event_keeps p s thread now.state unended run.runnable.steady;
+        keeps = event_keeps p s thread now.state unended run.runnable;
         done = on.done;
         unended = unended;
         below = below_limit e options.limit now.within (not_same e options.limit on.within);
@@ -222,7 +222,7 @@ module _ (reached : Graph → ℕ → Bool) (p : Linked) (options : Options) (pi
       let n : Next e = next e h goes in
       let clock = now.clock in
       let few : s.guest.clock < 2 ^ 40 = omega (arith, n.below, are.limit) in
-      let after = after_event p s thread (event p s thread) n.keeps now.state (event_sound p s thread now.state few n.unended run.runnable.steady) n.done in
+      let after = after_event p s thread (event p s thread) n.keeps now.state (event_sound p s thread now.state few n.unended run.runnable) n.done in
       let later = after.1 in
       record { state = after.0; clock = omega arith; within = omega (arith, n.below) }
 

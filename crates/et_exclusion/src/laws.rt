@@ -12,7 +12,7 @@ ghost use Rattle.et_event.specs.Monitors.{Lock};
 ghost use Rattle.et_event.specs.Sound.{IsSoundFor};
 ghost use Rattle.et_event.specs.Start.{start};
 ghost use Rattle.et_sound.specs.WellFormed.{IsThere};
-ghost use Rattle.et_sound.specs.SteadyPrograms.{MayRun};
+ghost use Rattle.et_event.specs.Runnable.{IsRunnable};
 ghost use Rattle.et_run.specs.Guests.{IsSoundRun};
 ghost use Rattle.et_exclusion.specs.Changing.{KeepsMonitors};
 ghost use Rattle.et_exclusion.specs.Histories.{state_at, GoesOn, times_held};
@@ -21,7 +21,7 @@ ghost use Rattle.et_exclusion.specs.Holding.{monitor_in};
 /// Each event of a thread that has not ended enters and leaves the monitors that its instruction and its frames say, and
 /// keeps every other; what it enters was open to its thread. After it, what is referred to is held.
 pub fn events_keep_monitors()
-    ensures { (p : Linked) (s : Kept) (t : ℕ) → IsSoundFor p s → IsUnended s.guest t → MayRun p →
+    ensures { (p : Linked) (s : Kept) (t : ℕ) → IsSoundFor p s → IsUnended s.guest t → IsRunnable p →
         KeepsMonitors (record { program = p; before = s; thread = t }) (event p s t) }
 {}
 

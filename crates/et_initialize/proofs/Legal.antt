@@ -29,7 +29,7 @@ use Rattle.et_event.specs.Sites.{LoadedConstant, AnInt, ALong, AString, constant
 use Rattle.et_event.specs.Sound.{IsSoundFor}
 use Rattle.et_event.specs.Strings.{interned, string_object}
 use Rattle.et_event.specs.Initialization.{state_of, with_state, constant_set, field_set, constants_set, class_done, quietly_done}
-use Rattle.et_initialize.specs.Programs.{IsStaticOf, HasConstants, IsInOrder}
+use Rattle.et_event.specs.InitializationOrder.{IsStaticOf, HasConstants, IsInOrder}
 use Rattle.et_initialize.specs.Under.{IsReady, HasMadeStrings}
 use Rattle.et_initialize.proofs.Strings.{by_interned, object_listed}
 use Rattle.et_initialize.proofs.Setting.{written_state, follows_field, slot_class, apart_slots, unset_marked, done_step, ready_done, ready_order, threads_order, monitors_order}

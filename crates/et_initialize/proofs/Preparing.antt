@@ -19,7 +19,7 @@ use Rattle.et_event.specs.Initialization.{state_of, with_state, class_done, quie
 use Rattle.et_initialize.specs.declared.needs.Need.{Need}
 use Rattle.et_initialize.specs.declared.needs.Need.TheVariants.{Ready, Waits, Quiet, Begins}
 use Rattle.et_initialize.specs.Needs.{need_by, need_of, met}
-use Rattle.et_initialize.specs.Programs.{IsInOrder}
+use Rattle.et_event.specs.InitializationOrder.{IsInOrder}
 use Rattle.et_initialize.specs.Texts.{CountedAll}
 use Rattle.et_initialize.specs.Under.{so_far, ComesTo, IsReady, HasMadeStrings}
 use Rattle.et_initialize.proofs.Running.{at, came, known}

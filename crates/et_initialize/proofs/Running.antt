@@ -13,7 +13,7 @@ use Rattle.et_program.specs.Entries.{Linked, class_at}
 use Rattle.et_state.specs.declared.records.Record.{Record}
 use Rattle.et_event.specs.Moments.{Moment, moment, Doing, fits}
 use Rattle.et_event.specs.Initialization.{state_of, with_state, field_set, constants_set, class_done, quietly_done}
-use Rattle.et_initialize.specs.Programs.{IsInOrder}
+use Rattle.et_event.specs.InitializationOrder.{IsInOrder}
 use Rattle.et_initialize.specs.Under.{so_far, with_kept, ComesTo, IsReady, class_of_slot}
 use Rattle.et_initialize.proofs.Setting.{CanSet, after, can_set, field_fits, done_step, done_first, class_fits, ready_order, ready_marked, unset_marked}
 

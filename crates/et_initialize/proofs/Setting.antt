@@ -23,7 +23,7 @@ use Rattle.et_event.specs.Moments.{Moment, Doing, fits, static_written, with_gue
 use Rattle.et_event.specs.Sites.{LoadedConstant, AnInt, ALong, AString, constant_at, pool_of}
 use Rattle.et_event.specs.Strings.{interned, string_object}
 use Rattle.et_event.specs.Initialization.{state_of, with_state, constant_set, field_set, constants_set, class_done}
-use Rattle.et_initialize.specs.Programs.{IsStaticOf, HasConstants, IsInOrder}
+use Rattle.et_event.specs.InitializationOrder.{IsStaticOf, HasConstants, IsInOrder}
 use Rattle.et_initialize.specs.Under.{IsReady, class_of_slot}
 use Rattle.et_initialize.proofs.Strings.{making, by_interned}
 

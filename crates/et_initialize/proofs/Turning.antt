@@ -18,7 +18,7 @@ use Rattle.et_event.specs.Initialization.{prepared, enters_clinit, is_quiet, is_
 use Rattle.et_initialize.specs.declared.needs.Need.{Need}
 use Rattle.et_initialize.specs.declared.needs.Need.TheVariants.{Ready, Waits, Quiet, Begins}
 use Rattle.et_initialize.specs.Needs.{need_by, need_of, met}
-use Rattle.et_initialize.specs.Programs.{IsInOrder}
+use Rattle.et_event.specs.InitializationOrder.{IsInOrder}
 use Rattle.et_initialize.proofs.Preparing.{true_false, blocked, blocker_state, turns_none, turns_prepared, all_pass, first_fails}
 use Rattle.et_initialize.proofs.Stepping.{after}
 

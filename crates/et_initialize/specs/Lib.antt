@@ -1,4 +1,3 @@
 pub mod Needs
-pub mod Programs
 pub mod Texts
 pub mod Under

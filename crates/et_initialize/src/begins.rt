@@ -13,7 +13,7 @@ ghost use Rattle.et_event.specs.Answered.{EventAnswers};
 ghost use Rattle.et_event.specs.Moments.{moment, begins, waits, fits};
 ghost use Rattle.et_event.specs.Sound.{IsSoundFor};
 ghost use Rattle.et_event.specs.Initialization.{begun_by, begins_class, constants_set, with_state, initializer_frame};
-ghost use Rattle.et_initialize.specs.Programs.{IsInOrder};
+ghost use Rattle.et_event.specs.InitializationOrder.{IsInOrder};
 
 use crate::limits::constants_fit;
 use crate::quiet::set_constants;

@@ -9,7 +9,7 @@ ghost use Rattle.et_state.specs.declared.records.Record.{Record};
 ghost use Rattle.et_event.specs.Moments.{Moment, Doing, later};
 ghost use Rattle.et_event.specs.Sound.{IsSoundFor};
 ghost use Rattle.et_event.specs.Initialization.{quietly_done};
-ghost use Rattle.et_initialize.specs.Programs.{IsInOrder};
+ghost use Rattle.et_event.specs.InitializationOrder.{IsInOrder};
 ghost use Rattle.et_initialize.specs.Under.{IsReady, HasMadeStrings};
 
 /// A sound state is ready as an event begins, which has made nothing yet.

@@ -6,7 +6,7 @@ ghost use Rattle.et_state.specs.declared.class_state.ClassState.{ClassState as S
 ghost use Rattle.et_state.specs.declared.class_state.ClassState.TheVariants as states;
 ghost use Rattle.et_state.specs.State.{Kept};
 ghost use Rattle.et_state.specs.Words.{class_state_at};
-ghost use Rattle.et_initialize.specs.Programs.{IsInOrder};
+ghost use Rattle.et_event.specs.InitializationOrder.{IsInOrder};
 ghost use Rattle.et_state.specs.Interned.{object_of};
 ghost use Rattle.et_program.specs.Entries.{class_at};
 ghost use Rattle.et_event.specs.Moments.{moment, Doing, begins, fits as all_fit};

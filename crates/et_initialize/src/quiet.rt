@@ -6,7 +6,7 @@ ghost use Rattle.et_state.specs.State.{kept_of};
 ghost use Rattle.et_state.specs.Words.{static_at};
 ghost use Rattle.et_event.specs.Moments.{moment, fits};
 ghost use Rattle.et_event.specs.Initialization.{constants_set, class_done, quietly_done, state_of};
-ghost use Rattle.et_initialize.specs.Programs.{IsInOrder};
+ghost use Rattle.et_event.specs.InitializationOrder.{IsInOrder};
 ghost use Rattle.et_initialize.specs.Under.{so_far, ComesTo, IsReady, class_of_slot};
 
 use crate::constants::set_field;

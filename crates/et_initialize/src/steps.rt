@@ -14,7 +14,7 @@ ghost use Rattle.et_event.specs.Moments.{moment, begins, fits, throws, ends as e
 ghost use Rattle.et_event.specs.Sites.{body_of};
 ghost use Rattle.et_event.specs.Sound.{IsSoundFor};
 ghost use Rattle.et_event.specs.Initialization.{is_ready as ready, prepared, quietly_if_untouched, state_of, with_state, constants_set, begins_class, enters_clinit, initialized, initialization_step};
-ghost use Rattle.et_initialize.specs.Programs.{IsInOrder};
+ghost use Rattle.et_event.specs.InitializationOrder.{IsInOrder};
 ghost use Rattle.et_initialize.specs.Under.{so_far, ComesTo, IsReady};
 
 use crate::begins::{MOST_FRAMES, initializer, wait_event};

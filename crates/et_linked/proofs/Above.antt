@@ -16,7 +16,7 @@ use Rattle.et_link.specs.Loaded.{LoadedClass}
 use Rattle.et_link.specs.LinkFaults.{IsLinkable}
 use Rattle.et_link.specs.ProgramOf.{program_with, IsProgramOf}
 use Rattle.et_link.proofs.TabledLemmas.{length-set}
-use Rattle.et_throw.specs.Interfaces.{KnowsInterfaces}
+use Rattle.et_event.specs.Interfaces.{KnowsInterfaces}
 use Rattle.et_linked.proofs.Places.{at_map, one_of}
 use Rattle.et_linked.proofs.Making.{class_in}
 use Rattle.et_linked.proofs.Classes.{class_cases}

@@ -46,7 +46,7 @@ use Rattle.et_event.specs.declared.rows.Row.TheVariants.{Heap}
 use Rattle.et_event.specs.Kinds as kinds
 use Rattle.et_event.specs.Sites.{natural, no_constants, pool_of}
 use Rattle.et_event.specs.Table.{row_of}
-use Rattle.et_sound.specs.Programs.{IsArrayClass, IsInstruction, NamesClass, HasDimensions, HasArrays}
+use Rattle.et_event.specs.Programs.{IsArrayClass, IsInstruction, NamesClass, HasDimensions, HasArrays}
 use Rattle.et_sound.proofs.Fields.{Passes, position_passes}
 use Rattle.et_linked.specs.ClassNames.{HasClassName}
 use Rattle.et_linked.proofs.Making.{class_in}

@@ -11,7 +11,7 @@ use Rattle.et_link.specs.ArrayTypes.{base_kind, base_letters, leaf_at, leaf_of, 
 use Rattle.et_link.specs.Files.{set_of}
 use Rattle.et_link.specs.Loaded.{LoadedClass}
 use Rattle.et_link.specs.ProgramOf.{names_of, program_with, IsProgramOf}
-use Rattle.et_refs.specs.Slots.{IsElementWithin, AreElementsWithin}
+use Rattle.et_event.specs.Programs.{IsElementWithin, AreElementsWithin}
 use Rattle.et_linked.proofs.Classes.{length_all, class_cases}
 
 some_below : (o : Option ℕ) (a b : ℕ) → a ≤ b → IfSome o (λ j. j < a) → IfSome o (λ j. j < b)

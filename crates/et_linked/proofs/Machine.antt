@@ -34,8 +34,8 @@ use Rattle.et_link.proofs.TabledLemmas.{length-set, length-placed, fields_within
 use Rattle.et_event.specs.Errors.{class_called}
 use Rattle.et_event.specs.Sound.{HasField, IsSoundObject}
 use Rattle.et_heap.specs.Objects.{new_object}
-use Rattle.et_sound.specs.Programs.{HasInstanceField, HasSlots, KeepsFree, IsTarget, KeepsTarget, HasMachineSlots}
-use Rattle.et_throw.specs.Interfaces.{KnowsInterfaces}
+use Rattle.et_event.specs.Programs.{HasInstanceField, HasSlots, KeepsFree, IsTarget, KeepsTarget, HasMachineSlots}
+use Rattle.et_event.specs.Interfaces.{KnowsInterfaces}
 use Rattle.et_linked.specs.Interfaces.{HaveStaticFields}
 use Rattle.et_linked.proofs.PlacesAbove.{place_in_set, link_at}
 use Rattle.et_linked.proofs.BuiltIn.{boot_place}

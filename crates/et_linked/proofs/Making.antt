@@ -28,8 +28,7 @@ use Rattle.et_heap.specs.Objects.{new_object}
 use Rattle.et_event.specs.declared.errors.GuestError.{GuestError}
 use Rattle.et_event.specs.Errors.{class_called, error_class, name_of}
 use Rattle.et_event.specs.Sound.{IsSoundObject, slots_by}
-use Rattle.et_sound.specs.Programs.{MakesSound, new_of}
-use Rattle.et_sound.specs.WellFormed.{MayHold}
+use Rattle.et_event.specs.Programs.{MakesSound, new_of, MayHold}
 use Rattle.et_linked.proofs.Places.{at_numbered, first_numbered, one_of}
 use Rattle.et_linked.proofs.BuiltIn.{has_no_fields, no_fields_within, none_behind, boot_place, fields_of_others, IsFieldless, of_error, of_string}
 use Rattle.et_linked.proofs.PlacesAbove.{NoField, IsFree, place_in_set, free_above}

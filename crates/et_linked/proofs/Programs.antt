@@ -32,9 +32,9 @@ use Rattle.et_link.specs.Slots.{is_static_field, is_instance_of, slots_above, sl
 use Rattle.et_event.specs.Kinds.{kind_of}
 use Rattle.et_event.specs.Sites.{LoadedConstant, constant_at, no_constants, pool_of}
 use Rattle.et_event.specs.Sound.{is_of_kind, returned_of}
-use Rattle.et_sound.specs.Programs.{HasConstant, IsInitializer, HasInitializers, value_like}
+use Rattle.et_event.specs.Programs.{HasConstant, IsInitializer, HasInitializers, value_like}
 use Rattle.et_sound.proofs.Fields.{Passes, position_passes}
-use Rattle.et_initialize.specs.Programs.{IsStaticOf, HasConstants, IsInOrder}
+use Rattle.et_event.specs.InitializationOrder.{IsStaticOf, HasConstants, IsInOrder}
 use Rattle.et_linked.proofs.Counts.{placed_at, StandsIn, places_at}
 use Rattle.et_linked.proofs.Places.{at_mapped}
 use Rattle.et_linked.specs.Fields.{HasStaticConstants, HasTypedConstants}

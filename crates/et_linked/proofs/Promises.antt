@@ -24,7 +24,8 @@ use Rattle.et_linked.proofs.Elements.{elements_within}
 use Rattle.et_linked.proofs.Programs.{in_order, has_initializers}
 use Rattle.et_linked.proofs.Static.{fields_static}
 use Rattle.et_linked.proofs.Typed.{keeps_field_rules}
-use Rattle.et_linked.specs.Programs.{IsOfFile, KeepRules, KeepsPromises}
+use Rattle.et_event.specs.Runnable.{IsRunnable}
+use Rattle.et_linked.specs.Programs.{IsOfFile, KeepRules}
 use Rattle.et_linked.specs.Rules.{KeepsMethodRules, KeepsCodeRules}
 use Rattle.et_linked.proofs.Arrays.{has_arrays}
 use Rattle.et_linked.proofs.Bodies.{have_rules, runs_on_object}
@@ -67,11 +68,10 @@ module _ (files : List LoadedClass) (rows : List Ancestry) (pools : List Constan
       let below : (method_at p m).class < length (set_of files) = methods_within files m no_method lt in
       omega arith
 
-  kept : KeepsPromises p
+  kept : IsRunnable p
   kept = record {
     makes = makes_sound files p is;
     errors = λ error i v. errors_hold files p is error i v;
-    static_fields = plain;
     slots = has_slots files p is plain;
     machine_slots = has_machine_slots files p statics linkable is;
     elements = elements_within files p is;
@@ -85,6 +85,6 @@ module _ (files : List LoadedClass) (rows : List Ancestry) (pools : List Constan
     run = λ m e. runs_on_object files rows pools m e;
   }
 
-pub keeps_promises : (files : List LoadedClass) (p : Linked) → 0 < length files → KeepRules files → IsLinkable files → IsProgramOf files p → KeepsPromises p
+pub keeps_promises : (files : List LoadedClass) (p : Linked) → 0 < length files → KeepRules files → IsLinkable files → IsProgramOf files p → IsRunnable p
 keeps_promises files p some rules linkable is =
-    subst KeepsPromises (sym is.tables) (kept files is.rows p.pools some rules linkable (subst (λ (q : Linked). IsProgramOf files q) is.tables is))
+    subst IsRunnable (sym is.tables) (kept files is.rows p.pools some rules linkable (subst (λ (q : Linked). IsProgramOf files q) is.tables is))

@@ -33,7 +33,7 @@ use Rattle.et_heap.specs.Objects.{new_object}
 use Rattle.et_event.specs.Heap.{may_be_made}
 use Rattle.et_event.specs.Kinds.{is_array, kind_of}
 use Rattle.et_event.specs.Sound.{is_of_kind, kind_of_element, slots_by, HasField, IsSoundObject}
-use Rattle.et_sound.specs.Programs.{HasInstanceField, HasSlots}
+use Rattle.et_event.specs.Programs.{HasInstanceField, HasSlots}
 use Rattle.et_linked.specs.Interfaces.{HaveStaticFields}
 use Rattle.et_linked.proofs.PlacesAbove.{NoField}
 use Rattle.et_linked.proofs.Arguments.{no_field_of}

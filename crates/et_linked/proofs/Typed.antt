@@ -26,7 +26,7 @@ use Rattle.et_event.specs.declared.rows.Operand.TheVariants as operand
 use Rattle.et_link.specs.Files.{or_empty}
 use Rattle.et_link.specs.Loaded.{LoadedMember, loaded_class, loaded_field}
 use Rattle.et_link.specs.MembersOf.{text_of}
-use Rattle.et_sound.specs.Programs.{value_like}
+use Rattle.et_event.specs.Programs.{value_like}
 use Rattle.et_linked.specs.Fields.{HasTypedConstants, KeepsFieldRules}
 use Rattle.et_linked.proofs.Files.{IsWellField, well_fields, constant_by, static_fields, static_constants}
 

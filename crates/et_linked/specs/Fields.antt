@@ -7,7 +7,7 @@ use Rattle.et_event.specs.Sites.{LoadedConstant, constant_at}
 use Rattle.et_event.specs.Sound.{is_of_kind}
 use Rattle.et_link.specs.Loaded.{LoadedClass, LoadedMember}
 use Rattle.et_link.specs.MembersOf.{text_of}
-use Rattle.et_sound.specs.Programs.{value_like}
+use Rattle.et_event.specs.Programs.{value_like}
 
 -- those of an interface are static (4.5)
 abbrev pub HasStaticFields : LoadedClass → Type 0

@@ -10,7 +10,6 @@ ghost use Rattle.et_class.specs.Layout.{ClassOf};
 ghost use Rattle.et_event.specs.declared.errors.GuestError.{GuestError};
 ghost use Rattle.et_event.specs.Errors.{error_class};
 ghost use Rattle.et_event.specs.Sound.{IsSoundFor};
-ghost use Rattle.et_sound.specs.WellFormed.{MayHold};
 ghost use Rattle.et_event.specs.Start.{start};
 ghost use Rattle.et_graph.specs.Graph.{IsReached};
 ghost use Rattle.et_heap.specs.Objects.{IsHeld};
@@ -19,7 +18,7 @@ ghost use Rattle.et_link.specs.ProgramOf.{IsProgramOf};
 ghost use Rattle.et_state.specs.Past.{remaining};
 ghost use Rattle.et_state.specs.Roots.{graph_of};
 ghost use Rattle.et_state.specs.State.{Kept};
-ghost use Rattle.et_sound.specs.Programs.{MakesSound, HasSlots};
+ghost use Rattle.et_event.specs.Programs.{MakesSound, HasSlots, MayHold};
 ghost use Rattle.et_program.specs.Entries.{Linked};
 
 /// The class of a class file has the name of a class (JVMS 4.1).

@@ -6,14 +6,13 @@ ghost use Rattle.et_linked.specs.Interfaces.{HaveStaticFields};
 ghost use Rattle.et_class.specs.Classes.{IsClassFile};
 ghost use Rattle.et_class.specs.Layout.{ClassOf};
 ghost use Rattle.et_linked.specs.Fields.{KeepsFieldRules};
-ghost use Rattle.et_initialize.specs.Programs.{IsInOrder};
+ghost use Rattle.et_event.specs.InitializationOrder.{IsInOrder};
 ghost use Rattle.et_link.specs.LinkFaults.{IsLinkable};
 ghost use Rattle.et_link.specs.Loaded.{LoadedClass, loaded_class};
 ghost use Rattle.et_link.specs.ProgramOf.{IsProgramOf};
 ghost use Rattle.et_program.specs.Entries.{Linked};
-ghost use Rattle.et_refs.specs.Slots.{AreElementsWithin};
-ghost use Rattle.et_sound.specs.Programs.{HasInitializers};
-ghost use Rattle.et_throw.specs.Interfaces.{KnowsInterfaces};
+ghost use Rattle.et_event.specs.Programs.{HasInitializers, AreElementsWithin};
+ghost use Rattle.et_event.specs.Interfaces.{KnowsInterfaces};
 
 /// The fields of a class file keep the rules: those of an interface are static, and a constant is of a static field and of
 /// its type (JVMS 4.5, 4.7.2).

@@ -11,9 +11,10 @@ ghost use Rattle.et_link.specs.LinkFaults.{IsLinkable};
 ghost use Rattle.et_link.specs.Loaded.{LoadedClass, loaded_class};
 ghost use Rattle.et_link.specs.ProgramOf.{IsProgramOf};
 ghost use Rattle.et_program.specs.Entries.{Linked};
-ghost use Rattle.et_linked.specs.Programs.{IsOfFile, KeepRules, KeepsPromises};
+ghost use Rattle.et_event.specs.Runnable.{IsRunnable};
+ghost use Rattle.et_linked.specs.Programs.{IsOfFile, KeepRules};
 ghost use Rattle.et_linked.specs.Rules.{KeepsCodeRules, KeepsMethodRules};
-ghost use Rattle.et_sound.specs.Programs.{HasArrays, HasMachineSlots, HasMethods};
+ghost use Rattle.et_event.specs.Programs.{HasArrays, HasMachineSlots, HasMethods};
 
 /// The methods of a class file keep the rules: but for `<clinit>`, none is abstract and static, and one has code exactly
 /// where it is neither native nor abstract; the arguments of each are within its local variables (JVMS 4.6, 4.7.3).
@@ -58,5 +59,5 @@ pub fn files_keep_rules()
 /// A program that was linked of one class file or more has all that its run asks.
 pub fn programs_may_run()
     ensures { (files : List LoadedClass) (p : Linked) → 0 < length files →
-        KeepRules files → IsLinkable files → IsProgramOf files p → KeepsPromises p }
+        KeepRules files → IsLinkable files → IsProgramOf files p → IsRunnable p }
 {}

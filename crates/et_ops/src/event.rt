@@ -10,7 +10,7 @@ ghost use Rattle.et_event.specs.Answered.{EventAnswers};
 ghost use Rattle.et_event.specs.Event.{event};
 ghost use Rattle.et_event.specs.Sound.{IsSoundFor};
 ghost use Rattle.et_event.specs.PlainRows.{is_plain as plain};
-ghost use Rattle.et_sound.specs.Programs.{MakesSound};
+ghost use Rattle.et_event.specs.Programs.{MakesSound};
 ghost use Rattle.et_sound.specs.Turns.{IsPlainTurn};
 
 use crate::plain::plain_event;

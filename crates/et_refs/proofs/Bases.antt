@@ -7,7 +7,7 @@ use Rattle.et_program.specs.declared.info.Element.{Element}
 use Rattle.et_program.specs.declared.info.Element.TheVariants.{NoArray, Base, Class}
 use Rattle.et_program.specs.Entries.{ClassEntry, Linked, no_class}
 use Rattle.et_program.specs.Members.{is_base_array, base_array}
-use Rattle.et_refs.specs.Slots.{IsElementWithin, AreElementsWithin}
+use Rattle.et_event.specs.Programs.{IsElementWithin, AreElementsWithin}
 
 other_code : (k kind : ℕ) (b : Bool) → (k == kind) ≡ b → k < 2 ^ 8 → 2 ^ 8 ≤ kind → b ≡ false
 other_code k kind true e small large = absurd (omega (arith, eqb-true k kind e))

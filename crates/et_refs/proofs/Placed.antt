@@ -25,7 +25,7 @@ use Rattle.et_parts.proofs.Placing.{method_runs, body_runs}
 use Rattle.et_parts.proofs.Running.{runs_there}
 use Rattle.et_refs.specs.Refusals.{refused}
 use Rattle.et_refs.specs.declared.refusals.Refusal.TheVariants.{IllTyped}
-use Rattle.et_sound.specs.Programs.{IsInstruction, NamesClass, HasArrays}
+use Rattle.et_event.specs.Programs.{IsInstruction, NamesClass, HasArrays}
 use Rattle.et_sound.proofs.Frames.{starts_there}
 use Rattle.et_refs.specs.Events.{taken}
 

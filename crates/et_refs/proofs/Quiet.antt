@@ -6,10 +6,10 @@ use Rattle.et_program.specs.Entries.{Linked, class_at}
 use Rattle.et_event.specs.Initialization.{quietly_done}
 use Rattle.et_event.specs.Moments.{moment, begins}
 use Rattle.et_event.specs.Sound.{IsSoundFor}
-use Rattle.et_sound.specs.Programs.{HasInitializers, MakesSound}
+use Rattle.et_event.specs.Programs.{HasInitializers, MakesSound}
 use Rattle.et_sound.proofs.Outcomes.{begins_well}
 use Rattle.et_sound.proofs.Initializing.{all_done}
-use Rattle.et_initialize.specs.Programs.{IsInOrder}
+use Rattle.et_event.specs.InitializationOrder.{IsInOrder}
 use Rattle.et_initialize.proofs.Legal.{made_none, ready_first, quietly_made, quietly_threads}
 use Rattle.et_refs.proofs.Carrying.{HasInitialized}
 

@@ -1,10 +1,8 @@
 -- A slot that an instruction reads or writes.
-use Rattle.std.specs.Prelude.{◌≡◌, ℕ, ◌<◌, ◌^◌, true, false, List, length, Option, Some}
+use Rattle.std.specs.Prelude.{◌≡◌, ℕ, ◌<◌, true, false, List, length, Option, Some}
 use Rattle.et_class.specs.Names.{has}
 use Rattle.et_class.specs.declared.flags.TheConstants.{STATIC}
-use Rattle.et_program.specs.Entries.{Linked, class_at, field_at}
-use Rattle.et_program.specs.declared.info.Element.{Element}
-use Rattle.et_program.specs.declared.info.Element.TheVariants as element
+use Rattle.et_program.specs.Entries.{Linked, field_at}
 use Rattle.et_heap.specs.Objects.{IsHeld, object_at, slot_of}
 use Rattle.et_state.specs.State.{MachineState}
 use Rattle.et_event.specs.declared.rows.Operand.{Operand}
@@ -28,13 +26,3 @@ pub record IsSlotAt (m : MachineState) (kind : Option Operand) (x : SlotAt) : Ty
 abbrev pub entries : Option Operand → ℕ
 entries (Some operand.Long) = 2
 entries other = 1
-
--- elements are of a base type by its code, which has 8 bits, or of one of the first n classes
-abbrev pub IsElementWithin : ℕ → Element → Type 0
-IsElementWithin n element.NoArray = Unit {0}
-IsElementWithin n (element.Base kind) = kind < 2 ^ 8
-IsElementWithin n (element.Class class) = class < n
-
--- .. in each class of the program
-abbrev pub AreElementsWithin : Linked → Type 0
-AreElementsWithin p = (c : ℕ) → c < length p.classes → IsElementWithin (length p.classes) (class_at p c).info.element

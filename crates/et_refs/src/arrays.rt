@@ -11,7 +11,7 @@ ghost use Rattle.et_parts.specs.Places.{site_at};
 ghost use Rattle.et_refs.specs.Changes.{MayMake, added};
 ghost use Rattle.et_program.specs.Members.{base_array};
 ghost use Rattle.et_refs.specs.Refusals.{decided};
-ghost use Rattle.et_refs.specs.Slots.{AreElementsWithin};
+ghost use Rattle.et_event.specs.Programs.{AreElementsWithin};
 
 use crate::casts::class_named;
 use crate::changes::NewArray;

@@ -8,8 +8,8 @@ ghost use Rattle.et_event.specs.Initialization.{quietly_done};
 ghost use Rattle.et_event.specs.Moments.{moment, begins, fits};
 ghost use Rattle.et_event.specs.Sound.{IsSoundFor};
 ghost use Rattle.et_parts.specs.Places.{site_at};
-ghost use Rattle.et_sound.specs.Programs.{HasInitializers, MakesSound};
-ghost use Rattle.et_initialize.specs.Programs.{IsInOrder};
+ghost use Rattle.et_event.specs.Programs.{HasInitializers, MakesSound};
+ghost use Rattle.et_event.specs.InitializationOrder.{IsInOrder};
 ghost use Rattle.et_initialize.specs.Under.{base};
 ghost use Rattle.et_refs.specs.Accesses.{MayWant, objects_in, slots_in, accessed, wanted as wanting};
 

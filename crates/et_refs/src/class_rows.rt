@@ -10,8 +10,8 @@ ghost use Rattle.et_event.specs.Sound.{IsSoundFor};
 ghost use Rattle.et_parts.specs.Places.{IsPlace, site_at};
 ghost use Rattle.et_event.specs.Moments.{moment};
 ghost use Rattle.et_refs.specs.Refusals.{decided};
-ghost use Rattle.et_sound.specs.Programs.{HasInitializers, HasSlots, MakesSound};
-ghost use Rattle.et_initialize.specs.Programs.{IsInOrder};
+ghost use Rattle.et_event.specs.Programs.{HasInitializers, HasSlots, MakesSound};
+ghost use Rattle.et_event.specs.InitializationOrder.{IsInOrder};
 ghost use Rattle.et_refs.specs.Accesses.{MayWant, wanted as wanting};
 ghost use Rattle.et_refs.specs.ClassRows.{ClassAnswers, needs_class};
 

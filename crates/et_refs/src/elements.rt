@@ -18,7 +18,8 @@ ghost use Rattle.et_parts.specs.Places.{site_at};
 ghost use Rattle.et_refs.specs.Changes.{IsNamed, MayExchange, MayStore, exchanged, stored};
 ghost use Rattle.et_event.specs.Moments.{moment};
 ghost use Rattle.et_refs.specs.Refusals.{decided};
-ghost use Rattle.et_refs.specs.Slots.{IsSlotAt, IsElementWithin, AreElementsWithin};
+ghost use Rattle.et_refs.specs.Slots.{IsSlotAt};
+ghost use Rattle.et_event.specs.Programs.{IsElementWithin, AreElementsWithin};
 
 use crate::casts::passes;
 use crate::changes::{Exchange, Store};

@@ -16,7 +16,7 @@ ghost use Rattle.et_event.specs.Sites.{natural as natural_of};
 ghost use Rattle.et_event.specs.Sound.{IsSoundFor};
 ghost use Rattle.et_parts.specs.Places.{IsPlace, site_at};
 ghost use Rattle.et_refs.specs.Refusals.{decided};
-ghost use Rattle.et_sound.specs.Programs.{HasArrays};
+ghost use Rattle.et_event.specs.Programs.{HasArrays};
 ghost use Rattle.et_refs.specs.Counts.{naturals_of};
 ghost use Rattle.et_refs.specs.Filling.{so_far};
 ghost use Rattle.et_refs.specs.Events.{arrays_added, wanted, taken};

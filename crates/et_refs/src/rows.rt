@@ -14,7 +14,7 @@ ghost use Rattle.et_parts.specs.Places.{IsPlace, site_at};
 ghost use Rattle.et_refs.specs.Changes.{MayExchange, MayStore, MayMake, MayChange, exchanged, stored, added, changed};
 ghost use Rattle.et_refs.specs.Refusals.{decided};
 ghost use Rattle.et_refs.specs.Rows.{HeapAnswers, is_done};
-ghost use Rattle.et_refs.specs.Slots.{AreElementsWithin};
+ghost use Rattle.et_event.specs.Programs.{AreElementsWithin};
 
 use crate::arrays::{new_array, new_reference_array};
 use crate::casts::{check_cast, instance_of};

@@ -12,7 +12,7 @@ ghost use Rattle.et_event.specs.Sound.{IsSoundFor};
 ghost use Rattle.et_parts.specs.Members.{shown_member};
 ghost use Rattle.et_parts.specs.Places.{site_at};
 ghost use Rattle.et_refs.specs.Refusals.{decided};
-ghost use Rattle.et_sound.specs.Programs.{HasSlots};
+ghost use Rattle.et_event.specs.Programs.{HasSlots};
 ghost use Rattle.et_refs.specs.Accesses.{IsStaticField, MayWant, wanted};
 
 use crate::accesses::{Access, Read, Wanted, Write};

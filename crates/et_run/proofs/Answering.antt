@@ -5,7 +5,7 @@ use Rattle.std.proofs.lemmas.List.Elements.{All-append}
 use Rattle.et_program.specs.Entries.{Linked, class_at}
 use Rattle.et_program.specs.declared.info.Element.{Element}
 use Rattle.et_program.specs.declared.info.Element.TheVariants.{Class}
-use Rattle.et_refs.specs.Slots.{IsElementWithin, AreElementsWithin}
+use Rattle.et_event.specs.Programs.{IsElementWithin, AreElementsWithin}
 use Rattle.et_state.specs.Roots.{graph_of}
 use Rattle.et_state.specs.State.{Kept, MachineState, kept_of}
 use Rattle.et_state.specs.declared.records.Record.{Record}

@@ -19,7 +19,7 @@ use Rattle.et_event.specs.Plain.{after}
 use Rattle.et_event.specs.Sites.{Site, site_of, decoded_at, pool_index, constant_at}
 use Rattle.et_event.specs.Sound.{IsStaged, AreSoundFrames, IsSoundFor}
 use Rattle.et_event.specs.Table.{row_of}
-use Rattle.et_sound.specs.Programs.{MakesSound}
+use Rattle.et_event.specs.Programs.{MakesSound}
 use Rattle.et_run.specs.Telling.{HasElementClasses, IsTold}
 use Rattle.et_run.proofs.Words.{IsMethodOf}
 use Rattle.et_run.proofs.Ways.{KnowsErrors, Told}

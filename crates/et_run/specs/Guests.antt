@@ -6,7 +6,7 @@ use Rattle.et_program.specs.Entries.{Linked}
 use Rattle.et_program.specs.Tables.{IsTabled}
 use Rattle.et_event.specs.Sound.{IsSoundFor}
 use Rattle.et_flush.specs.Flushes.{cleared_from}
-use Rattle.et_run.specs.Runs.{IsRunnable}
+use Rattle.et_event.specs.Runnable.{IsRunnable}
 
 -- the program may be run, and the state is one of its sound ones
 pub record IsSoundRun (p : Linked) (s : Kept) : Type 0 where

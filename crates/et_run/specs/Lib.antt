@@ -1,4 +1,3 @@
 pub mod Histories
 pub mod Guests
-pub mod Runs
 pub mod Telling

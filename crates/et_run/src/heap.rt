@@ -11,9 +11,9 @@ ghost use Rattle.et_state.specs.Words.{HasFrame, thread_at, top};
 ghost use Rattle.et_parts.specs.Places.{IsPlace, site_at};
 ghost use Rattle.et_event.specs.Moments.{moment};
 ghost use Rattle.et_refs.specs.Rows.{is_done as done_by_refs};
-ghost use Rattle.et_refs.specs.Slots.{AreElementsWithin};
+ghost use Rattle.et_event.specs.Programs.{AreElementsWithin};
 ghost use Rattle.et_refs.specs.ClassRows.{needs_class as wants_class};
-ghost use Rattle.et_run.specs.Runs.{IsRunnable};
+ghost use Rattle.et_event.specs.Runnable.{IsRunnable};
 
 use et_base::{NoMemory, Steps, ThreadId};
 use et_event::HeapRow;

@@ -6,7 +6,7 @@ ghost use Rattle.et_program.specs.Tables.{IsTabled};
 ghost use Rattle.et_state.specs.State.{Kept};
 ghost use Rattle.et_event.specs.Event.{event};
 ghost use Rattle.et_event.specs.Sound.{IsSoundFor};
-ghost use Rattle.et_sound.specs.Programs.{MakesSound};
+ghost use Rattle.et_event.specs.Programs.{MakesSound};
 ghost use Rattle.et_run.specs.Telling.{HasElementClasses, IsTold};
 
 /// An event that is done, or in which a thread waits, takes the clock on by one; and each class and method that its records

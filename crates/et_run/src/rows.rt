@@ -10,7 +10,7 @@ ghost use Rattle.et_state.specs.Words.{thread_at, top};
 ghost use Rattle.et_event.specs.PlainRows.{is_plain};
 ghost use Rattle.et_parts.specs.Places.{IsPlace, site_at};
 ghost use Rattle.et_event.specs.Moments.{moment};
-ghost use Rattle.et_run.specs.Runs.{IsRunnable};
+ghost use Rattle.et_event.specs.Runnable.{IsRunnable};
 
 use crate::heap::heap_event;
 use et_base::{NoMemory, Steps, ThreadId};

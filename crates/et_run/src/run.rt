@@ -11,7 +11,7 @@ ghost use Rattle.et_loop.specs.Visits.{allowed_visits};
 ghost use Rattle.et_program.specs.Tables.{IsTabled};
 ghost use Rattle.et_loop.specs.Traced.{WritesTrace, WritesPrefix};
 ghost use Rattle.et_state.specs.Options.{AreOptions};
-ghost use Rattle.et_run.specs.Runs.{IsRunnable};
+ghost use Rattle.et_event.specs.Runnable.{IsRunnable};
 
 use crate::first::{begin, start_lines};
 use crate::guest::ProgramGuest;

@@ -7,7 +7,7 @@ ghost use Rattle.et_state.specs.declared.stage.Turn.TheVariants as turns;
 ghost use Rattle.et_state.specs.Threads.{turn_of};
 ghost use Rattle.et_state.specs.State.{kept_of};
 ghost use Rattle.et_state.specs.Words.{IsUnended, thread_at};
-ghost use Rattle.et_run.specs.Runs.{IsRunnable};
+ghost use Rattle.et_event.specs.Runnable.{IsRunnable};
 
 use crate::rows::instruction_event;
 use et_base::{NoMemory, Steps, ThreadId};

@@ -27,8 +27,8 @@ use Rattle.et_event.specs.Sites.{Site, class_operand, site_of, pool_of, decoded_
 use Rattle.et_event.specs.Sound.{is_of_kind, kind_of_element}
 use Rattle.et_event.specs.Table.{row_of}
 use Rattle.et_sound.specs.Outcomes.{KeepsSound}
-use Rattle.et_sound.specs.Programs.{HasSlots, IsArrayClass, NamesClass, HasDimensions}
-use Rattle.et_sound.specs.WellFormed.{IsWellFormed, IsGoing, StandsAt, MayHold}
+use Rattle.et_event.specs.Programs.{HasSlots, IsArrayClass, NamesClass, HasDimensions, MayHold}
+use Rattle.et_sound.specs.WellFormed.{IsWellFormed, IsGoing, StandsAt}
 use Rattle.et_sound.proofs.Classes.{new_array_keeps, new_reference_array_keeps}
 use Rattle.et_sound.proofs.Fields.{going, operands_there, leaving_well}
 use Rattle.et_sound.proofs.Objects.{heap_now}
@@ -37,7 +37,7 @@ use Rattle.et_sound.proofs.Slots.{slot_well, updated_state}
 use Rattle.et_sound.proofs.Taken.{AreOperands, taken_int}
 use Rattle.et_sound.proofs.Values.{array_holds}
 use Rattle.et_sound.specs.Places.{IsAtRow}
-use Rattle.et_sound.specs.SteadyPrograms.{MayRun}
+use Rattle.et_event.specs.Runnable.{IsRunnable}
 use Rattle.et_sound.proofs.Entering.{runs_here, StandsIn, stands_in}
 
 -- MORE OBJECTS: those that were held are held, of the same classes
@@ -170,7 +170,7 @@ names_class e x s name class named resolves =
       resolves = resolves;
     }
 
-multi_at : (e : Moment) (x : Instr × ℕ) → StandsAt e (site_of e.program (frame_of e) x) → MayRun e.program → decoded_at e.program (frame_of e) ≡ Ok x → row_of x.0.opcode ≡ Some (Heap NewMultiArray)
+multi_at : (e : Moment) (x : Instr × ℕ) → StandsAt e (site_of e.program (frame_of e) x) → IsRunnable e.program → decoded_at e.program (frame_of e) ≡ Ok x → row_of x.0.opcode ≡ Some (Heap NewMultiArray)
     → KeepsSound e.program (new_multi_array e (site_of e.program (frame_of e) x))
 multi_at e x here may decoded row = by (class_operand (site_of e.program (frame_of e) x)) refl
   where
@@ -203,7 +203,7 @@ multi_at e x here may decoded row = by (class_operand (site_of e.program (frame_
         let has = may.arrays.multi s.method x class s.is row (names_class e x s name class q found) in
         made class lengths below has.1 (omega arith) (omega (arith, has.0)))))
 
-pub multi_array_sound : (e : Moment) (at : Site) → IsAtRow e at (Heap NewMultiArray) → MayRun e.program → KeepsSound e.program (new_multi_array e at)
+pub multi_array_sound : (e : Moment) (at : Site) → IsAtRow e at (Heap NewMultiArray) → IsRunnable e.program → KeepsSound e.program (new_multi_array e at)
 multi_array_sound e at here may =
     subst (λ (s : Site). KeepsSound e.program (new_multi_array e s)) (sym here.site) (multi_at e here.decoded (subst (λ (s : Site). StandsAt e s) here.site here.stands) may here.is here.row)
 
@@ -212,7 +212,7 @@ multi_array_sound e at here may =
 nothing : (o : Option ℕ) → o ≡ None → IsSome o → ⊥
 nothing o none some = cc
 
-array_at : (e : Moment) (x : Instr × ℕ) → StandsAt e (site_of e.program (frame_of e) x) → MayRun e.program → decoded_at e.program (frame_of e) ≡ Ok x → row_of x.0.opcode ≡ Some (Heap NewArray)
+array_at : (e : Moment) (x : Instr × ℕ) → StandsAt e (site_of e.program (frame_of e) x) → IsRunnable e.program → decoded_at e.program (frame_of e) ≡ Ok x → row_of x.0.opcode ≡ Some (Heap NewArray)
     → KeepsSound e.program (new_array e (site_of e.program (frame_of e) x))
 array_at e x here may decoded row = by (base_array e.program (natural x.0.first)) refl (may.arrays.base s.method x s.is row)
   where
@@ -223,16 +223,16 @@ array_at e x here may decoded row = by (base_array e.program (natural x.0.first)
     by None q some = absurd (nothing None refl some)
     by (Some c) q some = new_array_keeps e (site_of e.program (frame_of e) x) c here may.makes may.slots q
 
-pub new_array_sound : (e : Moment) (at : Site) → IsAtRow e at (Heap NewArray) → MayRun e.program → KeepsSound e.program (new_array e at)
+pub new_array_sound : (e : Moment) (at : Site) → IsAtRow e at (Heap NewArray) → IsRunnable e.program → KeepsSound e.program (new_array e at)
 new_array_sound e at here may =
     subst (λ (s : Site). KeepsSound e.program (new_array e s)) (sym here.site) (array_at e here.decoded (subst (λ (s : Site). StandsAt e s) here.site here.stands) may here.is here.row)
 
-reference_array_at : (e : Moment) (x : Instr × ℕ) → StandsAt e (site_of e.program (frame_of e) x) → MayRun e.program → decoded_at e.program (frame_of e) ≡ Ok x → row_of x.0.opcode ≡ Some (Heap NewReferenceArray)
+reference_array_at : (e : Moment) (x : Instr × ℕ) → StandsAt e (site_of e.program (frame_of e) x) → IsRunnable e.program → decoded_at e.program (frame_of e) ≡ Ok x → row_of x.0.opcode ≡ Some (Heap NewReferenceArray)
     → KeepsSound e.program (new_reference_array e (site_of e.program (frame_of e) x))
 reference_array_at e x here may decoded row =
     let s : StandsIn e x = stands_in e x (runs_here e (site_of e.program (frame_of e) x) here) decoded in
     new_reference_array_keeps e (site_of e.program (frame_of e) x) here may.makes may.slots (λ name class named found. may.arrays.single s.method x class s.is row (names_class e x s name class named found))
 
-pub new_reference_array_sound : (e : Moment) (at : Site) → IsAtRow e at (Heap NewReferenceArray) → MayRun e.program → KeepsSound e.program (new_reference_array e at)
+pub new_reference_array_sound : (e : Moment) (at : Site) → IsAtRow e at (Heap NewReferenceArray) → IsRunnable e.program → KeepsSound e.program (new_reference_array e at)
 new_reference_array_sound e at here may =
     subst (λ (s : Site). KeepsSound e.program (new_reference_array e s)) (sym here.site) (reference_array_at e here.decoded (subst (λ (s : Site). StandsAt e s) here.site here.stands) may here.is here.row)

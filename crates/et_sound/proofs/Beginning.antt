@@ -27,13 +27,13 @@ use Rattle.et_event.specs.Moments.{Moment, Doing, thread_of, begins, class_of, t
 use Rattle.et_event.specs.Monitors.{lock_for}
 use Rattle.et_event.specs.Sound.{IsVoid, AreSoundFrames, IsSoundFor}
 use Rattle.et_sound.specs.Outcomes.{KeepsSound}
-use Rattle.et_sound.specs.Programs.{is_initializing}
+use Rattle.et_event.specs.Programs.{is_initializing}
 use Rattle.et_sound.specs.WellFormed.{IsGoing, MayTake, MayEnter}
 use Rattle.et_sound.proofs.Frames.{first_frames}
 use Rattle.et_sound.proofs.Outcomes.{if_case, begins_well, throws_sound, unless_ill_typed, unless_thrown, where_resolved}
 use Rattle.et_sound.proofs.Threads.{with_thread_well, may_be_entered}
 use Rattle.et_sound.specs.Methods.{IsMethod, IsInstanceMethod}
-use Rattle.et_sound.specs.SteadyPrograms.{MayRun}
+use Rattle.et_event.specs.Runnable.{IsRunnable}
 use Rattle.et_sound.proofs.Resolving.{resolved_method, selected_method}
 use Rattle.et_sound.proofs.Arguments.{IsLockOf, lock_of}
 use Rattle.et_sound.proofs.Entering.{IsOnTime, begins_on_time, object_count, may_enter, thread_now, MayBeEntered, code_sound}
@@ -71,7 +71,7 @@ record IsFirst (p : Linked) (m : ℕ) (arguments : List Value) : Type 0 where
   receiver : is_static p m ≡ false → IsSome (first_reference arguments)
   void : is_void type.returned ≡ true
 
-first_sound : (e : Moment) (d : Doing) (arguments : List Value) (m : ℕ) → MayRun e.program → IsEntry e → IsReady e d → IsFirst e.program m arguments → MayEnter (entering e d) (lock_for (method_at e.program m) (receiver_of e.program m arguments))
+first_sound : (e : Moment) (d : Doing) (arguments : List Value) (m : ℕ) → IsRunnable e.program → IsEntry e → IsReady e d → IsFirst e.program m arguments → MayEnter (entering e d) (lock_for (method_at e.program m) (receiver_of e.program m arguments))
     → KeepsSound e.program (enters_first e d arguments m)
 first_sound e d arguments m may is ready first lock = by (method_at e.program m).code refl
   where
@@ -113,7 +113,7 @@ few_arguments : (entry : Option ℕ) → length (entry_arguments entry) ≤ 1
 few_arguments None = omega arith
 few_arguments (Some o) = omega arith
 
-main_sound : (e : Moment) → MayRun e.program → IsEntry e → KeepsSound e.program (enters_main e)
+main_sound : (e : Moment) → IsRunnable e.program → IsEntry e → KeepsSound e.program (enters_main e)
 main_sound e may is =
     let p : Linked = e.program in
     let m : ℕ = p.main in
@@ -151,7 +151,7 @@ object_held e o is named =
 same_object : (o q : ℕ) → Some o ≡ Some q → o ≡ q
 same_object o q e = cc
 
-run_sound : (e : Moment) (object : Option ℕ) → MayRun e.program → IsEntry e → (thread_of e).object ≡ object → KeepsSound e.program (enters_run e object)
+run_sound : (e : Moment) (object : Option ℕ) → IsRunnable e.program → IsEntry e → (thread_of e).object ≡ object → KeepsSound e.program (enters_run e object)
 run_sound e None may is named = tt
 run_sound e (Some o) may is named =
     let p : Linked = e.program in
@@ -185,5 +185,5 @@ run_sound e (Some o) may is named =
     let ready : IsReady e (begins e) = record { going = g; threads = refl; on_time = begins_on_time e } in
     first_sound e (begins e) args k may is ready first lock)))
 
-pub entry_sound : (e : Moment) → MayRun e.program → IsEntry e → KeepsSound e.program (entry_call e)
+pub entry_sound : (e : Moment) → IsRunnable e.program → IsEntry e → KeepsSound e.program (entry_call e)
 entry_sound e may is = if_case (KeepsSound e.program) (e.thread == 0) (enters_main e) (enters_run e (thread_of e).object) (main_sound e may is) (run_sound e (thread_of e).object may is refl)

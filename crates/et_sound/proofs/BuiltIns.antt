@@ -33,14 +33,14 @@ use Rattle.et_event.specs.Moments.{Moment, Doing, frame_of, begins, class_of, sl
 use Rattle.et_event.specs.Sites.{Site}
 use Rattle.et_event.specs.Sound.{is_of_kind, returned_of}
 use Rattle.et_sound.specs.Outcomes.{KeepsSound}
-use Rattle.et_sound.specs.Programs.{KeepsFree, KeepFree, IsTarget, KeepsTarget}
-use Rattle.et_sound.specs.WellFormed.{IsWellFormed, IsGoing, KeepsFrame, StandsAt, MayHold}
+use Rattle.et_event.specs.Programs.{KeepsFree, KeepFree, IsTarget, KeepsTarget, MayHold}
+use Rattle.et_sound.specs.WellFormed.{IsWellFormed, IsGoing, KeepsFrame, StandsAt}
 use Rattle.et_sound.proofs.Fields.{going}
 use Rattle.et_sound.proofs.Monitors.{started_well}
 use Rattle.et_sound.proofs.Objects.{heap_now, object_is_sound}
 use Rattle.et_sound.proofs.Outcomes.{goes_sound, throws_sound, unless_ill_typed, unless_thrown, unless_waiting}
 use Rattle.et_sound.proofs.Slots.{slot_well, slot_fits, referent_well, fits_still, updated_state}
-use Rattle.et_sound.specs.SteadyPrograms.{MayRun}
+use Rattle.et_event.specs.Runnable.{IsRunnable}
 use Rattle.et_sound.proofs.Entering.{framed_going}
 
 -- WHICH ONE: what it gives has room where its descriptor says that it returns it
@@ -187,7 +187,7 @@ free_holds p name count c i v free lt below small =
     not_there slot le e = omega arith
 
 -- .. and that of a target a reference
-target_holds : (p : Linked) (c : ℕ) (v : Value) → MayRun p → c < length p.classes → is_subclass p c (class_called p (codes "java/lang/Thread")) ≡ true → IsReference v → MayHold p c 0 v
+target_holds : (p : Linked) (c : ℕ) (v : Value) → IsRunnable p → c < length p.classes → is_subclass p c (class_called p (codes "java/lang/Thread")) ≡ true → IsReference v → MayHold p c 0 v
 target_holds p c v may lt below reference =
     let k : KeepsTarget p c = may.machine_slots.threads c lt below in
     record {
@@ -203,7 +203,7 @@ target_holds p c v may lt below reference =
 -- it is called on this object, and what it gives has room
 pub record IsBuiltIn (e : Moment) (at : Site) (arguments : List Value) (o : ℕ) (b : BuiltIn) : Type 0 where
   pub here : StandsAt e at
-  pub run : MayRun e.program
+  pub run : IsRunnable e.program
   pub held : IsHeld e.before.heap o
   pub room : length (drop (length arguments) (frame_of e).operands) + given b ≤ (frame_of e).room
   pub target : b ≡ built_in.SetTarget → IsReference (argument arguments 1)
@@ -301,7 +301,7 @@ module _ (e : Moment) (at : Site) (arguments : List Value) (o : ℕ) where
   row_sound built_in.ClearReferent is = referring built_in.ClearReferent None is
 
 -- THE EVENT of a selected method without code
-pub built_in_sound : (e : Moment) (at : Site) (arguments : List Value) (m : MethodInfo) (type : MethodType) → StandsAt e at → MayRun e.program → ((o : ℕ) → first_reference arguments ≡ Some o → IsHeld e.before.heap o)
+pub built_in_sound : (e : Moment) (at : Site) (arguments : List Value) (m : MethodInfo) (type : MethodType) → StandsAt e at → IsRunnable e.program → ((o : ℕ) → first_reference arguments ≡ Some o → IsHeld e.before.heap o)
     → method_type m.descriptor ≡ Some type → are_arguments false type arguments ≡ true → length (drop (length arguments) (frame_of e).operands) + returned_width (returned_of m) ≤ (frame_of e).room → KeepsSound e.program (built_in_event e at (begins e) arguments m)
 built_in_sound e at arguments m type here run held typed are room = by (first_reference arguments) (built_in_of m) held (λ b is. gives m b is) (target_reference m type arguments typed are)
   where

@@ -26,13 +26,13 @@ use Rattle.et_event.specs.Monitors.{lock_for}
 use Rattle.et_event.specs.Sites.{Site, Member, member_of}
 use Rattle.et_event.specs.Sound.{IsCaller, AreSoundFrames, returned_of}
 use Rattle.et_sound.specs.Outcomes.{KeepsSound}
-use Rattle.et_sound.specs.Programs.{is_initializing}
+use Rattle.et_event.specs.Programs.{is_initializing}
 use Rattle.et_sound.specs.WellFormed.{IsGoing, MayTake, MayEnter}
 use Rattle.et_sound.proofs.Frames.{call_frames}
 use Rattle.et_sound.proofs.Outcomes.{unless_thrown}
 use Rattle.et_sound.specs.Methods.{IsMethod}
 use Rattle.et_sound.specs.Places.{IsAtRow}
-use Rattle.et_sound.specs.SteadyPrograms.{MayRun}
+use Rattle.et_event.specs.Runnable.{IsRunnable}
 use Rattle.et_sound.proofs.Arguments.{AreArguments, arguments_are}
 use Rattle.et_sound.proofs.Entering.{taking_going, taken_frames, caller_frames, MayBeEntered, code_sound}
 
@@ -71,7 +71,7 @@ either : (a b c : Bool) → a ≡ c → b ≡ false → (a || b) ≡ c
 either true b c e h = e
 either false b c e h = h ∙ e
 
-takes : (e : Moment) (at : Site) (kind : CallKind) (member : Member) (type : MethodType) (m : ℕ) (body : Body) → MayRun e.program → IsCall e at kind member type → IsCalled e kind member type m → (method_at e.program m).code ≡ Some body → MayTake e.program m body (passed e kind type)
+takes : (e : Moment) (at : Site) (kind : CallKind) (member : Member) (type : MethodType) (m : ℕ) (body : Body) → IsRunnable e.program → IsCall e at kind member type → IsCalled e kind member type m → (method_at e.program m).code ≡ Some body → MayTake e.program m body (passed e kind type)
 takes e at kind member type m body may call called code =
     let args : AreArguments (frame_of e).operands (entry_count (is_static_call kind) type) (passed e kind type) = arguments_are (frame_of e).operands (entry_count (is_static_call kind) type) in
     let few : entry_count (is_static e.program m || is_initializing e.program m) type ≤ body.max_locals = may.methods.arguments m body type called.method.within code (typed_as e kind member type m call.typed called) in
@@ -103,7 +103,7 @@ pub record IsCalledIn (e : Moment) (kind : CallKind) (type : MethodType) (m : �
   pub threads : d.state.guest.threads ≡ e.before.guest.threads
   pub lock : MayEnter (taking e (length (passed e kind type)) d) (lock_for (method_at e.program m) (receiver_of e.program m (passed e kind type)))
 
-pub with_code : (e : Moment) (at : Site) (kind : CallKind) (member : Member) (type : MethodType) (m : ℕ) (d : Doing) (body : Body) → MayRun e.program → IsCall e at kind member type → IsCalled e kind member type m → IsCalledIn e kind type m d
+pub with_code : (e : Moment) (at : Site) (kind : CallKind) (member : Member) (type : MethodType) (m : ℕ) (d : Doing) (body : Body) → IsRunnable e.program → IsCall e at kind member type → IsCalled e kind member type m → IsCalledIn e kind type m d
     → (method_at e.program m).code ≡ Some body → MayBeEntered e m body (passed e kind type) d (taking e (length (passed e kind type)) d)
 with_code e at kind member type m d body may call called is code =
     let p : Linked = e.program in
@@ -131,7 +131,7 @@ with_code e at kind member type m d body may call called is code =
         omega arith
 
 -- by its code; without one it is what a built-in method does
-pub entered_sound : (e : Moment) (at : Site) (kind : CallKind) (member : Member) (type : MethodType) (m : ℕ) (d : Doing) (built_in : Outcome Kept) → MayRun e.program → IsCall e at kind member type → IsCalled e kind member type m → IsCalledIn e kind type m d
+pub entered_sound : (e : Moment) (at : Site) (kind : CallKind) (member : Member) (type : MethodType) (m : ℕ) (d : Doing) (built_in : Outcome Kept) → IsRunnable e.program → IsCall e at kind member type → IsCalled e kind member type m → IsCalledIn e kind type m d
     → ((method_at e.program m).code ≡ None → has (method_at e.program m).flags NATIVE ≡ false → KeepsSound e.program built_in) → KeepsSound e.program (enters e d (taking e (length (passed e kind type))) m (passed e kind type) built_in)
 entered_sound e at kind member type m d built_in may call called is without = by (method_at e.program m).code refl
   where

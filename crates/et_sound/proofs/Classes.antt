@@ -26,7 +26,7 @@ use Rattle.et_event.specs.Moments.{Moment, Doing, frame_of, begins, next_object,
 use Rattle.et_event.specs.Sites.{Site, member_of, class_operand, natural}
 use Rattle.et_event.specs.Sound.{is_of_kind, IsSoundObject}
 use Rattle.et_sound.specs.Outcomes.{KeepsSound}
-use Rattle.et_sound.specs.Programs.{MakesSound, HasSlots, HasInitializers, IsArrayClass}
+use Rattle.et_event.specs.Programs.{MakesSound, HasSlots, HasInitializers, IsArrayClass}
 use Rattle.et_sound.specs.WellFormed.{IsWellFormed, IsGoing, StandsAt}
 use Rattle.et_sound.proofs.Fields.{Passes, position_passes, ok_is, going, operands_there, leaving_well, field_resolved, field_named, field_typed, kind_of_one}
 use Rattle.et_sound.proofs.Initializing.{initialized_sound}

@@ -20,7 +20,7 @@ use Rattle.et_event.specs.Sound.{AreSoundFrames, IsSoundFor}
 use Rattle.et_parts.specs.Places.{Runs}
 use Rattle.et_parts.proofs.Placing.{method_runs, body_runs}
 use Rattle.et_sound.specs.Outcomes.{KeepsSound}
-use Rattle.et_sound.specs.Programs.{MakesSound, IsInstruction}
+use Rattle.et_event.specs.Programs.{MakesSound, IsInstruction}
 use Rattle.et_sound.specs.WellFormed.{IsWellFormed, IsGoing, KeepsFrame, MayEnter, StandsAt}
 use Rattle.et_sound.proofs.Calls.{frame_entered_well}
 use Rattle.et_sound.proofs.Frames.{RunsSome, runs_some, starts_there, frames_still, popped_keeps, with_first, top_well}

@@ -35,7 +35,7 @@ use Rattle.et_event.specs.Moments.{Moment, Doing, frame_of, begins, class_of, il
 use Rattle.et_event.specs.Sites.{Site, Member, member_of, natural}
 use Rattle.et_event.specs.Sound.{is_of_kind}
 use Rattle.et_sound.specs.Outcomes.{KeepsSound}
-use Rattle.et_sound.specs.Programs.{MakesSound, HasInstanceField, HasSlots}
+use Rattle.et_event.specs.Programs.{MakesSound, HasInstanceField, HasSlots}
 use Rattle.et_sound.specs.WellFormed.{IsWellFormed, IsGoing, KeepsFrame, StandsAt}
 use Rattle.et_sound.proofs.Frames.{top_well}
 use Rattle.et_sound.proofs.Outcomes.{begins_well, goes_sound, unless_ill_typed, unless_thrown, where_resolved, where_not_null}

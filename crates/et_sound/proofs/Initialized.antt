@@ -22,7 +22,7 @@ use Rattle.et_event.specs.Sites.{LoadedConstant, AnInt, ALong, AString, constant
 use Rattle.et_event.specs.Strings.{interned, string_object}
 use Rattle.et_event.specs.Sound.{IsSoundFor}
 use Rattle.et_sound.specs.Outcomes.{KeepsSound}
-use Rattle.et_sound.specs.Programs.{MakesSound, HasInitializers}
+use Rattle.et_event.specs.Programs.{MakesSound, HasInitializers}
 use Rattle.et_sound.specs.WellFormed.{IsGoing}
 use Rattle.et_sound.proofs.Initializing.{AllGoOn, all_done, begins_sound}
 use Rattle.et_sound.proofs.Outcomes.{if_case, throws_sound, waits_sound}

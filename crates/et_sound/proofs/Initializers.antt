@@ -16,7 +16,7 @@ use Rattle.et_event.specs.Moments.{Moment, Doing, told, frame_of, begins, with_f
 use Rattle.et_event.specs.Sites.{body_of}
 use Rattle.et_event.specs.Sound.{AreSoundFrames, IsSoundFor}
 use Rattle.et_sound.specs.Outcomes.{KeepsSound}
-use Rattle.et_sound.specs.Programs.{MakesSound, HasInitializers, IsInitializer}
+use Rattle.et_event.specs.Programs.{MakesSound, HasInitializers, IsInitializer}
 use Rattle.et_sound.specs.WellFormed.{IsWellFormed, IsFurther}
 use Rattle.et_sound.proofs.Frames.{with_first, clinit_frames}
 use Rattle.et_sound.proofs.Initializing.{further_itself, further_then, all_done, initialized_sound, not_done}

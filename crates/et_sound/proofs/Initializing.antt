@@ -25,7 +25,7 @@ use Rattle.et_event.specs.Sites.{LoadedConstant, AnInt, ALong, AString, constant
 use Rattle.et_event.specs.Strings.{interned, string_object}
 use Rattle.et_event.specs.Sound.{is_of_kind, IsSoundClassState, IsSoundFor}
 use Rattle.et_sound.specs.Outcomes.{KeepsSound}
-use Rattle.et_sound.specs.Programs.{MakesSound, HasConstant, HasInitializers, value_like}
+use Rattle.et_event.specs.Programs.{MakesSound, HasConstant, HasInitializers, value_like}
 use Rattle.et_sound.specs.WellFormed.{IsWellFormed, IsGoing, IsFurther}
 use Rattle.et_sound.proofs.Frames.{initializer_frames}
 use Rattle.et_sound.proofs.Monitors.{class_well, untouched_before}

@@ -34,7 +34,7 @@ use Rattle.et_sound.proofs.Fields.{get_field_sound, put_field_sound, load_elemen
 use Rattle.et_sound.proofs.Frames.{RunsSome, pc_there, starts_there}
 use Rattle.et_sound.proofs.Steps.{array_length_sound, check_cast_sound, instance_of_sound, monitor_sound, throw_sound}
 use Rattle.et_sound.specs.Places.{IsAtRow}
-use Rattle.et_sound.specs.SteadyPrograms.{MayRun}
+use Rattle.et_event.specs.Runnable.{IsRunnable}
 use Rattle.et_sound.proofs.Entering.{runs_here, runs_method}
 use Rattle.et_sound.proofs.Invoking.{invoke_sound}
 use Rattle.et_sound.proofs.Returning.{return_sound}
@@ -42,7 +42,7 @@ use Rattle.et_sound.proofs.Arrays.{new_array_sound, new_reference_array_sound, m
 
 -- FIELDS, ARRAYS AND CLASSES
 
-pub heap_sound : (e : Moment) (at : Site) (r : HeapRow) → IsAtRow e at (rows.Heap r) → MayRun e.program → KeepsSound e.program (heap_event e at r)
+pub heap_sound : (e : Moment) (at : Site) (r : HeapRow) → IsAtRow e at (rows.Heap r) → IsRunnable e.program → KeepsSound e.program (heap_event e at r)
 heap_sound e at heap_rows.GetStatic here may = get_static_sound e at here.stands may.makes may.slots may.initializers
 heap_sound e at heap_rows.PutStatic here may = put_static_sound e at here.stands may.makes may.slots may.initializers
 heap_sound e at heap_rows.GetField here may = get_field_sound e at here.stands may.makes
@@ -59,25 +59,25 @@ heap_sound e at heap_rows.InstanceOf here may = instance_of_sound e at here.stan
 
 -- CALLS AND RETURNS
 
-pub call_sound : (e : Moment) (at : Site) (r : CallRow) → IsAtRow e at (rows.Call r) → MayRun e.program → KeepsSound e.program (call_event e at r)
+pub call_sound : (e : Moment) (at : Site) (r : CallRow) → IsAtRow e at (rows.Call r) → IsRunnable e.program → KeepsSound e.program (call_event e at r)
 call_sound e at (call_rows.Invoke kind) here may = invoke_sound e at kind here may
 call_sound e at (call_rows.Return kind) here may = return_sound e at kind here.stands may.makes
 
 -- THE CODE of a frame keeps the rules
 
-method_rules : (p : Linked) (f : FrameState) (r : Runs p f) → MayRun p → IfSome (method_of p f).code (λ body. KeepsRules body)
+method_rules : (p : Linked) (f : FrameState) (r : Runs p f) → IsRunnable p → IfSome (method_of p f).code (λ body. KeepsRules body)
 method_rules p f r may =
     subst (λ (m : MethodInfo). IfSome m.code (λ body. KeepsRules body)) (sym (method_runs p f r))
     (subst (λ (o : Option Body). IfSome o (λ body. KeepsRules body)) (sym r.runs.code) (may.rules r.method r.runs.body r.runs.method r.runs.code))
 
-pub kept_here : (p : Linked) (f : FrameState) → RunsSome p f → MayRun p → (tags : List ℕ) × IsKept (code_of p f) tags
+pub kept_here : (p : Linked) (f : FrameState) → RunsSome p f → IsRunnable p → (tags : List ℕ) × IsKept (code_of p f) tags
 kept_here p f r may =
     let rules : KeepsRules (code_of p f) = rules_found p f (runs_method p f r) (method_rules p f (runs_method p f r) may) in
     (rules.tags, kept_code (code_of p f) rules.tags rules.kept)
 
 -- PLAIN INSTRUCTIONS
 
-plain_at : (e : Moment) (x : Instr × ℕ) (r : Row) → StandsAt e (site_of e.program (frame_of e) x) → MayRun e.program → decoded_at e.program (frame_of e) ≡ Ok x → row_of x.0.opcode ≡ Some r → is_plain r ≡ true
+plain_at : (e : Moment) (x : Instr × ℕ) (r : Row) → StandsAt e (site_of e.program (frame_of e) x) → IsRunnable e.program → decoded_at e.program (frame_of e) ≡ Ok x → row_of x.0.opcode ≡ Some r → is_plain r ≡ true
     → KeepsSound e.program (does e (site_of e.program (frame_of e) x) r)
 plain_at e x r here may decoded row plain =
     let p : Linked = e.program in
@@ -89,13 +89,13 @@ plain_at e x r here may decoded row plain =
     does_sound p e.before e.thread (site_of p f x) r begins may.makes plain here.next
     (λ q same. may_go (code_of p f) kept.0 f.pc x (site_of p f x) q kept.1 start decoded (row ∙ ap (λ (z : Row). Some z) same) refl refl refl)
 
-pub plain_sound : (e : Moment) (at : Site) (r : Row) → IsAtRow e at r → MayRun e.program → is_plain r ≡ true → KeepsSound e.program (does e at r)
+pub plain_sound : (e : Moment) (at : Site) (r : Row) → IsAtRow e at r → IsRunnable e.program → is_plain r ≡ true → KeepsSound e.program (does e at r)
 plain_sound e at r here may plain =
     subst (λ (s : Site). KeepsSound e.program (does e s r)) (sym here.site) (plain_at e here.decoded r (subst (λ (s : Site). StandsAt e s) here.site here.stands) may here.is here.row plain)
 
 -- THE ROWS
 
-pub row_sound : (e : Moment) (at : Site) (r : Row) → IsAtRow e at r → MayRun e.program → KeepsSound e.program (does e at r)
+pub row_sound : (e : Moment) (at : Site) (r : Row) → IsAtRow e at r → IsRunnable e.program → KeepsSound e.program (does e at r)
 row_sound e at (rows.Frame x) here may = plain_sound e at (rows.Frame x) here may refl
 row_sound e at rows.PoolConstant here may = plain_sound e at rows.PoolConstant here may refl
 row_sound e at (rows.Divide n o) here may = plain_sound e at (rows.Divide n o) here may refl
@@ -106,7 +106,7 @@ row_sound e at (rows.Monitor x) here may = monitor_sound e at x here.stands may.
 
 -- THE INSTRUCTION at the pc
 
-pub instruction_sound : (e : Moment) → ((x : Instr × ℕ) → decoded_at e.program (frame_of e) ≡ Ok x → StandsAt e (site_of e.program (frame_of e) x)) → MayRun e.program → KeepsSound e.program (instruction e)
+pub instruction_sound : (e : Moment) → ((x : Instr × ℕ) → decoded_at e.program (frame_of e) ≡ Ok x → StandsAt e (site_of e.program (frame_of e) x)) → IsRunnable e.program → KeepsSound e.program (instruction e)
 instruction_sound e stands may = by (decoded_at e.program (frame_of e)) refl
   where
     by_its_row : (x : Instr × ℕ) → decoded_at e.program (frame_of e) ≡ Ok x → (o : Option Row) → row_of x.0.opcode ≡ o → KeepsSound e.program (by_row e (site_of e.program (frame_of e) x) o)

@@ -30,7 +30,7 @@ use Rattle.et_sound.proofs.Fields.{going, operands_there}
 use Rattle.et_sound.proofs.Outcomes.{unless_ill_typed, unless_thrown, where_resolved, where_not_null}
 use Rattle.et_sound.specs.Methods.{IsMethod, IsInstanceMethod}
 use Rattle.et_sound.specs.Places.{IsAtRow}
-use Rattle.et_sound.specs.SteadyPrograms.{MayRun}
+use Rattle.et_event.specs.Runnable.{IsRunnable}
 use Rattle.et_sound.proofs.Resolving.{resolved_method, selected_method, selected_special}
 use Rattle.et_sound.proofs.Arguments.{AreArguments, arguments_are, receiver_contained, IsLockOf, lock_of}
 use Rattle.et_sound.proofs.Entering.{runs_here, StandsIn, stands_in, IsOnTime, object_count, may_enter}
@@ -40,7 +40,7 @@ use Rattle.et_sound.proofs.Initialized.{IsReady, where_initialized}
 
 -- A STATIC METHOD, once its class is initialized
 
-static_sound : (e : Moment) (at : Site) (member : Member) (type : MethodType) (m : ℕ) → MayRun e.program → IsCall e at Static member type → IsMethod e.program member.name member.descriptor m → is_static e.program m ≡ true → (d : Doing) → IsReady e d
+static_sound : (e : Moment) (at : Site) (member : Member) (type : MethodType) (m : ℕ) → IsRunnable e.program → IsCall e at Static member type → IsMethod e.program member.name member.descriptor m → is_static e.program m ≡ true → (d : Doing) → IsReady e d
     → KeepsSound e.program (enters_method e at d (passed e Static type) m)
 static_sound e at member type m may call is static d ready =
     let p : Linked = e.program in
@@ -56,7 +56,7 @@ static_sound e at member type m may call is static d ready =
 
 -- A METHOD OF AN OBJECT
 
-instance_sound : (e : Moment) (at : Site) (kind : CallKind) (member : Member) (type : MethodType) (k o : ℕ) → MayRun e.program → IsCall e at kind member type → is_static_call kind ≡ false → first_reference (passed e kind type) ≡ Some o
+instance_sound : (e : Moment) (at : Site) (kind : CallKind) (member : Member) (type : MethodType) (k o : ℕ) → IsRunnable e.program → IsCall e at kind member type → is_static_call kind ≡ false → first_reference (passed e kind type) ≡ Some o
     → IsInstanceMethod e.program member.name member.descriptor k → KeepsSound e.program (enters_method e at (begins e) (passed e kind type) k)
 instance_sound e at kind member type k o may call instance receiver is =
     let p : Linked = e.program in
@@ -82,7 +82,7 @@ instance_sound e at kind member type k o may call instance receiver is =
 as_named : (p : Linked) (m k : ℕ) (name type : List ℕ) → IsMethod p name type m → IsInstanceMethod p (method_at p m).name (method_at p m).descriptor k → IsInstanceMethod p name type k
 as_named p m k name type is named = subst (λ (t : List ℕ). IsInstanceMethod p name t k) is.descriptor (subst (λ (n : List ℕ). IsInstanceMethod p n (method_at p m).descriptor k) is.named named)
 
-dispatched_sound : (e : Moment) (at : Site) (kind : CallKind) (member : Member) (type : MethodType) (owner m : ℕ) → MayRun e.program → IsCall e at kind member type → IsMethod e.program member.name member.descriptor m → is_static e.program m ≡ is_static_call kind
+dispatched_sound : (e : Moment) (at : Site) (kind : CallKind) (member : Member) (type : MethodType) (owner m : ℕ) → IsRunnable e.program → IsCall e at kind member type → IsMethod e.program member.name member.descriptor m → is_static e.program m ≡ is_static_call kind
     → KeepsSound e.program (dispatched e at kind (passed e kind type) owner m)
 dispatched_sound e at Static member type owner m may call is static =
     where_initialized e (method_at e.program m).class _ call.here.stands.sound call.here.stands.clock may.initializers may.makes (may.owners m is.within) (going e at call.here.stands)
@@ -123,14 +123,14 @@ as_wanted true c e = e
 as_wanted false c e = not-true c e
 
 -- no instruction names <clinit>
-not_clinit : (e : Moment) (at : Site) (kind : CallKind) (member : Member) → IsAtRow e at (Call (Invoke kind)) → member_of at ≡ Some member → MayRun e.program → bytes_eq member.name (codes "<clinit>") ≡ false
+not_clinit : (e : Moment) (at : Site) (kind : CallKind) (member : Member) → IsAtRow e at (Call (Invoke kind)) → member_of at ≡ Some member → IsRunnable e.program → bytes_eq member.name (codes "<clinit>") ≡ false
 not_clinit e at kind member here names may =
     let p : Linked = e.program in
     let f : FrameState = frame_of e in
     let s : StandsIn e here.decoded = stands_in e here.decoded (runs_here e at here.stands) here.is in
     may.methods.calls s.method (site_of p f here.decoded) kind member s.is (ap (λ (m : MethodInfo). pool_of p m.class) s.named) here.row (subst (λ (q : Site). member_of q ≡ Some member) here.site names)
 
-pub invoke_sound : (e : Moment) (at : Site) (kind : CallKind) → IsAtRow e at (Call (Invoke kind)) → MayRun e.program → KeepsSound e.program (invoke e at kind)
+pub invoke_sound : (e : Moment) (at : Site) (kind : CallKind) → IsAtRow e at (Call (Invoke kind)) → IsRunnable e.program → KeepsSound e.program (invoke e at kind)
 invoke_sound e at kind here may =
     let p : Linked = e.program in
     let g : IsGoing e (begins e) = going e at here.stands in

@@ -24,7 +24,7 @@ use Rattle.et_event.specs.Moments.{Moment, Doing, begins, with_guest, with_threa
 use Rattle.et_event.specs.Strings.{interned}
 use Rattle.et_event.specs.Sound.{IsSoundObject, IsSoundFor}
 use Rattle.et_sound.specs.Outcomes.{KeepsSound}
-use Rattle.et_sound.specs.Programs.{MakesSound}
+use Rattle.et_event.specs.Programs.{MakesSound}
 use Rattle.et_sound.specs.WellFormed.{IsWellFormed, IsGoing}
 use Rattle.et_sound.proofs.Monitors.{string_well}
 use Rattle.et_sound.proofs.Objects.{made_well}

@@ -17,7 +17,7 @@ use Rattle.et_event.specs.PlainRows.{is_plain}
 use Rattle.et_parts.specs.declared.places.Place.{Place}
 use Rattle.et_parts.specs.Places.{Runs, IsPlace, site_at}
 use Rattle.et_sound.specs.Outcomes.{KeepsSound}
-use Rattle.et_sound.specs.Programs.{MakesSound}
+use Rattle.et_event.specs.Programs.{MakesSound}
 use Rattle.et_sound.proofs.Frames.{starts_there, behind_pc}
 use Rattle.et_sound.proofs.Answering.{moment}
 use Rattle.et_sound.proofs.Going.{may_go}

@@ -17,7 +17,7 @@ use Rattle.et_event.specs.Monitors.{lock_in, owns_some}
 use Rattle.et_event.specs.Sites.{Site, method_of}
 use Rattle.et_event.specs.Sound.{is_of_kind}
 use Rattle.et_sound.specs.Outcomes.{KeepsSound}
-use Rattle.et_sound.specs.Programs.{MakesSound}
+use Rattle.et_event.specs.Programs.{MakesSound}
 use Rattle.et_sound.specs.WellFormed.{StandsAt}
 use Rattle.et_sound.proofs.Calls.{returned_sound}
 use Rattle.et_sound.proofs.Fields.{going, operands_there}

@@ -21,7 +21,8 @@ use Rattle.et_event.specs.Kinds.{kind_of}
 use Rattle.et_event.specs.Moments.{Moment, Doing, updated, slot_written, static_written, fits}
 use Rattle.et_event.specs.BuiltIns.{with_referent_of}
 use Rattle.et_event.specs.Sound.{is_of_kind, kind_of_element, HasField, IsSoundObject, IsSoundStatic}
-use Rattle.et_sound.specs.WellFormed.{IsWellFormed, MayHold}
+use Rattle.et_sound.specs.WellFormed.{IsWellFormed}
+use Rattle.et_event.specs.Programs.{MayHold}
 use Rattle.et_sound.proofs.Growing.{Grows, objects_grow, monitors_grow, classes_grow}
 use Rattle.et_sound.proofs.Objects.{heap_now, object_well, object_is_sound, found_there}
 use Rattle.et_sound.proofs.Threads.{guest_now, object_still}

@@ -17,7 +17,7 @@ use Rattle.et_event.specs.Sites.{Site, code_of}
 use Rattle.et_event.specs.Sound.{IsPc, IsSoundFor}
 use Rattle.et_event.specs.PlainRows.{is_plain}
 use Rattle.et_sound.specs.Outcomes.{KeepsSound}
-use Rattle.et_sound.specs.Programs.{MakesSound}
+use Rattle.et_event.specs.Programs.{MakesSound}
 use Rattle.et_sound.specs.WellFormed.{IsWellFormed, KeepsFrame}
 use Rattle.et_sound.proofs.Frames.{top_well}
 use Rattle.et_sound.proofs.Monitors.{string_well}

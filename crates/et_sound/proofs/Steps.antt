@@ -44,8 +44,8 @@ use Rattle.et_event.specs.Sync.{monitor_event, end_of_thread}
 use Rattle.et_event.specs.Throw.{throw, is_throwable, handled, caught, left_if_owned, dropped, is_error, replaced, failed, unwound, unwound_clinit}
 use Rattle.et_event.specs.Initialization.{with_state}
 use Rattle.et_sound.specs.Outcomes.{KeepsSound}
-use Rattle.et_sound.specs.Programs.{MakesSound}
-use Rattle.et_sound.specs.WellFormed.{IsWellFormed, IsGoing, KeepsFrame, StandsAt, MayHold, IsThere, MayBeThread}
+use Rattle.et_event.specs.Programs.{MakesSound, MayHold}
+use Rattle.et_sound.specs.WellFormed.{IsWellFormed, IsGoing, KeepsFrame, StandsAt, IsThere, MayBeThread}
 use Rattle.et_sound.proofs.Fields.{going, operands_there, leaving_well, leaving_sound}
 use Rattle.et_sound.proofs.Frames.{with_first, frames_still, left_frames, fewer_frames}
 use Rattle.et_sound.proofs.Monitors.{entered_well, entered_fits, left_well, left_fits, monitor_count, class_well}

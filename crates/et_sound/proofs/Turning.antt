@@ -26,7 +26,7 @@ use Rattle.et_sound.proofs.Frames.{RunsSome, runs_some, pc_there, next_pc, with_
 use Rattle.et_sound.proofs.Initializers.{step_sound}
 use Rattle.et_sound.proofs.Outcomes.{begins_well}
 use Rattle.et_sound.proofs.Steps.{end_sound, handler_pc, caught_sound, unwound_before, unwound_clinit_sound, unwound_sound}
-use Rattle.et_sound.specs.SteadyPrograms.{MayRun}
+use Rattle.et_event.specs.Runnable.{IsRunnable}
 use Rattle.et_sound.proofs.Beginning.{entry_sound}
 use Rattle.et_sound.proofs.Instructions.{kept_here, instruction_sound}
 
@@ -100,7 +100,7 @@ stands e at is has runs next =
     let some : RunsSome e.program (frame_of e) = runs_some e.program (frame_of e) (rest_of (thread_of e).frames) runs (frames_are e is has) in
     record { sound = is.sound; clock = is.clock; frame = has; runs = runs; operands = some.runs.operands; next = next some }
 
-instructs : (e : Moment) → MayRun e.program → HasTurn e → turn_of (thread_of e) ≡ Instruction → KeepsSound e.program (does_turn e Instruction)
+instructs : (e : Moment) → IsRunnable e.program → HasTurn e → turn_of (thread_of e) ≡ Instruction → KeepsSound e.program (does_turn e Instruction)
 instructs e may is turn =
     let p : Linked = e.program in
     let f : FrameState = frame_of e in
@@ -112,7 +112,7 @@ instructs e may is turn =
 -- UNWINDING
 
 -- a handler is entered, or the frame goes
-handles : (e : Moment) (o : ℕ) (gone : Outcome Kept) → MayRun e.program → HasTurn e → HasFrame e.before.guest e.thread → ((frame_of e).method ≡ None → ⊥) → KeepsSound e.program gone
+handles : (e : Moment) (o : ℕ) (gone : Outcome Kept) → IsRunnable e.program → HasTurn e → HasFrame e.before.guest e.thread → ((frame_of e).method ≡ None → ⊥) → KeepsSound e.program gone
     → KeepsSound e.program (by_handler e o gone (handler_of e.program (frame_of e) (class_of (begins e) o)))
 handles e o gone may is has runs h = by (handler_of e.program (frame_of e) (class_of (begins e) o)) refl
   where
@@ -127,7 +127,7 @@ handles e o gone may is has runs h = by (handler_of e.program (frame_of e) (clas
         caught_sound e place o row.handler (stands e place is has runs (λ r. pc_there e.program (frame_of e) r))
         (handler_pc (code_of e.program (frame_of e)) kept.0 (catches e.program (pool_of e.program (method_of e.program (frame_of e)).class) (frame_of e).pc (class_of (begins e) o)) row kept.1 q)
 
-unwinds_sound : (e : Moment) (o : ℕ) (stage : Stage) → MayRun e.program → HasTurn e → HasFrame e.before.guest e.thread → (frame_of e).stage ≡ stage → KeepsSound e.program (unwinds e o stage)
+unwinds_sound : (e : Moment) (o : ℕ) (stage : Stage) → IsRunnable e.program → HasTurn e → HasFrame e.before.guest e.thread → (frame_of e).stage ≡ stage → KeepsSound e.program (unwinds e o stage)
 unwinds_sound e o Plain may is has stage =
     handles e o (unwound e o) may is has (runs_by e.program (frame_of e) Plain (frame_of e).method (staged e Plain is has stage) refl) (unwound_sound e o is.sound is.clock has stage)
 unwinds_sound e o (Before c) may is has stage =
@@ -136,27 +136,27 @@ unwinds_sound e o (Clinit c) may is has stage =
     handles e o (unwound_clinit e c o) may is has (runs_by e.program (frame_of e) (Clinit c) (frame_of e).method (staged e (Clinit c) is has stage) refl)
     (unwound_clinit_sound e c o may.makes (may.errors ExceptionInInitializerError 1 (Ref o)) (clinit_class e.program (frame_of e) c (frame_of e).method (staged e (Clinit c) is has stage)) (beginning e is))
 
-unwinding_sound : (e : Moment) (pending : Option ℕ) → MayRun e.program → HasTurn e → HasFrame e.before.guest e.thread → KeepsSound e.program (unwinding_step e pending)
+unwinding_sound : (e : Moment) (pending : Option ℕ) → IsRunnable e.program → HasTurn e → HasFrame e.before.guest e.thread → KeepsSound e.program (unwinding_step e pending)
 unwinding_sound e None may is has = tt
 unwinding_sound e (Some o) may is has = unwinds_sound e o (frame_of e).stage may is has refl
 
 -- A STEP OF AN INITIALIZER
 
-initializes_sound : (e : Moment) (stage : Stage) → MayRun e.program → HasTurn e → HasFrame e.before.guest e.thread → (frame_of e).stage ≡ stage → KeepsSound e.program (initializes e stage)
+initializes_sound : (e : Moment) (stage : Stage) → IsRunnable e.program → HasTurn e → HasFrame e.before.guest e.thread → (frame_of e).stage ≡ stage → KeepsSound e.program (initializes e stage)
 initializes_sound e Plain may is has stage = tt
 initializes_sound e (Before c) may is has stage = step_sound e c is.sound is.clock has stage (class_by e.program (frame_of e) c (frame_of e).method (staged e (Before c) is has stage)) may.initializers may.makes
 initializes_sound e (Clinit c) may is has stage = tt
 
 -- THE EVENT
 
-turn_sound : (e : Moment) (turn : Turn) → MayRun e.program → HasTurn e → turn_of (thread_of e) ≡ turn → KeepsSound e.program (does_turn e turn)
+turn_sound : (e : Moment) (turn : Turn) → IsRunnable e.program → HasTurn e → turn_of (thread_of e) ≡ turn → KeepsSound e.program (does_turn e turn)
 turn_sound e Unwind may is turn = unwinding_sound e (thread_of e).pending may is (framed e is ((parts (thread_of e)).unwind turn))
 turn_sound e EndThread may is turn = end_sound e.program e is.sound is.clock is.unended.thread
 turn_sound e Entry may is turn = entry_sound e may (record { sound = is.sound; clock = is.clock; unended = is.unended; bare = no_frame (thread_of e).frames ((parts (thread_of e)).entry turn) })
 turn_sound e Initialize may is turn = initializes_sound e (frame_of e).stage may is (framed e is ((parts (thread_of e)).initialize turn)) refl
 turn_sound e Instruction may is turn = instructs e may is turn
 
-pub event_sound : (p : Linked) (s : Kept) (t : ℕ) → IsSoundFor p s → s.guest.clock < 2 ^ 40 → IsUnended s.guest t → MayRun p → KeepsSound p (event p s t)
+pub event_sound : (p : Linked) (s : Kept) (t : ℕ) → IsSoundFor p s → s.guest.clock < 2 ^ 40 → IsUnended s.guest t → IsRunnable p → KeepsSound p (event p s t)
 unfolding event
 event_sound p s t sound clock unended may =
     let e : Moment = record { program = p; before = s; thread = t } in

@@ -16,8 +16,7 @@ use Rattle.et_event.specs.declared.rows.Operand.TheVariants as operand
 use Rattle.et_event.specs.Checks.{entries_of}
 use Rattle.et_event.specs.Kinds.{kind_of, or_zero, narrowed, kind_of_elements, are_elements, is_array, kept_element}
 use Rattle.et_event.specs.Sound.{is_of_kind, kind_of_base, kind_of_element}
-use Rattle.et_sound.specs.Programs.{HasInstanceField, HasSlots}
-use Rattle.et_sound.specs.WellFormed.{MayHold}
+use Rattle.et_event.specs.Programs.{HasInstanceField, HasSlots, MayHold}
 
 -- FIELDS
 

@@ -1,13 +1,9 @@
 -- WHAT HOLDS OF A SOUND STATE besides that what is referred to is held, and that its objects fit. Each word that changes a
 -- state keeps it, also in the midst of an event.
-use Rattle.std.specs.Prelude.{◌≡◌, ℕ, ◌<◌, ◌≤◌, ◌^◌, ◌⊎◌, true, false, List, length, All, Option, Some, None, IsSome}
+use Rattle.std.specs.Prelude.{◌≡◌, ℕ, ◌<◌, ◌≤◌, ◌^◌, false, List, length, All, Option, Some, None, IsSome}
 use Rattle.et_base.specs.declared.value.Value.{Value}
-use Rattle.et_class.specs.Names.{has}
-use Rattle.et_class.specs.declared.flags.TheConstants.{STATIC}
 use Rattle.et_code.specs.Bodies.{Body}
-use Rattle.et_program.specs.Entries.{Linked, class_at, method_at, field_at, is_static}
-use Rattle.et_program.specs.Members.{is_subclass}
-use Rattle.et_program.specs.declared.info.Element.TheVariants.{NoArray}
+use Rattle.et_program.specs.Entries.{Linked, method_at, is_static}
 use Rattle.et_heap.specs.Objects.{ObjectState, IsHeld, at}
 use Rattle.et_state.specs.Threads.{FrameState, ThreadState, most_frames, most_threads}
 use Rattle.et_state.specs.declared.class_state.ClassState.TheVariants.{Untouched}
@@ -15,11 +11,10 @@ use Rattle.et_state.specs.State.{Kept}
 use Rattle.et_state.specs.Words.{thread_at, HasFrame}
 use Rattle.et_event.specs.Frames.{first_reference}
 use Rattle.et_event.specs.Initialization.{state_of}
-use Rattle.et_event.specs.Kinds.{kind_of}
 use Rattle.et_event.specs.Moments.{Moment, Doing, frame_of}
 use Rattle.et_event.specs.Monitors.{Lock, OfObject, OfClass, monitor_of}
 use Rattle.et_event.specs.Sites.{Site, code_of}
-use Rattle.et_event.specs.Sound.{is_of_kind, kind_of_element, IsPc, AreSoundFrames, HasThreadObject, IsSoundObject, IsSoundMonitor, IsSoundThread, IsSoundClassState, IsSoundStatic, IsSoundFor}
+use Rattle.et_event.specs.Sound.{IsPc, AreSoundFrames, HasThreadObject, IsSoundObject, IsSoundMonitor, IsSoundThread, IsSoundClassState, IsSoundStatic, IsSoundFor}
 
 pub record IsWellFormed (p : Linked) (s : Kept) : Type 0 where
   pub clock : s.guest.clock ≤ 2 ^ 40
@@ -69,13 +64,6 @@ pub record KeepsFrame (p : Linked) (f f' : FrameState) : Type 0 where
   pub pc : IsPc (code_of p f) f'.pc
   pub locals : length f'.locals ≡ length f.locals
   pub operands : length f'.operands ≤ f.room
-
--- an object of a class may hold a value in a slot
-pub record MayHold (p : Linked) (class i : ℕ) (v : Value) : Type 0 where
-  -- where a field of its class, or of one above, stands there, the value is of its type
-  pub fields : (f : ℕ) → f < length p.fields → has (field_at p f).flags STATIC ≡ false → is_subclass p class (field_at p f).class ≡ true → (field_at p f).slot ≡ i → is_of_kind (kind_of (field_at p f).descriptor) v ≡ true
-  -- an array has elements of its type
-  pub elements : (is_of_kind (kind_of_element (class_at p class).info.element) v ≡ true) ⊎ ((class_at p class).info.element ≡ NoArray)
 
 -- what has the monitor was made, and was not taken out
 abbrev pub IsThere : Kept → Lock → Type 0

@@ -48,8 +48,8 @@ ghost use Rattle.et_state.specs.declared.ends.EventEnd.{EventEnd};
 ghost use Rattle.et_state.specs.Outcome.{Outcome};
 ghost use Rattle.et_sound.specs.Outcomes.{KeepsSound};
 ghost use Rattle.et_pool.specs.Descriptors.{width_of};
-ghost use Rattle.et_sound.specs.Programs.{MakesSound, HasInstanceField, HasSlots, HasInitializers, IsArrayClass};
-ghost use Rattle.et_sound.specs.WellFormed.{IsWellFormed, IsGoing, IsFurther, MayBeThread, MayHold, IsThere, KeepsFrame, MayTake, MayEnter, StandsAt};
+ghost use Rattle.et_event.specs.Programs.{MakesSound, HasInstanceField, HasSlots, HasInitializers, IsArrayClass, MayHold};
+ghost use Rattle.et_sound.specs.WellFormed.{IsWellFormed, IsGoing, IsFurther, MayBeThread, IsThere, KeepsFrame, MayTake, MayEnter, StandsAt};
 
 /// A sound state is well formed.
 pub fn sound_states_are_well_formed()

@@ -24,11 +24,11 @@ ghost use Rattle.et_program.specs.Entries.{Linked, method_at, is_static};
 ghost use Rattle.et_program.specs.Resolution.{resolve_method, select, select_special};
 ghost use Rattle.et_program.specs.Tables.{IsTabled};
 ghost use Rattle.et_sound.specs.Outcomes.{KeepsSound};
-ghost use Rattle.et_sound.specs.Programs.{MakesSound};
+ghost use Rattle.et_event.specs.Programs.{MakesSound};
 ghost use Rattle.et_sound.specs.WellFormed.{StandsAt};
 ghost use Rattle.et_sound.specs.Methods.{IsMethod, IsInstanceMethod};
 ghost use Rattle.et_sound.specs.Places.{IsAtRow};
-ghost use Rattle.et_sound.specs.SteadyPrograms.{MayRun};
+ghost use Rattle.et_event.specs.Runnable.{IsRunnable};
 
 // METHODS
 
@@ -66,7 +66,7 @@ pub fn places_have_rows()
 /// (JVMS 2.6.4).
 pub fn calls_keep_sound()
     ensures invoke { (e : Moment) (at : Site) (kind : CallKind) → IsAtRow e at (rows.Call
-        (calls.Invoke kind)) → MayRun e.program → KeepsSound e.program (invoke e at kind) }
+        (calls.Invoke kind)) → IsRunnable e.program → KeepsSound e.program (invoke e at kind) }
     ensures returned { (e : Moment) (at : Site) (kind : Option Operand) → StandsAt e at →
         MakesSound e.program → KeepsSound e.program (call_event e at (calls.Return kind)) }
 {}
@@ -75,29 +75,29 @@ pub fn calls_keep_sound()
 pub fn entries_keep_sound()
     ensures { (e : Moment) → IsSoundFor e.program e.before →
         e.before.guest.clock < 2 ^ 40 → IsUnended e.before.guest e.thread →
-        (thread_of e).frames ≡ [] → MayRun e.program → KeepsSound e.program (entry_call e) }
+        (thread_of e).frames ≡ [] → IsRunnable e.program → KeepsSound e.program (entry_call e) }
 {}
 
 /// An array is made, of one dimension or of several (JVMS 6.5 newarray, anewarray, multianewarray).
 pub fn arrays_keep_sound()
     ensures base { (e : Moment) (at : Site) → IsAtRow e at (rows.Heap heap.NewArray) →
-        MayRun e.program → KeepsSound e.program (new_array e at) }
+        IsRunnable e.program → KeepsSound e.program (new_array e at) }
     ensures reference { (e : Moment) (at : Site) → IsAtRow e at (rows.Heap heap.NewReferenceArray) →
-        MayRun e.program → KeepsSound e.program (new_reference_array e at) }
+        IsRunnable e.program → KeepsSound e.program (new_reference_array e at) }
     ensures multi { (e : Moment) (at : Site) → IsAtRow e at (rows.Heap heap.NewMultiArray) →
-        MayRun e.program → KeepsSound e.program (new_multi_array e at) }
+        IsRunnable e.program → KeepsSound e.program (new_multi_array e at) }
 {}
 
 /// What reads and changes nothing but the topmost frame, a constant of the pool, and a division.
 pub fn plain_rows_keep_sound()
     ensures { (e : Moment) (at : Site) (r : Row) →
-        IsAtRow e at r → MayRun e.program → is_plain r ≡ true → KeepsSound e.program (does e at r) }
+        IsAtRow e at r → IsRunnable e.program → is_plain r ≡ true → KeepsSound e.program (does e at r) }
 {}
 
 /// Each instruction of the table leaves a sound state.
 pub fn rows_keep_sound()
     ensures { (e : Moment) (at : Site) (r : Row) →
-        IsAtRow e at r → MayRun e.program → KeepsSound e.program (does e at r) }
+        IsAtRow e at r → IsRunnable e.program → KeepsSound e.program (does e at r) }
 {}
 
 // EVENTS
@@ -106,5 +106,5 @@ pub fn rows_keep_sound()
 /// of an initializer, an entry, and the end of a thread.
 pub fn events_keep_sound()
     ensures { (p : Linked) (s : Kept) (t : ℕ) → IsSoundFor p s →
-        s.guest.clock < 2 ^ 40 → IsUnended s.guest t → MayRun p → KeepsSound p (event p s t) }
+        s.guest.clock < 2 ^ 40 → IsUnended s.guest t → IsRunnable p → KeepsSound p (event p s t) }
 {}

@@ -12,7 +12,7 @@ use Rattle.et_event.specs.Throw.{is_above_or_same, catches, handler_of}
 use Rattle.et_parts.specs.Places.{Runs}
 use Rattle.et_parts.specs.Pools.{slots_of}
 use Rattle.et_parts.proofs.Placing.{locals_found, pool_found}
-use Rattle.et_throw.specs.Interfaces.{KnowsInterfaces}
+use Rattle.et_event.specs.Interfaces.{KnowsInterfaces}
 
 -- a class above is a superclass exactly where it is no interface
 by_kind : (same above over interface : Bool) → (above ≡ true → interface ≡ false) → (over ≡ true → interface ≡ true) → (same || (not interface && (same || (above || over)))) ≡ (same || above)

@@ -7,7 +7,7 @@ ghost use Rattle.et_state.specs.Words.{HasFrame, top};
 ghost use Rattle.et_event.specs.Throw.{is_above_or_same, catches_name, catches as catches_there, handler_of};
 ghost use Rattle.et_parts.specs.Places.{Runs};
 ghost use Rattle.et_parts.specs.Pools.{slots_of};
-ghost use Rattle.et_throw.specs.Interfaces.{KnowsInterfaces};
+ghost use Rattle.et_event.specs.Interfaces.{KnowsInterfaces};
 
 use crate::frames::table_of;
 use et_base::{ClassId, ThreadId};

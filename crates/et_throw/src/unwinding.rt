@@ -15,7 +15,7 @@ ghost use Rattle.et_event.specs.Throw.{unwound, unwinds};
 ghost use Rattle.et_event.specs.Monitors.{lock_in as lock_in_frame};
 ghost use Rattle.et_parts.specs.Locks.{locks_of, HasSome};
 ghost use Rattle.et_parts.specs.Places.{Runs};
-ghost use Rattle.et_throw.specs.Interfaces.{KnowsInterfaces};
+ghost use Rattle.et_event.specs.Interfaces.{KnowsInterfaces};
 ghost use Rattle.et_event.specs.Moments.{moment};
 ghost use Rattle.et_throw.specs.Unwinding.{Unwinds, leaving_if_owned};
 

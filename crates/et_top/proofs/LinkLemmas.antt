@@ -17,8 +17,8 @@ use Rattle.et_link.specs.declared.fault.LinkFault.TheVariants as link
 use Rattle.et_linked.specs.ClassNames.{HasClassName}
 use Rattle.et_event.specs.Sound.{IsSoundFor}
 use Rattle.et_event.specs.Start.{start}
-use Rattle.et_linked.specs.Programs.{IsOfFile, KeepRules, KeepsPromises}
-use Rattle.et_run.specs.Runs.{IsRunnable}
+use Rattle.et_linked.specs.Programs.{IsOfFile, KeepRules}
+use Rattle.et_event.specs.Runnable.{IsRunnable}
 use Rattle.et_top.specs.Faults.{Fault, LinkFault}
 use Rattle.et_top.specs.Loaded.{IsLinked, HasItsFile}
 use Rattle.et_top.specs.Told.{Cause, File, Reading, Memory, Other, IsCause}
@@ -70,34 +70,14 @@ of_files classes all = All-map IsOfFile class_of classes all
 keeps_rules : (classes : List ClassFile) → All HasItsFile classes → ((classes : List ClassOf) → All IsOfFile classes → KeepRules (map loaded_class classes)) → KeepRules (map loaded_class (map class_of classes))
 keeps_rules classes all keep = keep (map class_of classes) (of_files classes all)
 
--- what a program promises is what its run asks
-may_run : (p : Linked) → KeepsPromises p → IsRunnable p
-may_run p k = record {
-  steady = record {
-    makes = k.makes;
-    slots = k.slots;
-    initializers = k.initializers;
-    machine_slots = k.machine_slots;
-    methods = k.methods;
-    arrays = k.arrays;
-    errors = k.errors;
-    owners = k.owners;
-    rules = k.rules;
-    run = k.run;
-  };
-  interfaces = k.interfaces;
-  elements = k.elements;
-  order = k.order;
-}
-
 -- the program of classes that were read may be run
 pub program_runs : (classes : List ClassFile) (p : Linked) → 0 < length classes → All HasItsFile classes
     → ((classes : List ClassOf) → All IsOfFile classes → KeepRules (map loaded_class classes))
-    → ((files : List LoadedClass) (p : Linked) → 0 < length files → KeepRules files → IsLinkable files → IsProgramOf files p → KeepsPromises p)
+    → ((files : List LoadedClass) (p : Linked) → 0 < length files → KeepRules files → IsLinkable files → IsProgramOf files p → IsRunnable p)
     → IsLinkable (map loaded_class (map class_of classes)) → IsProgramOf (map loaded_class (map class_of classes)) p → IsRunnable p
 program_runs classes p some all keep run linkable is =
     let many : length (map loaded_class (map class_of classes)) ≡ length classes = length-map (map class_of classes) loaded_class ∙ length-map classes class_of in
-    may_run p (run (map loaded_class (map class_of classes)) p (subst (λ n. 0 < n) (sym many) some) (keeps_rules classes all keep) linkable is)
+    run (map loaded_class (map class_of classes)) p (subst (λ n. 0 < n) (sym many) some) (keeps_rules classes all keep) linkable is
 
 -- .. and its first state is sound
 pub program_starts : (classes : List ClassFile) (p : Linked) → All HasItsFile classes

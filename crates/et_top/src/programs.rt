@@ -8,7 +8,7 @@ ghost use Rattle.et_class.specs.Classes.{class_of, HasItsParts};
 ghost use Rattle.et_program.specs.Entries.{Linked, method_at};
 ghost use Rattle.et_event.specs.Sound.{IsSoundFor};
 ghost use Rattle.et_event.specs.Start.{start};
-ghost use Rattle.et_run.specs.Runs.{IsRunnable};
+ghost use Rattle.et_event.specs.Runnable.{IsRunnable};
 ghost use Rattle.et_top.specs.Faults.{Fault};
 ghost use Rattle.et_top.specs.Loaded.{IsLinked, IsProgramOf, HasItsFile};
 ghost use Rattle.et_top.specs.Told.{Tells, IsReading, IsFileRefusal, IsOfBytes, cause_of, status_of_result};

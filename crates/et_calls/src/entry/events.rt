@@ -7,8 +7,8 @@ ghost use Rattle.et_state.specs.Words.{IsUnended, thread_at};
 ghost use Rattle.et_event.specs.Answered.{EventAnswers};
 ghost use Rattle.et_event.specs.Event.{event};
 ghost use Rattle.et_event.specs.Sound.{IsSoundFor};
-ghost use Rattle.et_sound.specs.Programs.{HasMethods};
-ghost use Rattle.et_initialize.specs.Programs.{IsInOrder};
+ghost use Rattle.et_event.specs.Programs.{HasMethods};
+ghost use Rattle.et_event.specs.InitializationOrder.{IsInOrder};
 
 use crate::entry::mains::main_event;
 use crate::entry::runs::run_event;

@@ -8,8 +8,8 @@ ghost use Rattle.et_event.specs.Calls.{enters_first, enters_main, entry_argument
 ghost use Rattle.et_event.specs.Initialization.{is_ready as ready, prepared};
 ghost use Rattle.et_event.specs.Moments.{moment, begins};
 ghost use Rattle.et_event.specs.Sound.{IsSoundFor};
-ghost use Rattle.et_sound.specs.Programs.{HasMethods};
-ghost use Rattle.et_initialize.specs.Programs.{IsInOrder};
+ghost use Rattle.et_event.specs.Programs.{HasMethods};
+ghost use Rattle.et_event.specs.InitializationOrder.{IsInOrder};
 ghost use Rattle.et_calls.specs.Fresh.{IsFresh};
 
 use crate::entering::enter_code;

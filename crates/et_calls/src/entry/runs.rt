@@ -7,7 +7,7 @@ ghost use Rattle.et_event.specs.Calls.{enters_first, enters_run, entry_arguments
 ghost use Rattle.et_event.specs.Errors.{class_called};
 ghost use Rattle.et_event.specs.Sound.{IsSoundFor};
 ghost use Rattle.et_event.specs.Moments.{begins, moment};
-ghost use Rattle.et_initialize.specs.Programs.{IsInOrder};
+ghost use Rattle.et_event.specs.InitializationOrder.{IsInOrder};
 ghost use Rattle.et_calls.specs.Fresh.{IsFresh};
 ghost use Rattle.et_calls.specs.Runs.{planned, IsPlan};
 

@@ -27,19 +27,19 @@ returns-clause-sound g c =
       tabled = c.requires.sound.tabled;
       runnable = c.requires.sound.runnable;
       state = c.answers_are_sound.ensures p (event p s t) end c.args.machine.now c.turn_event.new.machine c.args.out.now c.turn_event.new.out h c.requires.sound.state
-          (c.events_keep_sound.ensures p s t c.requires.sound.state c.requires.clock (unended_thread c.args.machine.now.guest t c.requires.thread) c.requires.sound.runnable.steady);
+          (c.events_keep_sound.ensures p s t c.requires.sound.state c.requires.clock (unended_thread c.args.machine.now.guest t c.requires.thread) c.requires.sound.runnable);
     })
 
 pub returns-clause-clock : goal.returns-clause-clock
 returns-clause-clock g c =
     let p = c.args.program.now in
     let s : Kept = kept_of c.args.machine.now in
-    let told : IsTold p s (event p s c.args.thread) = c.events_are_told.ensures p s c.args.thread c.requires.sound.state c.requires.sound.tabled c.requires.sound.runnable.steady.makes (element_classes p c.requires.sound.runnable.elements) in
+    let told : IsTold p s (event p s c.args.thread) = c.events_are_told.ensures p s c.args.thread c.requires.sound.state c.requires.sound.tabled c.requires.sound.runnable.makes (element_classes p c.requires.sound.runnable.elements) in
     if_ok c.turn_event.result _ _ c.turn_event.ensures.event (λ end h. ticks p (event p s c.args.thread) end c.args.machine.now c.turn_event.new.machine c.args.out.now c.turn_event.new.out told h)
 
 pub returns-clause-named : goal.returns-clause-named
 returns-clause-named g c =
     let p = c.args.program.now in
     let s : Kept = kept_of c.args.machine.now in
-    let told : IsTold p s (event p s c.args.thread) = c.events_are_told.ensures p s c.args.thread c.requires.sound.state c.requires.sound.tabled c.requires.sound.runnable.steady.makes (element_classes p c.requires.sound.runnable.elements) in
+    let told : IsTold p s (event p s c.args.thread) = c.events_are_told.ensures p s c.args.thread c.requires.sound.state c.requires.sound.tabled c.requires.sound.runnable.makes (element_classes p c.requires.sound.runnable.elements) in
     on_ok c.turn_event.result _ _ c.turn_event.ensures.event (λ end h. named p (event p s c.args.thread) end c.args.machine.now c.turn_event.new.machine c.args.out.now c.turn_event.new.out told h)

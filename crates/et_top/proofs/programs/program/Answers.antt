@@ -8,7 +8,7 @@ use Rattle.et_link.specs.declared.fault.LinkFault.TheVariants as link
 use Rattle.et_program.specs.Entries.{Linked}
 use Rattle.et_event.specs.Sound.{IsSoundFor}
 use Rattle.et_event.specs.Start.{start}
-use Rattle.et_run.specs.Runs.{IsRunnable}
+use Rattle.et_event.specs.Runnable.{IsRunnable}
 use Rattle.et_top.proofs.LinkLemmas.{linked_found, link_fault_found, program_runs, program_starts}
 use Rattle.et_top.proofs.programs.program.Goals as goal
 

@@ -1,6 +1,6 @@
 -- What holds of the classes of a program, so that its objects are sound as they are made and written, and its methods as they
 -- are entered.
-use Rattle.std.specs.Prelude.{◌≡◌, ℕ, zero, suc, ◌<◌, ◌≤◌, ◌||◌, Bool, true, false, List, length, slice_index_or, codes, All, Contains, Some, None, IsSome, Ok, unwrap_or}
+use Rattle.std.specs.Prelude.{◌≡◌, ℕ, zero, suc, ◌<◌, ◌≤◌, ◌^◌, ◌||◌, ◌⊎◌, Bool, true, false, List, length, slice_index_or, codes, All, Contains, Some, None, IsSome, Ok, unwrap_or}
 use Rattle.std.specs.Str.{bytes_eq}
 use Rattle.et_base.specs.declared.value.Value.{Value}
 use Rattle.et_base.specs.declared.value.Value.TheVariants.{Int, Long, Null}
@@ -15,7 +15,8 @@ use Rattle.et_class.specs.declared.flags.TheConstants.{STATIC, NATIVE}
 use Rattle.et_program.specs.Entries.{Linked, class_at, method_at, field_at, is_static}
 use Rattle.et_program.specs.Members.{is_subclass, base_array}
 use Rattle.et_program.specs.Resolution.{resolve_class}
-use Rattle.et_program.specs.declared.info.Element.TheVariants.{NoArray, Class}
+use Rattle.et_program.specs.declared.info.Element.{Element}
+use Rattle.et_program.specs.declared.info.Element.TheVariants.{NoArray, Base, Class}
 use Rattle.et_heap.specs.Objects.{ObjectState, new_object}
 use Rattle.et_event.specs.declared.errors.GuestError.{GuestError}
 use Rattle.et_event.specs.declared.rows.HeapRow.TheVariants.{NewArray, NewReferenceArray, NewMultiArray}
@@ -28,7 +29,7 @@ use Rattle.et_event.specs.Errors.{name_of, class_called}
 use Rattle.et_event.specs.Heap.{may_be_made}
 use Rattle.et_event.specs.Kinds.{is_array, kind_of}
 use Rattle.et_event.specs.Sites.{Site, Member, LoadedConstant, AnInt, ALong, AString, constant_at, member_of, pool_of, natural}
-use Rattle.et_event.specs.Sound.{is_of_kind, returned_of, IsSoundObject}
+use Rattle.et_event.specs.Sound.{is_of_kind, kind_of_element, returned_of, IsSoundObject}
 
 -- an object of the built-in class of this name, as it is made
 abbrev pub new_of : Linked → List ℕ → ObjectState
@@ -165,3 +166,22 @@ pub record HasArrays (p : Linked) : Type 0 where
   pub base : (m : ℕ) (x : Instr × ℕ) → IsInstruction p m x → row_of x.0.opcode ≡ Some (Heap NewArray) → IsSome (base_array p (natural x.0.first))
   pub single : (m : ℕ) (x : Instr × ℕ) (class : ℕ) → IsInstruction p m x → row_of x.0.opcode ≡ Some (Heap NewReferenceArray) → NamesClass p m x class → IsArrayClass p (unwrap_or (class_at p class).array 0)
   pub multi : (m : ℕ) (x : Instr × ℕ) (class : ℕ) → IsInstruction p m x → row_of x.0.opcode ≡ Some (Heap NewMultiArray) → NamesClass p m x class → (0 < natural x.0.second) × HasDimensions p (natural x.0.second) class
+
+-- THE ELEMENTS OF ARRAYS
+
+-- elements are of a base type by its code, which has 8 bits, or of one of the first n classes
+abbrev pub IsElementWithin : ℕ → Element → Type 0
+IsElementWithin n NoArray = Unit {0}
+IsElementWithin n (Base kind) = kind < 2 ^ 8
+IsElementWithin n (Class class) = class < n
+
+-- .. in each class of the program
+abbrev pub AreElementsWithin : Linked → Type 0
+AreElementsWithin p = (c : ℕ) → c < length p.classes → IsElementWithin (length p.classes) (class_at p c).info.element
+
+-- an object of a class may hold a value in a slot
+pub record MayHold (p : Linked) (class i : ℕ) (v : Value) : Type 0 where
+  -- where a field of its class, or of one above, stands there, the value is of its type
+  pub fields : (f : ℕ) → f < length p.fields → has (field_at p f).flags STATIC ≡ false → is_subclass p class (field_at p f).class ≡ true → (field_at p f).slot ≡ i → is_of_kind (kind_of (field_at p f).descriptor) v ≡ true
+  -- an array has elements of its type
+  pub elements : (is_of_kind (kind_of_element (class_at p class).info.element) v ≡ true) ⊎ ((class_at p class).info.element ≡ NoArray)
