@@ -2,3 +2,4 @@ mod AllRows
 mod Examples
 mod CallExamples
 mod CheckExamples
+pub mod FamilyTurns

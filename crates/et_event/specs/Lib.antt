@@ -23,3 +23,5 @@ pub mod Programs
 pub mod InitializationOrder
 pub mod Interfaces
 pub mod Runnable
+pub mod Families
+pub mod Beginning

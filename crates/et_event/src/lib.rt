@@ -3,10 +3,12 @@
 #![tactic(auto)]
 
 mod errors;
+mod families;
 mod rows;
 mod table;
 
 pub use errors::GuestError;
+pub use families::Family;
 pub use rows::{
     Arithmetic, BuiltIn, CallKind, CallRow, Comparison, Condition, Conversion, Division, Elements,
     FrameRow, HeapRow, Local, MonitorRow, Number, Operand, Rearrangement, Row, Shift,

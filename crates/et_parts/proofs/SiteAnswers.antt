@@ -11,7 +11,8 @@ use Rattle.et_event.specs.Moments.{Moment, ill_typed}
 use Rattle.et_event.specs.Sites.{Site, site_of, decoded_at}
 use Rattle.et_event.specs.Table.{row_of}
 use Rattle.et_parts.specs.declared.places.Place.{Place}
-use Rattle.et_parts.specs.Places.{IsPlace, site_at, row_at}
+use Rattle.et_event.specs.Families.{row_at}
+use Rattle.et_parts.specs.Places.{IsPlace, site_at}
 
 pub if_some : {A : Type 0} {P Q : A → Type 0} → (o : Option A) → ((a : A) → P a → Q a) → IfSome o P → IfSome o Q
 if_some None f h = tt

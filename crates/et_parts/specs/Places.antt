@@ -1,8 +1,6 @@
 -- The instruction at which a thread stands.
-use Rattle.std.specs.Prelude.{◌≡◌, ℕ, ◌<◌, ◌^◌, Bool, true, false, Option, Some, None, Result, Ok, Err, length}
+use Rattle.std.specs.Prelude.{◌≡◌, ℕ, ◌<◌, ◌^◌, Bool, true, false, Some, Ok, length}
 use Rattle.std.specs.Option.{option_copied}
-use Rattle.et_code.specs.declared.instr.Instr.{Instr}
-use Rattle.et_code.specs.declared.instr.CodeFault.{CodeFault}
 use Rattle.et_code.specs.Rules.{KeepsRules}
 use Rattle.et_code.specs.Switches.{IsSwitch}
 use Rattle.et_program.specs.Entries.{Linked}
@@ -44,8 +42,3 @@ pub record IsPlace (p : Linked) (f : FrameState) (place : Place) : Type 0 where
   pub pc : f.pc < 2 ^ 16
   pub locals : length f.locals < 2 ^ 16
   pub index : is_frame place.row ≡ false → natural place.instr.first < 2 ^ 16
-
--- the row of what was decoded; none at the end of the code
-abbrev pub row_at : Result (Instr × ℕ) CodeFault → Option Row
-row_at (Err fault) = None
-row_at (Ok x) = row_of x.0.opcode

@@ -1,5 +1,5 @@
 //! The instruction at which a thread stands.
-ghost use Rattle.std.specs.Prelude.{◌≡◌, None, IfNone, IfSome};
+ghost use Rattle.std.specs.Prelude.{◌≡◌, None, Some, IfNone, IfSome};
 ghost use Rattle.et_state.specs.declared.stage.Turn.TheVariants as turns;
 ghost use Rattle.et_state.specs.Threads.{turn_of};
 ghost use Rattle.et_state.specs.State.{kept_of};
@@ -8,7 +8,9 @@ ghost use Rattle.et_event.specs.Event.{event, does};
 ghost use Rattle.et_event.specs.Moments.{ill_typed, moment};
 ghost use Rattle.et_event.specs.Sites.{decoded_at};
 ghost use Rattle.et_event.specs.Sound.{IsSoundFor};
-ghost use Rattle.et_parts.specs.Places.{IsPlace, row_at, site_at};
+ghost use Rattle.et_event.specs.Families.{family_of, family_of_row, row_at};
+ghost use Rattle.et_event.specs.declared.families.Family.TheVariants as families;
+ghost use Rattle.et_parts.specs.Places.{IsPlace, site_at};
 
 use crate::codes::{code_of, instruction, keeps_rules, locals_are_few, method_of};
 use crate::place_laws;
@@ -76,6 +78,10 @@ pub fn place_of<'a>(program: &'a Program, machine: &Machine, thread: ThreadId) -
         ≡ does (moment program.now machine.now thread) (site_at place) place.row) }
     ensures no_event { IfNone result (event program.now (kept_of machine.now) thread
         ≡ ill_typed (moment program.now machine.now thread)) }
+    ensures family { IfSome result (λ place. family_of program.now (kept_of machine.now) thread
+        ≡ family_of_row (Some place.row)) }
+    ensures no_family { IfNone result
+        (family_of program.now (kept_of machine.now) thread ≡ families.Ops) }
 {
     place_laws::instruction();
     find_place(program, machine, thread)

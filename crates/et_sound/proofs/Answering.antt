@@ -19,7 +19,8 @@ use Rattle.et_event.specs.Moments.{ill_typed}
 use Rattle.et_event.specs.Sites.{decoded_at}
 use Rattle.et_event.specs.PlainRows.{is_plain, PlainAnswers}
 use Rattle.et_parts.specs.declared.places.Place.{Place}
-use Rattle.et_parts.specs.Places.{IsPlace, row_at}
+use Rattle.et_event.specs.Families.{row_at}
+use Rattle.et_parts.specs.Places.{IsPlace}
 pub use Rattle.et_parts.proofs.SiteAnswers.{moment}
 use Rattle.et_sound.specs.Turns.{is_plain_row, IsPlainTurn}
 

@@ -8,7 +8,7 @@ use Rattle.et_state.specs.Words.{thread_at, top}
 use Rattle.et_event.specs.declared.rows.Row.{Row}
 use Rattle.et_event.specs.Sites.{decoded_at}
 use Rattle.et_event.specs.PlainRows.{is_plain}
-use Rattle.et_parts.specs.Places.{row_at}
+use Rattle.et_event.specs.Families.{row_at}
 
 -- a plain row; where there is no row, nothing but the frame is looked at
 abbrev pub is_plain_row : Option Row → Bool

@@ -3,7 +3,7 @@ use Rattle.et_event.specs.declared.rows.Row.{Row}
 use Rattle.et_event.specs.Sites.{decoded_at}
 use Rattle.et_state.specs.State.{kept_of}
 use Rattle.et_state.specs.Words.{top}
-use Rattle.et_parts.specs.Places.{row_at}
+use Rattle.et_event.specs.Families.{row_at}
 use Rattle.et_sound.specs.Turns.{is_plain_row}
 use Rattle.et_sound.proofs.Answering.{plain_turn, row_here}
 use Rattle.et_ops.proofs.event.is_plain_turn.Goals as goal
