@@ -5,17 +5,17 @@ use Rattle.et_program.specs.Indices.{number_of}
 use Rattle.et_hierarchy.specs.Outline.{Outline, place_of}
 use Rattle.et_program.specs.declared.info.MethodInfo.{MethodInfo}
 use Rattle.et_program.specs.declared.info.FieldInfo.{FieldInfo}
-use Rattle.et_link.specs.Loaded.{LoadedClass}
+use Rattle.et_program.specs.Loaded.{LoadedClass}
 use Rattle.et_link.specs.declared.reading.Declared.{Declared}
 use Rattle.et_link.specs.declared.classes.Known.{Known}
-use Rattle.et_link.specs.Files.{set_of}
-use Rattle.et_link.specs.MembersOf.{methods_of, fields_of}
-use Rattle.et_link.specs.Slots.{own_slots, slots_above}
-use Rattle.et_link.specs.Heads.{has_to_run, initializer_of, constants_of}
-use Rattle.et_link.specs.ArrayTypes.{array_names, array_at}
+use Rattle.et_program.specs.Files.{set_of}
+use Rattle.et_program.specs.MembersOf.{methods_of, fields_of}
+use Rattle.et_program.specs.Slots.{own_slots, slots_above}
+use Rattle.et_program.specs.Heads.{has_to_run, initializer_of, constants_of}
+use Rattle.et_program.specs.ArrayTypes.{array_names, array_at}
 use Rattle.et_link.specs.Naming.{IsIndexFrom}
 use Rattle.et_link.specs.Declaring.{IsDeclared}
-use Rattle.et_link.specs.ProgramOf.{names_of, main_of, program_with}
+use Rattle.et_program.specs.ProgramOf.{names_of, main_of, program_with}
 use Rattle.et_link.specs.Known.{heads_in}
 use Rattle.et_link.specs.Refusals.{linked_by}
 use Rattle.et_link.proofs.LinkingLemmas.{IsKnown, names_known, same_linked}

@@ -16,7 +16,7 @@ use Rattle.et_program.specs.Members.{is_method}
 use Rattle.et_program.specs.Finding.{found_by, FindsMethods}
 use Rattle.et_program.proofs.PlaceLemmas.{position_within}
 use Rattle.et_program.proofs.WordLemmas.{here, there, any_some, any_from}
-use Rattle.et_link.specs.LinkFaults.{IsSuperIn, IsSuper, may_redeclare, is_package_private, method_of, same_in, is_same_package, CrossesPackage}
+use Rattle.et_program.specs.LinkFaults.{IsSuperIn, IsSuper, may_redeclare, is_package_private, method_of, same_in, is_same_package, CrossesPackage}
 use Rattle.et_link.specs.Crossing.{is_private_at, hides, crosses, lesser, IsLeastClass, AnswersLeast}
 
 -- THE INDEX

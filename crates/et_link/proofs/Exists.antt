@@ -20,12 +20,12 @@ use Rattle.et_hierarchy.specs.declared.fault.FaultKind.{FaultKind}
 use Rattle.et_hierarchy.proofs.LinkLemmas.{table_within}
 use Rattle.et_hierarchy.proofs.Decided.{rows_exist, set_answer}
 use Rattle.et_program.specs.Entries.{Linked}
-use Rattle.et_link.specs.declared.fault.LinkFaultKind.{LinkFaultKind}
-use Rattle.et_link.specs.declared.fault.LinkFaultKind.TheVariants.{CrossPackage, NoMain, TooMany}
-use Rattle.et_link.specs.Loaded.{LoadedClass}
-use Rattle.et_link.specs.Files.{boots, set_of}
-use Rattle.et_link.specs.MembersOf.{methods_of, IsBootPool, AreBootPools, file_pool}
-use Rattle.et_link.specs.ProgramOf.{main_of, program_with}
+use Rattle.et_program.specs.declared.fault.LinkFaultKind.{LinkFaultKind}
+use Rattle.et_program.specs.declared.fault.LinkFaultKind.TheVariants.{CrossPackage, NoMain, TooMany}
+use Rattle.et_program.specs.Loaded.{LoadedClass}
+use Rattle.et_program.specs.Files.{boots, set_of}
+use Rattle.et_program.specs.MembersOf.{methods_of, IsBootPool, AreBootPools, file_pool}
+use Rattle.et_program.specs.ProgramOf.{main_of, program_with}
 use Rattle.et_link.specs.Crossing.{crosses, AnswersLeast}
 use Rattle.et_link.specs.Refusals.{link_kind, IsLate, LinkIs}
 use Rattle.et_link.proofs.CrossLemmas.{least_at}

@@ -7,7 +7,7 @@ use Rattle.std.proofs.lemmas.List.{length-map}
 use Rattle.std.proofs.lemmas.List.Elements.{All-head, All-tail}
 use Rattle.std.proofs.lemmas.List.Sums.{sum_by-cons}
 use Rattle.et_pool.specs.Entries.{Constants}
-use Rattle.et_link.specs.Loaded.{LoadedClass}
+use Rattle.et_program.specs.Loaded.{LoadedClass}
 use Rattle.et_hierarchy.specs.Outline.{Outline, outline_at, place_of}
 use Rattle.et_hierarchy.specs.Links.{LinkEntry, links, links_of, AreWithin, IsAncestor}
 use Rattle.et_hierarchy.specs.Faults.{IsLinkFault, IsFaultless, kind_number}
@@ -19,21 +19,21 @@ use Rattle.et_program.specs.declared.info.MethodInfo.{MethodInfo}
 use Rattle.et_program.specs.declared.info.FieldInfo.{FieldInfo}
 use Rattle.et_program.specs.Entries.{ClassEntry, Linked}
 use Rattle.et_program.specs.Tables.{IsTabled}
-use Rattle.et_link.specs.declared.fault.LinkFaultKind.{LinkFaultKind}
-use Rattle.et_link.specs.declared.fault.LinkFaultKind.TheVariants.{Duplicate, NoSuper, Cycle, FinalSuper, CrossPackage, NoMain, TooMany}
+use Rattle.et_program.specs.declared.fault.LinkFaultKind.{LinkFaultKind}
+use Rattle.et_program.specs.declared.fault.LinkFaultKind.TheVariants.{Duplicate, NoSuper, Cycle, FinalSuper, CrossPackage, NoMain, TooMany}
 use Rattle.et_link.specs.declared.fault.LinkFault.{LinkFault}
 use Rattle.et_link.specs.declared.fault.LinkFault.TheVariants as fault
-use Rattle.et_link.specs.Files.{boots, set_of, flags_of}
-use Rattle.et_link.specs.MembersOf.{numbered, methods_of, fields_of}
-use Rattle.et_link.specs.Slots.{own_slots, slots_above, slots_of, placed_behind, slot_of, places_from, is_static_field, is_instance_of}
-use Rattle.et_link.specs.Heads.{has_to_run, initializer_of, constants_of}
-use Rattle.et_link.specs.ArrayTypes.{arrays_met, array_names, array_at}
-use Rattle.et_link.specs.Classes.{Heads, set_class, array_class}
+use Rattle.et_program.specs.Files.{boots, set_of, flags_of}
+use Rattle.et_program.specs.MembersOf.{numbered, methods_of, fields_of}
+use Rattle.et_program.specs.Slots.{own_slots, slots_above, slots_of, placed_behind, slot_of, places_from, is_static_field, is_instance_of}
+use Rattle.et_program.specs.Heads.{has_to_run, initializer_of, constants_of}
+use Rattle.et_program.specs.ArrayTypes.{arrays_met, array_names, array_at}
+use Rattle.et_program.specs.Classes.{Heads, set_class, array_class}
 use Rattle.et_link.specs.Crossing.{crosses, AnswersLeast}
 use Rattle.et_link.specs.Declaring.{AreRows}
-use Rattle.et_link.specs.ProgramOf.{heads_of, names_of, classes_by, main_of, is_of_file, program_with}
-use Rattle.et_link.specs.LinkFaults.{link_number, IsLinkFree, IsFaultAt, IsLinkable, RefusesLink}
-use Rattle.et_link.specs.Refusals.{Names, link_kind, RefusesSet, IsLate, linked_by}
+use Rattle.et_program.specs.ProgramOf.{heads_of, names_of, classes_by, main_of, is_of_file, program_with}
+use Rattle.et_program.specs.LinkFaults.{link_number, IsLinkFree, IsFaultAt, IsLinkable}
+use Rattle.et_link.specs.Refusals.{Names, link_kind, RefusesSet, IsLate, linked_by, RefusesLink}
 use Rattle.et_link.proofs.CrossLemmas.{no_crossing, first_crosses, none_crosses_before}
 use Rattle.et_link.proofs.TabledLemmas.{length-set, methods_within, fields_within, length-classes, tabled}
 

@@ -5,7 +5,7 @@ use Rattle.std.specs.Option.{option_to_list}
 use Rattle.std.proofs.lemmas.List.{take_more, length-take-le, length-map}
 use Rattle.et_pool.specs.Entries.{Constants}
 use Rattle.et_boot.specs.Classes.{BootClassOf}
-use Rattle.et_link.specs.MembersOf.{numbered, IsBootPool, AreBootPools}
+use Rattle.et_program.specs.MembersOf.{numbered, IsBootPool, AreBootPools}
 
 numbered-append : {X Y : Type 0} (f : ℕ → X → List Y) (k : ℕ) (xs : List X) (y : X) → numbered f k (xs ++ y ∷ []) ≡ numbered f k xs ++ f (k + length xs) y
 numbered-append f k [] y = let e : k + 0 ≡ k = omega arith in append-nil (f k y) ∙ ap (λ n. f n y) (sym e)

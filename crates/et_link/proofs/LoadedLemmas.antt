@@ -1,7 +1,7 @@
 -- What linking reads of a class file that was read, and of the class that its bytes are.
-use Rattle.std.proofs.Common.{◌≡◌, ℕ, ◌<◌, List, [], ◌∷◌, map, get_or, length, Option, None, refl, sym, ◌∙◌, ap, subst}
+use Rattle.std.proofs.Common.{◌≡◌, ℕ, ◌<◌, List, [], ◌∷◌, map, get_or, length, Option, None, Some, refl, sym, ◌∙◌, ap, subst}
 use Rattle.std.specs.Prelude.{All}
-use Rattle.std.proofs.lemmas.List.Elements.{All-head, All-tail}
+use Rattle.std.proofs.lemmas.List.Elements.{All-head, All-tail, All-map}
 use Rattle.std.proofs.lemmas.List.{length-map}
 use Rattle.et_pool.specs.Entries.{Item, Constants}
 use Rattle.et_code.specs.Bodies.{Body}
@@ -11,7 +11,13 @@ use Rattle.et_class.specs.Layout.{member_of, members_of}
 use Rattle.et_class.specs.Fields.{constant_of}
 use Rattle.et_class.specs.Methods.{code_of}
 use Rattle.et_class.specs.Classes.{class_of, pool_of, HasItsParts}
-use Rattle.et_link.specs.Loaded.{LoadedMember, loaded_field, loaded_method, loaded_class, loaded_member, loaded_file}
+use Rattle.et_link.specs.declared.reading.Declared.{Declared}
+use Rattle.et_link.specs.Declaring.{IsDeclared, IsDeclaredOf, HasItsFile}
+use Rattle.et_program.specs.LinkFaults.{IsLinkable}
+use Rattle.et_program.specs.Linking.{IsOfFile}
+use Rattle.et_program.specs.MembersOf.{methods_of}
+use Rattle.et_program.specs.ProgramOf.{main_of}
+use Rattle.et_program.specs.Loaded.{LoadedMember, LoadedClass, loaded_field, loaded_method, loaded_class, loaded_member, loaded_file}
 
 abbrev rest : {X : Type 0} → List X → List X
 rest [] = []
@@ -50,3 +56,15 @@ counted n files e = e ∙ sym (length-map files loaded_file)
 
 pub some_loaded : (files : List ClassFile) → 0 < length files → 0 < length (map loaded_file files)
 some_loaded files lt = subst (λ n. 0 < n) (sym (length-map files loaded_file)) lt
+
+-- what files declare that were read is what the class files declare
+pub declared_of : (files : List ClassFile) (d : Declared) (main : ℕ) → 0 < length files → All HasItsParts files → All HasItsFile files → IsLinkable (map loaded_file files) → IsDeclared (map loaded_file files) d → main_of (methods_of (map loaded_file files)) ≡ Some main → IsDeclaredOf (map class_of files) d main
+declared_of files d main some parts of_files linkable declared is =
+    let same = files_alike files parts in
+    record {
+      some = subst (λ n. 0 < n) (sym (length-map files class_of)) some;
+      of_files = All-map IsOfFile class_of files of_files;
+      linkable = subst IsLinkable same linkable;
+      declared = subst (λ (fs : List LoadedClass). IsDeclared fs d) same declared;
+      main_is = subst (λ (fs : List LoadedClass). main_of (methods_of fs) ≡ Some main) same is;
+    }

@@ -10,7 +10,7 @@ use Rattle.std.proofs.lemmas.List.Concat.{flat_map-append}
 use Rattle.et_program.specs.declared.names.NameIndex.{NameIndex}
 use Rattle.et_program.specs.Indices.{number_of}
 use Rattle.et_program.proofs.IndexLemmas.{position_push}
-use Rattle.et_link.specs.ArrayTypes.{with_elements, is_known, name_added, names_added, array_names, array_at}
+use Rattle.et_program.specs.ArrayTypes.{with_elements, is_known, name_added, names_added, array_names, array_at}
 use Rattle.et_link.specs.Naming.{IsIndexFrom}
 
 -- a place is found exactly where the test passes somewhere

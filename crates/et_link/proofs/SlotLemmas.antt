@@ -4,7 +4,7 @@ use Rattle.std.specs.Prelude.{All}
 use Rattle.std.proofs.lemmas.List.{get_or_default}
 use Rattle.et_hierarchy.specs.Ancestry.{Ancestry, ancestry_at, no_ancestry, IsBelow}
 use Rattle.et_program.specs.declared.info.FieldInfo.{FieldInfo}
-use Rattle.et_link.specs.Slots.{slot_of, placed_behind}
+use Rattle.et_program.specs.Slots.{slot_of, placed_behind}
 
 pub supers_below : (rows : List Ancestry) (i : ℕ) (r : Ancestry) (n : ℕ) (xs : List ℕ) → i < length rows → r ≡ get_or rows i r → xs ≡ r.supers → ((k : ℕ) → k < length rows → IsBelow n (ancestry_at rows k)) → All (λ k. k < n) xs
 supers_below rows i r n xs lt is e below =

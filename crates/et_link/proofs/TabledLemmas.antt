@@ -8,7 +8,7 @@ use Rattle.std.proofs.lemmas.List.Elements.{All-nil, All-cons, All-head, All-tai
 use Rattle.std.proofs.lemmas.List.Sorted.{All-permutation, IsPermutation-reverse}
 use Rattle.et_pool.specs.Entries.{Constants}
 use Rattle.et_pool.specs.Descriptors.{dimensions}
-use Rattle.et_link.specs.Loaded.{LoadedClass}
+use Rattle.et_program.specs.Loaded.{LoadedClass}
 use Rattle.et_hierarchy.specs.Outline.{Outline, place_of}
 use Rattle.et_hierarchy.specs.Links.{LinkEntry, links, links_of, no_links, parents_of, AreWithin}
 use Rattle.et_hierarchy.specs.Ancestry.{Ancestry, ancestry_at, IsBelow}
@@ -20,13 +20,13 @@ use Rattle.et_program.specs.declared.kind.Leaf.TheVariants.{Base, Class}
 use Rattle.et_program.specs.Entries.{ClassEntry}
 use Rattle.et_program.specs.Tables.{IsWithin, IsInfoWithin, IsLeafBelow, IsTabled}
 use Rattle.et_program.proofs.PlaceLemmas.{position_below, position_within}
-use Rattle.et_link.specs.Files.{boots, set_of, boot_outline, file_outline}
-use Rattle.et_link.specs.MembersOf.{numbered, methods_of, fields_of, boot_method, boot_methods, file_method, file_methods, boot_field, boot_fields, file_field, file_fields}
-use Rattle.et_link.specs.Slots.{placed, placed_behind, places_from, slots_above}
-use Rattle.et_link.specs.ArrayTypes.{leaf_at, leaf_or, base_kind}
-use Rattle.et_link.specs.Classes.{Heads, prerequisites_of, set_class, array_class}
+use Rattle.et_program.specs.Files.{boots, set_of, boot_outline, file_outline}
+use Rattle.et_program.specs.MembersOf.{numbered, methods_of, fields_of, boot_method, boot_methods, file_method, file_methods, boot_field, boot_fields, file_field, file_fields}
+use Rattle.et_program.specs.Slots.{placed, placed_behind, places_from, slots_above}
+use Rattle.et_program.specs.ArrayTypes.{leaf_at, leaf_or, base_kind}
+use Rattle.et_program.specs.Classes.{Heads, prerequisites_of, set_class, array_class}
 use Rattle.et_link.specs.Declaring.{AreRows}
-use Rattle.et_link.specs.ProgramOf.{heads_of, names_of, classes_by, main_of, program_with}
+use Rattle.et_program.specs.ProgramOf.{heads_of, names_of, classes_by, main_of, program_with}
 
 -- LISTS
 

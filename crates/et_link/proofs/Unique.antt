@@ -12,13 +12,13 @@ use Rattle.et_hierarchy.specs.Ancestry.{Ancestry}
 use Rattle.et_hierarchy.proofs.LinkLemmas.{table_within}
 use Rattle.et_hierarchy.proofs.Unique.{same_ancestries}
 use Rattle.et_program.specs.Entries.{Linked}
-use Rattle.et_link.specs.declared.fault.LinkFaultKind.{LinkFaultKind}
-use Rattle.et_link.specs.declared.fault.LinkFaultKind.TheVariants.{Duplicate, NoSuper, Cycle, FinalSuper, CrossPackage, NoMain, TooMany}
-use Rattle.et_link.specs.Loaded.{LoadedClass}
-use Rattle.et_link.specs.Files.{boots, set_of}
-use Rattle.et_link.specs.MembersOf.{IsBootPool, AreBootPools, HasPools, file_pool}
-use Rattle.et_link.specs.ProgramOf.{program_with, IsProgramOf}
-use Rattle.et_link.specs.LinkFaults.{link_number, IsFaultAt, IsLinkable}
+use Rattle.et_program.specs.declared.fault.LinkFaultKind.{LinkFaultKind}
+use Rattle.et_program.specs.declared.fault.LinkFaultKind.TheVariants.{Duplicate, NoSuper, Cycle, FinalSuper, CrossPackage, NoMain, TooMany}
+use Rattle.et_program.specs.Loaded.{LoadedClass}
+use Rattle.et_program.specs.Files.{boots, set_of}
+use Rattle.et_program.specs.MembersOf.{IsBootPool, AreBootPools, HasPools, file_pool}
+use Rattle.et_program.specs.ProgramOf.{program_with, IsProgramOf}
+use Rattle.et_program.specs.LinkFaults.{link_number, IsFaultAt, IsLinkable}
 use Rattle.et_link.specs.Refusals.{LinkIs}
 
 -- POOLS

@@ -2,7 +2,7 @@
 use Rattle.std.specs.Prelude.{◌≡◌, ℕ, ◌+◌, ◌<◌, List, length, count_by}
 use Rattle.std.specs.List.{slice_index_or}
 use Rattle.et_program.specs.declared.info.FieldInfo.{FieldInfo}
-use Rattle.et_link.specs.Slots.{is_static_field, is_instance_of}
+use Rattle.et_program.specs.Slots.{is_static_field, is_instance_of}
 
 -- behind these fields, the next slot of each class and how many static fields there are
 pub record Counts (base : ℕ → ℕ) (before : List FieldInfo) (next : List ℕ) (statics : ℕ) : Type 0 where

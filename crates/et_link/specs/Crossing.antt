@@ -4,7 +4,7 @@ use Rattle.std.specs.List.{list_any}
 use Rattle.et_hierarchy.specs.Outline.{Outline}
 use Rattle.et_hierarchy.specs.Ancestry.{Ancestry, ancestry_at}
 use Rattle.et_program.specs.declared.info.MethodInfo.{MethodInfo}
-use Rattle.et_link.specs.LinkFaults.{may_redeclare, is_package_private, method_of, same_in, is_same_package}
+use Rattle.et_program.specs.LinkFaults.{may_redeclare, is_package_private, method_of, same_in, is_same_package}
 
 abbrev pub is_private_at : List MethodInfo → Option ℕ → Bool
 is_private_at methods None = false

@@ -4,7 +4,7 @@ use Rattle.std.specs.List.{slice_index_or}
 use Rattle.et_hierarchy.specs.Links.{AreWithin}
 use Rattle.et_hierarchy.specs.Ancestry.{ancestry_at, IsBelow}
 use Rattle.et_program.specs.Indices.{number_of}
-use Rattle.et_link.specs.Classes.{Heads}
+use Rattle.et_program.specs.Classes.{Heads}
 use Rattle.et_link.specs.declared.classes.Known.{Known}
 
 abbrev pub heads_in : Known → Heads

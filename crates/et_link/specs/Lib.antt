@@ -1,15 +1,6 @@
-pub mod Loaded
-pub mod Files
-pub mod MembersOf
-pub mod Slots
 pub mod Counts
-pub mod Heads
-pub mod ArrayTypes
 pub mod Naming
-pub mod Classes
-pub mod ProgramOf
 pub mod Known
-pub mod LinkFaults
 pub mod Crossing
 pub mod Refusals
 pub mod Declaring

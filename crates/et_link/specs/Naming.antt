@@ -2,7 +2,7 @@
 use Rattle.std.specs.Prelude.{◌≡◌, ℕ, List}
 use Rattle.et_program.specs.declared.names.NameIndex.{NameIndex}
 use Rattle.et_program.specs.Indices.{number_of}
-use Rattle.et_link.specs.ArrayTypes.{array_at}
+use Rattle.et_program.specs.ArrayTypes.{array_at}
 
 -- the index has the number of each of these names, from the first number on
 abbrev pub IsIndexFrom : ℕ → List (List ℕ) → NameIndex → Type 0

@@ -9,17 +9,22 @@ use Rattle.et_hierarchy.specs.declared.fault.FaultKind.TheVariants as set
 use Rattle.et_program.specs.declared.info.MethodInfo.{MethodInfo}
 use Rattle.et_program.specs.declared.info.FieldInfo.{FieldInfo}
 use Rattle.et_program.specs.Entries.{Linked}
-use Rattle.et_link.specs.declared.fault.LinkFaultKind.{LinkFaultKind}
-use Rattle.et_link.specs.declared.fault.LinkFaultKind.TheVariants.{Duplicate, NoSuper, Cycle, FinalSuper, CrossPackage, NoMain, TooMany}
+use Rattle.et_program.specs.declared.fault.LinkFaultKind.{LinkFaultKind}
+use Rattle.et_program.specs.declared.fault.LinkFaultKind.TheVariants.{Duplicate, NoSuper, Cycle, FinalSuper, CrossPackage, NoMain, TooMany}
 use Rattle.et_link.specs.declared.fault.LinkFault.{LinkFault}
 use Rattle.et_link.specs.declared.fault.LinkFault.TheVariants as fault
-use Rattle.et_link.specs.Loaded.{LoadedClass}
-use Rattle.et_link.specs.Files.{boots}
-use Rattle.et_link.specs.Slots.{placed_behind, places_from, is_static_field}
+use Rattle.et_program.specs.Loaded.{LoadedClass}
+use Rattle.et_program.specs.Slots.{placed_behind, places_from, is_static_field}
 use Rattle.et_link.specs.Crossing.{crosses, AnswersLeast}
-use Rattle.et_link.specs.Classes.{Heads}
-use Rattle.et_link.specs.ProgramOf.{main_of, is_of_file, classes_by, IsProgramOf}
-use Rattle.et_link.specs.LinkFaults.{IsFaultAt, IsLinkable, RefusesLink}
+use Rattle.et_program.specs.Classes.{Heads}
+use Rattle.et_program.specs.ProgramOf.{main_of, is_of_file, classes_by, IsProgramOf}
+use Rattle.et_program.specs.LinkFaults.{IsFaultAt, IsLinkable}
+use Rattle.et_program.specs.Files.{boots, set_of}
+
+-- a fault that is answered is that of the files, with the name of its class
+abbrev pub RefusesLink : List LoadedClass → LinkFault → Type 0
+RefusesLink files (fault.At kind name) = (k : ℕ) × IsFaultAt files kind k × (name ≡ (outline_at (set_of files) k).name)
+RefusesLink files fault.NoMemory = Unit {0}
 
 -- WHAT FILES ARE: a program where no class shows a fault, and else their fault, with the class that shows it
 abbrev pub LinkIs : List LoadedClass → Result Linked (LinkFaultKind × ℕ) → Type 0

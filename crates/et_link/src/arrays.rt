@@ -6,8 +6,8 @@ ghost use Rattle.std.specs.Option.{option_to_list};
 ghost use Rattle.et_pool.specs.Looks.{named_by};
 ghost use Rattle.et_program.specs.Indices.{number_of};
 ghost use Rattle.et_class.specs.Codes.{index_of};
-ghost use Rattle.et_link.specs.Loaded.{loaded_file};
-ghost use Rattle.et_link.specs.ArrayTypes.{base_letter, base_kind, array_over, named_arrays, made_by, made_in, made_in_method, file_arrays, arrays_met, leaf_at, leaf_of, is_known, with_elements, name_added, names_added, element_of, kind_of};
+ghost use Rattle.et_program.specs.Loaded.{loaded_file};
+ghost use Rattle.et_program.specs.ArrayTypes.{base_letter, base_kind, array_over, named_arrays, made_by, made_in, made_in_method, file_arrays, arrays_met, leaf_at, leaf_of, is_known, with_elements, name_added, names_added, element_of, kind_of};
 ghost use Rattle.et_link.specs.Naming.{IsIndexFrom};
 
 use et_base::{ClassId, Name, NoMemory};
@@ -132,7 +132,7 @@ fn add_made_at(
 
 ghost use Rattle.std.specs.Prelude.{if◌then◌else◌};
 ghost use Rattle.et_code.specs.Decoding.{instruction_at};
-ghost use Rattle.et_link.specs.ArrayTypes.{made_if, if_array};
+ghost use Rattle.et_program.specs.ArrayTypes.{made_if, if_array};
 
 /// Whether a place is flagged.
 fn is_flagged(flags: &[bool], place: usize) -> bool

@@ -4,7 +4,7 @@ ghost use Rattle.std.specs.Prelude.{◌≡◌, ◌<◌, length};
 ghost use Rattle.std.specs.List.{slice_index_or};
 ghost use Rattle.et_boot.specs.Classes.{no_boot_class};
 ghost use Rattle.et_boot.specs.Shown.{shown};
-ghost use Rattle.et_link.specs.Files.{boots};
+ghost use Rattle.et_program.specs.Files.{boots};
 
 use et_boot::{BootClass, boot_class, boot_count};
 

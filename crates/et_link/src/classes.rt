@@ -8,8 +8,8 @@ ghost use Rattle.et_hierarchy.specs.Links.{LinkEntry, no_links, AreWithin};
 ghost use Rattle.et_hierarchy.specs.Ancestry.{Ancestry, ancestry_at, IsBelow};
 ghost use Rattle.et_program.specs.Shown.{info_of};
 ghost use Rattle.et_program.specs.Entries.{ClassEntry};
-ghost use Rattle.et_link.specs.MembersOf.{numbered};
-ghost use Rattle.et_link.specs.Classes.{prerequisites_of, set_class, array_class};
+ghost use Rattle.et_program.specs.MembersOf.{numbered};
+ghost use Rattle.et_program.specs.Classes.{prerequisites_of, set_class, array_class};
 ghost use Rattle.et_link.specs.Known.{heads_in, AreSized};
 
 use crate::arrays::array_over;
@@ -123,7 +123,7 @@ fn array_of(alloc: Global, known: &Known, name: &[u8]) -> Result<Option<ClassId>
     }
 }
 
-ghost use Rattle.et_link.specs.ArrayTypes.{array_over};
+ghost use Rattle.et_program.specs.ArrayTypes.{array_over};
 
 /// What a program tells of a class of the set.
 fn info_of_class(
@@ -224,7 +224,7 @@ fn above_array(alloc: Global, class: ClassId) -> Result<Above, NoMemory>
     })
 }
 
-ghost use Rattle.et_link.specs.Classes.{object, cloneable, serializable};
+ghost use Rattle.et_program.specs.Classes.{object, cloneable, serializable};
 
 /// What a program tells of an array class.
 fn info_of_array(
@@ -283,4 +283,4 @@ pub(crate) fn all_classes(
     Ok(list)
 }
 
-ghost use Rattle.et_link.specs.ProgramOf.{classes_by};
+ghost use Rattle.et_program.specs.ProgramOf.{classes_by};

@@ -6,10 +6,10 @@ ghost use Rattle.et_hierarchy.specs.Ancestry.{ancestry_at, IsBelow};
 ghost use Rattle.et_program.specs.declared.info.MethodInfo.{MethodInfo as MethodOf};
 ghost use Rattle.et_program.specs.Members.{is_method};
 ghost use Rattle.et_program.specs.Tables.{looked_up};
-ghost use Rattle.et_link.specs.LinkFaults.{package_of, may_redeclare, is_package_private, same_in, is_same_package, last_or};
+ghost use Rattle.et_program.specs.LinkFaults.{package_of, may_redeclare, is_package_private, same_in, is_same_package, last_or};
 ghost use Rattle.et_link.specs.Crossing.{hides, crosses, AnswersLeast};
 ghost use Rattle.et_program.specs.Finding.{FindsMethods};
-ghost use Rattle.et_link.specs.Slots.{places_from};
+ghost use Rattle.et_program.specs.Slots.{places_from};
 
 use et_base::ClassId;
 use et_class::flags::{PRIVATE, PROTECTED, PUBLIC, STATIC, has};

@@ -3,9 +3,9 @@
 ghost use Rattle.std.specs.Prelude.{◌≡◌, ℕ, ◌<◌, length, List, Result, All, map};
 ghost use Rattle.et_class.specs.declared.class.ClassFile.{ClassFile};
 ghost use Rattle.et_class.specs.Classes.{class_of, HasItsParts};
-ghost use Rattle.et_link.specs.Loaded.{LoadedClass, loaded_class, loaded_file};
+ghost use Rattle.et_program.specs.Loaded.{LoadedClass, loaded_class, loaded_file};
 ghost use Rattle.et_link.specs.Refusals.{LinkIs};
-ghost use Rattle.et_link.specs.declared.fault.LinkFaultKind.{LinkFaultKind};
+ghost use Rattle.et_program.specs.declared.fault.LinkFaultKind.{LinkFaultKind};
 ghost use Rattle.et_program.specs.Entries.{Linked};
 
 /// What linking reads of class files that were read is what it reads of the classes that their bytes are.

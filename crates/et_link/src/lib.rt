@@ -16,5 +16,8 @@ mod reading;
 mod refusal;
 mod slots;
 
-pub use fault::{LinkFault, LinkFaultKind};
+pub use et_program::{
+    ClassInfo, Element, FieldInfo, LinkError, LinkFaultKind, MethodInfo, Program,
+};
+pub use fault::LinkFault;
 pub use linking::link;

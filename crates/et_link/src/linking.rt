@@ -9,14 +9,15 @@ ghost use Rattle.et_hierarchy.specs.Ancestry.{ancestry_at, IsBelow};
 ghost use Rattle.et_program.specs.declared.info.MethodInfo.{MethodInfo as MethodOf};
 ghost use Rattle.et_program.specs.declared.info.FieldInfo.{FieldInfo as FieldOf};
 ghost use Rattle.et_program.specs.Tables.{IsTabled};
-ghost use Rattle.et_link.specs.Loaded.{LoadedClass, loaded_file};
-ghost use Rattle.et_link.specs.Slots.{own_slots, slots_above, places_from};
-ghost use Rattle.et_link.specs.Heads.{has_to_run, initializer_of, constants_of};
-ghost use Rattle.et_link.specs.ArrayTypes.{array_names};
+ghost use Rattle.et_program.specs.Linking.{IsLinked};
+ghost use Rattle.et_program.specs.Loaded.{LoadedClass, loaded_file};
+ghost use Rattle.et_program.specs.Slots.{own_slots, slots_above, places_from};
+ghost use Rattle.et_program.specs.Heads.{has_to_run, initializer_of, constants_of};
+ghost use Rattle.et_program.specs.ArrayTypes.{array_names};
 ghost use Rattle.et_link.specs.Naming.{IsIndexFrom};
-ghost use Rattle.et_link.specs.ProgramOf.{is_of_file};
+ghost use Rattle.et_program.specs.ProgramOf.{is_of_file};
 ghost use Rattle.et_link.specs.Known.{heads_in, AreSized};
-ghost use Rattle.et_link.specs.MembersOf.{methods_of};
+ghost use Rattle.et_program.specs.MembersOf.{methods_of};
 ghost use Rattle.et_link.specs.Refusals.{linked_by};
 
 use crate::arrays::arrays_met;
@@ -143,6 +144,9 @@ fn assemble(
     requires tabled { IsTabled
         (linked_by (heads_in known.now) set.now known.now.arrays.names.items parts.methods.items
         (λ k. slice_index_or known.now.above.items k 0) parts.fields.items main parts.pools.items) }
+    requires linked { IsLinked
+        (linked_by (heads_in known.now) set.now known.now.arrays.names.items parts.methods.items
+        (λ k. slice_index_or known.now.above.items k 0) parts.fields.items main parts.pools.items) }
     ensures { IfOk result (λ p.
         p ≡ linked_by (heads_in known.now) set.now known.now.arrays.names.items parts.methods.items
         (λ k. slice_index_or known.now.above.items k 0) parts.fields.items main parts.pools.items) }
@@ -171,8 +175,10 @@ fn assemble(
     Ok(program)
 }
 
-ghost use Rattle.et_link.specs.Declaring.{IsDeclared, Declares};
-ghost use Rattle.et_link.specs.ProgramOf.{main_of, IsProgramOf};
+ghost use Rattle.et_class.specs.Classes.{HasItsParts};
+ghost use Rattle.et_class.specs.Layout.{ClassOf};
+ghost use Rattle.et_link.specs.Declaring.{IsDeclared, IsDeclaredOf, Declares, HasItsFile};
+ghost use Rattle.et_program.specs.ProgramOf.{main_of, IsProgramOf};
 ghost use Rattle.et_link.specs.Refusals.{Links};
 ghost use Rattle.std.specs.Prelude.{Some};
 
@@ -220,8 +226,7 @@ fn check_classes(set: usize, arrays: usize) -> Result<(), NoMemory>
 
 /// The program of what the files declare.
 fn build(alloc: Global, declared: Declared, main: MethodId) -> Result<Program, NoMemory>
-    requires { (files : List LoadedClass)
-        × IsDeclared files declared × (main_of (methods_of files) ≡ Some main) }
+    requires { (classes : List ClassOf) × IsDeclaredOf classes declared main }
     ensures { IfOk result (λ p. (files : List LoadedClass) →
         IsDeclared files declared → main_of (methods_of files) ≡ Some main → IsProgramOf files p) }
 {
@@ -245,9 +250,11 @@ fn build(alloc: Global, declared: Declared, main: MethodId) -> Result<Program, N
 /// The program has the built-in classes, then the classes of the files in their order, then the array classes. `Ok` comes
 /// exactly where no class shows a fault. Otherwise the fault is the one of the least kind that a class shows, with the
 /// first class in the order of the files that shows it. Or there was no memory. The first file is the one in which `main`
-/// is looked for.
+/// is looked for. Each class has to be that of a class file (JVMS 4.1), as those that are read are: the program keeps that.
 pub fn link(alloc: Global, files: Vec<ClassFile>) -> Result<Program, LinkFault>
-    requires { 0 < length files.items }
+    requires some { 0 < length files.items }
+    requires parts { All HasItsParts files.items }
+    requires of_files { All HasItsFile files.items }
     ensures { Links (map loaded_file files.items) result }
 {
     let count = files.len();

@@ -3,9 +3,9 @@
 ghost use Rattle.std.specs.Prelude.{◌≡◌, ◌++◌, length, IfOk, OnOk, map, option_map};
 ghost use Rattle.et_pool.specs.Pools.{IsPool};
 ghost use Rattle.et_boot.specs.Shown.{shown, shown_method, shown_code, shown_field};
-ghost use Rattle.et_link.specs.Loaded.{loaded_member, loaded_file};
-ghost use Rattle.et_link.specs.Files.{boots};
-ghost use Rattle.et_link.specs.MembersOf.{numbered, text_of, boot_body, boot_method, file_method, boot_methods, file_methods, boot_field, file_field, boot_fields, file_fields, fields_of};
+ghost use Rattle.et_program.specs.Loaded.{loaded_member, loaded_file};
+ghost use Rattle.et_program.specs.Files.{boots};
+ghost use Rattle.et_program.specs.MembersOf.{numbered, text_of, boot_body, boot_method, file_method, boot_methods, file_methods, boot_field, file_field, boot_fields, file_fields, fields_of};
 
 use crate::boots::{boot, boots};
 use et_base::{ClassId, Name, NoMemory};
@@ -136,7 +136,7 @@ pub(crate) fn all_fields(alloc: Global, files: &[ClassFile]) -> Result<Vec<Field
 
 ghost use Rattle.std.specs.Prelude.{List, [], length};
 ghost use Rattle.et_pool.specs.Entries.{Constants};
-ghost use Rattle.et_link.specs.MembersOf.{methods_of, IsBootPool, AreBootPools, HasPools, file_pool};
+ghost use Rattle.et_program.specs.MembersOf.{methods_of, IsBootPool, AreBootPools, HasPools, file_pool};
 
 /// The methods of the classes, and the pools.
 #[derive(Drop)]

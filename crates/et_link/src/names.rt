@@ -5,7 +5,7 @@ ghost use Rattle.std.specs.List.{flat_map, position_from};
 ghost use Rattle.std.specs.Str.{bytes_eq};
 ghost use Rattle.et_program.specs.Indices.{number_of};
 ghost use Rattle.et_hierarchy.specs.Outline.{place_of};
-ghost use Rattle.et_link.specs.ArrayTypes.{is_known, with_elements, name_added, names_added, array_names, element_of, kind_of};
+ghost use Rattle.et_program.specs.ArrayTypes.{is_known, with_elements, name_added, names_added, array_names, element_of, kind_of};
 ghost use Rattle.et_link.specs.Naming.{IsIndexFrom};
 
 use crate::arrays::leaf_of;
@@ -165,7 +165,7 @@ fn leaf_element(leaf: Option<Leaf>) -> Element
 }
 
 ghost use Rattle.std.specs.Prelude.{Some};
-ghost use Rattle.et_link.specs.ArrayTypes.{class_element, leaf_element};
+ghost use Rattle.et_program.specs.ArrayTypes.{class_element, leaf_element};
 
 /// What stands behind the first byte.
 fn behind_first(name: &[u8]) -> &[u8]

@@ -4,8 +4,8 @@ ghost use Rattle.std.specs.Prelude.{◌≡◌, ◌++◌, IfOk, OnOk, map, Some};
 ghost use Rattle.et_pool.specs.Looks.{class_name_at};
 ghost use Rattle.et_boot.specs.Classes.{BootClassOf};
 ghost use Rattle.et_boot.specs.Shown.{shown};
-ghost use Rattle.et_link.specs.Loaded.{loaded_file};
-ghost use Rattle.et_link.specs.Files.{boots, name_of, boot_outline, file_outline, set_of, flags_of};
+ghost use Rattle.et_program.specs.Loaded.{loaded_file};
+ghost use Rattle.et_program.specs.Files.{boots, name_of, boot_outline, file_outline, set_of, flags_of};
 
 use crate::boots::{boot, boots};
 use et_base::{Name, NoMemory};

@@ -6,17 +6,17 @@ ghost use Rattle.et_hierarchy.specs.Faults.{IsFaultless};
 ghost use Rattle.et_hierarchy.specs.Ancestry.{ancestry_at, IsBelow};
 ghost use Rattle.et_program.specs.declared.info.MethodInfo.{MethodInfo as MethodOf};
 ghost use Rattle.et_program.specs.Finding.{FindsMethods};
-ghost use Rattle.et_link.specs.Files.{boots};
-ghost use Rattle.et_link.specs.ProgramOf.{is_main, main_of};
+ghost use Rattle.et_program.specs.Files.{boots};
+ghost use Rattle.et_program.specs.ProgramOf.{is_main, main_of};
 ghost use Rattle.et_link.specs.Refusals.{Names, RefusesSet, AnswersLate, link_kind};
 
 use crate::boots::boots;
 use crate::crossing::first_crossing;
-use crate::fault::{LinkFault, LinkFaultKind};
+use crate::fault::LinkFault;
 use et_base::{MethodId, Name};
 use et_class::flags::{STATIC, has};
 use et_hierarchy::{ClassOutline, FaultKind, Links, Row, SetFault, check_set};
-use et_program::{MethodIndex, MethodInfo};
+use et_program::{LinkFaultKind, MethodIndex, MethodInfo};
 use std::alloc::Global;
 
 /// The fault that names a class of the set.

@@ -4,8 +4,8 @@ ghost use Rattle.std.specs.Prelude.{◌≡◌, ℕ, ◌+◌, ◌<◌, ◌≤◌,
 ghost use Rattle.std.specs.List.{slice_index_or};
 ghost use Rattle.et_hierarchy.specs.Ancestry.{Ancestry, ancestry_at, IsBelow};
 ghost use Rattle.et_program.specs.declared.info.FieldInfo.{FieldInfo as FieldOf};
-ghost use Rattle.et_link.specs.Files.{boots};
-ghost use Rattle.et_link.specs.Slots.{is_static_field, is_instance_of, own_slots, slots_above, slot_of, placed_behind, places_from};
+ghost use Rattle.et_program.specs.Files.{boots};
+ghost use Rattle.et_program.specs.Slots.{is_static_field, is_instance_of, own_slots, slots_above, slot_of, placed_behind, places_from};
 ghost use Rattle.et_link.specs.Counts.{Counts};
 
 use crate::boots::{boot, boots};

@@ -11,10 +11,10 @@ use Rattle.et_hierarchy.specs.Outline.{Outline, outline_at, no_outline}
 use Rattle.et_hierarchy.specs.Links.{links}
 use Rattle.et_hierarchy.specs.Ancestry.{Ancestry, IsAncestry}
 use Rattle.et_program.specs.Entries.{ClassEntry, Linked, is_interface}
-use Rattle.et_link.specs.Files.{boots, set_of, boot_outline, file_outline}
-use Rattle.et_link.specs.Loaded.{LoadedClass}
-use Rattle.et_link.specs.LinkFaults.{IsLinkable}
-use Rattle.et_link.specs.ProgramOf.{program_with, IsProgramOf}
+use Rattle.et_program.specs.Files.{boots, set_of, boot_outline, file_outline}
+use Rattle.et_program.specs.Loaded.{LoadedClass}
+use Rattle.et_program.specs.LinkFaults.{IsLinkable}
+use Rattle.et_program.specs.ProgramOf.{program_with, IsProgramOf}
 use Rattle.et_link.proofs.TabledLemmas.{length-set}
 use Rattle.et_event.specs.Interfaces.{KnowsInterfaces}
 use Rattle.et_linked.proofs.Places.{at_map, one_of}

@@ -20,13 +20,13 @@ use Rattle.et_program.specs.declared.info.Element.TheVariants.{NoArray, Base, Cl
 use Rattle.et_program.specs.declared.kind.Leaf.TheVariants as leaf
 use Rattle.et_program.specs.Entries.{ClassEntry, Linked, no_class, no_field, class_at, field_at}
 use Rattle.et_program.specs.Members.{class_named, is_subclass, is_above}
-use Rattle.et_link.specs.Loaded.{LoadedClass}
-use Rattle.et_link.specs.Files.{boots, set_of, boot_outline, file_outline, or_empty}
-use Rattle.et_link.specs.MembersOf.{numbered, fields_of}
-use Rattle.et_link.specs.Slots.{slots_above}
-use Rattle.et_link.specs.ArrayTypes.{is_known, with_elements, names_added, arrays_met, file_arrays}
-use Rattle.et_link.specs.Classes.{Heads, set_class, array_class}
-use Rattle.et_link.specs.ProgramOf.{heads_of, names_of, program_with}
+use Rattle.et_program.specs.Loaded.{LoadedClass}
+use Rattle.et_program.specs.Files.{boots, set_of, boot_outline, file_outline, or_empty}
+use Rattle.et_program.specs.MembersOf.{numbered, fields_of}
+use Rattle.et_program.specs.Slots.{slots_above}
+use Rattle.et_program.specs.ArrayTypes.{is_known, with_elements, names_added, arrays_met, file_arrays}
+use Rattle.et_program.specs.Classes.{Heads, set_class, array_class}
+use Rattle.et_program.specs.ProgramOf.{heads_of, names_of, program_with}
 use Rattle.et_hierarchy.specs.Ancestry.{Ancestry}
 use Rattle.et_link.proofs.TabledLemmas.{length-classes, length-singles, fields_within}
 use Rattle.et_heap.specs.Objects.{new_object}

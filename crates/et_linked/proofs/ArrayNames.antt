@@ -8,8 +8,8 @@ use Rattle.std.proofs.lemmas.List.Elements.{All-nil, All-cons, All-head, All-tai
 use Rattle.et_graph.proofs.Lists.{Contains-none, Contains-here, Contains-there, Contains-cons, any_contains, filter_kept, filter_keeps}
 use Rattle.et_pool.specs.Descriptors.{is_array, dimensions}
 use Rattle.et_hierarchy.proofs.Names.{same_name, name_itself}
-use Rattle.et_link.specs.ArrayTypes.{leaf_at, is_known, with_elements, name_added, names_added, array_names, array_at}
-use Rattle.et_link.specs.MembersOf.{numbered}
+use Rattle.et_program.specs.ArrayTypes.{leaf_at, is_known, with_elements, name_added, names_added, array_names, array_at}
+use Rattle.et_program.specs.MembersOf.{numbered}
 
 -- LISTS
 

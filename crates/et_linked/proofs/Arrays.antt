@@ -35,12 +35,12 @@ use Rattle.et_program.specs.Entries.{ClassEntry, Linked, no_class, no_method, cl
 use Rattle.et_program.specs.Members.{class_named, is_base_array, base_array}
 use Rattle.et_program.specs.Resolution.{resolve_class}
 use Rattle.et_program.specs.declared.errors.LinkError.{LinkError}
-use Rattle.et_link.specs.ArrayTypes.{base_letter, array_over, made_by, made_if, made_in, made_in_method, named_arrays, file_arrays, arrays_met, is_known, leaf_of, leaf_element, class_element, element_of, array_at}
-use Rattle.et_link.specs.Classes.{array_class}
-use Rattle.et_link.specs.Files.{boots, set_of, boot_outline, file_outline, or_empty}
-use Rattle.et_link.specs.Loaded.{LoadedClass, LoadedMember}
-use Rattle.et_link.specs.MembersOf.{methods_of, file_methods, file_method, HasPools}
-use Rattle.et_link.specs.ProgramOf.{heads_of, names_of, program_with, IsProgramOf}
+use Rattle.et_program.specs.ArrayTypes.{base_letter, array_over, made_by, made_if, made_in, made_in_method, named_arrays, file_arrays, arrays_met, is_known, leaf_of, leaf_element, class_element, element_of, array_at}
+use Rattle.et_program.specs.Classes.{array_class}
+use Rattle.et_program.specs.Files.{boots, set_of, boot_outline, file_outline, or_empty}
+use Rattle.et_program.specs.Loaded.{LoadedClass, LoadedMember}
+use Rattle.et_program.specs.MembersOf.{methods_of, file_methods, file_method, HasPools}
+use Rattle.et_program.specs.ProgramOf.{heads_of, names_of, program_with, IsProgramOf}
 use Rattle.et_event.specs.declared.rows.HeapRow.TheVariants.{NewArray, NewReferenceArray, NewMultiArray}
 use Rattle.et_event.specs.declared.rows.Row.TheVariants.{Heap}
 use Rattle.et_event.specs.Kinds as kinds

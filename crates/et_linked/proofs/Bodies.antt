@@ -27,10 +27,10 @@ use Rattle.et_program.specs.declared.errors.LinkError.TheVariants.{NoSuchMethod,
 use Rattle.et_program.specs.Entries.{Linked, no_method, class_at, method_at, is_static, is_interface}
 use Rattle.et_program.specs.Members.{is_method, method_in, first_in, resolved_above}
 use Rattle.et_program.specs.Resolution.{resolve_method}
-use Rattle.et_link.specs.Files.{boots}
-use Rattle.et_link.specs.Loaded.{LoadedClass}
-use Rattle.et_link.specs.MembersOf.{numbered, methods_of, boot_body, boot_methods, file_methods, file_method}
-use Rattle.et_link.specs.ProgramOf.{program_with}
+use Rattle.et_program.specs.Files.{boots}
+use Rattle.et_program.specs.Loaded.{LoadedClass}
+use Rattle.et_program.specs.MembersOf.{numbered, methods_of, boot_body, boot_methods, file_methods, file_method}
+use Rattle.et_program.specs.ProgramOf.{program_with}
 use Rattle.et_linked.proofs.BuiltIn.{boot_place}
 use Rattle.et_linked.proofs.Making.{named_in}
 use Rattle.et_event.specs.Errors.{class_called}

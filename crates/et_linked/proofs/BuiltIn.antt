@@ -8,8 +8,8 @@ use Rattle.std.proofs.lemmas.Bool.{and_parts, not-true, false≢true}
 use Rattle.std.proofs.lemmas.List.Elements.{All-nil, All-cons}
 use Rattle.et_boot.specs.Classes.{BootClassOf, BootFieldOf, no_boot_class}
 use Rattle.et_program.specs.declared.info.FieldInfo.{FieldInfo}
-use Rattle.et_link.specs.Files.{boots}
-use Rattle.et_link.specs.MembersOf.{numbered, boot_fields}
+use Rattle.et_program.specs.Files.{boots}
+use Rattle.et_program.specs.MembersOf.{numbered, boot_fields}
 use Rattle.et_event.specs.declared.errors.GuestError.{GuestError}
 use Rattle.et_event.specs.declared.errors.GuestError.TheVariants.{AbstractMethodError, ArithmeticException, ArrayIndexOutOfBoundsException, ArrayStoreException, ClassCastException, ExceptionInInitializerError, IllegalMonitorStateException, IllegalThreadStateException, IncompatibleClassChangeError, InstantiationError, NegativeArraySizeException, NoClassDefFoundError, NoSuchFieldError, NoSuchMethodError, NullPointerException, OutOfMemoryError, StackOverflowError, UnsatisfiedLinkError}
 use Rattle.et_event.specs.Errors.{name_of}

@@ -8,7 +8,7 @@ use Rattle.et_graph.proofs.Lists.{Contains-none, Contains-cons}
 use Rattle.et_hierarchy.specs.Ancestry.{Ancestry, ancestry_at, no_ancestry, supers_over, IsAncestry}
 use Rattle.et_hierarchy.specs.Links.{LinkEntry, no_links}
 use Rattle.et_program.specs.declared.info.FieldInfo.{FieldInfo}
-use Rattle.et_link.specs.Slots.{own_slots, slots_above}
+use Rattle.et_program.specs.Slots.{own_slots, slots_above}
 
 module _ (fields : List FieldInfo) (table : List LinkEntry) (rows : List Ancestry) (is : IsAncestry table rows) where
   abbrev own : ℕ → ℕ

@@ -7,11 +7,11 @@ use Rattle.et_pool.specs.Entries.{Constants}
 use Rattle.et_hierarchy.specs.Outline.{outline_at}
 use Rattle.et_hierarchy.specs.Ancestry.{Ancestry}
 use Rattle.et_program.specs.Entries.{ClassEntry, Linked, no_class, class_at}
-use Rattle.et_link.specs.Classes.{Heads, set_class, array_class}
-use Rattle.et_link.specs.Files.{set_of}
-use Rattle.et_link.specs.Loaded.{LoadedClass}
-use Rattle.et_link.specs.MembersOf.{numbered}
-use Rattle.et_link.specs.ProgramOf.{heads_of, names_of, program_with}
+use Rattle.et_program.specs.Classes.{Heads, set_class, array_class}
+use Rattle.et_program.specs.Files.{set_of}
+use Rattle.et_program.specs.Loaded.{LoadedClass}
+use Rattle.et_program.specs.MembersOf.{numbered}
+use Rattle.et_program.specs.ProgramOf.{heads_of, names_of, program_with}
 use Rattle.et_link.proofs.TabledLemmas.{length-singles, length-classes}
 use Rattle.et_linked.proofs.Places.{at_numbered}
 use Rattle.et_linked.proofs.Making.{class_in}

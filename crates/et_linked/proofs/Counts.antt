@@ -7,7 +7,7 @@ use Rattle.std.proofs.lemmas.List.Sums.{sum_by-cons, sum_by-take-le, count_by_mo
 use Rattle.std.proofs.lemmas.List.Elements.{All-head, All-tail}
 use Rattle.et_program.specs.declared.info.FieldInfo.{FieldInfo}
 use Rattle.et_program.specs.Entries.{no_field}
-use Rattle.et_link.specs.Slots.{slot_of, placed_behind, places_from}
+use Rattle.et_program.specs.Slots.{slot_of, placed_behind, places_from}
 
 abbrev one_if : Bool → ℕ
 one_if b = cond b 1 0

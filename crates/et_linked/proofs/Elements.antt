@@ -7,10 +7,10 @@ use Rattle.et_hierarchy.specs.Ancestry.{Ancestry}
 use Rattle.et_program.specs.Entries.{ClassEntry, Linked}
 use Rattle.et_program.specs.declared.kind.Leaf.TheVariants.{Base, Class}
 use Rattle.et_program.proofs.PlaceLemmas.{position_below, position_within}
-use Rattle.et_link.specs.ArrayTypes.{base_kind, base_letters, leaf_at, leaf_of, leaf_element, class_element, element_of, array_at}
-use Rattle.et_link.specs.Files.{set_of}
-use Rattle.et_link.specs.Loaded.{LoadedClass}
-use Rattle.et_link.specs.ProgramOf.{names_of, program_with, IsProgramOf}
+use Rattle.et_program.specs.ArrayTypes.{base_kind, base_letters, leaf_at, leaf_of, leaf_element, class_element, element_of, array_at}
+use Rattle.et_program.specs.Files.{set_of}
+use Rattle.et_program.specs.Loaded.{LoadedClass}
+use Rattle.et_program.specs.ProgramOf.{names_of, program_with, IsProgramOf}
 use Rattle.et_event.specs.Programs.{IsElementWithin, AreElementsWithin}
 use Rattle.et_linked.proofs.Classes.{length_all, class_cases}
 

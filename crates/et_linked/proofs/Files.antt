@@ -16,7 +16,7 @@ use Rattle.et_class.specs.Fields.{field_marks, field_attribute_marks, is_field_f
 use Rattle.et_class.specs.Rules.{pool_marks, header_marks, header_of}
 use Rattle.et_class.specs.Methods.{method_marks}
 use Rattle.et_class.specs.Classes.{IsClassFile}
-use Rattle.et_link.specs.Loaded.{LoadedMember, loaded_class, loaded_field}
+use Rattle.et_program.specs.Loaded.{LoadedMember, loaded_class, loaded_field}
 use Rattle.et_linked.specs.Fields.{HasStaticFields, HasStaticConstants}
 use Rattle.et_linked.proofs.Marks.{AreWell, well_before, well_behind, well_first, well_rest, along_each}
 

@@ -7,9 +7,9 @@ use Rattle.std.proofs.lemmas.List.Sorted.{All-permutation, IsPermutation-reverse
 use Rattle.std.proofs.lemmas.List.{reverse-reverse}
 use Rattle.std.proofs.lemmas.Bool.{eqb-true}
 use Rattle.et_graph.proofs.Lists.{Contains-none, Contains-here, Contains-cons, any_contains}
-use Rattle.et_link.specs.Slots.{places_from}
+use Rattle.et_program.specs.Slots.{places_from}
 use Rattle.et_hierarchy.specs.Ancestry.{added, added_all}
-use Rattle.et_link.specs.MembersOf.{numbered}
+use Rattle.et_program.specs.MembersOf.{numbered}
 
 module _ (P : ℕ → Type 0) where
   either : (b : Bool) (xs ys : List ℕ) → All P xs → All P ys → All P (cond b xs ys)

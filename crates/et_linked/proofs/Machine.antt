@@ -23,13 +23,13 @@ use Rattle.et_program.specs.Entries.{ClassEntry, Linked, no_field, class_at, fie
 use Rattle.et_program.specs.Members.{is_subclass, is_above}
 use Rattle.et_program.specs.declared.info.FieldInfo.{FieldInfo}
 use Rattle.et_program.specs.declared.info.Element.TheVariants.{NoArray}
-use Rattle.et_link.specs.Classes.{set_class}
-use Rattle.et_link.specs.Files.{boots, set_of, boot_outline, file_outline}
-use Rattle.et_link.specs.Loaded.{LoadedClass}
-use Rattle.et_link.specs.LinkFaults.{IsLinkable}
-use Rattle.et_link.specs.MembersOf.{numbered, fields_of, boot_fields, file_fields, file_field}
-use Rattle.et_link.specs.ProgramOf.{heads_of, names_of, program_with, IsProgramOf}
-use Rattle.et_link.specs.Slots.{is_static_field, is_instance_of, own_slots, slots_above, slot_of}
+use Rattle.et_program.specs.Classes.{set_class}
+use Rattle.et_program.specs.Files.{boots, set_of, boot_outline, file_outline}
+use Rattle.et_program.specs.Loaded.{LoadedClass}
+use Rattle.et_program.specs.LinkFaults.{IsLinkable}
+use Rattle.et_program.specs.MembersOf.{numbered, fields_of, boot_fields, file_fields, file_field}
+use Rattle.et_program.specs.ProgramOf.{heads_of, names_of, program_with, IsProgramOf}
+use Rattle.et_program.specs.Slots.{is_static_field, is_instance_of, own_slots, slots_above, slot_of}
 use Rattle.et_link.proofs.TabledLemmas.{length-set, length-placed, fields_within}
 use Rattle.et_event.specs.Errors.{class_called}
 use Rattle.et_event.specs.Sound.{HasField, IsSoundObject}

@@ -17,12 +17,12 @@ use Rattle.et_program.specs.declared.info.FieldInfo.{FieldInfo}
 use Rattle.et_program.specs.declared.info.Element.TheVariants.{NoArray}
 use Rattle.et_program.specs.Entries.{ClassEntry, Linked, no_class, no_field, class_at, field_at}
 use Rattle.et_program.specs.Members.{is_subclass, is_above}
-use Rattle.et_link.specs.Loaded.{LoadedClass}
-use Rattle.et_link.specs.Files.{boots, set_of}
-use Rattle.et_link.specs.MembersOf.{numbered, fields_of, boot_fields, file_fields, file_field}
-use Rattle.et_link.specs.Slots.{placed, placed_behind, slots_above}
-use Rattle.et_link.specs.Classes.{Heads, set_class, array_class}
-use Rattle.et_link.specs.ProgramOf.{heads_of, names_of, program_with, IsProgramOf}
+use Rattle.et_program.specs.Loaded.{LoadedClass}
+use Rattle.et_program.specs.Files.{boots, set_of}
+use Rattle.et_program.specs.MembersOf.{numbered, fields_of, boot_fields, file_fields, file_field}
+use Rattle.et_program.specs.Slots.{placed, placed_behind, slots_above}
+use Rattle.et_program.specs.Classes.{Heads, set_class, array_class}
+use Rattle.et_program.specs.ProgramOf.{heads_of, names_of, program_with, IsProgramOf}
 use Rattle.et_link.proofs.TabledLemmas.{length-set, length-classes}
 use Rattle.et_heap.specs.Objects.{new_object}
 use Rattle.et_event.specs.declared.errors.GuestError.{GuestError}

@@ -24,12 +24,12 @@ use Rattle.et_hierarchy.specs.Ancestry.{Ancestry}
 use Rattle.et_hierarchy.proofs.Names.{same_name}
 use Rattle.et_program.specs.declared.info.MethodInfo.{MethodInfo}
 use Rattle.et_program.specs.Entries.{Linked, no_method, method_at}
-use Rattle.et_link.specs.Files.{boots, set_of}
-use Rattle.et_link.specs.Loaded.{LoadedClass}
-use Rattle.et_link.specs.LinkFaults.{IsLinkable}
-use Rattle.et_link.specs.declared.fault.LinkFaultKind.TheVariants.{NoMain}
-use Rattle.et_link.specs.MembersOf.{numbered, methods_of, boot_methods, file_methods, file_method, HasPools}
-use Rattle.et_link.specs.ProgramOf.{is_main, main_of, program_with, IsProgramOf}
+use Rattle.et_program.specs.Files.{boots, set_of}
+use Rattle.et_program.specs.Loaded.{LoadedClass}
+use Rattle.et_program.specs.LinkFaults.{IsLinkable}
+use Rattle.et_program.specs.declared.fault.LinkFaultKind.TheVariants.{NoMain}
+use Rattle.et_program.specs.MembersOf.{numbered, methods_of, boot_methods, file_methods, file_method, HasPools}
+use Rattle.et_program.specs.ProgramOf.{is_main, main_of, program_with, IsProgramOf}
 use Rattle.et_link.proofs.TabledLemmas.{length-set}
 use Rattle.et_event.specs.declared.rows.CallKind.{CallKind}
 use Rattle.et_event.specs.declared.rows.CallRow.TheVariants.{Invoke}

@@ -10,7 +10,7 @@ use Rattle.et_class.specs.Layout.{ClassOf, u2, counted}
 use Rattle.et_class.specs.Names.{has, is_plain_class}
 use Rattle.et_class.specs.Rules.{pool_marks, header_marks, members_marks, header_of, members_of}
 use Rattle.et_class.specs.Classes.{IsClassFile}
-use Rattle.et_link.specs.Loaded.{loaded_class}
+use Rattle.et_program.specs.Loaded.{loaded_class}
 use Rattle.et_linked.specs.ClassNames.{HasClassName}
 
 broken_behind : (ms ns : List Mark) (place kind : ℕ) → Breaks ns place kind → Breaks (ms ++ ns) place kind

@@ -13,12 +13,12 @@ use Rattle.et_hierarchy.specs.Ancestry.{Ancestry, ancestry_at, supers_over, IsAn
 use Rattle.et_hierarchy.specs.Initialization.{interfaces_to_run, with_interfaces, init_order}
 use Rattle.et_hierarchy.proofs.LinkLemmas.{are_within}
 use Rattle.et_program.specs.Entries.{ClassEntry, Linked, class_at}
-use Rattle.et_link.specs.Files.{set_of}
-use Rattle.et_link.specs.Heads.{has_to_run}
-use Rattle.et_link.specs.Loaded.{LoadedClass}
-use Rattle.et_link.specs.LinkFaults.{IsLinkable}
-use Rattle.et_link.specs.MembersOf.{methods_of}
-use Rattle.et_link.specs.ProgramOf.{names_of, program_with}
+use Rattle.et_program.specs.Files.{set_of}
+use Rattle.et_program.specs.Heads.{has_to_run}
+use Rattle.et_program.specs.Loaded.{LoadedClass}
+use Rattle.et_program.specs.LinkFaults.{IsLinkable}
+use Rattle.et_program.specs.MembersOf.{methods_of}
+use Rattle.et_program.specs.ProgramOf.{names_of, program_with}
 use Rattle.et_link.proofs.TabledLemmas.{order_within}
 use Rattle.et_linked.proofs.Making.{class_in}
 use Rattle.et_linked.proofs.Classes.{length_all, class_cases, array_in}

@@ -5,7 +5,7 @@ use Rattle.std.specs.Prelude.{All}
 use Rattle.std.specs.List.{slice_index_or, position_from, list_any}
 use Rattle.std.proofs.lemmas.Bool.{eqb-true, or_cases}
 use Rattle.std.proofs.lemmas.List.Elements.{All-head, All-tail}
-use Rattle.et_link.specs.MembersOf.{numbered}
+use Rattle.et_program.specs.MembersOf.{numbered}
 
 -- at a place of the list in front
 pub at_map : {X Y : Type 0} (f : X → Y) (xs : List X) (ys : List Y) (k : ℕ) (d : X) (e : Y) → k < length xs → slice_index_or (map f xs ++ ys) k e ≡ f (slice_index_or xs k d)

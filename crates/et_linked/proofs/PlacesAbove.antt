@@ -11,8 +11,8 @@ use Rattle.et_boot.specs.Classes.{BootClassOf, no_boot_class}
 use Rattle.et_hierarchy.specs.Outline.{Outline, place_of, no_outline}
 use Rattle.et_hierarchy.specs.Links.{LinkEntry, links, links_of, no_links}
 use Rattle.et_hierarchy.specs.Ancestry.{Ancestry, ancestry_at, ancestry_of, added, added_all, supers_over, superinterfaces_over, IsAncestry}
-use Rattle.et_link.specs.Loaded.{LoadedClass}
-use Rattle.et_link.specs.Files.{boots, set_of, boot_outline, file_outline}
+use Rattle.et_program.specs.Loaded.{LoadedClass}
+use Rattle.et_program.specs.Files.{boots, set_of, boot_outline, file_outline}
 use Rattle.et_link.proofs.TabledLemmas.{length-set}
 use Rattle.et_linked.proofs.Places.{at_map, at_mapped, first_in_front}
 use Rattle.et_linked.proofs.BuiltIn.{has_no_fields, no_fields_within, boot_place, is_before, above_in_table}

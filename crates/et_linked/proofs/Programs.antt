@@ -21,14 +21,14 @@ use Rattle.et_hierarchy.proofs.LinkLemmas.{are_within}
 use Rattle.et_program.specs.declared.info.FieldInfo.{FieldInfo}
 use Rattle.et_program.specs.declared.info.MethodInfo.{MethodInfo}
 use Rattle.et_program.specs.Entries.{ClassEntry, Linked, no_field, no_method, class_at, method_at, field_at}
-use Rattle.et_link.specs.Classes.{prerequisites_of}
-use Rattle.et_link.specs.Files.{boots, set_of}
-use Rattle.et_link.specs.Heads.{is_initializer, initializer_of, has_constant, constants_of}
-use Rattle.et_link.specs.Loaded.{LoadedClass}
-use Rattle.et_link.specs.LinkFaults.{IsLinkable}
-use Rattle.et_link.specs.MembersOf.{numbered, methods_of, fields_of, boot_field, boot_fields, file_field, file_fields, AreBootPools, HasPools, file_pool}
-use Rattle.et_link.specs.ProgramOf.{names_of, heads_of, program_with, IsProgramOf}
-use Rattle.et_link.specs.Slots.{is_static_field, is_instance_of, slots_above, slot_of}
+use Rattle.et_program.specs.Classes.{prerequisites_of}
+use Rattle.et_program.specs.Files.{boots, set_of}
+use Rattle.et_program.specs.Heads.{is_initializer, initializer_of, has_constant, constants_of}
+use Rattle.et_program.specs.Loaded.{LoadedClass}
+use Rattle.et_program.specs.LinkFaults.{IsLinkable}
+use Rattle.et_program.specs.MembersOf.{numbered, methods_of, fields_of, boot_field, boot_fields, file_field, file_fields, AreBootPools, HasPools, file_pool}
+use Rattle.et_program.specs.ProgramOf.{names_of, heads_of, program_with, IsProgramOf}
+use Rattle.et_program.specs.Slots.{is_static_field, is_instance_of, slots_above, slot_of}
 use Rattle.et_event.specs.Kinds.{kind_of}
 use Rattle.et_event.specs.Sites.{LoadedConstant, constant_at, no_constants, pool_of}
 use Rattle.et_event.specs.Sound.{is_of_kind, returned_of}

@@ -32,9 +32,9 @@ use Rattle.et_class.specs.Classes.{IsClassFile}
 use Rattle.et_class.proofs.Found.{found_some}
 use Rattle.et_class.proofs.Respelled.{class_spelled}
 use Rattle.et_event.specs.Calls.{entry_count}
-use Rattle.et_link.specs.Files.{or_empty}
-use Rattle.et_link.specs.Loaded.{LoadedMember, loaded_class, loaded_method}
-use Rattle.et_link.specs.MembersOf.{text_of}
+use Rattle.et_program.specs.Files.{or_empty}
+use Rattle.et_program.specs.Loaded.{LoadedMember, loaded_class, loaded_method}
+use Rattle.et_program.specs.MembersOf.{text_of}
 use Rattle.et_linked.proofs.Marks.{AreWell, well_before, well_behind, well_first, well_rest, along_each}
 use Rattle.et_linked.specs.Rules.{is_clinit, KeepsNames, KeepsCode, KeepsMethodRules, KeepsCodeRules}
 

@@ -7,10 +7,10 @@ use Rattle.et_pool.specs.Entries.{Constants}
 use Rattle.et_class.specs.Layout.{ClassOf}
 use Rattle.et_hierarchy.specs.Ancestry.{Ancestry}
 use Rattle.et_program.specs.Entries.{Linked, no_method, method_at}
-use Rattle.et_link.specs.Files.{set_of}
-use Rattle.et_link.specs.Loaded.{LoadedClass, loaded_class}
-use Rattle.et_link.specs.LinkFaults.{IsLinkable}
-use Rattle.et_link.specs.ProgramOf.{names_of, program_with, IsProgramOf}
+use Rattle.et_program.specs.Files.{set_of}
+use Rattle.et_program.specs.Loaded.{LoadedClass, loaded_class}
+use Rattle.et_program.specs.LinkFaults.{IsLinkable}
+use Rattle.et_program.specs.ProgramOf.{names_of, program_with, IsProgramOf}
 use Rattle.et_link.proofs.TabledLemmas.{methods_within}
 use Rattle.et_linked.specs.ClassNames.{HasClassName}
 use Rattle.et_linked.specs.Interfaces.{HaveStaticFields}
@@ -25,7 +25,8 @@ use Rattle.et_linked.proofs.Programs.{in_order, has_initializers}
 use Rattle.et_linked.proofs.Static.{fields_static}
 use Rattle.et_linked.proofs.Typed.{keeps_field_rules}
 use Rattle.et_event.specs.Runnable.{IsRunnable}
-use Rattle.et_linked.specs.Programs.{IsOfFile, KeepRules}
+use Rattle.et_program.specs.Linking.{IsOfFile}
+use Rattle.et_linked.specs.Programs.{KeepRules}
 use Rattle.et_linked.specs.Rules.{KeepsMethodRules, KeepsCodeRules}
 use Rattle.et_linked.proofs.Arrays.{has_arrays}
 use Rattle.et_linked.proofs.Bodies.{have_rules, runs_on_object}

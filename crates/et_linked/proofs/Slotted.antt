@@ -22,12 +22,12 @@ use Rattle.et_program.specs.Members.{is_above}
 use Rattle.et_program.specs.declared.info.Element.{Element}
 use Rattle.et_program.specs.declared.info.Element.TheVariants.{NoArray, Base, Class}
 use Rattle.et_program.specs.declared.info.FieldInfo.{FieldInfo}
-use Rattle.et_link.specs.Classes.{set_class, array_class}
-use Rattle.et_link.specs.Files.{boots, set_of}
-use Rattle.et_link.specs.Loaded.{LoadedClass}
-use Rattle.et_link.specs.MembersOf.{numbered, fields_of, boot_fields, file_fields, file_field}
-use Rattle.et_link.specs.ProgramOf.{heads_of, names_of, program_with, IsProgramOf}
-use Rattle.et_link.specs.Slots.{is_static_field, is_instance_of, own_slots, slots_above, slot_of}
+use Rattle.et_program.specs.Classes.{set_class, array_class}
+use Rattle.et_program.specs.Files.{boots, set_of}
+use Rattle.et_program.specs.Loaded.{LoadedClass}
+use Rattle.et_program.specs.MembersOf.{numbered, fields_of, boot_fields, file_fields, file_field}
+use Rattle.et_program.specs.ProgramOf.{heads_of, names_of, program_with, IsProgramOf}
+use Rattle.et_program.specs.Slots.{is_static_field, is_instance_of, own_slots, slots_above, slot_of}
 use Rattle.et_link.proofs.TabledLemmas.{length-singles, length-classes, length-placed, fields_within}
 use Rattle.et_heap.specs.Objects.{new_object}
 use Rattle.et_event.specs.Heap.{may_be_made}

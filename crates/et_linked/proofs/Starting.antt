@@ -10,9 +10,9 @@ use Rattle.et_base.specs.declared.value.Value.TheVariants.{Unset}
 use Rattle.et_program.specs.Entries.{ClassEntry, Linked, field_at}
 use Rattle.et_program.specs.Members.{class_named}
 use Rattle.et_program.proofs.PlaceLemmas.{position_within}
-use Rattle.et_link.specs.Loaded.{LoadedClass}
-use Rattle.et_link.specs.Files.{boots, set_of}
-use Rattle.et_link.specs.ProgramOf.{heads_of, names_of, program_with, IsProgramOf}
+use Rattle.et_program.specs.Loaded.{LoadedClass}
+use Rattle.et_program.specs.Files.{boots, set_of}
+use Rattle.et_program.specs.ProgramOf.{heads_of, names_of, program_with, IsProgramOf}
 use Rattle.et_link.proofs.TabledLemmas.{length-set, length-classes}
 use Rattle.et_heap.specs.Objects.{ObjectState, Objects, IsHeld, at, object_at, new_object, free_monitor}
 use Rattle.et_heap.specs.Refs.{refs_of}

@@ -15,12 +15,12 @@ use Rattle.et_hierarchy.specs.Ancestry.{Ancestry}
 use Rattle.et_program.specs.declared.info.FieldInfo.{FieldInfo}
 use Rattle.et_program.specs.Entries.{Linked, no_field, field_at, is_interface}
 use Rattle.et_program.specs.Members.{is_above}
-use Rattle.et_link.specs.Files.{boots, set_of, boot_outline, file_outline}
-use Rattle.et_link.specs.Loaded.{LoadedClass}
-use Rattle.et_link.specs.LinkFaults.{IsLinkable}
-use Rattle.et_link.specs.MembersOf.{numbered, fields_of, boot_field, boot_fields, file_field, file_fields}
-use Rattle.et_link.specs.ProgramOf.{program_with, IsProgramOf}
-use Rattle.et_link.specs.Slots.{slots_above}
+use Rattle.et_program.specs.Files.{boots, set_of, boot_outline, file_outline}
+use Rattle.et_program.specs.Loaded.{LoadedClass}
+use Rattle.et_program.specs.LinkFaults.{IsLinkable}
+use Rattle.et_program.specs.MembersOf.{numbered, fields_of, boot_field, boot_fields, file_field, file_fields}
+use Rattle.et_program.specs.ProgramOf.{program_with, IsProgramOf}
+use Rattle.et_program.specs.Slots.{slots_above}
 use Rattle.et_link.proofs.TabledLemmas.{length-placed, fields_within}
 use Rattle.et_linked.specs.Interfaces.{HaveStaticFields}
 use Rattle.et_linked.proofs.Counts.{placed_at}

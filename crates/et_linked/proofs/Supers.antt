@@ -14,10 +14,10 @@ use Rattle.et_hierarchy.specs.Faults.{has_supers, names_class, names_interface}
 use Rattle.et_hierarchy.proofs.BelowLemmas.{below_of}
 use Rattle.et_hierarchy.proofs.LinkLemmas.{are_within}
 use Rattle.et_hierarchy.proofs.Names.{place_within}
-use Rattle.et_link.specs.Files.{set_of}
-use Rattle.et_link.specs.Loaded.{LoadedClass}
-use Rattle.et_link.specs.LinkFaults.{IsLinkable}
-use Rattle.et_link.specs.declared.fault.LinkFaultKind.TheVariants.{NoSuper, Cycle}
+use Rattle.et_program.specs.Files.{set_of}
+use Rattle.et_program.specs.Loaded.{LoadedClass}
+use Rattle.et_program.specs.LinkFaults.{IsLinkable}
+use Rattle.et_program.specs.declared.fault.LinkFaultKind.TheVariants.{NoSuper, Cycle}
 use Rattle.et_linked.proofs.Places.{at_mapped}
 use Rattle.et_linked.proofs.Ascending.{each}
 use Rattle.et_linked.proofs.Lists.{all_added, all_flat}

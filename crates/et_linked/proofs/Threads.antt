@@ -20,9 +20,9 @@ use Rattle.et_code.specs.Forms.{form_of}
 use Rattle.et_code.specs.Starts.{IsStart, starts, starts_from}
 use Rattle.et_code.proofs.Starting.{starts_are_all}
 use Rattle.et_class.specs.Codes.{index_of, is_member_well, is_class_well}
-use Rattle.et_link.specs.Files.{boots}
-use Rattle.et_link.specs.Loaded.{LoadedClass}
-use Rattle.et_link.specs.MembersOf.{AreBootPools, HasPools, IsBootPool, file_pool}
+use Rattle.et_program.specs.Files.{boots}
+use Rattle.et_program.specs.Loaded.{LoadedClass}
+use Rattle.et_program.specs.MembersOf.{AreBootPools, HasPools, IsBootPool, file_pool}
 use Rattle.et_linked.proofs.Places.{at_mapped, one_of}
 use Rattle.et_event.specs.Sites.{no_constants}
 

@@ -23,9 +23,9 @@ use Rattle.et_event.specs.Kinds.{kind_of, kind_of_letter}
 use Rattle.et_event.specs.Sites.{LoadedConstant, AnInt, ALong, AString, constant_at}
 use Rattle.et_event.specs.Sound.{is_of_kind}
 use Rattle.et_event.specs.declared.rows.Operand.TheVariants as operand
-use Rattle.et_link.specs.Files.{or_empty}
-use Rattle.et_link.specs.Loaded.{LoadedMember, loaded_class, loaded_field}
-use Rattle.et_link.specs.MembersOf.{text_of}
+use Rattle.et_program.specs.Files.{or_empty}
+use Rattle.et_program.specs.Loaded.{LoadedMember, loaded_class, loaded_field}
+use Rattle.et_program.specs.MembersOf.{text_of}
 use Rattle.et_event.specs.Programs.{value_like}
 use Rattle.et_linked.specs.Fields.{HasTypedConstants, KeepsFieldRules}
 use Rattle.et_linked.proofs.Files.{IsWellField, well_fields, constant_by, static_fields, static_constants}

@@ -5,8 +5,8 @@ use Rattle.et_class.specs.declared.flags.TheConstants.{STATIC, INTERFACE}
 use Rattle.et_event.specs.Kinds.{kind_of}
 use Rattle.et_event.specs.Sites.{LoadedConstant, constant_at}
 use Rattle.et_event.specs.Sound.{is_of_kind}
-use Rattle.et_link.specs.Loaded.{LoadedClass, LoadedMember}
-use Rattle.et_link.specs.MembersOf.{text_of}
+use Rattle.et_program.specs.Loaded.{LoadedClass, LoadedMember}
+use Rattle.et_program.specs.MembersOf.{text_of}
 use Rattle.et_event.specs.Programs.{value_like}
 
 -- those of an interface are static (4.5)

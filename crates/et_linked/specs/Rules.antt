@@ -15,8 +15,8 @@ use Rattle.et_class.specs.Methods.{is_method_flags}
 use Rattle.et_class.specs.Names.{has}
 use Rattle.et_class.specs.declared.flags.TheConstants.{STATIC, NATIVE, ABSTRACT}
 use Rattle.et_event.specs.Calls.{entry_count}
-use Rattle.et_link.specs.Loaded.{LoadedClass, LoadedMember}
-use Rattle.et_link.specs.MembersOf.{text_of}
+use Rattle.et_program.specs.Loaded.{LoadedClass, LoadedMember}
+use Rattle.et_program.specs.MembersOf.{text_of}
 
 -- METHODS
 

@@ -7,12 +7,13 @@ ghost use Rattle.et_class.specs.Classes.{IsClassFile};
 ghost use Rattle.et_class.specs.Layout.{ClassOf};
 ghost use Rattle.et_linked.specs.Fields.{KeepsFieldRules};
 ghost use Rattle.et_base.specs.Numbers.{AreBytes};
-ghost use Rattle.et_link.specs.LinkFaults.{IsLinkable};
-ghost use Rattle.et_link.specs.Loaded.{LoadedClass, loaded_class};
-ghost use Rattle.et_link.specs.ProgramOf.{IsProgramOf};
+ghost use Rattle.et_program.specs.LinkFaults.{IsLinkable};
+ghost use Rattle.et_program.specs.Loaded.{LoadedClass, loaded_class};
+ghost use Rattle.et_program.specs.ProgramOf.{IsProgramOf};
 ghost use Rattle.et_program.specs.Entries.{Linked};
 ghost use Rattle.et_event.specs.Runnable.{IsRunnable};
-ghost use Rattle.et_linked.specs.Programs.{IsOfFile, KeepRules};
+ghost use Rattle.et_linked.specs.Programs.{KeepRules};
+ghost use Rattle.et_program.specs.Linking.{IsOfFile};
 ghost use Rattle.et_linked.specs.Rules.{KeepsCodeRules, KeepsMethodRules};
 ghost use Rattle.et_event.specs.Programs.{HasArrays, HasMachineSlots, HasMethods};
 

@@ -1,26 +1,43 @@
 //! Small sets of classes: the fault that each has, and what calls and fields of their classes mean (JVMS 5.4.3, 6.5).
 
+ghost use Rattle.std.specs.Prelude.{◌<◌, length, All, IfOk};
+ghost use Rattle.et_class.specs.Classes.{HasItsParts};
+ghost use Rattle.et_link.specs.Declaring.{HasItsFile};
+
 use crate::link_files::{
     BAD, BOTH, BOX, GRID, LEFT, LOOP, LOWER, NEAR, NONE, ONE, OPEN, RIGHT, SUB, TEXT, TOP, UPPER,
 };
 use et_base::{ClassId, MethodId};
 use et_class::{ClassFault, ClassFile, read_class};
-use et_link::{LinkFault, LinkFaultKind, link};
-use et_program::{LinkError, Program};
+use et_link::{LinkError, LinkFault, LinkFaultKind, Program, link};
 use std::alloc::Global;
 use std::process::Abort;
 use std::test::Fail;
 
-fn read_all(alloc: Global, sources: &[&[u8]]) -> Result<Vec<ClassFile>, ClassFault> {
+/// The class file of these bytes.
+fn read(alloc: Global, source: &[u8]) -> Result<ClassFile, ClassFault>
+    ensures parts { IfOk result HasItsParts }
+    ensures of_file { IfOk result HasItsFile }
+{
+    let file = read_class(alloc, source)?;
+    Ok(file)
+}
+
+/// The class files of these bytes, in order.
+fn read_all(alloc: Global, sources: &[&[u8]]) -> Result<Vec<ClassFile>, ClassFault>
+    ensures parts { IfOk result (λ files. All HasItsParts files.items) }
+    ensures of_files { IfOk result (λ files. All HasItsFile files.items) }
+{
     let mut files = Vec::new(alloc);
-    for source in sources {
-        let file = read_class(alloc, source)?;
+    'sources: for source in sources {
+        let file = read(alloc, source)?;
         files.push(file)?;
     }
     Ok(files)
 }
 
-fn link_all(
+/// The program of these files, or their fault.
+pub(crate) fn link_all(
     rt: &impl Abort,
     alloc: Global,
     sources: &[&[u8]],
@@ -135,8 +152,6 @@ fn class_of(program: &Program, method: Result<MethodId, LinkError>) -> Result<Cl
     let method = method?;
     Ok(program.method(method).class)
 }
-
-ghost use Rattle.std.specs.Prelude.{◌<◌, length, IfOk};
 
 #[test]
 fn diamonds(rt: HostRuntime) -> Result<(), Fail> {

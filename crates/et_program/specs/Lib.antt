@@ -10,3 +10,13 @@ pub mod Indexed
 pub mod Parts
 pub mod Finding
 pub mod Indices
+pub mod Loaded
+pub mod Files
+pub mod MembersOf
+pub mod Slots
+pub mod Heads
+pub mod ArrayTypes
+pub mod Classes
+pub mod ProgramOf
+pub mod LinkFaults
+pub mod Linking

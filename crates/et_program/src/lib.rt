@@ -4,6 +4,7 @@
 
 mod class;
 mod errors;
+mod fault;
 mod indices;
 mod info;
 mod kind;
@@ -19,6 +20,7 @@ mod types;
 
 pub use class::{Above, Class};
 pub use errors::LinkError;
+pub use fault::LinkFaultKind;
 pub use info::{ClassInfo, Element, FieldInfo, MethodInfo};
 pub use kind::{Kind, Leaf};
 pub use members::MemberIndex;

@@ -37,6 +37,7 @@ pub struct Program {
 impl Model for Program {
     ghost use Rattle.et_program.specs.Entries.{Linked};
     ghost use Rattle.et_program.specs.Tables.{IsTabled, AreIndexed};
+    ghost use Rattle.et_program.specs.Linking.{IsLinked};
 
     ghost Value = { Linked };
 
@@ -59,7 +60,8 @@ impl Model for Program {
       main = p.main;
       pools = p.pools.items;
     } in IsTabled l
-        × AreIndexed l p.base_arrays.items p.places p.texts p.method_places p.field_places };
+        × AreIndexed l p.base_arrays.items p.places p.texts p.method_places p.field_places
+        × IsLinked l };
 }
 
 impl Program {
@@ -70,9 +72,18 @@ impl Program {
         let _ = &self.classes;
     }
 
-    /// The program of these tables. The only error is want of memory.
+    /// Does nothing. Its contract is what holds of each program: it is that of class files, which show no fault (JVMS 5.3,
+    /// 5.4).
+    pub fn is_linked(&self)
+        ensures { IsLinked self.now }
+    {
+        let _ = &self.classes;
+    }
+
+    /// The program of these tables, which are those of class files that link. The only error is want of memory.
     pub fn of(alloc: Global, tables: Tables) -> Result<Program, NoMemory>
-        requires { IsTabled (shown_tables tables) }
+        requires tabled { IsTabled (shown_tables tables) }
+        requires linked { IsLinked (shown_tables tables) }
         ensures { IfOk result (λ p. p ≡ shown_tables tables) }
     {
         let places = index_classes(alloc, tables.classes.as_slice())?;
@@ -108,6 +119,7 @@ impl Program {
     }
 
     ghost use Rattle.et_program.specs.Tables.{IsTabled};
+    ghost use Rattle.et_program.specs.Linking.{IsLinked};
     ghost use Rattle.et_program.specs.Parts.{shown_tables};
     ghost use Rattle.et_program.specs.Entries.{class_at, method_at, field_at};
     ghost use Rattle.et_program.specs.Tables.{IsWithin, IsInfoWithin};

@@ -1,11 +1,9 @@
 //! A class with nothing but a main, before its first event.
 
+use crate::links::link_all;
 use et_base::{ClassId, ObjectId, ThreadId};
-use et_class::{ClassFault, ClassFile, read_class};
-use et_link::link;
 use et_run::{begin, start_lines};
 use et_state::Record;
-use std::alloc::Global;
 use std::process::Abort;
 use std::test::Fail;
 
@@ -18,19 +16,10 @@ static BOX: [u8; 125] = [
     0, 1, 0, 7, 0, 0, 0, 17, 0, 1, 0, 1, 0, 0, 0, 5, 187, 0, 2, 87, 177, 0, 0, 0, 0, 0, 0,
 ];
 
-fn files(alloc: Global) -> Result<Vec<ClassFile>, ClassFault> {
-    let mut files = Vec::new(alloc);
-    let file = read_class(alloc, &BOX)?;
-    files.push(file)?;
-    Ok(files)
-}
-
 #[test]
 fn a_box(rt: HostRuntime) -> Result<(), Fail> {
     let alloc = rt.alloc();
-    let files = files(alloc)?;
-    assert!(rt; files.len() > 0);
-    let program = link(alloc, files)?;
+    let program = link_all(&rt, alloc, &[&BOX])??;
     let machine = begin(alloc, &program)?;
     assert_eq!(rt; machine.clock(), 0);
     assert_eq!(rt; machine.started(), 1);

@@ -11,3 +11,4 @@ mod Members
 mod NamedRows
 mod Calls
 mod NamedTurns
+mod Running

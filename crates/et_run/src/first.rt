@@ -4,8 +4,8 @@ ghost use Rattle.et_state.specs.State.{kept_of};
 ghost use Rattle.et_state.specs.Naming.{Names, IsNamed};
 ghost use Rattle.et_event.specs.Sound.{IsSoundFor};
 ghost use Rattle.et_event.specs.Start.{argument_class as class_of_arguments, first_class_state as state_of_class, class_states_from, start, start_records};
-ghost use Rattle.et_link.specs.Loaded.{LoadedClass};
-ghost use Rattle.et_link.specs.ProgramOf.{IsProgramOf};
+ghost use Rattle.et_program.specs.Loaded.{LoadedClass};
+ghost use Rattle.et_program.specs.ProgramOf.{IsProgramOf};
 ghost use Rattle.et_linked.specs.ClassNames.{HasClassName};
 
 use et_base::{ClassId, NoMemory, Value};

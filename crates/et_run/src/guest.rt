@@ -1,5 +1,6 @@
 //! The machine of a linked program, as the run with stamps knows it.
-ghost use Rattle.std.specs.Prelude.{◌≡◌, ◌≤◌};
+ghost use Rattle.std.specs.Prelude.{◌≡◌, ◌≤◌, OnOk};
+ghost use Rattle.et_graph.specs.Listing.{death_pairs};
 ghost use Rattle.et_event.specs.Event.{event};
 ghost use Rattle.et_run.specs.Guests.{IsSoundRun, flush_visits_of};
 ghost use Rattle.et_run.specs.Histories.{unended_of, flushed_of};
@@ -13,18 +14,20 @@ use crate::threads::{nth_unended, unended_count};
 use et_base::{NoMemory, ObjectId, Steps, ThreadId};
 use et_graph::{Death, Stamps};
 use et_loop::Guest;
+use et_program::Program;
 use et_state::{EventEnd, Lines, Machine};
 use std::alloc::Global;
-use std::marker::Model;
+use std::marker::{Model, PhantomData};
 use std::sync::ledger::Ledger;
 
-/// The machine of a linked program. A contract sees it as that machine.
+/// The machine of a linked program, which its code refers to. A contract sees it as that machine.
 #[derive(Drop)]
-pub struct ProgramGuest {
+pub struct ProgramGuest<'a> {
     machine: Machine,
+    code: PhantomData<&'a Program>,
 }
 
-impl Model for ProgramGuest {
+impl<'a> Model for ProgramGuest<'a> {
     ghost use Rattle.et_state.specs.State.{MachineState};
 
     ghost Value = { MachineState };
@@ -32,17 +35,20 @@ impl Model for ProgramGuest {
     ghost view = { λ g. g.machine };
 }
 
-impl ProgramGuest {
+impl<'a> ProgramGuest<'a> {
     /// Of a machine.
-    pub fn of(machine: Machine) -> ProgramGuest
+    pub fn of(machine: Machine) -> ProgramGuest<'a>
         ensures { result ≡ machine }
     {
-        ProgramGuest { machine }
+        ProgramGuest {
+            machine,
+            code: PhantomData,
+        }
     }
 }
 
-impl Guest for ProgramGuest {
-    type Code = NamedProgram;
+impl<'a> Guest for ProgramGuest<'a> {
+    type Code = NamedProgram<'a>;
 
     type Room = GuestRoom;
 
@@ -90,17 +96,21 @@ impl Guest for ProgramGuest {
         GuestRoom::begin(alloc)
     }
 
-    fn grow_room(room: &mut GuestRoom, objects: u32) -> Result<(), NoMemory> {
+    fn grow_room(room: &mut GuestRoom, objects: u32) -> Result<(), NoMemory>
+        ensures { OnOk result (objects ≤ room.new.places) }
+    {
         room.grow(objects)
     }
 
-    fn deaths(room: &GuestRoom) -> &[Death] {
+    fn deaths(room: &GuestRoom) -> &[Death]
+        ensures { death_pairs result.now ≡ room.now.deaths }
+    {
         room.deaths()
     }
 
     fn flush<L: Ledger>(
         &mut self,
-        code: &NamedProgram,
+        code: &NamedProgram<'a>,
         stamps: &Stamps,
         room: &mut GuestRoom,
         visits: &mut Steps<L>,
@@ -118,7 +128,7 @@ impl Guest for ProgramGuest {
     fn event<L: Ledger>(
         &mut self,
         alloc: Global,
-        code: &NamedProgram,
+        code: &NamedProgram<'a>,
         thread: ThreadId,
         out: &mut Lines,
         visits: &mut Steps<L>,

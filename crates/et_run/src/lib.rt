@@ -6,16 +6,13 @@ mod guest;
 mod heap;
 pub mod laws;
 mod named;
+mod program_run;
 mod room;
 mod rows;
-mod run;
 mod steps;
 mod threads;
 mod turns;
 
 pub use first::{begin, start_lines};
-pub use guest::ProgramGuest;
-pub use named::NamedProgram;
-pub use room::GuestRoom;
-pub use run::run_program;
+pub use program_run::run;
 pub use turns::turn_event;

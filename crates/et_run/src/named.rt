@@ -9,22 +9,22 @@ use std::marker::Model;
 
 /// A linked program, of which a trace names the classes and methods. A contract sees it as the program.
 #[derive(Drop)]
-pub struct NamedProgram {
-    program: Linked,
+pub struct NamedProgram<'a> {
+    program: &'a Linked,
 }
 
-impl Model for NamedProgram {
+impl<'a> Model for NamedProgram<'a> {
     ghost use Rattle.et_program.specs.Entries.{Linked};
 
     ghost Value = { Linked };
 
-    ghost view = { λ p. p.program };
+    ghost view = { λ p. p.program.now };
 }
 
-impl NamedProgram {
+impl<'a> NamedProgram<'a> {
     /// Of a program.
-    pub fn of(program: Linked) -> NamedProgram
-        ensures { result ≡ program }
+    pub fn of(program: &'a Linked) -> NamedProgram<'a>
+        ensures { result ≡ program.now }
     {
         NamedProgram { program }
     }
@@ -33,11 +33,11 @@ impl NamedProgram {
     pub fn program(&self) -> &Linked
         ensures { result.now ≡ self.now }
     {
-        &self.program
+        self.program
     }
 }
 
-impl Program for NamedProgram {
+impl<'a> Program for NamedProgram<'a> {
     ghost names = { names_of };
 
     fn class_name(&self, class: ClassId) -> &[u8] {

@@ -1,26 +1,15 @@
--- THE ONE PROGRAM of classes, or the one fault that keeps them from being linked; and what the program has, so that it may
--- be run.
-use Rattle.std.proofs.Common.{◌≡◌, inl, inr, ℕ, ◌<◌, List, length, map, Result, Ok, Err, sym, ◌∙◌, ap, subst}
-use Rattle.std.specs.Prelude.{All}
-use Rattle.std.proofs.lemmas.List.{length-map}
-use Rattle.std.proofs.lemmas.List.Elements.{All-map}
-use Rattle.et_class.specs.declared.class.ClassFile.{ClassFile}
+-- THE ONE PROGRAM of classes, or the one fault that keeps them from being linked.
+use Rattle.std.proofs.Common.{◌≡◌, inl, inr, ℕ, List, map, Result, Ok, Err, ◌∙◌, ap, subst}
 use Rattle.et_class.specs.Layout.{ClassOf}
-use Rattle.et_class.specs.Classes.{class_of}
-use Rattle.et_link.specs.Loaded.{LoadedClass, loaded_class}
+use Rattle.et_program.specs.Loaded.{loaded_class}
 use Rattle.et_program.specs.Entries.{Linked}
-use Rattle.et_link.specs.LinkFaults.{IsLinkable, RefusesLink}
-use Rattle.et_link.specs.ProgramOf.{IsProgramOf}
-use Rattle.et_link.specs.Refusals.{LinkIs}
-use Rattle.et_link.specs.declared.fault.LinkFaultKind.{LinkFaultKind}
+use Rattle.et_program.specs.LinkFaults.{IsLinkable}
+use Rattle.et_program.specs.ProgramOf.{IsProgramOf}
+use Rattle.et_link.specs.Refusals.{LinkIs, RefusesLink}
+use Rattle.et_program.specs.declared.fault.LinkFaultKind.{LinkFaultKind}
 use Rattle.et_link.specs.declared.fault.LinkFault.TheVariants as link
-use Rattle.et_linked.specs.ClassNames.{HasClassName}
-use Rattle.et_event.specs.Sound.{IsSoundFor}
-use Rattle.et_event.specs.Start.{start}
-use Rattle.et_linked.specs.Programs.{IsOfFile, KeepRules}
-use Rattle.et_event.specs.Runnable.{IsRunnable}
 use Rattle.et_top.specs.Faults.{Fault, LinkFault}
-use Rattle.et_top.specs.Loaded.{IsLinked, HasItsFile}
+use Rattle.et_top.specs.Loaded.{IsLinked}
 use Rattle.et_top.specs.Told.{Cause, File, Reading, Memory, Other, IsCause}
 
 or_fault : Result Linked (LinkFaultKind × ℕ) → LinkFaultKind × ℕ → LinkFaultKind × ℕ
@@ -60,28 +49,3 @@ program_not_read read classes (File fault) program e is = subst (λ c. IsLinked 
 program_not_read read classes Reading program h is = h
 program_not_read read classes Memory program h is = tt
 program_not_read read classes Other program h is = absurd h
-
--- WHAT A PROGRAM HAS
-
--- the classes that were read are those of files
-of_files : (classes : List ClassFile) → All HasItsFile classes → All IsOfFile (map class_of classes)
-of_files classes all = All-map IsOfFile class_of classes all
-
-keeps_rules : (classes : List ClassFile) → All HasItsFile classes → ((classes : List ClassOf) → All IsOfFile classes → KeepRules (map loaded_class classes)) → KeepRules (map loaded_class (map class_of classes))
-keeps_rules classes all keep = keep (map class_of classes) (of_files classes all)
-
--- the program of classes that were read may be run
-pub program_runs : (classes : List ClassFile) (p : Linked) → 0 < length classes → All HasItsFile classes
-    → ((classes : List ClassOf) → All IsOfFile classes → KeepRules (map loaded_class classes))
-    → ((files : List LoadedClass) (p : Linked) → 0 < length files → KeepRules files → IsLinkable files → IsProgramOf files p → IsRunnable p)
-    → IsLinkable (map loaded_class (map class_of classes)) → IsProgramOf (map loaded_class (map class_of classes)) p → IsRunnable p
-program_runs classes p some all keep run linkable is =
-    let many : length (map loaded_class (map class_of classes)) ≡ length classes = length-map (map class_of classes) loaded_class ∙ length-map classes class_of in
-    run (map loaded_class (map class_of classes)) p (subst (λ n. 0 < n) (sym many) some) (keeps_rules classes all keep) linkable is
-
--- .. and its first state is sound
-pub program_starts : (classes : List ClassFile) (p : Linked) → All HasItsFile classes
-    → ((classes : List ClassOf) → All IsOfFile classes → KeepRules (map loaded_class classes))
-    → ((files : List LoadedClass) (p : Linked) → All HasClassName files → IsProgramOf files p → IsSoundFor p (start p))
-    → IsProgramOf (map loaded_class (map class_of classes)) p → IsSoundFor p (start p)
-program_starts classes p all keep sound is = sound (map loaded_class (map class_of classes)) p (keeps_rules classes all keep).names is

@@ -1,6 +1,6 @@
 -- What a file that a command names is refused for.
 use Rattle.std.specs.Prelude.{ℕ, List}
-use Rattle.et_link.specs.declared.fault.LinkFaultKind.{LinkFaultKind}
+use Rattle.et_program.specs.declared.fault.LinkFaultKind.{LinkFaultKind}
 use Rattle.et_top.specs.declared.status.Status.{Status}
 use Rattle.et_top.specs.declared.status.Status.TheVariants as status
 

@@ -8,13 +8,13 @@ use Rattle.et_class.specs.declared.class.ClassFile.{ClassFile}
 use Rattle.et_text.specs.Text.{IsTextOf, IsTraceFault}
 use Rattle.et_base.specs.Marks.{MarksAre, IsFirst}
 use Rattle.et_asm.specs.Listings.{marks_of, bytes_of as class_file_of}
-use Rattle.et_link.specs.Loaded.{loaded_class}
-use Rattle.et_link.specs.LinkFaults.{IsLinkable, RefusesLink}
-use Rattle.et_link.specs.ProgramOf.{IsProgramOf as IsLinkOf}
-use Rattle.et_link.specs.declared.fault.LinkFaultKind.{LinkFaultKind}
+use Rattle.et_program.specs.Loaded.{loaded_class}
+use Rattle.et_program.specs.LinkFaults.{IsLinkable}
+use Rattle.et_link.specs.Refusals.{RefusesLink}
+use Rattle.et_program.specs.ProgramOf.{IsProgramOf as IsLinkOf}
+use Rattle.et_program.specs.declared.fault.LinkFaultKind.{LinkFaultKind}
 use Rattle.et_link.specs.declared.fault.LinkFault.TheVariants as link
 use Rattle.et_program.specs.Entries.{Linked}
-use Rattle.et_linked.specs.Programs.{IsOfFile}
 use Rattle.et_top.specs.Faults.{Fault, Absent, TooLong, BadClass, BadText, BadTrace, LinkFault}
 
 -- the most bytes that are read of a class file or a listing, and of a trace
@@ -35,10 +35,6 @@ IsClassOf (Err fault) class = class ≡ Err fault
 IsClassOf (Ok bytes) class =
     ((fault : ℕ × ℕ) × HasFault bytes fault × (class ≡ Err (BadClass fault.1 fault.0)))
     ⊎ ((c : ClassOf) × IsClassFile bytes c × (class ≡ Ok c))
-
--- the class was read of the bytes of a file
-abbrev pub HasItsFile : ClassFile → Type 0
-HasItsFile class = IsOfFile (class_of class)
 
 -- the bytes are those of this trace, or they have this first fault; exactly one of the two is the case
 abbrev pub IsTraceOf : Result (List ℕ) Fault → Result (List TraceLine) Fault → Type 0

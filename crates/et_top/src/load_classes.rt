@@ -5,7 +5,8 @@ ghost use Rattle.et_io.specs.Files.{Held};
 ghost use Rattle.et_class.specs.Layout.{ClassOf};
 ghost use Rattle.et_class.specs.Classes.{class_of, HasItsParts};
 ghost use Rattle.et_top.specs.Faults.{Fault};
-ghost use Rattle.et_top.specs.Loaded.{bytes_of, most_of_class, IsClassOf, AreClassesOf, HasItsFile};
+ghost use Rattle.et_link.specs.Declaring.{HasItsFile};
+ghost use Rattle.et_top.specs.Loaded.{bytes_of, most_of_class, IsClassOf, AreClassesOf};
 ghost use Rattle.et_top.specs.Told.{Tells, IsReading, IsFileRefusal, IsOfBytes, cause_of, classes_of};
 
 use crate::files::read_file;

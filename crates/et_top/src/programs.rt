@@ -6,11 +6,9 @@ ghost use Rattle.et_graph.specs.Graph.{Graph, Decides};
 ghost use Rattle.et_state.specs.Options.{AreOptions};
 ghost use Rattle.et_class.specs.Classes.{class_of, HasItsParts};
 ghost use Rattle.et_program.specs.Entries.{Linked, method_at};
-ghost use Rattle.et_event.specs.Sound.{IsSoundFor};
-ghost use Rattle.et_event.specs.Start.{start};
-ghost use Rattle.et_event.specs.Runnable.{IsRunnable};
 ghost use Rattle.et_top.specs.Faults.{Fault};
-ghost use Rattle.et_top.specs.Loaded.{IsLinked, IsProgramOf, HasItsFile};
+ghost use Rattle.et_link.specs.Declaring.{HasItsFile};
+ghost use Rattle.et_top.specs.Loaded.{IsLinked, IsProgramOf};
 ghost use Rattle.et_top.specs.Told.{Tells, IsReading, IsFileRefusal, IsOfBytes, cause_of, status_of_result};
 ghost use Rattle.et_top.specs.Top.{Traces, Gives, status_of_end};
 
@@ -22,33 +20,25 @@ use et_base::{End, MethodId, Steps};
 use et_class::ClassFile;
 use et_io::{Files, Sink};
 use et_link::laws::{answers_are_one, files_are_classes};
-use et_link::{LinkFault, link};
-use et_linked::begin_laws::first_state_is_sound;
-use et_linked::promise_laws::{files_keep_rules, programs_may_run};
-use et_program::{MethodInfo, Program};
-use et_run::{NamedProgram, run_program};
+use et_link::{LinkFault, MethodInfo, Program, link};
 use et_state::Options;
 use std::alloc::Global;
 use std::sync::ledger::Ledger;
 
 /// The program of the classes, where they link (JVMS 5.3, 5.4).
-fn program<'a>(alloc: Global, classes: Vec<ClassFile>) -> Result<NamedProgram, Refusal<'a>>
+fn program<'a>(alloc: Global, classes: Vec<ClassFile>) -> Result<Program, Refusal<'a>>
     requires some { 0 < length classes.items }
     requires parts { All HasItsParts classes.items }
     requires of_files { All HasItsFile classes.items }
     ensures tells { (program : Result Linked Fault) →
         IsLinked (Ok (map class_of classes.items)) program → Tells ⊥ (λ p. p) program result }
-    ensures runnable { IfOk result (λ p. IsRunnable p) }
-    ensures start { IfOk result (λ p. IsSoundFor p (start p)) }
     ensures bytes { IfErr result (λ refusal. IsOfBytes (cause_of refusal)) }
 {
+    // Laws: they tell the prover, and do nothing.
     files_are_classes();
     answers_are_one();
-    files_keep_rules();
-    programs_may_run();
-    first_state_is_sound();
     match link(alloc, classes) {
-        Ok(program) => Ok(NamedProgram::of(program)),
+        Ok(program) => Ok(program),
         Err(LinkFault::At { kind, class }) => Err(Refusal::LinkFault { kind, class }),
         Err(LinkFault::NoMemory) => Err(Refusal::NoMemory),
     }
@@ -59,14 +49,12 @@ pub fn load_program<'a, F: Files>(
     alloc: Global,
     paths: &'a [String],
     files: &mut F,
-) -> Result<NamedProgram, Refusal<'a>>
+) -> Result<Program, Refusal<'a>>
     requires some { 0 < length paths.now }
     ensures tells { (held : Held) →
         F.holds files.old ≡ Some held → (program : Result Linked Fault) →
         IsProgramOf (map held (map string_bytes paths.now)) program →
         Tells (Rose (F.faults files.old) (F.faults files.new)) (λ p. p) program result }
-    ensures runnable { IfOk result (λ p. IsRunnable p) }
-    ensures start { IfOk result (λ p. IsSoundFor p (start p)) }
     ensures fault { IfErr result
         (λ refusal. IsReading (cause_of refusal) → Rose (F.faults files.old) (F.faults files.new)) }
     ensures file { IfErr result (λ refusal. IsFileRefusal (cause_of refusal)) }
@@ -114,15 +102,13 @@ fn ended(program: &Program, end: End) -> Result<(), Refusal<'_>>
 /// The history of the program, whose trace goes to out.
 pub fn run<O: Sink, E: Sink, L: Ledger>(
     alloc: Global,
-    program: &NamedProgram,
+    program: &Program,
     options: &Options,
     out: &mut O,
     err: &mut E,
     visits: &mut Steps<L>,
 ) -> Status
     requires options { AreOptions options.now }
-    requires runnable { IsRunnable program.now }
-    requires start { IsSoundFor program.now (start program.now) }
     ensures gives { (reached : Graph → ℕ → Bool) →
         Decides reached → Gives reached (O.taken out.old) (O.taken out.new) visits.old visits.new ⊥
         (Rose (O.faults out.old) (O.faults out.new)) (Traces program.now options.now) result }
@@ -130,8 +116,8 @@ pub fn run<O: Sink, E: Sink, L: Ledger>(
         × (result ≡ Status.Usage → ⊥) × (result ≡ Status.ReadFault → ⊥) }
     ensures never_falls { O.faults out.old ≤ O.faults out.new }
 {
-    match run_program(alloc, program, options, out, visits) {
-        Ok(ran) => match ended(program.program(), ran.end) {
+    match et_run::run(alloc, program, options, out, visits) {
+        Ok(ran) => match ended(program, ran.end) {
             Ok(()) => Status::Done,
             Err(refusal) => refuse(alloc, err, &refusal),
         },

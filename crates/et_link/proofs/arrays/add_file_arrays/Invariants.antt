@@ -1,7 +1,7 @@
 use Rattle.std.proofs.Common.{◌≡◌, ◌++◌, map, take}
 use Rattle.std.specs.List.{flat_map}
-use Rattle.et_link.specs.Loaded.{LoadedMember, loaded_member}
-use Rattle.et_link.specs.ArrayTypes.{made_in_method}
+use Rattle.et_program.specs.Loaded.{LoadedMember, loaded_member}
+use Rattle.et_program.specs.ArrayTypes.{made_in_method}
 use Rattle.et_link.proofs.arrays.add_file_arrays.Given as goal
 
 abbrev pub invariant-loop-method : goal.invariant-loop-method

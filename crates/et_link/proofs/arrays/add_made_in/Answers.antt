@@ -3,8 +3,8 @@ use Rattle.std.proofs.lemmas.List.{take_all}
 use Rattle.et_code.specs.Rules.{flag}
 use Rattle.et_code.specs.Decoding.{instruction_at}
 use Rattle.et_code.specs.Starts.{is_start}
-use Rattle.et_link.specs.MembersOf.{numbered}
-use Rattle.et_link.specs.ArrayTypes.{made_if}
+use Rattle.et_program.specs.MembersOf.{numbered}
+use Rattle.et_program.specs.ArrayTypes.{made_if}
 use Rattle.et_link.proofs.Lists.{numbered_more, pieces}
 use Rattle.et_link.proofs.arrays.add_made_in.Goals as goal
 

@@ -1,8 +1,8 @@
 use Rattle.std.proofs.Common.{◌≡◌, ◌++◌, [], take, if◌then◌else◌}
 use Rattle.et_code.specs.Decoding.{instruction_at}
 use Rattle.et_code.specs.Starts.{is_start}
-use Rattle.et_link.specs.MembersOf.{numbered}
-use Rattle.et_link.specs.ArrayTypes.{made_if}
+use Rattle.et_program.specs.MembersOf.{numbered}
+use Rattle.et_program.specs.ArrayTypes.{made_if}
 use Rattle.et_link.proofs.arrays.add_made_in.Given as goal
 
 abbrev pub invariant-loop-pc : goal.invariant-loop-pc

@@ -3,7 +3,7 @@ use Rattle.std.specs.Option.{option_to_list}
 use Rattle.et_pool.specs.Entries.{Item}
 use Rattle.et_pool.specs.Looks.{named_by}
 use Rattle.et_pool.specs.declared.tags.TheConstants.{CLASS}
-use Rattle.et_link.specs.ArrayTypes.{if_array}
+use Rattle.et_program.specs.ArrayTypes.{if_array}
 use Rattle.et_link.proofs.Lists.{filter_map_more, pieces}
 use Rattle.et_link.proofs.arrays.add_named.Goals as goal
 

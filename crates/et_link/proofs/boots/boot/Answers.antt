@@ -1,4 +1,4 @@
-use Rattle.et_link.specs.Files.{boots}
+use Rattle.et_program.specs.Files.{boots}
 use Rattle.et_link.proofs.boots.boot.Goals as goal
 
 pub boot_class-requires : goal.boot_class-requires

@@ -1,5 +1,5 @@
 use Rattle.std.proofs.Common.{arith}
-use Rattle.et_link.specs.Files.{boots}
+use Rattle.et_program.specs.Files.{boots}
 use Rattle.et_link.proofs.boots.boots.Goals as goal
 
 pub returns-clause-count : goal.returns-clause-count

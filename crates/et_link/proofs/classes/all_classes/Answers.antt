@@ -1,8 +1,8 @@
 use Rattle.std.proofs.Common.{◌≡◌, ◌∙◌, ◌+◌, ◌++◌, ◌∷◌, [], ℕ, List, ap, length, get_or, arith}
 use Rattle.et_hierarchy.specs.Outline.{Outline}
 use Rattle.et_program.specs.Entries.{ClassEntry}
-use Rattle.et_link.specs.MembersOf.{numbered}
-use Rattle.et_link.specs.Classes.{set_class, array_class}
+use Rattle.et_program.specs.MembersOf.{numbered}
+use Rattle.et_program.specs.Classes.{set_class, array_class}
 use Rattle.et_link.specs.Known.{heads_in}
 use Rattle.et_link.proofs.Lists.{numbered_more, pieces}
 use Rattle.et_link.proofs.classes.all_classes.Goals as goal

@@ -1,8 +1,8 @@
 use Rattle.std.proofs.Common.{◌∙◌, ◌++◌, ◌∷◌, [], ℕ, ap, sym, take, arith}
 use Rattle.et_hierarchy.specs.Outline.{Outline}
 use Rattle.et_program.specs.Entries.{ClassEntry}
-use Rattle.et_link.specs.MembersOf.{numbered}
-use Rattle.et_link.specs.Classes.{set_class}
+use Rattle.et_program.specs.MembersOf.{numbered}
+use Rattle.et_program.specs.Classes.{set_class}
 use Rattle.et_link.specs.Known.{heads_in}
 use Rattle.et_link.proofs.Lists.{numbered_more}
 use Rattle.et_link.proofs.classes.set_classes.Goals as goal

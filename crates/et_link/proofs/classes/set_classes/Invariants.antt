@@ -1,6 +1,6 @@
 use Rattle.std.proofs.Common.{◌≡◌, ◌∷◌, [], take}
-use Rattle.et_link.specs.MembersOf.{numbered}
-use Rattle.et_link.specs.Classes.{set_class}
+use Rattle.et_program.specs.MembersOf.{numbered}
+use Rattle.et_program.specs.Classes.{set_class}
 use Rattle.et_link.specs.Known.{heads_in}
 use Rattle.et_link.proofs.classes.set_classes.Given as goal
 

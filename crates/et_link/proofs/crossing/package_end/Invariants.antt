@@ -1,6 +1,6 @@
 use Rattle.std.proofs.Common.{◌≡◌, ◌+◌, ◌==◌, drop}
-use Rattle.et_link.specs.Slots.{places_from}
-use Rattle.et_link.specs.LinkFaults.{last_or}
+use Rattle.et_program.specs.Slots.{places_from}
+use Rattle.et_program.specs.LinkFaults.{last_or}
 use Rattle.et_link.proofs.crossing.package_end.Given as goal
 
 abbrev pub invariant-loop-i : goal.invariant-loop-i

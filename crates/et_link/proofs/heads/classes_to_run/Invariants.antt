@@ -1,6 +1,6 @@
 use Rattle.std.proofs.Common.{◌≡◌, ℕ, false, length, take}
 use Rattle.std.specs.List.{slice_index_or}
-use Rattle.et_link.specs.Heads.{has_to_run}
+use Rattle.et_program.specs.Heads.{has_to_run}
 use Rattle.et_link.proofs.heads.classes_to_run.Given as goal
 
 abbrev pub invariant-loop-method : goal.invariant-loop-method

@@ -1,8 +1,8 @@
 use Rattle.std.proofs.Common.{◌≡◌, ℕ, ◌<◌, ◌++◌, [], ◌==◌, ◌&&◌, length, drop}
 use Rattle.std.specs.List.{slice_index_or}
 use Rattle.et_program.specs.declared.info.FieldInfo.{FieldInfo}
-use Rattle.et_link.specs.Slots.{places_from}
-use Rattle.et_link.specs.Heads.{has_constant, constants_of}
+use Rattle.et_program.specs.Slots.{places_from}
+use Rattle.et_program.specs.Heads.{has_constant, constants_of}
 use Rattle.et_link.proofs.heads.constants.Given as goal
 
 abbrev pub invariant-loop-i : goal.invariant-loop-i

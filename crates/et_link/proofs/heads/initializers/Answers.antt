@@ -3,7 +3,7 @@ use Rattle.std.specs.List.{slice_index_or}
 use Rattle.std.specs.Option.{option_or}
 use Rattle.et_program.specs.declared.info.MethodInfo.{MethodInfo}
 use Rattle.et_program.proofs.IndexLemmas.{position_step}
-use Rattle.et_link.specs.Heads.{is_initializer}
+use Rattle.et_program.specs.Heads.{is_initializer}
 use Rattle.et_link.proofs.heads.initializers.Goals as goal
 
 pub loop-i-preserved : goal.loop-i-preserved

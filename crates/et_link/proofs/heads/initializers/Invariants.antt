@@ -1,6 +1,6 @@
 use Rattle.std.proofs.Common.{◌≡◌, ℕ, ◌<◌, None, length, take}
 use Rattle.std.specs.List.{slice_index_or}
-use Rattle.et_link.specs.Heads.{initializer_of}
+use Rattle.et_program.specs.Heads.{initializer_of}
 use Rattle.et_link.proofs.heads.initializers.Given as goal
 
 abbrev pub invariant-loop-i : goal.invariant-loop-i

@@ -2,8 +2,8 @@ use Rattle.std.proofs.Common.{◌∙◌, ap, ℕ, List, []}
 use Rattle.std.specs.List.{slice_index_or}
 use Rattle.et_program.specs.declared.info.FieldInfo.{FieldInfo}
 use Rattle.et_program.specs.declared.info.MethodInfo.{MethodInfo}
-use Rattle.et_link.specs.Slots.{placed_behind, places_from, is_static_field}
-use Rattle.et_link.specs.ProgramOf.{is_of_file}
+use Rattle.et_program.specs.Slots.{placed_behind, places_from, is_static_field}
+use Rattle.et_program.specs.ProgramOf.{is_of_file}
 use Rattle.et_link.proofs.LinkingLemmas.{parts_are}
 use Rattle.et_link.proofs.linking.assemble.Goals as goal
 

@@ -3,10 +3,10 @@ use Rattle.et_hierarchy.specs.Links.{LinkEntry, links}
 use Rattle.et_hierarchy.specs.Faults.{IsFaultless}
 use Rattle.et_hierarchy.specs.Ancestry.{IsAncestry}
 use Rattle.et_hierarchy.proofs.LinkLemmas.{table_within}
-use Rattle.et_link.specs.Loaded.{loaded_file}
-use Rattle.et_link.specs.Files.{set_of, flags_of}
-use Rattle.et_link.specs.MembersOf.{fields_of}
-use Rattle.et_link.specs.ArrayTypes.{arrays_met}
+use Rattle.et_program.specs.Loaded.{loaded_file}
+use Rattle.et_program.specs.Files.{set_of, flags_of}
+use Rattle.et_program.specs.MembersOf.{fields_of}
+use Rattle.et_program.specs.ArrayTypes.{arrays_met}
 use Rattle.et_link.proofs.LinkingLemmas.{set_refused, acyclic_along, rows_within}
 use Rattle.et_link.proofs.linking.declare.Goals as goal
 

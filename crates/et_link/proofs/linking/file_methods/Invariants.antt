@@ -1,6 +1,6 @@
 use Rattle.std.proofs.Common.{◌≡◌, ◌++◌, drop}
-use Rattle.et_link.specs.Slots.{places_from}
-use Rattle.et_link.specs.ProgramOf.{is_of_file}
+use Rattle.et_program.specs.Slots.{places_from}
+use Rattle.et_program.specs.ProgramOf.{is_of_file}
 use Rattle.et_link.proofs.linking.file_methods.Given as goal
 
 abbrev pub invariant-loop-i : goal.invariant-loop-i

@@ -1,6 +1,6 @@
 use Rattle.std.proofs.Common.{◌≡◌, ◌++◌, map, take}
 use Rattle.et_boot.specs.Shown.{shown_field}
-use Rattle.et_link.specs.MembersOf.{boot_field}
+use Rattle.et_program.specs.MembersOf.{boot_field}
 use Rattle.et_link.proofs.members.add_boot_fields.Given as goal
 
 abbrev pub invariant-loop-field : goal.invariant-loop-field

@@ -1,6 +1,6 @@
 use Rattle.std.proofs.Common.{◌≡◌, ◌++◌, map, take}
-use Rattle.et_link.specs.Loaded.{loaded_member}
-use Rattle.et_link.specs.MembersOf.{file_field}
+use Rattle.et_program.specs.Loaded.{loaded_member}
+use Rattle.et_program.specs.MembersOf.{file_field}
 use Rattle.et_link.proofs.members.add_file_fields.Given as goal
 
 abbrev pub invariant-loop-field : goal.invariant-loop-field

@@ -1,7 +1,7 @@
 use Rattle.std.proofs.Common.{◌≡◌, ◌++◌, length, map}
 use Rattle.std.specs.Vec.Iter.{into_iter_items, into_iter_len}
-use Rattle.et_link.specs.Loaded.{loaded_member}
-use Rattle.et_link.specs.MembersOf.{file_method}
+use Rattle.et_program.specs.Loaded.{loaded_member}
+use Rattle.et_program.specs.MembersOf.{file_method}
 use Rattle.et_link.proofs.members.add_file_methods.Given as goal
 
 abbrev pub invariant-loop-method : goal.invariant-loop-method

@@ -1,6 +1,6 @@
 use Rattle.std.proofs.Common.{◌≡◌, take}
-use Rattle.et_link.specs.Files.{boots}
-use Rattle.et_link.specs.MembersOf.{numbered, boot_fields}
+use Rattle.et_program.specs.Files.{boots}
+use Rattle.et_program.specs.MembersOf.{numbered, boot_fields}
 use Rattle.et_link.proofs.members.all_boot_fields.Given as goal
 
 abbrev pub invariant-classes : goal.invariant-classes

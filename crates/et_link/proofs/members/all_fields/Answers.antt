@@ -1,7 +1,7 @@
 use Rattle.std.proofs.Common.{◌≡◌, sym, ◌∙◌, ap, ◌++◌, ◌+◌, length, arith, append_assoc}
-use Rattle.et_link.specs.Loaded.{loaded_file}
-use Rattle.et_link.specs.Files.{boots}
-use Rattle.et_link.specs.MembersOf.{boot_fields, file_fields, numbered}
+use Rattle.et_program.specs.Loaded.{loaded_file}
+use Rattle.et_program.specs.Files.{boots}
+use Rattle.et_program.specs.MembersOf.{boot_fields, file_fields, numbered}
 use Rattle.et_link.proofs.Lists.{numbered_more_of}
 use Rattle.et_link.proofs.members.all_fields.Goals as goal
 

@@ -1,7 +1,7 @@
 use Rattle.std.proofs.Common.{◌≡◌, ◌++◌, length, map, take}
-use Rattle.et_link.specs.Loaded.{loaded_file}
-use Rattle.et_link.specs.Files.{boots}
-use Rattle.et_link.specs.MembersOf.{numbered, boot_fields, file_fields}
+use Rattle.et_program.specs.Loaded.{loaded_file}
+use Rattle.et_program.specs.Files.{boots}
+use Rattle.et_program.specs.MembersOf.{numbered, boot_fields, file_fields}
 use Rattle.et_link.proofs.members.all_fields.Given as goal
 
 abbrev pub invariant-loop-i : goal.invariant-loop-i

@@ -1,8 +1,8 @@
 use Rattle.std.proofs.Common.{◌≡◌, ◌∷◌, sym, ◌∙◌, ap, ◌++◌, ◌+◌, length, append_assoc, arith}
 use Rattle.std.specs.Vec.Iter.{into_iter_items}
-use Rattle.et_link.specs.Loaded.{loaded_file}
-use Rattle.et_link.specs.Files.{boots}
-use Rattle.et_link.specs.MembersOf.{file_methods, file_pool}
+use Rattle.et_program.specs.Loaded.{loaded_file}
+use Rattle.et_program.specs.Files.{boots}
+use Rattle.et_program.specs.MembersOf.{file_methods, file_pool}
 use Rattle.et_link.proofs.Lists.{taken_more, length-push, numbered_push_of, map_push_of}
 use Rattle.et_link.proofs.members.all_members.Goals as goal
 

@@ -1,8 +1,8 @@
 use Rattle.std.proofs.Common.{◌≡◌, ◌+◌, ◌++◌, length, map}
 use Rattle.std.specs.Vec.Iter.{into_iter_items, into_iter_len}
-use Rattle.et_link.specs.Loaded.{loaded_file}
-use Rattle.et_link.specs.Files.{boots}
-use Rattle.et_link.specs.MembersOf.{numbered, file_methods, file_pool}
+use Rattle.et_program.specs.Loaded.{loaded_file}
+use Rattle.et_program.specs.Files.{boots}
+use Rattle.et_program.specs.MembersOf.{numbered, file_methods, file_pool}
 use Rattle.et_link.proofs.members.all_members.Given as goal
 
 abbrev pub invariant-loop-file : goal.invariant-loop-file

@@ -1,8 +1,8 @@
 use Rattle.std.proofs.Common.{sym, ◌∙◌, ap, ◌++◌, arith}
 use Rattle.et_boot.specs.Classes.{no_boot_class}
 use Rattle.et_boot.specs.Shown.{shown}
-use Rattle.et_link.specs.Files.{boots}
-use Rattle.et_link.specs.MembersOf.{boot_methods}
+use Rattle.et_program.specs.Files.{boots}
+use Rattle.et_program.specs.MembersOf.{boot_methods}
 use Rattle.et_link.proofs.Lists.{numbered_more, boot_pools_more}
 use Rattle.et_link.proofs.members.boot_members.Goals as goal
 

@@ -1,5 +1,5 @@
 use Rattle.std.proofs.Common.{◌≡◌, ◌≤◌, ◌-◌, length, drop}
-use Rattle.et_link.specs.ArrayTypes.{with_elements, names_added}
+use Rattle.et_program.specs.ArrayTypes.{with_elements, names_added}
 use Rattle.et_link.specs.Naming.{IsIndexFrom}
 use Rattle.et_link.proofs.names.add_with_elements.Given as goal
 

@@ -1,6 +1,6 @@
 use Rattle.std.proofs.Common.{◌∙◌, ap, sym, arith, List, ℕ, [], cond, take}
 use Rattle.et_program.specs.Indices.{number_of}
-use Rattle.et_link.specs.ArrayTypes.{with_elements, is_known, names_added, array_names}
+use Rattle.et_program.specs.ArrayTypes.{with_elements, is_known, names_added, array_names}
 use Rattle.et_link.proofs.NameLemmas.{names_more}
 use Rattle.et_link.proofs.names.array_names.Goals as goal
 

@@ -1,6 +1,6 @@
 use Rattle.std.proofs.Common.{◌≡◌, take}
 use Rattle.et_program.specs.Indices.{number_of}
-use Rattle.et_link.specs.ArrayTypes.{array_names}
+use Rattle.et_program.specs.ArrayTypes.{array_names}
 use Rattle.et_link.specs.Naming.{IsIndexFrom}
 use Rattle.et_link.proofs.names.array_names.Given as goal
 

@@ -1,6 +1,6 @@
 use Rattle.std.proofs.Common.{◌≡◌, map, take}
 use Rattle.et_boot.specs.Classes.{BootClassOf}
-use Rattle.et_link.specs.Files.{boots}
+use Rattle.et_program.specs.Files.{boots}
 use Rattle.et_link.proofs.outlines.boot_flags.Given as goal
 
 abbrev pub invariant-classes : goal.invariant-classes

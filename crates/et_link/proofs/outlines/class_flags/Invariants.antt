@@ -1,7 +1,7 @@
 use Rattle.std.proofs.Common.{◌≡◌, ◌++◌, map, take}
 use Rattle.et_boot.specs.Classes.{BootClassOf}
-use Rattle.et_link.specs.Loaded.{LoadedClass, loaded_file}
-use Rattle.et_link.specs.Files.{boots}
+use Rattle.et_program.specs.Loaded.{LoadedClass, loaded_file}
+use Rattle.et_program.specs.Files.{boots}
 use Rattle.et_link.proofs.outlines.class_flags.Given as goal
 
 abbrev pub invariant-loop-file : goal.invariant-loop-file

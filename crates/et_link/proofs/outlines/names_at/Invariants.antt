@@ -1,5 +1,5 @@
 use Rattle.std.proofs.Common.{◌≡◌, map, take}
-use Rattle.et_link.specs.Files.{name_of}
+use Rattle.et_program.specs.Files.{name_of}
 use Rattle.et_link.proofs.outlines.names_at.Given as goal
 
 abbrev pub invariant-loop-index : goal.invariant-loop-index

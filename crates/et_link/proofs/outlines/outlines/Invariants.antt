@@ -1,6 +1,6 @@
 use Rattle.std.proofs.Common.{◌≡◌, ◌++◌, map, take}
-use Rattle.et_link.specs.Loaded.{loaded_file}
-use Rattle.et_link.specs.Files.{boots, boot_outline, file_outline}
+use Rattle.et_program.specs.Loaded.{loaded_file}
+use Rattle.et_program.specs.Files.{boots, boot_outline, file_outline}
 use Rattle.et_link.proofs.outlines.outlines.Given as goal
 
 abbrev pub invariant-loop-file : goal.invariant-loop-file

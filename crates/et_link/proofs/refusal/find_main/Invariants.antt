@@ -1,6 +1,6 @@
 use Rattle.std.proofs.Common.{◌≡◌, drop}
 use Rattle.std.specs.List.{position_from}
-use Rattle.et_link.specs.ProgramOf.{is_main, main_of}
+use Rattle.et_program.specs.ProgramOf.{is_main, main_of}
 use Rattle.et_link.proofs.refusal.find_main.Given as goal
 
 abbrev pub invariant-loop-i : goal.invariant-loop-i

@@ -1,6 +1,6 @@
 use Rattle.std.proofs.Common.{◌≡◌, ℕ, ◌<◌, [], length}
 use Rattle.std.specs.List.{slice_index_or}
-use Rattle.et_link.specs.Slots.{own_slots}
+use Rattle.et_program.specs.Slots.{own_slots}
 use Rattle.et_link.proofs.slots.boot_slots.Given as goal
 
 abbrev pub invariant-classes : goal.invariant-classes

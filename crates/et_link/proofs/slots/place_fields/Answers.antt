@@ -2,7 +2,7 @@ use Rattle.std.proofs.Common.{◌≡◌, ◌++◌, ◌∷◌, [], ◌∙◌, ap,
 use Rattle.std.specs.List.{slice_index_or}
 use Rattle.std.specs.Vec.Iter.{into_iter_items}
 use Rattle.et_program.specs.declared.info.FieldInfo.{FieldInfo}
-use Rattle.et_link.specs.Slots.{placed_behind}
+use Rattle.et_program.specs.Slots.{placed_behind}
 use Rattle.et_link.proofs.Lists.{taken_more}
 use Rattle.et_link.proofs.SlotLemmas.{placed_push}
 use Rattle.et_link.proofs.slots.place_fields.Goals as goal

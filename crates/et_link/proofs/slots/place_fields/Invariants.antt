@@ -1,7 +1,7 @@
 use Rattle.std.proofs.Common.{◌≡◌, ◌++◌, length, []}
 use Rattle.std.specs.List.{slice_index_or}
 use Rattle.std.specs.Vec.Iter.{into_iter_items, into_iter_len}
-use Rattle.et_link.specs.Slots.{placed_behind}
+use Rattle.et_program.specs.Slots.{placed_behind}
 use Rattle.et_link.specs.Counts.{Counts}
 use Rattle.et_link.proofs.slots.place_fields.Given as goal
 

@@ -1,5 +1,5 @@
 use Rattle.std.proofs.Common.{◌≡◌, ◌++◌, drop}
-use Rattle.et_link.specs.Slots.{is_static_field, places_from}
+use Rattle.et_program.specs.Slots.{is_static_field, places_from}
 use Rattle.et_link.proofs.slots.static_fields.Given as goal
 
 abbrev pub invariant-loop-i : goal.invariant-loop-i

@@ -3,7 +3,7 @@ use Rattle.std.proofs.lemmas.List.{map-append}
 use Rattle.std.proofs.lemmas.List.Elements.{All-same, All-push}
 use Rattle.et_class.specs.Layout.{ClassOf}
 use Rattle.et_class.specs.Classes.{class_of, HasItsParts}
-use Rattle.et_top.specs.Loaded.{HasItsFile}
+use Rattle.et_link.specs.Declaring.{HasItsFile}
 use Rattle.et_top.specs.Told.{cause_of}
 use Rattle.et_top.proofs.Found.{AreBehind, behind_refused, next_behind, next_path}
 use Rattle.et_top.proofs.load_classes.load_classes.Goals as goal

@@ -4,7 +4,8 @@ use Rattle.et_io.specs.Files.{Held}
 use Rattle.et_class.specs.Layout.{ClassOf}
 use Rattle.et_class.specs.Classes.{class_of, HasItsParts}
 use Rattle.et_top.specs.Faults.{Fault}
-use Rattle.et_top.specs.Loaded.{AreClassesOf, HasItsFile}
+use Rattle.et_link.specs.Declaring.{HasItsFile}
+use Rattle.et_top.specs.Loaded.{AreClassesOf}
 use Rattle.et_top.proofs.Found.{AreBehind}
 use Rattle.et_top.proofs.load_classes.load_classes.Given as goal
 

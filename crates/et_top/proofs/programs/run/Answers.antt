@@ -8,12 +8,12 @@ use Rattle.et_top.proofs.programs.run.Goals as goal
 
 pub returns-in-Ok-ended-clause-gives : goal.returns-in-Ok-ended-clause-gives
 returns-in-Ok-ended-clause-gives g c reached decides =
-    history_gives reached (g.O.Sink.taken c.args.out.now) (g.O.Sink.taken c.run_program.new.sink) c.args.visits.now c.run_program.new.visits ⊥ (Rose (g.O.Sink.faults c.args.out.now) (g.O.Sink.faults c.run_program.new.sink)) c.args.program.now c.args.options.now c.in-Ok.ran status.Done c.in-Ok-ended.ensures (c.in-Ok.ensures.trace reached decides) (c.in-Ok.ensures.visits reached decides)
+    history_gives reached (g.O.Sink.taken c.args.out.now) (g.O.Sink.taken c.run.new.sink) c.args.visits.now c.run.new.visits ⊥ (Rose (g.O.Sink.faults c.args.out.now) (g.O.Sink.faults c.run.new.sink)) c.args.program.now c.args.options.now c.in-Ok.ran status.Done c.in-Ok-ended.ensures (c.in-Ok.ensures.trace reached decides) (c.in-Ok.ensures.visits reached decides)
 
 pub returns-in-Err-ended-clause-gives : goal.returns-in-Err-ended-clause-gives
 returns-in-Err-ended-clause-gives g c reached decides =
-    history_gives reached (g.O.Sink.taken c.args.out.now) (g.O.Sink.taken c.run_program.new.sink) c.args.visits.now c.run_program.new.visits ⊥ (Rose (g.O.Sink.faults c.args.out.now) (g.O.Sink.faults c.run_program.new.sink)) c.args.program.now c.args.options.now c.in-Ok.ran c.refuse.result (c.refuse.ensures ∙ c.in-Err-ended.ensures) (c.in-Ok.ensures.trace reached decides) (c.in-Ok.ensures.visits reached decides)
+    history_gives reached (g.O.Sink.taken c.args.out.now) (g.O.Sink.taken c.run.new.sink) c.args.visits.now c.run.new.visits ⊥ (Rose (g.O.Sink.faults c.args.out.now) (g.O.Sink.faults c.run.new.sink)) c.args.program.now c.args.options.now c.in-Ok.ran c.refuse.result (c.refuse.ensures ∙ c.in-Err-ended.ensures) (c.in-Ok.ensures.trace reached decides) (c.in-Ok.ensures.visits reached decides)
 
 pub returns-in-Err-clause-gives : goal.returns-in-Err-clause-gives
 returns-in-Err-clause-gives g c reached decides =
-    front_gives reached (g.O.Sink.taken c.args.out.now) (g.O.Sink.taken c.run_program.new.sink) c.args.visits.now c.run_program.new.visits ⊥ (Rose (g.O.Sink.faults c.args.out.now) (g.O.Sink.faults c.run_program.new.sink)) c.args.program.now c.args.options.now c.in-Err.fault c.refuse-in-Err.result (c.refuse-in-Err.ensures ∙ ap status_of c.of_fault.ensures) (c.in-Err.ensures.prefix reached decides) (λ e. c.in-Err.ensures.write (ap (λ (f : RunFault). Err f) e))
+    front_gives reached (g.O.Sink.taken c.args.out.now) (g.O.Sink.taken c.run.new.sink) c.args.visits.now c.run.new.visits ⊥ (Rose (g.O.Sink.faults c.args.out.now) (g.O.Sink.faults c.run.new.sink)) c.args.program.now c.args.options.now c.in-Err.fault c.refuse-in-Err.result (c.refuse-in-Err.ensures ∙ ap status_of c.of_fault.ensures) (c.in-Err.ensures.prefix reached decides) (λ e. c.in-Err.ensures.write (ap (λ (f : RunFault). Err f) e))

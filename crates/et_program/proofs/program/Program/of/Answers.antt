@@ -10,21 +10,28 @@ use Rattle.et_program.proofs.program.Program.of.Goals as goal
 pub invariant_of-result : goal.invariant_of-result
 invariant_of-result c = (
   record {
-    classes = c.requires.classes;
-    infos = c.requires.infos;
-    methods = c.requires.methods;
-    fields = c.requires.fields;
-    statics = c.requires.statics;
-    file_methods = c.requires.file_methods;
-    main = c.requires.main;
-    few_classes = c.requires.few_classes;
-    few_methods = c.requires.few_methods;
-    few_fields = c.requires.few_fields;
+    classes = c.requires.tabled.classes;
+    infos = c.requires.tabled.infos;
+    methods = c.requires.tabled.methods;
+    fields = c.requires.tabled.fields;
+    statics = c.requires.tabled.statics;
+    file_methods = c.requires.tabled.file_methods;
+    main = c.requires.tabled.main;
+    few_classes = c.requires.tabled.few_classes;
+    few_methods = c.requires.tabled.few_methods;
+    few_fields = c.requires.tabled.few_fields;
   },
   record {
     classes_found = λ name. c.in_ok-places.ensures name ∙ ap (λ (xs : List ClassEntry). position_from (λ (x : ClassEntry). bytes_eq name x.info.name) 0 xs) c.as_slice.ensures.value;
     methods_found = λ name descriptor k. c.in_ok-method_places.ensures name descriptor k ∙ ap (λ (xs : List MethodInfo). position_from (is_method name descriptor k) 0 xs) c.as_slice-methods.ensures.value;
     fields_found = λ name descriptor k. c.in_ok-field_places.ensures name descriptor k ∙ ap (λ (xs : List FieldInfo). position_from (is_field name descriptor k) 0 xs) c.as_slice-fields.ensures.value;
     base_arrays_found = λ kind lt. c.in_ok-base_arrays.ensures kind lt ∙ ap (λ (xs : List ClassEntry). position_from (λ (x : ClassEntry). is_base_array kind x.info.element) 0 xs) c.as_slice-2.ensures.value;
+  },
+  record {
+    classes = c.requires.linked.classes;
+    some = c.requires.linked.some;
+    of_files = c.requires.linked.of_files;
+    linkable = c.requires.linked.linkable;
+    program = c.requires.linked.program;
   },
 )

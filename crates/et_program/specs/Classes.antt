@@ -9,7 +9,7 @@ use Rattle.et_hierarchy.specs.Initialization.{interfaces_to_run, init_order}
 use Rattle.et_program.specs.declared.info.Element.TheVariants.{NoArray}
 use Rattle.et_program.specs.declared.kind.Leaf.TheVariants.{Class}
 use Rattle.et_program.specs.Entries.{ClassEntry}
-use Rattle.et_link.specs.ArrayTypes.{array_over, element_of, kind_of}
+use Rattle.et_program.specs.ArrayTypes.{array_over, element_of, kind_of}
 
 -- what is known of all classes
 pub record Heads : Type 0 where

@@ -6,7 +6,7 @@ use Rattle.et_class.specs.Names.{has}
 use Rattle.et_class.specs.declared.flags.TheConstants.{INTERFACE, FINAL}
 use Rattle.et_boot.specs.Classes.{BootClassOf, boot_classes}
 use Rattle.et_hierarchy.specs.Outline.{Outline}
-use Rattle.et_link.specs.Loaded.{LoadedClass}
+use Rattle.et_program.specs.Loaded.{LoadedClass}
 
 -- the built-in classes
 unfoldable pub boots : List BootClassOf

@@ -21,8 +21,8 @@ use Rattle.et_program.specs.declared.info.Element.TheVariants as element
 use Rattle.et_program.specs.declared.kind.Leaf.{Leaf}
 use Rattle.et_program.specs.declared.kind.Leaf.TheVariants.{Base, Class}
 use Rattle.et_program.specs.declared.kind.Kind.{Kind}
-use Rattle.et_link.specs.Loaded.{LoadedMember, LoadedClass}
-use Rattle.et_link.specs.MembersOf.{numbered}
+use Rattle.et_program.specs.Loaded.{LoadedMember, LoadedClass}
+use Rattle.et_program.specs.MembersOf.{numbered}
 
 -- NAMES
 

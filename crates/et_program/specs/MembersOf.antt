@@ -7,8 +7,8 @@ use Rattle.et_code.specs.Bodies.{Body}
 use Rattle.et_boot.specs.Classes.{BootClassOf, BootFieldOf, BootMethodOf, BootCodeOf}
 use Rattle.et_program.specs.declared.info.MethodInfo.{MethodInfo}
 use Rattle.et_program.specs.declared.info.FieldInfo.{FieldInfo}
-use Rattle.et_link.specs.Loaded.{LoadedMember, LoadedClass}
-use Rattle.et_link.specs.Files.{boots, or_empty}
+use Rattle.et_program.specs.Loaded.{LoadedMember, LoadedClass}
+use Rattle.et_program.specs.Files.{boots, or_empty}
 
 -- what the elements of a list give, each with its number, from a number on
 abbrev pub numbered : {X Y : Type 0} → (ℕ → X → List Y) → ℕ → List X → List Y

@@ -11,13 +11,13 @@ use Rattle.et_hierarchy.specs.Links.{links}
 use Rattle.et_hierarchy.specs.Ancestry.{Ancestry, IsAncestry}
 use Rattle.et_program.specs.declared.info.MethodInfo.{MethodInfo}
 use Rattle.et_program.specs.Entries.{ClassEntry, Linked}
-use Rattle.et_link.specs.Loaded.{LoadedClass}
-use Rattle.et_link.specs.Files.{boots, set_of, flags_of}
-use Rattle.et_link.specs.MembersOf.{numbered, methods_of, fields_of, HasPools}
-use Rattle.et_link.specs.Slots.{slots_of, placed, places_from, is_static_field}
-use Rattle.et_link.specs.Heads.{has_to_run, initializer_of, constants_of}
-use Rattle.et_link.specs.ArrayTypes.{arrays_met, array_names, array_at}
-use Rattle.et_link.specs.Classes.{Heads, set_class, array_class}
+use Rattle.et_program.specs.Loaded.{LoadedClass}
+use Rattle.et_program.specs.Files.{boots, set_of, flags_of}
+use Rattle.et_program.specs.MembersOf.{numbered, methods_of, fields_of, HasPools}
+use Rattle.et_program.specs.Slots.{slots_of, placed, places_from, is_static_field}
+use Rattle.et_program.specs.Heads.{has_to_run, initializer_of, constants_of}
+use Rattle.et_program.specs.ArrayTypes.{arrays_met, array_names, array_at}
+use Rattle.et_program.specs.Classes.{Heads, set_class, array_class}
 
 -- the names of the array classes
 abbrev pub names_of : List LoadedClass → List (List ℕ)

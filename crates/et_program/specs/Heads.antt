@@ -6,7 +6,7 @@ use Rattle.et_class.specs.Names.{has}
 use Rattle.et_class.specs.declared.flags.TheConstants.{STATIC, ABSTRACT}
 use Rattle.et_program.specs.declared.info.MethodInfo.{MethodInfo}
 use Rattle.et_program.specs.declared.info.FieldInfo.{FieldInfo}
-use Rattle.et_link.specs.Slots.{places_from}
+use Rattle.et_program.specs.Slots.{places_from}
 
 -- a method that makes its interface be initialized (5.5): it is neither abstract nor static, and isn't <clinit> itself
 abbrev pub runs : MethodInfo → Bool

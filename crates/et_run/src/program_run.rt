@@ -18,6 +18,8 @@ use crate::guest::ProgramGuest;
 use crate::named::NamedProgram;
 use et_base::{NoMemory, Steps};
 use et_io::{RunFault, Sink};
+use et_linked::begin_laws::first_state_is_sound;
+use et_linked::promise_laws::{files_keep_rules, programs_may_run};
 use et_loop::{Ran, run_guest};
 use et_program::Program;
 use et_state::{Lines, Machine, Options};
@@ -37,7 +39,7 @@ fn first(alloc: Global, program: &Program) -> Result<(Machine, Lines), NoMemory>
 /// The run of a machine that is in the first state of the program, with these records.
 fn run_from<O: Sink, L: Ledger>(
     alloc: Global,
-    code: &NamedProgram,
+    program: &Program,
     options: &Options,
     machine: Machine,
     made: &Lines,
@@ -45,25 +47,26 @@ fn run_from<O: Sink, L: Ledger>(
     visits: &mut Steps<L>,
 ) -> Result<Ran, RunFault>
     requires options { AreOptions options.now }
-    requires runnable { IsRunnable code.now }
-    requires sound { IsSoundFor code.now (start code.now) }
-    requires tabled { IsTabled code.now }
-    requires state { kept_of machine ≡ start code.now }
-    requires records { made.now ≡ start_records code.now }
+    requires runnable { IsRunnable program.now }
+    requires sound { IsSoundFor program.now (start program.now) }
+    requires tabled { IsTabled program.now }
+    requires state { kept_of machine ≡ start program.now }
+    requires records { made.now ≡ start_records program.now }
     ensures trace { (reached : Graph → ℕ → Bool) →
-        Decides reached → IfOk result (λ ran. WritesTrace reached (setting code.now options.now)
+        Decides reached → IfOk result (λ ran. WritesTrace reached (setting program.now options.now)
         (kept_of machine) made.now ran (O.taken sink.old) (O.taken sink.new)) }
     ensures prefix { (reached : Graph → ℕ → Bool) →
-        Decides reached → OnErr result (WritesPrefix reached (setting code.now options.now)
+        Decides reached → OnErr result (WritesPrefix reached (setting program.now options.now)
         (kept_of machine) made.now (O.taken sink.old) (O.taken sink.new)) }
     ensures visits { (reached : Graph → ℕ → Bool) →
         Decides reached → IfOk result (λ ran. visits.new ≤ visits.old + allowed_visits reached
-        (setting code.now options.now) flush_visits_of (kept_of machine) made.now ran.event) }
+        (setting program.now options.now) flush_visits_of (kept_of machine) made.now ran.event) }
     ensures write { IsErrOf result RunFault.Write → Rose (O.faults sink.old) (O.faults sink.new) }
     ensures never_falls { O.faults sink.old ≤ O.faults sink.new }
 {
+    let code = NamedProgram::of(program);
     let mut guest = ProgramGuest::of(machine);
-    run_guest(alloc, code, options, &mut guest, made, sink, visits)
+    run_guest(alloc, &code, options, &mut guest, made, sink, visits)
 }
 
 /// Runs a linked program from its first state, and writes the trace of its history to the sink. The machine keeps a stamp for
@@ -72,32 +75,34 @@ fn run_from<O: Sink, L: Ledger>(
 ///
 /// `Write` comes only where the sink's count of faults rose. After `Write` and after `NoMemory` the sink took a prefix of the
 /// trace.
-pub fn run_program<O: Sink, L: Ledger>(
+pub fn run<O: Sink, L: Ledger>(
     alloc: Global,
-    code: &NamedProgram,
+    program: &Program,
     options: &Options,
     sink: &mut O,
     visits: &mut Steps<L>,
 ) -> Result<Ran, RunFault>
     requires options { AreOptions options.now }
-    requires runnable { IsRunnable code.now }
-    requires start { IsSoundFor code.now (start code.now) }
     ensures trace { (reached : Graph → ℕ → Bool) →
-        Decides reached → IfOk result (λ ran. WritesTrace reached (setting code.now options.now)
-        (start code.now) (start_records code.now) ran (O.taken sink.old) (O.taken sink.new)) }
+        Decides reached → IfOk result (λ ran. WritesTrace reached (setting program.now options.now)
+        (start program.now) (start_records program.now) ran (O.taken sink.old) (O.taken sink.new)) }
     ensures prefix { (reached : Graph → ℕ → Bool) →
-        Decides reached → OnErr result (WritesPrefix reached (setting code.now options.now)
-        (start code.now) (start_records code.now) (O.taken sink.old) (O.taken sink.new)) }
+        Decides reached → OnErr result (WritesPrefix reached (setting program.now options.now)
+        (start program.now) (start_records program.now) (O.taken sink.old) (O.taken sink.new)) }
     ensures visits { (reached : Graph → ℕ → Bool) → Decides reached → IfOk result (λ ran. visits.new
-        ≤ visits.old + allowed_visits reached (setting code.now options.now) flush_visits_of
-        (start code.now) (start_records code.now) ran.event) }
+        ≤ visits.old + allowed_visits reached (setting program.now options.now) flush_visits_of
+        (start program.now) (start_records program.now) ran.event) }
     ensures write { IsErrOf result RunFault.Write → Rose (O.faults sink.old) (O.faults sink.new) }
     ensures never_falls { O.faults sink.old ≤ O.faults sink.new }
 {
-    let program = code.program();
+    // Laws: they tell the prover, and do nothing.
     program.names_what_it_has();
+    program.is_linked();
+    files_keep_rules();
+    programs_may_run();
+    first_state_is_sound();
     match first(alloc, program) {
-        Ok((machine, made)) => run_from(alloc, code, options, machine, &made, sink, visits),
+        Ok((machine, made)) => run_from(alloc, program, options, machine, &made, sink, visits),
         Err(_) => Err(RunFault::NoMemory),
     }
 }

@@ -7,7 +7,7 @@ use Rattle.et_class.specs.declared.flags.TheConstants.{STATIC}
 use Rattle.et_boot.specs.Classes.{no_boot_class}
 use Rattle.et_hierarchy.specs.Ancestry.{Ancestry, ancestry_at}
 use Rattle.et_program.specs.declared.info.FieldInfo.{FieldInfo}
-use Rattle.et_link.specs.Files.{boots}
+use Rattle.et_program.specs.Files.{boots}
 
 abbrev pub is_static_field : FieldInfo → Bool
 is_static_field f = has f.flags STATIC

@@ -11,15 +11,13 @@ use Rattle.et_hierarchy.specs.declared.fault.FaultKind.TheVariants as set
 use Rattle.et_program.specs.declared.info.MethodInfo.{MethodInfo}
 use Rattle.et_program.specs.Entries.{no_method}
 use Rattle.et_program.specs.Members.{is_method}
-use Rattle.et_link.specs.declared.fault.LinkFaultKind.{LinkFaultKind}
-use Rattle.et_link.specs.declared.fault.LinkFaultKind.TheVariants.{Duplicate, NoSuper, Cycle, FinalSuper, CrossPackage, NoMain, TooMany}
-use Rattle.et_link.specs.declared.fault.LinkFault.{LinkFault}
-use Rattle.et_link.specs.declared.fault.LinkFault.TheVariants as fault
-use Rattle.et_link.specs.Loaded.{LoadedClass}
-use Rattle.et_link.specs.Files.{boots, set_of}
-use Rattle.et_link.specs.MembersOf.{methods_of}
-use Rattle.et_link.specs.Slots.{places_from}
-use Rattle.et_link.specs.ProgramOf.{main_of}
+use Rattle.et_program.specs.declared.fault.LinkFaultKind.{LinkFaultKind}
+use Rattle.et_program.specs.declared.fault.LinkFaultKind.TheVariants.{Duplicate, NoSuper, Cycle, FinalSuper, CrossPackage, NoMain, TooMany}
+use Rattle.et_program.specs.Loaded.{LoadedClass}
+use Rattle.et_program.specs.Files.{boots, set_of}
+use Rattle.et_program.specs.MembersOf.{methods_of}
+use Rattle.et_program.specs.Slots.{places_from}
+use Rattle.et_program.specs.ProgramOf.{main_of}
 
 -- PACKAGES
 
@@ -105,8 +103,3 @@ pub record IsFaultAt (files : List LoadedClass) (kind : LinkFaultKind) (k : ℕ)
 -- no class shows anything
 abbrev pub IsLinkable : List LoadedClass → Type 0
 IsLinkable files = (kind : LinkFaultKind) → IsLinkFree files kind
-
--- a fault that is answered is that of the files, with the name of its class
-abbrev pub RefusesLink : List LoadedClass → LinkFault → Type 0
-RefusesLink files (fault.At kind name) = (k : ℕ) × IsFaultAt files kind k × (name ≡ (outline_at (set_of files) k).name)
-RefusesLink files fault.NoMemory = Unit {0}

@@ -1,0 +1,41 @@
+use Rattle.std.proofs.Common.{◌≡◌, ℕ, ◌+◌, ◌≤◌, List, [], sym, subst}
+use Rattle.std.specs.Prelude.{All, IfOk, OnErr}
+use Rattle.et_graph.specs.Graph.{nothing_made}
+use Rattle.et_program.specs.Entries.{Linked}
+use Rattle.et_state.specs.Roots.{graph_of}
+use Rattle.et_state.specs.State.{Kept, MachineState, kept_of}
+use Rattle.et_state.specs.declared.records.Record.{Record}
+use Rattle.et_state.specs.Naming.{IsNamed}
+use Rattle.et_loop.specs.Kept.{IsStepTo}
+use Rattle.et_loop.specs.Visits.{allowed_visits}
+use Rattle.et_loop.specs.Traced.{WritesTrace, WritesPrefix}
+use Rattle.et_run.specs.Guests.{flush_visits_of}
+use Rattle.et_run.specs.Histories.{setting}
+use Rattle.et_run.specs.Telling.{names_of}
+use Rattle.et_run.proofs.Starting.{first_step, records_named}
+use Rattle.et_run.proofs.program_run.run_from.Goals as goal
+
+pub run_guest-requires-clause-first : goal.run_guest-requires-clause-first
+run_guest-requires-clause-first g c =
+    subst (λ (m : MachineState). IsStepTo nothing_made (graph_of (kept_of m)) []) (sym c.of-guest.ensures)
+    (subst (λ (s : Kept). IsStepTo nothing_made (graph_of s) []) (sym c.requires.state) (first_step c.args.program.now))
+
+pub run_guest-requires-clause-named : goal.run_guest-requires-clause-named
+run_guest-requires-clause-named g c =
+    subst (λ (p : Linked). All (IsNamed (names_of p)) c.args.made.now) (sym c.of-code.ensures)
+    (subst (λ (rs : List Record). All (IsNamed (names_of c.args.program.now)) rs) (sym c.requires.records) (records_named c.args.program.now c.requires.tabled))
+
+pub returns-clause-trace : goal.returns-clause-trace
+returns-clause-trace g c reached decides =
+    subst (λ (p : Linked). IfOk c.run_guest.result (λ ran. WritesTrace reached (setting p c.args.options.now) (kept_of c.args.machine) c.args.made.now ran (g.O.Sink.taken c.args.sink.now) (g.O.Sink.taken c.run_guest.new.sink))) c.of-code.ensures
+    (subst (λ (m : MachineState). IfOk c.run_guest.result (λ ran. WritesTrace reached (setting c.of-code.result c.args.options.now) (kept_of m) c.args.made.now ran (g.O.Sink.taken c.args.sink.now) (g.O.Sink.taken c.run_guest.new.sink))) c.of-guest.ensures (c.run_guest.ensures.trace reached decides))
+
+pub returns-clause-prefix : goal.returns-clause-prefix
+returns-clause-prefix g c reached decides =
+    subst (λ (p : Linked). OnErr c.run_guest.result (WritesPrefix reached (setting p c.args.options.now) (kept_of c.args.machine) c.args.made.now (g.O.Sink.taken c.args.sink.now) (g.O.Sink.taken c.run_guest.new.sink))) c.of-code.ensures
+    (subst (λ (m : MachineState). OnErr c.run_guest.result (WritesPrefix reached (setting c.of-code.result c.args.options.now) (kept_of m) c.args.made.now (g.O.Sink.taken c.args.sink.now) (g.O.Sink.taken c.run_guest.new.sink))) c.of-guest.ensures (c.run_guest.ensures.prefix reached decides))
+
+pub returns-clause-visits : goal.returns-clause-visits
+returns-clause-visits g c reached decides =
+    subst (λ (p : Linked). IfOk c.run_guest.result (λ ran. c.run_guest.new.visits ≤ c.args.visits.now + allowed_visits reached (setting p c.args.options.now) flush_visits_of (kept_of c.args.machine) c.args.made.now ran.event)) c.of-code.ensures
+    (subst (λ (m : MachineState). IfOk c.run_guest.result (λ ran. c.run_guest.new.visits ≤ c.args.visits.now + allowed_visits reached (setting c.of-code.result c.args.options.now) flush_visits_of (kept_of m) c.args.made.now ran.event)) c.of-guest.ensures (c.run_guest.ensures.visits reached decides))
