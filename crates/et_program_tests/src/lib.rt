@@ -23,8 +23,6 @@ mod runs;
 #[cfg(test)]
 mod schedules;
 #[cfg(test)]
-mod starts;
-#[cfg(test)]
 mod traces;
 #[cfg(test)]
 mod words;

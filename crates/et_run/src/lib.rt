@@ -13,6 +13,5 @@ mod steps;
 mod threads;
 mod turns;
 
-pub use first::{begin, start_lines};
 pub use program_run::run;
 pub use turns::turn_event;
