@@ -18,3 +18,4 @@ mod Thrown
 mod EntryComing
 mod Mains
 mod Running
+mod Initializing

@@ -5,6 +5,7 @@ mod arguments;
 mod called;
 mod entering;
 mod entry;
+mod event;
 mod frames;
 mod new_frames;
 mod plans;
@@ -13,5 +14,4 @@ mod returns;
 mod rows;
 mod types;
 
-pub use entry::entry_event;
-pub use rows::call_event;
+pub use event::calls_event;

@@ -91,7 +91,7 @@ fn long_event(machine: &mut Machine, thread: ThreadId, n: i64, next: u32) -> Eve
 /// The event of `ldc`, `ldc_w` or `ldc2_w` with this index into the pool, in front of the pc `next`: an int, a long or a
 /// string is pushed. After `NoMemory` the machine may have one object more, to which nothing refers, and there may be its
 /// record; all else is as before.
-pub fn constant_event(
+pub(crate) fn constant_event(
     machine: &mut Machine,
     program: &Program,
     thread: ThreadId,

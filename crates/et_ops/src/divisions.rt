@@ -119,7 +119,7 @@ fn divide(
 /// `NoMemory` the machine may have one object more, to which nothing refers, and there may be its record; all else is as
 /// before.
 #[tactic(auto, using(crate::proofs::Dividing::refused_same, crate::proofs::Dividing::zero_same))]
-pub fn divide_event(
+pub(crate) fn divide_event(
     machine: &mut Machine,
     program: &Program,
     thread: ThreadId,

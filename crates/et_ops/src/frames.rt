@@ -33,7 +33,7 @@ pub(crate) fn natural(n: i32) -> u32
 /// The event of an instruction that reads and changes nothing but the topmost frame of a thread: of this row, decoded from
 /// this code, in front of the pc `next`. `true` exactly where it has a meaning, and then a legal step leads to the state
 /// after it. Where it has none, the machine is as before.
-pub fn frame_event(
+pub(crate) fn frame_event(
     machine: &mut Machine,
     thread: ThreadId,
     row: FrameRow,

@@ -15,8 +15,4 @@ mod stores;
 mod strings;
 mod switches;
 
-pub use constants::constant_event;
-pub use divisions::divide_event;
-pub use event::{is_plain_turn, ops_event};
-pub use frames::frame_event;
-pub use plain::plain_event;
+pub use event::ops_event;

@@ -17,7 +17,9 @@ ghost use Rattle.et_event.specs.Moments.{fits, moment};
 ghost use Rattle.et_event.specs.Plain.{after, constant, on_frame};
 ghost use Rattle.et_event.specs.Sites.{constant_at, natural as natural_of};
 ghost use Rattle.et_parts.specs.Pools.{slots_of};
-ghost use Rattle.et_event.specs.PlainRows.{PlainAnswers};
+ghost use Rattle.et_event.specs.PlainRows.{is_plain};
+ghost use Rattle.et_event.specs.Sound.{IsSoundFor};
+ghost use Rattle.et_parts.specs.Places.{IsPlace, site_at};
 
 use crate::constants::constant_event;
 use crate::divisions::divide_event;
@@ -25,7 +27,7 @@ use crate::frames::{frame_event, natural};
 use et_base::{NoMemory, ThreadId};
 use et_code::Instr;
 use et_event::{FrameRow, Row};
-use et_parts::ill_typed;
+use et_parts::{Place, ill_typed};
 use et_pool::Pool;
 use et_program::Program;
 use et_state::{EventEnd, Lines, Machine};
@@ -59,8 +61,8 @@ fn frame_row_event(
 
 /// The event of `ldc`, `ldc_w` or `ldc2_w` in a class whose pool is this. Where the class has none, it has no meaning.
 fn pool_event(
-    machine: &mut Machine,
     program: &Program,
+    machine: &mut Machine,
     thread: ThreadId,
     pool: Option<&Pool>,
     index: u16,
@@ -83,53 +85,66 @@ fn pool_event(
     }
 }
 
-/// The event of a plain instruction of this row, decoded from this code, in front of the pc `next`, with the pool of its
-/// class, where that has one; `None`, and nothing is done, exactly where the row is of another instruction. After `NoMemory` the machine may
-/// have one object more, to which nothing refers, and there may be its record; all else is as before.
-pub fn plain_event(
-    machine: &mut Machine,
+/// The event of a plain instruction of this row at a place.
+fn row_event(
     program: &Program,
+    machine: &mut Machine,
     thread: ThreadId,
+    place: &Place<'_>,
     row: Row,
-    code: &[u8],
-    pool: Option<&Pool>,
-    instr: &Instr,
-    next: u32,
     out: &mut Lines,
-) -> Result<Option<EventEnd>, NoMemory>
+) -> Result<EventEnd, NoMemory>
     requires frame { HasFrame machine.old.guest thread }
     requires sound { IsSound (kept_of machine.old) }
     requires clock { machine.old.guest.clock < 2 ^ 40 }
     requires fits { fits machine.old.heap ≡ true }
     requires locals { length (top machine.old.guest thread).locals < 2 ^ 16 }
     requires pc { (top machine.old.guest thread).pc < 2 ^ 31 }
-    requires switch { row ≡ rows.Frame frame_rows.Switch → IsSwitch code.now instr.now }
-    requires index { row ≡ rows.PoolConstant → natural_of instr.now.first < 2 ^ 16 }
-    ensures ok { IfOk result (λ end. (class : ℕ) →
-        PlainAnswers (does (moment program.now machine.old thread) (record {
-          instr = instr.now;
-          next = next;
-          code = code.now;
-          pool = slots_of (option_copied pool.entry);
-          class = class;
-        })
-        row) row end machine.old machine.new out.old out.new) }
+    requires switch { row ≡ rows.Frame frame_rows.Switch →
+        IsSwitch place.now.code.now place.now.instr }
+    requires index { row ≡ rows.PoolConstant → natural_of place.now.instr.first < 2 ^ 16 }
+    requires plain { is_plain row ≡ true }
+    ensures ok { IfOk result (λ end. EventAnswers (does (moment program.now machine.old thread)
+        (site_at place.now) row) end machine.old machine.new out.old out.new) }
     ensures err { OnErr result (machine.new.guest ≡ machine.old.guest) }
 {
     match row {
-        Row::Frame(row) => {
-            let end = frame_row_event(machine, thread, row, code, instr, next);
-            Ok(Some(end))
-        }
+        Row::Frame(row) => Ok(frame_row_event(
+            machine,
+            thread,
+            row,
+            place.code,
+            &place.instr,
+            place.next,
+        )),
         Row::PoolConstant => {
-            let index = natural(instr.first) as u16;
-            let end = pool_event(machine, program, thread, pool, index, next, out)?;
-            Ok(Some(end))
+            let index = natural(place.instr.first) as u16;
+            pool_event(program, machine, thread, place.pool, index, place.next, out)
         }
         Row::Divide(number, division) => {
-            let end = divide_event(machine, program, thread, number, division, next, out)?;
-            Ok(Some(end))
+            divide_event(machine, program, thread, number, division, place.next, out)
         }
-        Row::Heap(_) | Row::Call(_) | Row::Throw | Row::Monitor(_) => Ok(None),
+        Row::Heap(_) | Row::Call(_) | Row::Throw | Row::Monitor(_) => unreachable!(),
     }
+}
+
+/// The event of the plain instruction at a place. After `NoMemory` the machine may have one object more, to which nothing
+/// refers, and there may be its record; all else is as before.
+pub(crate) fn plain_event(
+    program: &Program,
+    machine: &mut Machine,
+    thread: ThreadId,
+    place: &Place<'_>,
+    out: &mut Lines,
+) -> Result<EventEnd, NoMemory>
+    requires frame { HasFrame machine.old.guest thread }
+    requires sound { IsSoundFor program.now (kept_of machine.old) }
+    requires clock { machine.old.guest.clock < 2 ^ 40 }
+    requires place { IsPlace program.now (top machine.old.guest thread) place.now }
+    requires plain { is_plain place.now.row ≡ true }
+    ensures ok { IfOk result (λ end. EventAnswers (does (moment program.now machine.old thread)
+        (site_at place.now) place.now.row) end machine.old machine.new out.old out.new) }
+    ensures err { OnErr result (machine.new.guest ≡ machine.old.guest) }
+{
+    row_event(program, machine, thread, place, place.row, out)
 }

@@ -23,3 +23,4 @@ pub mod ClassChains
 pub mod ClassFitting
 pub mod Carrying
 pub mod Quiet
+mod Sharing

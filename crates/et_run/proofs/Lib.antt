@@ -3,8 +3,6 @@ mod Counting
 mod Unended
 mod Flushing
 mod Starting
-mod TurnAnswers
-mod Standing
 mod Words
 mod Ways
 mod Members

@@ -3,12 +3,10 @@
 
 mod first;
 mod guest;
-mod heap;
 pub mod laws;
 mod named;
 mod program_run;
 mod room;
-mod rows;
 mod steps;
 mod threads;
 mod turns;

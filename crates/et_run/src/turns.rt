@@ -1,45 +1,24 @@
 //! The event of a thread that has the turn.
-ghost use Rattle.std.specs.Prelude.{◌≡◌, ◌+◌, ◌-◌, ◌<◌, ◌≤◌, ◌^◌, IfOk, length};
+ghost use Rattle.std.specs.Prelude.{◌+◌, ◌-◌, ◌<◌, ◌≤◌, ◌^◌, IfOk, length};
 ghost use Rattle.et_event.specs.Answered.{EventAnswers};
 ghost use Rattle.et_event.specs.Event.{event};
-ghost use Rattle.et_event.specs.Sound.{IsSoundFor};
-ghost use Rattle.et_state.specs.declared.stage.Turn.TheVariants as turns;
-ghost use Rattle.et_state.specs.Threads.{turn_of};
-ghost use Rattle.et_state.specs.State.{kept_of};
-ghost use Rattle.et_state.specs.Words.{IsUnended, thread_at};
 ghost use Rattle.et_event.specs.Runnable.{IsRunnable};
+ghost use Rattle.et_event.specs.Sound.{IsSoundFor};
+ghost use Rattle.et_state.specs.State.{kept_of};
+ghost use Rattle.et_state.specs.Words.{IsUnended};
 
-use crate::rows::instruction_event;
 use et_base::{NoMemory, Steps, ThreadId};
-use et_calls::entry_event;
-use et_initialize::initialization_event;
+use et_calls::calls_event;
+use et_event::Family;
+use et_ops::ops_event;
+use et_parts::family_of;
 use et_program::Program;
-use et_state::{EventEnd, Lines, Machine, Stage, Turn};
-use et_sync::end_event;
-use et_throw::unwinding_event;
+use et_refs::refs_event;
+use et_state::{EventEnd, Lines, Machine};
+use et_sync::sync_event;
+use et_throw::throw_event;
 use std::alloc::Global;
 use std::sync::ledger::Ledger;
-
-/// A step of the initializer at the top.
-fn initializer_event(
-    alloc: Global,
-    program: &Program,
-    machine: &mut Machine,
-    thread: ThreadId,
-    out: &mut Lines,
-) -> Result<EventEnd, NoMemory>
-    requires sound { IsSoundFor program.now (kept_of machine.old) }
-    requires clock { machine.old.guest.clock < 2 ^ 40 }
-    requires program { IsRunnable program.now }
-    requires turn { turn_of (thread_at machine.old.guest thread) ≡ turns.Initialize }
-    ensures { IfOk result (λ end. EventAnswers (event program.now
-        (kept_of machine.old) thread) end machine.old machine.new out.old out.new) }
-{
-    match machine.stage(thread) {
-        Stage::Before(class) => initialization_event(program, machine, alloc, thread, class, out),
-        Stage::Plain | Stage::Clinit(_) => unreachable!(),
-    }
-}
 
 /// The event of a thread that has not ended: an instruction, a step of an unwinding or of an initializer, the entry of the
 /// thread, or its end. It answers what the table of events says: `Done` or `Waited`, and then the machine keeps the next
@@ -63,11 +42,11 @@ pub fn turn_event<L: Ledger>(
     ensures visits { IfOk result
         (λ end. visits.new ≤ visits.old + 8 + (length machine.new.heap - length machine.old.heap)) }
 {
-    match machine.turn(thread) {
-        Turn::Unwind => unwinding_event(program, machine, thread, out, visits),
-        Turn::EndThread => Ok(end_event(machine, thread)),
-        Turn::Entry => entry_event(alloc, program, machine, thread, out, visits),
-        Turn::Initialize => initializer_event(alloc, program, machine, thread, out),
-        Turn::Instruction => instruction_event(alloc, program, machine, thread, out, visits),
+    match family_of(program, machine, thread) {
+        Family::Ops => ops_event(alloc, program, machine, thread, out, visits),
+        Family::Refs => refs_event(alloc, program, machine, thread, out, visits),
+        Family::Calls => calls_event(alloc, program, machine, thread, out, visits),
+        Family::Throw => throw_event(alloc, program, machine, thread, out, visits),
+        Family::Sync => sync_event(alloc, program, machine, thread, out, visits),
     }
 }

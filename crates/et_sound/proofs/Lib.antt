@@ -15,14 +15,10 @@ pub mod Classes
 pub mod Initializers
 pub mod Calls
 pub mod Standing
-pub mod Answering
 pub mod Keeping
 pub mod Going
 mod Shapes
 pub mod Sounding
-pub mod Naming
-pub mod Ticking
-pub mod PlainStanding
 pub mod Resolving
 pub mod Arguments
 pub mod Entering

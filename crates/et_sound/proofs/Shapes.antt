@@ -27,7 +27,7 @@ use Rattle.et_event.specs.Plain.{put, after, on_frame, constant, divided, quotie
 use Rattle.et_event.specs.Sites.{Site, constant_at, pool_index, LoadedConstant, AnInt, ALong, AString}
 use Rattle.et_event.specs.Strings.{interned, string_object}
 use Rattle.et_event.specs.PlainRows.{is_plain}
-use Rattle.et_sound.proofs.Answering.{moment}
+use Rattle.et_parts.proofs.SiteAnswers.{moment}
 use Rattle.et_sound.proofs.Keeping.{taken_int, taken_long}
 
 -- an ArithmeticException is thrown

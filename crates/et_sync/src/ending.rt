@@ -17,7 +17,7 @@ use et_state::{EventEnd, Machine};
 /// The event of a thread whose turn is to end (JVMS 2.5.1, 2.5.2): what it left pending, its entry slot and its Thread object
 /// are no roots any more. It answers what the table of events says, `Done`, and makes no record; what the machine keeps is a
 /// sound state again. It takes no memory and visits no object.
-pub fn end_event(machine: &mut Machine, thread: ThreadId) -> EventEnd
+pub(crate) fn end_event(machine: &mut Machine, thread: ThreadId) -> EventEnd
     requires sound { IsSound (kept_of machine.old) }
     requires clock { machine.old.guest.clock < 2 ^ 40 }
     requires thread { IsUnended machine.old.guest thread }

@@ -3,8 +3,8 @@
 #![tactic(auto)]
 
 mod ending;
+mod event;
 mod monitoring;
 mod waiting;
 
-pub use ending::end_event;
-pub use monitoring::monitor_row_event;
+pub use event::sync_event;

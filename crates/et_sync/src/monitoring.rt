@@ -156,7 +156,7 @@ fn monitorexit<L: Ledger>(
 /// most. After `NoMemory` the machine may have one object more, to which nothing refers, and there may be its record; all else
 /// is as before.
 #[tactic(auto, using(crate::proofs::Monitored::reference_held, crate::proofs::Monitored::null_each, crate::proofs::Monitored::ill_typed_row))]
-pub fn monitor_row_event<L: Ledger>(
+pub(crate) fn monitor_row_event<L: Ledger>(
     program: &Program,
     machine: &mut Machine,
     thread: ThreadId,

@@ -3,6 +3,7 @@
 #![tactic(auto)]
 
 mod catching;
+mod event;
 mod failing;
 mod frames;
 mod handlers;
@@ -10,5 +11,4 @@ mod records;
 mod throwing;
 mod unwinding;
 
-pub use throwing::athrow_event;
-pub use unwinding::unwinding_event;
+pub use event::throw_event;

@@ -59,7 +59,7 @@ fn is_exception<L: Ledger>(
 /// there; or `IllTyped` or `ObjectLimit`, and then machine and records are as before. It visits one object at most. After
 /// `NoMemory` the machine may have one object more, to which nothing refers, and there may be its record; all else is as before.
 #[tactic(auto, using(crate::proofs::Thrown::reference_held, crate::proofs::Thrown::thrown_by_null, crate::proofs::Thrown::thrown_answers, crate::proofs::Thrown::no_throwable, crate::proofs::Thrown::nothing_thrown))]
-pub fn athrow_event<L: Ledger>(
+pub(crate) fn athrow_event<L: Ledger>(
     program: &Program,
     machine: &mut Machine,
     thread: ThreadId,

@@ -201,7 +201,7 @@ fn unwind_event<L: Ledger>(
 /// ExceptionInInitializerError doesn't fit. It visits six objects at most. After `NoMemory` the machine may have one object
 /// more, to which nothing refers, and there may be some of the records; all else is as before.
 #[tactic(auto, using(crate::proofs::Turning::unwinds_frame, crate::proofs::Turns::turn_ill_typed))]
-pub fn unwinding_event<L: Ledger>(
+pub(crate) fn unwinding_event<L: Ledger>(
     program: &Program,
     machine: &mut Machine,
     thread: ThreadId,

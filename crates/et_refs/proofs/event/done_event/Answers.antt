@@ -1,9 +1,8 @@
-use Rattle.std.proofs.Common.{◌≡◌}
 use Rattle.et_event.specs.Heap.{heap_event}
 use Rattle.et_parts.specs.Places.{site_at}
 use Rattle.et_event.specs.Moments.{moment}
-use Rattle.et_run.proofs.TurnAnswers.{done_not_left, done_answered}
-use Rattle.et_run.proofs.heap.done_event.Goals as goal
+use Rattle.et_refs.proofs.Sharing.{done_not_left, done_answered}
+use Rattle.et_refs.proofs.event.done_event.Goals as goal
 
 pub unreachable-requires : goal.unreachable-requires
 unreachable-requires g c =

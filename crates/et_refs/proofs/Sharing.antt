@@ -1,4 +1,4 @@
--- What the calls that do the rows answer, where the row is theirs.
+-- What the calls that do some of the rows answer, where the row is theirs.
 use Rattle.std.proofs.Common.{◌≡◌, Bool, true, false, List, Option, Some, None, refl, subst}
 use Rattle.et_state.specs.State.{Kept, MachineState}
 use Rattle.et_state.specs.declared.records.Record.{Record}
@@ -7,8 +7,6 @@ use Rattle.et_state.specs.Outcome.{Outcome}
 use Rattle.et_event.specs.Answered.{EventAnswers}
 use Rattle.et_event.specs.declared.rows.HeapRow.{HeapRow}
 use Rattle.et_event.specs.declared.rows.HeapRow.TheVariants as row
-use Rattle.et_event.specs.declared.rows.Row.{Row}
-use Rattle.et_event.specs.PlainRows.{is_plain, PlainAnswers}
 use Rattle.et_refs.specs.Rows.{is_done, HeapAnswers}
 use Rattle.et_refs.specs.ClassRows.{needs_class, ClassAnswers}
 
@@ -30,14 +28,6 @@ class_not_left o r (Some x) m m' out out' e is h = cc
 pub class_answered : (o : Outcome Kept) (r : HeapRow) (end : Option EventEnd) (x : EventEnd) (m m' : MachineState) (out out' : List Record) → end ≡ Some x → ClassAnswers o r end m m' out out' → EventAnswers o x m m' out out'
 class_answered o r None x m m' out out' e h = cc
 class_answered o r (Some y) x m m' out out' e h = let same : y ≡ x = cc in subst (λ (z : EventEnd). EventAnswers o z m m' out out') same h.1
-
-pub plain_not_left : (o : Outcome Kept) (r : Row) (end : Option EventEnd) (m m' : MachineState) (out out' : List Record) → end ≡ None → is_plain r ≡ true → PlainAnswers o r end m m' out out' → ⊥
-plain_not_left o r None m m' out out' e is h = both (is_plain r) is h.0
-plain_not_left o r (Some x) m m' out out' e is h = cc
-
-pub plain_answered : (o : Outcome Kept) (r : Row) (end : Option EventEnd) (x : EventEnd) (m m' : MachineState) (out out' : List Record) → end ≡ Some x → PlainAnswers o r end m m' out out' → EventAnswers o x m m' out out'
-plain_answered o r None x m m' out out' e h = cc
-plain_answered o r (Some y) x m m' out out' e h = let same : y ≡ x = cc in subst (λ (z : EventEnd). EventAnswers o z m m' out out') same h.1
 
 -- the one row that is neither
 pub last_row : (r : HeapRow) → is_done r ≡ false → needs_class r ≡ false → r ≡ row.NewMultiArray

@@ -1,10 +1,10 @@
-use Rattle.std.proofs.Common.{◌≡◌, ◌∙◌, sym, subst}
+use Rattle.std.proofs.Common.{◌∙◌, sym, subst}
 use Rattle.std.specs.Prelude.{IfOk}
 use Rattle.et_state.specs.State.{Kept, kept_of}
 use Rattle.et_state.specs.Outcome.{Outcome}
 use Rattle.et_event.specs.Answered.{EventAnswers}
-use Rattle.et_run.proofs.Standing.{event_is_step}
-use Rattle.et_run.proofs.turns.initializer_event.Goals as goal
+use Rattle.et_calls.proofs.Initializing.{event_is_step}
+use Rattle.et_calls.proofs.event.initializer_event.Goals as goal
 
 pub returns : goal.returns
 returns c =

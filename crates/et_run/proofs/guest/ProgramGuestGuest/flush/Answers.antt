@@ -5,7 +5,7 @@ use Rattle.et_state.specs.Roots.{graph_of}
 use Rattle.et_state.specs.State.{MachineState, kept_of}
 use Rattle.et_run.specs.Guests.{flush_visits_of}
 use Rattle.et_run.specs.Histories.{flushed_of}
-use Rattle.et_run.proofs.guest.ProgramGuestStampedGuest.flush.Goals as goal
+use Rattle.et_run.proofs.guest.ProgramGuestGuest.flush.Goals as goal
 
 pub returns-clause-state : goal.returns-clause-state
 returns-clause-state g c here h =

@@ -3,7 +3,7 @@ use Rattle.std.specs.Prelude.{All, OnOk}
 use Rattle.et_program.specs.Entries.{Linked}
 use Rattle.et_state.specs.Naming.{IsNamed}
 use Rattle.et_run.specs.Telling.{names_of}
-use Rattle.et_run.proofs.guest.ProgramGuestStampedGuest.event.Goals as goal
+use Rattle.et_run.proofs.guest.ProgramGuestGuest.event.Goals as goal
 
 pub returns-clause-named : goal.returns-clause-named
 returns-clause-named g c =
