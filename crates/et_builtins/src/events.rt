@@ -64,8 +64,8 @@ pub fn built_in_method_event<L: Ledger>(
             row_event(program, machine, &call, object, built_in, out, visits)
         }
         (_, _) => throw_error(
-            machine,
             program,
+            machine,
             thread,
             GuestError::AbstractMethodError,
             out,

@@ -184,11 +184,11 @@ fn start_event(
 {
     if machine.thread_of(object).is_some() {
         let error = GuestError::IllegalThreadStateException;
-        return throw_error(machine, program, call.thread, error, out);
+        return throw_error(program, machine, call.thread, error, out);
     }
     if machine.started() >= MOST_THREADS {
         let error = GuestError::OutOfMemoryError;
-        return throw_error(machine, program, call.thread, error, out);
+        return throw_error(program, machine, call.thread, error, out);
     }
     start(machine, call, object)
 }

@@ -79,7 +79,7 @@ fn codeless_event<L: Ledger>(
 {
     if has(program.method(call.method).flags, NATIVE) {
         let error = GuestError::UnsatisfiedLinkError;
-        return throw_error(machine, program, thread, error, out);
+        return throw_error(program, machine, thread, error, out);
     }
     built_in_method_event(
         program,
@@ -178,7 +178,7 @@ pub(crate) fn enter_after<L: Ledger>(
         }
         None => {
             let error = codeless_error(info);
-            throw_after(program, machine, alloc, thread, &[class], error, out)
+            throw_after(alloc, program, machine, thread, &[class], error, out)
         }
     }
 }

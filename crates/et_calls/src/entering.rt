@@ -122,9 +122,9 @@ fn fitting_frame_event<L: Ledger>(
 {
     if machine.frames(thread) >= 1024 {
         let error = GuestError::StackOverflowError;
-        return throw_after(program, machine, alloc, thread, entered.classes, error, out);
+        return throw_after(alloc, program, machine, thread, entered.classes, error, out);
     }
-    if !prepared_fit(program, machine, alloc, entered.classes, 0, 0)? {
+    if !prepared_fit(alloc, program, machine, entered.classes, 0, 0)? {
         return Ok(EventEnd::ObjectLimit);
     }
     push_event(alloc, program, machine, thread, entered, out, visits)

@@ -37,7 +37,7 @@ fn initializer_event(
         (kept_of machine.old) thread) end machine.old machine.new out.old out.new) }
 {
     match machine.stage(thread) {
-        Stage::Before(class) => initialization_event(program, machine, alloc, thread, class, out),
+        Stage::Before(class) => initialization_event(alloc, program, machine, thread, class, out),
         Stage::Plain | Stage::Clinit(_) => unreachable!(),
     }
 }

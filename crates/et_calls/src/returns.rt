@@ -223,8 +223,8 @@ fn return_value<L: Ledger>(
     let lock = lock_in(machine.stage(thread), method, machine.lock(thread));
     if !owns_some(machine, thread, &lock, visits) {
         return throw_error(
-            machine,
             program,
+            machine,
             thread,
             GuestError::IllegalMonitorStateException,
             out,

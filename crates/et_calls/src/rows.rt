@@ -54,7 +54,7 @@ fn initialize_event<L: Ledger>(
     let class = program.method(call.method).class;
     match need_of(program, machine, thread, class) {
         Need::Quiet => enter_after(alloc, program, machine, thread, call, out, visits),
-        _ => begin_class_event(program, machine, alloc, thread, class, out),
+        _ => begin_class_event(alloc, program, machine, thread, class, out),
     }
 }
 
@@ -82,7 +82,7 @@ fn plan_event<L: Ledger>(
 {
     match plan {
         CallPlan::IllTyped => Ok(ill_typed(machine, thread)),
-        CallPlan::Throws(error) => throw_error(machine, program, thread, error, out),
+        CallPlan::Throws(error) => throw_error(program, machine, thread, error, out),
         CallPlan::Waits => Ok(wait_event(machine, thread)),
         CallPlan::Initializes { method, count } => {
             let call = Call {

@@ -21,7 +21,8 @@ ghost use Rattle.et_exclusion.specs.Holding.{monitor_in};
 /// Each event of a thread that has not ended enters and leaves the monitors that its instruction and its frames say, and
 /// keeps every other; what it enters was open to its thread. After it, what is referred to is held.
 pub fn events_keep_monitors()
-    ensures { (p : Linked) (s : Kept) (t : ℕ) → IsSoundFor p s → IsUnended s.guest t → IsRunnable p →
+    ensures { (p : Linked) (s : Kept) (t : ℕ) →
+        IsSoundFor p s → IsUnended s.guest t → IsRunnable p →
         KeepsMonitors (record { program = p; before = s; thread = t }) (event p s t) }
 {}
 

@@ -57,9 +57,9 @@ pub(crate) fn initializer(alloc: Global, class: ClassId) -> NewFrame
 
 /// The event in which a class that is untouched begins: its constants are set, and its initializer is pushed. All fits.
 fn begin_class(
+    alloc: Global,
     program: &Program,
     machine: &mut Machine,
-    alloc: Global,
     thread: ThreadId,
     class: ClassId,
     out: &mut Lines,
@@ -90,9 +90,9 @@ fn begin_class(
 /// with its constants, and its initializer is pushed, or StackOverflowError is thrown. After `NoMemory` the event may be
 /// half done, and machine and records may only be dropped.
 pub fn begin_class_event(
+    alloc: Global,
     program: &Program,
     machine: &mut Machine,
-    alloc: Global,
     thread: ThreadId,
     class: ClassId,
     out: &mut Lines,
@@ -109,16 +109,16 @@ pub fn begin_class_event(
 {
     if machine.frames(thread) >= MOST_FRAMES {
         return throw_error(
-            machine,
             program,
+            machine,
             thread,
             GuestError::StackOverflowError,
             out,
         );
     }
-    if !constants_fit(program, machine, alloc, class)? {
+    if !constants_fit(alloc, program, machine, class)? {
         return Ok(EventEnd::ObjectLimit);
     }
-    begin_class(program, machine, alloc, thread, class, out)?;
+    begin_class(alloc, program, machine, thread, class, out)?;
     Ok(EventEnd::Done)
 }

@@ -179,9 +179,9 @@ fn has_room_for(machine: &Machine, strings: usize, each: u32, objects: u32, slot
 /// Whether the strings that the constants of a quiet class make, with those of what is initialized with it, each once, fit
 /// together with so many objects and slots besides. Nothing is changed.
 pub fn quiet_fits(
+    alloc: Global,
     program: &Program,
     machine: &Machine,
-    alloc: Global,
     class: ClassId,
     objects: u32,
     slots: u32,
@@ -199,9 +199,9 @@ pub fn quiet_fits(
 
 /// Whether the strings that the constants of a class make fit. Nothing is changed.
 pub(crate) fn constants_fit(
+    alloc: Global,
     program: &Program,
     machine: &Machine,
-    alloc: Global,
     class: ClassId,
 ) -> Result<bool, NoMemory>
     requires class { class < length program.now.classes }
@@ -267,9 +267,9 @@ fn count_prepared(
 /// Whether what these classes make, as the quiet ones become done, fits together with so many objects and slots besides
 /// (JVMS 5.5, 4.7.2). Nothing is changed.
 pub fn prepared_fit(
+    alloc: Global,
     program: &Program,
     machine: &Machine,
-    alloc: Global,
     classes: &[ClassId],
     objects: u32,
     slots: u32,
@@ -290,9 +290,9 @@ pub fn prepared_fit(
 /// Whether what these classes make, as the quiet ones become done, fits together with the constants of a class. Nothing is
 /// changed.
 pub(crate) fn prepared_class_fits(
+    alloc: Global,
     program: &Program,
     machine: &Machine,
-    alloc: Global,
     classes: &[ClassId],
     class: ClassId,
 ) -> Result<bool, NoMemory>

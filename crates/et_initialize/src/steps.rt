@@ -245,9 +245,9 @@ fn throw_prepared(
 /// The event in which an error is thrown, after the quiet ones among these classes became done (JVMS 5.5, 2.10). After
 /// `NoMemory` the event may be half done, and machine and records may only be dropped.
 pub fn throw_after(
+    alloc: Global,
     program: &Program,
     machine: &mut Machine,
-    alloc: Global,
     thread: ThreadId,
     classes: &[ClassId],
     error: GuestError,
@@ -265,7 +265,7 @@ pub fn throw_after(
         (moment program.now machine.old thread)))) end machine.old machine.new out.old out.new) }
 {
     let slots = slots_of(program, class_called(program, error.class_name()));
-    if !prepared_fit(program, machine, alloc, classes, 1, slots)? {
+    if !prepared_fit(alloc, program, machine, classes, 1, slots)? {
         return Ok(EventEnd::ObjectLimit);
     }
     throw_prepared(program, machine, thread, classes, error, out)
@@ -273,9 +273,9 @@ pub fn throw_after(
 
 /// The event in which an untouched class begins, after the quiet ones among these classes became done. All fits.
 fn begin_blocker(
+    alloc: Global,
     program: &Program,
     machine: &mut Machine,
-    alloc: Global,
     thread: ThreadId,
     classes: &[ClassId],
     class: ClassId,
@@ -307,9 +307,9 @@ fn begin_blocker(
 /// The event in which a class begins for which an initializer waits, after the quiet ones among these classes became done, or
 /// StackOverflowError is thrown.
 fn begin_after(
+    alloc: Global,
     program: &Program,
     machine: &mut Machine,
-    alloc: Global,
     thread: ThreadId,
     classes: &[ClassId],
     class: ClassId,
@@ -331,19 +331,19 @@ fn begin_after(
 {
     if machine.frames(thread) >= MOST_FRAMES {
         let error = GuestError::StackOverflowError;
-        return throw_after(program, machine, alloc, thread, classes, error, out);
+        return throw_after(alloc, program, machine, thread, classes, error, out);
     }
-    if !prepared_class_fits(program, machine, alloc, classes, class)? {
+    if !prepared_class_fits(alloc, program, machine, classes, class)? {
         return Ok(EventEnd::ObjectLimit);
     }
-    begin_blocker(program, machine, alloc, thread, classes, class, out)
+    begin_blocker(alloc, program, machine, thread, classes, class, out)
 }
 
 /// The event of an initializer that waits for a class, after the quiet ones among those before it became done.
 fn blocked_event(
+    alloc: Global,
     program: &Program,
     machine: &mut Machine,
-    alloc: Global,
     thread: ThreadId,
     classes: &[ClassId],
     blocker: ClassId,
@@ -364,10 +364,10 @@ fn blocked_event(
         machine.old thread))) blocker ending) end machine.old machine.new out.old out.new) }
 {
     match need_of(program, machine, thread, blocker) {
-        Need::Begins => begin_after(program, machine, alloc, thread, classes, blocker, out),
+        Need::Begins => begin_after(alloc, program, machine, thread, classes, blocker, out),
         Need::Failed => {
             let error = GuestError::NoClassDefFoundError;
-            throw_after(program, machine, alloc, thread, classes, error, out)
+            throw_after(alloc, program, machine, thread, classes, error, out)
         }
         Need::Waits => Ok(wait_event(machine, thread)),
         Need::Ready | Need::Quiet => unreachable!(),
@@ -376,9 +376,9 @@ fn blocked_event(
 
 /// The event of an initializer that waits for nothing: `<clinit>` is entered, or the class is done.
 fn enter_event(
+    alloc: Global,
     program: &Program,
     machine: &mut Machine,
-    alloc: Global,
     thread: ThreadId,
     class: ClassId,
     classes: &[ClassId],
@@ -398,7 +398,7 @@ fn enter_event(
         (prepared (moment program.now machine.old thread) classes.now (begins
         (moment program.now machine.old thread)))) end machine.old machine.new out.old out.new) }
 {
-    if !prepared_fit(program, machine, alloc, classes, 0, 0)? {
+    if !prepared_fit(alloc, program, machine, classes, 0, 0)? {
         return Ok(EventEnd::ObjectLimit);
     }
     match program.class(class).clinit {
@@ -411,9 +411,9 @@ fn enter_event(
 /// done up to the first for which it has to wait, and that is needed; where there is none, `<clinit>` is entered, or the class
 /// is done. After `NoMemory` the event may be half done, and machine and records may only be dropped.
 pub fn initialization_event(
+    alloc: Global,
     program: &Program,
     machine: &mut Machine,
-    alloc: Global,
     thread: ThreadId,
     class: ClassId,
     out: &mut Lines,
@@ -429,9 +429,9 @@ pub fn initialization_event(
     let classes = program.class(class).prerequisites.as_slice();
     let count = ready_count(program, machine, thread, classes);
     if count == classes.len() {
-        return enter_event(program, machine, alloc, thread, class, classes, out);
+        return enter_event(alloc, program, machine, thread, class, classes, out);
     }
     let blocker = classes[count];
     let before = &classes[..count];
-    blocked_event(program, machine, alloc, thread, before, blocker, out)
+    blocked_event(alloc, program, machine, thread, before, blocker, out)
 }

@@ -1,6 +1,6 @@
 //! What holds of every linked program, that calls of the machine ask (JVMS 5.3, 5.5).
 #![tactic(auto)]
 
-pub mod begin_laws;
 pub mod laws;
-pub mod promise_laws;
+pub mod run_laws;
+pub mod start_laws;

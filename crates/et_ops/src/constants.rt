@@ -92,8 +92,8 @@ fn long_event(machine: &mut Machine, thread: ThreadId, n: i64, next: u32) -> Eve
 /// string is pushed. After `NoMemory` the machine may have one object more, to which nothing refers, and there may be its
 /// record; all else is as before.
 pub(crate) fn constant_event(
-    machine: &mut Machine,
     program: &Program,
+    machine: &mut Machine,
     thread: ThreadId,
     pool: &Pool,
     index: u16,
@@ -117,7 +117,7 @@ pub(crate) fn constant_event(
         return Ok(long_event(machine, thread, n, next));
     }
     match pool.string(index) {
-        Some(bytes) => string_event(machine, program, thread, bytes, next, out),
+        Some(bytes) => string_event(program, machine, thread, bytes, next, out),
         None => Ok(ill_typed(machine, thread)),
     }
 }

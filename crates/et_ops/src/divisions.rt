@@ -120,8 +120,8 @@ fn divide(
 /// before.
 #[tactic(auto, using(crate::proofs::Dividing::refused_same, crate::proofs::Dividing::zero_same))]
 pub(crate) fn divide_event(
-    machine: &mut Machine,
     program: &Program,
+    machine: &mut Machine,
     thread: ThreadId,
     number: Number,
     division: Division,
@@ -141,8 +141,8 @@ pub(crate) fn divide_event(
         Divided::Done => Ok(EventEnd::Done),
         Divided::IllTyped => Ok(ill_typed(machine, thread)),
         Divided::ByZero => throw_error(
-            machine,
             program,
+            machine,
             thread,
             GuestError::ArithmeticException,
             out,

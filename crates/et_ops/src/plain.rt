@@ -80,7 +80,7 @@ fn pool_event(
     ensures err { OnErr result (machine.new.guest ≡ machine.old.guest) }
 {
     match pool {
-        Some(pool) => constant_event(machine, program, thread, pool, index, next, out),
+        Some(pool) => constant_event(program, machine, thread, pool, index, next, out),
         None => Ok(ill_typed(machine, thread)),
     }
 }
@@ -122,7 +122,7 @@ fn row_event(
             pool_event(program, machine, thread, place.pool, index, place.next, out)
         }
         Row::Divide(number, division) => {
-            divide_event(machine, program, thread, number, division, place.next, out)
+            divide_event(program, machine, thread, number, division, place.next, out)
         }
         Row::Heap(_) | Row::Call(_) | Row::Throw | Row::Monitor(_) => unreachable!(),
     }

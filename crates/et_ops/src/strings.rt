@@ -43,8 +43,8 @@ fn push_string(machine: &mut Machine, thread: ThreadId, object: ObjectId, next: 
 
 /// The event in which the object of a string of a constant is made and pushed.
 fn make_string(
-    machine: &mut Machine,
     program: &Program,
+    machine: &mut Machine,
     thread: ThreadId,
     bytes: &[u8],
     next: u32,
@@ -63,7 +63,7 @@ fn make_string(
     ensures err { OnErr result (machine.new.guest ≡ machine.old.guest) }
 {
     let class = class_called(program, b"java/lang/String");
-    let Some(object) = make_instance(machine, program, thread, class, out)? else {
+    let Some(object) = make_instance(program, machine, thread, class, out)? else {
         return Ok(EventEnd::ObjectLimit);
     };
     machine.intern(bytes, object)?;
@@ -77,8 +77,8 @@ fn make_string(
 /// yet. After `NoMemory` the machine may have one object more, to which nothing refers, and there may be its record; all
 /// else is as before.
 pub(crate) fn string_event(
-    machine: &mut Machine,
     program: &Program,
+    machine: &mut Machine,
     thread: ThreadId,
     bytes: &[u8],
     next: u32,
@@ -102,6 +102,6 @@ pub(crate) fn string_event(
             push_string(machine, thread, object, next);
             Ok(EventEnd::Done)
         }
-        None => make_string(machine, program, thread, bytes, next, out),
+        None => make_string(program, machine, thread, bytes, next, out),
     }
 }

@@ -24,7 +24,7 @@ fn frame(alloc: Global) -> Result<NewFrame, NoMemory> {
     })
 }
 
-fn listed(machine: &Machine, alloc: Global) -> Result<Vec<ObjectId>, NoMemory> {
+fn listed(alloc: Global, machine: &Machine) -> Result<Vec<ObjectId>, NoMemory> {
     let mut room = RootList::begin(alloc);
     machine.roots(&mut room)?;
     Ok(Vec::from_slice(alloc, room.as_slice())?)
@@ -44,7 +44,7 @@ fn the_first_state(rt: HostRuntime) -> Result<(), Fail> {
     assert_eq!(rt; machine.unended(1), None);
     assert!(rt; machine.heap.is_held(ObjectId::new(1)));
     assert_eq!(rt;
-        listed(&machine, rt.alloc())?.as_slice(),
+        listed(rt.alloc(), &machine)?.as_slice(),
         [ObjectId::new(1)].as_slice()
     );
     Ok(())
@@ -60,7 +60,7 @@ fn strings_of_constants(rt: HostRuntime) -> Result<(), Fail> {
     assert_eq!(rt; machine.interned(b"ab"), Some(o));
     assert_eq!(rt; machine.interned(b"a"), None);
     assert_eq!(rt; machine.text_of(o), Some(b"ab".as_slice()));
-    assert_eq!(rt; listed(&machine, rt.alloc())?.as_slice(), [o, o].as_slice());
+    assert_eq!(rt; listed(rt.alloc(), &machine)?.as_slice(), [o, o].as_slice());
     Ok(())
 }
 

@@ -32,6 +32,7 @@ fn bytes_of(code: &Code) -> &[u8]
     ensures bytes { result.now ≡ code.now.code }
     ensures few { length result.now < 2 ^ 16 }
 {
+    // Laws: they tell the prover, and do nothing.
     et_code::laws::kept_code();
     code.raw().code.as_slice()
 }

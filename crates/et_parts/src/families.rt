@@ -46,6 +46,7 @@ fn instruction_family(program: &Program, machine: &Machine, thread: ThreadId) ->
     requires turn { turn_of (thread_at machine.now.guest thread) ≡ turns.Instruction }
     ensures { result ≡ family program.now (kept_of machine.now) thread }
 {
+    // Laws: they tell the prover, and do nothing.
     kept_code();
     let method = method_of(program, machine, thread);
     keeps_rules(method);

@@ -34,8 +34,8 @@ fn slots_of(program: &Program, class: ClassId) -> u32
 /// it doesn't fit. After `NoMemory` the machine may have one object more, to which nothing refers.
 #[tactic(auto, using(crate::proofs::Making::fits_made))]
 pub fn make_instance(
-    machine: &mut Machine,
     program: &Program,
+    machine: &mut Machine,
     thread: ThreadId,
     class: ClassId,
     out: &mut Lines,

@@ -47,6 +47,7 @@ fn find_place<'a>(program: &'a Program, machine: &Machine, thread: ThreadId) -> 
     ensures none { IfNone result
         (row_at (decoded_at program.now (top machine.now.guest thread)) ≡ None) }
 {
+    // Laws: they tell the prover, and do nothing.
     place_laws::switch();
     let method = method_of(program, machine, thread);
     keeps_rules(method);
@@ -83,6 +84,7 @@ pub fn place_of<'a>(program: &'a Program, machine: &Machine, thread: ThreadId) -
     ensures no_family { IfNone result
         (family_of program.now (kept_of machine.now) thread ≡ families.Ops) }
 {
+    // Laws: they tell the prover, and do nothing.
     place_laws::instruction();
     find_place(program, machine, thread)
 }

@@ -17,8 +17,8 @@ use et_state::{EventEnd, Lines, Machine};
 /// there may be its record; all else is as before.
 #[tactic(auto, using(crate::proofs::Throwing::thrown_by_name, crate::proofs::Throwing::unmade_by_name))]
 pub fn throw_error(
-    machine: &mut Machine,
     program: &Program,
+    machine: &mut Machine,
     thread: ThreadId,
     error: GuestError,
     out: &mut Lines,
@@ -32,7 +32,7 @@ pub fn throw_error(
     ensures err { OnErr result (machine.new.guest ≡ machine.old.guest) }
 {
     let class = class_called(program, error.class_name());
-    let Some(object) = make_instance(machine, program, thread, class, out)? else {
+    let Some(object) = make_instance(program, machine, thread, class, out)? else {
         return Ok(EventEnd::ObjectLimit);
     };
     machine.begin_event();

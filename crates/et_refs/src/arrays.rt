@@ -67,8 +67,8 @@ fn array_of_base(program: &Program, kind: u32) -> ClassId
 
 /// The array that `newarray` makes.
 pub(crate) fn new_array(
-    machine: &Machine,
     program: &Program,
+    machine: &Machine,
     thread: ThreadId,
     place: &Place<'_>,
 ) -> Result<NewArray, Refusal>
@@ -87,8 +87,8 @@ pub(crate) fn new_array(
 
 /// The array that `anewarray` makes.
 pub(crate) fn new_reference_array(
-    machine: &Machine,
     program: &Program,
+    machine: &Machine,
     thread: ThreadId,
     place: &Place<'_>,
 ) -> Result<NewArray, Refusal>

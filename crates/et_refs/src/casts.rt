@@ -43,8 +43,8 @@ pub fn class_named<'a>(place: &Place<'a>) -> Result<&'a [u8], Refusal>
 
 /// Whether an object passes for one of a class.
 pub(crate) fn passes<L: Ledger>(
-    machine: &Machine,
     program: &Program,
+    machine: &Machine,
     object: ObjectId,
     class: ClassId,
     visits: &mut Steps<L>,
@@ -61,8 +61,8 @@ pub(crate) fn passes<L: Ledger>(
 
 /// The object, where it passes for one of the class of this name; a ClassCastException where it doesn't.
 fn cast_object<L: Ledger>(
-    machine: &Machine,
     program: &Program,
+    machine: &Machine,
     thread: ThreadId,
     name: &[u8],
     object: ObjectId,
@@ -79,15 +79,15 @@ fn cast_object<L: Ledger>(
     ensures visits { visits.new ≤ visits.old + 1 }
 {
     let class = resolve(program, name)?;
-    let holds = passes(machine, program, object, class, visits);
+    let holds = passes(program, machine, object, class, visits);
     throws_unless(GuestError::ClassCastException, holds)?;
     Ok(Value::Ref(object))
 }
 
 /// Whether the object passes for one of the class of this name, as an int.
 fn test_object<L: Ledger>(
-    machine: &Machine,
     program: &Program,
+    machine: &Machine,
     thread: ThreadId,
     name: &[u8],
     object: ObjectId,
@@ -104,7 +104,7 @@ fn test_object<L: Ledger>(
     ensures visits { visits.new ≤ visits.old + 1 }
 {
     let class = resolve(program, name)?;
-    let holds = passes(machine, program, object, class, visits);
+    let holds = passes(program, machine, object, class, visits);
     Ok(truth(holds))
 }
 
@@ -117,8 +117,8 @@ fn truth(holds: bool) -> Value
 
 /// What `checkcast` leaves for a reference; null is of each class, and then nothing is resolved.
 fn cast<L: Ledger>(
-    machine: &Machine,
     program: &Program,
+    machine: &Machine,
     thread: ThreadId,
     name: &[u8],
     reference: Option<ObjectId>,
@@ -135,15 +135,15 @@ fn cast<L: Ledger>(
     ensures visits { visits.new ≤ visits.old + 1 }
 {
     match reference {
-        Some(object) => cast_object(machine, program, thread, name, object, visits),
+        Some(object) => cast_object(program, machine, thread, name, object, visits),
         None => Ok(Value::Null),
     }
 }
 
 /// What `instanceof` gives for a reference; null is of no class, and then nothing is resolved.
 fn test<L: Ledger>(
-    machine: &Machine,
     program: &Program,
+    machine: &Machine,
     thread: ThreadId,
     name: &[u8],
     reference: Option<ObjectId>,
@@ -160,15 +160,15 @@ fn test<L: Ledger>(
     ensures visits { visits.new ≤ visits.old + 1 }
 {
     match reference {
-        Some(object) => test_object(machine, program, thread, name, object, visits),
+        Some(object) => test_object(program, machine, thread, name, object, visits),
         None => Ok(truth(false)),
     }
 }
 
 /// What `checkcast` puts in the place of the reference.
 pub(crate) fn check_cast<L: Ledger>(
-    machine: &Machine,
     program: &Program,
+    machine: &Machine,
     thread: ThreadId,
     place: &Place<'_>,
     visits: &mut Steps<L>,
@@ -185,14 +185,14 @@ pub(crate) fn check_cast<L: Ledger>(
     operands_fit(machine, thread);
     let name = class_named(place)?;
     let reference = take_reference(machine, thread, 0)?;
-    let value = cast(machine, program, thread, name, reference, visits)?;
+    let value = cast(program, machine, thread, name, reference, visits)?;
     Ok(Exchange { taken: 1, value })
 }
 
 /// What `instanceof` puts in the place of the reference.
 pub(crate) fn instance_of<L: Ledger>(
-    machine: &Machine,
     program: &Program,
+    machine: &Machine,
     thread: ThreadId,
     place: &Place<'_>,
     visits: &mut Steps<L>,
@@ -209,6 +209,6 @@ pub(crate) fn instance_of<L: Ledger>(
     operands_fit(machine, thread);
     let name = class_named(place)?;
     let reference = take_reference(machine, thread, 0)?;
-    let value = test(machine, program, thread, name, reference, visits)?;
+    let value = test(program, machine, thread, name, reference, visits)?;
     Ok(Exchange { taken: 1, value })
 }

@@ -182,8 +182,8 @@ fn set_slot<L: Ledger>(
 
 /// The event in which operands are taken and a slot is written. After `NoMemory` all is as before.
 fn write_slot<L: Ledger>(
-    machine: &mut Machine,
     program: &Program,
+    machine: &mut Machine,
     thread: ThreadId,
     place: &Place<'_>,
     x: Store,
@@ -234,8 +234,8 @@ pub fn array_size(elements: u32, width: u64) -> u64
 /// doesn't fit. After `NoMemory` the machine may have one object more, to which nothing refers.
 #[tactic(auto, using(crate::proofs::Fitting::fits_array))]
 fn make_array(
-    machine: &mut Machine,
     program: &Program,
+    machine: &mut Machine,
     thread: ThreadId,
     x: NewArray,
     out: &mut Lines,
@@ -268,8 +268,8 @@ fn make_array(
 /// The event in which an array is made. After `NoMemory` the machine may have one object more, to which nothing refers, and
 /// there may be its record; all else is as before.
 fn add_array(
-    machine: &mut Machine,
     program: &Program,
+    machine: &mut Machine,
     thread: ThreadId,
     place: &Place<'_>,
     x: NewArray,
@@ -283,7 +283,7 @@ fn add_array(
         (site_at place.now) x) end machine.old machine.new out.old out.new) }
     ensures err { OnErr result (machine.new.guest ≡ machine.old.guest) }
 {
-    let Some(array) = make_array(machine, program, thread, x, out)? else {
+    let Some(array) = make_array(program, machine, thread, x, out)? else {
         return Ok(EventEnd::ObjectLimit);
     };
     machine.begin_event();
@@ -294,8 +294,8 @@ fn add_array(
 /// The event that does this change at a place. After `NoMemory` the machine may have one object more, to which nothing
 /// refers, and there may be its record; all else is as before.
 pub(crate) fn carry_out<L: Ledger>(
-    machine: &mut Machine,
     program: &Program,
+    machine: &mut Machine,
     thread: ThreadId,
     place: &Place<'_>,
     change: Change,
@@ -316,7 +316,7 @@ pub(crate) fn carry_out<L: Ledger>(
             put_value(machine, thread, place.next, x);
             Ok(EventEnd::Done)
         }
-        Change::Write(x) => write_slot(machine, program, thread, place, x, out, visits),
-        Change::Make(x) => add_array(machine, program, thread, place, x, out),
+        Change::Write(x) => write_slot(program, machine, thread, place, x, out, visits),
+        Change::Make(x) => add_array(program, machine, thread, place, x, out),
     }
 }

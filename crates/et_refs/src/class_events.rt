@@ -113,7 +113,7 @@ fn quiet_event(
 {
     let objects = objects_made(wanted);
     let slots = slots_made(program, wanted);
-    if !quiet_fits(program, machine, alloc, wanted.class, objects, slots)? {
+    if !quiet_fits(alloc, program, machine, wanted.class, objects, slots)? {
         return Ok(EventEnd::ObjectLimit);
     }
     begin_quietly(program, machine, thread, wanted, out)?;
@@ -145,10 +145,10 @@ pub(crate) fn access_event(
     match need_of(program, machine, thread, wanted.class) {
         Need::Ready => ready_event(program, machine, thread, place, wanted, out),
         Need::Quiet => quiet_event(alloc, program, machine, thread, place, wanted, out),
-        Need::Begins => begin_class_event(program, machine, alloc, thread, wanted.class, out),
+        Need::Begins => begin_class_event(alloc, program, machine, thread, wanted.class, out),
         Need::Failed => {
             let error = GuestError::NoClassDefFoundError;
-            throw_error(machine, program, thread, error, out)
+            throw_error(program, machine, thread, error, out)
         }
         Need::Waits => Ok(wait_event(machine, thread)),
     }

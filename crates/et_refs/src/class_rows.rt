@@ -87,7 +87,7 @@ fn perform(
 {
     match answer {
         Ok(wanted) => access_event(alloc, program, machine, thread, place, &wanted, out),
-        Err(refusal) => refuse(machine, program, thread, refusal, out),
+        Err(refusal) => refuse(program, machine, thread, refusal, out),
     }
 }
 

@@ -37,8 +37,8 @@ use std::sync::ledger::Ledger;
 
 /// What an object has as its elements.
 fn element_of<L: Ledger>(
-    machine: &Machine,
     program: &Program,
+    machine: &Machine,
     thread: ThreadId,
     object: ObjectId,
     visits: &mut Steps<L>,
@@ -54,8 +54,8 @@ fn element_of<L: Ledger>(
 
 /// The length of an array, which has a slot for each element.
 fn length_of<L: Ledger>(
-    machine: &Machine,
     program: &Program,
+    machine: &Machine,
     object: ObjectId,
     visits: &mut Steps<L>,
 ) -> u32
@@ -74,8 +74,8 @@ fn length_of<L: Ledger>(
 
 /// The element of an index of the array that a reference names, where the array has such elements.
 fn element_slot<L: Ledger>(
-    machine: &Machine,
     program: &Program,
+    machine: &Machine,
     thread: ThreadId,
     elements: Elements,
     reference: Option<ObjectId>,
@@ -92,9 +92,9 @@ fn element_slot<L: Ledger>(
     ensures visits { visits.new ≤ visits.old + 2 }
 {
     let object = not_null(reference)?;
-    let element = element_of(machine, program, thread, object, visits);
+    let element = element_of(program, machine, thread, object, visits);
     ill_typed_unless(are_elements(elements, element))?;
-    let length = length_of(machine, program, object, visits);
+    let length = length_of(program, machine, object, visits);
     throws_unless(
         GuestError::ArrayIndexOutOfBoundsException,
         in_bounds(index, length),
@@ -126,8 +126,8 @@ fn element_value<L: Ledger>(
 
 /// What `iaload` or one of its kin puts in the place of the array and the index.
 pub(crate) fn read_element<L: Ledger>(
-    machine: &Machine,
     program: &Program,
+    machine: &Machine,
     thread: ThreadId,
     elements: Elements,
     visits: &mut Steps<L>,
@@ -143,15 +143,15 @@ pub(crate) fn read_element<L: Ledger>(
     operands_fit(machine, thread);
     let index = take_int(machine, thread, 0)?;
     let reference = take_reference(machine, thread, 1)?;
-    let at = element_slot(machine, program, thread, elements, reference, index, visits)?;
+    let at = element_slot(program, machine, thread, elements, reference, index, visits)?;
     let value = element_value(machine, elements, &at, visits);
     Ok(Exchange { taken: 2, value })
 }
 
 /// The length of an array as a value.
 fn length_value<L: Ledger>(
-    machine: &Machine,
     program: &Program,
+    machine: &Machine,
     object: ObjectId,
     visits: &mut Steps<L>,
 ) -> Value
@@ -164,14 +164,14 @@ fn length_value<L: Ledger>(
     ensures held { AreHeld machine.now (refs_of_value result) }
     ensures visits { visits.new ≡ visits.old + 1 }
 {
-    let length = length_of(machine, program, object, visits);
+    let length = length_of(program, machine, object, visits);
     Value::Int(length as i32)
 }
 
 /// What `arraylength` puts in the place of the array.
 pub(crate) fn read_length<L: Ledger>(
-    machine: &Machine,
     program: &Program,
+    machine: &Machine,
     thread: ThreadId,
     visits: &mut Steps<L>,
 ) -> Result<Exchange, Refusal>
@@ -186,16 +186,16 @@ pub(crate) fn read_length<L: Ledger>(
     operands_fit(machine, thread);
     let reference = take_reference(machine, thread, 0)?;
     let object = not_null(reference)?;
-    let element = element_of(machine, program, thread, object, visits);
+    let element = element_of(program, machine, thread, object, visits);
     ill_typed_unless(is_array(element))?;
-    let value = length_value(machine, program, object, visits);
+    let value = length_value(program, machine, object, visits);
     Ok(Exchange { taken: 1, value })
 }
 
 /// Whether an object may be an element: whether it passes for one of the class of elements.
 fn passes_for<L: Ledger>(
-    machine: &Machine,
     program: &Program,
+    machine: &Machine,
     thread: ThreadId,
     object: ObjectId,
     element: Element,
@@ -209,7 +209,7 @@ fn passes_for<L: Ledger>(
     ensures visits { visits.new ≤ visits.old + 1 }
 {
     match element {
-        Element::Class(class) => passes(machine, program, object, class, visits),
+        Element::Class(class) => passes(program, machine, object, class, visits),
         Element::NoArray | Element::Base(_) => true,
     }
 }
@@ -217,8 +217,8 @@ fn passes_for<L: Ledger>(
 /// Whether an array may have this value as an element: null, an object that passes for one of the class of its elements, and
 /// what is no reference.
 fn passes_element<L: Ledger>(
-    machine: &Machine,
     program: &Program,
+    machine: &Machine,
     thread: ThreadId,
     value: Value,
     array: ObjectId,
@@ -232,17 +232,17 @@ fn passes_element<L: Ledger>(
         (elements_of (moment program.now machine.now thread) array) }
     ensures visits { visits.new ≤ visits.old + 2 }
 {
-    let element = element_of(machine, program, thread, array, visits);
+    let element = element_of(program, machine, thread, array, visits);
     match value {
-        Value::Ref(object) => passes_for(machine, program, thread, object, element, visits),
+        Value::Ref(object) => passes_for(program, machine, thread, object, element, visits),
         Value::Unset | Value::Int(_) | Value::Long(_) | Value::LongHigh | Value::Null => true,
     }
 }
 
 /// What `iastore` or one of its kin writes.
 pub(crate) fn write_element<L: Ledger>(
-    machine: &Machine,
     program: &Program,
+    machine: &Machine,
     thread: ThreadId,
     elements: Elements,
     visits: &mut Steps<L>,
@@ -259,8 +259,8 @@ pub(crate) fn write_element<L: Ledger>(
     let taken = take_element(machine, thread, elements)?;
     let index = take_int(machine, thread, taken.width)?;
     let reference = take_reference(machine, thread, taken.width + 1)?;
-    let at = element_slot(machine, program, thread, elements, reference, index, visits)?;
-    let may_be = passes_element(machine, program, thread, taken.value, at.object, visits);
+    let at = element_slot(program, machine, thread, elements, reference, index, visits)?;
+    let may_be = passes_element(program, machine, thread, taken.value, at.object, visits);
     throws_unless(GuestError::ArrayStoreException, may_be)?;
     Ok(Store {
         taken: taken.width + 2,

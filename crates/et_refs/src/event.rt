@@ -69,7 +69,7 @@ fn done_event<L: Ledger>(
         machine.old thread) (site_at place.now) row) end machine.old machine.new out.old out.new) }
     ensures visits { visits.new ≤ visits.old + 6 }
 {
-    let end = heap_row_event(machine, program, thread, place, row, out, visits)?;
+    let end = heap_row_event(program, machine, thread, place, row, out, visits)?;
     match end {
         Some(end) => Ok(end),
         None => unreachable!(),

@@ -166,7 +166,7 @@ fn add_named<L: Ledger>(
         Ok(class) => add_arrays(
             alloc, program, machine, thread, place, class, lengths, out, visits,
         ),
-        Err(refusal) => refuse(machine, program, thread, refusal, out),
+        Err(refusal) => refuse(program, machine, thread, refusal, out),
     }
 }
 
@@ -196,7 +196,7 @@ fn add_taken<L: Ledger>(
         Ok(lengths) => add_named(
             alloc, program, machine, thread, place, name, &lengths, out, visits,
         ),
-        Err(refusal) => refuse(machine, program, thread, refusal, out),
+        Err(refusal) => refuse(program, machine, thread, refusal, out),
     }
 }
 
@@ -225,6 +225,6 @@ pub fn multi_array_event<L: Ledger>(
 {
     match class_operand(place) {
         Some(name) => add_taken(alloc, program, machine, thread, place, name, out, visits),
-        None => refuse(machine, program, thread, Refusal::IllTyped, out),
+        None => refuse(program, machine, thread, Refusal::IllTyped, out),
     }
 }

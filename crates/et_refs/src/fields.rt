@@ -98,8 +98,8 @@ fn instance_field(program: &Program, member: &MemberAt<'_>) -> Result<FieldId, R
 
 /// The object that a reference names, where its class has an instance field.
 fn holder<L: Ledger>(
-    machine: &Machine,
     program: &Program,
+    machine: &Machine,
     thread: ThreadId,
     field: FieldId,
     reference: Option<ObjectId>,
@@ -125,8 +125,8 @@ fn holder<L: Ledger>(
 
 /// The slot of an instance field that an instruction names, in the object that a reference names.
 fn field_slot<L: Ledger>(
-    machine: &Machine,
     program: &Program,
+    machine: &Machine,
     thread: ThreadId,
     member: &MemberAt<'_>,
     reference: Option<ObjectId>,
@@ -148,7 +148,7 @@ fn field_slot<L: Ledger>(
     ensures visits { visits.new ≤ visits.old + 1 }
 {
     let field = instance_field(program, member)?;
-    let object = holder(machine, program, thread, field, reference, visits)?;
+    let object = holder(program, machine, thread, field, reference, visits)?;
     let info = program.field(field);
     Ok(SlotAt {
         object,
@@ -176,8 +176,8 @@ fn field_value<L: Ledger>(
 
 /// What `getfield` puts in the place of the reference.
 pub(crate) fn read_field<L: Ledger>(
-    machine: &Machine,
     program: &Program,
+    machine: &Machine,
     thread: ThreadId,
     place: &Place<'_>,
     visits: &mut Steps<L>,
@@ -194,15 +194,15 @@ pub(crate) fn read_field<L: Ledger>(
     let member = field_named(place)?;
     let reference = take_reference(machine, thread, 0)?;
     type_fits(machine, thread, member.descriptor)?;
-    let at = field_slot(machine, program, thread, &member, reference, visits)?;
+    let at = field_slot(program, machine, thread, &member, reference, visits)?;
     let value = field_value(machine, member.descriptor, &at, visits);
     Ok(Exchange { taken: 1, value })
 }
 
 /// What `putfield` writes.
 pub(crate) fn write_field<L: Ledger>(
-    machine: &Machine,
     program: &Program,
+    machine: &Machine,
     thread: ThreadId,
     place: &Place<'_>,
     visits: &mut Steps<L>,
@@ -219,7 +219,7 @@ pub(crate) fn write_field<L: Ledger>(
     let member = field_named(place)?;
     let taken = take_typed(machine, thread, member.descriptor)?;
     let reference = take_reference(machine, thread, taken.width)?;
-    let at = field_slot(machine, program, thread, &member, reference, visits)?;
+    let at = field_slot(program, machine, thread, &member, reference, visits)?;
     Ok(Store {
         taken: taken.width + 1,
         object: at.object,

@@ -25,8 +25,8 @@ pub enum Refusal {
 /// The event that a check refused. After `NoMemory` the machine may have one object more, to which nothing refers, and there
 /// may be its record; all else is as before.
 pub fn refuse(
-    machine: &mut Machine,
     program: &Program,
+    machine: &mut Machine,
     thread: ThreadId,
     refusal: Refusal,
     out: &mut Lines,
@@ -40,6 +40,6 @@ pub fn refuse(
 {
     match refusal {
         Refusal::IllTyped => Ok(ill_typed(machine, thread)),
-        Refusal::Throws(error) => throw_error(machine, program, thread, error, out),
+        Refusal::Throws(error) => throw_error(program, machine, thread, error, out),
     }
 }

@@ -70,8 +70,8 @@ fn make(answer: Result<NewArray, Refusal>) -> Result<Change, Refusal>
 
 /// What the instruction of a row does, or what refuses; `None` for the rows that are not done.
 fn change_of<L: Ledger>(
-    machine: &Machine,
     program: &Program,
+    machine: &Machine,
     thread: ThreadId,
     place: &Place<'_>,
     row: HeapRow,
@@ -92,39 +92,39 @@ fn change_of<L: Ledger>(
 {
     match row {
         HeapRow::GetField => {
-            let answer = read_field(machine, program, thread, place, visits);
+            let answer = read_field(program, machine, thread, place, visits);
             Some(put(answer))
         }
         HeapRow::PutField => {
-            let answer = write_field(machine, program, thread, place, visits);
+            let answer = write_field(program, machine, thread, place, visits);
             Some(write(answer))
         }
         HeapRow::LoadElement(elements) => {
-            let answer = read_element(machine, program, thread, elements, visits);
+            let answer = read_element(program, machine, thread, elements, visits);
             Some(put(answer))
         }
         HeapRow::ArrayLength => {
-            let answer = read_length(machine, program, thread, visits);
+            let answer = read_length(program, machine, thread, visits);
             Some(put(answer))
         }
         HeapRow::StoreElement(elements) => {
-            let answer = write_element(machine, program, thread, elements, visits);
+            let answer = write_element(program, machine, thread, elements, visits);
             Some(write(answer))
         }
         HeapRow::CheckCast => {
-            let answer = check_cast(machine, program, thread, place, visits);
+            let answer = check_cast(program, machine, thread, place, visits);
             Some(put(answer))
         }
         HeapRow::InstanceOf => {
-            let answer = instance_of(machine, program, thread, place, visits);
+            let answer = instance_of(program, machine, thread, place, visits);
             Some(put(answer))
         }
         HeapRow::NewArray => {
-            let answer = new_array(machine, program, thread, place);
+            let answer = new_array(program, machine, thread, place);
             Some(make(answer))
         }
         HeapRow::NewReferenceArray => {
-            let answer = new_reference_array(machine, program, thread, place);
+            let answer = new_reference_array(program, machine, thread, place);
             Some(make(answer))
         }
         HeapRow::GetStatic | HeapRow::PutStatic | HeapRow::New | HeapRow::NewMultiArray => None,
@@ -133,8 +133,8 @@ fn change_of<L: Ledger>(
 
 /// The event of an instruction whose checks came to this.
 fn perform<L: Ledger>(
-    machine: &mut Machine,
     program: &Program,
+    machine: &mut Machine,
     thread: ThreadId,
     place: &Place<'_>,
     answer: Result<Change, Refusal>,
@@ -152,8 +152,8 @@ fn perform<L: Ledger>(
     ensures visits { visits.new ≤ visits.old + 2 }
 {
     match answer {
-        Ok(change) => carry_out(machine, program, thread, place, change, out, visits),
-        Err(refusal) => refuse(machine, program, thread, refusal, out),
+        Ok(change) => carry_out(program, machine, thread, place, change, out, visits),
+        Err(refusal) => refuse(program, machine, thread, refusal, out),
     }
 }
 
@@ -162,8 +162,8 @@ fn perform<L: Ledger>(
 /// `NoMemory` the machine may have one object more, to which nothing refers, and there may be its record; all else is as
 /// before.
 pub fn heap_row_event<L: Ledger>(
-    machine: &mut Machine,
     program: &Program,
+    machine: &mut Machine,
     thread: ThreadId,
     place: &Place<'_>,
     row: HeapRow,
@@ -181,9 +181,9 @@ pub fn heap_row_event<L: Ledger>(
     ensures err { OnErr result (machine.new.guest ≡ machine.old.guest) }
     ensures visits { visits.new ≤ visits.old + 6 }
 {
-    let Some(answer) = change_of(machine, program, thread, place, row, visits) else {
+    let Some(answer) = change_of(program, machine, thread, place, row, visits) else {
         return Ok(None);
     };
-    let end = perform(machine, program, thread, place, answer, out, visits)?;
+    let end = perform(program, machine, thread, place, answer, out, visits)?;
     Ok(Some(end))
 }

@@ -20,10 +20,10 @@ use et_flush::{FlushRoom, flush_machine};
 use et_graph::Stamps;
 use et_graph::laws::reaching_is_decided;
 use et_heap::RootList;
-use et_linked::begin_laws::flush_keeps_sound;
+use et_linked::start_laws::flush_keeps_sound;
 use et_program::Program;
+use et_sound::event_laws::events_keep_sound;
 use et_sound::laws::answers_are_sound;
-use et_sound::steady_laws::events_keep_sound;
 use et_state::{EventEnd, Lines, Machine};
 use std::alloc::Global;
 use std::sync::ledger::Ledger;
@@ -52,6 +52,7 @@ pub fn machine_event<L: Ledger>(
     ensures named { OnOk result (All (IsNamed (names_of program.now)) out.old →
         All (IsNamed (names_of program.now)) out.new) }
 {
+    // Laws: they tell the prover, and do nothing.
     answers_are_sound();
     events_keep_sound();
     events_are_told();
@@ -84,6 +85,7 @@ pub fn machine_flush<L: Ledger>(
     ensures clock { OnOk result (machine.new.guest.clock ≡ machine.old.guest.clock) }
     ensures sound { OnOk result (IsSoundRun _program.now (kept_of machine.new)) }
 {
+    // Laws: they tell the prover, and do nothing.
     reaching_is_decided();
     flush_keeps_sound();
     flush_machine(machine, stamps, roots, room, visits)

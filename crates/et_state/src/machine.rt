@@ -205,6 +205,7 @@ impl Machine {
     {
         let t = &mut self.threads[thread.number() as usize];
         self.lost.add_option(t.entry());
+        // Laws: they tell the prover, and do nothing.
         t.set_entered();
     }
 
@@ -221,6 +222,7 @@ impl Machine {
         self.lost.add_option(t.pending());
         self.lost.add_option(t.entry());
         self.lost.add_option(t.object());
+        // Laws: they tell the prover, and do nothing.
         t.end();
     }
 
@@ -327,6 +329,7 @@ impl Machine {
     {
         let t = &mut self.threads[thread.number() as usize];
         let v = t.top().operand(0);
+        // Laws: they tell the prover, and do nothing.
         t.pop();
         let lost = v;
         self.lost.add_value(lost);
@@ -344,6 +347,7 @@ impl Machine {
     {
         let t = &mut self.threads[thread.number() as usize];
         t.top().lose_operands(&mut self.lost);
+        // Laws: they tell the prover, and do nothing.
         t.clear_operands();
     }
 
@@ -428,6 +432,7 @@ impl Machine {
     {
         let t = &mut self.threads[thread.number() as usize];
         t.top().lose_all(&mut self.lost);
+        // Laws: they tell the prover, and do nothing.
         t.drop_frame();
     }
 

@@ -180,6 +180,7 @@ impl Thread {
     {
         let last = self.frames.len() - 1;
         let frame = &mut self.frames[last];
+        // Laws: they tell the prover, and do nothing.
         frame.pop();
     }
 
@@ -190,6 +191,7 @@ impl Thread {
     {
         let last = self.frames.len() - 1;
         let frame = &mut self.frames[last];
+        // Laws: they tell the prover, and do nothing.
         frame.clear_operands();
     }
 

@@ -87,8 +87,8 @@ fn exit_object<L: Ledger>(
 /// `monitorenter` of an object, which waits for another owner.
 #[tactic(auto, using(crate::proofs::Monitored::operand_there_is, crate::proofs::Monitored::object_few, crate::proofs::Monitored::entered_answers, crate::proofs::Monitored::waited_answers))]
 fn monitorenter<L: Ledger>(
-    machine: &mut Machine,
     program: &Program,
+    machine: &mut Machine,
     thread: ThreadId,
     object: ObjectId,
     next: u32,
@@ -115,8 +115,8 @@ fn monitorenter<L: Ledger>(
 /// `monitorexit` of an object: one who doesn't own it throws.
 #[tactic(auto, using(crate::proofs::Monitored::operand_there_is, crate::proofs::Monitored::exited_answers))]
 fn monitorexit<L: Ledger>(
-    machine: &mut Machine,
     program: &Program,
+    machine: &mut Machine,
     thread: ThreadId,
     object: ObjectId,
     next: u32,
@@ -137,8 +137,8 @@ fn monitorexit<L: Ledger>(
 {
     if !owns(machine, thread, &Lock::OfObject(object), visits) {
         return throw_error(
-            machine,
             program,
+            machine,
             thread,
             GuestError::IllegalMonitorStateException,
             out,
@@ -179,15 +179,15 @@ pub(crate) fn monitor_row_event<L: Ledger>(
     };
     let Some(object) = reference else {
         return throw_error(
-            machine,
             program,
+            machine,
             thread,
             GuestError::NullPointerException,
             out,
         );
     };
     match row {
-        MonitorRow::Enter => Ok(monitorenter(machine, program, thread, object, next, visits)),
-        MonitorRow::Exit => monitorexit(machine, program, thread, object, next, out, visits),
+        MonitorRow::Enter => Ok(monitorenter(program, machine, thread, object, next, visits)),
+        MonitorRow::Exit => monitorexit(program, machine, thread, object, next, out, visits),
     }
 }

@@ -114,8 +114,8 @@ fn write_cause<L: Ledger>(
 /// The event in which an initializer fails by what is no Error: a new ExceptionInInitializerError is pending then, with it as
 /// cause.
 fn fail_by_exception<L: Ledger>(
-    machine: &mut Machine,
     program: &Program,
+    machine: &mut Machine,
     thread: ThreadId,
     class: ClassId,
     exception: ObjectId,
@@ -156,8 +156,8 @@ fn fail_by_exception<L: Ledger>(
 /// The event in which the initializer of a class fails: its frame is dropped, the class has failed, and an exception that is no
 /// Error is replaced. It tells of the frame where `<clinit>` was entered.
 pub(crate) fn fail_event<L: Ledger>(
-    machine: &mut Machine,
     program: &Program,
+    machine: &mut Machine,
     thread: ThreadId,
     class: ClassId,
     exception: ObjectId,
@@ -183,7 +183,7 @@ pub(crate) fn fail_event<L: Ledger>(
         fail_by_error(machine, thread, class, exception, tells, out)
     } else {
         fail_by_exception(
-            machine, program, thread, class, exception, tells, out, visits,
+            program, machine, thread, class, exception, tells, out, visits,
         )
     }
 }

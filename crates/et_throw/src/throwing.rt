@@ -79,8 +79,8 @@ pub(crate) fn athrow_event<L: Ledger>(
     };
     let Some(exception) = reference else {
         return throw_error(
-            machine,
             program,
+            machine,
             thread,
             GuestError::NullPointerException,
             out,

@@ -50,8 +50,8 @@ fn leave_if_owned<L: Ledger>(
 
 /// The event in which the frame of a method is dropped, and its monitor left.
 fn unwind_frame<L: Ledger>(
-    machine: &mut Machine,
     program: &Program,
+    machine: &mut Machine,
     thread: ThreadId,
     exception: ObjectId,
     lock: &Option<Lock>,
@@ -95,8 +95,8 @@ fn lock_of_frame(program: &Program, machine: &Machine, thread: ThreadId) -> Opti
 /// The turn in the frame of a method: a handler is entered, or the frame is dropped.
 #[tactic(auto, using(crate::proofs::Turns::by_some, crate::proofs::Turns::by_none))]
 fn unwind_method<L: Ledger>(
-    machine: &mut Machine,
     program: &Program,
+    machine: &mut Machine,
     thread: ThreadId,
     exception: ObjectId,
     thrown: ClassId,
@@ -118,7 +118,7 @@ fn unwind_method<L: Ledger>(
         Some(pc) => Ok(catch_event(machine, thread, exception, pc)),
         None => {
             let lock = lock_of_frame(program, machine, thread);
-            unwind_frame(machine, program, thread, exception, &lock, out, visits)
+            unwind_frame(program, machine, thread, exception, &lock, out, visits)
         }
     }
 }
@@ -126,8 +126,8 @@ fn unwind_method<L: Ledger>(
 /// The turn in the `<clinit>` of a class: a handler is entered, or the initializer fails.
 #[tactic(auto, using(crate::proofs::Turns::by_some, crate::proofs::Turns::by_none))]
 fn unwind_clinit<L: Ledger>(
-    machine: &mut Machine,
     program: &Program,
+    machine: &mut Machine,
     thread: ThreadId,
     class: ClassId,
     exception: ObjectId,
@@ -150,7 +150,7 @@ fn unwind_clinit<L: Ledger>(
     match handler(program, machine, thread, thrown) {
         Some(pc) => Ok(catch_event(machine, thread, exception, pc)),
         None => fail_event(
-            machine, program, thread, class, exception, thrown, true, out, visits,
+            program, machine, thread, class, exception, thrown, true, out, visits,
         ),
     }
 }
@@ -183,12 +183,12 @@ fn unwind_event<L: Ledger>(
 {
     let thrown = class_of(machine, exception, visits);
     match machine.stage(thread) {
-        Stage::Plain => unwind_method(machine, program, thread, exception, thrown, out, visits),
+        Stage::Plain => unwind_method(program, machine, thread, exception, thrown, out, visits),
         Stage::Before(class) => fail_event(
-            machine, program, thread, class, exception, thrown, false, out, visits,
+            program, machine, thread, class, exception, thrown, false, out, visits,
         ),
         Stage::Clinit(class) => unwind_clinit(
-            machine, program, thread, class, exception, thrown, out, visits,
+            program, machine, thread, class, exception, thrown, out, visits,
         ),
     }
 }

@@ -27,6 +27,7 @@ fn class_in<'a>(alloc: Global, path: &'a str, bytes: &[u8]) -> Result<ClassFile,
     ensures of_file { IfOk result HasItsFile }
     ensures bytes { IfErr result (λ refusal. IsOfBytes (cause_of refusal)) }
 {
+    // Laws: they tell the prover, and do nothing.
     exactly_one();
     match read_class(alloc, bytes) {
         Ok(class) => Ok(class),

@@ -22,6 +22,7 @@ fn listing_in<'a>(alloc: Global, path: &'a str, text: &[u8]) -> Result<Vec<u8>, 
         IsListingOf (Ok text.now) class → Tells ⊥ (λ bytes. bytes.items) class result }
     ensures bytes { IfErr result (λ refusal. IsOfBytes (cause_of refusal)) }
 {
+    // Laws: they tell the prover, and do nothing.
     exactly_one();
     match assemble(alloc, text) {
         Ok(bytes) => Ok(bytes),

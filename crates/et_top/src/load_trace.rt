@@ -34,6 +34,7 @@ fn trace_in<'a>(alloc: Global, path: &'a str, bytes: &[u8]) -> Result<Trace, Ref
         IsTraceOf (Ok bytes.now) trace → Tells ⊥ (λ lines. lines) trace result }
     ensures bytes { IfErr result (λ refusal. IsOfBytes (cause_of refusal)) }
 {
+    // Laws: they tell the prover, and do nothing.
     faults_are_one();
     good_lists_differ();
     good_texts_have_no_fault();

@@ -89,7 +89,7 @@ pub(crate) fn main_event<L: Ledger>(
     match need_of(program, machine, thread, class) {
         Need::Ready => enter_main(alloc, program, machine, thread, &[], out, visits),
         Need::Quiet => enter_main(alloc, program, machine, thread, &[class], out, visits),
-        Need::Begins => begin_class_event(program, machine, alloc, thread, class, out),
+        Need::Begins => begin_class_event(alloc, program, machine, thread, class, out),
         Need::Failed => {
             let error = GuestError::NoClassDefFoundError;
             throw_first(program, machine, thread, error, out)

@@ -30,7 +30,7 @@ pub(crate) fn throw_first(
         (moment program.now machine.old thread))) end machine.old machine.new out.old out.new) }
 {
     let class = class_called(program, error.class_name());
-    let Some(object) = make_instance(machine, program, thread, class, out)? else {
+    let Some(object) = make_instance(program, machine, thread, class, out)? else {
         return Ok(EventEnd::ObjectLimit);
     };
     machine.begin_event();
