@@ -15,7 +15,7 @@ use crate::new_frames::{Entered, Passed, new_frame, number_of, passed_arguments,
 use et_base::{NoMemory, Steps, ThreadId};
 use et_builtins::operands_are_few;
 use et_event::GuestError;
-use et_initialize::{begin_prepared, prepared_fit, throw_after, wait_event};
+use et_initialize::{MOST_FRAMES, begin_prepared, prepared_fit, throw_after, wait_event};
 use et_parts::{Lock, enter_some, lock_for, may_enter_some, take};
 use et_program::Program;
 use et_state::{EventEnd, Lines, Machine, NewFrame, Record};
@@ -120,7 +120,7 @@ fn fitting_frame_event<L: Ledger>(
         program.now machine.old thread) entered.now) end machine.old machine.new out.old out.new) }
     ensures visits { visits.new ≤ visits.old + 2 }
 {
-    if machine.frames(thread) >= 1024 {
+    if machine.frames(thread) >= MOST_FRAMES {
         let error = GuestError::StackOverflowError;
         return throw_after(alloc, program, machine, thread, entered.classes, error, out);
     }

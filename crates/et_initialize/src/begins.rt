@@ -26,7 +26,7 @@ use smallvec::SmallVec;
 use std::alloc::Global;
 
 /// A thread has at most so many frames.
-pub(crate) const MOST_FRAMES: u32 = 1024;
+pub const MOST_FRAMES: u32 = 1024;
 
 /// The event of a thread that only waits: nothing but the clock changes.
 pub fn wait_event(machine: &mut Machine, thread: ThreadId) -> EventEnd

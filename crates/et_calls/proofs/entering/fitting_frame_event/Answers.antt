@@ -14,11 +14,11 @@ pub throw_after-requires-clause-frame : goal.throw_after-requires-clause-frame
 throw_after-requires-clause-frame g c =
     let m = c.args.machine.now in
     let t = c.args.thread in
-    let le : most_frames ≤ length (thread_at m.guest t).frames = omega (arith, c.if-frames-ge1024.true, c.frames.ensures.value) in
+    let le : most_frames ≤ length (thread_at m.guest t).frames = omega (arith, c.if-frames-ge-MOST_FRAMES.true, c.frames.ensures.value) in
     full_frame c.args.program.now t c.args.entered.now m c.requires.entered le
 
 pub push_event-requires-clause-few : goal.push_event-requires-clause-few
-push_event-requires-clause-few g c = omega (arith, c.if-frames-ge1024.false, c.frames.ensures.value)
+push_event-requires-clause-few g c = omega (arith, c.if-frames-ge-MOST_FRAMES.false, c.frames.ensures.value)
 
 pub push_event-requires-clause-fits : goal.push_event-requires-clause-fits
 push_event-requires-clause-fits g c =
@@ -30,7 +30,7 @@ returns-then-not-branch-clause-ok g c =
     let m = c.args.machine.now in
     let t = c.args.thread in
     let x = c.args.entered.now in
-    let lt : length (thread_at m.guest t).frames < most_frames = omega (arith, c.if-frames-ge1024.false, c.frames.ensures.value) in
+    let lt : length (thread_at m.guest t).frames < most_frames = omega (arith, c.if-frames-ge-MOST_FRAMES.false, c.frames.ensures.value) in
     fits_few p t x.classes.now (pushed_event (moment p m t) x) m m c.args.out.now c.args.out.now ends.ObjectLimit lt
     (unfit p t x m c.args.out.now c.requires.order c.requires.sound c.requires.entered
     (sym (room_fits (after p m t x.classes.now).state.heap) ∙ (sym (c.in_ok-prepared_fit.ensures t c.requires.entered.ready) ∙ c.if-not-branch.true)))
@@ -41,18 +41,18 @@ returns-clause-ok g c =
     let m = c.args.machine.now in
     let t = c.args.thread in
     let x = c.args.entered.now in
-    let lt : length (thread_at m.guest t).frames < most_frames = omega (arith, c.if-frames-ge1024.false, c.frames.ensures.value) in
+    let lt : length (thread_at m.guest t).frames < most_frames = omega (arith, c.if-frames-ge-MOST_FRAMES.false, c.frames.ensures.value) in
     if_ok c.push_event.result
     (λ end a. fits_few p t x.classes.now (pushed_event (moment p m t) x) m c.push_event.new.machine c.args.out.now c.push_event.new.out end lt a)
     c.push_event.ensures.ok
 
-pub returns-then-frames-ge1024-clause-ok : goal.returns-then-frames-ge1024-clause-ok
-returns-then-frames-ge1024-clause-ok g c =
+pub returns-then-frames-ge-MOST_FRAMES-clause-ok : goal.returns-then-frames-ge-MOST_FRAMES-clause-ok
+returns-then-frames-ge-MOST_FRAMES-clause-ok g c =
     let p = c.args.program.now in
     let m = c.args.machine.now in
     let t = c.args.thread in
     let x = c.args.entered.now in
-    let le : most_frames ≤ length (thread_at m.guest t).frames = omega (arith, c.if-frames-ge1024.true, c.frames.ensures.value) in
+    let le : most_frames ≤ length (thread_at m.guest t).frames = omega (arith, c.if-frames-ge-MOST_FRAMES.true, c.frames.ensures.value) in
     if_ok c.throw_after.result
     (λ end a. fits_full p t x.classes.now (pushed_event (moment p m t) x) m c.throw_after.new.machine c.args.out.now c.throw_after.new.out end le a)
     c.throw_after.ensures
