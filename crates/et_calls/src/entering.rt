@@ -15,8 +15,8 @@ use crate::new_frames::{Entered, Passed, new_frame, number_of, passed_arguments,
 use et_base::{NoMemory, Steps, ThreadId};
 use et_builtins::operands_are_few;
 use et_event::GuestError;
-use et_initialize::{MOST_FRAMES, begin_prepared, prepared_fit, throw_after, wait_event};
-use et_parts::{Lock, enter_some, lock_for, may_enter_some, take};
+use et_initialize::{MOST_FRAMES, begin_prepared, prepared_fit, throw_after};
+use et_parts::{Lock, enter_some, lock_for, may_enter_some, take, wait_event};
 use et_program::Program;
 use et_state::{EventEnd, Lines, Machine, NewFrame, Record};
 use std::alloc::Global;
@@ -151,7 +151,7 @@ pub(crate) fn enter_code<L: Ledger>(
 {
     let lock = lock_for(entered.info, receiver_of(machine, thread, entered));
     if !may_enter_some(machine, thread, &lock, visits) {
-        return Ok(wait_event(machine, thread));
+        return Ok(wait_event(machine));
     }
     fitting_frame_event(alloc, program, machine, thread, entered, out, visits)
 }

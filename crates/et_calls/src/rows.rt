@@ -21,8 +21,8 @@ use crate::plans::{CallPlan, invoke_plan};
 use crate::returns::return_event;
 use et_base::{NoMemory, Steps, ThreadId};
 use et_event::CallRow;
-use et_initialize::{Need, begin_class_event, need_of, wait_event};
-use et_parts::{Place, ill_typed, throw_error};
+use et_initialize::{Need, begin_class_event, need_of};
+use et_parts::{Place, ill_typed, throw_error, wait_event};
 use et_program::Program;
 use et_state::{EventEnd, Lines, Machine};
 use std::alloc::Global;
@@ -83,7 +83,7 @@ fn plan_event<L: Ledger>(
     match plan {
         CallPlan::IllTyped => Ok(ill_typed(machine, thread)),
         CallPlan::Throws(error) => throw_error(program, machine, thread, error, out),
-        CallPlan::Waits => Ok(wait_event(machine, thread)),
+        CallPlan::Waits => Ok(wait_event(machine)),
         CallPlan::Initializes { method, count } => {
             let call = Call {
                 method,

@@ -1,16 +1,13 @@
-//! Events in which an initializer begins, and turns in which a thread waits.
-ghost use Rattle.std.specs.Prelude.{◌≡◌, ◌<◌, ◌≤◌, ◌^◌, ◌++◌, true, List, IfOk, OnOk, length};
-ghost use Rattle.et_program.specs.Entries.{Linked};
-ghost use Rattle.et_state.specs.declared.records.Record.{Record};
+//! Events in which an initializer begins.
+ghost use Rattle.std.specs.Prelude.{◌≡◌, ◌<◌, ◌≤◌, ◌^◌, ◌++◌, true, IfOk, OnOk, length};
 ghost use Rattle.et_state.specs.NewFrames.{frame_of};
 ghost use Rattle.et_state.specs.Threads.{most_frames};
 ghost use Rattle.et_state.specs.declared.class_state.ClassState.TheVariants as states;
 ghost use Rattle.et_state.specs.State.{kept_of};
 ghost use Rattle.et_state.specs.Words.{thread_at, class_state_at};
-ghost use Rattle.et_state.specs.Sound.{IsSound};
 ghost use Rattle.et_state.specs.Moves.{Led};
 ghost use Rattle.et_event.specs.Answered.{EventAnswers};
-ghost use Rattle.et_event.specs.Moments.{moment, begins, waits, fits};
+ghost use Rattle.et_event.specs.Moments.{moment, begins, fits};
 ghost use Rattle.et_event.specs.Sound.{IsSoundFor};
 ghost use Rattle.et_event.specs.Initialization.{begun_by, begins_class, constants_set, with_state, initializer_frame};
 ghost use Rattle.et_event.specs.InitializationOrder.{IsInOrder};
@@ -27,18 +24,6 @@ use std::alloc::Global;
 
 /// A thread has at most so many frames.
 pub const MOST_FRAMES: u32 = 1024;
-
-/// The event of a thread that only waits: nothing but the clock changes.
-pub fn wait_event(machine: &mut Machine, thread: ThreadId) -> EventEnd
-    requires sound { IsSound (kept_of machine.old) }
-    requires clock { machine.old.guest.clock < 2 ^ 40 }
-    ensures { (p : Linked) (out : List Record) →
-        EventAnswers (waits (moment p machine.old thread)) result machine.old machine.new out out }
-{
-    let _ = thread;
-    machine.begin_event();
-    EventEnd::Waited
-}
 
 /// The initializer of a class before its `<clinit>` is entered.
 pub(crate) fn initializer(alloc: Global, class: ClassId) -> NewFrame

@@ -10,7 +10,7 @@ mod needs;
 mod quiet;
 mod steps;
 
-pub use begins::{MOST_FRAMES, begin_class_event, wait_event};
+pub use begins::{MOST_FRAMES, begin_class_event};
 pub use limits::{prepared_fit, quiet_fits};
 pub use needs::{Need, need_of};
 pub use quiet::set_quietly;

@@ -17,14 +17,14 @@ ghost use Rattle.et_event.specs.Initialization.{is_ready as ready, prepared, qui
 ghost use Rattle.et_event.specs.InitializationOrder.{IsInOrder};
 ghost use Rattle.et_initialize.specs.Under.{so_far, ComesTo, IsReady};
 
-use crate::begins::{MOST_FRAMES, initializer, wait_event};
+use crate::begins::{MOST_FRAMES, initializer};
 use crate::constants::{make_object, slots_of};
 use crate::limits::{prepared_class_fits, prepared_fit};
 use crate::needs::{Need, need_of};
 use crate::quiet::{set_constants, set_quietly};
 use et_base::{ClassId, MethodId, NoMemory, ThreadId};
 use et_event::GuestError;
-use et_parts::class_called;
+use et_parts::{class_called, wait_event};
 use et_program::{MethodInfo, Program};
 use et_state::{ClassState, EventEnd, Lines, Machine, Record};
 use std::alloc::Global;
@@ -369,7 +369,7 @@ fn blocked_event(
             let error = GuestError::NoClassDefFoundError;
             throw_after(alloc, program, machine, thread, classes, error, out)
         }
-        Need::Waits => Ok(wait_event(machine, thread)),
+        Need::Waits => Ok(wait_event(machine)),
         Need::Ready | Need::Quiet => unreachable!(),
     }
 }

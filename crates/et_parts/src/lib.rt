@@ -16,7 +16,7 @@ mod places;
 mod throws;
 mod tops;
 
-pub use answers::ill_typed;
+pub use answers::{ill_typed, wait_event};
 pub use codes::{code_of, method_of};
 pub use families::family_of;
 pub use locks::{Lock, lock_for, lock_in};

@@ -17,8 +17,8 @@ use crate::accesses::{Wanted, carry_out, objects_made, slots_made};
 use et_base::{NoMemory, ThreadId};
 use et_event::GuestError;
 use et_heap::{MOST_OBJECTS, MOST_SLOTS};
-use et_initialize::{Need, begin_class_event, need_of, quiet_fits, set_quietly, wait_event};
-use et_parts::{Place, throw_error};
+use et_initialize::{Need, begin_class_event, need_of, quiet_fits, set_quietly};
+use et_parts::{Place, throw_error, wait_event};
 use et_program::Program;
 use et_state::{EventEnd, Lines, Machine};
 use std::alloc::Global;
@@ -150,6 +150,6 @@ pub(crate) fn access_event(
             let error = GuestError::NoClassDefFoundError;
             throw_error(program, machine, thread, error, out)
         }
-        Need::Waits => Ok(wait_event(machine, thread)),
+        Need::Waits => Ok(wait_event(machine)),
     }
 }

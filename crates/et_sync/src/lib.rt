@@ -5,6 +5,5 @@
 mod ending;
 mod event;
 mod monitoring;
-mod waiting;
 
 pub use event::sync_event;

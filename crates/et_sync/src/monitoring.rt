@@ -16,11 +16,11 @@ ghost use Rattle.et_event.specs.declared.rows.MonitorRow.TheVariants as rows;
 ghost use Rattle.et_parts.specs.Tops.{reference_of};
 ghost use Rattle.et_event.specs.Moments.{moment};
 
-use crate::waiting::wait_event;
 use et_base::{NoMemory, ObjectId, Steps, ThreadId};
 use et_event::{GuestError, MonitorRow};
 use et_parts::{
     Lock, enter_monitor, ill_typed, leave_monitor, may_enter, owns, reference_at, throw_error,
+    wait_event,
 };
 use et_program::Program;
 use et_state::{EventEnd, Lines, Machine};

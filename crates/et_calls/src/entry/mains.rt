@@ -17,7 +17,8 @@ use crate::entry::throws::throw_first;
 use crate::new_frames::{Entered, Passed};
 use et_base::{ClassId, NoMemory, Steps, ThreadId};
 use et_event::GuestError;
-use et_initialize::{Need, begin_class_event, need_of, wait_event};
+use et_initialize::{Need, begin_class_event, need_of};
+use et_parts::wait_event;
 use et_program::Program;
 use et_state::{EventEnd, Lines, Machine};
 use std::alloc::Global;
@@ -94,6 +95,6 @@ pub(crate) fn main_event<L: Ledger>(
             let error = GuestError::NoClassDefFoundError;
             throw_first(program, machine, thread, error, out)
         }
-        Need::Waits => Ok(wait_event(machine, thread)),
+        Need::Waits => Ok(wait_event(machine)),
     }
 }

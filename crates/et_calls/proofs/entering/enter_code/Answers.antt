@@ -20,7 +20,7 @@ returns-then-not-may_enter_some-clause-ok g c =
     let lock = locks_of c.lock_for-lock.result in
     let locked = entered_lock p t x m c.receiver_of.result lock c.requires.sound c.requires.entered (c.receiver_of.ensures.value p c.requires.entered.info) c.receiver_of.ensures.held c.lock_for-lock.ensures in
     alike _ _ c.wait_event.result m c.wait_event.new.machine c.args.out.now c.args.out.now
-    (waits_is p t x m lock locked.0 locked.1 (sym c.may_enter_some.ensures.value ∙ c.if-not-may_enter_some.true)) (c.wait_event.ensures p c.args.out.now)
+    (waits_is p t x m lock locked.0 locked.1 (sym c.may_enter_some.ensures.value ∙ c.if-not-may_enter_some.true)) (c.wait_event.ensures p c.args.thread c.args.out.now)
 
 pub returns-clause-ok : goal.returns-clause-ok
 returns-clause-ok g c =

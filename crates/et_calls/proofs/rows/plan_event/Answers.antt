@@ -7,7 +7,7 @@ use Rattle.et_calls.proofs.rows.plan_event.Goals as goal
 pub returns-in-Waits-clause-ok : goal.returns-in-Waits-clause-ok
 returns-in-Waits-clause-ok g c = λ at next.
     let e = moment c.args.program.now c.args.machine.now c.args.thread in
-    plan_answers e at c.args.plan Waits c.wait_event.result c.args.machine.now c.wait_event.new.machine c.args.out.now c.args.out.now c.in-Waits.is (c.wait_event.ensures c.args.program.now c.args.out.now)
+    plan_answers e at c.args.plan Waits c.wait_event.result c.args.machine.now c.wait_event.new.machine c.args.out.now c.args.out.now c.in-Waits.is (c.wait_event.ensures c.args.program.now c.args.thread c.args.out.now)
 
 pub returns-in-Initializes-clause-ok : goal.returns-in-Initializes-clause-ok
 returns-in-Initializes-clause-ok g c =

@@ -23,7 +23,7 @@ pub returns-in-Waits : goal.returns-in-Waits
 returns-in-Waits c =
     subst (λ (x : Outcome Kept). EventAnswers x c.wait_event.result c.args.machine.now c.wait_event.new.machine c.args.out.now c.args.out.now)
     (sym (met_at c.args.program.now c.args.thread c.args.blocker c.args.classes.now c.args.machine.now c.need_of.result _ c.requires.program c.requires.classes c.requires.sound c.requires.ready c.requires.blocked c.need_of.ensures c.in-Waits.is))
-    (c.wait_event.ensures c.args.program.now c.args.out.now)
+    (c.wait_event.ensures c.args.program.now c.args.thread c.args.out.now)
 
 pub unreachable-requires : goal.unreachable-requires
 unreachable-requires c = elim c.in-Ready.is [

@@ -13,4 +13,4 @@ returns-in-Waits c =
     let e = moment c.args.program.now c.args.machine.now c.args.thread in
     subst (λ (x : Outcome Kept). EventAnswers x c.wait_event.result c.args.machine.now c.wait_event.new.machine c.args.out.now c.args.out.now)
     (sym (needs_met e (begins e) c.args.wanted.now.class (accessed e (site_at c.args.place.now) c.args.wanted.now) c.need_of.result _ c.need_of.ensures c.in-Waits.is))
-    (c.wait_event.ensures c.args.program.now c.args.out.now)
+    (c.wait_event.ensures c.args.program.now c.args.thread c.args.out.now)

@@ -12,4 +12,4 @@ returns-in-Waits-clause-ok g c =
     let m = c.args.machine.now in
     let class : c.method.result.now.class ≡ (method_at p p.main).class = ap (λ (i : MethodInfo). i.class) c.method.ensures.value ∙ ap (λ (k : ℕ). (method_at p k).class) c.main.ensures.value in
     main_answers (moment p m c.args.thread) c.method.result.now.class c.need_of.result Waits c.wait_event.result m c.wait_event.new.machine c.args.out.now c.args.out.now class c.need_of.ensures c.in-Waits.is
-    (c.wait_event.ensures p c.args.out.now)
+    (c.wait_event.ensures p c.args.thread c.args.out.now)
