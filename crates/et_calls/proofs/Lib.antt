@@ -15,7 +15,7 @@ mod CalledByCode
 mod Initial
 mod Fresh
 mod Thrown
-mod EntryComing
+mod FirstMethods
 mod Mains
 mod Running
 mod Initializing

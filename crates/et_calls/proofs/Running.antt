@@ -23,7 +23,7 @@ use Rattle.et_event.specs.Event.{event, does_turn}
 use Rattle.et_event.specs.Moments.{Moment, moment, begins, class_of, ill_typed, thread_of, throws}
 use Rattle.et_event.specs.Sound.{IsSoundFor}
 use Rattle.et_calls.specs.Fresh.{IsFresh}
-use Rattle.et_calls.proofs.EntryComing.{object_argument}
+use Rattle.et_calls.proofs.FirstMethods.{object_argument}
 
 -- THE TURN
 

@@ -1,22 +1,22 @@
 //! The methods that are called: those with code are entered, a built-in one is done, and others throw (JVMS 2.11.8, 5.5).
-ghost use Rattle.std.specs.Prelude.{◌≡◌, ◌+◌, ◌<◌, ◌≤◌, ◌^◌, true, [], ◌∷◌, if◌then◌else◌, IfOk, length};
-ghost use Rattle.std.specs.List.{list_all};
+ghost use Rattle.std.specs.Prelude.{◌≡◌, ◌+◌, ◌<◌, ◌≤◌, ◌^◌, true, if◌then◌else◌, IfOk, length};
 ghost use Rattle.et_class.specs.Names.{has as has_flag};
 ghost use Rattle.et_class.specs.declared.flags.TheConstants.{NATIVE as NATIVE_FLAG};
 ghost use Rattle.et_state.specs.State.{kept_of};
 ghost use Rattle.et_state.specs.Words.{HasFrame, top};
-ghost use Rattle.et_program.specs.Entries.{is_static, method_at};
+ghost use Rattle.et_program.specs.Entries.{method_at};
 ghost use Rattle.et_event.specs.Answered.{EventAnswers};
 ghost use Rattle.et_event.specs.Calls.{arguments_of, enters_method};
 ghost use Rattle.et_event.specs.declared.errors.GuestError.TheVariants as errors;
-ghost use Rattle.et_event.specs.Initialization.{is_ready as ready, prepared};
+ghost use Rattle.et_event.specs.Initialization.{is_quiet};
 ghost use Rattle.et_event.specs.Moments.{moment, begins};
 ghost use Rattle.et_event.specs.Sites.{Site};
 ghost use Rattle.et_event.specs.Sound.{IsSoundFor};
 ghost use Rattle.et_event.specs.Programs.{HasMachineSlots, HasMethods};
 ghost use Rattle.et_event.specs.InitializationOrder.{IsInOrder};
 ghost use Rattle.et_calls.specs.Entering.{codeless_call};
-ghost use Rattle.et_calls.specs.Plans.{HasRoom};
+ghost use Rattle.et_calls.specs.Plans.{HasRoom, IsPlan, planned};
+ghost use Rattle.et_calls.specs.declared.plans.CallPlan.TheVariants as plans;
 
 use crate::entering::enter_code;
 use crate::new_frames::{Entered, Passed};
@@ -134,8 +134,7 @@ pub(crate) fn enter_event<L: Ledger>(
     }
 }
 
-/// The event in which a static method is called, after its class, which is ready or quiet, became done (JVMS 5.5, 2.6, 2.11.8,
-/// 2.11.10). It visits three objects at most. After `NoMemory` the event may be half done.
+/// The event in which a static method is called, after its class, which is quiet, became done (JVMS 5.5, 2.6, 2.11.8, 2.11.10). It visits three objects at most. After `NoMemory` the event may be half done.
 pub(crate) fn enter_after<L: Ledger>(
     alloc: Global,
     program: &Program,
@@ -150,17 +149,14 @@ pub(crate) fn enter_after<L: Ledger>(
     requires clock { machine.old.guest.clock < 2 ^ 40 }
     requires order { IsInOrder program.now }
     requires methods { HasMethods program.now }
-    requires ready { list_all (ready (moment program.now machine.old thread)
-        (begins (moment program.now machine.old thread)))
-        ((method_at program.now call.method).class ∷ []) ≡ true }
-    requires operands { call.count ≤ length (top machine.old.guest thread).operands }
-    requires method { call.method < length program.now.methods }
-    requires is_static { is_static program.now call.method ≡ true }
+    requires plan { IsPlan (moment program.now machine.old thread)
+        (plans.Initializes call.method call.count) }
+    requires quiet { is_quiet (moment program.now machine.old thread)
+        (begins (moment program.now machine.old thread))
+        (method_at program.now call.method).class ≡ true }
     ensures ok { IfOk result (λ end. (at : Site) →
-        EventAnswers (enters_method (moment program.now machine.old thread) at
-        (prepared (moment program.now machine.old thread) ((method_at program.now call.method).class
-        ∷ []) (begins (moment program.now machine.old thread))) (arguments_of (moment program.now
-        machine.old thread) call.count) call.method) end machine.old machine.new out.old out.new) }
+        EventAnswers (planned (moment program.now machine.old thread) at
+        (plans.Initializes call.method call.count)) end machine.old machine.new out.old out.new) }
     ensures visits { visits.new ≤ visits.old + 3 }
 {
     let info = program.method(call.method);

@@ -1,4 +1,4 @@
-use Rattle.std.proofs.Common.{◌≡◌, ℕ, [], ◌∷◌, length, Some, None, sym, ◌∙◌, ap, subst}
+use Rattle.std.proofs.Common.{◌≡◌, ℕ, [], ◌∷◌, length, Some, None, refl, sym, ◌∙◌, ap, subst}
 use Rattle.std.specs.List.{list_all}
 use Rattle.et_class.specs.Names.{has}
 use Rattle.et_class.specs.declared.flags.TheConstants.{NATIVE}
@@ -13,7 +13,8 @@ use Rattle.et_event.specs.Frames.{enters_code}
 use Rattle.et_event.specs.Initialization.{is_ready, prepared}
 use Rattle.et_event.specs.Moments.{moment, begins, throws}
 use Rattle.et_parts.proofs.Answering.{if_ok}
-use Rattle.et_calls.proofs.CalledByCode.{code_called, error_by, none_called, one_within}
+use Rattle.et_calls.proofs.CalledByCode.{code_called, error_by, none_called, one_ready, one_within}
+use Rattle.et_calls.proofs.Initial.{quiet_answers}
 use Rattle.et_calls.proofs.called.enter_after.Goals as goal
 
 pub enter_code-requires-clause-entered : goal.enter_code-requires-clause-entered
@@ -24,9 +25,9 @@ enter_code-requires-clause-entered g c =
     record {
       info = c.method-info.ensures.value;
       class = c.method-info.ensures.class;
-      passed = (c.requires.frame, c.requires.operands);
+      passed = (c.requires.frame, c.requires.plan.1);
       classes = one_within c.method-info.result.now.class (length p.classes) c.method-info.ensures.class;
-      ready = ap (λ (k : ℕ). list_all (is_ready e (begins e)) (k ∷ [])) class ∙ c.requires.ready;
+      ready = ap (λ (k : ℕ). list_all (is_ready e (begins e)) (k ∷ [])) class ∙ one_ready e (method_at p c.args.call.method).class (begins e) c.requires.plan.2 c.requires.quiet;
     }
 
 pub throw_after-requires-clause-ready : goal.throw_after-requires-clause-ready
@@ -34,7 +35,7 @@ throw_after-requires-clause-ready g c =
     let p = c.args.program.now in
     let e = moment p c.args.machine.now c.args.thread in
     let class : c.method-info.result.now.class ≡ (method_at p c.args.call.method).class = ap (λ (i : MethodInfo). i.class) c.method-info.ensures.value in
-    ap (λ (k : ℕ). list_all (is_ready e (begins e)) (k ∷ [])) class ∙ c.requires.ready
+    ap (λ (k : ℕ). list_all (is_ready e (begins e)) (k ∷ [])) class ∙ one_ready e (method_at p c.args.call.method).class (begins e) c.requires.plan.2 c.requires.quiet
 
 pub returns-in-Some-clause-ok : goal.returns-in-Some-clause-ok
 returns-in-Some-clause-ok g c =
@@ -45,9 +46,10 @@ returns-in-Some-clause-ok g c =
     let class : c.method-info.result.now.class ≡ (method_at p call.method).class = ap (λ (i : MethodInfo). i.class) c.method-info.ensures.value in
     let code : (method_at p call.method).code ≡ Some c.in-Some.code = ap (λ (i : MethodInfo). i.code) (sym c.method-info.ensures.value) ∙ c.in-Some.is in
     if_ok c.enter_code.result
-    (λ end a at. subst (λ (o : Outcome Kept). EventAnswers o end m c.enter_code.new.machine c.args.out.now c.enter_code.new.out)
+    (λ end a at. quiet_answers e at call.method call.count (method_at p call.method).class end m c.enter_code.new.machine c.args.out.now c.enter_code.new.out refl c.requires.plan.2 c.requires.quiet
+    (subst (λ (o : Outcome Kept). EventAnswers o end m c.enter_code.new.machine c.args.out.now c.enter_code.new.out)
     (ap (λ (k : ℕ). enters_code e (prepared e (k ∷ []) (begins e)) (taking e call.count) call.method (arguments_of e call.count) c.in-Some.code) class
-    ∙ sym (code_called e at (prepared e ((method_at p call.method).class ∷ []) (begins e)) call.count call.method c.in-Some.code c.requires.operands code)) a)
+    ∙ sym (code_called e at (prepared e ((method_at p call.method).class ∷ []) (begins e)) call.count call.method c.in-Some.code c.requires.plan.1 code)) a))
     c.enter_code.ensures.ok
 
 pub returns-in-None-clause-ok : goal.returns-in-None-clause-ok
@@ -61,7 +63,8 @@ returns-in-None-clause-ok g c =
     let code : (method_at p call.method).code ≡ None = ap (λ (i : MethodInfo). i.code) (sym c.method-info.ensures.value) ∙ c.in-None.is in
     let error : c.codeless_error-error.result ≡ error_by (has (method_at p call.method).flags NATIVE) = c.codeless_error-error.ensures ∙ ap (λ (i : MethodInfo). error_by (has i.flags NATIVE)) c.method-info.ensures.value in
     if_ok c.throw_after.result
-    (λ end a at. subst (λ (o : Outcome Kept). EventAnswers o end m c.throw_after.new.machine c.args.out.now c.throw_after.new.out)
+    (λ end a at. quiet_answers e at call.method call.count (method_at p call.method).class end m c.throw_after.new.machine c.args.out.now c.throw_after.new.out refl c.requires.plan.2 c.requires.quiet
+    (subst (λ (o : Outcome Kept). EventAnswers o end m c.throw_after.new.machine c.args.out.now c.throw_after.new.out)
     (ap (λ (k : ℕ). throws e c.codeless_error-error.result (prepared e (k ∷ []) (begins e))) class
-    ∙ (ap (λ (x : GuestError). throws e x d) error ∙ sym (none_called e at d call.count call.method c.requires.operands c.requires.methods c.requires.method c.requires.is_static code))) a)
+    ∙ (ap (λ (x : GuestError). throws e x d) error ∙ sym (none_called e at d call.count call.method c.requires.plan.1 c.requires.methods c.requires.plan.0 c.requires.plan.3 code))) a))
     c.throw_after.ensures

@@ -3,7 +3,7 @@ use Rattle.et_state.specs.Words.{thread_at}
 use Rattle.et_event.specs.Calls.{enters_first, entry_arguments}
 use Rattle.et_event.specs.Moments.{moment, begins}
 use Rattle.et_calls.proofs.CalledByCode.{none_within}
-use Rattle.et_calls.proofs.EntryComing.{answers_alike, code_is, codeless_is, object_argument}
+use Rattle.et_calls.proofs.FirstMethods.{answers_alike, code_is, codeless_is, object_argument}
 use Rattle.et_calls.proofs.entry.runs.enter_run.Goals as goal
 
 pub enter_code-requires-clause-entered : goal.enter_code-requires-clause-entered
