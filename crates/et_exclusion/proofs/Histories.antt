@@ -38,7 +38,7 @@ use Rattle.et_exclusion.specs.Changing.{KeepsMonitors}
 use Rattle.et_exclusion.specs.Histories.{state_at, settled_at, GoesOn, moment_at, times_held}
 use Rattle.et_exclusion.proofs.Agreeing.{Agrees, IsNew, Excludes, holder, excludes_same, excludes_event}
 use Rattle.et_exclusion.proofs.Events.{event_keeps}
-use Rattle.et_exclusion.proofs.Picking.{unended_thread}
+use Rattle.et_run.proofs.Unended.{unended_thread}
 use Rattle.et_exclusion.proofs.Words.{if_case}
 
 -- MONITORS of a sound state

@@ -10,6 +10,5 @@ mod Calls
 mod Returns
 mod Turns
 mod Events
-mod Picking
 mod Agreeing
 mod Histories

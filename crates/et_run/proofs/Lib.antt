@@ -1,6 +1,6 @@
 mod Answering
 mod Counting
-mod Unended
+pub mod Unended
 mod Flushing
 mod Starting
 mod Words
