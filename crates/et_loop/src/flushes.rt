@@ -12,8 +12,9 @@ ghost use Rattle.et_loop.specs.Visits.{due_visits, last_visits};
 
 use crate::guest::Guest;
 use crate::schedule::ended_as;
+use crate::tracer::Tracer;
 use et_base::{End, NoMemory, Steps, TraceLine};
-use et_graph::{Death, Stamps};
+use et_graph::Death;
 use et_text::write_line;
 use std::sync::ledger::Ledger;
 
@@ -43,17 +44,15 @@ fn report<G: Guest, L: Ledger>(
     code: &G::Code,
     e: u64,
     machine: &mut G,
-    stamps: &Stamps,
-    room: &mut G::Room,
-    buffer: &mut Vec<u8>,
+    tracer: &mut Tracer<G::Room>,
     visits: &mut Steps<L>,
 ) -> Result<(), NoMemory>
     requires sound { G.is_sound code.now (G.state machine.old) }
-    requires stamps { HasStamps (G.graph_of (G.state machine.old)) stamps.now }
-    requires room { G.has_places room.old (G.graph_of (G.state machine.old)).made }
-    ensures lines { (deaths : List (ℕ × ℕ)) →
-        AreListed (G.graph_of (G.state machine.old)) (slice_index stamps.now) deaths →
-        OnOk result (buffer.new.items ≡ buffer.old.items ++ text (flush_lines e deaths)) }
+    requires stamps { HasStamps (G.graph_of (G.state machine.old)) tracer.old.stamps }
+    requires room { G.has_places tracer.old.room (G.graph_of (G.state machine.old)).made }
+    ensures lines { (deaths : List (ℕ × ℕ)) → AreListed
+        (G.graph_of (G.state machine.old)) (slice_index tracer.old.stamps) deaths → OnOk result
+        (tracer.new.buffer.items ≡ tracer.old.buffer.items ++ text (flush_lines e deaths)) }
     ensures state { (here : ℕ → Bool) →
         ((o : ℕ) → IsTrue (here o) ↔ IsReached (G.graph_of (G.state machine.old)) o) →
         OnOk result (G.state machine.new ≡ G.flushed_of here (G.state machine.old)) }
@@ -65,10 +64,13 @@ fn report<G: Guest, L: Ledger>(
     ensures clock { OnOk result
         (G.clock_of (G.state machine.new) ≡ G.clock_of (G.state machine.old)) }
     ensures sound { OnOk result (G.is_sound code.now (G.state machine.new)) }
-    ensures room { OnOk result (G.has_places room.new (G.graph_of (G.state machine.new)).made) }
+    ensures room { OnOk result
+        (G.has_places tracer.new.room (G.graph_of (G.state machine.new)).made) }
+    ensures stamps { OnOk result (tracer.new.stamps ≡ tracer.old.stamps) }
+    ensures numbering { OnOk result (tracer.new.numbering ≡ tracer.old.numbering) }
 {
-    machine.flush(code, stamps, room, visits)?;
-    write_deaths(buffer, e, G::deaths(room))
+    machine.flush(code, &tracer.stamps, &mut tracer.room, visits)?;
+    write_deaths(&mut tracer.buffer, e, G::deaths(&tracer.room))
 }
 
 /// The flush after event e, where it is due.
@@ -77,17 +79,15 @@ pub fn settle<G: Guest, L: Ledger>(
     due: bool,
     e: u64,
     machine: &mut G,
-    stamps: &Stamps,
-    room: &mut G::Room,
-    buffer: &mut Vec<u8>,
+    tracer: &mut Tracer<G::Room>,
     visits: &mut Steps<L>,
 ) -> Result<(), NoMemory>
     requires sound { G.is_sound code.now (G.state machine.old) }
-    requires stamps { HasStamps (G.graph_of (G.state machine.old)) stamps.now }
-    requires room { G.has_places room.old (G.graph_of (G.state machine.old)).made }
-    ensures lines { (deaths : List (ℕ × ℕ)) →
-        AreListed (G.graph_of (G.state machine.old)) (slice_index stamps.now) deaths → OnOk result
-        (buffer.new.items ≡ buffer.old.items ++ text (due_lines due (flush_lines e deaths))) }
+    requires stamps { HasStamps (G.graph_of (G.state machine.old)) tracer.old.stamps }
+    requires room { G.has_places tracer.old.room (G.graph_of (G.state machine.old)).made }
+    ensures lines { (deaths : List (ℕ × ℕ)) → AreListed (G.graph_of (G.state machine.old))
+        (slice_index tracer.old.stamps) deaths → OnOk result (tracer.new.buffer.items
+        ≡ tracer.old.buffer.items ++ text (due_lines due (flush_lines e deaths))) }
     ensures state { (here : ℕ → Bool) → ((o : ℕ) → IsTrue (here o)
         ↔ IsReached (G.graph_of (G.state machine.old)) o) → OnOk result (G.state machine.new
         ≡ due_state due (G.flushed_of here (G.state machine.old)) (G.state machine.old)) }
@@ -99,10 +99,13 @@ pub fn settle<G: Guest, L: Ledger>(
     ensures clock { OnOk result
         (G.clock_of (G.state machine.new) ≡ G.clock_of (G.state machine.old)) }
     ensures sound { OnOk result (G.is_sound code.now (G.state machine.new)) }
-    ensures room { OnOk result (G.has_places room.new (G.graph_of (G.state machine.new)).made) }
+    ensures room { OnOk result
+        (G.has_places tracer.new.room (G.graph_of (G.state machine.new)).made) }
+    ensures stamps { OnOk result (tracer.new.stamps ≡ tracer.old.stamps) }
+    ensures numbering { OnOk result (tracer.new.numbering ≡ tracer.old.numbering) }
 {
     if due {
-        report(code, e, machine, stamps, room, buffer, visits)?;
+        report(code, e, machine, tracer, visits)?;
     }
     Ok(())
 }
@@ -114,27 +117,26 @@ pub fn conclude<G: Guest, L: Ledger>(
     e: u64,
     end: &End,
     machine: &mut G,
-    stamps: &Stamps,
-    room: &mut G::Room,
-    buffer: &mut Vec<u8>,
+    tracer: &mut Tracer<G::Room>,
     visits: &mut Steps<L>,
 ) -> Result<(), NoMemory>
     requires sound { G.is_sound code.now (G.state machine.old) }
-    requires stamps { HasStamps (G.graph_of (G.state machine.old)) stamps.now }
-    requires room { G.has_places room.old (G.graph_of (G.state machine.old)).made }
+    requires stamps { HasStamps (G.graph_of (G.state machine.old)) tracer.old.stamps }
+    requires room { G.has_places tracer.old.room (G.graph_of (G.state machine.old)).made }
     ensures visits { (here : ℕ → Bool) → (due ≡ false →
         (o : ℕ) → IsTrue (here o) ↔ IsReached (G.graph_of (G.state machine.old)) o) → OnOk result
         (visits.new ≤ visits.old + last_visits due (G.flush_visits_of here (G.state machine.old))) }
-    ensures lines { (deaths : List (ℕ × ℕ)) → (due ≡ false → AreListed (G.graph_of
-        (G.state machine.old)) (slice_index stamps.now) deaths) → OnOk result (buffer.new.items
-        ≡ buffer.old.items ++ text (last_lines due end.now e (flush_lines e deaths))) }
+    ensures lines { (deaths : List (ℕ × ℕ)) → (due ≡ false →
+        AreListed (G.graph_of (G.state machine.old)) (slice_index tracer.old.stamps) deaths) →
+        OnOk result (tracer.new.buffer.items
+        ≡ tracer.old.buffer.items ++ text (last_lines due end.now e (flush_lines e deaths))) }
 {
     if !due {
-        report(code, e, machine, stamps, room, buffer, visits)?;
+        report(code, e, machine, tracer, visits)?;
     }
     let line = TraceLine::Finish {
         event: e,
         how: ended_as(end),
     };
-    write_line(&line, buffer)
+    write_line(&line, &mut tracer.buffer)
 }

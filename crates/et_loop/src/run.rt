@@ -11,7 +11,7 @@ ghost use Rattle.et_loop.specs.Visits.{allowed_visits};
 
 use crate::guest::Guest;
 use crate::options::Ran;
-use crate::tracer::Tracer;
+use crate::tracer::{Tracer, turn};
 use et_base::{NoMemory, Steps};
 use et_io::{RunFault, Sink, put_all};
 use et_state::{Lines, Options};
@@ -64,11 +64,11 @@ pub fn run_guest<G: Guest, O: Sink, L: Ledger>(
     ensures never_falls { O.faults sink.old ≤ O.faults sink.new }
 {
     let objects = machine.made();
-    let mut room = match first_room::<G>(alloc, objects) {
+    let room = match first_room::<G>(alloc, objects) {
         Ok(room) => room,
         Err(_) => return Err(RunFault::NoMemory),
     };
-    let mut tracer = match Tracer::begin(alloc, code, options.interval, made, objects) {
+    let mut tracer = match Tracer::begin(alloc, code, options.interval, made, objects, room) {
         Ok(tracer) => tracer,
         Err(_) => return Err(RunFault::NoMemory),
     };
@@ -76,7 +76,7 @@ pub fn run_guest<G: Guest, O: Sink, L: Ledger>(
     let mut e = 0;
     'events: loop {
         tracer.buffer.clear();
-        let next = match tracer.turn(alloc, code, options, e, machine, &mut room, visits) {
+        let next = match turn(alloc, code, options, e, machine, &mut tracer, visits) {
             Ok(next) => next,
             Err(_) => return Err(RunFault::NoMemory),
         };

@@ -25,13 +25,15 @@ use et_text::{is_flush_point, write_line};
 use std::alloc::Global;
 use std::sync::ledger::Ledger;
 
-/// What a run keeps beside its machine.
+/// What a run keeps beside its machine. R is the room in which its flushes work.
 #[derive(Drop)]
-pub struct Tracer {
+pub struct Tracer<R: Drop> {
     /// The stamp of each object.
     pub stamps: Stamps,
+    /// The room of a flush.
+    pub room: R,
     /// What the trace mentioned so far.
-    numbering: Numbering,
+    pub numbering: Numbering,
     /// Lines that are to be put.
     pub buffer: Vec<u8>,
 }
@@ -43,10 +45,7 @@ fn step<G: Guest, L: Ledger>(
     options: &Options,
     e: u64,
     machine: &mut G,
-    stamps: &mut Stamps,
-    room: &mut G::Room,
-    numbering: &mut Numbering,
-    buffer: &mut Vec<u8>,
+    tracer: &mut Tracer<G::Room>,
     visits: &mut Steps<L>,
 ) -> Result<Option<End>, NoMemory>
     requires options { AreOptions options.now }
@@ -55,18 +54,19 @@ fn step<G: Guest, L: Ledger>(
     requires sound { G.is_sound code.now (G.state machine.old) }
     requires made { (o : ℕ) → IsReached (G.graph_of (G.state machine.old)) o →
         IsMade (G.graph_of (G.state machine.old)) o }
-    requires stamps { HasStamps (G.graph_of (G.state machine.old)) stamps.old }
-    requires room { G.has_places room.old (G.graph_of (G.state machine.old)).made }
+    requires stamps { HasStamps (G.graph_of (G.state machine.old)) tracer.old.stamps }
+    requires room { G.has_places tracer.old.room (G.graph_of (G.state machine.old)).made }
     ensures goes { IfOk result
         (λ end. Goes (setting_of (G.event_of code.now) G.unended_of G.graph_of G.flushed_of
-        (G.Code.names code.now) options.now) e (G.state machine.old) numbering.old
-        (G.state machine.new) numbering.new buffer.old.items buffer.new.items end) }
+        (G.Code.names code.now) options.now) e (G.state machine.old) tracer.old.numbering (G.state
+        machine.new) tracer.new.numbering tracer.old.buffer.items tracer.new.buffer.items end) }
     ensures visits { IfOk result (λ end. visits.new ≤ visits.old
         + 8 + ((G.graph_of (G.state machine.new)).made - (G.graph_of (G.state machine.old)).made)) }
     ensures stamped { IfOk result (λ end. Stamped end e (G.graph_of (G.state machine.old))
-        (G.graph_of (G.state machine.new)) stamps.old stamps.new) }
-    ensures stamps { OnOk result (HasStamps (G.graph_of (G.state machine.new)) stamps.new) }
-    ensures room { OnOk result (G.has_places room.new (G.graph_of (G.state machine.new)).made) }
+        (G.graph_of (G.state machine.new)) tracer.old.stamps tracer.new.stamps) }
+    ensures stamps { OnOk result (HasStamps (G.graph_of (G.state machine.new)) tracer.new.stamps) }
+    ensures room { OnOk result
+        (G.has_places tracer.new.room (G.graph_of (G.state machine.new)).made) }
     ensures sound { OnOk result (G.is_sound code.now (G.state machine.new)) }
     ensures limit { IfOk result (λ end. IfNone end (e < options.now.limit)) }
     ensures clock { IfOk result (λ end. IfNone end (G.clock_of (G.state machine.new) ≡ e + 1)) }
@@ -83,8 +83,10 @@ fn step<G: Guest, L: Ledger>(
     let mut records = Lines::begin(alloc);
     match machine.event(alloc, code, thread, &mut records, visits)? {
         EventEnd::Done | EventEnd::Waited => {
-            numbering.write_records(code, records.records(), buffer)?;
-            restamp(machine, e, before, stamps, room)?;
+            tracer
+                .numbering
+                .write_records(code, records.records(), &mut tracer.buffer)?;
+            restamp(machine, e, before, &mut tracer.stamps, &mut tracer.room)?;
             Ok(None)
         }
         EventEnd::IllTyped { method, pc } => Ok(Some(End::IllTyped { thread, method, pc })),
@@ -93,7 +95,7 @@ fn step<G: Guest, L: Ledger>(
     }
 }
 
-impl Tracer {
+impl<R: Drop> Tracer<R> {
     /// Begins with the H line and the records of the starting state, and with a place for each of so many objects.
     pub fn begin<P: Program>(
         alloc: Global,
@@ -101,10 +103,12 @@ impl Tracer {
         interval: u64,
         made: &Lines,
         objects: u32,
-    ) -> Result<Tracer, NoMemory>
+        room: R,
+    ) -> Result<Tracer<R>, NoMemory>
         requires { All (IsNamed (P.names code.now)) made.now }
         ensures stamps { IfOk result (λ t. (o : ℕ) → slice_index t.stamps o ≡ 0) }
         ensures places { IfOk result (λ t. objects < length t.stamps) }
+        ensures room { IfOk result (λ t. t.room ≡ room) }
         ensures mentions { IfOk result
             (λ t. t.numbering ≡ mentions_after (P.names code.now) nothing_mentioned made.now) }
         ensures lines { IfOk result (λ t. t.buffer.items
@@ -122,94 +126,64 @@ impl Tracer {
         stamps.grow(objects)?;
         Ok(Tracer {
             stamps,
+            room,
             numbering,
             buffer,
         })
     }
+}
 
-    /// One turn of the run after event e: a flush comes where it is due, and then the next event is done, or the history
-    /// ends.
-    pub fn turn<G: Guest, L: Ledger>(
-        &mut self,
-        alloc: Global,
-        code: &G::Code,
-        options: &Options,
-        e: u64,
-        machine: &mut G,
-        room: &mut G::Room,
-        visits: &mut Steps<L>,
-    ) -> Result<Option<End>, NoMemory>
-        requires options { AreOptions options.now }
-        requires limit { e ≤ options.now.limit }
-        requires clock { G.clock_of (G.state machine.old) ≡ e }
-        requires sound { G.is_sound code.now (G.state machine.old) }
-        requires made { (o : ℕ) → IsReached (G.graph_of (G.state machine.old)) o →
-            IsMade (G.graph_of (G.state machine.old)) o }
-        requires stamps { HasStamps (G.graph_of (G.state machine.old)) self.old.stamps }
-        requires room { G.has_places room.old (G.graph_of (G.state machine.old)).made }
-        ensures turns { (reached : Graph → ℕ → Bool) →
-            Decides reached → (last : ℕ → ℕ) → AreListed (G.graph_of (G.state machine.old))
-            (slice_index self.old.stamps) (let g = G.graph_of (G.state machine.old) in deaths_to
-            (reached g) (is_gone g) (noted (reached g) last e) g.made) → IfOk result (λ end.
-            Turns reached (setting_of (G.event_of code.now) G.unended_of G.graph_of G.flushed_of
-            (G.Code.names code.now) options.now) e (G.state machine.old) last self.old.numbering
-            (G.state machine.new) (noted (reached (G.graph_of (G.state machine.old))) last e)
-            self.new.numbering self.old.buffer.items self.new.buffer.items end) }
-        ensures visits { (here : ℕ → Bool) →
-            ((o : ℕ) → IsTrue (here o) ↔ IsReached (G.graph_of (G.state machine.old)) o) →
-            IfOk result (λ end. TurnVisits end (is_flush_point options.now.interval e)
-            (G.flush_visits_of here (G.state machine.old)) (G.graph_of (G.state machine.old)).made
-            (G.graph_of (G.state machine.new)).made visits.old visits.new) }
-        ensures passes { IfOk result (λ end. IfNone end (Passes
-            (is_flush_point options.now.interval e) e (G.graph_of (G.state machine.old)) (G.graph_of
-            (G.state machine.new)) (slice_index self.old.stamps) (slice_index self.new.stamps))) }
-        ensures stamps { IfOk result
-            (λ end. IfNone end (HasStamps (G.graph_of (G.state machine.new)) self.new.stamps)) }
-        ensures room { IfOk result
-            (λ end. IfNone end (G.has_places room.new (G.graph_of (G.state machine.new)).made)) }
-        ensures sound { IfOk result
-            (λ end. IfNone end (G.is_sound code.now (G.state machine.new))) }
-        ensures limit { IfOk result (λ end. IfNone end (e < options.now.limit)) }
-        ensures clock { IfOk result (λ end. IfNone end (G.clock_of (G.state machine.new) ≡ e + 1)) }
-    {
-        let due = is_flush_point(options.interval, e);
-        settle(
-            code,
-            due,
-            e,
-            machine,
-            &self.stamps,
-            room,
-            &mut self.buffer,
-            visits,
-        )?;
-        match step(
-            alloc,
-            code,
-            options,
-            e,
-            machine,
-            &mut self.stamps,
-            room,
-            &mut self.numbering,
-            &mut self.buffer,
-            visits,
-        )? {
-            None => Ok(None),
-            Some(end) => {
-                conclude(
-                    code,
-                    due,
-                    e,
-                    &end,
-                    machine,
-                    &self.stamps,
-                    room,
-                    &mut self.buffer,
-                    visits,
-                )?;
-                Ok(Some(end))
-            }
+/// One turn of the run after event e: a flush comes where it is due, and then the next event is done, or the history
+/// ends.
+pub fn turn<G: Guest, L: Ledger>(
+    alloc: Global,
+    code: &G::Code,
+    options: &Options,
+    e: u64,
+    machine: &mut G,
+    tracer: &mut Tracer<G::Room>,
+    visits: &mut Steps<L>,
+) -> Result<Option<End>, NoMemory>
+    requires options { AreOptions options.now }
+    requires limit { e ≤ options.now.limit }
+    requires clock { G.clock_of (G.state machine.old) ≡ e }
+    requires sound { G.is_sound code.now (G.state machine.old) }
+    requires made { (o : ℕ) → IsReached (G.graph_of (G.state machine.old)) o →
+        IsMade (G.graph_of (G.state machine.old)) o }
+    requires stamps { HasStamps (G.graph_of (G.state machine.old)) tracer.old.stamps }
+    requires room { G.has_places tracer.old.room (G.graph_of (G.state machine.old)).made }
+    ensures turns { (reached : Graph → ℕ → Bool) →
+        Decides reached → (last : ℕ → ℕ) → AreListed (G.graph_of (G.state machine.old))
+        (slice_index tracer.old.stamps) (let g = G.graph_of (G.state machine.old)
+        in deaths_to (reached g) (is_gone g) (noted (reached g) last e) g.made) → IfOk result
+        (λ end. Turns reached (setting_of (G.event_of code.now) G.unended_of G.graph_of G.flushed_of
+        (G.Code.names code.now) options.now) e (G.state machine.old) last tracer.old.numbering
+        (G.state machine.new) (noted (reached (G.graph_of (G.state machine.old))) last e)
+        tracer.new.numbering tracer.old.buffer.items tracer.new.buffer.items end) }
+    ensures visits { (here : ℕ → Bool) →
+        ((o : ℕ) → IsTrue (here o) ↔ IsReached (G.graph_of (G.state machine.old)) o) →
+        IfOk result (λ end. TurnVisits end (is_flush_point options.now.interval e)
+        (G.flush_visits_of here (G.state machine.old)) (G.graph_of (G.state machine.old)).made
+        (G.graph_of (G.state machine.new)).made visits.old visits.new) }
+    ensures passes { IfOk result (λ end. IfNone end (Passes
+        (is_flush_point options.now.interval e) e (G.graph_of (G.state machine.old)) (G.graph_of
+        (G.state machine.new)) (slice_index tracer.old.stamps) (slice_index tracer.new.stamps))) }
+    ensures stamps { IfOk result
+        (λ end. IfNone end (HasStamps (G.graph_of (G.state machine.new)) tracer.new.stamps)) }
+    ensures room { IfOk result
+        (λ end. IfNone end (G.has_places tracer.new.room (G.graph_of (G.state machine.new)).made)) }
+    ensures sound { IfOk result
+        (λ end. IfNone end (G.is_sound code.now (G.state machine.new))) }
+    ensures limit { IfOk result (λ end. IfNone end (e < options.now.limit)) }
+    ensures clock { IfOk result (λ end. IfNone end (G.clock_of (G.state machine.new) ≡ e + 1)) }
+{
+    let due = is_flush_point(options.interval, e);
+    settle(code, due, e, machine, tracer, visits)?;
+    match step(alloc, code, options, e, machine, tracer, visits)? {
+        None => Ok(None),
+        Some(end) => {
+            conclude(code, due, e, &end, machine, tracer, visits)?;
+            Ok(Some(end))
         }
     }
 }

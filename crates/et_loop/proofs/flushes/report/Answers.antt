@@ -11,7 +11,7 @@ use Rattle.et_loop.proofs.flushes.report.Goals as goal
 pub write_deaths-requires : goal.write_deaths-requires
 write_deaths-requires g c =
     let G = g.G.Guest in
-    let few = few_listed (G.graph_of (G.state c.args.machine.now)) (λ o. get_or c.args.stamps.now o 0) (G.deaths_of c.flush.new.room) c.in_ok-flush.ensures.deaths in
+    let few = few_listed (G.graph_of (G.state c.args.machine.now)) (λ o. get_or c.args.tracer.now.stamps o 0) (G.deaths_of c.flush.new.room) c.in_ok-flush.ensures.deaths in
     let len = length-map {B = ℕ × ℕ} c.deaths.result.now (λ (d : Death). (d.object, d.time)) in
     let same : length (death_pairs c.deaths.result.now) ≡ length (G.deaths_of c.flush.new.room) = ap length c.deaths.ensures in
     omega (arith, few, len, same, c.requires.stamps.few)
@@ -20,5 +20,5 @@ pub returns-clause-lines : goal.returns-clause-lines
 returns-clause-lines g c deaths listed =
     let G = g.G.Guest in
     let same : death_pairs c.deaths.result.now ≡ deaths =
-    c.deaths.ensures ∙ list_one (G.graph_of (G.state c.args.machine.now)) (λ o. get_or c.args.stamps.now o 0) (G.deaths_of c.flush.new.room) deaths c.in_ok-flush.ensures.deaths listed in
-    subst (λ (ds : List (ℕ × ℕ)). OnOk c.write_deaths.result (c.write_deaths.new.buffer.items ≡ c.args.buffer.now.items ++ text (flush_lines c.args.e ds))) same c.write_deaths.ensures
+    c.deaths.ensures ∙ list_one (G.graph_of (G.state c.args.machine.now)) (λ o. get_or c.args.tracer.now.stamps o 0) (G.deaths_of c.flush.new.room) deaths c.in_ok-flush.ensures.deaths listed in
+    subst (λ (ds : List (ℕ × ℕ)). OnOk c.write_deaths.result (c.write_deaths.new.buffer.items ≡ c.args.tracer.now.buffer.items ++ text (flush_lines c.args.e ds))) same c.write_deaths.ensures

@@ -56,7 +56,7 @@ events-init g c =
         few = omega (arith, made);
         places = omega (arith, made, c.in-Ok-begin.ensures.places);
       };
-      room = subst (λ (n : ℕ). g.G.Guest.has_places c.in-Ok.room n) c.made-objects.ensures c.in-Ok.ensures;
+      room = subst (λ x. g.G.Guest.has_places x (g.G.Guest.graph_of (g.G.Guest.state c.args.machine.now)).made) (sym c.in-Ok-begin.ensures.room) (subst (λ (n : ℕ). g.G.Guest.has_places c.in-Ok.room n) c.made-objects.ensures c.in-Ok.ensures);
       limit = search rules;
       clock = c.requires.clock;
       sound = c.requires.sound;
@@ -125,24 +125,24 @@ events-preserved g c =
           let told = c.events.invariant.told reached decides in
           let listed = listed_here reached decides given start c.args.made.now c.events.e _ _ _ _ runs (λ o. get_or c.events.tracer.stamps o 0) told in
           let due = is_flush_point c.args.options.now.interval c.events.e in
-          let passes : Passes due c.events.e (graph c.events.machine) (graph c.turn.new.machine) (λ o. get_or c.events.tracer.stamps o 0) (λ o. get_or c.turn.new.self.stamps o 0) =
-          subst (λ (end : Option End). IfNone end (Passes due c.events.e (graph c.events.machine) (graph c.turn.new.machine) (λ o. get_or c.events.tracer.stamps o 0) (λ o. get_or c.turn.new.self.stamps o 0))) c.in-None.is c.in-Ok-turn.ensures.passes in
+          let passes : Passes due c.events.e (graph c.events.machine) (graph c.turn.new.machine) (λ o. get_or c.events.tracer.stamps o 0) (λ o. get_or c.turn.new.tracer.stamps o 0) =
+          subst (λ (end : Option End). IfNone end (Passes due c.events.e (graph c.events.machine) (graph c.turn.new.machine) (λ o. get_or c.events.tracer.stamps o 0) (λ o. get_or c.turn.new.tracer.stamps o 0))) c.in-None.is c.in-Ok-turn.ensures.passes in
           next_told reached decides given start c.args.made.now c.events.e _ _ _ _ runs (λ o. get_or c.events.tracer.stamps o 0) told c.in-Ok-turn.next _ _ _ _ _ c.clear.ensures.items c.in-None.is (c.in-Ok-turn.ensures.turns reached decides last listed) (c.events.e + 1) (g.O.Sink.taken c.put_all-in-events.new.sink) (add-one c.events.e)
           (subst (λ b. g.O.Sink.taken c.put_all-in-events.new.sink ≡ with_more (g.O.Sink.taken c.events.sink) b) c.deref-in-events.ensures.value c.in_ok-put_all-2.ensures.ok)
-          due (λ o. get_or c.turn.new.self.stamps o 0) passes;
+          due (λ o. get_or c.turn.new.tracer.stamps o 0) passes;
       visits = λ reached decides.
           let G = g.G.Guest in
           let given = setting_of (G.event_of c.args.code.now) G.unended_of G.graph_of G.flushed_of (g.G.Code.Program.names c.args.code.now) c.args.options.now in
           let start = G.state c.args.machine.now in
           let s = S c.events.machine in
           let due = is_flush_point c.args.options.now.interval c.events.e in
-          let passes : Passes due c.events.e (graph c.events.machine) (graph c.turn.new.machine) (λ o. get_or c.events.tracer.stamps o 0) (λ o. get_or c.turn.new.self.stamps o 0) =
-          subst (λ (end : Option End). IfNone end (Passes due c.events.e (graph c.events.machine) (graph c.turn.new.machine) (λ o. get_or c.events.tracer.stamps o 0) (λ o. get_or c.turn.new.self.stamps o 0))) c.in-None.is c.in-Ok-turn.ensures.passes in
+          let passes : Passes due c.events.e (graph c.events.machine) (graph c.turn.new.machine) (λ o. get_or c.events.tracer.stamps o 0) (λ o. get_or c.turn.new.tracer.stamps o 0) =
+          subst (λ (end : Option End). IfNone end (Passes due c.events.e (graph c.events.machine) (graph c.turn.new.machine) (λ o. get_or c.events.tracer.stamps o 0) (λ o. get_or c.turn.new.tracer.stamps o 0))) c.in-None.is c.in-Ok-turn.ensures.passes in
           let turn = subst (λ (end : Option End). TurnVisits end due (G.flush_visits_of (reached (G.graph_of s)) s) (graph c.events.machine).made (graph c.turn.new.machine).made c.events.visits c.turn.new.visits) c.in-None.is (c.in-Ok-turn.ensures.visits (reached (G.graph_of s)) (decides (G.graph_of s))) in
           more_so_far reached given G.flush_visits_of start c.args.made.now c.events.e s c.args.visits.now c.events.visits (c.events.invariant.visits reached decides) ((c.events.invariant.runs reached decides).state) (S c.turn.new.machine) c.turn.new.visits
-          (passes_grow due c.events.e (graph c.events.machine) (graph c.turn.new.machine) (λ o. get_or c.events.tracer.stamps o 0) (λ o. get_or c.turn.new.self.stamps o 0) passes) turn (c.events.e + 1) (add-one c.events.e);
-      stamps = subst (λ (end : Option End). IfNone end (HasStamps (graph c.turn.new.machine) c.turn.new.self.stamps)) c.in-None.is c.in-Ok-turn.ensures.stamps;
-      room = subst (λ (end : Option End). IfNone end (g.G.Guest.has_places c.turn.new.room (graph c.turn.new.machine).made)) c.in-None.is c.in-Ok-turn.ensures.room;
+          (passes_grow due c.events.e (graph c.events.machine) (graph c.turn.new.machine) (λ o. get_or c.events.tracer.stamps o 0) (λ o. get_or c.turn.new.tracer.stamps o 0) passes) turn (c.events.e + 1) (add-one c.events.e);
+      stamps = subst (λ (end : Option End). IfNone end (HasStamps (graph c.turn.new.machine) c.turn.new.tracer.stamps)) c.in-None.is c.in-Ok-turn.ensures.stamps;
+      room = subst (λ (end : Option End). IfNone end (g.G.Guest.has_places c.turn.new.tracer.room (graph c.turn.new.machine).made)) c.in-None.is c.in-Ok-turn.ensures.room;
       limit = omega arith;
       clock = subst (λ (end : Option End). IfNone end (g.G.Guest.clock_of (S c.turn.new.machine) ≡ c.events.e + 1)) c.in-None.is c.in-Ok-turn.ensures.clock;
       sound = subst (λ (end : Option End). IfNone end (g.G.Guest.is_sound c.args.code.now (S c.turn.new.machine))) c.in-None.is c.in-Ok-turn.ensures.sound;

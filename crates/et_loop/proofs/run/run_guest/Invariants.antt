@@ -17,7 +17,7 @@ invariant-events g l =
       told : (reached : Graph → ℕ → Bool) → (decides : Decides reached) → IsTold (graphs reached decides given (G.state l.fn.machine) l.made) l.e (G.graph_of (G.state l.machine)) (λ o. get_or l.tracer.stamps o 0);
       visits : (reached : Graph → ℕ → Bool) → Decides reached → AreSoFar reached given G.flush_visits_of (G.state l.fn.machine) l.made l.e (G.state l.machine) l.fn.visits l.visits;
       stamps : HasStamps (G.graph_of (G.state l.machine)) l.tracer.stamps;
-      room : G.has_places l.room (G.graph_of (G.state l.machine)).made;
+      room : G.has_places l.tracer.room (G.graph_of (G.state l.machine)).made;
       limit : l.e ≤ l.options.limit;
       clock : G.clock_of (G.state l.machine) ≡ l.e;
       sound : G.is_sound l.code (G.state l.machine);

@@ -6,7 +6,7 @@ use Rattle.et_loop.specs.Stamping.{Stamped}
 use Rattle.et_loop.specs.Visits.{TurnVisits}
 use Rattle.et_loop.proofs.Counts.{settled_as_many, turn_on_visits, turn_last_visits}
 use Rattle.et_loop.proofs.TurnSteps.{settled_made, deaths_now, goes_on, goes_out, still_listed}
-use Rattle.et_loop.proofs.tracer.Tracer.turn.Goals as goal
+use Rattle.et_loop.proofs.tracer.turn.Goals as goal
 
 pub step-requires-clause-made : goal.step-requires-clause-made
 step-requires-clause-made g c =
@@ -20,11 +20,12 @@ returns-in-None-clause-turns g c reached decides last listed =
     let s = G.state c.args.machine.now in
     let graph = G.graph_of s in
     let given = setting_of (G.event_of c.args.code.now) G.unended_of G.graph_of G.flushed_of (g.G.Code.Program.names c.args.code.now) c.args.options.now in
-    let deaths = deaths_now reached given c.args.e s s s last c.args.self.now.numbering c.args.self.now.numbering false [] [] [] in
+    let deaths = deaths_now reached given c.args.e s s s last c.args.tracer.now.numbering c.args.tracer.now.numbering false [] [] [] in
     let lines = c.in_ok-settle.ensures.lines deaths listed in
     let state = c.in_ok-settle.ensures.state (reached graph) (decides graph) in
-    let goes = subst (λ end. Goes given c.args.e (G.state c.settle.new.machine) c.args.self.now.numbering (G.state c.step.new.machine) c.step.new.numbering c.settle.new.buffer.items c.step.new.buffer.items end) c.in-None.is c.in_ok-step.ensures.goes in
-    goes_on reached given c.args.e s (G.state c.settle.new.machine) (G.state c.step.new.machine) last c.args.self.now.numbering c.step.new.numbering c.is_flush_point-due.result c.args.self.now.buffer.items c.settle.new.buffer.items c.step.new.buffer.items
+    let step = subst (λ n. Goes given c.args.e (G.state c.settle.new.machine) n (G.state c.step.new.machine) c.step.new.tracer.numbering c.settle.new.tracer.buffer.items c.step.new.tracer.buffer.items c.in_ok-step.field-0) c.in_ok-settle.ensures.numbering c.in_ok-step.ensures.goes in
+    let goes = subst (λ end. Goes given c.args.e (G.state c.settle.new.machine) c.args.tracer.now.numbering (G.state c.step.new.machine) c.step.new.tracer.numbering c.settle.new.tracer.buffer.items c.step.new.tracer.buffer.items end) c.in-None.is step in
+    goes_on reached given c.args.e s (G.state c.settle.new.machine) (G.state c.step.new.machine) last c.args.tracer.now.numbering c.step.new.tracer.numbering c.is_flush_point-due.result c.args.tracer.now.buffer.items c.settle.new.tracer.buffer.items c.step.new.tracer.buffer.items
     c.is_flush_point-due.ensures lines state goes
 
 -- the history ended
@@ -34,15 +35,17 @@ returns-in_ok-conclude-in-Some-clause-turns g c reached decides last listed =
     let s = G.state c.args.machine.now in
     let graph = G.graph_of s in
     let given = setting_of (G.event_of c.args.code.now) G.unended_of G.graph_of G.flushed_of (g.G.Code.Program.names c.args.code.now) c.args.options.now in
-    let deaths = deaths_now reached given c.args.e s s s last c.args.self.now.numbering c.args.self.now.numbering false [] [] [] in
+    let deaths = deaths_now reached given c.args.e s s s last c.args.tracer.now.numbering c.args.tracer.now.numbering false [] [] [] in
     let lines = c.in_ok-settle.ensures.lines deaths listed in
     let state = c.in_ok-settle.ensures.state (reached graph) (decides graph) in
-    let goes = subst (λ end. Goes given c.args.e (G.state c.settle.new.machine) c.args.self.now.numbering (G.state c.step.new.machine) c.step.new.numbering c.settle.new.buffer.items c.step.new.buffer.items end) c.in-Some.is c.in_ok-step.ensures.goes in
-    let kept = subst (λ end. Stamped end c.args.e (G.graph_of (G.state c.settle.new.machine)) (G.graph_of (G.state c.step.new.machine)) c.args.self.now.stamps c.step.new.stamps) c.in-Some.is c.in_ok-step.ensures.stamped in
-    let still = still_listed reached given c.args.e s (G.state c.settle.new.machine) (G.state c.step.new.machine) last c.args.self.now.numbering c.step.new.numbering c.is_flush_point-due.result c.args.self.now.buffer.items c.settle.new.buffer.items c.step.new.buffer.items
-    c.is_flush_point-due.ensures lines state c.in-Some.end c.args.self.now.stamps c.step.new.stamps goes kept listed in
-    let out = goes_out reached given c.args.e s (G.state c.settle.new.machine) (G.state c.step.new.machine) last c.args.self.now.numbering c.step.new.numbering c.is_flush_point-due.result c.args.self.now.buffer.items c.settle.new.buffer.items c.step.new.buffer.items
-    c.is_flush_point-due.ensures lines state c.in-Some.end c.conclude.new.buffer.items goes (c.in_ok-conclude-in-Some.ensures.lines deaths still) in
+    let step = subst (λ n. Goes given c.args.e (G.state c.settle.new.machine) n (G.state c.step.new.machine) c.step.new.tracer.numbering c.settle.new.tracer.buffer.items c.step.new.tracer.buffer.items c.in_ok-step.field-0) c.in_ok-settle.ensures.numbering c.in_ok-step.ensures.goes in
+    let goes = subst (λ end. Goes given c.args.e (G.state c.settle.new.machine) c.args.tracer.now.numbering (G.state c.step.new.machine) c.step.new.tracer.numbering c.settle.new.tracer.buffer.items c.step.new.tracer.buffer.items end) c.in-Some.is step in
+    let kept = subst (λ end. Stamped end c.args.e (G.graph_of (G.state c.settle.new.machine)) (G.graph_of (G.state c.step.new.machine)) c.args.tracer.now.stamps c.step.new.tracer.stamps) c.in-Some.is
+    (subst (λ stamps. Stamped c.in_ok-step.field-0 c.args.e (G.graph_of (G.state c.settle.new.machine)) (G.graph_of (G.state c.step.new.machine)) stamps c.step.new.tracer.stamps) c.in_ok-settle.ensures.stamps c.in_ok-step.ensures.stamped) in
+    let still = still_listed reached given c.args.e s (G.state c.settle.new.machine) (G.state c.step.new.machine) last c.args.tracer.now.numbering c.step.new.tracer.numbering c.is_flush_point-due.result c.args.tracer.now.buffer.items c.settle.new.tracer.buffer.items c.step.new.tracer.buffer.items
+    c.is_flush_point-due.ensures lines state c.in-Some.end c.args.tracer.now.stamps c.step.new.tracer.stamps goes kept listed in
+    let out = goes_out reached given c.args.e s (G.state c.settle.new.machine) (G.state c.step.new.machine) last c.args.tracer.now.numbering c.step.new.tracer.numbering c.is_flush_point-due.result c.args.tracer.now.buffer.items c.settle.new.tracer.buffer.items c.step.new.tracer.buffer.items
+    c.is_flush_point-due.ensures lines state c.in-Some.end c.conclude.new.tracer.buffer.items goes (c.in_ok-conclude-in-Some.ensures.lines deaths still) in
     record { ends = out.ends; lines = out.lines }
 
 -- the visits of a turn
@@ -59,7 +62,8 @@ returns-in_ok-conclude-in-Some-clause-visits g c here decides =
     let G = g.G.Guest in
     let s = G.state c.args.machine.now in
     let given = setting_of (G.event_of c.args.code.now) G.unended_of G.graph_of G.flushed_of (g.G.Code.Program.names c.args.code.now) c.args.options.now in
-    let goes = subst (λ end. Goes given c.args.e (G.state c.settle.new.machine) c.args.self.now.numbering (G.state c.step.new.machine) c.step.new.numbering c.settle.new.buffer.items c.step.new.buffer.items end) c.in-Some.is c.in_ok-step.ensures.goes in
+    let step = subst (λ n. Goes given c.args.e (G.state c.settle.new.machine) n (G.state c.step.new.machine) c.step.new.tracer.numbering c.settle.new.tracer.buffer.items c.step.new.tracer.buffer.items c.in_ok-step.field-0) c.in_ok-settle.ensures.numbering c.in_ok-step.ensures.goes in
+    let goes = subst (λ end. Goes given c.args.e (G.state c.settle.new.machine) c.args.tracer.now.numbering (G.state c.step.new.machine) c.step.new.tracer.numbering c.settle.new.tracer.buffer.items c.step.new.tracer.buffer.items end) c.in-Some.is step in
     let state = c.in_ok-settle.ensures.state here decides in
     let same : c.is_flush_point-due.result ≡ false → G.state c.step.new.machine ≡ s =
     λ none. goes.state ∙ (state ∙ ap (λ (b : Bool). due_state b (G.flushed_of here s) s) none) in
