@@ -24,7 +24,7 @@ use Rattle.et_event.specs.Event.{event}
 use Rattle.et_event.specs.Moments.{Moment, later}
 use Rattle.et_event.specs.Monitors.{Lock, OfObject, OfClass}
 use Rattle.et_event.specs.Sound.{IsSoundMonitor, IsSoundFor}
-use Rattle.et_event.specs.Start.{start}
+use Rattle.et_state.specs.Start.{start}
 use Rattle.et_state.specs.Sound.{IsSound}
 use Rattle.et_sound.specs.Outcomes.{KeepsSound}
 use Rattle.et_sound.specs.WellFormed.{IsThere}

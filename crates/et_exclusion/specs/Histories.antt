@@ -9,7 +9,8 @@ use Rattle.et_state.specs.History as history
 use Rattle.et_event.specs.Event.{event}
 use Rattle.et_event.specs.Moments.{Moment}
 use Rattle.et_event.specs.Monitors.{Lock}
-use Rattle.et_event.specs.Start.{start, start_records}
+use Rattle.et_state.specs.Start.{start}
+use Rattle.et_event.specs.Start.{start_records}
 use Rattle.et_run.specs.Histories.{setting}
 use Rattle.et_exclusion.specs.Holding.{times_after}
 

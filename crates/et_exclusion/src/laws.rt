@@ -10,7 +10,7 @@ ghost use Rattle.et_state.specs.Options.{AreOptions};
 ghost use Rattle.et_event.specs.Event.{event};
 ghost use Rattle.et_event.specs.Monitors.{Lock};
 ghost use Rattle.et_event.specs.Sound.{IsSoundFor};
-ghost use Rattle.et_event.specs.Start.{start};
+ghost use Rattle.et_state.specs.Start.{start};
 ghost use Rattle.et_sound.specs.WellFormed.{IsThere};
 ghost use Rattle.et_event.specs.Runnable.{IsRunnable};
 ghost use Rattle.et_run.specs.Guests.{IsSoundRun};

@@ -31,7 +31,7 @@ use Rattle.et_hierarchy.specs.Ancestry.{Ancestry}
 use Rattle.et_link.proofs.TabledLemmas.{length-classes, length-singles, fields_within}
 use Rattle.et_heap.specs.Objects.{new_object}
 use Rattle.et_event.specs.Sound.{IsSoundObject, slots_by, is_of_kind, kind_of_element}
-use Rattle.et_event.specs.Start.{argument_class}
+use Rattle.et_state.specs.Start.{argument_class}
 use Rattle.et_linked.specs.ClassNames.{HasClassName}
 use Rattle.et_linked.proofs.Places.{at_behind, first_behind, first_numbered_behind, none_first, one_of}
 use Rattle.et_linked.proofs.BuiltIn.{has_no_fields, of_string, no_boot_array, object_fieldless, cloneable_fieldless, serializable_fieldless}

@@ -1,6 +1,6 @@
 -- The first state of a program is sound.
 use Rattle.std.proofs.Common.{◌≡◌, ℕ, zero, suc, ◌+◌, ◌<◌, ◌≤◌, ◌^◌, Bool, true, false, cond, List, [], ◌∷◌, ◌++◌, length, replicate, Option, Some, None, IfSome, refl, sym, ◌∙◌, ap, subst, rules, arith}
-use Rattle.std.specs.Prelude.{All, IsSome, IfOk, Result, Ok, Err, unwrap_or, codes}
+use Rattle.std.specs.Prelude.{All, IsSome, unwrap_or, codes}
 use Rattle.std.specs.List.{slice_index_or}
 use Rattle.std.specs.Str.{bytes_eq}
 use Rattle.std.proofs.lemmas.List.{length-replicate, get_or-replicate}
@@ -16,9 +16,8 @@ use Rattle.et_program.specs.ProgramOf.{heads_of, names_of, program_with, IsProgr
 use Rattle.et_link.proofs.TabledLemmas.{length-set, length-classes}
 use Rattle.et_heap.specs.Objects.{ObjectState, Objects, IsHeld, at, object_at, new_object, free_monitor}
 use Rattle.et_heap.specs.Refs.{refs_of}
-use Rattle.et_state.specs.declared.class_state.ClassState.{ClassState}
 use Rattle.et_state.specs.declared.class_state.ClassState.TheVariants.{Untouched, Done}
-use Rattle.et_state.specs.State.{GuestState, Kept, MachineState, kept_of}
+use Rattle.et_state.specs.State.{GuestState}
 use Rattle.et_state.specs.Words.{static_at}
 use Rattle.et_state.specs.Roots.{roots_of}
 use Rattle.et_state.specs.Sound.{IsSound}
@@ -28,7 +27,8 @@ use Rattle.et_event.specs.declared.rows.Operand.{Operand}
 use Rattle.et_event.specs.declared.rows.Operand.TheVariants as operand
 use Rattle.et_event.specs.Kinds.{kind_of}
 use Rattle.et_event.specs.Sound.{is_of_kind, IsSoundObject, IsSoundMonitor, IsSoundThread, IsSoundClassState, IsSoundStatic, IsSoundFor}
-use Rattle.et_event.specs.Start.{argument_class, is_of_file, first_class_state, class_states_from, start, start_records}
+use Rattle.et_state.specs.Start.{argument_class, is_of_file, first_class_state, class_states_from, start}
+use Rattle.et_event.specs.Start.{start_records}
 use Rattle.et_linked.specs.ClassNames.{HasClassName}
 use Rattle.et_linked.proofs.Arguments.{arguments_sound}
 
@@ -108,19 +108,6 @@ states_sound : (p : Linked) (g : GuestState) (c n : ℕ) → All (IsSoundClassSt
 states_sound p g c zero = All-nil (IsSoundClassState g)
 states_sound p g c (suc n) = All-cons (IsSoundClassState g) (first_class_state p c) (class_states_from p (c + 1) n) (state_sound g (is_of_file p c)) (states_sound p g (c + 1) n)
 
--- one class more
-pub states_more : (p : Linked) (c n : ℕ) → class_states_from p c (n + 1) ≡ class_states_from p c n ++ first_class_state p (c + n) ∷ []
-states_more p c zero = ap (λ (k : ℕ). first_class_state p k ∷ []) (let same : c ≡ c + 0 = omega arith in same)
-states_more p c (suc n) =
-    ap (λ (k : ℕ). class_states_from p c k) (let e : suc n + 1 ≡ suc (n + 1) = omega arith in e)
-    ∙ ap (λ (l : List ClassState). first_class_state p c ∷ l)
-    (states_more p (c + 1) n ∙ ap (λ (k : ℕ). class_states_from p (c + 1) n ++ first_class_state p k ∷ []) (let same : c + 1 + n ≡ c + suc n = omega arith in same))
-
-pub states_next : (p : Linked) (n : ℕ) (old new : List ClassState) (x : ClassState) → old ≡ class_states_from p 0 n → x ≡ first_class_state p n → new ≡ old ++ x ∷ [] → new ≡ class_states_from p 0 (n + 1)
-states_next p n old new x e here grown =
-    grown ∙ (ap (λ (l : List ClassState). l ++ x ∷ []) e ∙ (ap (λ (y : ClassState). class_states_from p 0 n ++ y ∷ []) here
-    ∙ sym (states_more p 0 n ∙ ap (λ (k : ℕ). class_states_from p 0 n ++ first_class_state p k ∷ []) (let same : 0 + n ≡ n = omega arith in same))))
-
 -- STATIC SLOTS
 
 pub unset_fits : (k : Option Operand) → is_of_kind k Unset ≡ true
@@ -158,10 +145,6 @@ started p sound =
 pub start_sound : (files : List LoadedClass) (p : Linked) → All HasClassName files → IsProgramOf files p → IsSoundFor p (start p)
 start_sound files p named is =
     subst (λ (q : Linked). IsSoundFor q (start q)) (sym is.tables) (started (program_with files is.rows p.pools) (arguments_sound files is.rows p.pools named))
-
-pub machine_sound : {E : Type 0} (p : Linked) (result : Result MachineState E) → IfOk result (λ m. kept_of m ≡ start p) → IsSoundFor p (start p) → IfOk result (λ m. IsSoundFor p (kept_of m))
-machine_sound p (Ok m) e sound = subst (λ (s : Kept). IsSoundFor p s) (sym e) sound
-machine_sound p (Err error) e sound = tt
 
 -- THE RECORDS
 

@@ -10,7 +10,7 @@ ghost use Rattle.et_class.specs.Layout.{ClassOf};
 ghost use Rattle.et_event.specs.declared.errors.GuestError.{GuestError};
 ghost use Rattle.et_event.specs.Errors.{error_class};
 ghost use Rattle.et_event.specs.Sound.{IsSoundFor};
-ghost use Rattle.et_event.specs.Start.{start};
+ghost use Rattle.et_state.specs.Start.{start};
 ghost use Rattle.et_graph.specs.Graph.{IsReached};
 ghost use Rattle.et_heap.specs.Objects.{IsHeld};
 ghost use Rattle.et_program.specs.Loaded.{LoadedClass, loaded_class};

@@ -10,7 +10,7 @@ use std::test::Fail;
 fn first(alloc: Global) -> Result<Machine, NoMemory> {
     let classes = vec![in alloc; ClassState::Untouched; 2]?;
     let statics = vec![in alloc; Value::Null; 1]?;
-    Machine::begin(alloc, ClassId::new(7), classes, statics)
+    Machine::of(alloc, ClassId::new(7), classes, statics)
 }
 
 fn frame(alloc: Global) -> Result<NewFrame, NoMemory> {

@@ -1,5 +1,5 @@
 -- What a linked program has, so that it may be run.
-use Rattle.std.proofs.Common.{ℕ, ◌<◌, List, length, map, sym, subst}
+use Rattle.std.proofs.Common.{◌<◌, List, length, map, sym, subst}
 use Rattle.std.specs.Prelude.{All}
 use Rattle.std.proofs.lemmas.List.{length-map}
 use Rattle.et_class.specs.Layout.{ClassOf}
@@ -9,7 +9,7 @@ use Rattle.et_program.specs.LinkFaults.{IsLinkable}
 use Rattle.et_program.specs.Linking.{IsOfFile, IsLinked}
 use Rattle.et_program.specs.ProgramOf.{IsProgramOf}
 use Rattle.et_event.specs.Sound.{IsSoundFor}
-use Rattle.et_event.specs.Start.{start}
+use Rattle.et_state.specs.Start.{start}
 use Rattle.et_linked.specs.ClassNames.{HasClassName}
 use Rattle.et_event.specs.Runnable.{IsRunnable}
 use Rattle.et_linked.specs.Programs.{KeepRules}

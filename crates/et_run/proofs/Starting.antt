@@ -16,7 +16,8 @@ use Rattle.et_program.proofs.PlaceLemmas.{position_within}
 use Rattle.et_state.specs.Roots.{graph_of}
 use Rattle.et_state.specs.declared.records.Record.TheVariants.{Alloc}
 use Rattle.et_state.specs.Naming.{IsNamed}
-use Rattle.et_event.specs.Start.{argument_class, start, start_records}
+use Rattle.et_state.specs.Start.{argument_class, start}
+use Rattle.et_event.specs.Start.{start_records}
 use Rattle.et_loop.specs.Kept.{IsStepTo}
 use Rattle.et_run.specs.Telling.{names_of}
 

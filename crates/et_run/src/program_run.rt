@@ -1,7 +1,8 @@
 //! The run of a linked program.
 ghost use Rattle.std.specs.Prelude.{◌≡◌, ℕ, Bool, ◌+◌, ◌≤◌, IfOk, OnErr, IsErrOf};
 ghost use Rattle.et_event.specs.Sound.{IsSoundFor};
-ghost use Rattle.et_event.specs.Start.{start, start_records};
+ghost use Rattle.et_state.specs.Start.{start};
+ghost use Rattle.et_event.specs.Start.{start_records};
 ghost use Rattle.et_graph.specs.Graph.{Graph, Decides};
 ghost use Rattle.et_run.specs.Guests.{flush_visits_of};
 ghost use Rattle.et_run.specs.Histories.{setting};
@@ -13,7 +14,7 @@ ghost use Rattle.et_loop.specs.Traced.{WritesTrace, WritesPrefix};
 ghost use Rattle.et_state.specs.Options.{AreOptions};
 ghost use Rattle.et_event.specs.Runnable.{IsRunnable};
 
-use crate::first::{begin, start_lines};
+use crate::first::start_lines;
 use crate::guest::ProgramGuest;
 use crate::named::NamedProgram;
 use et_base::{NoMemory, Steps};
@@ -31,7 +32,7 @@ fn first(alloc: Global, program: &Program) -> Result<(Machine, Lines), NoMemory>
     ensures state { IfOk result (λ x. kept_of x.0 ≡ start program.now) }
     ensures records { IfOk result (λ x. x.1 ≡ start_records program.now) }
 {
-    let machine = begin(alloc, program)?;
+    let machine = Machine::begin(alloc, program)?;
     let made = start_lines(alloc, program)?;
     Ok((machine, made))
 }

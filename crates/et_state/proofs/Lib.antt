@@ -8,3 +8,4 @@ pub mod Wholes
 pub mod Pasts
 pub mod Flushes
 pub mod Steps
+mod ClassStates

@@ -17,3 +17,4 @@ pub mod Sound
 pub mod Moves
 pub mod Past
 pub mod MachineInside
+pub mod Start

@@ -3,6 +3,7 @@
 
 mod class_state;
 mod ends;
+mod first;
 mod frame;
 mod interned;
 pub mod laws;
@@ -19,6 +20,7 @@ mod threads;
 
 pub use class_state::ClassState;
 pub use ends::EventEnd;
+pub use first::argument_class;
 pub use frame::Frame;
 pub use lines::Lines;
 pub use listing::list_values;

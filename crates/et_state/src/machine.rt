@@ -58,7 +58,7 @@ impl Model for Machine {
 impl Machine {
     /// The first state, with the class of the array of arguments, how far each class is, and what the static slots hold.
     /// Object 1 is that array, of length 0, and thread 0 has it in its entry slot.
-    pub fn begin(
+    pub fn of(
         alloc: Global,
         array_class: ClassId,
         classes: Vec<ClassState>,

@@ -11,7 +11,8 @@ use Rattle.et_state.specs.declared.options.Options.{Options}
 use Rattle.et_loop.specs.declared.options.Ran.{Ran}
 use Rattle.et_loop.specs.Traced.{WritesTrace, WritesPrefix}
 use Rattle.et_program.specs.Entries.{Linked}
-use Rattle.et_event.specs.Start.{start, start_records}
+use Rattle.et_state.specs.Start.{start}
+use Rattle.et_event.specs.Start.{start_records}
 use Rattle.et_run.specs.Histories.{setting}
 use Rattle.et_run.specs.Guests.{flush_visits_of}
 use Rattle.et_loop.specs.Visits.{allowed_visits}

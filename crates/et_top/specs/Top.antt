@@ -18,7 +18,8 @@ use Rattle.et_replay.specs.declared.model.Policy.{Policy}
 use Rattle.et_top.specs.declared.command.Models.{Models}
 use Rattle.et_top.specs.Command as words
 use Rattle.et_program.specs.Entries.{Linked}
-use Rattle.et_event.specs.Start.{start, start_records}
+use Rattle.et_state.specs.Start.{start}
+use Rattle.et_event.specs.Start.{start_records}
 use Rattle.et_run.specs.Histories.{setting}
 use Rattle.et_run.specs.Guests.{flush_visits_of}
 use Rattle.et_loop.specs.Visits.{allowed_visits}

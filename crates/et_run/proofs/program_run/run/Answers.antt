@@ -1,8 +1,9 @@
-use Rattle.std.proofs.Common.{◌≡◌, ℕ, ◌+◌, ◌≤◌, List, subst}
+use Rattle.std.proofs.Common.{◌+◌, ◌≤◌, List, subst}
 use Rattle.std.specs.Prelude.{IfOk, OnErr}
-use Rattle.et_state.specs.State.{Kept, kept_of}
+use Rattle.et_state.specs.State.{Kept}
 use Rattle.et_state.specs.declared.records.Record.{Record}
-use Rattle.et_event.specs.Start.{start, start_records}
+use Rattle.et_state.specs.Start.{start}
+use Rattle.et_event.specs.Start.{start_records}
 use Rattle.et_loop.specs.Visits.{allowed_visits}
 use Rattle.et_loop.specs.Traced.{WritesTrace, WritesPrefix}
 use Rattle.et_loop.proofs.RunLemmas.{front_nothing}

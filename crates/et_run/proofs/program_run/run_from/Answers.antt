@@ -1,4 +1,4 @@
-use Rattle.std.proofs.Common.{◌≡◌, ℕ, ◌+◌, ◌≤◌, List, [], sym, subst}
+use Rattle.std.proofs.Common.{◌+◌, ◌≤◌, List, [], sym, subst}
 use Rattle.std.specs.Prelude.{All, IfOk, OnErr}
 use Rattle.et_graph.specs.Graph.{nothing_made}
 use Rattle.et_program.specs.Entries.{Linked}

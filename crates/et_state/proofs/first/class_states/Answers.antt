@@ -1,7 +1,7 @@
 use Rattle.std.proofs.Common.{ℕ, ◌∙◌, ap}
-use Rattle.et_event.specs.Start.{first_class_state}
-use Rattle.et_linked.proofs.Starting.{states_next}
-use Rattle.et_run.proofs.first.class_states.Goals as goal
+use Rattle.et_state.specs.Start.{first_class_state}
+use Rattle.et_state.proofs.ClassStates.{states_next}
+use Rattle.et_state.proofs.first.class_states.Goals as goal
 
 pub classes-preserved : goal.classes-preserved
 classes-preserved c =
