@@ -104,8 +104,10 @@ fn drop_returned(program: &Program, machine: &mut Machine, thread: ThreadId, val
     requires room { FitsBelow (top machine.old.guest thread).stage
         (entries_returned value) (rest_of (thread_at machine.old.guest thread).frames) }
     ensures { machine.new ≡ steps_thread machine.old thread (record (thread_at machine.old.guest
-        thread) { frames = frames_after_return program.now (top machine.old.guest thread).stage
-        (entries_returned value) (rest_of (thread_at machine.old.guest thread).frames); })
+        thread) {
+          frames = frames_after_return program.now (top machine.old.guest thread).stage
+              (entries_returned value) (rest_of (thread_at machine.old.guest thread).frames);
+        })
         (frame_roots (top machine.old.guest thread)) }
 {
     let stage = machine.stage(thread);

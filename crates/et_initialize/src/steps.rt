@@ -138,10 +138,12 @@ pub fn begin_prepared(
     requires clock { machine.old.guest.clock < 2 ^ 40 }
     requires fits { fits (prepared (moment program.now machine.old thread) classes.now
         (begins (moment program.now machine.old thread))).state.heap ≡ true }
-    ensures { OnOk result (ComesTo (record { state = (prepared (moment program.now
-        machine.old thread) classes.now (begins (moment program.now machine.old thread))).state;
-        records = out.old ++ (prepared (moment program.now machine.old thread) classes.now
-        (begins (moment program.now machine.old thread))).records; })
+    ensures { OnOk result (ComesTo (record {
+      state = (prepared (moment program.now
+          machine.old thread) classes.now (begins (moment program.now machine.old thread))).state;
+      records = out.old ++ (prepared (moment program.now machine.old thread) classes.now
+          (begins (moment program.now machine.old thread))).records;
+    })
         (begun machine.old) machine.new out.new) }
 {
     machine.begin_event();

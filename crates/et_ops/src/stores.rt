@@ -60,10 +60,16 @@ fn move_one(machine: &mut Machine, thread: ThreadId, i: u16, next: u32)
     requires local { i < length (top machine.old.guest thread).locals }
     requires operand { 0 < length (top machine.old.guest thread).operands }
     ensures { Led (kept_of machine.old)
-        (record { heap = machine.old.heap; guest = with_top (ticked machine.old.guest) thread
-        (record (top machine.old.guest thread) { pc = next; locals = one_stored i
-        (operand_of (top machine.old.guest thread) 0) (top machine.old.guest thread).locals;
-        operands = drop 1 (top machine.old.guest thread).operands; }); }) machine.new }
+        (record {
+          heap = machine.old.heap;
+          guest = with_top (ticked machine.old.guest) thread
+              (record (top machine.old.guest thread) {
+                pc = next;
+                locals = one_stored i
+                    (operand_of (top machine.old.guest thread) 0) (top machine.old.guest thread).locals;
+                operands = drop 1 (top machine.old.guest thread).operands;
+              });
+        }) machine.new }
 {
     machine.begin_event();
     let value = machine.pop(thread);

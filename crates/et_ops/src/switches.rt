@@ -22,8 +22,11 @@ pub(crate) fn switch(machine: &mut Machine, thread: ThreadId, code: &[u8], instr
     requires pc { (top machine.old.guest thread).pc < 2 ^ 31 }
     requires switch { IsSwitch code.now instr.now }
     ensures { StepsFrame (with_int None (top machine.old.guest thread).operands
-        (λ key below. Some (record (top machine.old.guest thread) { pc = target_at
-        (top machine.old.guest thread).pc (target_of code.now instr.now key); operands = below; })))
+        (λ key below. Some (record (top machine.old.guest thread) {
+          pc = target_at
+              (top machine.old.guest thread).pc (target_of code.now instr.now key);
+          operands = below;
+        })))
         result thread machine.old machine.new }
 {
     let Some(key) = int_at(machine, thread, 0) else {

@@ -163,10 +163,15 @@ fn set_slot<L: Ledger>(
     requires sound { IsSound (kept_of machine.old) }
     requires clock { machine.old.guest.clock < 2 ^ 40 }
     requires may { MayStore machine.old (top machine.old.guest thread) x }
-    ensures led { Led (kept_of machine.old) (record { heap = with_object_at machine.old.heap
-        x.object (with_slot x.slot x.value (object_at machine.old.heap x.object)); guest = with_top
-        (ticked machine.old.guest) thread (record (top machine.old.guest thread) { pc = next;
-        operands = drop x.taken (top machine.old.guest thread).operands; }); }) machine.new }
+    ensures led { Led (kept_of machine.old) (record {
+      heap = with_object_at machine.old.heap
+          x.object (with_slot x.slot x.value (object_at machine.old.heap x.object));
+      guest = with_top
+          (ticked machine.old.guest) thread (record (top machine.old.guest thread) {
+            pc = next;
+            operands = drop x.taken (top machine.old.guest thread).operands;
+          });
+    }) machine.new }
     ensures visits { visits.new ≡ visits.old + 1 }
 {
     machine.begin_event();

@@ -41,11 +41,13 @@ fn enter_object<L: Ledger>(
     requires held { IsHeld machine.old.heap object }
     requires count { (object_at machine.old.heap object).monitor.count ≤ 2 ^ 40 }
     ensures led { Led (kept_of machine.old)
-        (record { heap = with_object_at machine.old.heap object (with_monitor (record
-        { owner = Some thread; count = (object_at machine.old.heap object).monitor.count + 1 })
-        (object_at machine.old.heap object));
-        guest = with_top (ticked machine.old.guest) thread (record (top machine.old.guest thread)
-        { pc = next; operands = drop 1 (top machine.old.guest thread).operands }); }) machine.new }
+        (record {
+          heap = with_object_at machine.old.heap object (with_monitor (record
+              { owner = Some thread; count = (object_at machine.old.heap object).monitor.count + 1 })
+              (object_at machine.old.heap object));
+          guest = with_top (ticked machine.old.guest) thread (record (top machine.old.guest thread)
+              { pc = next; operands = drop 1 (top machine.old.guest thread).operands });
+        }) machine.new }
     ensures visits { visits.new ≤ visits.old + 2 }
 {
     machine.begin_event();
