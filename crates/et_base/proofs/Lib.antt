@@ -1,3 +1,5 @@
 pub mod Firsts
 pub mod Readings
 pub mod Spelling
+pub mod Lists
+pub mod Positions

@@ -5,7 +5,7 @@ use Rattle.std.specs.List.{position_from}
 use Rattle.std.proofs.lemmas.List.{length-set}
 use Rattle.et_base.specs.declared.value.Value.{Value}
 use Rattle.et_base.specs.declared.value.Value.TheVariants.{Unset, Int, Long, LongHigh, Null, Ref}
-use Rattle.et_graph.proofs.Lists.{Contains-none}
+use Rattle.et_base.proofs.Lists.{Contains-none}
 use Rattle.et_heap.specs.Objects.{ObjectState, Objects, IsHeld, at, found, object_at, slot_of, with_slot, with_object_at, with_referent, referent_of}
 use Rattle.et_heap.specs.Refs.{refs_of_value, refs_of}
 use Rattle.et_heap.proofs.HeapLists.{held_set, held_within}

@@ -4,7 +4,7 @@ use Rattle.std.specs.Prelude.{codes, if◌then◌else◌, IfSome}
 use Rattle.std.specs.List.{position_from}
 use Rattle.et_base.specs.declared.value.Value.{Value}
 use Rattle.et_base.specs.declared.value.Value.TheVariants.{Unset, Int, Long, LongHigh, Null, Ref}
-use Rattle.et_graph.proofs.Lists.{Contains-none, Contains-cons}
+use Rattle.et_base.proofs.Lists.{Contains-none, Contains-cons}
 use Rattle.et_heap.specs.Objects.{ObjectState, IsHeld, at, found, is_there, object_at, slot_of, referent_of, referent_value}
 use Rattle.et_heap.specs.Refs.{refs_of_value}
 use Rattle.et_state.specs.Threads.{ThreadState, is_object_of as is_thread_of, thread_with}

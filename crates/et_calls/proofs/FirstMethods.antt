@@ -6,7 +6,7 @@ use Rattle.et_base.specs.declared.value.Value.{Value}
 use Rattle.et_class.specs.Names.{has}
 use Rattle.et_class.specs.declared.flags.TheConstants.{NATIVE}
 use Rattle.et_code.specs.Bodies.{Body}
-use Rattle.et_graph.proofs.Lists.{Contains-here}
+use Rattle.et_base.proofs.Lists.{Contains-here}
 use Rattle.et_state.specs.State.{GuestState, Kept, MachineState}
 use Rattle.et_state.specs.Words.{thread_at}
 use Rattle.et_program.specs.Entries.{method_at}

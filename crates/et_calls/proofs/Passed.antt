@@ -6,7 +6,7 @@ use Rattle.std.proofs.lemmas.Grind.{flat_map-append}
 use Rattle.std.proofs.lemmas.List.Elements.{Contains-append_left, Contains-append_right, Contains-append_cases}
 use Rattle.et_base.specs.declared.value.Value.{Value}
 use Rattle.et_base.specs.declared.value.Value.TheVariants.{Ref}
-use Rattle.et_graph.proofs.Lists.{Contains-none, Contains-cons, Contains-here}
+use Rattle.et_base.proofs.Lists.{Contains-none, Contains-cons, Contains-here}
 use Rattle.et_heap.specs.Objects.{IsHeld}
 use Rattle.et_heap.specs.Refs.{refs_of_value, refs_of}
 use Rattle.et_state.specs.ThreadRoots.{frame_roots}

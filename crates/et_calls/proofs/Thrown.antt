@@ -4,7 +4,7 @@ use Rattle.std.specs.Prelude.{if◌then◌else◌}
 use Rattle.std.proofs.lemmas.List.{length-set, length_push}
 use Rattle.std.proofs.lemmas.List.Elements.{Contains-append_left, Contains-append_right}
 use Rattle.et_graph.specs.Graph.{IsReached}
-use Rattle.et_graph.proofs.Lists.{Contains-here}
+use Rattle.et_base.proofs.Lists.{Contains-here}
 use Rattle.et_heap.specs.Objects.{ObjectState, new_object}
 use Rattle.et_state.specs.Threads.{FrameState, ThreadState, no_thread, with_pending, as_entered, has_frame}
 use Rattle.et_state.specs.State.{GuestState, Kept, MachineState, kept_of}

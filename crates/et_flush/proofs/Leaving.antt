@@ -2,7 +2,7 @@
 use Rattle.std.proofs.Common.{◌≡◌, ℕ, zero, suc, ◌+◌, ◌-◌, ◌<◌, ◌≤◌, ◌⊎◌, ◌↔◌, Bool, true, false, List, [], ◌∷◌, length, Option, Some, None, Contains, refl, sym, ◌∙◌, ap, subst, inl, inr, arith, true≢false}
 use Rattle.std.proofs.lemmas.Bool.{cases_Bool}
 use Rattle.et_graph.specs.Graph.{IsReached, IsDead}
-use Rattle.et_graph.proofs.Lists.{Contains-none, cases_number}
+use Rattle.et_base.proofs.Lists.{Contains-none, cases_number}
 use Rattle.et_graph.proofs.Walks.{is_reached, is_reached_decides}
 use Rattle.et_heap.specs.Objects.{ObjectState, Objects, IsHeld}
 use Rattle.et_heap.specs.Refs.{targets_of, pairs_of, gone_of}

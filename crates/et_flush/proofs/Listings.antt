@@ -4,7 +4,7 @@ use mathlib.Core.Logic.{⊎_elim}
 use Rattle.std.proofs.lemmas.Bool.{cases_lt}
 use Rattle.std.proofs.lemmas.List.{length-append, get_or_append_left, get_or_push, get_or_past}
 use Rattle.std.proofs.lemmas.List.Elements.{Contains-append_left, Contains-push, Contains-push_cases}
-use Rattle.et_graph.proofs.Lists.{Contains-none}
+use Rattle.et_base.proofs.Lists.{Contains-none}
 use Rattle.et_heap.specs.Objects.{Objects, IsHeld}
 use Rattle.et_flush.specs.declared.times.TheConstants.{NOW}
 use Rattle.et_flush.specs.declared.order.Source.{Source}

@@ -6,7 +6,7 @@ use Rattle.std.proofs.lemmas.List.{get_or_default}
 use Rattle.std.proofs.lemmas.List.Elements.{Contains-get_or}
 use Rattle.std.proofs.lemmas.List.Sorted.{Contains-permutation, IsPermutation-sym}
 use Rattle.et_graph.specs.Times.{Carries, AreSettled, IsSet, IsSpread, AreFollowed, Spreads}
-use Rattle.et_graph.proofs.Lists.{Contains-none}
+use Rattle.et_base.proofs.Lists.{Contains-none}
 use Rattle.et_graph.proofs.Carrying.{carries_none}
 use Rattle.et_graph.proofs.Spreading.{cases_set}
 use Rattle.et_heap.specs.Objects.{ObjectState, Objects, IsHeld, is_there, at}

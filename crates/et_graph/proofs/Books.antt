@@ -10,7 +10,7 @@ use Rattle.et_graph.specs.History.Turn.{Took}
 use Rattle.et_graph.specs.Times.{set_each, ArePositive, Carries, AreSettled, AreWithin}
 use Rattle.et_graph.specs.Listing.{listed, flagged}
 use Rattle.et_graph.specs.Book.{Book, StandsFor}
-use Rattle.et_graph.proofs.Lists.{cases_number}
+use Rattle.et_base.proofs.Lists.{cases_number}
 use Rattle.et_graph.proofs.Walks.{walk_more}
 use Rattle.et_graph.proofs.Deaths.{deaths_dead}
 use Rattle.et_graph.proofs.Sound.{reached_made, leads_made, made_cases, fresh_range}

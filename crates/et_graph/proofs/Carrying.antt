@@ -5,7 +5,7 @@ use Rattle.std.proofs.lemmas.Bool.{cases_eq}
 use Rattle.std.proofs.lemmas.List.Elements.{All-set}
 use Rattle.et_graph.specs.Graph.{Leads}
 use Rattle.et_graph.specs.Times.{set_each, ArePositive, Carries, AreSettled}
-use Rattle.et_graph.proofs.Lists.{Contains-none, Contains-here, Contains-there, Contains-cons, cases_number}
+use Rattle.et_base.proofs.Lists.{Contains-none, Contains-here, Contains-there, Contains-cons, cases_number}
 use Rattle.et_graph.proofs.Walks.{leads_itself, leads_first, leads_on, along}
 
 pub carries_none : (pairs : List (ℕ × ℕ)) (a : List ℕ) → Carries pairs a a

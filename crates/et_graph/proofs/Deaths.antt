@@ -4,7 +4,7 @@ use Rattle.std.specs.List.Sorted.{IsStrictlyIncreasing}
 use Rattle.et_graph.specs.Graph.{IsDead, AreDead}
 use Rattle.et_graph.specs.History.{Turn, graph_after, IsHistory, IsLast, IsGreatestStamp, StampsTell, WasReported, AreDeaths, AreStamped}
 use Rattle.et_graph.specs.History.Turn.{Took, Flushed}
-use Rattle.et_graph.proofs.Lists.{Contains-none, Contains-here, Contains-there, Contains-cons}
+use Rattle.et_base.proofs.Lists.{Contains-none, Contains-here, Contains-there, Contains-cons}
 use Rattle.et_graph.proofs.StampLemmas.{history_told, stamps_told}
 
 -- The first parts of pairs in a list.

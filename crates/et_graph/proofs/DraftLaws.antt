@@ -6,7 +6,7 @@ use Rattle.std.proofs.lemmas.List.Elements.{Contains-append_left}
 use Rattle.et_graph.specs.Graph.{Graph, IsReached, IsSoundGraph}
 use Rattle.et_graph.specs.Steps.{Step, IsKnown, IsRemoved, IsLegalStep, IsDraft}
 use Rattle.et_graph.specs.Drafts.{IsMove, IsMaking}
-use Rattle.et_graph.proofs.Lists.{cases_number, cases_pair}
+use Rattle.et_base.proofs.Lists.{cases_number, cases_pair}
 
 pub draft_start : (g : Graph) → IsSoundGraph g → IsDraft g (record { after = g; fresh = []; lost = [] })
 draft_start g sound = record {

@@ -7,7 +7,8 @@ use Rattle.et_graph.specs.Steps.{Step, IsKnown, IsDraft, IsLegalStep}
 use Rattle.et_graph.specs.Edit.{Edit, has_pair, step_of}
 use Rattle.et_graph.specs.History.{Turn, graph_after}
 use Rattle.et_graph.specs.Taken.{with_step, AreLegalSteps}
-use Rattle.et_graph.proofs.Lists.{Contains-none, Contains-here, Contains-there, Contains-cons, has_contains, contains_has, has_pair_contains}
+use Rattle.et_base.proofs.Lists.{Contains-none, Contains-here, Contains-there, Contains-cons, has_contains, contains_has}
+use Rattle.et_graph.proofs.Lists.{has_pair_contains}
 use Rattle.et_graph.proofs.Walks.{leads_first, leads_on, leads_more}
 
 abbrev pub leads_test : List (ℕ × ℕ) → ℕ → ℕ → Bool

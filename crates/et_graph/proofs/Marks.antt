@@ -3,7 +3,7 @@ use Rattle.std.proofs.Common.{ℕ, ◌<◌, List, [], ◌∷◌, sym, subst, inl
 use Rattle.et_graph.specs.Graph.{IsMade}
 use Rattle.et_graph.specs.History.{Turn, graph_after, IsHistory, steps, stamp, IsMark, IsGreatestMark}
 use Rattle.et_graph.specs.History.Turn.{Took, Flushed}
-use Rattle.et_graph.proofs.Lists.{cases_number}
+use Rattle.et_base.proofs.Lists.{cases_number}
 use Rattle.et_graph.proofs.Sound.{made_cases, flush_made}
 use Rattle.et_graph.proofs.StampLemmas.{history_told, stamp_fresh, stamp_lost, stamp_kept}
 

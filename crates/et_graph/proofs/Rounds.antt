@@ -5,7 +5,7 @@ use Rattle.std.proofs.lemmas.List.{get_or_past, get_or_default}
 use Rattle.et_graph.specs.declared.search.Source.{Source}
 use Rattle.et_graph.specs.Times.{ArePairsWithin, Carries, AreSettled, IsSet, IsSpread, AreFollowed, Visits, Spreads}
 use Rattle.et_graph.specs.Order.{IsOrder}
-use Rattle.et_graph.proofs.Lists.{Contains-none}
+use Rattle.et_base.proofs.Lists.{Contains-none}
 use Rattle.et_graph.proofs.Carrying.{carries_none}
 use Rattle.et_graph.proofs.Spreading.{cases_set, set_here, set_keeps, mark_spread, mark_followed, carry_own, popped_spread, popped_waits, popped_followed, none_waits, followed_settled}
 

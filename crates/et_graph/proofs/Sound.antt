@@ -4,7 +4,7 @@ use Rattle.std.proofs.lemmas.Bool.{cases_lt}
 use Rattle.std.proofs.lemmas.List.{get_or_default}
 use Rattle.et_graph.specs.Graph.{Graph, nothing_made, IsMade, IsWalk, LeadsTo, IsReached, IsSoundGraph}
 use Rattle.et_graph.specs.Steps.{Step, IsKnown, IsAdded, IsLegalStep, IsFlush}
-use Rattle.et_graph.proofs.Lists.{Contains-none, cases_number, cases_pair}
+use Rattle.et_base.proofs.Lists.{Contains-none, cases_number, cases_pair}
 use Rattle.et_graph.proofs.Walks.{reached_on, reached_all, walk_more}
 
 pub nothing_sound : IsSoundGraph nothing_made

@@ -6,7 +6,7 @@ use Rattle.std.proofs.lemmas.List.Elements.{Contains-get_or}
 use Rattle.std.proofs.lemmas.List.Sorted.{Contains-permutation, IsPermutation-sym}
 use Rattle.et_graph.specs.declared.search.Source.{Source}
 use Rattle.et_graph.specs.Order.{sources, IsOrder}
-use Rattle.et_graph.proofs.Lists.{Contains-none, Contains-here, Contains-there, Contains-cons}
+use Rattle.et_base.proofs.Lists.{Contains-none, Contains-here, Contains-there, Contains-cons}
 
 -- the source stands at this place
 pub record IsSourceAt (k top : ℕ) (times : List ℕ) (s : Source) : Type 0 where

@@ -5,7 +5,7 @@ use Rattle.std.proofs.lemmas.List.{set-get_or}
 use Rattle.std.proofs.lemmas.List.Elements.{Contains-push_cases, Contains-append_left, Contains-append_right}
 use Rattle.std.proofs.lemmas.List.Sums.{sum_by-set}
 use Rattle.et_graph.specs.Times.{ArePairsWithin, Carries, AreSettled, IsSet, unset_count, IsSpread, AreFollowed}
-use Rattle.et_graph.proofs.Lists.{Cases, Contains-none, Contains-here}
+use Rattle.et_base.proofs.Lists.{Contains-none, Contains-here, Cases}
 use Rattle.et_graph.proofs.Carrying.{carries_none, carries_one, carries_more}
 
 pub cases_set : (flags : List Bool) (o : ℕ) → Cases (IsSet flags o)

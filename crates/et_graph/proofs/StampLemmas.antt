@@ -6,7 +6,7 @@ use Rattle.et_graph.specs.Graph.{Graph, IsMade, IsWalk, LeadsTo, IsReached, IsSo
 use Rattle.et_graph.specs.Steps.{Step, IsLegalStep, IsFlush}
 use Rattle.et_graph.specs.History.{Turn, graph_after, IsHistory, steps, WasReached, IsLast, stamp, StampsTell}
 use Rattle.et_graph.specs.History.Turn.{Took, Flushed}
-use Rattle.et_graph.proofs.Lists.{Contains-none, cases_number, cases_pair, has_contains, contains_has}
+use Rattle.et_base.proofs.Lists.{Contains-none, cases_number, cases_pair, has_contains, contains_has}
 use Rattle.et_graph.proofs.Walks.{leads_first, along, reached_on, cases_reached, walk_more}
 use Rattle.et_graph.proofs.Sound.{gone_back, gone_on, nothing_sound, reached_held, leads_made, made_cases, stepped_pair, stepped_sound, flushed_gone, flushed_sound, flush_made, flush_reached, reached_flush}
 

@@ -4,7 +4,7 @@ use Rattle.std.proofs.lemmas.Bool.{cases_lt}
 use Rattle.std.proofs.lemmas.List.{get_or_default}
 use Rattle.std.proofs.lemmas.List.Elements.{Contains-append_left, Contains-append_right}
 use Rattle.et_graph.specs.Times.{ArePairsWithin, IsSet, unset_count, IsSpread, AreFollowed, Visits}
-use Rattle.et_graph.proofs.Lists.{Contains-here}
+use Rattle.et_base.proofs.Lists.{Contains-here}
 use Rattle.et_graph.proofs.Spreading.{set_keeps, unset_less, mark_spread, mark_followed, carry_pair, visited_followed, other_time}
 
 pub record IsVisiting (pairs : List (ℕ × ℕ)) (o t : ℕ) (times : List ℕ) (seen : List Bool) (work : List ℕ) (times' : List ℕ) (seen' : List Bool) (work' : List ℕ) : Type 0 where

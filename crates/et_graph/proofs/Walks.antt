@@ -2,7 +2,7 @@
 use Rattle.std.proofs.Common.{◌≡◌, ℕ, ◌↔◌, ◌⊎◌, Bool, IsTrue, true, false, List, [], ◌∷◌, Contains, refl, sym, ap, subst, inl, inr}
 use Rattle.std.proofs.lemmas.Bool.{cases_eq}
 use Rattle.et_graph.specs.Graph.{Graph, IsWalk, Leads, LeadsTo, IsReached, Decides}
-use Rattle.et_graph.proofs.Lists.{Cases, Contains-none, Contains-here, Contains-there, Contains-cons}
+use Rattle.et_base.proofs.Lists.{Contains-none, Contains-here, Contains-there, Contains-cons, Cases}
 
 pub leads_itself : (pairs : List (ℕ × ℕ)) (u : ℕ) → Leads pairs u u
 leads_itself pairs u = ([], refl)

@@ -4,7 +4,7 @@ use Rattle.std.proofs.lemmas.List.{get_or_append_left}
 use Rattle.std.proofs.lemmas.List.Elements.{Contains-append_left, Contains-append_right, Contains-append_cases}
 use Rattle.et_heap.specs.Objects.{ObjectState, Objects, at, is_there, IsHeld}
 use Rattle.et_heap.specs.Refs.{refs_of, targets_of, pairs_from, pairs_of, gone_from, gone_of}
-use Rattle.et_graph.proofs.Lists.{Contains-none, Contains-here, Contains-there, Contains-cons}
+use Rattle.et_base.proofs.Lists.{Contains-none, Contains-here, Contains-there, Contains-cons}
 
 map_pair : (k : ℕ) (os : List ℕ) (u o : ℕ) → Contains {X = ℕ × ℕ} (map (λ (x : ℕ). (k, x)) os) (u, o) → (k ≡ u) × Contains os o
 map_pair k [] u o c = absurd (Contains-none (u, o) c)

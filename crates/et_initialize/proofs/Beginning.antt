@@ -1,7 +1,7 @@
 -- An event in which a class begins.
 use Rattle.std.proofs.Common.{◌≡◌, ℕ, zero, suc, ◌+◌, ◌-◌, ◌<◌, ◌≤◌, true, false, Bool, List, [], ◌++◌, length, refl, sym, ◌∙◌, ap, subst, arith, inl, inr, Contains, append-nil, lit<}
 use Rattle.std.proofs.lemmas.Bool.{lt-ltb, le-ltb}
-use Rattle.et_graph.proofs.Lists.{Contains-none, Contains-cons}
+use Rattle.et_base.proofs.Lists.{Contains-none, Contains-cons}
 use Rattle.et_state.specs.Threads.{FrameState, ThreadState, entered_by, most_frames, lost_room}
 use Rattle.et_state.specs.declared.class_state.ClassState.TheVariants.{Untouched, Begun}
 use Rattle.et_state.specs.State.{Kept, MachineState, kept_of}

@@ -4,7 +4,7 @@ use Rattle.std.specs.Prelude.{◌&&◌, if◌then◌else◌}
 use Rattle.std.proofs.lemmas.Bool.{cases_eq, and_parts, leb-true, le-leb}
 use Rattle.std.proofs.lemmas.List.{length_push, length-replicate, get_or-set_same, length-set}
 use Rattle.std.proofs.lemmas.List.Sums.{sum_by-append}
-use Rattle.et_graph.proofs.Lists.{Contains-none, Contains-here}
+use Rattle.et_base.proofs.Lists.{Contains-none, Contains-here}
 use Rattle.et_base.specs.declared.value.Value.{Value}
 use Rattle.et_base.specs.declared.value.Value.TheVariants.{Unset}
 use Rattle.et_heap.specs.Objects.{ObjectState, Objects, new_object, has_room, slot_count, slots_in, most_objects, most_slots}

@@ -6,7 +6,7 @@ use Rattle.std.specs.Str.{bytes_eq}
 use Rattle.std.proofs.lemmas.Bool.{eqb-true}
 use Rattle.std.proofs.lemmas.Option.{unwrap_or-slice_get}
 use Rattle.std.proofs.lemmas.Slice.Eq.{bytes_eq-Decides}
-use Rattle.et_graph.proofs.Lists.{Contains-here, Contains-there}
+use Rattle.et_base.proofs.Lists.{Contains-here, Contains-there}
 use Rattle.et_state.specs.Interned.{object_of, text_of, objects_of}
 use Rattle.et_state.specs.State.{MachineState}
 use Rattle.et_state.specs.Words.{with_string}

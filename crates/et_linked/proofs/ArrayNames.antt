@@ -5,7 +5,7 @@ use Rattle.std.specs.List.{prefix_len, slice_index_or, list_any, flat_map, posit
 use Rattle.std.specs.Str.{bytes_eq}
 use Rattle.std.proofs.lemmas.Bool.{both_ways, eqb-true, false≢true}
 use Rattle.std.proofs.lemmas.List.Elements.{All-nil, All-cons, All-head, All-tail, All-append, All-push, Contains-append_left, Contains-append_right}
-use Rattle.et_graph.proofs.Lists.{Contains-none, Contains-here, Contains-there, Contains-cons, any_contains, filter_kept, filter_keeps}
+use Rattle.et_base.proofs.Lists.{Contains-none, Contains-here, Contains-there, Contains-cons, any_contains, filter_kept, filter_keeps}
 use Rattle.et_pool.specs.Descriptors.{is_array, dimensions}
 use Rattle.et_hierarchy.proofs.Names.{same_name, name_itself}
 use Rattle.et_program.specs.ArrayTypes.{leaf_at, is_known, with_elements, name_added, names_added, array_names, array_at}

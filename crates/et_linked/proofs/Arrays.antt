@@ -7,7 +7,7 @@ use Rattle.std.specs.Str.{bytes_eq}
 use Rattle.std.proofs.lemmas.Bool.{and_parts, both_ways, cases_lt, not-true, leb-true, eqb-true, eq-eqb, false≢true}
 use Rattle.std.proofs.lemmas.List.{length-append}
 use Rattle.std.proofs.lemmas.List.Elements.{All-nil, All-cons, All-append, All-map, All-contains, Contains-append_right}
-use Rattle.et_graph.proofs.Lists.{Contains-none, Contains-here, Contains-there}
+use Rattle.et_base.proofs.Lists.{Contains-none, Contains-here, Contains-there}
 use Rattle.et_boot.specs.Classes.{BootClassOf, thread_pool}
 use Rattle.et_pool.specs.Entries.{Item, Constants, slots_of}
 use Rattle.et_pool.specs.Looks.{class_name_at, tag_of_slot}
@@ -47,7 +47,7 @@ use Rattle.et_event.specs.Kinds as kinds
 use Rattle.et_event.specs.Sites.{natural, no_constants, pool_of}
 use Rattle.et_event.specs.Table.{row_of}
 use Rattle.et_event.specs.Programs.{IsArrayClass, IsInstruction, NamesClass, HasDimensions, HasArrays}
-use Rattle.et_sound.proofs.Fields.{Passes, position_passes}
+use Rattle.et_base.proofs.Positions.{Passes, position_passes}
 use Rattle.et_linked.specs.ClassNames.{HasClassName}
 use Rattle.et_linked.proofs.Making.{class_in}
 use Rattle.et_linked.proofs.Places.{one_of}

@@ -4,7 +4,7 @@ use Rattle.std.specs.Prelude.{sum_by}
 use Rattle.std.specs.List.{slice_index_or}
 use Rattle.std.proofs.lemmas.Bool.{cases_lt}
 use Rattle.std.proofs.lemmas.List.Sums.{sum_by-cons}
-use Rattle.et_graph.proofs.Lists.{Contains-none, Contains-cons}
+use Rattle.et_base.proofs.Lists.{Contains-none, Contains-cons}
 use Rattle.et_hierarchy.specs.Ancestry.{Ancestry, ancestry_at, no_ancestry, supers_over, IsAncestry}
 use Rattle.et_hierarchy.specs.Links.{LinkEntry, no_links}
 use Rattle.et_program.specs.declared.info.FieldInfo.{FieldInfo}

@@ -5,7 +5,7 @@ use Rattle.std.proofs.lemmas.Bool.{and_parts, and_from, leb-true, le-leb}
 use Rattle.std.proofs.lemmas.List.Elements.{Contains-append_right}
 use Rattle.std.proofs.lemmas.List.Sums.{sum_by-cons}
 use Rattle.et_graph.specs.Graph.{IsReached}
-use Rattle.et_graph.proofs.Lists.{Contains-here}
+use Rattle.et_base.proofs.Lists.{Contains-here}
 use Rattle.et_program.specs.Entries.{Linked}
 use Rattle.et_program.specs.Members.{is_subclass}
 use Rattle.et_heap.specs.Objects.{ObjectState, Objects, IsHeld, at, found, made_count, slot_count, slots_in, most_objects, most_slots}

@@ -6,7 +6,7 @@ use Rattle.std.proofs.lemmas.List.Elements.{All-nil, All-cons, All-head, All-tai
 use Rattle.std.proofs.lemmas.List.Sorted.{All-permutation, IsPermutation-reverse}
 use Rattle.std.proofs.lemmas.List.{reverse-reverse}
 use Rattle.std.proofs.lemmas.Bool.{eqb-true}
-use Rattle.et_graph.proofs.Lists.{Contains-none, Contains-here, Contains-cons, any_contains}
+use Rattle.et_base.proofs.Lists.{Contains-none, Contains-here, Contains-cons, any_contains}
 use Rattle.et_program.specs.Slots.{places_from}
 use Rattle.et_hierarchy.specs.Ancestry.{added, added_all}
 use Rattle.et_program.specs.MembersOf.{numbered}

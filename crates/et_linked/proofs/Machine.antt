@@ -9,7 +9,7 @@ use Rattle.std.proofs.lemmas.Bool.{eqb-true, eq-eqb, or_cases, and_parts, both_w
 use Rattle.std.proofs.lemmas.List.{length-map, length-replicate}
 use Rattle.std.proofs.lemmas.List.Sums.{sum_by-cons}
 use Rattle.std.proofs.lemmas.List.Elements.{All-nil, All-cons, All-append, All-map}
-use Rattle.et_graph.proofs.Lists.{Contains-here, Contains-there, Contains-cons, has_contains}
+use Rattle.et_base.proofs.Lists.{Contains-here, Contains-there, Contains-cons, has_contains}
 use Rattle.et_base.specs.declared.value.Value.TheVariants.{Unset}
 use Rattle.et_boot.specs.Classes.{no_boot_class}
 use Rattle.et_class.specs.Names.{has}

@@ -38,7 +38,7 @@ use Rattle.et_event.specs.Calls.{entry_count}
 use Rattle.et_event.specs.Sites.{Site, Member, member_of, natural, no_constants, pool_of}
 use Rattle.et_event.specs.Table.{row_of}
 use Rattle.et_event.specs.Programs.{HasMethods}
-use Rattle.et_sound.proofs.Fields.{Passes, position_passes}
+use Rattle.et_base.proofs.Positions.{Passes, position_passes}
 use Rattle.et_linked.proofs.Lists.{all_numbered}
 use Rattle.et_linked.specs.Rules.{is_clinit, KeepsNames, KeepsCode, KeepsMethodRules, KeepsCodeRules}
 use Rattle.et_linked.proofs.Instructions.{NamesMember, call_opcode, member_index, member_named}

@@ -5,7 +5,7 @@ use Rattle.std.specs.List.{slice_index_or, flat_map}
 use Rattle.std.proofs.lemmas.List.Elements.{All-nil, All-cons, All-head, All-push, All-weaker, All-filter, All-contains, All-contains_itself, Contains-append_right}
 use Rattle.std.proofs.lemmas.List.{length-map}
 use Rattle.std.proofs.lemmas.Bool.{cases_lt}
-use Rattle.et_graph.proofs.Lists.{Contains-none, Contains-here, Contains-there, Contains-cons}
+use Rattle.et_base.proofs.Lists.{Contains-none, Contains-here, Contains-there, Contains-cons}
 use Rattle.et_pool.specs.Entries.{Constants}
 use Rattle.et_hierarchy.specs.Outline.{Outline, outline_at}
 use Rattle.et_hierarchy.specs.Links.{links, links_of, no_links}

@@ -33,7 +33,7 @@ use Rattle.et_event.specs.Kinds.{kind_of}
 use Rattle.et_event.specs.Sites.{LoadedConstant, constant_at, no_constants, pool_of}
 use Rattle.et_event.specs.Sound.{is_of_kind, returned_of}
 use Rattle.et_event.specs.Programs.{HasConstant, IsInitializer, HasInitializers, value_like}
-use Rattle.et_sound.proofs.Fields.{Passes, position_passes}
+use Rattle.et_base.proofs.Positions.{Passes, position_passes}
 use Rattle.et_event.specs.InitializationOrder.{IsStaticOf, HasConstants, IsInOrder}
 use Rattle.et_linked.proofs.Counts.{placed_at, StandsIn, places_at}
 use Rattle.et_linked.proofs.Places.{at_mapped}

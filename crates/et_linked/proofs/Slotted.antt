@@ -7,7 +7,7 @@ use Rattle.std.proofs.lemmas.Bool.{eqb-true, eq-eqb, and_left, or_cases, and_par
 use Rattle.std.proofs.lemmas.List.{length-replicate, get_or-replicate, get_or-append_right, length-append}
 use Rattle.std.proofs.lemmas.List.Sums.{sum_by-append}
 use Rattle.std.proofs.lemmas.List.Elements.{All-nil, All-cons, All-map, All-replicate}
-use Rattle.et_graph.proofs.Lists.{Contains-here, Contains-there, Contains-cons, has_contains}
+use Rattle.et_base.proofs.Lists.{Contains-here, Contains-there, Contains-cons, has_contains}
 use Rattle.et_base.specs.declared.value.Value.{Value}
 use Rattle.et_base.specs.declared.value.Value.TheVariants.{Unset}
 use Rattle.et_boot.specs.Classes.{BootClassOf, no_boot_class}

@@ -6,7 +6,7 @@ use Rattle.std.proofs.lemmas.List.{map-append, length_push}
 use Rattle.std.proofs.lemmas.Grind.{common_steps, get_or_default_zero}
 use Rattle.std.proofs.lemmas.List.Elements.{Contains-append_left, Contains-append_right, Contains-append_cases}
 use Rattle.et_graph.specs.Graph.{Graph, IsDead, AreDead, Decides}
-use Rattle.et_graph.proofs.Lists.{Contains-none, Contains-here, Contains-cons, has_contains, contains_has}
+use Rattle.et_base.proofs.Lists.{Contains-none, Contains-here, Contains-cons, has_contains, contains_has}
 use Rattle.et_graph.proofs.Walks.{is_reached, is_reached_decides}
 use Rattle.et_graph.proofs.Deaths.{map_first, first_map}
 use Rattle.et_state.specs.History.{deaths_to, is_gone}

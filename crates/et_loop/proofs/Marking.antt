@@ -6,7 +6,7 @@ use Rattle.std.proofs.lemmas.List.{get_or-set_same, get_or-set_other, length-set
 use Rattle.std.proofs.lemmas.Grind.{get_or_default_zero}
 use Rattle.std.proofs.lemmas.List.Elements.{Contains-append_left, Contains-push, Contains-push_cases}
 use Rattle.et_graph.specs.Graph.{Graph, IsMade, IsReached}
-use Rattle.et_graph.proofs.Lists.{Contains-none}
+use Rattle.et_base.proofs.Lists.{Contains-none}
 use Rattle.et_graph.proofs.Sound.{fresh_range}
 use Rattle.et_graph.proofs.Deaths.{first_map}
 use Rattle.et_graph.specs.Listed.{AreListed}

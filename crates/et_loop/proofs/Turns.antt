@@ -6,7 +6,7 @@ use Rattle.et_graph.specs.Graph.{Graph, nothing_made, IsMade, IsReached, IsDead,
 use Rattle.et_graph.specs.Steps.{Step, IsLegalStep}
 use Rattle.et_graph.specs.History.{Turn, graph_after, IsHistory, WasReached, stamp}
 use Rattle.et_graph.specs.History.Turn.{Took, Flushed}
-use Rattle.et_graph.proofs.Lists.{cases_number}
+use Rattle.et_base.proofs.Lists.{cases_number}
 use Rattle.et_graph.proofs.Sound.{made_cases, fresh_range, reached_made, stepped_sound}
 use Rattle.et_graph.proofs.StampLemmas.{history_told, stamp_fresh, stamp_lost, stamp_kept, stamps_told}
 use Rattle.et_graph.specs.Cleared.{IsCleared}

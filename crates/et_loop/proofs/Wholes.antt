@@ -4,7 +4,7 @@ use Rattle.std.specs.List.{list_any}
 use Rattle.std.proofs.lemmas.List.Elements.{Contains-append_left, Contains-append_right, Contains-append_cases}
 use Rattle.et_graph.specs.Graph.{Graph, IsWalk, LeadsTo, IsReached, IsDead, AreDead, IsSoundGraph}
 use Rattle.et_graph.specs.Steps.{Step, IsKnown, IsRemoved, IsAdded, IsLegalStep, IsFlush}
-use Rattle.et_graph.proofs.Lists.{has_contains, contains_has, cases_number, filter_kept, filter_keeps}
+use Rattle.et_base.proofs.Lists.{has_contains, contains_has, cases_number, filter_kept, filter_keeps}
 use Rattle.et_graph.proofs.Walks.{walk_more}
 use Rattle.et_graph.proofs.Sound.{reached_held, fresh_range}
 use Rattle.et_graph.specs.Cleared.{IsCleared}

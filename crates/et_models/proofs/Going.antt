@@ -4,7 +4,7 @@ use Rattle.std.specs.Prelude.{Contains}
 use Rattle.std.specs.BTreeMap.{BTreeMap}
 use Rattle.std.proofs.lemmas.List.{get_or_default}
 use Rattle.et_graph.specs.Graph.{Graph, IsReached}
-use Rattle.et_graph.proofs.Lists.{Contains-none, filter_kept, filter_keeps}
+use Rattle.et_base.proofs.Lists.{Contains-none, filter_kept, filter_keeps}
 use Rattle.et_graph.proofs.Walks.{leads_itself, leads_first, reached_on, reached_all}
 use Rattle.et_models.specs.declared.places.Place.{Place}
 use Rattle.et_models.specs.declared.places.Place.TheVariants.{Nursery, Kept}

@@ -7,7 +7,7 @@ use Rattle.std.specs.Ordering.{nat_cmp}
 use Rattle.std.proofs.lemmas.List.Elements.{Contains-append_left, Contains-append_right, Contains-append_cases}
 use Rattle.std.proofs.lemmas.List.Filters.{sum_by-filter_both}
 use Rattle.et_graph.specs.Graph.{Graph, Decides}
-use Rattle.et_graph.proofs.Lists.{filter_kept, filter_keeps, has_contains, contains_has}
+use Rattle.et_base.proofs.Lists.{filter_kept, filter_keeps, has_contains, contains_has}
 use Rattle.et_graph.proofs.Walks.{root_reached}
 use Rattle.et_replay.proofs.ByKey.{filter_same}
 use Rattle.et_replay.specs.declared.item.Item.{Item}

@@ -10,7 +10,7 @@ use Rattle.std.proofs.lemmas.List.Elements.{All-filter, All-append, All-push, Co
 use Rattle.std.proofs.lemmas.List.Filters.{sum_by-filter_both}
 use Rattle.std.proofs.lemmas.List.Sums.{sum_by-append, sum_by-cons, sum_by_push}
 use Rattle.et_graph.specs.Graph.{Graph, Decides}
-use Rattle.et_graph.proofs.Lists.{Contains-none, filter_kept, filter_keeps}
+use Rattle.et_base.proofs.Lists.{Contains-none, filter_kept, filter_keeps}
 use Rattle.et_graph.proofs.Walks.{is_reached}
 use Rattle.et_replay.specs.declared.item.Item.{Item}
 use Rattle.et_replay.specs.declared.item.Item.TheVariants.{Alloc, Write, Death}

@@ -5,7 +5,7 @@ use Rattle.std.specs.BTreeMap.{BTreeMap, get}
 use Rattle.std.specs.Ordering.{nat_cmp}
 use Rattle.std.proofs.lemmas.List.{get_or_past, get_or-replicate, length-replicate}
 use Rattle.et_graph.specs.Graph.{Graph, Decides}
-use Rattle.et_graph.proofs.Lists.{Contains-none}
+use Rattle.et_base.proofs.Lists.{Contains-none}
 use Rattle.et_replay.specs.declared.item.Item.{Item}
 use Rattle.et_replay.specs.declared.item.Item.TheVariants.{Alloc, Write, Death}
 use Rattle.et_replay.specs.declared.model.Kind.{Kind}

@@ -9,7 +9,7 @@ use Rattle.std.proofs.lemmas.List.{length_push}
 use Rattle.std.proofs.lemmas.List.Elements.{Contains-append_left, Contains-append_right}
 use Rattle.et_base.specs.declared.value.Value.TheVariants.{Ref}
 use Rattle.et_graph.specs.Graph.{IsReached}
-use Rattle.et_graph.proofs.Lists.{Contains-none, Contains-here, Contains-there, Contains-cons}
+use Rattle.et_base.proofs.Lists.{Contains-none, Contains-here, Contains-there, Contains-cons}
 use Rattle.et_heap.specs.Objects.{ObjectState, new_object, IsHeld}
 use Rattle.et_heap.specs.Refs.{refs_of}
 use Rattle.et_heap.proofs.HeapLists.{held_within}

@@ -2,7 +2,7 @@
 use Rattle.std.proofs.Common.{◌≡◌, ℕ, zero, suc, ◌+◌, ◌<◌, ◌≤◌, ℤ, List, [], ◌∷◌, length, drop, get_or, Some, None, refl, sym, ◌∙◌, ap, subst, arith, Contains, inl, inr}
 use Rattle.et_base.specs.declared.value.Value.{Value}
 use Rattle.et_base.specs.declared.value.Value.TheVariants.{Unset, Int, Long, LongHigh, Null, Ref}
-use Rattle.et_graph.proofs.Lists.{Contains-here, Contains-none, Contains-cons}
+use Rattle.et_base.proofs.Lists.{Contains-here, Contains-none, Contains-cons}
 use Rattle.et_heap.specs.Refs.{refs_of_value}
 use Rattle.et_state.specs.Threads.{FrameState, operand_of}
 use Rattle.et_state.specs.ThreadRoots.{frame_roots}

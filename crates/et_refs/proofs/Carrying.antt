@@ -5,7 +5,7 @@ use Rattle.std.proofs.lemmas.List.{length_push}
 use Rattle.std.proofs.lemmas.List.Elements.{Contains-append_left, Contains-append_right}
 use Rattle.et_base.specs.declared.value.Value.{Value}
 use Rattle.et_base.specs.declared.value.Value.TheVariants.{Unset, Int, Long, LongHigh, Null, Ref}
-use Rattle.et_graph.proofs.Lists.{Contains-none, Contains-here, Contains-cons}
+use Rattle.et_base.proofs.Lists.{Contains-none, Contains-here, Contains-cons}
 use Rattle.et_heap.specs.Objects.{ObjectState, IsHeld, new_object, has_room}
 use Rattle.et_heap.specs.Refs.{refs_of_value, refs_of}
 use Rattle.et_heap.proofs.HeapLists.{held_within}

@@ -5,7 +5,7 @@ use Rattle.std.proofs.lemmas.List.{length_push, length-set, length-replicate, ge
 use Rattle.std.proofs.lemmas.List.Elements.{Contains-append_left, Contains-append_right, Contains-append_cases}
 use Rattle.et_base.specs.declared.value.Value.{Value}
 use Rattle.et_base.specs.declared.value.Value.TheVariants.{Unset, Ref}
-use Rattle.et_graph.proofs.Lists.{Contains-none, Contains-here, Contains-cons}
+use Rattle.et_base.proofs.Lists.{Contains-none, Contains-here, Contains-cons}
 use Rattle.et_heap.specs.Objects.{ObjectState, Objects, IsHeld, is_there, found, new_object, at, object_at, slot_of, with_slot, with_object_at}
 use Rattle.et_heap.specs.Refs.{refs_of_value, refs_of}
 use Rattle.et_program.specs.Entries.{class_at}

@@ -4,7 +4,7 @@ use Rattle.std.specs.Prelude.{All, IfSome, unwrap_or, codes, replicate, slice_in
 use Rattle.std.specs.Str.{bytes_eq}
 use Rattle.std.proofs.lemmas.List.Elements.{All-nil, All-cons, All-get_or}
 use Rattle.et_base.specs.declared.value.Value.TheVariants.{Unset}
-use Rattle.et_graph.proofs.Lists.{Contains-here, Contains-none, Contains-cons}
+use Rattle.et_base.proofs.Lists.{Contains-here, Contains-none, Contains-cons}
 use Rattle.et_graph.specs.Graph.{Graph, nothing_made}
 use Rattle.et_graph.specs.Steps.{Step, IsLegalStep}
 use Rattle.et_heap.specs.Refs.{refs_of}

@@ -8,7 +8,7 @@ use Rattle.et_base.specs.declared.value.Value.{Value}
 use Rattle.et_base.specs.declared.value.Value.TheVariants.{Unset, Int, Long, LongHigh, Null, Ref}
 use Rattle.et_class.specs.Names.{has}
 use Rattle.et_class.specs.declared.flags.TheConstants.{STATIC, SYNCHRONIZED}
-use Rattle.et_graph.proofs.Lists.{Contains-none, Contains-here}
+use Rattle.et_base.proofs.Lists.{Contains-none, Contains-here}
 use Rattle.et_heap.specs.Refs.{refs_of_value, refs_of}
 use Rattle.et_program.specs.Entries.{Linked, method_at, is_static}
 use Rattle.et_program.specs.declared.info.MethodInfo.{MethodInfo}

@@ -12,7 +12,7 @@ use Rattle.et_pool.specs.Descriptors.{MethodType, method_type, is_void, types_of
 use Rattle.et_code.specs.Bodies.{Body}
 use Rattle.et_class.specs.Names.{has}
 use Rattle.et_class.specs.declared.flags.TheConstants.{NATIVE}
-use Rattle.et_graph.proofs.Lists.{Contains-here}
+use Rattle.et_base.proofs.Lists.{Contains-here}
 use Rattle.et_heap.specs.Objects.{IsHeld}
 use Rattle.et_program.specs.Entries.{Linked, method_at, is_static}
 use Rattle.et_program.specs.Resolution.{resolve_method, select}

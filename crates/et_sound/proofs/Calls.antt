@@ -4,7 +4,7 @@ use Rattle.std.specs.Prelude.{option_to_list}
 use Rattle.std.specs.List.{slice_index_or}
 use Rattle.et_base.specs.declared.value.Value.{Value}
 use Rattle.et_code.specs.Bodies.{Body}
-use Rattle.et_graph.proofs.Lists.{Contains-here}
+use Rattle.et_base.proofs.Lists.{Contains-here}
 use Rattle.et_program.specs.Entries.{Linked, method_at}
 use Rattle.et_heap.specs.Objects.{IsHeld}
 use Rattle.et_state.specs.declared.stage.Stage.{Stage}

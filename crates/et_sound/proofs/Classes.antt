@@ -28,7 +28,8 @@ use Rattle.et_event.specs.Sound.{is_of_kind, IsSoundObject}
 use Rattle.et_sound.specs.Outcomes.{KeepsSound}
 use Rattle.et_event.specs.Programs.{MakesSound, HasSlots, HasInitializers, IsArrayClass}
 use Rattle.et_sound.specs.WellFormed.{IsWellFormed, IsGoing, StandsAt}
-use Rattle.et_sound.proofs.Fields.{Passes, position_passes, ok_is, going, operands_there, leaving_well, field_resolved, field_named, field_typed, kind_of_one}
+use Rattle.et_base.proofs.Positions.{Passes, position_passes}
+use Rattle.et_sound.proofs.Fields.{ok_is, going, operands_there, leaving_well, field_resolved, field_named, field_typed, kind_of_one}
 use Rattle.et_sound.proofs.Initializing.{initialized_sound}
 use Rattle.et_sound.proofs.Outcomes.{instance_well, ends_sound, unless_ill_typed, unless_thrown, where_resolved}
 use Rattle.et_sound.proofs.Slots.{static_well}

@@ -1,13 +1,13 @@
 -- The instructions on fields, arrays and classes that initialize no class leave a sound state.
 use Rattle.std.proofs.Common.{◌≡◌, ℕ, suc, ◌+◌, ◌<◌, ◌≤◌, ◌&&◌, ◌==◌, Bool, true, false, cond, not, List, [], ◌∷◌, ◌++◌, length, get_or, Option, Some, None, IfSome, Ok, refl, sym, subst, arith}
 use Rattle.std.specs.Prelude.{ℤ, if◌then◌else◌, slice_index_or}
-use Rattle.std.specs.List.{position_from}
 use Rattle.std.specs.Option.{option_or, ok_or}
 use Rattle.std.specs.Str.{bytes_eq}
 use Rattle.std.proofs.lemmas.Bool.{and_parts, leb-true, not-true}
 use Rattle.std.proofs.lemmas.List.{length-append}
 use Rattle.std.proofs.lemmas.List.Elements.{Contains-append_left, Contains-append_right}
 use Rattle.std.proofs.lemmas.Slice.Eq.{bytes_eq-Decides}
+use Rattle.et_base.proofs.Positions.{Passes, position_passes}
 use Rattle.et_base.specs.declared.value.Value.{Value}
 use Rattle.et_base.specs.declared.value.Value.TheVariants.{Unset}
 use Rattle.et_pool.specs.Descriptors.{width_of, is_field_descriptor}
@@ -76,25 +76,6 @@ leaving_sound e at operands here few = goes_sound e.program (leaving e at operan
 pub record IsField (p : Linked) (type : List ℕ) (f : ℕ) : Type 0 where
   pub within : f < length p.fields
   pub descriptor : (field_at p f).descriptor ≡ type
-
-pub record Passes {X : Type 0} (t : X → Bool) (d : X) (i : ℕ) (xs : List X) (j : ℕ) : Type 0 where
-  pub place : ℕ
-  pub is : j ≡ i + place
-  pub within : place < length xs
-  pub passes : t (get_or xs place d) ≡ true
-
-shifted : {X : Type 0} (t : X → Bool) (d : X) (i : ℕ) (x : X) (xs : List X) (o : Option ℕ) → IfSome o (Passes t d (i + 1) xs) → IfSome o (Passes t d i (x ∷ xs))
-shifted t d i x xs None h = tt
-shifted t d i x xs (Some j) h = let n : ℕ = h.place in record { place = suc n; is = omega (arith, h.is); within = omega (arith, h.within); passes = h.passes }
-
-by_test : {X : Type 0} (t : X → Bool) (d : X) (i : ℕ) (x : X) (xs : List X) (b : Bool) → t x ≡ b → IfSome (position_from t (i + 1) xs) (Passes t d (i + 1) xs)
-    → IfSome (cond b (Some i) (position_from t (i + 1) xs)) (Passes t d i (x ∷ xs))
-by_test t d i x xs true e h = record { place = 0; is = omega arith; within = omega arith; passes = e }
-by_test t d i x xs false e h = shifted t d i x xs (position_from t (i + 1) xs) h
-
-pub position_passes : {X : Type 0} (t : X → Bool) (d : X) (i : ℕ) (xs : List X) → IfSome (position_from t i xs) (Passes t d i xs)
-position_passes t d i [] = tt
-position_passes t d i (x ∷ xs) = by_test t d i x xs (t x) refl (position_passes t d (i + 1) xs)
 
 described : (f : FieldInfo) (name descriptor : List ℕ) (c : ℕ) → is_field name descriptor c f ≡ true → f.descriptor ≡ descriptor
 described f name descriptor c e =

@@ -3,7 +3,7 @@ use Rattle.std.proofs.Common.{◌≡◌, ℕ, ◌<◌, ◌≤◌, ◌^◌, ◌==
 use Rattle.std.specs.Prelude.{All, fold, codes, is_some}
 use Rattle.std.specs.List.{slice_index_or}
 use Rattle.std.proofs.lemmas.List.Elements.{All-head, All-tail}
-use Rattle.et_graph.proofs.Lists.{Contains-none, Contains-cons}
+use Rattle.et_base.proofs.Lists.{Contains-none, Contains-cons}
 use Rattle.et_base.specs.declared.value.Value.{Value}
 use Rattle.et_base.specs.declared.value.Value.TheVariants.{Int, Long, Null, Ref}
 use Rattle.et_program.specs.Entries.{Linked, class_at, field_at}

@@ -13,7 +13,8 @@ use Rattle.et_program.specs.Resolution.{resolve_method, selected_above, selected
 use Rattle.et_program.specs.declared.errors.LinkError.{LinkError}
 use Rattle.et_program.specs.declared.errors.LinkError.TheVariants.{NoSuchMethod, IncompatibleClassChange, AbstractMethod}
 use Rattle.et_program.specs.declared.info.MethodInfo.{MethodInfo}
-use Rattle.et_sound.proofs.Fields.{Passes, position_passes, ok_is}
+use Rattle.et_base.proofs.Positions.{Passes, position_passes}
+use Rattle.et_sound.proofs.Fields.{ok_is}
 use Rattle.et_sound.specs.Methods.{IsMethod, IsInstanceMethod}
 
 -- THE METHOD of a class

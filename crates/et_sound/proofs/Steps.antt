@@ -26,7 +26,7 @@ use Rattle.et_state.specs.declared.class_state.ClassState.TheVariants.{Failed, U
 use Rattle.et_state.specs.State.{Kept}
 use Rattle.et_state.specs.Words.{thread_at, HasFrame}
 use Rattle.et_state.proofs.Places.{top_root, lock_root}
-use Rattle.et_graph.proofs.Lists.{Contains-here}
+use Rattle.et_base.proofs.Lists.{Contains-here}
 use Rattle.et_state.specs.declared.records.Record.TheVariants.{Unwind}
 use Rattle.et_state.specs.Outcome.{Outcome}
 use Rattle.et_event.specs.declared.errors.GuestError.TheVariants.{ClassCastException, IllegalMonitorStateException, NegativeArraySizeException, ExceptionInInitializerError}

@@ -2,7 +2,7 @@
 use Rattle.std.proofs.Common.{◌≡◌, ℕ, ◌<◌, ◌^◌, true, false, [], ◌++◌, length, Option, Some, None, Contains, sym, subst, arith}
 use Rattle.std.specs.Prelude.{option_to_list}
 use Rattle.std.proofs.lemmas.List.Elements.{Contains-append_right}
-use Rattle.et_graph.proofs.Lists.{Contains-here}
+use Rattle.et_base.proofs.Lists.{Contains-here}
 use Rattle.et_program.specs.Entries.{Linked}
 use Rattle.et_heap.proofs.HeapLists.{held_within}
 use Rattle.et_state.specs.Threads.{ThreadState, ended_roots}

@@ -2,7 +2,7 @@
 use Rattle.std.proofs.Common.{◌≡◌, ℕ, ◌<◌, List, [], ◌∷◌, ◌++◌, length, Option, Some, None, Contains, refl, sym, subst, inl, inr, arith, append-nil, option_to_list}
 use Rattle.std.proofs.lemmas.List.Elements.{Contains-append_left}
 use Rattle.et_base.specs.declared.value.Value.{Value}
-use Rattle.et_graph.proofs.Lists.{Contains-none, Contains-cons}
+use Rattle.et_base.proofs.Lists.{Contains-none, Contains-cons}
 use Rattle.et_heap.specs.declared.monitor.Monitor.{Monitor}
 use Rattle.et_heap.specs.Objects.{IsHeld, object_at, new_object, slot_of, with_slot, with_referent, with_monitor}
 use Rattle.et_heap.specs.Refs.{refs_of_value, refs_of}

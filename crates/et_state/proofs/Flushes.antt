@@ -2,7 +2,7 @@
 use Rattle.std.proofs.Common.{◌≡◌, ℕ, ◌+◌, ◌-◌, ◌<◌, ◌≤◌, ◌⊎◌, ◌↔◌, Bool, true, List, length, Contains, refl, sym, ap, subst, inl, inr, arith}
 use Rattle.et_graph.specs.Graph.{IsReached, AreDead}
 use Rattle.et_graph.specs.Steps.{IsFlush}
-use Rattle.et_graph.proofs.Lists.{cases_number}
+use Rattle.et_base.proofs.Lists.{cases_number}
 use Rattle.et_heap.specs.Objects.{IsHeld}
 use Rattle.et_heap.specs.Refs.{gone_of}
 use Rattle.et_heap.specs.Remaining.{remaining}

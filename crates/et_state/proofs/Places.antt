@@ -6,7 +6,7 @@ use Rattle.std.proofs.lemmas.Grind.{flat_map-append}
 use Rattle.std.proofs.lemmas.List.Elements.{Contains-append_left, Contains-append_right, Contains-append_cases}
 use Rattle.et_base.specs.declared.value.Value.{Value}
 use Rattle.et_base.specs.declared.value.Value.TheVariants.{Unset}
-use Rattle.et_graph.proofs.Lists.{Contains-none}
+use Rattle.et_base.proofs.Lists.{Contains-none}
 use Rattle.et_heap.specs.Refs.{refs_of_value, refs_of}
 use Rattle.et_state.specs.Threads.{FrameState, ThreadState, no_thread, with_top_of, without_top, first_frame, rest_of, pushed, popped, without_operands, with_local, operand_of, local_of, locals_with, in_clinit, entered_by, with_pending, as_entered, as_ended, ended_roots}
 use Rattle.et_state.specs.ThreadRoots.{frame_roots, thread_roots}

@@ -6,7 +6,7 @@ use Rattle.std.proofs.lemmas.List.Elements.{Contains-append_left, Contains-appen
 use Rattle.et_graph.specs.Graph.{IsMade, IsReached, IsSoundGraph}
 use Rattle.et_graph.specs.Steps.{IsDraft}
 use Rattle.et_graph.specs.Drafts.{IsMove, IsMaking}
-use Rattle.et_graph.proofs.Lists.{Contains-none}
+use Rattle.et_base.proofs.Lists.{Contains-none}
 use Rattle.et_graph.proofs.Walks.{root_reached, reached_on}
 use Rattle.et_graph.proofs.DraftLaws.{draft_start, draft_move, draft_making, draft_end}
 use Rattle.et_heap.specs.Objects.{ObjectState, Objects, at, found, is_there, IsHeld, object_at, with_object_at}

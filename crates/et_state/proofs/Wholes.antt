@@ -3,7 +3,7 @@ use Rattle.std.proofs.Common.{◌≡◌, ℕ, zero, suc, ◌+◌, ◌<◌, ◌�
 use Rattle.std.proofs.lemmas.List.Elements.{Contains-append_left, Contains-append_right, Contains-append_cases}
 use Rattle.et_graph.specs.Graph.{Graph, IsReached}
 use Rattle.et_graph.specs.Steps.{IsKnown, IsLegalStep, IsRemoved, IsAdded}
-use Rattle.et_graph.proofs.Lists.{Contains-none}
+use Rattle.et_base.proofs.Lists.{Contains-none}
 use Rattle.et_graph.proofs.Walks.{walk_more, reached_on}
 use Rattle.et_heap.specs.Objects.{ObjectState, Objects, IsHeld, is_there, found, object_at}
 use Rattle.et_heap.specs.Refs.{targets_of, pairs_of}

@@ -4,7 +4,7 @@ use Rattle.std.specs.Prelude.{Result, Ok, Err, IfOk}
 use Rattle.std.proofs.lemmas.List.{length-set}
 use Rattle.et_base.specs.declared.value.Value.{Value}
 use Rattle.et_base.specs.declared.value.Value.TheVariants.{Unset, Int, Long, LongHigh, Null, Ref}
-use Rattle.et_graph.proofs.Lists.{Contains-here}
+use Rattle.et_base.proofs.Lists.{Contains-here}
 use Rattle.et_heap.specs.declared.monitor.Monitor.{Monitor}
 use Rattle.et_heap.specs.Objects.{IsHeld, object_at, with_monitor, with_object_at}
 use Rattle.et_heap.specs.Refs.{refs_of_value}

@@ -8,7 +8,7 @@ use Rattle.std.proofs.lemmas.List.Sums.{sum_by_push}
 use Rattle.et_base.specs.declared.value.Value.{Value}
 use Rattle.et_base.specs.declared.value.Value.TheVariants.{Unset, Ref}
 use Rattle.et_graph.specs.Graph.{IsReached}
-use Rattle.et_graph.proofs.Lists.{Contains-here, Contains-cons, Contains-none}
+use Rattle.et_base.proofs.Lists.{Contains-here, Contains-cons, Contains-none}
 use Rattle.et_heap.specs.Objects.{ObjectState, Objects, IsHeld, is_there, at, object_at, found, new_object, slot_of, with_slot, with_object_at, slots_in, made_count, slot_count, most_objects, most_slots, has_room}
 use Rattle.et_heap.specs.Refs.{refs_of_value}
 use Rattle.et_heap.proofs.HeapLists.{held_set}

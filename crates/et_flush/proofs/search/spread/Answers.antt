@@ -2,7 +2,7 @@ use Rattle.std.proofs.Common.{◌≡◌, ℕ, ◌+◌, ◌-◌, ◌<◌, List, B
 use Rattle.std.proofs.lemmas.Bool.{both_ways}
 use Rattle.std.proofs.lemmas.List.{length-append}
 use Rattle.et_graph.specs.Times.{ArePairsWithin, IsSet}
-use Rattle.et_graph.proofs.Lists.{none_long}
+use Rattle.et_base.proofs.Lists.{none_long}
 use Rattle.et_graph.proofs.Rounds.{IsCarrying, carrying_source, carrying_visit, carrying_end}
 use Rattle.et_heap.specs.Refs.{pairs_of}
 use Rattle.et_heap.proofs.HeapLists.{held_within}

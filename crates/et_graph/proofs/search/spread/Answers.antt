@@ -1,7 +1,7 @@
 use Rattle.std.proofs.Common.{◌≡◌, ℕ, ◌+◌, ◌-◌, List, Bool, length, get_or, sym, ◌∙◌, ap, subst, arith, false}
 use Rattle.std.proofs.lemmas.Bool.{both_ways}
 use Rattle.et_graph.specs.Times.{ArePairsWithin, IsSet}
-use Rattle.et_graph.proofs.Lists.{none_long}
+use Rattle.et_base.proofs.Lists.{none_long}
 use Rattle.et_graph.proofs.Rounds.{IsCarrying, carrying_source, carrying_visit, carrying_end}
 use Rattle.et_graph.proofs.search.spread.Goals as goal
 

@@ -1,7 +1,7 @@
 use Rattle.std.proofs.Common.{◌≡◌, ◌++◌, ◌∷◌, [], ◌∙◌, length, ap, sym, arith, append_assoc}
 use Rattle.std.proofs.lemmas.List.{append-nil}
 use Rattle.std.specs.Vec.Iter.{into_iter_items}
-use Rattle.et_graph.proofs.Lists.{none_long}
+use Rattle.et_base.proofs.Lists.{none_long}
 use Rattle.et_replay.proofs.Seating.{zip_push}
 use Rattle.et_replay.proofs.replaying.seats_of.Goals as goal
 
