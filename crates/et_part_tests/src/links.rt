@@ -5,7 +5,8 @@ ghost use Rattle.et_class.specs.Classes.{HasItsParts};
 ghost use Rattle.et_link.specs.Declaring.{HasItsFile};
 
 use crate::link_files::{
-    BAD, BOTH, BOX, GRID, LEFT, LOOP, LOWER, NEAR, NONE, ONE, OPEN, RIGHT, SUB, TEXT, TOP, UPPER,
+    ALL, BAD, BOTH, BOX, GRID, LEFT, LOOP, LOWER, MID, NEAR, NONE, ONE, OPEN, RIGHT, SUB, TEXT,
+    TOP, UPPER,
 };
 use et_base::{ClassId, MethodId};
 use et_class::{ClassFault, ClassFile, read_class};
@@ -174,6 +175,22 @@ fn diamonds(rt: HostRuntime) -> Result<(), Fail> {
     assert_eq!(rt;
         class_of(&program, program.select(one, method, true)),
         Ok(left)
+    );
+    Ok(())
+}
+
+#[test]
+fn a_common_subinterface_decides(rt: HostRuntime) -> Result<(), Fail> {
+    let sources: [&[u8]; 5] = [&ALL, &MID, &TOP, &LEFT, &RIGHT];
+    let program = link_all(&rt, rt.alloc(), &sources)??;
+    let all = program.resolve_class(b"All")?;
+    let mid = program.resolve_class(b"Mid")?;
+    // Left and Right each have m, and Mid is below both (5.4.3.3, 6.5)
+    let method = program.resolve_method(all, false, b"m", b"()V")?;
+    assert_eq!(rt; program.method(method).class, mid);
+    assert_eq!(rt;
+        class_of(&program, program.select(all, method, false)),
+        Ok(mid)
     );
     Ok(())
 }
