@@ -161,12 +161,30 @@ fn with_line(alloc: Global, place: usize, line: &[u8]) -> Result<Vec<u8>, Fail> 
 #[test]
 fn damaged_traces_are_refused(rt: HostRuntime) -> Result<(), Fail> {
     let alloc = rt.alloc();
-    let rows: [(usize, &[u8], &[u8]); 5] = [
+    let rows: [(usize, &[u8], &[u8]); 15] = [
+        (1, b"H 2 0", b"elephant: bad trace T 1 1\n"),
+        (
+            2,
+            b"C 2 [Ljava/lang/String;",
+            b"elephant: bad trace T 2 2\n",
+        ),
         (3, b"A 0 0 1 1 024 0", b"elephant: bad trace T 1 3\n"),
+        (
+            5,
+            b"N 1 2 main ([Ljava/lang/String;)V\nN 2 2 main ([Ljava/lang/String;)V",
+            b"elephant: bad trace T 4 6\n",
+        ),
+        (7, b"A 2 0 2 2 15 0", b"elephant: bad trace T 1 7\n"),
+        (7, b"A 2 0 2 3 16 0", b"elephant: bad trace T 3 7\n"),
+        (8, b"E 1 0 1", b"elephant: bad trace T 2 8\n"),
+        (9, b"F 5 3", b"elephant: bad trace T 2 12\n"),
+        (9, b"F 6 2", b"elephant: bad trace T 2 12\n"),
+        (10, b"D 1 6", b"elephant: bad trace T 2 10\n"),
         (10, b"D 3 3", b"elephant: bad trace T 3 10\n"),
         (11, b"D 1 3", b"elephant: bad trace T 2 11\n"),
-        (13, b"Z 5 0", b"elephant: bad trace T 6 13\n"),
         (12, b"", b"elephant: bad trace T 5 12\n"),
+        (12, b"Z 5 4", b"elephant: bad trace T 1 12\n"),
+        (13, b"Z 5 0", b"elephant: bad trace T 6 13\n"),
     ];
     for (place, line, refusal) in rows {
         let mut files = files_with(alloc, "T", &with_line(alloc, place, line)?)?;
@@ -182,7 +200,17 @@ fn damaged_traces_are_refused(rt: HostRuntime) -> Result<(), Fail> {
             )?;
         }
     }
-    Ok(())
+    let mut files = files_with(alloc, "T", b"")?;
+    let said = b"elephant: bad trace T 5 1\n";
+    is_answered(
+        &rt,
+        alloc,
+        &mut files,
+        "curve T",
+        Status::BadTrace,
+        b"",
+        said,
+    )
 }
 
 #[test]

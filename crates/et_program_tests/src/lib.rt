@@ -11,6 +11,8 @@ mod errors;
 #[cfg(test)]
 mod examples;
 #[cfg(test)]
+mod faults;
+#[cfg(test)]
 mod first_path;
 #[cfg(test)]
 mod linking;

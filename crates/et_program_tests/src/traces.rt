@@ -45,14 +45,22 @@ const SYN: &str =
     end\nmethod g ()V 0029 1 0\ninvokestatic Syn k ()V\nreturn\nend\nmethod k ()V 0029 1 0\naconst_null\n\
     athrow\nend\n";
 
-const USE: &str =
+pub const USE: &str =
     "class Use java/lang/Object 0021\nmethod main ([Ljava/lang/String;)V 0009 1 1\na:\ngetstatic Bad x I\nb:\n\
     pop\nreturn\nh:\npop\nc:\ngetstatic Bad x I\nd:\npop\nreturn\nk:\npop\nreturn\ncatch a b h *\n\
     catch c d k *\nend\n";
 
-const BAD: &str =
+pub const BAD: &str =
     "class Bad java/lang/Object 0021\nfield x I 0008\nmethod <clinit> ()V 0008 2 0\niconst_1\niconst_0\nidiv\n\
     pop\nreturn\nend\n";
+
+/// The trace of the classes `Use` and `Bad`, of which the one catches what the initialization of the other throws.
+pub const USE_TRACE: &[u8] =
+    b"H 1 0\nC 1 [Ljava/lang/String;\nA 0 0 1 1 24 0\nC 2 Use\nN 1 2 main ([Ljava/lang/String;)V\nM 1 0 1 0\n\
+    C 3 Bad\nN 2 3 <clinit> ()V\nM 3 0 2 0\nC 4 java/lang/ArithmeticException\nA 6 0 2 4 32 0\nX 7 0 2 2\n\
+    C 5 java/lang/ExceptionInInitializerError\nA 7 0 3 5 32 0\nU 7 0 3 1 0 2\n\
+    C 6 java/lang/NoClassDefFoundError\nA 10 0 4 6 32 0\nE 13 0 1\nF 14 4\nD 1 12\nD 2 8\nD 3 8\nD 4 11\n\
+    Z 14 0\n";
 
 const DEEP: &str =
     "class Deep java/lang/Object 0021\nmethod main ([Ljava/lang/String;)V 0009 1 1\ninvokestatic Deep f ()V\n\
@@ -225,16 +233,7 @@ fn exceptions(rt: HostRuntime) -> Result<(), Fail> {
              A 6 0 2 3 32 0\nX 7 0 4 2\nX 8 0 3 2\nX 9 0 2 2\nE 12 0 1\nF 13 2\nD 1 11\nD 2 10\nZ 13 0\n",
             b"",
         ),
-        (
-            "trace Use.class Bad.class",
-            Status::Done,
-            b"H 1 0\nC 1 [Ljava/lang/String;\nA 0 0 1 1 24 0\nC 2 Use\nN 1 2 main ([Ljava/lang/String;)V\nM 1 0 1 0\n\
-             C 3 Bad\nN 2 3 <clinit> ()V\nM 3 0 2 0\nC 4 java/lang/ArithmeticException\nA 6 0 2 4 32 0\nX 7 0 2 2\n\
-             C 5 java/lang/ExceptionInInitializerError\nA 7 0 3 5 32 0\nU 7 0 3 1 0 2\n\
-             C 6 java/lang/NoClassDefFoundError\nA 10 0 4 6 32 0\nE 13 0 1\nF 14 4\nD 1 12\nD 2 8\nD 3 8\nD 4 11\n\
-             Z 14 0\n",
-            b"",
-        ),
+        ("trace Use.class Bad.class", Status::Done, USE_TRACE, b""),
         (
             "trace Mon.class",
             Status::Done,

@@ -1,0 +1,148 @@
+//! Each read and each write that fails, in turn; and sets of files at their limit.
+
+use crate::first_path::BOX;
+use crate::runs::{answer, is_answered};
+use crate::traces::{BAD, Row, USE, USE_TRACE, are_answered, files_of};
+use et_io::{MemFiles, MemSink};
+use et_top::Status;
+use std::alloc::Global;
+use std::process::Abort;
+use std::test::Fail;
+
+const USE_LINE: &str = "trace Use.class Bad.class";
+
+/// The trace is written to a sink of which one put fails, the first, the second and so on up to the last: what it took is a
+/// prefix of the trace. Without that fault the trace is whole.
+#[test]
+fn each_put_of_a_trace_fails_in_turn(rt: HostRuntime) -> Result<(), Fail> {
+    let alloc = rt.alloc();
+    let mut failed = 0;
+    for call in 1..=12 {
+        let mut files = files_of(alloc, &[("Use.class", USE), ("Bad.class", BAD)])?;
+        let mut out = MemSink::begin(alloc, 1000);
+        let mut err = MemSink::begin(alloc, 1000);
+        out.fail_at(call)?;
+        let status = answer(alloc, USE_LINE, &mut files, &mut out, &mut err)?;
+        assert!(rt; USE_TRACE.starts_with(out.bytes()));
+        if status == Status::Done {
+            assert_eq!(rt; out.bytes(), USE_TRACE);
+        } else {
+            assert_eq!(rt; status, Status::WriteFault);
+            failed += 1;
+        }
+    }
+    // the starting state, the events 1, 3, 6, 7, 10 and 13, and the end
+    assert_eq!(rt; failed, 8);
+    Ok(())
+}
+
+/// The files are read, and one read fails, the first, the second and so on up to the last: nothing is put.
+#[test]
+fn each_read_of_a_run_fails_in_turn(rt: HostRuntime) -> Result<(), Fail> {
+    let alloc = rt.alloc();
+    let mut failed = 0;
+    for call in 1..=12 {
+        let mut files = files_of(alloc, &[("Use.class", USE), ("Bad.class", BAD)])?;
+        let mut out = MemSink::begin(alloc, 1000);
+        let mut err = MemSink::begin(alloc, 1000);
+        files.fail_at(call)?;
+        let status = answer(alloc, USE_LINE, &mut files, &mut out, &mut err)?;
+        if status == Status::Done {
+            assert_eq!(rt; out.bytes(), USE_TRACE);
+        } else {
+            assert_eq!(rt; status, Status::ReadFault);
+            assert!(rt; out.bytes().is_empty());
+            assert!(rt; err.bytes().starts_with(b"elephant: read fault "));
+            failed += 1;
+        }
+    }
+    // at least one read of each file
+    assert!(rt; failed >= 2 && failed < 12);
+    Ok(())
+}
+
+/// A refusal that cannot be written leaves the answer as it is.
+#[test]
+fn a_refusal_that_is_not_taken(rt: HostRuntime) -> Result<(), Fail> {
+    let alloc = rt.alloc();
+    let rows = [
+        ("trace Box.class Box.class", Status::LinkFault),
+        ("trace Cut.class", Status::BadClass),
+        ("trace No.class", Status::Absent),
+        ("curve Box.class", Status::BadTrace),
+        ("trace", Status::Usage),
+    ];
+    for (line, wanted) in rows {
+        let mut files = MemFiles::begin(alloc);
+        files.hold("Box.class", &BOX)?;
+        files.hold("Cut.class", &BOX[..10])?;
+        let mut out = MemSink::begin(alloc, 1000);
+        let mut err = MemSink::begin(alloc, 1000);
+        err.fail_at(1)?;
+        let status = answer(alloc, line, &mut files, &mut out, &mut err)?;
+        assert_eq!(rt; status, wanted, "{line}");
+        assert!(rt; out.bytes().is_empty());
+    }
+    Ok(())
+}
+
+/// A thread whose method takes from an empty stack.
+const SAD: &str = "class Sad java/lang/Thread 0021\nmethod <init> ()V 0001 1 1\naload 0\n\
+    invokespecial java/lang/Thread <init> ()V\nreturn\nend\nmethod run ()V 0001 1 1\npop\nreturn\nend\n\
+    method main ([Ljava/lang/String;)V 0009 2 1\nnew Sad\ndup\ninvokespecial Sad <init> ()V\n\
+    invokevirtual Sad start ()V\nreturn\nend\n";
+
+/// The line of an event without a meaning names its thread.
+#[test]
+fn a_second_thread_is_ill_typed(rt: HostRuntime) -> Result<(), Fail> {
+    let rows: [Row; 1] = [(
+        "trace Sad.class",
+        Status::IllTyped,
+        b"H 1 0\nC 1 [Ljava/lang/String;\nA 0 0 1 1 24 0\nC 2 Sad\nN 1 2 main ([Ljava/lang/String;)V\nM 1 0 1 0\n\
+             A 2 0 2 2 24 0\nN 2 2 <init> ()V\nM 4 0 2 2\nE 7 0 2\nE 9 0 1\nN 3 2 run ()V\nM 11 1 3 2\nF 11 1\nD 1 8\n\
+             Z 11 2\n",
+        b"elephant: ill typed 1 Sad run ()V 0\n",
+    )];
+    are_answered(&rt, rt.alloc(), &[("Sad.class", SAD)], &rows)
+}
+
+fn letter(number: u16) -> u8 {
+    b'A' + (number % 17) as u8
+}
+
+/// The name of a class, of three letters, by its number, which is at most 4,096.
+fn name_of(number: u16) -> [u8; 3] {
+    [
+        letter(number % 16),
+        letter(number / 16 % 16),
+        letter(number / 256),
+    ]
+}
+
+/// The class of the 4,097th file is one too many.
+#[test]
+fn one_file_too_many(rt: HostRuntime) -> Result<(), Fail> {
+    let alloc = rt.alloc();
+    let mut files = MemFiles::begin(alloc);
+    let mut line = String::from_str(alloc, "trace")?;
+    for number in 0..4097_u16 {
+        let mut class = Vec::from_slice(alloc, &BOX)?;
+        let name = name_of(number);
+        for (i, letter) in name.iter().enumerate() {
+            class[13 + i] = *letter;
+        }
+        let path = format!(in alloc; "{number}")?;
+        files.hold(&path, &class)?;
+        line.push(' ')?;
+        line.push_str(&path)?;
+    }
+    is_answered(
+        &rt,
+        alloc,
+        &mut files,
+        &line,
+        Status::LinkFault,
+        b"",
+        b"elephant: link 7 AAQ\n",
+    )
+}
