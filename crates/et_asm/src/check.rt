@@ -281,29 +281,39 @@ fn reaches<'a>(labels: &Labels<'a>, at: usize, line: &Line<'a>) -> bool
     }
 }
 
+/// Where a line of a body stands.
+#[derive(Clone, Copy)]
+struct Spot {
+    /// The number of the line.
+    number: usize,
+    /// Where its code begins in the body, in bytes.
+    at: usize,
+    /// Where its code ends.
+    end: usize,
+    /// How many lines up to it, and with it, are a `catch`.
+    catches: usize,
+}
+
 /// The first broken rule behind those of a line of a body.
 #[tactic(auto, unfolding(et_base::specs::Marks::first_from))]
 fn check_body_line<'a>(
     first: First,
     labels: &Labels<'a>,
-    number: usize,
     seen: &Labels<'a>,
-    at: usize,
-    end: usize,
-    catches: usize,
+    spot: Spot,
     line: &Line<'a>,
 ) -> First
-    ensures { result ≡ first_from first (body_line_marks
-        (places labels.now.entries) number (places seen.now.entries) at end catches line.now) }
+    ensures { result ≡ first_from first (body_line_marks (places labels.now.entries) spot.number
+        (places seen.now.entries) spot.at spot.end spot.catches line.now) }
 {
     let new = defines_new(seen, line);
     let defined = uses_defined(labels, line);
-    let near = reaches(labels, at, line);
-    let first = mark(first, number, LABEL, new);
-    let first = mark(first, number, LABEL, defined);
-    let first = mark(first, number, LIMIT, near);
-    let first = mark(first, number, LIMIT, end <= 0xffff);
-    mark(first, number, LIMIT, catches <= 0xffff)
+    let near = reaches(labels, spot.at, line);
+    let first = mark(first, spot.number, LABEL, new);
+    let first = mark(first, spot.number, LABEL, defined);
+    let first = mark(first, spot.number, LIMIT, near);
+    let first = mark(first, spot.number, LIMIT, spot.end <= 0xffff);
+    mark(first, spot.number, LIMIT, spot.catches <= 0xffff)
 }
 
 /// The first broken rule behind those of a body, whose first line has a number.
@@ -328,7 +338,13 @@ fn check_body<'a>(
         let line = &body[i].line;
         let end = behind(symbols, at, line)?;
         catches += usize::from(is_catch(line));
-        found = check_body_line(found, &labels, number + i, &seen, at, end, catches, line);
+        let spot = Spot {
+            number: number + i,
+            at,
+            end,
+            catches,
+        };
+        found = check_body_line(found, &labels, &seen, spot, line);
         define(&mut seen, at, line)?;
         at = end;
     }
@@ -356,24 +372,32 @@ fn check_outside<'a>(
     Ok(first)
 }
 
-/// The first broken rule behind those of a line at a stage.
+/// What the lines before a line say of it.
+#[derive(Clone, Copy)]
+struct Before {
+    /// Where the listing is.
+    stage: Stage,
+    /// Whether there are not too many interfaces, fields and methods, with what the line itself declares.
+    few: bool,
+}
+
+/// The first broken rule behind those of a line.
 fn check_line<'a>(
     first: First,
     alloc: Global,
     symbols: &Symbols<'a>,
     number: usize,
-    stage: Stage,
-    few: bool,
+    before: Before,
     p: &Parsed<'a>,
     more: &[Parsed<'a>],
 ) -> Result<First, AllocError>
     requires pool { IsIndexed symbols.now symbols.now.entries.keys }
     requires number { number < 2 ^ 61 }
-    ensures { IfOk result (λ found. found
-        ≡ first_from first (stage_marks symbols.now.entries.keys number stage few p.now more.now)) }
+    ensures { IfOk result (λ found. found ≡ first_from first (stage_marks
+        symbols.now.entries.keys number before.stage before.few p.now more.now)) }
 {
-    let first = check_own(first, symbols, number, stage, few, p);
-    if is_inside(stage) {
+    let first = check_own(first, symbols, number, before.stage, before.few, p);
+    if is_inside(before.stage) {
         return Ok(first);
     }
     check_outside(first, alloc, symbols, number, p, more)
@@ -395,16 +419,11 @@ pub(crate) fn check_lines<'a>(
     for i in 0..lines.len() {
         let p = &lines[i];
         counts = counts.with(&p.line);
-        found = check_line(
-            found,
-            alloc,
-            symbols,
-            i + 1,
+        let before = Before {
             stage,
-            counts.are_few(),
-            p,
-            &lines[i + 1..],
-        )?;
+            few: counts.are_few(),
+        };
+        found = check_line(found, alloc, symbols, i + 1, before, p, &lines[i + 1..])?;
         stage = step(stage, &p.line);
     }
     Ok(mark(found, lines.len() + 1, ORDER, is_finished(stage)))

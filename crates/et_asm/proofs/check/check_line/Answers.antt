@@ -8,7 +8,7 @@ use Rattle.et_asm.proofs.check.check_line.Goals as goal
 pub returns : goal.returns
 returns c =
     let entries = c.args.symbols.now.entries.keys in
-    let own = own_marks entries c.args.number c.args.stage c.args.few c.args.p.now in
+    let own = own_marks entries c.args.number c.args.before.stage c.args.before.few c.args.p.now in
     let outside = outside_marks entries c.args.number c.args.p.now c.args.more.now in
     if_ok (λ found h. h ∙ (ap (λ f. first_from f outside) c.check_own-first.ensures ∙ (marks_more c.args.first own outside
     ∙ ap (λ b. first_from c.args.first (own ++ cond b [] outside)) (sym (sym c.is_inside.ensures ∙ c.if-is_inside.false)))))
