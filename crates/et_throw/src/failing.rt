@@ -25,6 +25,22 @@ use et_program::Program;
 use et_state::{ClassState, EventEnd, Lines, Machine};
 use std::sync::ledger::Ledger;
 
+/// An exception that is unwound.
+#[derive(Clone, Copy)]
+pub(crate) struct Thrown {
+    pub exception: ObjectId,
+    /// The class of the exception.
+    pub class: ClassId,
+}
+
+/// The initializer of a class.
+#[derive(Clone, Copy)]
+pub(crate) struct Initializer {
+    pub class: ClassId,
+    /// Whether `<clinit>` was entered; an event that leaves the frame tells of it then.
+    pub entered: bool,
+}
+
 /// An event begins in which the frame of an initializer is dropped, and its class fails.
 fn drop_initializer(machine: &mut Machine, thread: ThreadId, class: ClassId)
     requires frame { HasFrame machine.old.guest thread }
@@ -44,9 +60,8 @@ fn drop_initializer(machine: &mut Machine, thread: ThreadId, class: ClassId)
 fn fail_by_error(
     machine: &mut Machine,
     thread: ThreadId,
-    class: ClassId,
+    initializer: Initializer,
     exception: ObjectId,
-    tells: bool,
     out: &mut Lines,
 ) -> Result<EventEnd, NoMemory>
     requires frame { HasFrame machine.old.guest thread }
@@ -55,14 +70,15 @@ fn fail_by_error(
     requires fits { fits machine.old.heap ≡ true }
     requires small { length (top machine.old.guest thread).locals
         + length (top machine.old.guest thread).operands < 2 ^ 17 }
-    requires class { class < length machine.old.guest.classes }
+    requires class { initializer.class < length machine.old.guest.classes }
     ensures ok { IfOk result (λ end. (p : Linked) →
-        EventAnswers (ends (with_state class states.Failed (initializer_left (moment
-        p machine.old thread) tells exception))) end machine.old machine.new out.old out.new) }
+        EventAnswers (ends (with_state initializer.class states.Failed
+        (initializer_left (moment p machine.old thread) initializer.entered exception)))
+        end machine.old machine.new out.old out.new) }
     ensures err { OnErr result (machine.new.guest ≡ machine.old.guest) }
 {
-    tell_unwind(machine, thread, exception, tells, out)?;
-    drop_initializer(machine, thread, class);
+    tell_unwind(machine, thread, exception, initializer.entered, out)?;
+    drop_initializer(machine, thread, initializer.class);
     Ok(EventEnd::Done)
 }
 
@@ -117,9 +133,8 @@ fn fail_by_exception<L: Ledger>(
     program: &Program,
     machine: &mut Machine,
     thread: ThreadId,
-    class: ClassId,
+    initializer: Initializer,
     exception: ObjectId,
-    tells: bool,
     out: &mut Lines,
     visits: &mut Steps<L>,
 ) -> Result<EventEnd, NoMemory>
@@ -128,11 +143,12 @@ fn fail_by_exception<L: Ledger>(
     requires clock { machine.old.guest.clock < 2 ^ 40 }
     requires small { length (top machine.old.guest thread).locals
         + length (top machine.old.guest thread).operands < 2 ^ 17 }
-    requires class { class < length machine.old.guest.classes }
+    requires class { initializer.class < length machine.old.guest.classes }
     requires pending { (thread_at machine.old.guest thread).pending ≡ Some exception }
     ensures ok { IfOk result (λ end. EventAnswers (ends
-        (replaced (moment program.now machine.old thread) exception (with_state class states.Failed
-        (initializer_left (moment program.now machine.old thread) tells exception))))
+        (replaced (moment program.now machine.old thread) exception
+        (with_state initializer.class states.Failed (initializer_left
+        (moment program.now machine.old thread) initializer.entered exception))))
         end machine.old machine.new out.old out.new) }
     ensures err { OnErr result (machine.new.guest ≡ machine.old.guest) }
     ensures visits { visits.new ≤ visits.old + 1 }
@@ -145,9 +161,9 @@ fn fail_by_exception<L: Ledger>(
     let Some(error) = make(machine, error_class, slots)? else {
         return Ok(EventEnd::ObjectLimit);
     };
-    tell_unwind(machine, thread, exception, tells, out)?;
+    tell_unwind(machine, thread, exception, initializer.entered, out)?;
     tell_error(machine, thread, error, error_class, slots, exception, out)?;
-    drop_initializer(machine, thread, class);
+    drop_initializer(machine, thread, initializer.class);
     write_cause(machine, error, slots, exception, visits);
     machine.throw(thread, error);
     Ok(EventEnd::Done)
@@ -159,31 +175,36 @@ pub(crate) fn fail_event<L: Ledger>(
     program: &Program,
     machine: &mut Machine,
     thread: ThreadId,
-    class: ClassId,
-    exception: ObjectId,
-    thrown: ClassId,
-    tells: bool,
+    initializer: Initializer,
+    thrown: Thrown,
     out: &mut Lines,
     visits: &mut Steps<L>,
 ) -> Result<EventEnd, NoMemory>
-    requires unwinds { Unwinds program.now machine.old thread exception }
+    requires unwinds { Unwinds program.now machine.old thread thrown.exception }
     requires small { length (top machine.old.guest thread).locals
         + length (top machine.old.guest thread).operands < 2 ^ 17 }
-    requires class { class < length program.now.classes }
-    requires thrown { thrown ≡ (object_at machine.old.heap exception).class }
-    requires known { thrown < length program.now.classes }
-    ensures ok { IfOk result
-        (λ end. EventAnswers (ends (failed (moment program.now machine.old thread) class exception
-        (initializer_left (moment program.now machine.old thread) tells exception)))
+    requires class { initializer.class < length program.now.classes }
+    requires thrown { thrown.class ≡ (object_at machine.old.heap thrown.exception).class }
+    requires known { thrown.class < length program.now.classes }
+    ensures ok { IfOk result (λ end. EventAnswers (ends (failed
+        (moment program.now machine.old thread) initializer.class thrown.exception (initializer_left
+        (moment program.now machine.old thread) initializer.entered thrown.exception)))
         end machine.old machine.new out.old out.new) }
     ensures err { OnErr result (machine.new.guest ≡ machine.old.guest) }
     ensures visits { visits.new ≤ visits.old + 1 }
 {
-    if program.is_subclass(thrown, class_called(program, b"java/lang/Error")) {
-        fail_by_error(machine, thread, class, exception, tells, out)
+    let exception = thrown.exception;
+    if program.is_subclass(thrown.class, class_called(program, b"java/lang/Error")) {
+        fail_by_error(machine, thread, initializer, exception, out)
     } else {
         fail_by_exception(
-            program, machine, thread, class, exception, tells, out, visits,
+            program,
+            machine,
+            thread,
+            initializer,
+            exception,
+            out,
+            visits,
         )
     }
 }

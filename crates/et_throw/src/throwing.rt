@@ -1,6 +1,8 @@
 //! `athrow`.
-ghost use Rattle.std.specs.Prelude.{◌≡◌, ◌+◌, ◌<◌, ◌≤◌, ◌^◌, Some, IfOk, OnErr};
-ghost use Rattle.et_heap.specs.Objects.{IsHeld};
+ghost use Rattle.std.specs.Prelude.{◌≡◌, ◌+◌, ◌<◌, ◌≤◌, ◌^◌, Some, codes, IfOk, OnErr};
+ghost use Rattle.et_heap.specs.Objects.{IsHeld, object_at};
+ghost use Rattle.et_program.specs.Members.{is_subclass};
+ghost use Rattle.et_event.specs.Errors.{class_called as called};
 ghost use Rattle.et_state.specs.Threads.{with_pending};
 ghost use Rattle.et_state.specs.State.{kept_of};
 ghost use Rattle.et_state.specs.Words.{HasFrame, thread_at, with_thread, ticked};
@@ -8,7 +10,7 @@ ghost use Rattle.et_state.specs.Sound.{IsSound};
 ghost use Rattle.et_state.specs.Moves.{Led};
 ghost use Rattle.et_event.specs.Answered.{EventAnswers};
 ghost use Rattle.et_event.specs.Sound.{IsSoundFor};
-ghost use Rattle.et_event.specs.Throw.{throw, is_throwable};
+ghost use Rattle.et_event.specs.Throw.{throw};
 ghost use Rattle.et_event.specs.Moments.{moment};
 
 use et_base::{NoMemory, ObjectId, Steps, ThreadId};
@@ -39,16 +41,15 @@ fn throw_object(machine: &mut Machine, thread: ThreadId, exception: ObjectId)
 fn is_exception<L: Ledger>(
     program: &Program,
     machine: &Machine,
-    thread: ThreadId,
     exception: ObjectId,
     visits: &mut Steps<L>,
 ) -> bool
     requires sound { IsSoundFor program.now (kept_of machine.now) }
     requires held { IsHeld machine.now.heap exception }
-    ensures value { result ≡ is_throwable (moment program.now machine.now thread) exception }
+    ensures value { result ≡ is_subclass program.now (object_at machine.now.heap exception).class
+        (called program.now (codes "java/lang/Throwable")) }
     ensures visits { visits.new ≡ visits.old + 1 }
 {
-    let _thread = thread;
     let class = machine.heap.class_of(exception, visits);
     program.is_subclass(class, class_called(program, b"java/lang/Throwable"))
 }
@@ -86,7 +87,7 @@ pub(crate) fn athrow_event<L: Ledger>(
             out,
         );
     };
-    if !is_exception(program, machine, thread, exception, visits) {
+    if !is_exception(program, machine, exception, visits) {
         return Ok(ill_typed(machine, thread));
     }
     throw_object(machine, thread, exception);

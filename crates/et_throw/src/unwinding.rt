@@ -20,7 +20,7 @@ ghost use Rattle.et_event.specs.Moments.{moment};
 ghost use Rattle.et_throw.specs.Unwinding.{Unwinds, leaving_if_owned};
 
 use crate::catching::catch_event;
-use crate::failing::fail_event;
+use crate::failing::{Initializer, Thrown, fail_event};
 use crate::frames::frame_is_small;
 use crate::handlers::handler;
 use crate::records::unwind_record;
@@ -98,27 +98,34 @@ fn unwind_method<L: Ledger>(
     program: &Program,
     machine: &mut Machine,
     thread: ThreadId,
-    exception: ObjectId,
-    thrown: ClassId,
+    thrown: Thrown,
     out: &mut Lines,
     visits: &mut Steps<L>,
 ) -> Result<EventEnd, NoMemory>
-    requires unwinds { Unwinds program.now machine.old thread exception }
+    requires unwinds { Unwinds program.now machine.old thread thrown.exception }
     requires runs { Runs program.now (top machine.old.guest thread) }
-    requires thrown { thrown ≡ (object_at machine.old.heap exception).class }
-    requires known { thrown < length program.now.classes }
+    requires thrown { thrown.class ≡ (object_at machine.old.heap thrown.exception).class }
+    requires known { thrown.class < length program.now.classes }
     requires interfaces { KnowsInterfaces program.now }
     ensures ok { IfOk result (λ end. EventAnswers (unwinds (moment program.now machine.old thread)
-        exception stages.Plain) end machine.old machine.new out.old out.new) }
+        thrown.exception stages.Plain) end machine.old machine.new out.old out.new) }
     ensures err { OnErr result (machine.new.guest ≡ machine.old.guest) }
     ensures visits { visits.new ≤ visits.old + 3 }
 {
     frame_is_small(program, machine, thread);
-    match handler(program, machine, thread, thrown) {
-        Some(pc) => Ok(catch_event(machine, thread, exception, pc)),
+    match handler(program, machine, thread, thrown.class) {
+        Some(pc) => Ok(catch_event(machine, thread, thrown.exception, pc)),
         None => {
             let lock = lock_of_frame(program, machine, thread);
-            unwind_frame(program, machine, thread, exception, &lock, out, visits)
+            unwind_frame(
+                program,
+                machine,
+                thread,
+                thrown.exception,
+                &lock,
+                out,
+                visits,
+            )
         }
     }
 }
@@ -130,28 +137,31 @@ fn unwind_clinit<L: Ledger>(
     machine: &mut Machine,
     thread: ThreadId,
     class: ClassId,
-    exception: ObjectId,
-    thrown: ClassId,
+    thrown: Thrown,
     out: &mut Lines,
     visits: &mut Steps<L>,
 ) -> Result<EventEnd, NoMemory>
-    requires unwinds { Unwinds program.now machine.old thread exception }
+    requires unwinds { Unwinds program.now machine.old thread thrown.exception }
     requires runs { Runs program.now (top machine.old.guest thread) }
     requires class { class < length program.now.classes }
-    requires thrown { thrown ≡ (object_at machine.old.heap exception).class }
-    requires known { thrown < length program.now.classes }
+    requires thrown { thrown.class ≡ (object_at machine.old.heap thrown.exception).class }
+    requires known { thrown.class < length program.now.classes }
     requires interfaces { KnowsInterfaces program.now }
     ensures ok { IfOk result (λ end. EventAnswers (unwinds (moment program.now machine.old thread)
-        exception (stages.Clinit class)) end machine.old machine.new out.old out.new) }
+        thrown.exception (stages.Clinit class)) end machine.old machine.new out.old out.new) }
     ensures err { OnErr result (machine.new.guest ≡ machine.old.guest) }
     ensures visits { visits.new ≤ visits.old + 1 }
 {
     frame_is_small(program, machine, thread);
-    match handler(program, machine, thread, thrown) {
-        Some(pc) => Ok(catch_event(machine, thread, exception, pc)),
-        None => fail_event(
-            program, machine, thread, class, exception, thrown, true, out, visits,
-        ),
+    match handler(program, machine, thread, thrown.class) {
+        Some(pc) => Ok(catch_event(machine, thread, thrown.exception, pc)),
+        None => {
+            let initializer = Initializer {
+                class,
+                entered: true,
+            };
+            fail_event(program, machine, thread, initializer, thrown, out, visits)
+        }
     }
 }
 
@@ -181,15 +191,18 @@ fn unwind_event<L: Ledger>(
     ensures err { OnErr result (machine.new.guest ≡ machine.old.guest) }
     ensures visits { visits.new ≤ visits.old + 4 }
 {
-    let thrown = class_of(machine, exception, visits);
+    let class = class_of(machine, exception, visits);
+    let thrown = Thrown { exception, class };
     match machine.stage(thread) {
-        Stage::Plain => unwind_method(program, machine, thread, exception, thrown, out, visits),
-        Stage::Before(class) => fail_event(
-            program, machine, thread, class, exception, thrown, false, out, visits,
-        ),
-        Stage::Clinit(class) => unwind_clinit(
-            program, machine, thread, class, exception, thrown, out, visits,
-        ),
+        Stage::Plain => unwind_method(program, machine, thread, thrown, out, visits),
+        Stage::Before(class) => {
+            let initializer = Initializer {
+                class,
+                entered: false,
+            };
+            fail_event(program, machine, thread, initializer, thrown, out, visits)
+        }
+        Stage::Clinit(class) => unwind_clinit(program, machine, thread, class, thrown, out, visits),
     }
 }
 

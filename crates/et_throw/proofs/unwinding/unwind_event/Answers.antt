@@ -12,7 +12,7 @@ unwind_method-requires-clause-runs g c =
     runs_staged c.args.program.now (kept_of c.args.machine.now) c.args.thread c.requires.unwinds.sound c.requires.unwinds.frame (ap (λ (s : Stage). is_before s) (sym c.stage.ensures ∙ c.in-Plain.is))
 
 pub unwind_method-requires-clause-known : goal.unwind_method-requires-clause-known
-unwind_method-requires-clause-known g c = class_known c.args.program.now c.args.machine.now c.args.thread c.args.exception c.class_of-thrown.result c.requires.unwinds c.class_of-thrown.ensures.class
+unwind_method-requires-clause-known g c = class_known c.args.program.now c.args.machine.now c.args.thread c.args.exception c.class_of-class.result c.requires.unwinds c.class_of-class.ensures.class
 
 pub fail_event-requires-clause-small : goal.fail_event-requires-clause-small
 fail_event-requires-clause-small g c = (before_there c.args.program.now (kept_of c.args.machine.now) c.args.thread c.in-Before.class c.requires.unwinds.sound c.requires.unwinds.frame (sym c.stage.ensures ∙ c.in-Before.is)).1
@@ -21,7 +21,7 @@ pub fail_event-requires-clause-class : goal.fail_event-requires-clause-class
 fail_event-requires-clause-class g c = (before_there c.args.program.now (kept_of c.args.machine.now) c.args.thread c.in-Before.class c.requires.unwinds.sound c.requires.unwinds.frame (sym c.stage.ensures ∙ c.in-Before.is)).0
 
 pub fail_event-requires-clause-known : goal.fail_event-requires-clause-known
-fail_event-requires-clause-known g c = class_known c.args.program.now c.args.machine.now c.args.thread c.args.exception c.class_of-thrown.result c.requires.unwinds c.class_of-thrown.ensures.class
+fail_event-requires-clause-known g c = class_known c.args.program.now c.args.machine.now c.args.thread c.args.exception c.class_of-class.result c.requires.unwinds c.class_of-class.ensures.class
 
 pub unwind_clinit-requires-clause-runs : goal.unwind_clinit-requires-clause-runs
 unwind_clinit-requires-clause-runs g c =
@@ -31,7 +31,7 @@ pub unwind_clinit-requires-clause-class : goal.unwind_clinit-requires-clause-cla
 unwind_clinit-requires-clause-class g c = clinit_there c.args.program.now (kept_of c.args.machine.now) c.args.thread c.in-Clinit.class c.requires.unwinds.sound c.requires.unwinds.frame (sym c.stage.ensures ∙ c.in-Clinit.is)
 
 pub unwind_clinit-requires-clause-known : goal.unwind_clinit-requires-clause-known
-unwind_clinit-requires-clause-known g c = class_known c.args.program.now c.args.machine.now c.args.thread c.args.exception c.class_of-thrown.result c.requires.unwinds c.class_of-thrown.ensures.class
+unwind_clinit-requires-clause-known g c = class_known c.args.program.now c.args.machine.now c.args.thread c.args.exception c.class_of-class.result c.requires.unwinds c.class_of-class.ensures.class
 
 pub returns-in-Plain-clause-ok : goal.returns-in-Plain-clause-ok
 returns-in-Plain-clause-ok g c = stage_answers c.args.program.now c.args.thread c.args.exception Plain c.args.machine.now _ c.args.out.now _ c.unwind_method.result (sym c.stage.ensures ∙ c.in-Plain.is) c.unwind_method.ensures.ok
