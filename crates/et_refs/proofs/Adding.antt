@@ -25,17 +25,16 @@ use Rattle.et_state.specs.declared.records.Record.{Record}
 use Rattle.et_state.specs.declared.ends.EventEnd.TheVariants as endings
 use Rattle.et_state.specs.Outcome.{Outcome}
 use Rattle.et_event.specs.Answered.{EventAnswers}
-use Rattle.et_event.specs.Heap.{leaving, arrays_made, naturals}
-use Rattle.et_event.specs.Moments.{Moment, moment, Doing, begins, next_object, fits}
-use Rattle.et_event.specs.Sites.{Site, natural}
+use Rattle.et_event.specs.Heap.{arrays_made, naturals}
+use Rattle.et_event.specs.Moments.{Moment, moment, Doing, begins, with_frame, next_object, fits}
+use Rattle.et_event.specs.Sites.{natural}
 use Rattle.et_parts.proofs.Taking.{replaced, length_dropped}
 use Rattle.et_parts.proofs.Throwing.{ends_fit, ends_full}
 use Rattle.et_refs.proofs.Leading.{moves_held}
-use Rattle.et_refs.specs.Counts.{naturals_of}
-use Rattle.et_refs.specs.Events.{arrays_added}
-use Rattle.et_refs.specs.Filling.{so_far}
+use Rattle.et_refs.specs.Events.{new_arrays_outcome}
+use Rattle.et_refs.specs.Filling.{doing_of}
 use Rattle.et_refs.specs.Legal.{IsTied, HasMadeArrays}
-use Rattle.et_refs.proofs.Behind.{behind, arrays_begun, same_naturals}
+use Rattle.et_refs.proofs.Behind.{behind, arrays_begun}
 use Rattle.et_refs.proofs.Legal.{arrays_legal}
 
 has_frame_on : (g g' : GuestState) (t : ℕ) → g' ≡ g → HasFrame g t → HasFrame g' t
@@ -103,29 +102,28 @@ added_led m m₃ t count next x sound has made is₃ =
 -- WHAT THE CALLS LEAVE
 
 -- what the event has done when all arrays are made
-abbrev pub added : Linked → MachineState → ℕ → ℕ → List ℤ → Doing
-added p m t c ns = arrays_made (moment p m t) c (naturals ns) (begins (moment p m t))
+abbrev pub arrays_doing : Linked → MachineState → ℕ → ℕ → List ℤ → Doing
+arrays_doing p m t c ns = arrays_made (moment p m t) c (naturals ns) (begins (moment p m t))
 
 pub record Came (p : Linked) (m m₂ : MachineState) (t c : ℕ) (ns : List ℤ) (out out₂ : List Record) : Type 0 where
-  pub machine : m₂ ≡ with_arrays (added p m t c ns)
-  pub records : out₂ ≡ out ++ (added p m t c ns).records
-  pub made : HasMadeArrays (kept_of m) [] (record { state = kept_of (begun m); records = [] }) (added p m t c ns)
+  pub machine : m₂ ≡ with_arrays (arrays_doing p m t c ns)
+  pub records : out₂ ≡ out ++ (arrays_doing p m t c ns).records
+  pub made : HasMadeArrays (kept_of m) [] (record { state = kept_of (begun m); records = [] }) (arrays_doing p m t c ns)
   pub guest : m₂.guest ≡ ticked m.guest
 
-has_made : (p : Linked) (m : MachineState) (t c : ℕ) (ns : List ℤ) → IsSound (kept_of m) → 0 < length ns → HasMadeArrays (kept_of m) [] (record { state = kept_of (begun m); records = [] }) (added p m t c ns)
+has_made : (p : Linked) (m : MachineState) (t c : ℕ) (ns : List ℤ) → IsSound (kept_of m) → 0 < length ns → HasMadeArrays (kept_of m) [] (record { state = kept_of (begun m); records = [] }) (arrays_doing p m t c ns)
 has_made p m t c [] sound some = absurd (omega arith)
 has_made p m t c (n ∷ ns) sound some =
     let d : Doing = record { state = kept_of (begun m); records = [] } in
     arrays_legal (moment p m t) c (natural n) (naturals ns) d (kept_of m) [] (on_begin_event m sound) (omega arith)
 
 pub came_by : (p : Linked) (m m₁ m₂ : MachineState) (t c : ℕ) (ns : List ℤ) (out out₂ : List Record) → IsSound (kept_of m) → 0 < length ns → m₁ ≡ begun m
-    → ((b : Kept) → so_far m₂ out₂ ≡ arrays_made (record { program = p; before = b; thread = t }) c (naturals_of ns) (so_far m₁ out)) → m₂.lost ≡ m₁.lost → Came p m m₂ t c ns out out₂
+    → ((b : Kept) → doing_of m₂ out₂ ≡ arrays_made (record { program = p; before = b; thread = t }) c (naturals ns) (doing_of m₁ out)) → m₂.lost ≡ m₁.lost → Came p m m₂ t c ns out out₂
 came_by p m m₁ m₂ t c ns out out₂ sound some e₁ made lost =
     let e : Moment = moment p m t in
-    let x : Doing = added p m t c ns in
-    let total : so_far m₂ out₂ ≡ behind out x =
-    made (kept_of m) ∙ (ap (λ (z : MachineState). arrays_made e c (naturals_of ns) (so_far z out)) e₁
-    ∙ (ap (λ (l : List ℕ). arrays_made e c l (so_far (begun m) out)) (same_naturals ns) ∙ arrays_begun e c (naturals ns) out)) in
+    let x : Doing = arrays_doing p m t c ns in
+    let total : doing_of m₂ out₂ ≡ behind out x =
+    made (kept_of m) ∙ (ap (λ (z : MachineState). arrays_made e c (naturals ns) (doing_of z out)) e₁ ∙ arrays_begun e c (naturals ns) out) in
     let none : m₂.lost ≡ [] = lost ∙ ap (λ (z : MachineState). z.lost) e₁ in
     let is : m₂ ≡ with_arrays x =
     ap (λ (d : Doing). let z : MachineState = record { heap = d.state.heap; guest = d.state.guest; lost = m₂.lost } in z) total
@@ -160,26 +158,24 @@ room_came m m₂ t k n e same deep some fit =
 
 -- THE EVENT
 
-pub arrays_answer : (p : Linked) (t c k o : ℕ) (at : Site) (ns : List ℤ) (m m₂ m₃ : MachineState) (out out₂ : List Record) → IsSound (kept_of m) → HasFrame m.guest t → Came p m m₂ t c ns out out₂
-    → fits (arrays_made (moment p m t) c (naturals_of ns) (begins (moment p m t))).state.heap ≡ true → k ≡ natural at.instr.second → o ≡ length m.heap
-    → m₃ ≡ steps_top m₂ t (replaced k (Ref o ∷ []) at.next (top m₂.guest t)) (refs_of (take k (top m₂.guest t).operands))
-    → EventAnswers (arrays_added (moment p m t) at ns (drop (natural at.instr.second) (top m.guest t).operands) c) endings.Done m m₃ out out₂
-arrays_answer p t c k o at ns m m₂ m₃ out out₂ sound has came fit same first is₃ =
+pub arrays_answer : (p : Linked) (t c k o next : ℕ) (ns : List ℤ) (m m₂ m₃ : MachineState) (out out₂ : List Record) → IsSound (kept_of m) → HasFrame m.guest t → Came p m m₂ t c ns out out₂
+    → fits (arrays_made (moment p m t) c (naturals ns) (begins (moment p m t))).state.heap ≡ true → k ≡ length ns → o ≡ length m.heap
+    → m₃ ≡ steps_top m₂ t (replaced k (Ref o ∷ []) next (top m₂.guest t)) (refs_of (take k (top m₂.guest t).operands))
+    → EventAnswers (new_arrays_outcome (moment p m t) next ns (drop (length ns) (top m.guest t).operands) c) endings.Done m m₃ out out₂
+arrays_answer p t c k o next ns m m₂ m₃ out out₂ sound has came fit same first is₃ =
     let e : Moment = moment p m t in
-    let x : Doing = added p m t c ns in
-    let n : ℕ = natural at.instr.second in
-    let d : Doing = leaving e at (Ref (next_object (begins e)) ∷ drop n (top m.guest t).operands) x in
-    let fine : fits d.state.heap ≡ true = ap (λ (l : List ℕ). fits (arrays_made e c l (begins e)).state.heap) (sym (same_naturals ns)) ∙ fit in
-    let is : m₃ ≡ steps_top (with_arrays x) t (replaced n (Ref (length m.heap) ∷ []) at.next (top (with_arrays x).guest t)) (refs_of (take n (top (with_arrays x).guest t).operands)) =
-    is₃ ∙ (ap (λ (z : MachineState). steps_top z t (replaced k (Ref o ∷ []) at.next (top z.guest t)) (refs_of (take k (top z.guest t).operands))) came.machine
-    ∙ (ap (λ (j : ℕ). steps_top (with_arrays x) t (replaced j (Ref o ∷ []) at.next (top (with_arrays x).guest t)) (refs_of (take j (top (with_arrays x).guest t).operands))) same
-    ∙ ap (λ (j : ℕ). steps_top (with_arrays x) t (replaced n (Ref j ∷ []) at.next (top (with_arrays x).guest t)) (refs_of (take n (top (with_arrays x).guest t).operands))) first)) in
-    subst (λ (z : Outcome Kept). EventAnswers z endings.Done m m₃ out out₂) (sym (ends_fit d fine)) (added_led m m₃ t n at.next x sound has came.made is, came.records)
+    let x : Doing = arrays_doing p m t c ns in
+    let n : ℕ = length ns in
+    let d : Doing = with_frame e (record (top m.guest t) { pc = next; operands = Ref (next_object (begins e)) ∷ drop n (top m.guest t).operands }) x in
+    let is : m₃ ≡ steps_top (with_arrays x) t (replaced n (Ref (length m.heap) ∷ []) next (top (with_arrays x).guest t)) (refs_of (take n (top (with_arrays x).guest t).operands)) =
+    is₃ ∙ (ap (λ (z : MachineState). steps_top z t (replaced k (Ref o ∷ []) next (top z.guest t)) (refs_of (take k (top z.guest t).operands))) came.machine
+    ∙ (ap (λ (j : ℕ). steps_top (with_arrays x) t (replaced j (Ref o ∷ []) next (top (with_arrays x).guest t)) (refs_of (take j (top (with_arrays x).guest t).operands))) same
+    ∙ ap (λ (j : ℕ). steps_top (with_arrays x) t (replaced n (Ref j ∷ []) next (top (with_arrays x).guest t)) (refs_of (take n (top (with_arrays x).guest t).operands))) first)) in
+    subst (λ (z : Outcome Kept). EventAnswers z endings.Done m m₃ out out₂) (sym (ends_fit d fit)) (added_led m m₃ t n next x sound has came.made is, came.records)
 
-pub arrays_full : (p : Linked) (t c : ℕ) (at : Site) (ns : List ℤ) (below : List Value) (m : MachineState) (out : List Record) → fits (arrays_made (moment p m t) c (naturals_of ns) (begins (moment p m t))).state.heap ≡ false
-    → EventAnswers (arrays_added (moment p m t) at ns below c) endings.ObjectLimit m m out out
-arrays_full p t c at ns below m out fit =
+pub arrays_full : (p : Linked) (t c next : ℕ) (ns : List ℤ) (below : List Value) (m : MachineState) (out : List Record) → fits (arrays_made (moment p m t) c (naturals ns) (begins (moment p m t))).state.heap ≡ false
+    → EventAnswers (new_arrays_outcome (moment p m t) next ns below c) endings.ObjectLimit m m out out
+arrays_full p t c next ns below m out fit =
     let e : Moment = moment p m t in
-    let d : Doing = leaving e at (Ref (next_object (begins e)) ∷ below) (added p m t c ns) in
-    let full : fits d.state.heap ≡ false = ap (λ (l : List ℕ). fits (arrays_made e c l (begins e)).state.heap) (sym (same_naturals ns)) ∙ fit in
-    subst (λ (z : Outcome Kept). EventAnswers z endings.ObjectLimit m m out out) (sym (ends_full d full)) (refl, refl)
+    let d : Doing = with_frame e (record (top m.guest t) { pc = next; operands = Ref (next_object (begins e)) ∷ below }) (arrays_doing p m t c ns) in
+    subst (λ (z : Outcome Kept). EventAnswers z endings.ObjectLimit m m out out) (sym (ends_full d fit)) (refl, refl)

@@ -6,7 +6,7 @@ use Rattle.et_state.specs.State.{MachineState}
 use Rattle.et_state.specs.declared.records.Record.{Record}
 use Rattle.et_event.specs.Moments.{Moment, Doing, slot_written}
 use Rattle.et_refs.specs.declared.filling.Filling.{Filling}
-use Rattle.et_refs.specs.Filling.{so_far, ComesTo, IsFilling, AreFillings, stepped, finished}
+use Rattle.et_refs.specs.Filling.{doing_of, ComesTo, IsFilling, AreFillings, next_filling, with_elements}
 use Rattle.et_refs.proofs.Finishing.{popped}
 use Rattle.et_refs.proofs.Stacking.{parent_filling, pop_filling, kept_written}
 use Rattle.et_refs.proofs.Descending.{came}
@@ -24,17 +24,17 @@ slot_there heap dimensions ys xs f g e h =
     let lt = p.1 in
     omega (arith, room, lt)
 
-pub ascended : (e : Moment) (ms : List ℕ) (ys xs : List Filling) (f g : Filling) (m m' : MachineState) (out out' : List Record) → g.next ≡ g.count → ys ≡ xs ++ f ∷ [] → ComesTo (slot_written e f.array f.next (Ref g.array) (so_far m out)) m m' out'
-    → finished e (xs ++ stepped f ∷ []) ms (so_far m' out') ≡ finished e (ys ++ g ∷ []) ms (so_far m out)
+pub ascended : (e : Moment) (ms : List ℕ) (ys xs : List Filling) (f g : Filling) (m m' : MachineState) (out out' : List Record) → g.next ≡ g.count → ys ≡ xs ++ f ∷ [] → ComesTo (slot_written e f.array f.next (Ref g.array) (doing_of m out)) m m' out'
+    → with_elements e (xs ++ next_filling f ∷ []) ms (doing_of m' out') ≡ with_elements e (ys ++ g ∷ []) ms (doing_of m out)
 ascended e ms ys xs f g m m' out out' is was wrote =
-    ap (λ (y : Doing). finished e (xs ++ stepped f ∷ []) ms y) (came (slot_written e f.array f.next (Ref g.array) (so_far m out)) m m' out' wrote)
-    ∙ (popped e xs f g ms (so_far m out) is ∙ ap (λ (zs : List Filling). finished e zs ms (so_far m out)) (sym (listed ys xs f g was)))
+    ap (λ (y : Doing). with_elements e (xs ++ next_filling f ∷ []) ms y) (came (slot_written e f.array f.next (Ref g.array) (doing_of m out)) m m' out' wrote)
+    ∙ (popped e xs f g ms (doing_of m out) is ∙ ap (λ (zs : List Filling). with_elements e zs ms (doing_of m out)) (sym (listed ys xs f g was)))
 
 pub ascended_fillings : (e : Moment) (dimensions : ℕ) (ys xs : List Filling) (f g : Filling) (m m' : MachineState) (out out' : List Record) → ys ≡ xs ++ f ∷ [] → AreFillings m.heap dimensions 0 (ys ++ g ∷ [])
-    → ComesTo (slot_written e f.array f.next (Ref g.array) (so_far m out)) m m' out' → AreFillings m'.heap dimensions 0 (xs ++ stepped f ∷ [])
+    → ComesTo (slot_written e f.array f.next (Ref g.array) (doing_of m out)) m m' out' → AreFillings m'.heap dimensions 0 (xs ++ next_filling f ∷ [])
 ascended_fillings e dimensions ys xs f g m m' out out' was h wrote =
     let heap : Objects = with_object_at m.heap f.array (with_slot f.next (Ref g.array) (object_at m.heap f.array)) in
     let inside : AreFillings m.heap dimensions 0 (xs ++ f ∷ g ∷ []) = subst (λ (zs : List Filling). AreFillings m.heap dimensions 0 zs) (listed ys xs f g was) h in
     let p = parent_filling m.heap dimensions 0 xs f g inside in
-    let all : AreFillings heap dimensions 0 (xs ++ stepped f ∷ []) = pop_filling m.heap heap dimensions 0 xs f g (kept_written m.heap f.array f.next (Ref g.array) p.0.held) inside in
-    subst (λ (hs : Objects). AreFillings hs dimensions 0 (xs ++ stepped f ∷ [])) (sym (ap (λ (z : MachineState). z.heap) wrote.0)) all
+    let all : AreFillings heap dimensions 0 (xs ++ next_filling f ∷ []) = pop_filling m.heap heap dimensions 0 xs f g (kept_written m.heap f.array f.next (Ref g.array) p.0.held) inside in
+    subst (λ (hs : Objects). AreFillings hs dimensions 0 (xs ++ next_filling f ∷ [])) (sym (ap (λ (z : MachineState). z.heap) wrote.0)) all

@@ -1,13 +1,10 @@
 -- Arrays are made with records before theirs.
 use Rattle.std.proofs.Common.{◌≡◌, ℕ, zero, suc, List, [], ◌∷◌, ◌++◌, refl, sym, ◌∙◌, ap, append-nil, append_assoc}
-use Rattle.std.specs.Prelude.{ℤ}
 use Rattle.et_base.specs.declared.value.Value.TheVariants.{Ref}
 use Rattle.et_program.specs.Entries.{class_at}
 use Rattle.et_state.specs.declared.records.Record.{Record}
-use Rattle.et_event.specs.Heap.{arrays_made, filled, element_class, naturals}
+use Rattle.et_event.specs.Heap.{arrays_made, filled, element_class}
 use Rattle.et_event.specs.Moments.{Moment, Doing, begins, next_object, array_made, slot_written}
-use Rattle.et_event.specs.Sites.{natural}
-use Rattle.et_refs.specs.Counts.{naturals_of}
 
 abbrev pub behind : List Record → Doing → Doing
 behind out d = record { state = d.state; records = out ++ d.records }
@@ -36,10 +33,6 @@ arrays_behind e c (n ∷ m ∷ more) out d =
     let make : Doing → Doing = arrays_made e inner (m ∷ more) in
     ap (λ (y : Doing). filled e (next_object d) make n y) (made_behind e c n out d)
     ∙ filled_behind e (next_object d) n make out (array_made e c n d) (λ x. arrays_behind e inner (m ∷ more) out x)
-
-pub same_naturals : (ns : List ℤ) → naturals_of ns ≡ naturals ns
-same_naturals [] = refl
-same_naturals (n ∷ ns) = ap (λ (l : List ℕ). natural n ∷ l) (same_naturals ns)
 
 -- .. in an event that begins
 pub arrays_begun : (e : Moment) (c : ℕ) (ns : List ℕ) (out : List Record) → (let x : Doing = record { state = (begins e).state; records = out } in arrays_made e c ns x) ≡ behind out (arrays_made e c ns (begins e))

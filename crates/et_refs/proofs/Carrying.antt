@@ -47,7 +47,7 @@ use Rattle.et_refs.specs.declared.accesses.Write.{Write}
 use Rattle.et_refs.specs.declared.accesses.Access.{Access}
 use Rattle.et_refs.specs.declared.accesses.Access.TheVariants as access
 use Rattle.et_refs.specs.declared.accesses.Wanted.{Wanted}
-use Rattle.et_refs.specs.Accesses.{with_access, accessed, objects_in, slots_in, MayAccess, MayRead, MayWrite, MayWant, CanAccess, Accesses, reads, writes, replaces}
+use Rattle.et_refs.specs.Accesses.{with_access, access_outcome, objects_in, slots_in, MayAccess, MayRead, MayWrite, MayWant, CanAccess, Accesses, reads, writes, replaces}
 
 -- so far the event has come to d: it initialized classes, and did nothing else
 pub record HasInitialized (p : Linked) (m : MachineState) (d : Doing) : Type 0 where
@@ -204,7 +204,7 @@ steps_by p t at m m₃ d out out₂ out₃ c access.Make has done may r₂ did =
 
 pub accessed_answers : (p : Linked) (t : ℕ) (at : Site) (x : Wanted) (m m₂ m₃ : MachineState) (d : Doing) (out out₂ out₃ : List Record) → IsSound (kept_of m) → HasFrame m.guest t → HasInitialized p m d → MayWant p (top m.guest t) x
     → has_room d.state.heap (objects_in x.access) (slots_in p x.class x.access) ≡ true → m₂ ≡ base m d → out₂ ≡ out ++ d.records → Accesses p t at.next x.class x.access m₂ m₃ out₂ out₃
-    → EventAnswers (accessed (moment p m t) at x d) endings.Done m m₃ out out₃
+    → EventAnswers (access_outcome (moment p m t) at x d) endings.Done m m₃ out out₃
 accessed_answers p t at x m m₂ m₃ d out out₂ out₃ sound has done may room e₂ r₂ did =
     let e = moment p m t in
     let y : Doing = with_access e at x.class x.access d in
@@ -213,7 +213,7 @@ accessed_answers p t at x m m₂ m₃ d out out₂ out₃ sound has done may roo
     subst (λ (z : Outcome Kept). EventAnswers z endings.Done m m₃ out out₃) (sym (ends_fit y fit)) (steps.led, steps.records)
 
 pub access_full : (p : Linked) (t : ℕ) (at : Site) (x : Wanted) (m : MachineState) (d : Doing) (out : List Record) → IsSound (kept_of m) → HasInitialized p m d → has_room d.state.heap (objects_in x.access) (slots_in p x.class x.access) ≡ false
-    → EventAnswers (accessed (moment p m t) at x d) endings.ObjectLimit m m out out
+    → EventAnswers (access_outcome (moment p m t) at x d) endings.ObjectLimit m m out out
 access_full p t at x m d out sound done room =
     let e = moment p m t in
     let y : Doing = with_access e at x.class x.access d in

@@ -17,12 +17,12 @@ use Rattle.et_event.specs.Heap.{leaving, field_fits, resolved_field, is_static_f
 use Rattle.et_event.specs.Kinds.{kind_of, kind_of_field, or_zero, narrowed, kind_of_elements, kept_element, is_array, are_elements, in_bounds}
 use Rattle.et_event.specs.Sites.{Site, Member, natural}
 use Rattle.et_refs.specs.declared.refusals.Refusal.{Refusal}
-use Rattle.et_refs.specs.Changes.{left}
-use Rattle.et_refs.specs.Refusals.{decided, refused}
+use Rattle.et_refs.specs.Changes.{put_outcome}
+use Rattle.et_refs.specs.Refusals.{outcome_of, refusal_outcome}
 
 -- a check refused, and so the event
-pub refusing : {B : Type 0} (e : Moment) (x : Outcome Kept) (s : Result B Refusal) (r : Refusal) (h : B → Outcome Kept) → x ≡ refused e r → s ≡ Err r → x ≡ decided e s h
-refusing e x s r h a b = a ∙ ap (λ q. decided e q h) (sym b)
+pub refusing : {B : Type 0} (e : Moment) (x : Outcome Kept) (s : Result B Refusal) (r : Refusal) (h : B → Outcome Kept) → x ≡ refusal_outcome e r → s ≡ Err r → x ≡ outcome_of e s h
+refusing e x s r h a b = a ∙ ap (λ q. outcome_of e q h) (sym b)
 
 -- GETFIELD
 
@@ -95,13 +95,13 @@ slot_held_by e r go f = with_holder e (begins e) f r (λ o. go o (field_at e.pro
 -- TYPE TESTS
 
 abbrev pub casts : Moment → Site → List Value → ℕ → ℕ → Outcome Kept
-casts e at below o class = throws_unless e (begins e) ClassCastException (passes e.program (class_of (begins e) o) class) (left e at below (Ref o))
+casts e at below o class = throws_unless e (begins e) ClassCastException (passes e.program (class_of (begins e) o) class) (put_outcome e at below (Ref o))
 
 abbrev pub tests : Moment → Site → List Value → ℕ → ℕ → Outcome Kept
 tests e at below o class = goes (leaving e at (truth (passes e.program (class_of (begins e) o) class) ∷ below) (begins e))
 
 -- a truth takes one entry
-pub truth_left : (e : Moment) (at : Site) (below : List Value) (b : Bool) → goes (leaving e at (truth b ∷ below) (begins e)) ≡ left e at below (truth b)
+pub truth_left : (e : Moment) (at : Site) (below : List Value) (b : Bool) → goes (leaving e at (truth b ∷ below) (begins e)) ≡ put_outcome e at below (truth b)
 truth_left e at below true = refl
 truth_left e at below false = refl
 

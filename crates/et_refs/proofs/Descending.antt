@@ -11,21 +11,21 @@ use Rattle.et_state.proofs.Steps.{newest_held}
 use Rattle.et_state.specs.declared.records.Record.{Record}
 use Rattle.et_event.specs.Moments.{Moment, Doing, array_made, fits}
 use Rattle.et_event.specs.Sites.{natural}
-use Rattle.et_refs.specs.Counts.{naturals_of}
+use Rattle.et_event.specs.Heap.{naturals}
 use Rattle.et_refs.specs.declared.filling.Filling.{Filling}
-use Rattle.et_refs.specs.Filling.{so_far, ComesTo, IsFilling, AreFillings, lower, opened_as, finished}
+use Rattle.et_refs.specs.Filling.{doing_of, ComesTo, IsFilling, AreFillings, inner_dimensions, first_filling, with_elements}
 use Rattle.et_refs.proofs.Finishing.{pushed, next_fits}
 use Rattle.et_refs.proofs.Stacking.{last_filling, push_filling, kept_made, dimensions_at, counted_deep, counted_last}
 
-pub came : (d : Doing) (m m' : MachineState) (out : List Record) → ComesTo d m m' out → so_far m' out ≡ d
+pub came : (d : Doing) (m m' : MachineState) (out : List Record) → ComesTo d m m' out → doing_of m' out ≡ d
 came d m m' out h =
-    ap (λ (x : MachineState). so_far x out) h.0 ∙ ap (λ (rs : List Record). let x : Doing = record { state = d.state; records = rs } in x) h.1
+    ap (λ (x : MachineState). doing_of x out) h.0 ∙ ap (λ (rs : List Record). let x : Doing = record { state = d.state; records = rs } in x) h.1
 
 abbrev pub lengths_at : List ℤ → ℕ → ℕ
 lengths_at ns level = natural (get_or ns level (pos 0))
 
-dimensions : (ns : List ℤ) (k level : ℕ) → level ≡ k + 1 → level < length ns → drop k (lower (naturals_of ns)) ≡ lengths_at ns level ∷ drop (level + 1) (naturals_of ns)
-dimensions ns k level e lt = subst (λ (j : ℕ). drop k (lower (naturals_of ns)) ≡ lengths_at ns j ∷ drop (j + 1) (naturals_of ns)) (sym e) (dimensions_at ns k (pos 0) (omega (arith, e, lt)))
+dimensions : (ns : List ℤ) (k level : ℕ) → level ≡ k + 1 → level < length ns → drop k (inner_dimensions (naturals ns)) ≡ lengths_at ns level ∷ drop (level + 1) (naturals ns)
+dimensions ns k level e lt = subst (λ (j : ℕ). drop k (inner_dimensions (naturals ns)) ≡ lengths_at ns j ∷ drop (j + 1) (naturals ns)) (sym e) (dimensions_at ns k (pos 0) (omega (arith, e, lt)))
 
 -- there is a level below
 pub level_there : (heap : Objects) (ns : List ℤ) (xs : List Filling) (f : Filling) (level : ℕ) → AreFillings heap (length ns) 0 (xs ++ f ∷ []) → f.next < f.count → level ≡ length xs + 1 → level < length ns
@@ -35,29 +35,29 @@ level_there heap ns xs f level h lt e =
     omega (arith, deep, e)
 
 pub room_there : (e : Moment) (m : MachineState) (out : List Record) (ns : List ℤ) (xs : List Filling) (f : Filling) (level : ℕ) → AreFillings m.heap (length ns) 0 (xs ++ f ∷ []) → f.next < f.count → level ≡ length xs + 1
-    → fits (finished e (xs ++ f ∷ []) (lower (naturals_of ns)) (so_far m out)).state.heap ≡ true → has_room m.heap 1 (lengths_at ns level) ≡ true
+    → fits (with_elements e (xs ++ f ∷ []) (inner_dimensions (naturals ns)) (doing_of m out)).state.heap ≡ true → has_room m.heap 1 (lengths_at ns level) ≡ true
 room_there e m out ns xs f level h lt is fit =
     let last : IsFilling m.heap (length ns) (0 + length xs) f = last_filling m.heap (length ns) 0 xs f h in
     let some : f.array < length m.heap = held_within m.heap f.array last.held in
-    next_fits e xs f (lengths_at ns level) (drop (level + 1) (naturals_of ns)) (lower (naturals_of ns)) (so_far m out) lt
+    next_fits e xs f (lengths_at ns level) (drop (level + 1) (naturals ns)) (inner_dimensions (naturals ns)) (doing_of m out) lt
     (dimensions ns (length xs) level is (level_there m.heap ns xs f level h lt is)) (omega (arith, some)) fit
 
 pub descended : (e : Moment) (ns : List ℤ) (xs ys : List Filling) (f g : Filling) (level : ℕ) (m m' : MachineState) (out out' : List Record) → f.next < f.count → level ≡ length xs + 1 → level < length ns → ys ≡ xs ++ f ∷ []
-    → g ≡ opened_as e (length m.heap) f.inner (lengths_at ns level) (drop (level + 1) (naturals_of ns)) → ComesTo (array_made e f.inner (lengths_at ns level) (so_far m out)) m m' out'
-    → finished e (ys ++ g ∷ []) (lower (naturals_of ns)) (so_far m' out') ≡ finished e (xs ++ f ∷ []) (lower (naturals_of ns)) (so_far m out)
+    → g ≡ first_filling e (length m.heap) f.inner (lengths_at ns level) (drop (level + 1) (naturals ns)) → ComesTo (array_made e f.inner (lengths_at ns level) (doing_of m out)) m m' out'
+    → with_elements e (ys ++ g ∷ []) (inner_dimensions (naturals ns)) (doing_of m' out') ≡ with_elements e (xs ++ f ∷ []) (inner_dimensions (naturals ns)) (doing_of m out)
 descended e ns xs ys f g level m m' out out' lt is inside pushes opens made =
-    let ms = lower (naturals_of ns) in
+    let ms = inner_dimensions (naturals ns) in
     let n = lengths_at ns level in
-    let child = opened_as e (length m.heap) f.inner n (drop (level + 1) (naturals_of ns)) in
-    let x = array_made e f.inner n (so_far m out) in
-    ap (λ (y : Doing). finished e (ys ++ g ∷ []) ms y) (came x m m' out' made)
-    ∙ (ap (λ (zs : List Filling). finished e (zs ++ g ∷ []) ms x) pushes
-    ∙ (ap (λ (zs : List Filling). finished e zs ms x) (append_assoc xs (f ∷ []) (g ∷ []))
-    ∙ (ap (λ (h : Filling). finished e (xs ++ f ∷ h ∷ []) ms x) opens
-    ∙ pushed e xs f n (drop (level + 1) (naturals_of ns)) ms (so_far m out) lt (dimensions ns (length xs) level is inside))))
+    let child = first_filling e (length m.heap) f.inner n (drop (level + 1) (naturals ns)) in
+    let x = array_made e f.inner n (doing_of m out) in
+    ap (λ (y : Doing). with_elements e (ys ++ g ∷ []) ms y) (came x m m' out' made)
+    ∙ (ap (λ (zs : List Filling). with_elements e (zs ++ g ∷ []) ms x) pushes
+    ∙ (ap (λ (zs : List Filling). with_elements e zs ms x) (append_assoc xs (f ∷ []) (g ∷ []))
+    ∙ (ap (λ (h : Filling). with_elements e (xs ++ f ∷ h ∷ []) ms x) opens
+    ∙ pushed e xs f n (drop (level + 1) (naturals ns)) ms (doing_of m out) lt (dimensions ns (length xs) level is inside))))
 
 -- the array that begins
-pub new_filling : (heap : Objects) (e : Moment) (c n level : ℕ) (ns : List ℤ) → IsFilling (heap ++ Some (new_object c n n) ∷ []) (length ns) level (opened_as e (length heap) c n (drop (level + 1) (naturals_of ns)))
+pub new_filling : (heap : Objects) (e : Moment) (c n level : ℕ) (ns : List ℤ) → IsFilling (heap ++ Some (new_object c n n) ∷ []) (length ns) level (first_filling e (length heap) c n (drop (level + 1) (naturals ns)))
 new_filling heap e c n level ns =
     let y : ObjectState = new_object c n n in
     let here : object_at (heap ++ Some y ∷ []) (length heap) ≡ y = ap (λ x. found x) (get_or_at heap (Some y) [] _ (length heap) refl) in
@@ -78,13 +78,13 @@ new_filling heap e c n level ns =
     side (suc a) (suc b) = elim (side a b) [ inl lt ↦ inl (omega arith) | inr le ↦ inr (omega arith) ]
 
 pub descended_fillings : (e : Moment) (ns : List ℤ) (xs ys : List Filling) (f g : Filling) (level : ℕ) (m m' : MachineState) (out out' : List Record) → AreFillings m.heap (length ns) 0 (xs ++ f ∷ []) → f.next < f.count → level ≡ length xs + 1 → ys ≡ xs ++ f ∷ []
-    → g ≡ opened_as e (length m.heap) f.inner (lengths_at ns level) (drop (level + 1) (naturals_of ns)) → ComesTo (array_made e f.inner (lengths_at ns level) (so_far m out)) m m' out'
+    → g ≡ first_filling e (length m.heap) f.inner (lengths_at ns level) (drop (level + 1) (naturals ns)) → ComesTo (array_made e f.inner (lengths_at ns level) (doing_of m out)) m m' out'
     → AreFillings m'.heap (length ns) 0 (ys ++ g ∷ [])
 descended_fillings e ns xs ys f g level m m' out out' h lt is pushes opens made =
     let n = lengths_at ns level in
     let y : ObjectState = new_object f.inner n n in
     let heap : Objects = m.heap ++ Some y ∷ [] in
-    let child = opened_as e (length m.heap) f.inner n (drop (level + 1) (naturals_of ns)) in
+    let child = first_filling e (length m.heap) f.inner n (drop (level + 1) (naturals ns)) in
     let placed : level ≡ 0 + length xs + 1 = omega (arith, is) in
     let new : IsFilling heap (length ns) (0 + length xs + 1) child = subst (λ (k : ℕ). IsFilling heap (length ns) k child) placed (new_filling m.heap e f.inner n level ns) in
     let all : AreFillings heap (length ns) 0 (xs ++ f ∷ child ∷ []) = push_filling m.heap heap (length ns) 0 xs f child (kept_made m.heap y) h lt new in
@@ -92,7 +92,7 @@ descended_fillings e ns xs ys f g level m m' out out' h lt is pushes opens made 
     let listed : xs ++ f ∷ child ∷ [] ≡ ys ++ g ∷ [] = ap (λ (k : Filling). xs ++ f ∷ k ∷ []) (sym opens) ∙ (sym (append_assoc xs (f ∷ []) (g ∷ [])) ∙ ap (λ (zs : List Filling). zs ++ g ∷ []) (sym pushes)) in
     subst (λ (hs : Objects). AreFillings hs (length ns) 0 (ys ++ g ∷ [])) kept (subst (λ (zs : List Filling). AreFillings heap (length ns) 0 zs) listed all)
 
-pub one_more : (e : Moment) (c n : ℕ) (m m' : MachineState) (out out' : List Record) → ComesTo (array_made e c n (so_far m out)) m m' out' → length m'.heap ≡ length m.heap + 1
+pub one_more : (e : Moment) (c n : ℕ) (m m' : MachineState) (out out' : List Record) → ComesTo (array_made e c n (doing_of m out)) m m' out' → length m'.heap ≡ length m.heap + 1
 one_more e c n m m' out out' made = ap (λ (z : MachineState). length z.heap) made.0 ∙ length_push m.heap (Some (new_object c n n))
 
 pub room_few : (heap heap' : Objects) (slots : ℕ) → has_room heap 1 slots ≡ true → length heap' ≡ length heap + 1 → length heap' ≤ most_objects + 1

@@ -23,4 +23,3 @@ pub mod ClassChains
 pub mod ClassFitting
 pub mod Carrying
 pub mod Quiet
-mod Sharing

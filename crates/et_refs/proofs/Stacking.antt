@@ -7,9 +7,9 @@ use Rattle.et_base.specs.declared.value.Value.{Value}
 use Rattle.et_heap.specs.Objects.{ObjectState, Objects, IsHeld, is_there, found, at, object_at, with_slot, with_object_at}
 use Rattle.et_heap.proofs.HeapLists.{held_within}
 use Rattle.et_event.specs.Sites.{natural}
-use Rattle.et_refs.specs.Counts.{naturals_of}
+use Rattle.et_event.specs.Heap.{naturals}
 use Rattle.et_refs.specs.declared.filling.Filling.{Filling}
-use Rattle.et_refs.specs.Filling.{IsFilling, AreFillings, lower, counted, stepped}
+use Rattle.et_refs.specs.Filling.{IsFilling, AreFillings, inner_dimensions, element_count, next_filling}
 use Rattle.et_refs.proofs.Finishing.{lower_drop}
 
 -- the objects are held still, and have as many slots
@@ -64,12 +64,12 @@ push_filling heap heap' dimensions p (x ∷ y ∷ ys) f g k h lt new =
     let sum : p + length (x ∷ y ∷ ys) + 1 ≡ p + 1 + length (y ∷ ys) + 1 = omega arith in
     (kept_filling heap heap' dimensions p x k h.0, h.1, push_filling heap heap' dimensions (p + 1) (y ∷ ys) f g k h.2 lt (at_level heap' dimensions (p + length (x ∷ y ∷ ys) + 1) (p + 1 + length (y ∷ ys) + 1) g sum new))
 
-step_filling : (heap heap' : Objects) (dimensions p : ℕ) (f : Filling) → KeepsArrays heap heap' → IsFilling heap dimensions p f → f.next < f.count → IsFilling heap' dimensions p (stepped f)
+step_filling : (heap heap' : Objects) (dimensions p : ℕ) (f : Filling) → KeepsArrays heap heap' → IsFilling heap dimensions p f → f.next < f.count → IsFilling heap' dimensions p (next_filling f)
 step_filling heap heap' dimensions p f k h lt =
     let now = kept_filling heap heap' dimensions p f k h in
     record { held = now.held; room = now.room; next = omega (arith, lt); deep = now.deep }
 
-pub pop_filling : (heap heap' : Objects) (dimensions p : ℕ) (xs : List Filling) (f g : Filling) → KeepsArrays heap heap' → AreFillings heap dimensions p (xs ++ f ∷ g ∷ []) → AreFillings heap' dimensions p (xs ++ stepped f ∷ [])
+pub pop_filling : (heap heap' : Objects) (dimensions p : ℕ) (xs : List Filling) (f g : Filling) → KeepsArrays heap heap' → AreFillings heap dimensions p (xs ++ f ∷ g ∷ []) → AreFillings heap' dimensions p (xs ++ next_filling f ∷ [])
 pop_filling heap heap' dimensions p [] f g k h = step_filling heap heap' dimensions p f k h.0 h.1
 pop_filling heap heap' dimensions p (x ∷ []) f g k h = (kept_filling heap heap' dimensions p x k h.0, h.1, step_filling heap heap' dimensions (p + 1) f k h.2.0 h.2.1)
 pop_filling heap heap' dimensions p (x ∷ y ∷ ys) f g k h = (kept_filling heap heap' dimensions p x k h.0, h.1, pop_filling heap heap' dimensions (p + 1) (y ∷ ys) f g k h.2)
@@ -84,38 +84,38 @@ parent_filling heap dimensions p (x ∷ y ∷ ys) f g h =
 
 -- DIMENSIONS
 
-natural_at : (ns : List ℤ) (j : ℕ) (d : ℤ) → j < length ns → get_or (naturals_of ns) j 0 ≡ natural (get_or ns j d)
+natural_at : (ns : List ℤ) (j : ℕ) (d : ℤ) → j < length ns → get_or (naturals ns) j 0 ≡ natural (get_or ns j d)
 natural_at [] j d lt = absurd (omega arith)
 natural_at (n ∷ ns) zero d lt = refl
 natural_at (n ∷ ns) (suc j) d lt = natural_at ns j d (omega arith)
 
-pub same_length : (ns : List ℤ) → length (naturals_of ns) ≡ length ns
+pub same_length : (ns : List ℤ) → length (naturals ns) ≡ length ns
 same_length [] = refl
 same_length (n ∷ ns) = ap (λ (k : ℕ). suc k) (same_length ns)
 
 -- the dimensions of the elements at a level
-pub dimensions_at : (ns : List ℤ) (p : ℕ) (d : ℤ) → p + 1 < length ns → drop p (lower (naturals_of ns)) ≡ natural (get_or ns (p + 1) d) ∷ drop (p + 1 + 1) (naturals_of ns)
+pub dimensions_at : (ns : List ℤ) (p : ℕ) (d : ℤ) → p + 1 < length ns → drop p (inner_dimensions (naturals ns)) ≡ natural (get_or ns (p + 1) d) ∷ drop (p + 1 + 1) (naturals ns)
 dimensions_at ns p d lt =
-    let long : length (naturals_of ns) ≡ length ns = same_length ns in
+    let long : length (naturals ns) ≡ length ns = same_length ns in
     let one : suc p ≡ p + 1 = omega arith in
     let two : suc (p + 1) ≡ p + 1 + 1 = omega arith in
-    lower_drop p (naturals_of ns) ∙ (ap (λ (k : ℕ). drop k (naturals_of ns)) one ∙ (drop-cons (naturals_of ns) (p + 1) 0 (omega (arith, long, lt))
-    ∙ (ap (λ (n : ℕ). n ∷ drop (suc (p + 1)) (naturals_of ns)) (natural_at ns (p + 1) d lt) ∙ ap (λ (k : ℕ). natural (get_or ns (p + 1) d) ∷ drop k (naturals_of ns)) two)))
+    lower_drop p (naturals ns) ∙ (ap (λ (k : ℕ). drop k (naturals ns)) one ∙ (drop-cons (naturals ns) (p + 1) 0 (omega (arith, long, lt))
+    ∙ (ap (λ (n : ℕ). n ∷ drop (suc (p + 1)) (naturals ns)) (natural_at ns (p + 1) d lt) ∙ ap (λ (k : ℕ). natural (get_or ns (p + 1) d) ∷ drop k (naturals ns)) two)))
 
-counted_some : (n : ℕ) (ms : List ℕ) → 0 < length ms → counted n ms ≡ n
+counted_some : (n : ℕ) (ms : List ℕ) → 0 < length ms → element_count n ms ≡ n
 counted_some n [] lt = absurd (omega arith)
 counted_some n (m ∷ ms) lt = refl
 
-counted_none : (n : ℕ) (ms : List ℕ) → length ms ≡ 0 → counted n ms ≡ 0
+counted_none : (n : ℕ) (ms : List ℕ) → length ms ≡ 0 → element_count n ms ≡ 0
 counted_none n [] e = refl
 counted_none n (m ∷ ms) e = absurd (omega (arith, e))
 
-pub counted_deep : (n level : ℕ) (ns : List ℤ) → level < length ns → counted n (drop level (naturals_of ns)) ≡ n
+pub counted_deep : (n level : ℕ) (ns : List ℤ) → level < length ns → element_count n (drop level (naturals ns)) ≡ n
 counted_deep n level ns lt =
-    let long : length (naturals_of ns) ≡ length ns = same_length ns in
-    counted_some n (drop level (naturals_of ns)) (subst (λ (k : ℕ). 0 < k) (sym (length-drop level (naturals_of ns))) (omega (arith, long, lt)))
+    let long : length (naturals ns) ≡ length ns = same_length ns in
+    counted_some n (drop level (naturals ns)) (subst (λ (k : ℕ). 0 < k) (sym (length-drop level (naturals ns))) (omega (arith, long, lt)))
 
-pub counted_last : (n level : ℕ) (ns : List ℤ) → length ns ≤ level → counted n (drop level (naturals_of ns)) ≡ 0
+pub counted_last : (n level : ℕ) (ns : List ℤ) → length ns ≤ level → element_count n (drop level (naturals ns)) ≡ 0
 counted_last n level ns le =
-    let long : length (naturals_of ns) ≡ length ns = same_length ns in
-    counted_none n (drop level (naturals_of ns)) (length-drop level (naturals_of ns) ∙ omega (arith, long, le))
+    let long : length (naturals ns) ≡ length ns = same_length ns in
+    counted_none n (drop level (naturals ns)) (length-drop level (naturals ns) ∙ omega (arith, long, le))

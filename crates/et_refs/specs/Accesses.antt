@@ -34,12 +34,12 @@ with_access e at class (access.Read x) d = leaving e at (entries_of (or_zero x.k
 with_access e at class (access.Write x) d = static_written e x.slot x.value (leaving e at (drop x.taken (frame_of e).operands) d)
 with_access e at class access.Make d = leaving e at (Ref (next_object d) ∷ (frame_of e).operands) (instance_made e class d)
 
-abbrev pub accessed : Moment → Site → Wanted → Doing → Outcome Kept
-accessed e at x d = ends (with_access e at x.class x.access d)
+abbrev pub access_outcome : Moment → Site → Wanted → Doing → Outcome Kept
+access_outcome e at x d = ends (with_access e at x.class x.access d)
 
 -- the class is initialized first
-abbrev pub wanted : Moment → Site → Wanted → Outcome Kept
-wanted e at x = initialized e (begins e) x.class (accessed e at x)
+abbrev pub wanted_outcome : Moment → Site → Wanted → Outcome Kept
+wanted_outcome e at x = initialized e (begins e) x.class (access_outcome e at x)
 
 -- how many objects it makes, and how many slots they have
 abbrev pub objects_in : Access → ℕ

@@ -22,22 +22,22 @@ use Rattle.et_refs.specs.declared.changes.Change.{Change}
 use Rattle.et_refs.specs.declared.changes.Change.TheVariants as change
 
 -- a value was put in the place of operands, and these are below it
-abbrev pub left : Moment → Site → List Value → Value → Outcome Kept
-left e at below v = goes (leaving e at (entries_of v ++ below) (begins e))
+abbrev pub put_outcome : Moment → Site → List Value → Value → Outcome Kept
+put_outcome e at below v = goes (leaving e at (entries_of v ++ below) (begins e))
 
-abbrev pub exchanged : Moment → Site → Exchange → Outcome Kept
-exchanged e at x = left e at (drop x.taken (frame_of e).operands) x.value
+abbrev pub exchange_outcome : Moment → Site → Exchange → Outcome Kept
+exchange_outcome e at x = put_outcome e at (drop x.taken (frame_of e).operands) x.value
 
-abbrev pub stored : Moment → Site → Store → Outcome Kept
-stored e at x = goes (slot_written e x.object x.slot x.value (leaving e at (drop x.taken (frame_of e).operands) (begins e)))
+abbrev pub store_outcome : Moment → Site → Store → Outcome Kept
+store_outcome e at x = goes (slot_written e x.object x.slot x.value (leaving e at (drop x.taken (frame_of e).operands) (begins e)))
 
-abbrev pub added : Moment → Site → NewArray → Outcome Kept
-added e at x = ends (leaving e at (Ref (next_object (begins e)) ∷ drop 1 (frame_of e).operands) (array_made e x.class x.elements (begins e)))
+abbrev pub new_array_outcome : Moment → Site → NewArray → Outcome Kept
+new_array_outcome e at x = ends (leaving e at (Ref (next_object (begins e)) ∷ drop 1 (frame_of e).operands) (array_made e x.class x.elements (begins e)))
 
-abbrev pub changed : Moment → Site → Change → Outcome Kept
-changed e at (change.Put x) = exchanged e at x
-changed e at (change.Write x) = stored e at x
-changed e at (change.Make x) = added e at x
+abbrev pub change_outcome : Moment → Site → Change → Outcome Kept
+change_outcome e at (change.Put x) = exchange_outcome e at x
+change_outcome e at (change.Write x) = store_outcome e at x
+change_outcome e at (change.Make x) = new_array_outcome e at x
 
 -- WHAT HOLDS OF SUCH A CHANGE
 

@@ -11,8 +11,8 @@ use Rattle.et_event.specs.Moments.{Moment, Doing, next_object, slot_written}
 use Rattle.et_refs.specs.declared.filling.Filling.{Filling}
 
 -- what the machine keeps, and these records
-abbrev pub so_far : MachineState → List Record → Doing
-so_far m out = record { state = kept_of m; records = out }
+abbrev pub doing_of : MachineState → List Record → Doing
+doing_of m out = record { state = kept_of m; records = out }
 
 -- machine and records are those of what was done, and nothing more is lost
 abbrev pub ComesTo : Doing → MachineState → MachineState → List Record → Type 0
@@ -23,32 +23,32 @@ abbrev pub filled_from : Moment → ℕ → (Doing → Doing) → ℕ → ℕ �
 filled_from e o make i zero d = d
 filled_from e o make i (suc left) d = filled_from e o make (i + 1) left (slot_written e o i (Ref (next_object d)) (make d))
 
-abbrev pub lower : List ℕ → List ℕ
-lower [] = []
-lower (n ∷ ns) = ns
+abbrev pub inner_dimensions : List ℕ → List ℕ
+inner_dimensions [] = []
+inner_dimensions (n ∷ ns) = ns
 
 -- the elements of an array from i on, each of which is of these dimensions
 abbrev pub rest_from : Moment → Filling → List ℕ → ℕ → Doing → Doing
 rest_from e f ns i d = filled_from e f.array (arrays_made e f.inner ns) i (f.count - i) d
 
 -- what is still to be done: the last array gets its elements, and then it is an element of the one before
-abbrev pub finished : Moment → List Filling → List ℕ → Doing → Doing
-finished e [] ns d = d
-finished e (f ∷ []) ns d = rest_from e f ns f.next d
-finished e (f ∷ g ∷ up) ns d = rest_from e f ns (f.next + 1) (slot_written e f.array f.next (Ref g.array) (finished e (g ∷ up) (lower ns) d))
+abbrev pub with_elements : Moment → List Filling → List ℕ → Doing → Doing
+with_elements e [] ns d = d
+with_elements e (f ∷ []) ns d = rest_from e f ns f.next d
+with_elements e (f ∷ g ∷ up) ns d = rest_from e f ns (f.next + 1) (slot_written e f.array f.next (Ref g.array) (with_elements e (g ∷ up) (inner_dimensions ns) d))
 
 -- how many elements of an array are made: none in the last dimension
-abbrev pub counted : ℕ → List ℕ → ℕ
-counted n [] = 0
-counted n (m ∷ more) = n
+abbrev pub element_count : ℕ → List ℕ → ℕ
+element_count n [] = 0
+element_count n (m ∷ more) = n
 
 -- an array as its elements begin to be made
-abbrev pub opened_as : Moment → ℕ → ℕ → ℕ → List ℕ → Filling
-opened_as e o c n ns = record { array = o; inner = element_class (class_at e.program c).info.element; next = 0; count = counted n ns }
+abbrev pub first_filling : Moment → ℕ → ℕ → ℕ → List ℕ → Filling
+first_filling e o c n ns = record { array = o; inner = element_class (class_at e.program c).info.element; next = 0; count = element_count n ns }
 
 -- one element more is there
-abbrev pub stepped : Filling → Filling
-stepped f = record { array = f.array; inner = f.inner; next = f.next + 1; count = f.count }
+abbrev pub next_filling : Filling → Filling
+next_filling f = record { array = f.array; inner = f.inner; next = f.next + 1; count = f.count }
 
 -- an array under way has room for its elements, and it has some only where there are more dimensions
 pub record IsFilling (heap : Objects) (dimensions p : ℕ) (f : Filling) : Type 0 where

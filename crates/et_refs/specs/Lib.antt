@@ -7,4 +7,3 @@ pub mod Legal
 pub mod Filling
 pub mod Events
 pub mod Accesses
-pub mod ClassRows

@@ -6,10 +6,10 @@ use Rattle.et_event.specs.Moments.{Moment, begins, ill_typed, throws}
 use Rattle.et_refs.specs.declared.refusals.Refusal.{Refusal}
 use Rattle.et_refs.specs.declared.refusals.Refusal.TheVariants.{IllTyped, Throws}
 
-abbrev pub refused : Moment → Refusal → Outcome Kept
-refused e IllTyped = ill_typed e
-refused e (Throws error) = throws e error (begins e)
+abbrev pub refusal_outcome : Moment → Refusal → Outcome Kept
+refusal_outcome e IllTyped = ill_typed e
+refusal_outcome e (Throws error) = throws e error (begins e)
 
-abbrev pub decided : {A : Type 0} → Moment → Result A Refusal → (A → Outcome Kept) → Outcome Kept
-decided e (Ok a) go = go a
-decided e (Err refusal) go = refused e refusal
+abbrev pub outcome_of : {A : Type 0} → Moment → Result A Refusal → (A → Outcome Kept) → Outcome Kept
+outcome_of e (Ok a) go = go a
+outcome_of e (Err refusal) go = refusal_outcome e refusal

@@ -1,30 +1,27 @@
--- What a call that does the rows on fields, arrays and classes answers.
-use Rattle.std.specs.Prelude.{◌≡◌, Bool, true, false, List, Option, Some, None}
+-- What the instructions on fields, arrays and classes come to, by their rows.
+use Rattle.std.specs.Prelude.{◌≡◌}
+use Rattle.et_state.specs.Threads.{FrameState}
 use Rattle.et_state.specs.State.{Kept, MachineState}
-use Rattle.et_state.specs.declared.records.Record.{Record}
-use Rattle.et_state.specs.declared.ends.EventEnd.{EventEnd}
 use Rattle.et_state.specs.Outcome.{Outcome}
+use Rattle.et_program.specs.Entries.{Linked}
 use Rattle.et_event.specs.declared.rows.HeapRow.{HeapRow}
-use Rattle.et_event.specs.declared.rows.HeapRow.TheVariants as row
-use Rattle.et_event.specs.Answered.{EventAnswers}
+use Rattle.et_event.specs.declared.rows.HeapRow.TheVariants.{NewMultiArray}
+use Rattle.et_event.specs.Heap.{new_multi_array}
+use Rattle.et_event.specs.Moments.{Moment}
+use Rattle.et_event.specs.Sites.{Site}
+use Rattle.et_refs.specs.Accesses.{MayWant, wanted_outcome}
+use Rattle.et_refs.specs.Changes.{MayChange, change_outcome}
+use Rattle.et_refs.specs.declared.rows.Plan.{Plan}
+use Rattle.et_refs.specs.declared.rows.Plan.TheVariants as plan
 
--- the rows that are done: those that initialize no class, but for multianewarray
-abbrev pub is_done : HeapRow → Bool
-is_done row.GetStatic = false
-is_done row.PutStatic = false
-is_done row.GetField = true
-is_done row.PutField = true
-is_done (row.LoadElement kind) = true
-is_done (row.StoreElement kind) = true
-is_done row.New = false
-is_done row.NewArray = true
-is_done row.NewReferenceArray = true
-is_done row.NewMultiArray = false
-is_done row.ArrayLength = true
-is_done row.CheckCast = true
-is_done row.InstanceOf = true
+-- the event that carries a plan out
+abbrev pub plan_outcome : Moment → Site → Plan → Outcome Kept
+plan_outcome e at (plan.Change x) = change_outcome e at x
+plan_outcome e at (plan.Access x) = wanted_outcome e at x
+plan_outcome e at plan.Arrays = new_multi_array e at
 
--- The outcome of a row that is done is answered; for another row there is no answer, and nothing has changed.
-abbrev pub HeapAnswers : Outcome Kept → HeapRow → Option EventEnd → MachineState → MachineState → List Record → List Record → Type 0
-HeapAnswers o r (Some end) m m' out out' = (is_done r ≡ true) × EventAnswers o end m m' out out'
-HeapAnswers o r None m m' out out' = (is_done r ≡ false) × (m' ≡ m) × (out' ≡ out)
+-- what holds of the plan of a row
+abbrev pub MayDo : Linked → MachineState → FrameState → HeapRow → Plan → Type 0
+MayDo p m f r (plan.Change x) = MayChange m f x
+MayDo p m f r (plan.Access x) = MayWant p f x
+MayDo p m f r plan.Arrays = r ≡ NewMultiArray

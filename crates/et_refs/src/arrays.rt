@@ -8,9 +8,9 @@ ghost use Rattle.et_event.specs.Moments.{Moment, moment, frame_of};
 ghost use Rattle.et_event.specs.Sites.{Site, natural as natural_of};
 ghost use Rattle.et_event.specs.Sound.{IsSoundFor};
 ghost use Rattle.et_parts.specs.Places.{site_at};
-ghost use Rattle.et_refs.specs.Changes.{MayMake, added};
+ghost use Rattle.et_refs.specs.Changes.{MayMake, new_array_outcome};
 ghost use Rattle.et_program.specs.Members.{base_array};
-ghost use Rattle.et_refs.specs.Refusals.{decided};
+ghost use Rattle.et_refs.specs.Refusals.{outcome_of};
 ghost use Rattle.et_event.specs.Programs.{AreElementsWithin};
 
 use crate::casts::class_named;
@@ -28,7 +28,7 @@ use et_state::Machine;
 /// An array of a class of so many elements; a NegativeArraySizeException where they are less than 0.
 fn sized(class: ClassId, elements: i32) -> Result<NewArray, Refusal>
     ensures { (e : Moment) (at : Site) → new_array_of e at class elements
-        (drop 1 (frame_of e).operands) ≡ decided e result (added e at) }
+        (drop 1 (frame_of e).operands) ≡ outcome_of e result (new_array_outcome e at) }
 {
     throws_unless(GuestError::NegativeArraySizeException, is_length(elements))?;
     Ok(NewArray {
@@ -75,8 +75,8 @@ pub(crate) fn new_array(
     requires frame { HasFrame machine.now.guest thread }
     requires elements { AreElementsWithin program.now }
     ensures is { base_type_array (moment program.now machine.now thread) (site_at place.now)
-        ≡ decided (moment program.now machine.now thread) result
-        (added (moment program.now machine.now thread) (site_at place.now)) }
+        ≡ outcome_of (moment program.now machine.now thread) result
+        (new_array_outcome (moment program.now machine.now thread) (site_at place.now)) }
     ensures may { IfOk result (λ x. MayMake (top machine.now.guest thread)) }
 {
     operands_fit(machine, thread);
@@ -96,8 +96,8 @@ pub(crate) fn new_reference_array(
     requires sound { IsSoundFor program.now (kept_of machine.now) }
     requires index { natural_of place.now.instr.first < 2 ^ 16 }
     ensures is { reference_array (moment program.now machine.now thread) (site_at place.now)
-        ≡ decided (moment program.now machine.now thread) result
-        (added (moment program.now machine.now thread) (site_at place.now)) }
+        ≡ outcome_of (moment program.now machine.now thread) result
+        (new_array_outcome (moment program.now machine.now thread) (site_at place.now)) }
     ensures may { IfOk result (λ x. MayMake (top machine.now.guest thread)) }
 {
     operands_fit(machine, thread);

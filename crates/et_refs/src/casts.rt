@@ -15,8 +15,8 @@ ghost use Rattle.et_event.specs.Moments.{Moment, moment, begins, goes};
 ghost use Rattle.et_event.specs.Sites.{Site, class_operand as operand_class, natural};
 ghost use Rattle.et_event.specs.Sound.{IsSoundFor};
 ghost use Rattle.et_parts.specs.Places.{site_at};
-ghost use Rattle.et_refs.specs.Changes.{IsNamed, MayExchange, exchanged, left};
-ghost use Rattle.et_refs.specs.Refusals.{decided};
+ghost use Rattle.et_refs.specs.Changes.{IsNamed, MayExchange, exchange_outcome, put_outcome};
+ghost use Rattle.et_refs.specs.Refusals.{outcome_of};
 
 use crate::changes::Exchange;
 use crate::checks::{resolve, throws_unless};
@@ -33,7 +33,7 @@ use std::sync::ledger::Ledger;
 pub fn class_named<'a>(place: &Place<'a>) -> Result<&'a [u8], Refusal>
     requires { natural place.now.instr.first < 2 ^ 16 }
     ensures { (e : Moment) (go : List ℕ → Outcome Kept) → with_class e
-        (operand_class (site_at place.now)) go ≡ decided e result (λ name. go name.now) }
+        (operand_class (site_at place.now)) go ≡ outcome_of e result (λ name. go name.now) }
 {
     match class_operand(place) {
         Some(name) => Ok(name),
@@ -72,8 +72,8 @@ fn cast_object<L: Ledger>(
     requires held { IsHeld machine.now.heap object }
     ensures is { (at : Site) (below : List Entry) →
         casting (moment program.now machine.now thread) at name.now below (Some object)
-        ≡ decided (moment program.now machine.now thread) result
-        (left (moment program.now machine.now thread) at below) }
+        ≡ outcome_of (moment program.now machine.now thread) result
+        (put_outcome (moment program.now machine.now thread) at below) }
     ensures few { IfOk result (λ v. length (entries_of v) ≤ 1) }
     ensures held { IfOk result (λ v. AreHeld machine.now (refs_of_value v)) }
     ensures visits { visits.new ≤ visits.old + 1 }
@@ -97,8 +97,8 @@ fn test_object<L: Ledger>(
     requires held { IsHeld machine.now.heap object }
     ensures is { (at : Site) (below : List Entry) →
         testing (moment program.now machine.now thread) at name.now below (Some object)
-        ≡ decided (moment program.now machine.now thread) result
-        (left (moment program.now machine.now thread) at below) }
+        ≡ outcome_of (moment program.now machine.now thread) result
+        (put_outcome (moment program.now machine.now thread) at below) }
     ensures few { IfOk result (λ v. length (entries_of v) ≤ 1) }
     ensures held { IfOk result (λ v. AreHeld machine.now (refs_of_value v)) }
     ensures visits { visits.new ≤ visits.old + 1 }
@@ -128,8 +128,8 @@ fn cast<L: Ledger>(
     requires named { IsNamed machine.now (top machine.now.guest thread) reference }
     ensures is { (at : Site) (below : List Entry) →
         casting (moment program.now machine.now thread) at name.now below reference
-        ≡ decided (moment program.now machine.now thread) result
-        (left (moment program.now machine.now thread) at below) }
+        ≡ outcome_of (moment program.now machine.now thread) result
+        (put_outcome (moment program.now machine.now thread) at below) }
     ensures few { IfOk result (λ v. length (entries_of v) ≤ 1) }
     ensures held { IfOk result (λ v. AreHeld machine.now (refs_of_value v)) }
     ensures visits { visits.new ≤ visits.old + 1 }
@@ -153,8 +153,8 @@ fn test<L: Ledger>(
     requires named { IsNamed machine.now (top machine.now.guest thread) reference }
     ensures is { (at : Site) (below : List Entry) →
         testing (moment program.now machine.now thread) at name.now below reference
-        ≡ decided (moment program.now machine.now thread) result
-        (left (moment program.now machine.now thread) at below) }
+        ≡ outcome_of (moment program.now machine.now thread) result
+        (put_outcome (moment program.now machine.now thread) at below) }
     ensures few { IfOk result (λ v. length (entries_of v) ≤ 1) }
     ensures held { IfOk result (λ v. AreHeld machine.now (refs_of_value v)) }
     ensures visits { visits.new ≤ visits.old + 1 }
@@ -177,8 +177,8 @@ pub(crate) fn check_cast<L: Ledger>(
     requires sound { IsSoundFor program.now (kept_of machine.now) }
     requires index { natural place.now.instr.first < 2 ^ 16 }
     ensures is { check_casting (moment program.now machine.now thread) (site_at place.now)
-        ≡ decided (moment program.now machine.now thread) result
-        (exchanged (moment program.now machine.now thread) (site_at place.now)) }
+        ≡ outcome_of (moment program.now machine.now thread) result
+        (exchange_outcome (moment program.now machine.now thread) (site_at place.now)) }
     ensures may { IfOk result (λ x. MayExchange machine.now (top machine.now.guest thread) x) }
     ensures visits { visits.new ≤ visits.old + 1 }
 {
@@ -201,8 +201,8 @@ pub(crate) fn instance_of<L: Ledger>(
     requires sound { IsSoundFor program.now (kept_of machine.now) }
     requires index { natural place.now.instr.first < 2 ^ 16 }
     ensures is { instance_testing (moment program.now machine.now thread) (site_at place.now)
-        ≡ decided (moment program.now machine.now thread) result
-        (exchanged (moment program.now machine.now thread) (site_at place.now)) }
+        ≡ outcome_of (moment program.now machine.now thread) result
+        (exchange_outcome (moment program.now machine.now thread) (site_at place.now)) }
     ensures may { IfOk result (λ x. MayExchange machine.now (top machine.now.guest thread) x) }
     ensures visits { visits.new ≤ visits.old + 1 }
 {

@@ -14,7 +14,7 @@ ghost use Rattle.et_event.specs.Checks.{entries_of};
 ghost use Rattle.et_event.specs.Moments.{Moment, moment, begins, array_made, array_size as bytes_of, element_width as width_of_element, number_of as number_in, updated};
 ghost use Rattle.et_parts.specs.Making.{MakesObject};
 ghost use Rattle.et_parts.specs.Places.{site_at};
-ghost use Rattle.et_refs.specs.Changes.{changed, stored, added, MayExchange, MayStore, MayMake, MayChange};
+ghost use Rattle.et_refs.specs.Changes.{change_outcome, store_outcome, new_array_outcome, MayExchange, MayStore, MayMake, MayChange};
 
 use crate::kinds::element_width;
 use crate::slots::{SlotAt, slot_value};
@@ -194,8 +194,9 @@ fn write_slot<L: Ledger>(
     requires sound { IsSound (kept_of machine.old) }
     requires clock { machine.old.guest.clock < 2 ^ 40 }
     requires may { MayStore machine.old (top machine.old.guest thread) x }
-    ensures ok { IfOk result (λ end. EventAnswers (stored (moment program.now machine.old thread)
-        (site_at place.now) x) end machine.old machine.new out.old out.new) }
+    ensures ok { IfOk result (λ end. EventAnswers
+        (store_outcome (moment program.now machine.old thread) (site_at place.now) x)
+        end machine.old machine.new out.old out.new) }
     ensures err { OnErr result (machine.new ≡ machine.old) }
     ensures visits { visits.new ≤ visits.old + 2 }
 {
@@ -279,8 +280,9 @@ fn add_array(
     requires sound { IsSound (kept_of machine.old) }
     requires clock { machine.old.guest.clock < 2 ^ 40 }
     requires may { MayMake (top machine.old.guest thread) }
-    ensures ok { IfOk result (λ end. EventAnswers (added (moment program.now machine.old thread)
-        (site_at place.now) x) end machine.old machine.new out.old out.new) }
+    ensures ok { IfOk result (λ end. EventAnswers
+        (new_array_outcome (moment program.now machine.old thread) (site_at place.now) x)
+        end machine.old machine.new out.old out.new) }
     ensures err { OnErr result (machine.new.guest ≡ machine.old.guest) }
 {
     let Some(array) = make_array(program, machine, thread, x, out)? else {
@@ -306,8 +308,9 @@ pub(crate) fn carry_out<L: Ledger>(
     requires sound { IsSound (kept_of machine.old) }
     requires clock { machine.old.guest.clock < 2 ^ 40 }
     requires may { MayChange machine.old (top machine.old.guest thread) change }
-    ensures ok { IfOk result (λ end. EventAnswers (changed (moment program.now machine.old thread)
-        (site_at place.now) change) end machine.old machine.new out.old out.new) }
+    ensures ok { IfOk result (λ end. EventAnswers
+        (change_outcome (moment program.now machine.old thread) (site_at place.now) change)
+        end machine.old machine.new out.old out.new) }
     ensures err { OnErr result (machine.new.guest ≡ machine.old.guest) }
     ensures visits { visits.new ≤ visits.old + 2 }
 {

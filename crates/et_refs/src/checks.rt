@@ -5,7 +5,7 @@ ghost use Rattle.et_state.specs.Outcome.{Outcome};
 ghost use Rattle.et_event.specs.Moments.{Moment, begins};
 ghost use Rattle.et_event.specs.Checks.{ill_typed_unless as ill_unless, throws_unless as throwing_unless, not_null as object_of};
 ghost use Rattle.et_event.specs.Heap.{resolved_class};
-ghost use Rattle.et_refs.specs.Refusals.{decided};
+ghost use Rattle.et_refs.specs.Refusals.{outcome_of};
 
 use crate::refusals::Refusal;
 use et_base::{ClassId, ObjectId};
@@ -15,7 +15,7 @@ use et_program::Program;
 /// The event has no meaning unless this holds.
 pub fn ill_typed_unless(holds: bool) -> Result<(), Refusal>
     ensures is { (e : Moment) (go : Outcome Kept) →
-        ill_unless e holds go ≡ decided e result (λ (u : Unit {0}). go) }
+        ill_unless e holds go ≡ outcome_of e result (λ (u : Unit {0}). go) }
     ensures holds { IfOk result (λ (u : Unit {0}). holds ≡ true) }
 {
     if holds {
@@ -28,7 +28,7 @@ pub fn ill_typed_unless(holds: bool) -> Result<(), Refusal>
 /// The machine throws this error unless this holds.
 pub fn throws_unless(error: GuestError, holds: bool) -> Result<(), Refusal>
     ensures is { (e : Moment) (go : Outcome Kept) →
-        throwing_unless e (begins e) error holds go ≡ decided e result (λ (u : Unit {0}). go) }
+        throwing_unless e (begins e) error holds go ≡ outcome_of e result (λ (u : Unit {0}). go) }
     ensures holds { IfOk result (λ (u : Unit {0}). holds ≡ true) }
 {
     if holds {
@@ -41,7 +41,7 @@ pub fn throws_unless(error: GuestError, holds: bool) -> Result<(), Refusal>
 /// The object that a reference names; a NullPointerException where it is null.
 pub(crate) fn not_null(reference: Option<ObjectId>) -> Result<ObjectId, Refusal>
     ensures is { (e : Moment) (go : ℕ → Outcome Kept) →
-        object_of e (begins e) reference go ≡ decided e result go }
+        object_of e (begins e) reference go ≡ outcome_of e result go }
     ensures object { IfOk result (λ o. reference ≡ Some o) }
 {
     match reference {
@@ -55,7 +55,7 @@ pub fn resolve(program: &Program, name: &[u8]) -> Result<ClassId, Refusal>
     ensures is { (s : Kept) (t : ℕ) (go : ℕ → Outcome Kept) →
         resolved_class (record { program = program.now; before = s; thread = t })
         (begins (record { program = program.now; before = s; thread = t })) name.now go
-        ≡ decided (record { program = program.now; before = s; thread = t }) result go }
+        ≡ outcome_of (record { program = program.now; before = s; thread = t }) result go }
     ensures within { IfOk result (λ c. c < length program.now.classes) }
 {
     match program.resolve_class(name) {

@@ -11,7 +11,7 @@ ghost use Rattle.et_parts.specs.Places.{site_at};
 ghost use Rattle.et_event.specs.Programs.{HasInitializers, MakesSound};
 ghost use Rattle.et_event.specs.InitializationOrder.{IsInOrder};
 ghost use Rattle.et_initialize.specs.Under.{base};
-ghost use Rattle.et_refs.specs.Accesses.{MayWant, objects_in, slots_in, accessed, wanted as wanting};
+ghost use Rattle.et_refs.specs.Accesses.{MayWant, objects_in, slots_in, access_outcome, wanted_outcome};
 
 use crate::accesses::{Wanted, carry_out, objects_made, slots_made};
 use et_base::{NoMemory, ThreadId};
@@ -54,8 +54,9 @@ fn ready_event(
     requires clock { machine.old.guest.clock < 2 ^ 40 }
     requires may { MayWant program.now (top machine.old.guest thread) wanted.now }
     ensures { IfOk result (λ end. EventAnswers
-        (accessed (moment program.now machine.old thread) (site_at place.now) wanted.now (begins
-        (moment program.now machine.old thread))) end machine.old machine.new out.old out.new) }
+        (access_outcome (moment program.now machine.old thread) (site_at place.now) wanted.now
+        (begins (moment program.now machine.old thread)))
+        end machine.old machine.new out.old out.new) }
 {
     if !access_fits(program, machine, wanted) {
         return Ok(EventEnd::ObjectLimit);
@@ -107,7 +108,7 @@ fn quiet_event(
     requires clock { machine.old.guest.clock < 2 ^ 40 }
     requires may { MayWant program.now (top machine.old.guest thread) wanted.now }
     ensures { IfOk result (λ end. EventAnswers
-        (accessed (moment program.now machine.old thread) (site_at place.now) wanted.now
+        (access_outcome (moment program.now machine.old thread) (site_at place.now) wanted.now
         (quietly_done (moment program.now machine.old thread) wanted.now.class (begins
         (moment program.now machine.old thread)))) end machine.old machine.new out.old out.new) }
 {
@@ -139,8 +140,9 @@ pub(crate) fn access_event(
     requires sound { IsSoundFor program.now (kept_of machine.old) }
     requires clock { machine.old.guest.clock < 2 ^ 40 }
     requires may { MayWant program.now (top machine.old.guest thread) wanted.now }
-    ensures { IfOk result (λ end. EventAnswers (wanting (moment program.now machine.old thread)
-        (site_at place.now) wanted.now) end machine.old machine.new out.old out.new) }
+    ensures { IfOk result (λ end. EventAnswers
+        (wanted_outcome (moment program.now machine.old thread) (site_at place.now) wanted.now)
+        end machine.old machine.new out.old out.new) }
 {
     match need_of(program, machine, thread, wanted.class) {
         Need::Ready => ready_event(program, machine, thread, place, wanted, out),

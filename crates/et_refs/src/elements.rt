@@ -15,9 +15,9 @@ ghost use Rattle.et_event.specs.Kinds.{kind_of_elements as elements_kind, or_zer
 ghost use Rattle.et_event.specs.Sites.{Site, natural as natural_of};
 ghost use Rattle.et_event.specs.Sound.{IsSoundFor};
 ghost use Rattle.et_parts.specs.Places.{site_at};
-ghost use Rattle.et_refs.specs.Changes.{IsNamed, MayExchange, MayStore, exchanged, stored};
+ghost use Rattle.et_refs.specs.Changes.{IsNamed, MayExchange, MayStore, exchange_outcome, store_outcome};
 ghost use Rattle.et_event.specs.Moments.{moment};
-ghost use Rattle.et_refs.specs.Refusals.{decided};
+ghost use Rattle.et_refs.specs.Refusals.{outcome_of};
 ghost use Rattle.et_refs.specs.Slots.{IsSlotAt};
 ghost use Rattle.et_event.specs.Programs.{IsElementWithin, AreElementsWithin};
 
@@ -86,7 +86,7 @@ fn element_slot<L: Ledger>(
     requires named { IsNamed machine.now (top machine.now.guest thread) reference }
     ensures is { (go : ℕ → ℕ → Outcome Kept) → with_element (moment program.now machine.now thread)
         elements reference index (λ o. go o (natural_of index))
-        ≡ decided (moment program.now machine.now thread) result (λ x. go x.object x.slot) }
+        ≡ outcome_of (moment program.now machine.now thread) result (λ x. go x.object x.slot) }
     ensures object { IfOk result (λ x. reference ≡ Some x.object) }
     ensures at { IfOk result (λ x. IsSlotAt machine.now (Some (elements_kind elements)) x) }
     ensures visits { visits.new ≤ visits.old + 2 }
@@ -135,8 +135,8 @@ pub(crate) fn read_element<L: Ledger>(
     requires frame { HasFrame machine.now.guest thread }
     requires sound { IsSoundFor program.now (kept_of machine.now) }
     ensures is { (at : Site) → load_element (moment program.now machine.now thread) at elements
-        ≡ decided (moment program.now machine.now thread) result
-        (exchanged (moment program.now machine.now thread) at) }
+        ≡ outcome_of (moment program.now machine.now thread) result
+        (exchange_outcome (moment program.now machine.now thread) at) }
     ensures may { IfOk result (λ x. MayExchange machine.now (top machine.now.guest thread) x) }
     ensures visits { visits.new ≤ visits.old + 3 }
 {
@@ -178,8 +178,8 @@ pub(crate) fn read_length<L: Ledger>(
     requires frame { HasFrame machine.now.guest thread }
     requires sound { IsSoundFor program.now (kept_of machine.now) }
     ensures is { (at : Site) → array_length (moment program.now machine.now thread) at
-        ≡ decided (moment program.now machine.now thread) result
-        (exchanged (moment program.now machine.now thread) at) }
+        ≡ outcome_of (moment program.now machine.now thread) result
+        (exchange_outcome (moment program.now machine.now thread) at) }
     ensures may { IfOk result (λ x. MayExchange machine.now (top machine.now.guest thread) x) }
     ensures visits { visits.new ≤ visits.old + 2 }
 {
@@ -251,8 +251,8 @@ pub(crate) fn write_element<L: Ledger>(
     requires sound { IsSoundFor program.now (kept_of machine.now) }
     requires elements { AreElementsWithin program.now }
     ensures is { (at : Site) → store_element (moment program.now machine.now thread) at elements
-        ≡ decided (moment program.now machine.now thread) result
-        (stored (moment program.now machine.now thread) at) }
+        ≡ outcome_of (moment program.now machine.now thread) result
+        (store_outcome (moment program.now machine.now thread) at) }
     ensures may { IfOk result (λ x. MayStore machine.now (top machine.now.guest thread) x) }
     ensures visits { visits.new ≤ visits.old + 4 }
 {

@@ -1,27 +1,23 @@
 //! The event call of the instructions on fields, arrays and classes.
-ghost use Rattle.std.specs.Prelude.{◌≡◌, ◌+◌, ◌-◌, ◌<◌, ◌≤◌, ◌^◌, true, Some, IfOk, length};
+ghost use Rattle.std.specs.Prelude.{◌≡◌, ◌+◌, ◌-◌, ◌≤◌, Some, IfOk, length};
 ghost use Rattle.et_event.specs.declared.families.Family.TheVariants as families;
 ghost use Rattle.et_event.specs.declared.rows.Row.TheVariants as row_kinds;
 ghost use Rattle.et_event.specs.Answered.{EventAnswers};
 ghost use Rattle.et_event.specs.Beginning.{BeginsEvent};
 ghost use Rattle.et_event.specs.Event.{does, event};
 ghost use Rattle.et_event.specs.Families.{family_of, family_of_row};
-ghost use Rattle.et_event.specs.Heap.{heap_event as event_of_row};
 ghost use Rattle.et_event.specs.Moments.{moment};
-ghost use Rattle.et_event.specs.Programs.{AreElementsWithin};
-ghost use Rattle.et_event.specs.Runnable.{IsRunnable};
-ghost use Rattle.et_event.specs.Sound.{IsSoundFor};
 ghost use Rattle.et_state.specs.declared.stage.Turn.TheVariants as turns;
 ghost use Rattle.et_state.specs.State.{kept_of};
 ghost use Rattle.et_state.specs.Threads.{turn_of};
 ghost use Rattle.et_state.specs.Words.{HasFrame, thread_at, top};
 ghost use Rattle.et_parts.specs.Places.{IsPlace, site_at};
-ghost use Rattle.et_refs.specs.ClassRows.{needs_class as needs_class_row};
-ghost use Rattle.et_refs.specs.Rows.{is_done as is_done_row};
 
-use crate::class_rows::class_row_event;
+use crate::changes::carry_out;
+use crate::class_events::access_event;
 use crate::events::multi_array_event;
-use crate::rows::heap_row_event;
+use crate::refusals::refuse;
+use crate::rows::{Plan, plan_of};
 use et_base::{NoMemory, Steps, ThreadId};
 use et_event::{HeapRow, Row};
 use et_parts::{Place, ill_typed, place_of};
@@ -30,108 +26,19 @@ use et_state::{EventEnd, Lines, Machine};
 use std::alloc::Global;
 use std::sync::ledger::Ledger;
 
-/// Whether a row reads or writes a field or an element, tells a length, casts, tests a type or makes an array of one
-/// dimension.
-fn is_done(row: HeapRow) -> bool
-    ensures { result ≡ is_done_row row }
+/// The row of an instruction on fields, arrays and classes.
+fn heap_row(place: &Place<'_>) -> HeapRow
+    requires { family_of_row (Some place.now.row) ≡ families.Refs }
+    ensures { place.now.row ≡ row_kinds.Heap result }
 {
-    !matches!(
-        row,
-        HeapRow::GetStatic | HeapRow::PutStatic | HeapRow::New | HeapRow::NewMultiArray
-    )
-}
-
-/// Whether a row needs a class to be initialized.
-fn needs_class(row: HeapRow) -> bool
-    ensures { result ≡ needs_class_row row }
-{
-    matches!(row, HeapRow::GetStatic | HeapRow::PutStatic | HeapRow::New)
-}
-
-/// The event of a row that needs no class to be initialized, but for `multianewarray`.
-fn done_event<L: Ledger>(
-    program: &Program,
-    machine: &mut Machine,
-    thread: ThreadId,
-    place: &Place<'_>,
-    row: HeapRow,
-    out: &mut Lines,
-    visits: &mut Steps<L>,
-) -> Result<EventEnd, NoMemory>
-    requires done { is_done_row row ≡ true }
-    requires frame { HasFrame machine.old.guest thread }
-    requires sound { IsSoundFor program.now (kept_of machine.old) }
-    requires clock { machine.old.guest.clock < 2 ^ 40 }
-    requires elements { AreElementsWithin program.now }
-    requires place { IsPlace program.now (top machine.old.guest thread) place.now }
-    requires row { place.now.row ≡ row_kinds.Heap row }
-    ensures event { IfOk result (λ end. EventAnswers (event_of_row (moment program.now
-        machine.old thread) (site_at place.now) row) end machine.old machine.new out.old out.new) }
-    ensures visits { visits.new ≤ visits.old + 6 }
-{
-    let end = heap_row_event(program, machine, thread, place, row, out, visits)?;
-    match end {
-        Some(end) => Ok(end),
-        None => unreachable!(),
-    }
-}
-
-/// The event of a row that needs a class to be initialized.
-fn class_event(
-    alloc: Global,
-    program: &Program,
-    machine: &mut Machine,
-    thread: ThreadId,
-    place: &Place<'_>,
-    row: HeapRow,
-    out: &mut Lines,
-) -> Result<EventEnd, NoMemory>
-    requires needs { needs_class_row row ≡ true }
-    requires frame { HasFrame machine.old.guest thread }
-    requires sound { IsSoundFor program.now (kept_of machine.old) }
-    requires clock { machine.old.guest.clock < 2 ^ 40 }
-    requires program { IsRunnable program.now }
-    requires place { IsPlace program.now (top machine.old.guest thread) place.now }
-    requires row { place.now.row ≡ row_kinds.Heap row }
-    ensures { IfOk result (λ end. EventAnswers (event_of_row (moment program.now machine.old thread)
-        (site_at place.now) row) end machine.old machine.new out.old out.new) }
-{
-    let end = class_row_event(alloc, program, machine, thread, place, row, out)?;
-    match end {
-        Some(end) => Ok(end),
-        None => unreachable!(),
-    }
-}
-
-/// The event of a row on fields, arrays and classes.
-fn heap_event<L: Ledger>(
-    alloc: Global,
-    program: &Program,
-    machine: &mut Machine,
-    thread: ThreadId,
-    place: &Place<'_>,
-    row: HeapRow,
-    out: &mut Lines,
-    visits: &mut Steps<L>,
-) -> Result<EventEnd, NoMemory>
-    requires turn { turn_of (thread_at machine.old.guest thread) ≡ turns.Instruction }
-    requires frame { HasFrame machine.old.guest thread }
-    requires sound { IsSoundFor program.now (kept_of machine.old) }
-    requires clock { machine.old.guest.clock < 2 ^ 40 }
-    requires program { IsRunnable program.now }
-    requires place { IsPlace program.now (top machine.old.guest thread) place.now }
-    requires row { place.now.row ≡ row_kinds.Heap row }
-    ensures event { IfOk result (λ end. EventAnswers (event_of_row (moment program.now
-        machine.old thread) (site_at place.now) row) end machine.old machine.new out.old out.new) }
-    ensures visits { IfOk result
-        (λ end. visits.new ≤ visits.old + 6 + (length machine.new.heap - length machine.old.heap)) }
-{
-    if is_done(row) {
-        done_event(program, machine, thread, place, row, out, visits)
-    } else if needs_class(row) {
-        class_event(alloc, program, machine, thread, place, row, out)
-    } else {
-        multi_array_event(alloc, program, machine, thread, place, out, visits)
+    match place.row {
+        Row::Heap(row) => row,
+        Row::Frame(_)
+        | Row::PoolConstant
+        | Row::Divide(_, _)
+        | Row::Call(_)
+        | Row::Throw
+        | Row::Monitor(_) => unreachable!(),
     }
 }
 
@@ -155,14 +62,16 @@ fn place_event<L: Ledger>(
     ensures visits { IfOk result
         (λ end. visits.new ≤ visits.old + 6 + (length machine.new.heap - length machine.old.heap)) }
 {
-    match place.row {
-        Row::Heap(row) => heap_event(alloc, program, machine, thread, place, row, out, visits),
-        Row::Frame(_)
-        | Row::PoolConstant
-        | Row::Divide(_, _)
-        | Row::Call(_)
-        | Row::Throw
-        | Row::Monitor(_) => unreachable!(),
+    let row = heap_row(place);
+    match plan_of(program, machine, thread, place, row, visits) {
+        Ok(Plan::Change(change)) => {
+            carry_out(program, machine, thread, place, change, out, visits)
+        }
+        Ok(Plan::Access(wanted)) => {
+            access_event(alloc, program, machine, thread, place, &wanted, out)
+        }
+        Ok(Plan::Arrays) => multi_array_event(alloc, program, machine, thread, place, out, visits),
+        Err(refusal) => refuse(program, machine, thread, refusal, out),
     }
 }
 

@@ -21,8 +21,8 @@ ghost use Rattle.et_event.specs.Sites.{Member, member_of, natural};
 ghost use Rattle.et_event.specs.Sound.{IsSoundFor, HasField};
 ghost use Rattle.et_parts.specs.Members.{shown_member};
 ghost use Rattle.et_parts.specs.Places.{site_at};
-ghost use Rattle.et_refs.specs.Changes.{IsNamed, MayExchange, MayStore, exchanged, stored};
-ghost use Rattle.et_refs.specs.Refusals.{decided};
+ghost use Rattle.et_refs.specs.Changes.{IsNamed, MayExchange, MayStore, exchange_outcome, store_outcome};
+ghost use Rattle.et_refs.specs.Refusals.{outcome_of};
 ghost use Rattle.et_refs.specs.Slots.{IsInstanceField, IsSlotAt};
 
 use crate::changes::{Exchange, Store};
@@ -44,7 +44,7 @@ use std::sync::ledger::Ledger;
 pub fn field_named<'a>(place: &Place<'a>) -> Result<MemberAt<'a>, Refusal>
     requires { natural place.now.instr.first < 2 ^ 16 }
     ensures is { (e : Moment) (go : Member → Outcome Kept) → with_field e
-        (member_of (site_at place.now)) go ≡ decided e result (λ m. go (shown_member m)) }
+        (member_of (site_at place.now)) go ≡ outcome_of e result (λ m. go (shown_member m)) }
     ensures field { IfOk result (λ m. is_of_field m.descriptor.now ≡ true) }
 {
     let Some(member) = member_at(place) else {
@@ -68,7 +68,7 @@ pub fn resolve_field(
         resolved (record { program = program.now; before = s; thread = t })
         (begins (record { program = program.now; before = s; thread = t }))
         (field_meant program.now owner name.now descriptor.now) go
-        ≡ decided (record { program = program.now; before = s; thread = t }) result go }
+        ≡ outcome_of (record { program = program.now; before = s; thread = t }) result go }
     ensures within { IfOk result (λ f. f < length program.now.fields) }
     ensures descriptor { IfOk result (λ f. (field_of program.now f).descriptor ≡ descriptor.now) }
 {
@@ -86,7 +86,7 @@ fn instance_field(program: &Program, member: &MemberAt<'_>) -> Result<FieldId, R
         (λ f. throwing_unless (record { program = program.now; before = s; thread = t }) (begins
         (record { program = program.now; before = s; thread = t })) IncompatibleClassChangeError
         (not (is_static_field program.now f)) (go f))
-        ≡ decided (record { program = program.now; before = s; thread = t }) result go }
+        ≡ outcome_of (record { program = program.now; before = s; thread = t }) result go }
     ensures field { IfOk result (λ f. IsInstanceField program.now member.now.descriptor.now f) }
 {
     let owner = resolve(program, member.owner)?;
@@ -111,7 +111,7 @@ fn holder<L: Ledger>(
     requires named { IsNamed machine.now (top machine.now.guest thread) reference }
     ensures is { (go : ℕ → Outcome Kept) → with_holder (moment program.now machine.now thread)
         (begins (moment program.now machine.now thread)) field reference go
-        ≡ decided (moment program.now machine.now thread) result go }
+        ≡ outcome_of (moment program.now machine.now thread) result go }
     ensures object { IfOk result (λ o. reference ≡ Some o) }
     ensures has { IfOk result (λ o. HasField program.now (object_at machine.now.heap o) field) }
     ensures visits { visits.new ≤ visits.old + 1 }
@@ -141,7 +141,7 @@ fn field_slot<L: Ledger>(
         (not (is_static_field program.now f)) (with_holder (moment program.now machine.now thread)
         (begins (moment program.now machine.now thread)) f reference
         (λ o. go o (field_of program.now f).slot)))
-        ≡ decided (moment program.now machine.now thread) result (λ x. go x.object x.slot) }
+        ≡ outcome_of (moment program.now machine.now thread) result (λ x. go x.object x.slot) }
     ensures object { IfOk result (λ x. reference ≡ Some x.object) }
     ensures at { IfOk result
         (λ x. IsSlotAt machine.now (descriptor_kind member.now.descriptor.now) x) }
@@ -186,8 +186,8 @@ pub(crate) fn read_field<L: Ledger>(
     requires sound { IsSoundFor program.now (kept_of machine.now) }
     requires index { natural place.now.instr.first < 2 ^ 16 }
     ensures is { get_field (moment program.now machine.now thread) (site_at place.now)
-        ≡ decided (moment program.now machine.now thread) result
-        (exchanged (moment program.now machine.now thread) (site_at place.now)) }
+        ≡ outcome_of (moment program.now machine.now thread) result
+        (exchange_outcome (moment program.now machine.now thread) (site_at place.now)) }
     ensures may { IfOk result (λ x. MayExchange machine.now (top machine.now.guest thread) x) }
     ensures visits { visits.new ≤ visits.old + 2 }
 {
@@ -211,8 +211,8 @@ pub(crate) fn write_field<L: Ledger>(
     requires sound { IsSoundFor program.now (kept_of machine.now) }
     requires index { natural place.now.instr.first < 2 ^ 16 }
     ensures is { put_field (moment program.now machine.now thread) (site_at place.now)
-        ≡ decided (moment program.now machine.now thread) result
-        (stored (moment program.now machine.now thread) (site_at place.now)) }
+        ≡ outcome_of (moment program.now machine.now thread) result
+        (store_outcome (moment program.now machine.now thread) (site_at place.now)) }
     ensures may { IfOk result (λ x. MayStore machine.now (top machine.now.guest thread) x) }
     ensures visits { visits.new ≤ visits.old + 1 }
 {

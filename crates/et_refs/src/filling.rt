@@ -2,13 +2,12 @@
 ghost use Rattle.std.specs.Prelude.{◌≡◌, ◌+◌, ◌<◌, ◌≤◌, ◌++◌, ◌∷◌, [], true, pos, length, drop, slice_index_or, IfOk, OnOk};
 ghost use Rattle.et_base.specs.declared.value.Value.TheVariants.{Ref};
 ghost use Rattle.et_heap.specs.Objects.{IsHeld, has_room, object_at, most_objects};
-ghost use Rattle.et_program.specs.Entries.{class_at};
-ghost use Rattle.et_event.specs.Heap.{element_class};
+ghost use Rattle.et_program.specs.Entries.{Linked, class_at};
+ghost use Rattle.et_event.specs.Heap.{arrays_made, element_class, naturals};
 ghost use Rattle.et_event.specs.Moments.{moment, array_made, slot_written, fits};
 ghost use Rattle.et_state.specs.State.{Kept};
 ghost use Rattle.et_event.specs.Sites.{natural as natural_of};
-ghost use Rattle.et_refs.specs.Counts.{naturals_of};
-ghost use Rattle.et_refs.specs.Filling.{so_far, ComesTo, counted, opened_as, finished, lower, AreFillings, IsFilling};
+ghost use Rattle.et_refs.specs.Filling.{doing_of, ComesTo, element_count, first_filling, next_filling, with_elements, inner_dimensions, AreFillings};
 
 use crate::changes::{array_size, number_of, width_in};
 use crate::kinds::natural;
@@ -18,6 +17,17 @@ use et_program::{Element, Program};
 use et_state::{Lines, Machine, Record};
 use std::alloc::Global;
 use std::sync::ledger::Ledger;
+
+/// Arrays of some dimensions that an instruction makes, each but the first in another.
+#[derive(Clone, Copy)]
+pub struct NewArrays<'a> {
+    /// The class of the first one.
+    pub class: ClassId,
+    /// The lengths of the dimensions, the first dimension first.
+    pub lengths: &'a [i32],
+    /// The pc behind the instruction.
+    pub next: u32,
+}
 
 /// An array whose elements are being made: those below `next` are there, of so many.
 #[derive(Clone, Copy)]
@@ -54,7 +64,7 @@ fn make_array(
     requires { has_room machine.old.heap 1 elements ≡ true }
     ensures object { IfOk result (λ o. o ≡ length machine.old.heap) }
     ensures made { OnOk result (ComesTo (array_made (moment program.now machine.old thread)
-        class elements (so_far machine.old out.old)) machine.old machine.new out.new) }
+        class elements (doing_of machine.old out.old)) machine.old machine.new out.new) }
     ensures grown { length machine.old.heap ≤ length machine.new.heap }
 {
     let width = width_in(program, class);
@@ -74,44 +84,11 @@ fn make_array(
     Ok(object)
 }
 
-/// Writes an array to an element of another one, and tells of it.
-fn write_element<L: Ledger>(
-    program: &Program,
-    machine: &mut Machine,
-    thread: ThreadId,
-    parent: &Filling,
-    array: ObjectId,
-    out: &mut Lines,
-    visits: &mut Steps<L>,
-) -> Result<(), NoMemory>
-    requires held { IsHeld machine.old.heap parent.now.array }
-    requires slot { parent.now.next < length (object_at machine.old.heap parent.now.array).slots }
-    ensures written { OnOk result (ComesTo
-        (slot_written (moment program.now machine.old thread) parent.now.array parent.now.next
-        (Ref array) (so_far machine.old out.old)) machine.old machine.new out.new) }
-    ensures same { length machine.new.heap ≡ length machine.old.heap }
-    ensures visits { visits.new ≡ visits.old + 1 }
-{
-    let _ = program;
-    let value = Value::Ref(array);
-    let old = machine
-        .heap
-        .set_slot(parent.array, parent.next, value, visits);
-    out.push(Record::Update {
-        event: machine.clock(),
-        thread: thread.number(),
-        object: parent.array.number(),
-        slot: parent.next,
-        old: number_of(old),
-        new: array.number(),
-    })
-}
-
 /// How many elements of an array are made at this level of the dimensions: none in the last one.
 #[tactic(auto, using(crate::proofs::Stacking::counted_deep, crate::proofs::Stacking::counted_last))]
 fn count_at(lengths: &[i32], level: usize, elements: u32) -> u32
     requires { level < length lengths.now }
-    ensures { result ≡ counted elements (drop (level + 1) (naturals_of lengths.now)) }
+    ensures { result ≡ element_count elements (drop (level + 1) (naturals lengths.now)) }
 {
     if level + 1 < lengths.len() {
         elements
@@ -134,12 +111,12 @@ pub fn open_array(
     requires room { has_room machine.old.heap 1
         (natural_of (slice_index_or lengths.now level (pos 0))) ≡ true }
     ensures filling { IfOk result (λ f. (b : Kept) →
-        f ≡ opened_as (record { program = program.now; before = b; thread = thread })
+        f ≡ first_filling (record { program = program.now; before = b; thread = thread })
         (length machine.old.heap) class (natural_of (slice_index_or lengths.now level (pos 0)))
-        (drop (level + 1) (naturals_of lengths.now))) }
+        (drop (level + 1) (naturals lengths.now))) }
     ensures made { OnOk result (ComesTo (array_made (moment program.now machine.old thread) class
         (natural_of (slice_index_or lengths.now level (pos 0)))
-        (so_far machine.old out.old)) machine.old machine.new out.new) }
+        (doing_of machine.old out.old)) machine.old machine.new out.new) }
     ensures grown { length machine.old.heap ≤ length machine.new.heap }
 {
     let elements = natural(lengths[level]);
@@ -165,14 +142,17 @@ fn descend(
     requires more { top.next < top.count }
     requires fillings { AreFillings machine.old.heap
         (length lengths.now) 0 (stack.old.items ++ top ∷ []) }
-    requires fits { (b : Kept) → fits (finished
-        (record { program = program.now; before = b; thread = thread }) (stack.old.items ++ top
-        ∷ []) (lower (naturals_of lengths.now)) (so_far machine.old out.old)).state.heap ≡ true }
-    ensures same { IfOk result (λ last. (b : Kept) →
-        finished (record { program = program.now; before = b; thread = thread }) (stack.new.items
-        ++ last ∷ []) (lower (naturals_of lengths.now)) (so_far machine.new out.new)
-        ≡ finished (record { program = program.now; before = b; thread = thread }) (stack.old.items
-        ++ top ∷ []) (lower (naturals_of lengths.now)) (so_far machine.old out.old)) }
+    requires fits { (b : Kept) → fits (with_elements
+        (record { program = program.now; before = b; thread = thread })
+        (stack.old.items ++ top ∷ []) (inner_dimensions (naturals lengths.now))
+        (doing_of machine.old out.old)).state.heap ≡ true }
+    ensures same { IfOk result (λ last. (b : Kept) → with_elements
+        (record { program = program.now; before = b; thread = thread })
+        (stack.new.items ++ last ∷ []) (inner_dimensions (naturals lengths.now))
+        (doing_of machine.new out.new) ≡ with_elements
+        (record { program = program.now; before = b; thread = thread })
+        (stack.old.items ++ top ∷ []) (inner_dimensions (naturals lengths.now))
+        (doing_of machine.old out.old)) }
     ensures fillings { IfOk result (λ last.
         AreFillings machine.new.heap (length lengths.now) 0 (stack.new.items ++ last ∷ [])) }
     ensures lost { OnOk result (machine.new.lost ≡ machine.old.lost) }
@@ -187,78 +167,76 @@ fn descend(
     Ok(last)
 }
 
-/// The last array is whole: it becomes the next element of the one before, which is the last one then.
+/// An array that is whole becomes the next element of the one around it, in the event under way.
 fn ascend<L: Ledger>(
-    program: &Program,
     machine: &mut Machine,
     thread: ThreadId,
-    lengths: &[i32],
-    stack: &mut Vec<Filling>,
-    top: Filling,
+    around: Filling,
+    array: ObjectId,
     out: &mut Lines,
     visits: &mut Steps<L>,
 ) -> Result<Filling, NoMemory>
-    requires whole { top.next ≡ top.count }
-    requires some { 0 < length stack.old.items }
-    requires fillings { AreFillings machine.old.heap
-        (length lengths.now) 0 (stack.old.items ++ top ∷ []) }
-    ensures same { IfOk result (λ last. (b : Kept) →
-        finished (record { program = program.now; before = b; thread = thread }) (stack.new.items
-        ++ last ∷ []) (lower (naturals_of lengths.now)) (so_far machine.new out.new)
-        ≡ finished (record { program = program.now; before = b; thread = thread }) (stack.old.items
-        ++ top ∷ []) (lower (naturals_of lengths.now)) (so_far machine.old out.old)) }
-    ensures fillings { IfOk result (λ last.
-        AreFillings machine.new.heap (length lengths.now) 0 (stack.new.items ++ last ∷ [])) }
-    ensures lost { OnOk result (machine.new.lost ≡ machine.old.lost) }
-    ensures stack { length stack.new.items + 1 ≡ length stack.old.items }
-    ensures same_length { length machine.new.heap ≡ length machine.old.heap }
+    requires held { IsHeld machine.old.heap around.array }
+    requires slot { around.next < length (object_at machine.old.heap around.array).slots }
+    requires next { around.next < around.count }
+    ensures last { IfOk result (λ last. last ≡ next_filling around) }
+    ensures written { OnOk result ((p : Linked) (b : Kept) → ComesTo
+        (slot_written (record { program = p; before = b; thread = thread }) around.array around.next
+        (Ref array) (doing_of machine.old out.old)) machine.old machine.new out.new) }
+    ensures same { length machine.new.heap ≡ length machine.old.heap }
     ensures visits { visits.new ≡ visits.old + 1 }
 {
-    let _ = lengths;
-    let Some(parent) = stack.pop() else {
-        unreachable!();
-    };
-    write_element(program, machine, thread, &parent, top.array, out, visits)?;
+    let value = Value::Ref(array);
+    let old = machine
+        .heap
+        .set_slot(around.array, around.next, value, visits);
+    out.push(Record::Update {
+        event: machine.clock(),
+        thread: thread.number(),
+        object: around.array.number(),
+        slot: around.next,
+        old: number_of(old),
+        new: array.number(),
+    })?;
     Ok(Filling {
-        array: parent.array,
-        inner: parent.inner,
-        next: parent.next + 1,
-        count: parent.count,
+        next: around.next + 1,
+        ..around
     })
 }
 
-/// Makes all that is in an array which was made before, in the event under way. All fits. After `NoMemory` the event is half
-/// done.
-pub fn fill<L: Ledger>(
+/// Makes arrays in the event under way, and answers the first one. All fit. After `NoMemory` the event is half done.
+pub fn make_arrays<L: Ledger>(
     alloc: Global,
     program: &Program,
     machine: &mut Machine,
     thread: ThreadId,
-    lengths: &[i32],
-    first: Filling,
+    arrays: &NewArrays<'_>,
     out: &mut Lines,
     visits: &mut Steps<L>,
-) -> Result<(), NoMemory>
-    requires filling { IsFilling machine.old.heap (length lengths.now) 0 first }
-    requires fits { (b : Kept) →
-        fits (finished (record { program = program.now; before = b; thread = thread }) (first ∷ [])
-        (lower (naturals_of lengths.now)) (so_far machine.old out.old)).state.heap ≡ true }
-    ensures finished { OnOk result ((b : Kept) → so_far machine.new out.new
-        ≡ finished (record { program = program.now; before = b; thread = thread })
-        (first ∷ []) (lower (naturals_of lengths.now)) (so_far machine.old out.old)) }
+) -> Result<ObjectId, NoMemory>
+    requires some { 0 < length arrays.now.lengths.now }
+    requires heap { 0 < length machine.old.heap }
+    requires fits { (b : Kept) → fits (arrays_made
+        (record { program = program.now; before = b; thread = thread }) arrays.now.class
+        (naturals arrays.now.lengths.now) (doing_of machine.old out.old)).state.heap ≡ true }
+    ensures first { IfOk result (λ o. o ≡ length machine.old.heap) }
+    ensures made { OnOk result ((b : Kept) → doing_of machine.new out.new ≡ arrays_made
+        (record { program = program.now; before = b; thread = thread }) arrays.now.class
+        (naturals arrays.now.lengths.now) (doing_of machine.old out.old)) }
     ensures lost { OnOk result (machine.new.lost ≡ machine.old.lost) }
     ensures visits { visits.new + length machine.old.heap ≤ visits.old + length machine.new.heap }
 {
+    let lengths = arrays.lengths;
+    let first = open_array(program, machine, thread, lengths, 0, arrays.class, out)?;
     let mut stack = Vec::new(alloc);
     let mut last = first;
-    'arrays: while last.next < last.count || stack.len() > 0 {
+    'elements: loop {
         if last.next < last.count {
             last = descend(program, machine, thread, lengths, &mut stack, last, out)?;
+        } else if let Some(around) = stack.pop() {
+            last = ascend(machine, thread, around, last.array, out, visits)?;
         } else {
-            last = ascend(
-                program, machine, thread, lengths, &mut stack, last, out, visits,
-            )?;
+            return Ok(first.array);
         }
     }
-    Ok(())
 }

@@ -5,8 +5,8 @@ ghost use Rattle.et_event.specs.Heap.{may_be_made as may_make, new_instance};
 ghost use Rattle.et_event.specs.Sites.{natural};
 ghost use Rattle.et_parts.specs.Places.{site_at};
 ghost use Rattle.et_event.specs.Moments.{moment};
-ghost use Rattle.et_refs.specs.Refusals.{decided};
-ghost use Rattle.et_refs.specs.Accesses.{MayWant, wanted};
+ghost use Rattle.et_refs.specs.Refusals.{outcome_of};
+ghost use Rattle.et_refs.specs.Accesses.{MayWant, wanted_outcome};
 
 use crate::accesses::{Access, Wanted};
 use crate::casts::class_named;
@@ -39,8 +39,8 @@ pub(crate) fn new_object(
     requires frame { HasFrame machine.now.guest thread }
     requires index { natural place.now.instr.first < 2 ^ 16 }
     ensures is { new_instance (moment program.now machine.now thread) (site_at place.now)
-        ≡ decided (moment program.now machine.now thread) result
-        (wanted (moment program.now machine.now thread) (site_at place.now)) }
+        ≡ outcome_of (moment program.now machine.now thread) result
+        (wanted_outcome (moment program.now machine.now thread) (site_at place.now)) }
     ensures may { IfOk result (λ x. MayWant program.now (top machine.now.guest thread) x) }
 {
     let name = class_named(place)?;

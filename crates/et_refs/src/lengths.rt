@@ -7,7 +7,7 @@ ghost use Rattle.et_state.specs.Words.{HasFrame, top};
 ghost use Rattle.et_state.specs.Outcome.{Outcome};
 ghost use Rattle.et_event.specs.Heap.{with_lengths};
 ghost use Rattle.et_event.specs.Moments.{Moment, ill_typed};
-ghost use Rattle.et_refs.specs.Refusals.{decided};
+ghost use Rattle.et_refs.specs.Refusals.{outcome_of};
 
 use crate::kinds::is_length;
 use crate::operands::take_int;
@@ -25,8 +25,9 @@ pub fn take_lengths(
 ) -> Result<Result<Vec<i32>, Refusal>, NoMemory>
     requires { HasFrame machine.now.guest thread }
     ensures is { IfOk result (λ answer. (e : Moment) (go : List ℤ → List Entry → Outcome Kept) →
-        with_lengths count [] (ill_typed e) (top machine.now.guest thread).operands go ≡ decided e
-        answer (λ lengths. go lengths.items (drop count (top machine.now.guest thread).operands))) }
+        with_lengths count [] (ill_typed e) (top machine.now.guest thread).operands go
+        ≡ outcome_of e answer
+        (λ lengths. go lengths.items (drop count (top machine.now.guest thread).operands))) }
     ensures count { IfOk result (λ answer. IfOk answer (λ lengths. length lengths.items ≡ count)) }
     ensures deep { IfOk result (λ answer.
         IfOk answer (λ lengths. count ≤ length (top machine.now.guest thread).operands)) }

@@ -7,7 +7,6 @@ mod casts;
 mod changes;
 mod checks;
 mod class_events;
-mod class_rows;
 mod counts;
 mod elements;
 mod event;

@@ -10,7 +10,7 @@ ghost use Rattle.et_state.specs.Outcome.{Outcome};
 ghost use Rattle.et_event.specs.Moments.{Moment, ill_typed};
 ghost use Rattle.et_event.specs.Checks.{Reference, with_int, with_long, with_reference, with_value, value_of as value_named, ill_typed_unless as ill_unless};
 ghost use Rattle.et_parts.specs.Tops.{IsIn};
-ghost use Rattle.et_refs.specs.Refusals.{decided};
+ghost use Rattle.et_refs.specs.Refusals.{outcome_of};
 ghost use Rattle.et_refs.specs.Changes.{IsNamed};
 
 use crate::checks::ill_typed_unless;
@@ -34,7 +34,7 @@ pub fn take_int(machine: &Machine, thread: ThreadId, k: u32) -> Result<i32, Refu
     requires { HasFrame machine.now.guest thread }
     ensures is { (e : Moment) (go : ℤ → List Entry → Outcome Kept) →
         with_int (ill_typed e) (drop k (top machine.now.guest thread).operands) go
-        ≡ decided e result (λ n. go n (drop (k + 1) (top machine.now.guest thread).operands)) }
+        ≡ outcome_of e result (λ n. go n (drop (k + 1) (top machine.now.guest thread).operands)) }
     ensures deep { IfOk result (λ n. k < length (top machine.now.guest thread).operands) }
 {
     match int_at(machine, thread, k) {
@@ -49,7 +49,7 @@ fn take_long(machine: &Machine, thread: ThreadId) -> Result<i64, Refusal>
     requires { HasFrame machine.now.guest thread }
     ensures is { (e : Moment) (go : ℤ → List Entry → Outcome Kept) →
         with_long (ill_typed e) (top machine.now.guest thread).operands go
-        ≡ decided e result (λ n. go n (drop 2 (top machine.now.guest thread).operands)) }
+        ≡ outcome_of e result (λ n. go n (drop 2 (top machine.now.guest thread).operands)) }
     ensures deep { IfOk result (λ n. 2 ≤ length (top machine.now.guest thread).operands) }
 {
     match long_at(machine, thread, 0) {
@@ -69,7 +69,7 @@ pub(crate) fn take_reference(
     requires sound { IsSound (kept_of machine.now) }
     ensures is { (e : Moment) (go : Reference → List Entry → Outcome Kept) →
         with_reference (ill_typed e) (drop k (top machine.now.guest thread).operands) go
-        ≡ decided e result (λ r. go r (drop (k + 1) (top machine.now.guest thread).operands)) }
+        ≡ outcome_of e result (λ r. go r (drop (k + 1) (top machine.now.guest thread).operands)) }
     ensures deep { IfOk result (λ r. k < length (top machine.now.guest thread).operands) }
     ensures named { IfOk result (λ r. IsNamed machine.now (top machine.now.guest thread) r) }
 {
@@ -98,7 +98,8 @@ pub(crate) fn take_value(
     requires frame { HasFrame machine.now.guest thread }
     requires sound { IsSound (kept_of machine.now) }
     ensures is { (e : Moment) (go : Entry → List Entry → Outcome Kept) →
-        with_value kind (ill_typed e) (top machine.now.guest thread).operands go ≡ decided e result
+        with_value kind (ill_typed e) (top machine.now.guest thread).operands go
+        ≡ outcome_of e result
         (λ x. go x.value (drop x.width (top machine.now.guest thread).operands)) }
     ensures deep { IfOk result (λ x. x.width ≤ length (top machine.now.guest thread).operands) }
     ensures few { IfOk result (λ x. x.width ≤ 2) }
@@ -161,7 +162,7 @@ pub(crate) fn type_fits(
     requires operands { 0 < length (top machine.now.guest thread).operands }
     ensures is { (e : Moment) (go : Outcome Kept) → ill_unless e (nat_le
         (descriptor_width descriptor.now + length (drop 1 (top machine.now.guest thread).operands))
-        (top machine.now.guest thread).room) go ≡ decided e result (λ u. go) }
+        (top machine.now.guest thread).room) go ≡ outcome_of e result (λ u. go) }
     ensures fits { OnOk result (descriptor_width descriptor.now + length
         (drop 1 (top machine.now.guest thread).operands) ≤ (top machine.now.guest thread).room) }
 {
@@ -175,7 +176,7 @@ pub fn take_typed(machine: &Machine, thread: ThreadId, descriptor: &[u8]) -> Res
     requires field { is_field_descriptor descriptor.now ≡ true }
     ensures is { (e : Moment) (go : Entry → List Entry → Outcome Kept) →
         with_value (kind_of_field descriptor.now)
-        (ill_typed e) (top machine.now.guest thread).operands go ≡ decided e result
+        (ill_typed e) (top machine.now.guest thread).operands go ≡ outcome_of e result
         (λ x. go x.value (drop x.width (top machine.now.guest thread).operands)) }
     ensures deep { IfOk result (λ x. x.width ≤ length (top machine.now.guest thread).operands) }
     ensures few { IfOk result (λ x. x.width ≤ 2) }
@@ -194,7 +195,7 @@ pub(crate) fn take_element(
     requires sound { IsSound (kept_of machine.now) }
     ensures is { (e : Moment) (go : Entry → List Entry → Outcome Kept) →
         with_value (Some (elements_kind elements))
-        (ill_typed e) (top machine.now.guest thread).operands go ≡ decided e result
+        (ill_typed e) (top machine.now.guest thread).operands go ≡ outcome_of e result
         (λ x. go x.value (drop x.width (top machine.now.guest thread).operands)) }
     ensures deep { IfOk result (λ x. x.width ≤ length (top machine.now.guest thread).operands) }
     ensures few { IfOk result (λ x. x.width ≤ 2) }

@@ -5,7 +5,7 @@ ghost use Rattle.et_state.specs.Words.{HasFrame};
 ghost use Rattle.et_state.specs.Sound.{IsSound};
 ghost use Rattle.et_event.specs.Answered.{EventAnswers};
 ghost use Rattle.et_event.specs.Moments.{moment};
-ghost use Rattle.et_refs.specs.Refusals.{refused};
+ghost use Rattle.et_refs.specs.Refusals.{refusal_outcome};
 
 use et_base::{NoMemory, ThreadId};
 use et_event::GuestError;
@@ -34,8 +34,9 @@ pub fn refuse(
     requires frame { HasFrame machine.old.guest thread }
     requires sound { IsSound (kept_of machine.old) }
     requires clock { machine.old.guest.clock < 2 ^ 40 }
-    ensures ok { IfOk result (λ end. EventAnswers (refused (moment program.now machine.old thread)
-        refusal) end machine.old machine.new out.old out.new) }
+    ensures ok { IfOk result (λ end. EventAnswers
+        (refusal_outcome (moment program.now machine.old thread) refusal)
+        end machine.old machine.new out.old out.new) }
     ensures err { OnErr result (machine.new.guest ≡ machine.old.guest) }
 {
     match refusal {

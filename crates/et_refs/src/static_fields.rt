@@ -11,9 +11,9 @@ ghost use Rattle.et_event.specs.Sites.{natural};
 ghost use Rattle.et_event.specs.Sound.{IsSoundFor};
 ghost use Rattle.et_parts.specs.Members.{shown_member};
 ghost use Rattle.et_parts.specs.Places.{site_at};
-ghost use Rattle.et_refs.specs.Refusals.{decided};
+ghost use Rattle.et_refs.specs.Refusals.{outcome_of};
 ghost use Rattle.et_event.specs.Programs.{HasSlots};
-ghost use Rattle.et_refs.specs.Accesses.{IsStaticField, MayWant, wanted};
+ghost use Rattle.et_refs.specs.Accesses.{IsStaticField, MayWant, wanted_outcome};
 
 use crate::accesses::{Access, Read, Wanted, Write};
 use crate::checks::{ill_typed_unless, resolve, throws_unless};
@@ -45,7 +45,7 @@ pub(crate) fn width_fits(machine: &Machine, thread: ThreadId, width: u32) -> Res
     requires small { width ≤ 2 }
     ensures is { (e : Moment) (go : Outcome Kept) →
         ill_unless e (nat_le (width + length (top machine.now.guest thread).operands)
-        (top machine.now.guest thread).room) go ≡ decided e result (λ u. go) }
+        (top machine.now.guest thread).room) go ≡ outcome_of e result (λ u. go) }
     ensures fits { OnOk result (width + length (top machine.now.guest thread).operands
         ≤ (top machine.now.guest thread).room) }
 {
@@ -60,7 +60,7 @@ fn static_field(program: &Program, member: &MemberAt<'_>) -> Result<FieldId, Ref
         (λ f. throwing_unless (record { program = program.now; before = s; thread = t }) (begins
         (record { program = program.now; before = s; thread = t })) IncompatibleClassChangeError
         (is_static_field program.now f) (go f))
-        ≡ decided (record { program = program.now; before = s; thread = t }) result go }
+        ≡ outcome_of (record { program = program.now; before = s; thread = t }) result go }
     ensures field { IfOk result (λ f. IsStaticField program.now member.now.descriptor.now f) }
 {
     let owner = resolve(program, member.owner)?;
@@ -81,8 +81,8 @@ pub(crate) fn read_field(
     requires frame { HasFrame machine.now.guest thread }
     requires index { natural place.now.instr.first < 2 ^ 16 }
     ensures is { get_static (moment program.now machine.now thread) (site_at place.now)
-        ≡ decided (moment program.now machine.now thread) result
-        (wanted (moment program.now machine.now thread) (site_at place.now)) }
+        ≡ outcome_of (moment program.now machine.now thread) result
+        (wanted_outcome (moment program.now machine.now thread) (site_at place.now)) }
     ensures may { IfOk result (λ x. MayWant program.now (top machine.now.guest thread) x) }
 {
     let member = field_named(place)?;
@@ -110,8 +110,8 @@ pub(crate) fn write_field(
     requires sound { IsSoundFor program.now (kept_of machine.now) }
     requires index { natural place.now.instr.first < 2 ^ 16 }
     ensures is { put_static (moment program.now machine.now thread) (site_at place.now)
-        ≡ decided (moment program.now machine.now thread) result
-        (wanted (moment program.now machine.now thread) (site_at place.now)) }
+        ≡ outcome_of (moment program.now machine.now thread) result
+        (wanted_outcome (moment program.now machine.now thread) (site_at place.now)) }
     ensures may { IfOk result (λ x. MayWant program.now (top machine.now.guest thread) x) }
 {
     let member = field_named(place)?;

@@ -6,7 +6,7 @@ use Rattle.et_event.specs.Heap.{new_array_of}
 use Rattle.et_event.specs.Sites.{natural}
 use Rattle.et_parts.specs.Places.{site_at}
 use Rattle.et_event.specs.Moments.{moment}
-use Rattle.et_refs.specs.Changes.{added}
+use Rattle.et_refs.specs.Changes.{new_array_outcome}
 use Rattle.et_refs.proofs.Chains.{refusing, makes_base, whatever}
 use Rattle.et_refs.proofs.arrays.new_array.Goals as goal
 
@@ -15,7 +15,7 @@ returns-in_err-elements-clause-is c =
     let e = moment c.args.program.now c.args.machine.now c.args.thread in
     let at = site_at c.args.place.now in
     let same : c.from_residual.result ≡ Err c.in_err-elements.field-0.0 = search rules in
-    refusing e _ _ c.in_err-elements.field-0.0 (added e at) (c.in_err-elements.ensures.is e (makes_base e at)) same
+    refusing e _ _ c.in_err-elements.field-0.0 (new_array_outcome e at) (c.in_err-elements.ensures.is e (makes_base e at)) same
 
 pub returns-clause-is : goal.returns-clause-is
 returns-clause-is c =

@@ -5,7 +5,7 @@ use Rattle.et_state.specs.Words.{top}
 use Rattle.et_event.specs.Heap.{new_array_of}
 use Rattle.et_parts.specs.Places.{site_at}
 use Rattle.et_event.specs.Moments.{moment}
-use Rattle.et_refs.specs.Changes.{added}
+use Rattle.et_refs.specs.Changes.{new_array_outcome}
 use Rattle.et_refs.proofs.Chains.{refusing, makes_named, makes_resolved, makes, whatever}
 use Rattle.et_refs.proofs.arrays.new_reference_array.Goals as goal
 
@@ -14,7 +14,7 @@ returns-in_err-name-clause-is c =
     let e = moment c.args.program.now c.args.machine.now c.args.thread in
     let at = site_at c.args.place.now in
     let same : c.from_residual.result ≡ Err c.in_err-name.field-0.0 = search rules in
-    refusing e _ _ c.in_err-name.field-0.0 (added e at) (c.in_err-name.ensures e (makes_named e at)) same
+    refusing e _ _ c.in_err-name.field-0.0 (new_array_outcome e at) (c.in_err-name.ensures e (makes_named e at)) same
 
 pub returns-in_err-elements-clause-is : goal.returns-in_err-elements-clause-is
 returns-in_err-elements-clause-is c =
@@ -22,7 +22,7 @@ returns-in_err-elements-clause-is c =
     let at = site_at c.args.place.now in
     let name = c.in_ok-name.name.now in
     let same : c.from_residual-in_err-elements.result ≡ Err c.in_err-elements.field-0.0 = search rules in
-    refusing e _ _ c.in_err-elements.field-0.0 (added e at) (c.in_ok-name.ensures e (makes_named e at) ∙ c.in_err-elements.ensures.is e (makes_resolved e at name)) same
+    refusing e _ _ c.in_err-elements.field-0.0 (new_array_outcome e at) (c.in_ok-name.ensures e (makes_named e at) ∙ c.in_err-elements.ensures.is e (makes_resolved e at name)) same
 
 pub returns-in_err-class-clause-is : goal.returns-in_err-class-clause-is
 returns-in_err-class-clause-is c =
@@ -32,7 +32,7 @@ returns-in_err-class-clause-is c =
     let n = c.in_ok-elements.elements in
     let below = drop 1 (top c.args.machine.now.guest c.args.thread).operands in
     let same : c.from_residual-in_err-class.result ≡ Err c.in_err-class.field-0.0 = search rules in
-    refusing e _ _ c.in_err-class.field-0.0 (added e at)
+    refusing e _ _ c.in_err-class.field-0.0 (new_array_outcome e at)
     (c.in_ok-name.ensures e (makes_named e at) ∙ (c.in_ok-elements.ensures.is e (makes_resolved e at name) ∙ c.in_err-class.ensures.is (kept_of c.args.machine.now) c.args.thread (makes e at n below))) same
 
 pub returns-clause-is : goal.returns-clause-is

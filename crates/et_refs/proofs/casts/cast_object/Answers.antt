@@ -6,7 +6,7 @@ use Rattle.et_program.specs.Types.{passes}
 use Rattle.et_event.specs.declared.errors.GuestError.TheVariants.{ClassCastException}
 use Rattle.et_event.specs.Moments.{moment, begins}
 use Rattle.et_event.specs.Checks.{throws_unless}
-use Rattle.et_refs.specs.Changes.{left}
+use Rattle.et_refs.specs.Changes.{put_outcome}
 use Rattle.et_refs.proofs.Chains.{refusing, casts}
 use Rattle.et_refs.proofs.casts.cast_object.Goals as goal
 
@@ -14,7 +14,7 @@ pub returns-in_err-class-clause-is : goal.returns-in_err-class-clause-is
 returns-in_err-class-clause-is g c =
     let e = moment c.args.program.now c.args.machine.now c.args.thread in
     let same : c.from_residual.result ≡ Err c.in_err-class.field-0.0 = search rules in
-    λ at below. refusing e _ _ c.in_err-class.field-0.0 (left e at below) (c.in_err-class.ensures.is (kept_of c.args.machine.now) c.args.thread (casts e at below c.args.object)) same
+    λ at below. refusing e _ _ c.in_err-class.field-0.0 (put_outcome e at below) (c.in_err-class.ensures.is (kept_of c.args.machine.now) c.args.thread (casts e at below c.args.object)) same
 
 pub returns-in_err-throws_unless-clause-is : goal.returns-in_err-throws_unless-clause-is
 returns-in_err-throws_unless-clause-is g c =
@@ -22,9 +22,9 @@ returns-in_err-throws_unless-clause-is g c =
     let o = c.args.object in
     let same : c.from_residual-in_err-throws_unless.result ≡ Err c.in_err-throws_unless.field-0.0 = search rules in
     let test : passes c.args.program.now (object_at c.args.machine.now.heap o).class c.in_ok-class.class ≡ c.passes-holds.result = search rules in
-    λ at below. refusing e _ _ c.in_err-throws_unless.field-0.0 (left e at below)
+    λ at below. refusing e _ _ c.in_err-throws_unless.field-0.0 (put_outcome e at below)
     (c.in_ok-class.ensures.is (kept_of c.args.machine.now) c.args.thread (casts e at below o)
-    ∙ (ap (λ (b : Bool). throws_unless e (begins e) ClassCastException b (left e at below (Ref o))) test ∙ c.in_err-throws_unless.ensures.is e (left e at below (Ref o)))) same
+    ∙ (ap (λ (b : Bool). throws_unless e (begins e) ClassCastException b (put_outcome e at below (Ref o))) test ∙ c.in_err-throws_unless.ensures.is e (put_outcome e at below (Ref o)))) same
 
 pub returns-clause-is : goal.returns-clause-is
 returns-clause-is g c =
@@ -32,4 +32,4 @@ returns-clause-is g c =
     let o = c.args.object in
     let test : passes c.args.program.now (object_at c.args.machine.now.heap o).class c.in_ok-class.class ≡ true = search rules in
     λ at below. c.in_ok-class.ensures.is (kept_of c.args.machine.now) c.args.thread (casts e at below o)
-    ∙ ap (λ (b : Bool). throws_unless e (begins e) ClassCastException b (left e at below (Ref o))) test
+    ∙ ap (λ (b : Bool). throws_unless e (begins e) ClassCastException b (put_outcome e at below (Ref o))) test

@@ -2,7 +2,7 @@ use Rattle.std.proofs.Common.{rules, ◌≡◌, Err, drop, ◌∙◌, arith, lit
 use Rattle.et_state.specs.Words.{top}
 use Rattle.et_parts.specs.Places.{site_at}
 use Rattle.et_event.specs.Moments.{moment}
-use Rattle.et_refs.specs.Changes.{exchanged}
+use Rattle.et_refs.specs.Changes.{exchange_outcome}
 use Rattle.et_refs.proofs.Chains.{refusing, tests_named, tests_reference}
 use Rattle.et_refs.proofs.May.{may_put}
 use Rattle.et_refs.proofs.casts.instance_of.Goals as goal
@@ -12,14 +12,14 @@ returns-in_err-name-clause-is g c =
     let e = moment c.args.program.now c.args.machine.now c.args.thread in
     let at = site_at c.args.place.now in
     let same : c.from_residual.result ≡ Err c.in_err-name.field-0.0 = search rules in
-    refusing e _ _ c.in_err-name.field-0.0 (exchanged e at) (c.in_err-name.ensures e (tests_named e at)) same
+    refusing e _ _ c.in_err-name.field-0.0 (exchange_outcome e at) (c.in_err-name.ensures e (tests_named e at)) same
 
 pub returns-in_err-reference-clause-is : goal.returns-in_err-reference-clause-is
 returns-in_err-reference-clause-is g c =
     let e = moment c.args.program.now c.args.machine.now c.args.thread in
     let at = site_at c.args.place.now in
     let same : c.from_residual-in_err-reference.result ≡ Err c.in_err-reference.field-0.0 = search rules in
-    refusing e _ _ c.in_err-reference.field-0.0 (exchanged e at) (c.in_ok-name.ensures e (tests_named e at) ∙ c.in_err-reference.ensures.is e (tests_reference e at c.in_ok-name.name.now)) same
+    refusing e _ _ c.in_err-reference.field-0.0 (exchange_outcome e at) (c.in_ok-name.ensures e (tests_named e at) ∙ c.in_err-reference.ensures.is e (tests_reference e at c.in_ok-name.name.now)) same
 
 pub returns-in_err-value-clause-is : goal.returns-in_err-value-clause-is
 returns-in_err-value-clause-is g c =
@@ -27,7 +27,7 @@ returns-in_err-value-clause-is g c =
     let at = site_at c.args.place.now in
     let below = drop 1 (top c.args.machine.now.guest c.args.thread).operands in
     let same : c.from_residual-in_err-value.result ≡ Err c.in_err-value.field-0.0 = search rules in
-    refusing e _ _ c.in_err-value.field-0.0 (exchanged e at)
+    refusing e _ _ c.in_err-value.field-0.0 (exchange_outcome e at)
     (c.in_ok-name.ensures e (tests_named e at) ∙ (c.in_ok-reference.ensures.is e (tests_reference e at c.in_ok-name.name.now) ∙ c.in_err-value.ensures.is at below)) same
 
 pub returns-clause-is : goal.returns-clause-is

@@ -1,10 +1,8 @@
-use Rattle.std.proofs.Common.{◌≡◌, ◌∙◌, ℕ, Bool, true, false, sym, ap, subst}
-use Rattle.et_heap.specs.Objects.{has_room}
+use Rattle.std.proofs.Common.{true}
 use Rattle.et_parts.specs.Places.{site_at}
-use Rattle.et_refs.specs.Accesses.{objects_in, slots_in}
 use Rattle.et_initialize.proofs.Needing.{quiet}
 use Rattle.et_initialize.proofs.Stepping.{has_frame_on}
-use Rattle.et_refs.proofs.Carrying.{can_access, accessed_answers, access_full, base_threads}
+use Rattle.et_refs.proofs.Carrying.{can_access, accessed_answers, base_threads}
 use Rattle.et_refs.proofs.Quiet.{quietly_initialized, room_asked}
 use Rattle.et_refs.proofs.class_events.quiet_event.Goals as goal
 

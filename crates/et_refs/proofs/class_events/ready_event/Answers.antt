@@ -1,9 +1,7 @@
-use Rattle.std.proofs.Common.{◌≡◌, ◌∙◌, ℕ, List, true, false, sym, ap, subst, append-nil}
-use Rattle.et_state.specs.State.{MachineState}
+use Rattle.std.proofs.Common.{◌∙◌, sym, append-nil}
 use Rattle.et_event.specs.Moments.{moment, begins}
 use Rattle.et_parts.specs.Places.{site_at}
-use Rattle.et_initialize.proofs.Stepping.{has_frame_on}
-use Rattle.et_refs.proofs.Carrying.{can_access, accessed_answers, access_full, base_threads}
+use Rattle.et_refs.proofs.Carrying.{can_access, accessed_answers}
 use Rattle.et_refs.proofs.Quiet.{begun_initialized}
 use Rattle.et_refs.proofs.class_events.ready_event.Goals as goal
 

@@ -5,7 +5,7 @@ use Rattle.et_state.specs.Words.{top}
 use Rattle.et_event.specs.Moments.{moment, begins, goes}
 use Rattle.et_event.specs.Checks.{entries_of}
 use Rattle.et_event.specs.Heap.{leaving}
-use Rattle.et_refs.specs.Changes.{exchanged}
+use Rattle.et_refs.specs.Changes.{exchange_outcome}
 use Rattle.et_refs.proofs.Chains.{refusing, loads_index, loads, loaded}
 use Rattle.et_refs.proofs.May.{may_put}
 use Rattle.et_refs.proofs.elements.read_element.Goals as goal
@@ -14,14 +14,14 @@ pub returns-in_err-index-clause-is : goal.returns-in_err-index-clause-is
 returns-in_err-index-clause-is g c =
     let e = moment c.args.program.now c.args.machine.now c.args.thread in
     let same : c.from_residual.result ≡ Err c.in_err-index.field-0.0 = search rules in
-    λ at. refusing e _ _ c.in_err-index.field-0.0 (exchanged e at) (c.in_err-index.ensures.is e (loads_index e at c.args.elements)) same
+    λ at. refusing e _ _ c.in_err-index.field-0.0 (exchange_outcome e at) (c.in_err-index.ensures.is e (loads_index e at c.args.elements)) same
 
 pub returns-in_err-reference-clause-is : goal.returns-in_err-reference-clause-is
 returns-in_err-reference-clause-is g c =
     let e = moment c.args.program.now c.args.machine.now c.args.thread in
     let i = c.in_ok-index.index in
     let same : c.from_residual-in_err-reference.result ≡ Err c.in_err-reference.field-0.0 = search rules in
-    λ at. refusing e _ _ c.in_err-reference.field-0.0 (exchanged e at) (c.in_ok-index.ensures.is e (loads_index e at c.args.elements) ∙ c.in_err-reference.ensures.is e (loads e at c.args.elements i)) same
+    λ at. refusing e _ _ c.in_err-reference.field-0.0 (exchange_outcome e at) (c.in_ok-index.ensures.is e (loads_index e at c.args.elements) ∙ c.in_err-reference.ensures.is e (loads e at c.args.elements i)) same
 
 pub returns-in_err-at-clause-is : goal.returns-in_err-at-clause-is
 returns-in_err-at-clause-is g c =
@@ -31,7 +31,7 @@ returns-in_err-at-clause-is g c =
     let number : to_z w32 (of_z w32 i) ≡ i = search rules in
     let below = drop 2 (top c.args.machine.now.guest c.args.thread).operands in
     let same : c.from_residual-in_err-at.result ≡ Err c.in_err-at.field-0.0 = search rules in
-    λ at. refusing e _ _ c.in_err-at.field-0.0 (exchanged e at)
+    λ at. refusing e _ _ c.in_err-at.field-0.0 (exchange_outcome e at)
     (c.in_ok-index.ensures.is e (loads_index e at c.args.elements) ∙ (c.in_ok-reference.ensures.is e (loads e at c.args.elements i)
     ∙ (ap (λ (n : ℤ). loads e at c.args.elements n r below) (sym number) ∙ c.in_err-at.ensures.is (loaded e at c.args.elements below)))) same
 

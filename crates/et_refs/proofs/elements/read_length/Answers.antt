@@ -5,7 +5,7 @@ use Rattle.et_event.specs.Moments.{moment, begins, goes}
 use Rattle.et_event.specs.Checks.{entries_of, ill_typed_unless}
 use Rattle.et_event.specs.Heap.{leaving, element_of}
 use Rattle.et_event.specs.Kinds.{is_array}
-use Rattle.et_refs.specs.Changes.{exchanged}
+use Rattle.et_refs.specs.Changes.{exchange_outcome}
 use Rattle.et_refs.proofs.Chains.{refusing, measures, measures_array, measured}
 use Rattle.et_refs.proofs.May.{may_put}
 use Rattle.et_refs.proofs.elements.read_length.Goals as goal
@@ -14,14 +14,14 @@ pub returns-in_err-reference-clause-is : goal.returns-in_err-reference-clause-is
 returns-in_err-reference-clause-is g c =
     let e = moment c.args.program.now c.args.machine.now c.args.thread in
     let same : c.from_residual.result ≡ Err c.in_err-reference.field-0.0 = search rules in
-    λ at. refusing e _ _ c.in_err-reference.field-0.0 (exchanged e at) (c.in_err-reference.ensures.is e (measures e at)) same
+    λ at. refusing e _ _ c.in_err-reference.field-0.0 (exchange_outcome e at) (c.in_err-reference.ensures.is e (measures e at)) same
 
 pub returns-in_err-object-clause-is : goal.returns-in_err-object-clause-is
 returns-in_err-object-clause-is g c =
     let e = moment c.args.program.now c.args.machine.now c.args.thread in
     let below = drop 1 (top c.args.machine.now.guest c.args.thread).operands in
     let same : c.from_residual-in_err-object.result ≡ Err c.in_err-object.field-0.0 = search rules in
-    λ at. refusing e _ _ c.in_err-object.field-0.0 (exchanged e at) (c.in_ok-reference.ensures.is e (measures e at) ∙ c.in_err-object.ensures.is e (measures_array e at below)) same
+    λ at. refusing e _ _ c.in_err-object.field-0.0 (exchange_outcome e at) (c.in_ok-reference.ensures.is e (measures e at) ∙ c.in_err-object.ensures.is e (measures_array e at below)) same
 
 pub returns-in_err-ill_typed_unless-clause-is : goal.returns-in_err-ill_typed_unless-clause-is
 returns-in_err-ill_typed_unless-clause-is g c =
@@ -30,7 +30,7 @@ returns-in_err-ill_typed_unless-clause-is g c =
     let below = drop 1 (top c.args.machine.now.guest c.args.thread).operands in
     let same : c.from_residual-in_err-ill_typed_unless.result ≡ Err c.in_err-ill_typed_unless.field-0.0 = search rules in
     let array : is_array (element_of e o) ≡ c.is_array.result = search rules in
-    λ at. refusing e _ _ c.in_err-ill_typed_unless.field-0.0 (exchanged e at)
+    λ at. refusing e _ _ c.in_err-ill_typed_unless.field-0.0 (exchange_outcome e at)
     (c.in_ok-reference.ensures.is e (measures e at) ∙ (c.in_ok-object.ensures.is e (measures_array e at below)
     ∙ (ap (λ (b : Bool). ill_typed_unless e b (measured e at below o)) array ∙ c.in_err-ill_typed_unless.ensures.is e (measured e at below o)))) same
 

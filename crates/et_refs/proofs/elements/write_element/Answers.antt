@@ -8,7 +8,7 @@ use Rattle.et_event.specs.declared.errors.GuestError.TheVariants.{ArrayStoreExce
 use Rattle.et_event.specs.Moments.{moment, begins, slot_written, goes}
 use Rattle.et_event.specs.Checks.{throws_unless}
 use Rattle.et_event.specs.Heap.{leaving, passes_element, element_of}
-use Rattle.et_refs.specs.Changes.{stored}
+use Rattle.et_refs.specs.Changes.{store_outcome}
 use Rattle.et_refs.proofs.Chains.{refusing, stores_value, stores_index, stores, stores_tested, kept}
 use Rattle.et_refs.proofs.Reading.{element_refers}
 use Rattle.et_refs.proofs.elements.write_element.Goals as goal
@@ -22,7 +22,7 @@ returns-in_err-taken-clause-is g c =
     let e = moment c.args.program.now c.args.machine.now c.args.thread in
     let kind = c.args.elements in
     let same : c.from_residual.result ≡ Err c.in_err-taken.field-0.0 = search rules in
-    λ at. refusing e _ _ c.in_err-taken.field-0.0 (stored e at) (c.in_err-taken.ensures.is e (stores_value e at kind)) same
+    λ at. refusing e _ _ c.in_err-taken.field-0.0 (store_outcome e at) (c.in_err-taken.ensures.is e (stores_value e at kind)) same
 
 pub returns-in_err-index-clause-is : goal.returns-in_err-index-clause-is
 returns-in_err-index-clause-is g c =
@@ -30,7 +30,7 @@ returns-in_err-index-clause-is g c =
     let kind = c.args.elements in
     let v = c.in_ok-taken.taken.value in
     let same : c.from_residual-in_err-index.result ≡ Err c.in_err-index.field-0.0 = search rules in
-    λ at. refusing e _ _ c.in_err-index.field-0.0 (stored e at) (c.in_ok-taken.ensures.is e (stores_value e at kind) ∙ c.in_err-index.ensures.is e (stores_index e at kind v)) same
+    λ at. refusing e _ _ c.in_err-index.field-0.0 (store_outcome e at) (c.in_ok-taken.ensures.is e (stores_value e at kind) ∙ c.in_err-index.ensures.is e (stores_index e at kind v)) same
 
 pub returns-in_err-reference-clause-is : goal.returns-in_err-reference-clause-is
 returns-in_err-reference-clause-is g c =
@@ -39,7 +39,7 @@ returns-in_err-reference-clause-is g c =
     let v = c.in_ok-taken.taken.value in
     let i = c.in_ok-index.index in
     let same : c.from_residual-in_err-reference.result ≡ Err c.in_err-reference.field-0.0 = search rules in
-    λ at. refusing e _ _ c.in_err-reference.field-0.0 (stored e at) (c.in_ok-taken.ensures.is e (stores_value e at kind) ∙ (c.in_ok-index.ensures.is e (stores_index e at kind v) ∙ c.in_err-reference.ensures.is e (stores e at kind v i))) same
+    λ at. refusing e _ _ c.in_err-reference.field-0.0 (store_outcome e at) (c.in_ok-taken.ensures.is e (stores_value e at kind) ∙ (c.in_ok-index.ensures.is e (stores_index e at kind v) ∙ c.in_err-reference.ensures.is e (stores e at kind v i))) same
 
 pub returns-in_err-at-clause-is : goal.returns-in_err-at-clause-is
 returns-in_err-at-clause-is g c =
@@ -51,7 +51,7 @@ returns-in_err-at-clause-is g c =
     let number : to_z w32 (of_z w32 i) ≡ i = search rules in
     let below = drop (c.in_ok-taken.taken.width + 1 + 1) (top c.args.machine.now.guest c.args.thread).operands in
     let same : c.from_residual-in_err-at.result ≡ Err c.in_err-at.field-0.0 = search rules in
-    λ at. refusing e _ _ c.in_err-at.field-0.0 (stored e at) (c.in_ok-taken.ensures.is e (stores_value e at kind) ∙ (c.in_ok-index.ensures.is e (stores_index e at kind v) ∙ (c.in_ok-reference.ensures.is e (stores e at kind v i) ∙ (ap (λ (n : ℤ). stores e at kind v n r below) (sym number) ∙ c.in_err-at.ensures.is (stores_tested e at kind v below))))) same
+    λ at. refusing e _ _ c.in_err-at.field-0.0 (store_outcome e at) (c.in_ok-taken.ensures.is e (stores_value e at kind) ∙ (c.in_ok-index.ensures.is e (stores_index e at kind v) ∙ (c.in_ok-reference.ensures.is e (stores e at kind v i) ∙ (ap (λ (n : ℤ). stores e at kind v n r below) (sym number) ∙ c.in_err-at.ensures.is (stores_tested e at kind v below))))) same
 
 pub returns-in_err-throws_unless-clause-is : goal.returns-in_err-throws_unless-clause-is
 returns-in_err-throws_unless-clause-is g c =
@@ -65,7 +65,7 @@ returns-in_err-throws_unless-clause-is g c =
     let x = c.in_ok-at.at in
     let eq : passes_element e v (element_of e x.object) ≡ c.passes_element-may_be.result = search rules in
     let same : c.from_residual-in_err-throws_unless.result ≡ Err c.in_err-throws_unless.field-0.0 = search rules in
-    λ at. refusing e _ _ c.in_err-throws_unless.field-0.0 (stored e at) (c.in_ok-taken.ensures.is e (stores_value e at kind) ∙ (c.in_ok-index.ensures.is e (stores_index e at kind v) ∙ (c.in_ok-reference.ensures.is e (stores e at kind v i) ∙ (ap (λ (n : ℤ). stores e at kind v n r below) (sym number) ∙ (c.in_ok-at.ensures.is (stores_tested e at kind v below) ∙ (ap (λ (b : Bool). throws_unless e (begins e) ArrayStoreException b (kept e at kind v below x.object x.slot)) eq ∙ c.in_err-throws_unless.ensures.is e (kept e at kind v below x.object x.slot))))))) same
+    λ at. refusing e _ _ c.in_err-throws_unless.field-0.0 (store_outcome e at) (c.in_ok-taken.ensures.is e (stores_value e at kind) ∙ (c.in_ok-index.ensures.is e (stores_index e at kind v) ∙ (c.in_ok-reference.ensures.is e (stores e at kind v i) ∙ (ap (λ (n : ℤ). stores e at kind v n r below) (sym number) ∙ (c.in_ok-at.ensures.is (stores_tested e at kind v below) ∙ (ap (λ (b : Bool). throws_unless e (begins e) ArrayStoreException b (kept e at kind v below x.object x.slot)) eq ∙ c.in_err-throws_unless.ensures.is e (kept e at kind v below x.object x.slot))))))) same
 
 pub returns-clause-is : goal.returns-clause-is
 returns-clause-is g c =

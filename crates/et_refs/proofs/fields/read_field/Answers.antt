@@ -6,7 +6,7 @@ use Rattle.et_event.specs.Checks.{entries_of}
 use Rattle.et_event.specs.Heap.{leaving}
 use Rattle.et_parts.specs.Members.{shown_member}
 use Rattle.et_parts.specs.Places.{site_at}
-use Rattle.et_refs.specs.Changes.{exchanged}
+use Rattle.et_refs.specs.Changes.{exchange_outcome}
 use Rattle.et_refs.proofs.Chains.{refusing, gets, gets_fitting, gets_slot, got}
 use Rattle.et_refs.proofs.fields.read_field.Goals as goal
 
@@ -16,7 +16,7 @@ returns-in_err-reference-clause-is g c =
     let at = site_at c.args.place.now in
     let m = shown_member c.in_ok-member.member in
     let same : c.from_residual-in_err-reference.result ≡ Err c.in_err-reference.field-0.0 = search rules in
-    refusing e _ _ c.in_err-reference.field-0.0 (exchanged e at) (c.in_ok-member.ensures.is e (gets e at) ∙ c.in_err-reference.ensures.is e (gets_fitting e at m)) same
+    refusing e _ _ c.in_err-reference.field-0.0 (exchange_outcome e at) (c.in_ok-member.ensures.is e (gets e at) ∙ c.in_err-reference.ensures.is e (gets_fitting e at m)) same
 
 pub returns-in_err-type_fits-clause-is : goal.returns-in_err-type_fits-clause-is
 returns-in_err-type_fits-clause-is g c =
@@ -26,7 +26,7 @@ returns-in_err-type_fits-clause-is g c =
     let r = c.in_ok-reference.reference in
     let below = drop 1 (top c.args.machine.now.guest c.args.thread).operands in
     let same : c.from_residual-in_err-type_fits.result ≡ Err c.in_err-type_fits.field-0.0 = search rules in
-    refusing e _ _ c.in_err-type_fits.field-0.0 (exchanged e at)
+    refusing e _ _ c.in_err-type_fits.field-0.0 (exchange_outcome e at)
     (c.in_ok-member.ensures.is e (gets e at) ∙ (c.in_ok-reference.ensures.is e (gets_fitting e at m) ∙ c.in_err-type_fits.ensures.is e (gets_slot e at m r below))) same
 
 pub returns-in_err-at-clause-is : goal.returns-in_err-at-clause-is
@@ -37,7 +37,7 @@ returns-in_err-at-clause-is g c =
     let r = c.in_ok-reference.reference in
     let below = drop 1 (top c.args.machine.now.guest c.args.thread).operands in
     let same : c.from_residual-in_err-at.result ≡ Err c.in_err-at.field-0.0 = search rules in
-    refusing e _ _ c.in_err-at.field-0.0 (exchanged e at)
+    refusing e _ _ c.in_err-at.field-0.0 (exchange_outcome e at)
     (c.in_ok-member.ensures.is e (gets e at) ∙ (c.in_ok-reference.ensures.is e (gets_fitting e at m) ∙ (c.in_ok-type_fits.ensures.is e (gets_slot e at m r below) ∙ c.in_err-at.ensures.is (got e at m below)))) same
 
 pub returns-clause-is : goal.returns-clause-is

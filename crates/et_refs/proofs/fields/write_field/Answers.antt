@@ -6,7 +6,7 @@ use Rattle.et_event.specs.Moments.{moment, begins, slot_written, goes}
 use Rattle.et_event.specs.Heap.{leaving}
 use Rattle.et_parts.specs.Members.{shown_member}
 use Rattle.et_parts.specs.Places.{site_at}
-use Rattle.et_refs.specs.Changes.{stored}
+use Rattle.et_refs.specs.Changes.{store_outcome}
 use Rattle.et_refs.proofs.Chains.{refusing, puts, puts_value, puts_slot, put}
 use Rattle.et_refs.proofs.Reading.{kept_refers}
 use Rattle.et_refs.proofs.fields.write_field.Goals as goal
@@ -17,7 +17,7 @@ returns-in_err-taken-clause-is g c =
     let at = site_at c.args.place.now in
     let m = shown_member c.in_ok-member.member in
     let same : c.from_residual-in_err-taken.result ≡ Err c.in_err-taken.field-0.0 = search rules in
-    refusing e _ _ c.in_err-taken.field-0.0 (stored e at) (c.in_ok-member.ensures.is e (puts e at) ∙ c.in_err-taken.ensures.is e (puts_value e at m)) same
+    refusing e _ _ c.in_err-taken.field-0.0 (store_outcome e at) (c.in_ok-member.ensures.is e (puts e at) ∙ c.in_err-taken.ensures.is e (puts_value e at m)) same
 
 pub returns-in_err-reference-clause-is : goal.returns-in_err-reference-clause-is
 returns-in_err-reference-clause-is g c =
@@ -26,7 +26,7 @@ returns-in_err-reference-clause-is g c =
     let m = shown_member c.in_ok-member.member in
     let v = c.in_ok-taken.taken.value in
     let same : c.from_residual-in_err-reference.result ≡ Err c.in_err-reference.field-0.0 = search rules in
-    refusing e _ _ c.in_err-reference.field-0.0 (stored e at)
+    refusing e _ _ c.in_err-reference.field-0.0 (store_outcome e at)
     (c.in_ok-member.ensures.is e (puts e at) ∙ (c.in_ok-taken.ensures.is e (puts_value e at m) ∙ c.in_err-reference.ensures.is e (puts_slot e at m v))) same
 
 pub returns-in_err-at-clause-is : goal.returns-in_err-at-clause-is
@@ -37,7 +37,7 @@ returns-in_err-at-clause-is g c =
     let v = c.in_ok-taken.taken.value in
     let below = drop (c.in_ok-taken.taken.width + 1) (top c.args.machine.now.guest c.args.thread).operands in
     let same : c.from_residual-in_err-at.result ≡ Err c.in_err-at.field-0.0 = search rules in
-    refusing e _ _ c.in_err-at.field-0.0 (stored e at)
+    refusing e _ _ c.in_err-at.field-0.0 (store_outcome e at)
     (c.in_ok-member.ensures.is e (puts e at) ∙ (c.in_ok-taken.ensures.is e (puts_value e at m) ∙ (c.in_ok-reference.ensures.is e (puts_slot e at m v) ∙ c.in_err-at.ensures.is (put e at m v below)))) same
 
 pub returns-clause-is : goal.returns-clause-is

@@ -1,10 +1,8 @@
-use Rattle.std.proofs.Common.{rules, ◌≡◌, ◌+◌, ◌≤◌, Err, Option, Bool, sym, ◌∙◌, ap, subst, arith}
-use Rattle.std.specs.Prelude.{ℕ, nat_le, length, slice_index_or}
-use Rattle.et_pool.specs.Descriptors.{width_of}
+use Rattle.std.proofs.Common.{rules, ◌≡◌, ◌+◌, Err, Option, sym, ◌∙◌, ap}
+use Rattle.std.specs.Prelude.{ℕ, nat_le, length}
 use Rattle.et_state.specs.State.{kept_of}
 use Rattle.et_state.specs.Words.{top}
 use Rattle.et_program.specs.declared.info.FieldInfo.{FieldInfo}
-use Rattle.et_program.specs.Entries.{field_at}
 use Rattle.et_event.specs.declared.rows.Operand.{Operand}
 use Rattle.et_event.specs.Checks.{ill_typed_unless}
 use Rattle.et_event.specs.Kinds.{kind_of}
@@ -13,7 +11,7 @@ use Rattle.et_parts.specs.Places.{site_at}
 use Rattle.et_event.specs.Moments.{moment}
 use Rattle.et_refs.proofs.Chains.{refusing}
 use Rattle.et_refs.specs.declared.accesses.Access.TheVariants as access
-use Rattle.et_refs.specs.Accesses.{wanted}
+use Rattle.et_refs.specs.Accesses.{wanted_outcome}
 use Rattle.et_refs.proofs.ClassChains.{gets, gets_field, got}
 use Rattle.et_refs.proofs.ClassFitting.{may_read}
 use Rattle.et_refs.proofs.static_fields.read_field.Goals as goal
@@ -26,7 +24,7 @@ returns-in_err-field-clause-is c =
     let ops = (top c.args.machine.now.guest c.args.thread).operands in
     let room = (top c.args.machine.now.guest c.args.thread).room in
     let same : c.from_residual-in_err-field.result ≡ Err c.in_err-field.field-0.0 = search rules in
-    refusing e _ _ c.in_err-field.field-0.0 (wanted e at)
+    refusing e _ _ c.in_err-field.field-0.0 (wanted_outcome e at)
     (c.in_ok-member.ensures.is e (gets e at) ∙ (ap (λ (w : ℕ). ill_typed_unless e (nat_le (w + length ops) room) (gets_field e at m)) (sym c.width_of.ensures.value)
     ∙ (c.in_ok-width_fits.ensures.is e (gets_field e at m) ∙ c.in_err-field.ensures.is (kept_of c.args.machine.now) c.args.thread (got e at m)))) same
 
@@ -39,8 +37,8 @@ returns-clause-is c =
     let room = (top c.args.machine.now.guest c.args.thread).room in
     c.in_ok-member.ensures.is e (gets e at) ∙ (ap (λ (w : ℕ). ill_typed_unless e (nat_le (w + length ops) room) (gets_field e at m)) (sym c.width_of.ensures.value)
     ∙ (c.in_ok-width_fits.ensures.is e (gets_field e at m) ∙ (c.in_ok-field.ensures.is (kept_of c.args.machine.now) c.args.thread (got e at m)
-    ∙ (ap (λ (x : FieldInfo). wanted e at (record { class = x.class; access = access.Read (record { slot = x.slot; kind = kind_of m.descriptor }) })) (sym c.field-info.ensures.value)
-    ∙ ap (λ (k : Option Operand). wanted e at (record { class = c.field-info.result.now.class; access = access.Read (record { slot = c.field-info.result.now.slot; kind = k }) })) (sym c.kind_of.ensures)))))
+    ∙ (ap (λ (x : FieldInfo). wanted_outcome e at (record { class = x.class; access = access.Read (record { slot = x.slot; kind = kind_of m.descriptor }) })) (sym c.field-info.ensures.value)
+    ∙ ap (λ (k : Option Operand). wanted_outcome e at (record { class = c.field-info.result.now.class; access = access.Read (record { slot = c.field-info.result.now.slot; kind = k }) })) (sym c.kind_of.ensures)))))
 
 pub returns-clause-may : goal.returns-clause-may
 returns-clause-may c =

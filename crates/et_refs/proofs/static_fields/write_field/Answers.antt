@@ -9,7 +9,7 @@ use Rattle.et_parts.specs.Places.{site_at}
 use Rattle.et_event.specs.Moments.{moment}
 use Rattle.et_refs.proofs.Chains.{refusing}
 use Rattle.et_refs.specs.declared.accesses.Access.TheVariants as access
-use Rattle.et_refs.specs.Accesses.{wanted}
+use Rattle.et_refs.specs.Accesses.{wanted_outcome}
 use Rattle.et_refs.proofs.ClassChains.{puts, puts_field, put}
 use Rattle.et_refs.proofs.ClassFitting.{may_write}
 use Rattle.et_refs.proofs.static_fields.write_field.Goals as goal
@@ -20,7 +20,7 @@ returns-in_err-taken-clause-is c =
     let at = site_at c.args.place.now in
     let m = shown_member c.in_ok-member.member in
     let same : c.from_residual-in_err-taken.result ≡ Err c.in_err-taken.field-0.0 = search rules in
-    refusing e _ _ c.in_err-taken.field-0.0 (wanted e at) (c.in_ok-member.ensures.is e (puts e at) ∙ c.in_err-taken.ensures.is e (puts_field e at m)) same
+    refusing e _ _ c.in_err-taken.field-0.0 (wanted_outcome e at) (c.in_ok-member.ensures.is e (puts e at) ∙ c.in_err-taken.ensures.is e (puts_field e at m)) same
 
 pub returns-in_err-field-clause-is : goal.returns-in_err-field-clause-is
 returns-in_err-field-clause-is c =
@@ -30,7 +30,7 @@ returns-in_err-field-clause-is c =
     let v = c.in_ok-taken.taken.value in
     let below = drop c.in_ok-taken.taken.width (top c.args.machine.now.guest c.args.thread).operands in
     let same : c.from_residual-in_err-field.result ≡ Err c.in_err-field.field-0.0 = search rules in
-    refusing e _ _ c.in_err-field.field-0.0 (wanted e at)
+    refusing e _ _ c.in_err-field.field-0.0 (wanted_outcome e at)
     (c.in_ok-member.ensures.is e (puts e at) ∙ (c.in_ok-taken.ensures.is e (puts_field e at m) ∙ c.in_err-field.ensures.is (kept_of c.args.machine.now) c.args.thread (put e at m v below))) same
 
 pub returns-clause-is : goal.returns-clause-is
@@ -42,8 +42,8 @@ returns-clause-is c =
     let width = c.in_ok-taken.taken.width in
     let below = drop width (top c.args.machine.now.guest c.args.thread).operands in
     c.in_ok-member.ensures.is e (puts e at) ∙ (c.in_ok-taken.ensures.is e (puts_field e at m) ∙ (c.in_ok-field.ensures.is (kept_of c.args.machine.now) c.args.thread (put e at m v below)
-    ∙ (ap (λ (x : FieldInfo). wanted e at (record { class = x.class; access = access.Write (record { slot = x.slot; taken = width; value = narrowed m.descriptor v }) })) (sym c.field-info.ensures.value)
-    ∙ ap (λ (w : Value). wanted e at (record { class = c.field-info.result.now.class; access = access.Write (record { slot = c.field-info.result.now.slot; taken = width; value = w }) })) (sym c.narrowed.ensures))))
+    ∙ (ap (λ (x : FieldInfo). wanted_outcome e at (record { class = x.class; access = access.Write (record { slot = x.slot; taken = width; value = narrowed m.descriptor v }) })) (sym c.field-info.ensures.value)
+    ∙ ap (λ (w : Value). wanted_outcome e at (record { class = c.field-info.result.now.class; access = access.Write (record { slot = c.field-info.result.now.slot; taken = width; value = w }) })) (sym c.narrowed.ensures))))
 
 pub returns-clause-may : goal.returns-clause-may
 returns-clause-may c =
