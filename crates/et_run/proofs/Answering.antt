@@ -20,7 +20,8 @@ use Rattle.et_loop.specs.Kept.{IsStepTo}
 use Rattle.et_loop.specs.Stamping.{StepsWhereDone}
 use Rattle.et_state.specs.Roots.{fresh_of}
 use Rattle.et_state.specs.Moves.{Led}
-use Rattle.et_run.specs.Telling.{names_of, HasElementClasses, IsTold}
+use Rattle.et_run.specs.Telling.{HasElementClasses, IsTold}
+use Rattle.et_history.specs.Settings.{names_of}
 
 led_steps : (s x : Kept) (m : MachineState) → Led s x m → IsStepTo (graph_of s) (graph_of (kept_of m)) m.lost
 led_steps s x m led = subst (λ (k : Kept). IsStepTo (graph_of s) (graph_of k) m.lost) (sym led.kept) (fresh_of s x, led.event.legal)

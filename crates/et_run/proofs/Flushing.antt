@@ -8,8 +8,7 @@ use Rattle.et_heap.specs.Remaining.{remaining}
 use Rattle.et_state.specs.State.{Kept, MachineState, kept_of}
 use Rattle.et_program.specs.Entries.{Linked}
 use Rattle.et_event.specs.Sound.{IsSoundFor}
-use Rattle.et_run.specs.Guests.{IsSoundRun, flush_visits_of}
-use Rattle.et_run.specs.Histories.{flushed_of}
+use Rattle.et_history.specs.Settings.{IsSoundRun, flush_visits_of, flushed_of}
 
 is_now : (b : Bool) → IsTrue b → b ≡ true
 is_now b t = search (rules, t)

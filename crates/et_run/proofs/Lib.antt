@@ -1,6 +1,5 @@
 mod Answering
 mod Counting
-pub mod Unended
 mod Flushing
 mod Starting
 mod Words

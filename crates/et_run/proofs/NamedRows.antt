@@ -1,7 +1,7 @@
 -- What the rows tell that enter and leave no frame.
 use Rattle.std.proofs.Common.{◌≡◌, ℕ, zero, suc, ◌+◌, ◌<◌, List, [], ◌∷◌, length, Option, Some, None, refl, arith}
 use Rattle.std.specs.Int.{w32, w64}
-use Rattle.std.specs.Prelude.{ℤ, pos, int_le, not, nat_le, nat_lt, unwrap_or, All, IfSome}
+use Rattle.std.specs.Prelude.{ℤ, pos, int_le, not, nat_le, nat_lt, unwrap_or, IfSome}
 use Rattle.std.specs.List.{list_all}
 use Rattle.std.proofs.lemmas.List.Elements.{All-get_or}
 use Rattle.et_base.specs.declared.value.Value.{Value}

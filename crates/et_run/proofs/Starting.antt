@@ -19,7 +19,7 @@ use Rattle.et_state.specs.Naming.{IsNamed}
 use Rattle.et_state.specs.Start.{argument_class, start}
 use Rattle.et_event.specs.Start.{start_records}
 use Rattle.et_loop.specs.Kept.{IsStepTo}
-use Rattle.et_run.specs.Telling.{names_of}
+use Rattle.et_history.specs.Settings.{names_of}
 
 no_refs : (n : ℕ) → refs_of (replicate n Unset) ≡ []
 no_refs zero = refl

@@ -24,7 +24,7 @@ use Rattle.et_event.specs.Moments.{Moment, Doing, begins, with_guest, with_threa
 use Rattle.et_event.specs.Monitors.{Lock, OfObject, OfClass, entered, left, entered_some, left_some}
 use Rattle.et_event.specs.Sites.{LoadedConstant, AnInt, ALong, AString, constant_at, pool_of}
 use Rattle.et_event.specs.Strings.{interned, string_object}
-use Rattle.et_run.specs.Telling.{names_of}
+use Rattle.et_history.specs.Settings.{names_of}
 
 -- so far the clock is one on, and what the records name is of the program
 pub record Tells (e : Moment) (d : Doing) : Type 0 where

@@ -1,22 +1,12 @@
 -- What an event tells.
-use Rattle.std.specs.Prelude.{◌≡◌, ℕ, ◌+◌, ◌<◌, List, All, length}
-use Rattle.et_program.specs.Entries.{Linked, class_at, method_at}
+use Rattle.std.specs.Prelude.{◌≡◌, ℕ, ◌+◌, ◌<◌, All, length}
+use Rattle.et_program.specs.Entries.{Linked, class_at}
 use Rattle.et_program.specs.declared.info.Element.TheVariants.{Class}
 use Rattle.et_state.specs.State.{Kept}
-use Rattle.et_state.specs.Naming.{Names, IsNamed}
+use Rattle.et_state.specs.Naming.{IsNamed}
 use Rattle.et_state.specs.Outcome.{Outcome}
 use Rattle.et_state.specs.Outcome as outcome
-
--- the names of the classes and methods of a program
-abbrev pub names_of : Linked → Names
-names_of p = record {
-  class_count = length p.classes;
-  method_count = length p.methods;
-  class_name = λ c. (class_at p c).info.name;
-  method_class = λ m. (method_at p m).class;
-  method_name = λ m. (method_at p m).name;
-  method_descriptor = λ m. (method_at p m).descriptor;
-}
+use Rattle.et_history.specs.Settings.{names_of}
 
 -- arrays have elements of classes of the program
 abbrev pub HasElementClasses : Linked → Type 0

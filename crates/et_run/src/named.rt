@@ -1,6 +1,6 @@
 //! The names of a linked program.
 ghost use Rattle.std.specs.Prelude.{◌≡◌};
-ghost use Rattle.et_run.specs.Telling.{names_of};
+ghost use Rattle.et_history.specs.Settings.{names_of};
 
 use et_base::{ClassId, MethodId};
 use et_loop::Program;

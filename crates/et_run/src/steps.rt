@@ -2,12 +2,10 @@
 ghost use Rattle.std.specs.Prelude.{◌≡◌, ℕ, Bool, ◌+◌, ◌-◌, ◌<◌, ◌≤◌, ◌^◌, ◌↔◌, All, Contains, IfOk, IsTrue, OnOk, length, slice_index};
 ghost use Rattle.et_event.specs.Event.{event};
 ghost use Rattle.et_graph.specs.Graph.{IsReached};
-ghost use Rattle.et_run.specs.Guests.{IsSoundRun, flush_visits_of};
-ghost use Rattle.et_run.specs.Histories.{unended_of, flushed_of};
+ghost use Rattle.et_history.specs.Settings.{IsSoundRun, flush_visits_of, unended_of, flushed_of, names_of};
 ghost use Rattle.et_state.specs.Roots.{graph_of};
 ghost use Rattle.et_state.specs.State.{kept_of};
 ghost use Rattle.et_loop.specs.Stamping.{StepsWhereDone};
-ghost use Rattle.et_run.specs.Telling.{names_of};
 ghost use Rattle.et_graph.specs.Cleared.{IsCleared};
 ghost use Rattle.et_graph.specs.Listed.{AreListed};
 ghost use Rattle.et_state.specs.Answers.{Answers, TicksWhereDone};

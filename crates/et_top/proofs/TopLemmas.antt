@@ -13,8 +13,7 @@ use Rattle.et_loop.specs.Traced.{WritesTrace, WritesPrefix}
 use Rattle.et_program.specs.Entries.{Linked}
 use Rattle.et_state.specs.Start.{start}
 use Rattle.et_event.specs.Start.{start_records}
-use Rattle.et_run.specs.Histories.{setting}
-use Rattle.et_run.specs.Guests.{flush_visits_of}
+use Rattle.et_history.specs.Settings.{setting, flush_visits_of}
 use Rattle.et_loop.specs.Visits.{allowed_visits}
 use Rattle.et_top.specs.Faults.{Fault, Absent, TooLong, BadClass, BadText, BadTrace, LinkFault, status_of_fault}
 use Rattle.et_io.specs.Files.{Held}

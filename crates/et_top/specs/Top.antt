@@ -20,8 +20,7 @@ use Rattle.et_top.specs.Command as words
 use Rattle.et_program.specs.Entries.{Linked}
 use Rattle.et_state.specs.Start.{start}
 use Rattle.et_event.specs.Start.{start_records}
-use Rattle.et_run.specs.Histories.{setting}
-use Rattle.et_run.specs.Guests.{flush_visits_of}
+use Rattle.et_history.specs.Settings.{setting, flush_visits_of}
 use Rattle.et_loop.specs.Visits.{allowed_visits}
 use Rattle.et_top.specs.Faults.{Fault, status_of_fault}
 use Rattle.et_top.specs.Loaded.{bytes_of, most_of_class, most_of_trace, IsListingOf, IsTraceOf, IsProgramOf}

@@ -7,8 +7,7 @@ use Rattle.et_event.specs.Start.{start_records}
 use Rattle.et_loop.specs.Visits.{allowed_visits}
 use Rattle.et_loop.specs.Traced.{WritesTrace, WritesPrefix}
 use Rattle.et_loop.proofs.RunLemmas.{front_nothing}
-use Rattle.et_run.specs.Guests.{flush_visits_of}
-use Rattle.et_run.specs.Histories.{setting}
+use Rattle.et_history.specs.Settings.{flush_visits_of, setting}
 use Rattle.et_run.proofs.Running.{program_runs, program_starts}
 use Rattle.et_run.proofs.program_run.run.Goals as goal
 

@@ -9,9 +9,7 @@ use Rattle.et_state.specs.Naming.{IsNamed}
 use Rattle.et_loop.specs.Kept.{IsStepTo}
 use Rattle.et_loop.specs.Visits.{allowed_visits}
 use Rattle.et_loop.specs.Traced.{WritesTrace, WritesPrefix}
-use Rattle.et_run.specs.Guests.{flush_visits_of}
-use Rattle.et_run.specs.Histories.{setting}
-use Rattle.et_run.specs.Telling.{names_of}
+use Rattle.et_history.specs.Settings.{flush_visits_of, setting, names_of}
 use Rattle.et_run.proofs.Starting.{first_step, records_named}
 use Rattle.et_run.proofs.program_run.run_from.Goals as goal
 

@@ -1,9 +1,8 @@
-use Rattle.std.proofs.Common.{◌≡◌}
 use Rattle.et_state.specs.State.{Kept, kept_of}
 use Rattle.et_event.specs.Event.{event}
 use Rattle.et_run.specs.Telling.{IsTold}
 use Rattle.et_run.proofs.Answering.{on_ok, if_ok, answers, steps, ticks, named, element_classes}
-use Rattle.et_run.proofs.Unended.{unended_thread}
+use Rattle.et_history.proofs.Unended.{unended_thread}
 use Rattle.et_run.proofs.steps.machine_event.Goals as goal
 
 pub turn_event-requires-clause-thread : goal.turn_event-requires-clause-thread

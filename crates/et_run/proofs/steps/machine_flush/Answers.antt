@@ -1,10 +1,6 @@
-use Rattle.std.proofs.Common.{◌≡◌, ℕ, Bool, true, ◌+◌, ◌≤◌}
-use Rattle.std.specs.Prelude.{◌↔◌, IsTrue}
-use Rattle.et_graph.specs.Graph.{IsReached}
-use Rattle.et_heap.specs.Objects.{IsHeld}
-use Rattle.et_heap.specs.Remaining.{remaining}
+use Rattle.std.proofs.Common.{ℕ, Bool}
 use Rattle.et_state.specs.Roots.{graph_of}
-use Rattle.et_state.specs.State.{Kept, MachineState, kept_of}
+use Rattle.et_state.specs.State.{MachineState, kept_of}
 use Rattle.et_run.proofs.Flushing.{times_flushed, test_is, any_ok, on_ok_map, kept_flushed, clock_flushed, run_flushed}
 use Rattle.et_run.proofs.steps.machine_flush.Goals as goal
 

@@ -1,4 +1,4 @@
-use Rattle.std.proofs.Common.{◌≡◌, ◌≤◌, length, arith}
+use Rattle.std.proofs.Common.{◌≤◌, length, arith}
 use Rattle.et_state.specs.Threads.{unended_of}
 use Rattle.et_run.proofs.Counting.{length-unended, found_is, found_some}
 use Rattle.et_run.proofs.threads.nth_unended.Goals as goal

@@ -1,8 +1,8 @@
-use Rattle.std.proofs.Common.{◌≡◌, subst}
+use Rattle.std.proofs.Common.{subst}
 use Rattle.std.specs.Prelude.{All, OnOk}
 use Rattle.et_program.specs.Entries.{Linked}
 use Rattle.et_state.specs.Naming.{IsNamed}
-use Rattle.et_run.specs.Telling.{names_of}
+use Rattle.et_history.specs.Settings.{names_of}
 use Rattle.et_run.proofs.guest.ProgramGuestGuest.event.Goals as goal
 
 pub returns-clause-named : goal.returns-clause-named

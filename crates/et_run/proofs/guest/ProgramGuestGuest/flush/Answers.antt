@@ -1,10 +1,9 @@
-use Rattle.std.proofs.Common.{◌≡◌, ℕ, Bool, ◌+◌, ◌≤◌, subst}
+use Rattle.std.proofs.Common.{◌≡◌, ℕ, ◌+◌, ◌≤◌, subst}
 use Rattle.std.specs.Prelude.{◌↔◌, IsTrue, OnOk}
 use Rattle.et_graph.specs.Graph.{IsReached}
 use Rattle.et_state.specs.Roots.{graph_of}
 use Rattle.et_state.specs.State.{MachineState, kept_of}
-use Rattle.et_run.specs.Guests.{flush_visits_of}
-use Rattle.et_run.specs.Histories.{flushed_of}
+use Rattle.et_history.specs.Settings.{flush_visits_of, flushed_of}
 use Rattle.et_run.proofs.guest.ProgramGuestGuest.flush.Goals as goal
 
 pub returns-clause-state : goal.returns-clause-state

@@ -1,4 +1,0 @@
-//! No two threads hold one monitor, over every history.
-#![tactic(auto)]
-
-pub mod laws;

@@ -1,0 +1,6 @@
+pub mod Settings
+pub mod Whole
+pub mod Holding
+pub mod Changing
+pub mod Histories
+pub mod Same

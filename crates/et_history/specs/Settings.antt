@@ -1,0 +1,50 @@
+-- THE HISTORY OF A PROGRAM OVER WHAT A MACHINE KEEPS: what its events lead to, which threads take turns, what is reached, and
+-- what a flush leaves.
+use Rattle.std.specs.Prelude.{ℕ, ◌+◌, ◌*◌, Bool, List, length}
+use Rattle.et_heap.specs.Objects.{held_count}
+use Rattle.et_heap.specs.Remaining.{remaining}
+use Rattle.et_state.specs.Threads as threads
+use Rattle.et_state.specs.Roots.{graph_of}
+use Rattle.et_state.specs.State.{Kept}
+use Rattle.et_state.specs.Naming.{Names}
+use Rattle.et_state.specs.History.{Setting}
+use Rattle.et_state.specs.declared.options.Options.{Options}
+use Rattle.et_program.specs.Entries.{Linked, class_at, method_at}
+use Rattle.et_program.specs.Tables.{IsTabled}
+use Rattle.et_flush.specs.Flushes.{cleared_from}
+use Rattle.et_event.specs.Event.{event}
+use Rattle.et_event.specs.Runnable.{IsRunnable}
+use Rattle.et_event.specs.Sound.{IsSoundFor}
+use Rattle.et_loop.specs.Options.{setting_of}
+
+-- the names of the classes and methods of a program
+abbrev pub names_of : Linked → Names
+names_of p = record {
+  class_count = length p.classes;
+  method_count = length p.methods;
+  class_name = λ c. (class_at p c).info.name;
+  method_class = λ m. (method_at p m).class;
+  method_name = λ m. (method_at p m).name;
+  method_descriptor = λ m. (method_at p m).descriptor;
+}
+
+-- the threads that have not ended, in order of start
+abbrev pub unended_of : Kept → List ℕ
+unended_of s = threads.unended_of s.guest.threads
+
+-- a flush takes out what isn't here, and clears what refers to it weakly
+abbrev pub flushed_of : (ℕ → Bool) → Kept → Kept
+flushed_of here s = record { heap = remaining here 0 s.heap; guest = s.guest }
+
+abbrev pub setting : Linked → Options → Setting Kept
+setting p options = setting_of (event p) unended_of graph_of flushed_of (names_of p) options
+
+-- the program may be run, and the state is one of its sound ones
+pub record IsSoundRun (p : Linked) (s : Kept) : Type 0 where
+  pub tabled : IsTabled p
+  pub runnable : IsRunnable p
+  pub state : IsSoundFor p s
+
+-- how many visits of objects a flush makes at most: two for each that is held, and one for each weak reference that it clears
+abbrev pub flush_visits_of : (ℕ → Bool) → Kept → ℕ
+flush_visits_of here s = 2 * held_count s.heap + cleared_from here 0 s.heap

@@ -1,0 +1,126 @@
+//! The histories of a program. Each law is a function with an empty body: what it promises is its contract.
+
+ghost use Rattle.std.specs.Prelude.{◌≡◌, ◌↔◌, ℕ, ◌+◌, ◌<◌, ◌≤◌, Bool, List, Option, Some, Contains};
+ghost use Rattle.et_base.specs.declared.value.End.{End};
+ghost use Rattle.et_graph.specs.Graph.{Graph, Decides};
+ghost use Rattle.et_heap.specs.Objects.{ObjectState, IsHeld, at};
+ghost use Rattle.et_program.specs.Entries.{Linked};
+ghost use Rattle.et_state.specs.State.{Kept};
+ghost use Rattle.et_state.specs.Words.{IsUnended};
+ghost use Rattle.et_state.specs.declared.options.Options.{Options};
+ghost use Rattle.et_state.specs.History.{IsLast};
+ghost use Rattle.et_state.specs.Options.{AreOptions};
+ghost use Rattle.et_state.specs.Roots.{graph};
+ghost use Rattle.et_state.specs.Start.{start};
+ghost use Rattle.et_event.specs.Event.{event};
+ghost use Rattle.et_event.specs.Monitors.{Lock};
+ghost use Rattle.et_event.specs.Runnable.{IsRunnable};
+ghost use Rattle.et_event.specs.Sound.{IsSoundFor};
+ghost use Rattle.et_event.specs.Start.{start_records};
+ghost use Rattle.et_loop.specs.declared.options.Ran.{Ran};
+ghost use Rattle.et_loop.specs.Traced.{WritesTrace, WritesPrefix};
+ghost use Rattle.et_loop.specs.Visits.{allowed_visits};
+ghost use Rattle.et_sound.specs.WellFormed.{IsThere};
+ghost use Rattle.et_history.specs.Changing.{KeepsMonitors};
+ghost use Rattle.et_history.specs.Histories.{picked, state_at, GoesOn, whole_picked, whole_at, WholeGoesOn, times_held};
+ghost use Rattle.et_history.specs.Holding.{monitor_in};
+ghost use Rattle.et_history.specs.Same.{IsHere, IsReportedAs, TellsTheSame};
+ghost use Rattle.et_history.specs.Settings.{IsSoundRun, flush_visits_of, setting};
+ghost use Rattle.et_history.specs.Whole.{whole_setting, whole_start, whole_visits_of};
+
+/// Each event of a thread that has not ended enters and leaves the monitors that its instruction and its frames say, and
+/// keeps every other; what it enters was open to its thread. After it, what is referred to is held.
+pub fn events_keep_monitors()
+    ensures { (p : Linked) (s : Kept) (t : ℕ) →
+        IsSoundFor p s → IsUnended s.guest t → IsRunnable p →
+        KeepsMonitors (record { program = p; before = s; thread = t }) (event p s t) }
+{}
+
+/// In every state of every history of a program that may be run, over every list of picks, no two threads hold one monitor:
+/// neither that of an object, also of one that was reported dead, nor that of a class. And what has a monitor and was not
+/// reported has it owned by the thread that holds it, with the entries of that thread less its exits; it has no owner
+/// exactly where nobody holds it.
+pub fn monitors_exclude()
+    ensures one { (reached : Graph → ℕ → Bool) (p : Linked) (options : Options)
+        (pick : ℕ → ℕ) (e : ℕ) (lock : Lock) (t u : ℕ) → Decides reached → IsSoundRun p (start p) →
+        AreOptions options → ((k : ℕ) → k < e → GoesOn reached p options pick k) →
+        0 < times_held reached p options pick t lock e →
+        0 < times_held reached p options pick u lock e → t ≡ u }
+    ensures owner { (reached : Graph → ℕ → Bool) (p : Linked) (options : Options)
+        (pick : ℕ → ℕ) (e : ℕ) (lock : Lock) (t : ℕ) → Decides reached → IsSoundRun p (start p) →
+        AreOptions options → ((k : ℕ) → k < e → GoesOn reached p options pick k) →
+        IsThere (state_at reached p options pick e) lock →
+        ((monitor_in (state_at reached p options pick e) lock).owner ≡ Some t)
+        ↔ (0 < times_held reached p options pick t lock e) }
+    ensures count { (reached : Graph → ℕ → Bool) (p : Linked) (options : Options)
+        (pick : ℕ → ℕ) (e : ℕ) (lock : Lock) (t : ℕ) → Decides reached → IsSoundRun p (start p) →
+        AreOptions options → ((k : ℕ) → k < e → GoesOn reached p options pick k) →
+        IsThere (state_at reached p options pick e) lock →
+        (monitor_in (state_at reached p options pick e) lock).owner ≡ Some t →
+        (monitor_in (state_at reached p options pick e) lock).count
+        ≡ times_held reached p options pick t lock e }
+{}
+
+/// In the history in which nothing is freed, of a program that may be run, over every list of picks: an object that is in a
+/// state is in every later one, and one that was reported stays as it was then, but that what it refers to weakly may have
+/// become null. Each number from 1 to how many were made is of an object in the state, and those of the reported ones, and no
+/// others, are gone.
+pub fn nothing_is_freed()
+    ensures here { (reached : Graph → ℕ → Bool) (p : Linked) (options : Options)
+        (pick : ℕ → ℕ) (e n o : ℕ) → Decides reached → IsSoundRun p (start p) →
+        AreOptions options → ((k : ℕ) → k < e + n → WholeGoesOn reached p options pick k) →
+        IsHere (whole_at reached p options pick e) o →
+        IsHere (whole_at reached p options pick (e + n)) o }
+    ensures reported { (reached : Graph → ℕ → Bool) (p : Linked) (options : Options)
+        (pick : ℕ → ℕ) (e n o : ℕ) (x : ObjectState) → Decides reached → IsSoundRun p (start p) →
+        AreOptions options → ((k : ℕ) → k < e + n → WholeGoesOn reached p options pick k) →
+        at (whole_at reached p options pick e).reported o ≡ Some x →
+        IsReportedAs (whole_at reached p options pick (e + n)) o x }
+    ensures all { (reached : Graph → ℕ → Bool) (p : Linked) (options : Options)
+        (pick : ℕ → ℕ) (e o : ℕ) → Decides reached → IsSoundRun p (start p) →
+        AreOptions options → ((k : ℕ) → k < e → WholeGoesOn reached p options pick k) →
+        0 < o → o ≤ (graph (whole_at reached p options pick e)).made →
+        IsHere (whole_at reached p options pick e) o }
+    ensures gone { (reached : Graph → ℕ → Bool) (p : Linked) (options : Options)
+        (pick : ℕ → ℕ) (e o : ℕ) → Decides reached → IsSoundRun p (start p) →
+        AreOptions options → ((k : ℕ) → k < e → WholeGoesOn reached p options pick k) →
+        Contains (graph (whole_at reached p options pick e)).gone o
+        ↔ IsHeld (whole_at reached p options pick e).reported o }
+{}
+
+/// What a machine keeps is told by that history: over every list of picks, at each event it is the part of the state that is
+/// not reported, and the same objects are reached, with the same last events, deaths and lines. Both histories end at the
+/// same event, in the same way.
+pub fn histories_tell_the_same()
+    ensures same { (reached : Graph → ℕ → Bool) (p : Linked) (options : Options)
+        (pick : ℕ → ℕ) (e : ℕ) → Decides reached → IsSoundRun p (start p) → AreOptions options →
+        ((k : ℕ) → k < e → GoesOn reached p options pick k) →
+        TellsTheSame reached p options pick e }
+    ensures ends { (reached : Graph → ℕ → Bool) (p : Linked) (options : Options)
+        (pick : ℕ → ℕ) (e : ℕ) (end : End) → Decides reached → IsSoundRun p (start p) →
+        AreOptions options →
+        IsLast reached (picked p options pick) (start p) (start_records p) e end
+        ↔ IsLast reached (whole_picked p options pick) (whole_start p) (start_records p) e end }
+{}
+
+/// So a trace of one history is a trace of the other, and a prefix of it is too. A run may make as many visits of objects.
+pub fn traces_are_the_same()
+    ensures trace { (reached : Graph → ℕ → Bool) (p : Linked) (options : Options) (ran : Ran)
+        (before after : Option (List ℕ)) → Decides reached → IsSoundRun p (start p) →
+        AreOptions options →
+        WritesTrace reached (setting p options) (start p) (start_records p) ran before after
+        ↔ WritesTrace reached (whole_setting p options) (whole_start p) (start_records p)
+        ran before after }
+    ensures prefix { (reached : Graph → ℕ → Bool) (p : Linked) (options : Options)
+        (before after : Option (List ℕ)) → Decides reached → IsSoundRun p (start p) →
+        AreOptions options →
+        WritesPrefix reached (setting p options) (start p) (start_records p) before after
+        ↔ WritesPrefix reached (whole_setting p options) (whole_start p) (start_records p)
+        before after }
+    ensures visits { (reached : Graph → ℕ → Bool) (p : Linked) (options : Options)
+        (e : ℕ) (end : End) → Decides reached → IsSoundRun p (start p) → AreOptions options →
+        IsLast reached (setting p options) (start p) (start_records p) e end →
+        allowed_visits reached (setting p options) flush_visits_of (start p) (start_records p) e
+        ≡ allowed_visits reached (whole_setting p options) whole_visits_of (whole_start p)
+        (start_records p) e }
+{}
