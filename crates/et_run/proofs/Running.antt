@@ -1,17 +1,31 @@
--- What a linked program has, so that it may be run.
-use Rattle.std.proofs.Common.{◌<◌, List, length, map, sym, subst}
-use Rattle.std.specs.Prelude.{All}
+-- What a linked program has, so that it may be run, and what its run wrote.
+use Rattle.std.proofs.Common.{◌≡◌, ℕ, ◌+◌, ◌<◌, ◌≤◌, ◌↔◌, Bool, List, Option, Result, Ok, Err, length, map, sym, subst}
+use Rattle.std.specs.Prelude.{All, IfOk, OnErr}
 use Rattle.std.proofs.lemmas.List.{length-map}
+use Rattle.et_base.specs.declared.value.End.{End}
 use Rattle.et_class.specs.Layout.{ClassOf}
+use Rattle.et_graph.specs.Graph.{Graph}
+use Rattle.et_io.specs.declared.putting.RunFault.{RunFault}
 use Rattle.et_program.specs.Entries.{Linked}
 use Rattle.et_program.specs.Loaded.{LoadedClass, loaded_class}
 use Rattle.et_program.specs.LinkFaults.{IsLinkable}
 use Rattle.et_program.specs.Linking.{IsOfFile, IsLinked}
 use Rattle.et_program.specs.ProgramOf.{IsProgramOf}
+use Rattle.et_program.specs.Tables.{IsTabled}
 use Rattle.et_event.specs.Sound.{IsSoundFor}
 use Rattle.et_state.specs.Start.{start}
 use Rattle.et_linked.specs.ClassNames.{HasClassName}
 use Rattle.et_event.specs.Runnable.{IsRunnable}
+use Rattle.et_event.specs.Start.{start_records}
+use Rattle.et_history.specs.Settings.{IsSoundRun, flush_visits_of, setting}
+use Rattle.et_history.specs.Whole.{whole_setting, whole_start, whole_visits_of}
+use Rattle.et_loop.specs.declared.options.Ran.{Ran}
+use Rattle.et_loop.specs.Traced.{WritesTrace, WritesPrefix}
+use Rattle.et_loop.specs.Visits.{allowed_visits}
+use Rattle.et_state.specs.History.{IsLast}
+use Rattle.et_state.specs.State.{Kept}
+use Rattle.et_state.specs.declared.options.Options.{Options}
+use Rattle.et_state.specs.declared.records.Record.{Record}
 use Rattle.et_linked.specs.Programs.{KeepRules}
 
 -- a linked program may be run
@@ -26,3 +40,37 @@ pub program_starts : (p : Linked) → ((classes : List ClassOf) → All IsOfFile
     → ((files : List LoadedClass) (p : Linked) → All HasClassName files → IsProgramOf files p → IsSoundFor p (start p))
     → IsLinked p → IsSoundFor p (start p)
 program_starts p keep sound is = sound (map loaded_class is.classes) p (keep is.classes is.of_files).names is.program
+
+-- .. and a run from there is sound
+pub sound_run : (p : Linked) → ((classes : List ClassOf) → All IsOfFile classes → KeepRules (map loaded_class classes))
+    → ((files : List LoadedClass) (p : Linked) → 0 < length files → KeepRules files → IsLinkable files → IsProgramOf files p → IsRunnable p)
+    → ((files : List LoadedClass) (p : Linked) → All HasClassName files → IsProgramOf files p → IsSoundFor p (start p))
+    → IsTabled p → IsLinked p → IsSoundRun p (start p)
+sound_run p keep run first tabled is = record { tabled = tabled; runnable = program_runs p keep run is; state = program_starts p keep first is }
+
+-- WHAT A RUN WROTE: told by the history over what the machine keeps, and so by the one in which nothing is freed
+module _ (reached : Graph → ℕ → Bool) (p : Linked) (options : Options) (s : Kept) (made : List Record) (first : s ≡ start p) (records : made ≡ start_records p) where
+  from_first : (P : Kept → List Record → Type 0) → P s made → P (start p) (start_records p)
+  from_first P h = subst (λ (rs : List Record). P (start p) rs) records (subst (λ (x : Kept). P x made) first h)
+
+  pub whole_trace : (before after : Option (List ℕ)) (r : Result Ran RunFault)
+      → ((ran : Ran) → WritesTrace reached (setting p options) (start p) (start_records p) ran before after ↔ WritesTrace reached (whole_setting p options) (whole_start p) (start_records p) ran before after)
+      → IfOk r (λ ran. WritesTrace reached (setting p options) s made ran before after) → IfOk r (λ ran. WritesTrace reached (whole_setting p options) (whole_start p) (start_records p) ran before after)
+  whole_trace before after (Ok ran) same h = (same ran).0 (from_first (λ x rs. WritesTrace reached (setting p options) x rs ran before after) h)
+  whole_trace before after (Err fault) same h = h
+
+  pub whole_prefix : (before after : Option (List ℕ)) (r : Result Ran RunFault)
+      → (WritesPrefix reached (setting p options) (start p) (start_records p) before after ↔ WritesPrefix reached (whole_setting p options) (whole_start p) (start_records p) before after)
+      → OnErr r (WritesPrefix reached (setting p options) s made before after) → OnErr r (WritesPrefix reached (whole_setting p options) (whole_start p) (start_records p) before after)
+  whole_prefix before after (Ok ran) same h = h
+  whole_prefix before after (Err fault) same h = same.0 (from_first (λ x rs. WritesPrefix reached (setting p options) x rs before after) h)
+
+  pub whole_visits : (before after : Option (List ℕ)) (old new : ℕ) (r : Result Ran RunFault)
+      → ((e : ℕ) (end : End) → IsLast reached (setting p options) (start p) (start_records p) e end
+      → allowed_visits reached (setting p options) flush_visits_of (start p) (start_records p) e ≡ allowed_visits reached (whole_setting p options) whole_visits_of (whole_start p) (start_records p) e)
+      → IfOk r (λ ran. WritesTrace reached (setting p options) s made ran before after) → IfOk r (λ ran. new ≤ old + allowed_visits reached (setting p options) flush_visits_of s made ran.event)
+      → IfOk r (λ ran. new ≤ old + allowed_visits reached (whole_setting p options) whole_visits_of (whole_start p) (start_records p) ran.event)
+  whole_visits before after old new (Ok ran) same w v =
+      let wrote = from_first (λ x rs. WritesTrace reached (setting p options) x rs ran before after) w in
+      subst (λ n. new ≤ old + n) (same ran.event ran.end wrote.ends) (from_first (λ x rs. new ≤ old + allowed_visits reached (setting p options) flush_visits_of x rs ran.event) v)
+  whole_visits before after old new (Err fault) same w v = v

@@ -5,6 +5,7 @@ ghost use Rattle.et_state.specs.Start.{start};
 ghost use Rattle.et_event.specs.Start.{start_records};
 ghost use Rattle.et_graph.specs.Graph.{Graph, Decides};
 ghost use Rattle.et_history.specs.Settings.{flush_visits_of, setting};
+ghost use Rattle.et_history.specs.Whole.{whole_setting, whole_start, whole_visits_of};
 ghost use Rattle.et_io.specs.Faults.{Rose};
 ghost use Rattle.et_state.specs.State.{kept_of};
 ghost use Rattle.et_loop.specs.Visits.{allowed_visits};
@@ -17,6 +18,7 @@ use crate::first::start_lines;
 use crate::guest::ProgramGuest;
 use crate::named::NamedProgram;
 use et_base::{NoMemory, Steps};
+use et_history::laws::traces_are_the_same;
 use et_io::{RunFault, Sink};
 use et_linked::run_laws::{files_keep_rules, programs_may_run};
 use et_linked::start_laws::first_state_is_sound;
@@ -36,7 +38,8 @@ fn first(alloc: Global, program: &Program) -> Result<(Machine, Lines), NoMemory>
     Ok((machine, made))
 }
 
-/// The run of a machine that is in the first state of the program, with these records.
+/// The run of a machine that is in the first state of the program, with these records. Its history is over what the machine
+/// keeps.
 fn run_from<O: Sink, L: Ledger>(
     alloc: Global,
     program: &Program,
@@ -69,9 +72,10 @@ fn run_from<O: Sink, L: Ledger>(
     run_guest(alloc, &code, options, &mut guest, made, sink, visits)
 }
 
-/// Runs a linked program from its first state, and writes the trace of its history to the sink. The machine keeps a stamp for
-/// each object, and searches nothing but at a flush: the visits of objects are at most those of the history's flushes, eight
-/// for each event, and one for each object that an event makes.
+/// Runs a linked program from its first state, and writes the trace of its history to the sink. That history frees nothing,
+/// but the machine keeps only what was not reported. It has a stamp for each object, and searches nothing but at a flush: the
+/// visits of objects are at most those of the history's flushes, eight for each event, and one for each object that an event
+/// makes.
 ///
 /// `Write` comes only where the sink's count of faults rose. After `Write` and after `NoMemory` the sink took a prefix of the
 /// trace.
@@ -83,15 +87,18 @@ pub fn run<O: Sink, L: Ledger>(
     visits: &mut Steps<L>,
 ) -> Result<Ran, RunFault>
     requires options { AreOptions options.now }
-    ensures trace { (reached : Graph → ℕ → Bool) →
-        Decides reached → IfOk result (λ ran. WritesTrace reached (setting program.now options.now)
-        (start program.now) (start_records program.now) ran (O.taken sink.old) (O.taken sink.new)) }
-    ensures prefix { (reached : Graph → ℕ → Bool) →
-        Decides reached → OnErr result (WritesPrefix reached (setting program.now options.now)
-        (start program.now) (start_records program.now) (O.taken sink.old) (O.taken sink.new)) }
-    ensures visits { (reached : Graph → ℕ → Bool) → Decides reached → IfOk result (λ ran. visits.new
-        ≤ visits.old + allowed_visits reached (setting program.now options.now) flush_visits_of
-        (start program.now) (start_records program.now) ran.event) }
+    ensures trace { (reached : Graph → ℕ → Bool) → Decides reached → IfOk result
+        (λ ran. WritesTrace reached (whole_setting program.now options.now)
+        (whole_start program.now) (start_records program.now)
+        ran (O.taken sink.old) (O.taken sink.new)) }
+    ensures prefix { (reached : Graph → ℕ → Bool) → Decides reached → OnErr result
+        (WritesPrefix reached (whole_setting program.now options.now)
+        (whole_start program.now) (start_records program.now)
+        (O.taken sink.old) (O.taken sink.new)) }
+    ensures visits { (reached : Graph → ℕ → Bool) → Decides reached → IfOk result
+        (λ ran. visits.new ≤ visits.old + allowed_visits reached
+        (whole_setting program.now options.now) whole_visits_of
+        (whole_start program.now) (start_records program.now) ran.event) }
     ensures write { IsErrOf result RunFault.Write → Rose (O.faults sink.old) (O.faults sink.new) }
     ensures never_falls { O.faults sink.old ≤ O.faults sink.new }
 {
@@ -101,6 +108,7 @@ pub fn run<O: Sink, L: Ledger>(
     files_keep_rules();
     programs_may_run();
     first_state_is_sound();
+    traces_are_the_same();
     match first(alloc, program) {
         Ok((machine, made)) => run_from(alloc, program, options, machine, &made, sink, visits),
         Err(_) => Err(RunFault::NoMemory),

@@ -11,9 +11,8 @@ use Rattle.et_state.specs.declared.options.Options.{Options}
 use Rattle.et_loop.specs.declared.options.Ran.{Ran}
 use Rattle.et_loop.specs.Traced.{WritesTrace, WritesPrefix}
 use Rattle.et_program.specs.Entries.{Linked}
-use Rattle.et_state.specs.Start.{start}
 use Rattle.et_event.specs.Start.{start_records}
-use Rattle.et_history.specs.Settings.{setting, flush_visits_of}
+use Rattle.et_history.specs.Whole.{whole_setting, whole_start, whole_visits_of}
 use Rattle.et_loop.specs.Visits.{allowed_visits}
 use Rattle.et_top.specs.Faults.{Fault, Absent, TooLong, BadClass, BadText, BadTrace, LinkFault, status_of_fault}
 use Rattle.et_io.specs.Files.{Held}
@@ -39,12 +38,12 @@ front_nothing (Some xs) piece = (piece, record { prefix = []; parts = refl; take
 module _ (reached : Graph → ℕ → Bool) (before after : Option (List ℕ)) (old new : ℕ) (read written : Type 0) (program : Linked) (options : Options) where
   -- the counter allows for the visits of a history that ended so
   abbrev Counts : Ran → Type 0
-  Counts ran = new ≤ old + allowed_visits reached (setting program options) flush_visits_of (start program) (start_records program) ran.event
+  Counts ran = new ≤ old + allowed_visits reached (whole_setting program options) whole_visits_of (whole_start program) (start_records program) ran.event
 
-  history : (ran : Ran) (end : End) (answer : Status) → ran.end ≡ end → answer ≡ status_of_end end → WritesTrace reached (setting program options) (start program) (start_records program) ran before after → Counts ran → WritesHistory reached before after old new program options (status_of_end end)
+  history : (ran : Ran) (end : End) (answer : Status) → ran.end ≡ end → answer ≡ status_of_end end → WritesTrace reached (whole_setting program options) (whole_start program) (start_records program) ran before after → Counts ran → WritesHistory reached before after old new program options (status_of_end end)
   history ran end answer e is w v = record { ran = ran; ended = ap status_of_end (sym e); wrote = w; visits = v }
 
-  pub history_gives : (ran : Ran) (answer : Status) → answer ≡ status_of_end ran.end → WritesTrace reached (setting program options) (start program) (start_records program) ran before after → Counts ran → Gives reached before after old new read written (Traces program options) answer
+  pub history_gives : (ran : Ran) (answer : Status) → answer ≡ status_of_end ran.end → WritesTrace reached (whole_setting program options) (whole_start program) (start_records program) ran before after → Counts ran → Gives reached before after old new read written (Traces program options) answer
   history_gives ran answer is w v = subst (Gives reached before after old new read written (Traces program options)) (sym is) (by ran.end refl)
     where
       by : (end : End) → ran.end ≡ end → Gives reached before after old new read written (Traces program options) (status_of_end end)
@@ -54,7 +53,7 @@ module _ (reached : Graph → ℕ → Bool) (before after : Option (List ℕ)) (
       by ends.ObjectLimit e = history ran ends.ObjectLimit status.ObjectLimit e refl w v
 
   -- a history that was not run to its end left a prefix of its trace
-  pub front_gives : (fault : RunFault) (answer : Status) → answer ≡ status_of (refusal_of fault) → WritesPrefix reached (setting program options) (start program) (start_records program) before after → ((fault ≡ write.Write) → written) → Gives reached before after old new read written (Traces program options) answer
+  pub front_gives : (fault : RunFault) (answer : Status) → answer ≡ status_of (refusal_of fault) → WritesPrefix reached (whole_setting program options) (whole_start program) (start_records program) before after → ((fault ≡ write.Write) → written) → Gives reached before after old new read written (Traces program options) answer
   front_gives write.Write answer is front rose = subst (Gives reached before after old new read written (Traces program options)) (sym is) (rose refl, front)
   front_gives write.NoMemory answer is front rose = subst (Gives reached before after old new read written (Traces program options)) (sym is) front
 

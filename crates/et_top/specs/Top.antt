@@ -18,9 +18,8 @@ use Rattle.et_replay.specs.declared.model.Policy.{Policy}
 use Rattle.et_top.specs.declared.command.Models.{Models}
 use Rattle.et_top.specs.Command as words
 use Rattle.et_program.specs.Entries.{Linked}
-use Rattle.et_state.specs.Start.{start}
 use Rattle.et_event.specs.Start.{start_records}
-use Rattle.et_history.specs.Settings.{setting, flush_visits_of}
+use Rattle.et_history.specs.Whole.{whole_setting, whole_start, whole_visits_of}
 use Rattle.et_loop.specs.Visits.{allowed_visits}
 use Rattle.et_top.specs.Faults.{Fault, status_of_fault}
 use Rattle.et_top.specs.Loaded.{bytes_of, most_of_class, most_of_trace, IsListingOf, IsTraceOf, IsProgramOf}
@@ -82,8 +81,8 @@ module _ (reached : Graph → ℕ → Bool) (before after : Option (List ℕ)) (
   pub record WritesHistory (program : Linked) (options : Options) (answer : Status) : Type 0 where
     pub ran : Ran
     pub ended : answer ≡ status_of_end ran.end
-    pub wrote : WritesTrace reached (setting program options) (start program) (start_records program) ran before after
-    pub visits : new ≤ old + allowed_visits reached (setting program options) flush_visits_of (start program) (start_records program) ran.event
+    pub wrote : WritesTrace reached (whole_setting program options) (whole_start program) (start_records program) ran before after
+    pub visits : new ≤ old + allowed_visits reached (whole_setting program options) whole_visits_of (whole_start program) (start_records program) ran.event
 
   -- THE ANSWER where the files and out tell what they hold and took. `read` and `written` say that the count of faults
   -- of the files and of out rose in this call. Each answer has what is defined; but a fault of reading or writing comes
@@ -102,6 +101,6 @@ module _ (reached : Graph → ℕ → Bool) (before after : Option (List ℕ)) (
   Gives read written (Traces program options) status.IllTyped = WritesHistory program options status.IllTyped
   Gives read written (Traces program options) status.ObjectLimit = WritesHistory program options status.ObjectLimit
   Gives read written (Traces program options) status.ReadFault = read × (after ≡ before)
-  Gives read written (Traces program options) status.WriteFault = written × WritesPrefix reached (setting program options) (start program) (start_records program) before after
-  Gives read written (Traces program options) status.NoMemory = WritesPrefix reached (setting program options) (start program) (start_records program) before after
+  Gives read written (Traces program options) status.WriteFault = written × WritesPrefix reached (whole_setting program options) (whole_start program) (start_records program) before after
+  Gives read written (Traces program options) status.NoMemory = WritesPrefix reached (whole_setting program options) (whole_start program) (start_records program) before after
   Gives read written (Traces program options) answer = ⊥
