@@ -3,3 +3,10 @@ mod Tabled
 mod Changing
 mod Slots
 mod Selected
+mod Walking
+mod Passing
+mod Fitting
+mod Planning
+mod Choosing
+pub mod ByCode
+pub mod Deferring

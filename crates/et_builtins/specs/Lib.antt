@@ -1,2 +1,5 @@
 pub mod Arguments
 pub mod Kinds
+pub mod Types
+pub mod Plans
+pub mod Deferred

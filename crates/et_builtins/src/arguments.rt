@@ -1,17 +1,26 @@
-//! The arguments of a call, read where they stand among the operands.
-ghost use Rattle.std.specs.Prelude.{◌≡◌, ◌+◌, ◌<◌, ◌≤◌, ◌^◌, IfSome, Contains, length, slice_index_or};
+//! The arguments of a call, read where they stand among the operands, and whether the call may be done with them (JVMS 6.5,
+//! the invokes).
+ghost use Rattle.std.specs.Prelude.{◌≡◌, ◌+◌, ◌<◌, ◌≤◌, ◌^◌, nat_le, if◌then◌else◌, Some, None, IfSome, Contains, length, drop, slice_index_or};
 ghost use Rattle.et_base.specs.declared.value.Value.TheVariants.{Unset};
+ghost use Rattle.et_pool.specs.Descriptors.{method_type};
 ghost use Rattle.et_heap.specs.Objects.{IsHeld};
 ghost use Rattle.et_state.specs.ThreadRoots.{frame_roots};
 ghost use Rattle.et_state.specs.State.{kept_of};
 ghost use Rattle.et_state.specs.Sound.{IsSound};
 ghost use Rattle.et_state.specs.Words.{HasFrame, top};
+ghost use Rattle.et_program.specs.Entries.{Linked};
 ghost use Rattle.et_parts.specs.Tops.{IsIn};
 ghost use Rattle.et_event.specs.Frames.{first_reference};
-ghost use Rattle.et_builtins.specs.Arguments.{arguments_in};
+ghost use Rattle.et_event.specs.Kinds.{returned_width as width_returned};
+ghost use Rattle.et_event.specs.Moments.{moment};
+ghost use Rattle.et_builtins.specs.Arguments.{arguments_in, are_of_types, are_passed, entries_in as entries_among, fitting, is_passing};
+ghost use Rattle.et_builtins.specs.Types.{returned_in};
 
+use crate::types::{kind_of, returned_type, returned_width};
 use et_base::{ObjectId, ThreadId, Value};
+use et_event::Operand;
 use et_parts::operand_at;
+use et_pool::descriptor::{behind_type, method_shape};
 use et_state::Machine;
 
 /// A frame has no more operands than it has room for, and that is for fewer than 65,536.
@@ -54,5 +63,155 @@ pub fn receiver(machine: &Machine, thread: ThreadId, count: u32) -> Option<Objec
     match argument_at(machine, thread, count, 0) {
         Value::Ref(o) => Some(o),
         _ => None,
+    }
+}
+
+/// How many entries the value of a kind takes that begins with this entry and the next; `None` where it is of another kind.
+fn entries_in(kind: Option<Operand>, first: Value, next: Value) -> Option<u32>
+    ensures { result ≡ entries_among kind first next }
+{
+    match (kind, first, next) {
+        (Some(Operand::Int), Value::Int(_), _) => Some(1),
+        (Some(Operand::Long), Value::Long(_), Value::LongHigh) => Some(2),
+        (Some(Operand::Reference), Value::Null | Value::Ref(_), _) => Some(1),
+        _ => None,
+    }
+}
+
+/// How many entries the argument of a kind takes that begins so far behind the first.
+fn entries_at(
+    machine: &Machine,
+    thread: ThreadId,
+    kind: Option<Operand>,
+    count: u32,
+    at: u32,
+) -> Option<u32>
+    requires frame { HasFrame machine.now.guest thread }
+    requires operands { count ≤ length (top machine.now.guest thread).operands }
+    requires small { at < 2 ^ 16 }
+    ensures { result ≡ entries_among kind
+        (slice_index_or (arguments_in (top machine.now.guest thread) count) at Unset)
+        (slice_index_or (arguments_in (top machine.now.guest thread) count) (at + 1) Unset) }
+{
+    let first = argument_at(machine, thread, count, at);
+    let next = argument_at(machine, thread, count, at + 1);
+    entries_in(kind, first, next)
+}
+
+/// Whether the arguments from one on are values of the types up to `)`, and no others.
+fn are_of(machine: &Machine, thread: ThreadId, types: &[u8], count: u32, from: u32) -> bool
+    requires frame { HasFrame machine.now.guest thread }
+    requires operands { count ≤ length (top machine.now.guest thread).operands }
+    requires from { from ≤ count }
+    requires small { count < 2 ^ 16 }
+    ensures { result
+        ≡ are_of_types types.now (drop from (arguments_in (top machine.now.guest thread) count)) }
+{
+    let mut rest = types;
+    let mut at = from;
+    'types: while !rest.is_empty() {
+        if rest[0] == b')' {
+            return at == count;
+        }
+        let Some(after) = behind_type(rest) else {
+            return false;
+        };
+        let Some(entries) = entries_at(machine, thread, kind_of(rest), count, at) else {
+            return false;
+        };
+        at += entries;
+        rest = after;
+    }
+    false
+}
+
+/// Whether the arguments are values of the types up to `)`, behind a receiver where the method isn't static, and no others.
+#[tactic(auto, using(crate::proofs::Passing::received, crate::proofs::Passing::receiver_deep))]
+fn are_arguments(
+    machine: &Machine,
+    thread: ThreadId,
+    is_static: bool,
+    types: &[u8],
+    count: u32,
+) -> bool
+    requires frame { HasFrame machine.now.guest thread }
+    requires operands { count ≤ length (top machine.now.guest thread).operands }
+    requires small { count < 2 ^ 16 }
+    ensures { result
+        ≡ are_passed is_static types.now (arguments_in (top machine.now.guest thread) count) }
+{
+    if is_static {
+        return are_of(machine, thread, types, count, 0);
+    }
+    let Some(entries) = entries_at(machine, thread, Some(Operand::Reference), count, 0) else {
+        return false;
+    };
+    are_of(machine, thread, types, count, entries)
+}
+
+/// How many entries a call takes whose parameters take so many, if there are as many operands.
+fn count_within(entries: usize, is_static: bool, depth: u32) -> Option<u32>
+    requires { depth < 2 ^ 16 }
+    ensures { result ≡ (if nat_le (entries + (if is_static then 0 else 1)) depth then Some
+        (entries + (if is_static then 0 else 1)) else None) }
+{
+    if entries > depth as usize {
+        return None;
+    }
+    let count = if is_static {
+        entries as u32
+    } else {
+        entries as u32 + 1
+    };
+    if count <= depth { Some(count) } else { None }
+}
+
+/// Whether a call may be done with the topmost entries as arguments, by the descriptor of its method: they are of its types,
+/// and what is returned will fit.
+fn passes(
+    machine: &Machine,
+    thread: ThreadId,
+    is_static: bool,
+    descriptor: &[u8],
+    count: u32,
+) -> bool
+    requires frame { HasFrame machine.now.guest thread }
+    requires operands { count ≤ length (top machine.now.guest thread).operands }
+    requires small { count < 2 ^ 16 }
+    ensures { result ≡ is_passing (top machine.now.guest thread) is_static descriptor.now count }
+{
+    let [_, types @ ..] = descriptor else {
+        return false;
+    };
+    let left = machine.depth(thread) - count;
+    let room = machine.room(thread) as u32;
+    let fits = left + returned_width(returned_type(descriptor)) <= room;
+    are_arguments(machine, thread, is_static, types, count) && fits
+}
+
+/// How many entries a call takes by the descriptor of its method, if it may be done: the arguments are there, and what is
+/// returned will fit.
+pub(crate) fn fitting_call(
+    machine: &Machine,
+    thread: ThreadId,
+    is_static: bool,
+    descriptor: &[u8],
+) -> Option<u32>
+    requires frame { HasFrame machine.now.guest thread }
+    ensures value { (p : Linked) →
+        result ≡ fitting (moment p machine.now thread) is_static (method_type descriptor.now) }
+    ensures operands { IfSome result
+        (λ count. count ≤ length (top machine.now.guest thread).operands) }
+    ensures room { IfSome result
+        (λ count. length (drop count (top machine.now.guest thread).operands)
+        + width_returned (returned_in descriptor.now) ≤ (top machine.now.guest thread).room) }
+{
+    let shape = method_shape(descriptor)?;
+    operands_are_few(machine, thread);
+    let count = count_within(shape.entries, is_static, machine.depth(thread))?;
+    if passes(machine, thread, is_static, descriptor, count) {
+        Some(count)
+    } else {
+        None
     }
 }

@@ -1,11 +1,15 @@
-//! The arguments of a call, and the built-in methods without code, which take one event and no frame.
+//! The arguments of a call, what an invoke comes to, and the built-in methods without code, which take one event and no frame.
 #![tactic(auto)]
 
 mod arguments;
 mod changes;
 mod events;
 mod kinds;
+mod plans;
 mod rows;
+mod types;
 
 pub use arguments::{argument_at, operands_are_few, receiver};
 pub use events::built_in_method_event;
+pub use plans::{Call, CallPlan, deferred_method, invoke_plan};
+pub use types::{kind_of, returned_type};

@@ -7,24 +7,21 @@ use Rattle.std.proofs.lemmas.Slice.Eq.{bytes_eq-Decides}
 use Rattle.et_base.specs.declared.value.Value.{Value}
 use Rattle.et_class.specs.Names.{has}
 use Rattle.et_class.specs.declared.flags.TheConstants.{ABSTRACT, NATIVE}
-use Rattle.et_code.specs.Bodies.{Body}
 use Rattle.et_state.specs.declared.class_state.ClassState.{ClassState}
 use Rattle.et_state.specs.declared.class_state.ClassState.TheVariants.{Untouched}
-use Rattle.et_state.specs.State.{Kept}
 use Rattle.et_program.specs.Entries.{Linked, method_at, is_static}
 use Rattle.et_program.specs.declared.info.MethodInfo.{MethodInfo}
-use Rattle.et_state.specs.Outcome.{Outcome}
 use Rattle.et_event.specs.declared.errors.GuestError.{GuestError}
 use Rattle.et_event.specs.declared.errors.GuestError.TheVariants.{AbstractMethodError, UnsatisfiedLinkError}
 use Rattle.et_event.specs.declared.rows.BuiltIn.{BuiltIn}
 use Rattle.et_event.specs.BuiltIns.{built_in_event, built_in_of, built_ins, done_by}
-use Rattle.et_event.specs.Calls.{arguments_of, enters_method, taking}
+use Rattle.et_event.specs.Calls.{arguments_of, enters_method}
 use Rattle.et_event.specs.Checks.{throws_unless}
-use Rattle.et_event.specs.Frames.{by_code, enters_code, first_reference}
+use Rattle.et_event.specs.Frames.{first_reference}
 use Rattle.et_event.specs.Initialization.{is_quiet, is_ready, is_ready_state, prepared, quietly_done, quietly_if_untouched, state_of}
 use Rattle.et_event.specs.Moments.{Moment, Doing, frame_of, throws}
 use Rattle.et_event.specs.Sites.{Site}
-use Rattle.et_builtins.proofs.Standing.{length_arguments}
+use Rattle.et_builtins.proofs.ByCode.{codeless_called}
 use Rattle.et_event.specs.Programs.{HasMethods, is_initializing}
 
 -- A METHOD NAMED <clinit> is no built-in one
@@ -58,20 +55,7 @@ codeless e at d vs m false methods lt static none native =
     let name : (method_at e.program m).name ≡ codes "<clinit>" = (bytes_eq-Decides (method_at e.program m).name (codes "<clinit>")).0 (named_so e.program m (is_initializing e.program m) methods lt static none native refl) in
     ap (λ (b : Option BuiltIn). done_by e at d vs (first_reference vs) b) (none_built (method_at e.program m) name) ∙ abstract_done e at d vs (first_reference vs)
 
--- BY THE CODE
-
-abbrev called : Moment → Site → Doing → ℕ → ℕ → ℕ → Option Body → Outcome Kept
-called e at d count taken m code = by_code e d (taking e taken) m (arguments_of e count) (built_in_event e at d (arguments_of e count) (method_at e.program m)) code
-
-pub code_called : (e : Moment) (at : Site) (d : Doing) (count m : ℕ) (body : Body) → count ≤ length (frame_of e).operands → (method_at e.program m).code ≡ Some body
-    → enters_method e at d (arguments_of e count) m ≡ enters_code e d (taking e count) m (arguments_of e count) body
-code_called e at d count m body le code =
-    ap (λ (n : ℕ). called e at d count n m (method_at e.program m).code) (length_arguments (frame_of e).operands count le) ∙ ap (λ (c : Option Body). called e at d count count m c) code
-
-pub codeless_called : (e : Moment) (at : Site) (d : Doing) (count m : ℕ) → count ≤ length (frame_of e).operands → (method_at e.program m).code ≡ None
-    → enters_method e at d (arguments_of e count) m ≡ throws_unless e d UnsatisfiedLinkError (not (has (method_at e.program m).flags NATIVE)) (built_in_event e at d (arguments_of e count) (method_at e.program m))
-codeless_called e at d count m le code =
-    ap (λ (n : ℕ). called e at d count n m (method_at e.program m).code) (length_arguments (frame_of e).operands count le) ∙ ap (λ (c : Option Body). called e at d count count m c) code
+-- CALLED BY A PLAN
 
 pub none_called : (e : Moment) (at : Site) (d : Doing) (count m : ℕ) → count ≤ length (frame_of e).operands → HasMethods e.program → m < length e.program.methods → is_static e.program m ≡ true → (method_at e.program m).code ≡ None
     → enters_method e at d (arguments_of e count) m ≡ throws e (error_by (has (method_at e.program m).flags NATIVE)) d

@@ -17,7 +17,7 @@ use Rattle.et_event.specs.Checks.{throws_unless}
 use Rattle.et_event.specs.Moments.{Moment, moment, begins, throws}
 use Rattle.et_event.specs.Sites.{Site}
 use Rattle.et_calls.specs.Entering.{codeless_call}
-use Rattle.et_calls.proofs.CalledByCode.{codeless_called}
+use Rattle.et_builtins.proofs.ByCode.{codeless_called}
 
 pub no_code_answers : (p : Linked) (t : ℕ) (m m' : MachineState) (out out' : List Record) (end : EventEnd) (at : Site) (count method : ℕ) → count ≤ length (top m.guest t).operands → (method_at p method).code ≡ None
     → EventAnswers (codeless_call (moment p m t) at method count) end m m' out out' → EventAnswers (enters_method (moment p m t) at (begins (moment p m t)) (arguments_of (moment p m t) count) method) end m m' out out'

@@ -9,16 +9,13 @@ use Rattle.et_state.specs.declared.records.Record.{Record}
 use Rattle.et_state.specs.declared.ends.EventEnd.{EventEnd}
 use Rattle.et_state.specs.Outcome.{Outcome}
 use Rattle.et_event.specs.Answered.{EventAnswers}
-use Rattle.et_event.specs.Calls.{arguments_of, call_event, enters_method, invoke}
-use Rattle.et_event.specs.declared.rows.CallKind.{CallKind}
-use Rattle.et_event.specs.declared.rows.CallRow.{CallRow}
-use Rattle.et_event.specs.declared.rows.CallRow.TheVariants.{Invoke}
+use Rattle.et_event.specs.Calls.{arguments_of, enters_method}
 use Rattle.et_event.specs.Initialization.{begins_class, is_quiet, needed, prepared, quietly_done, state_of}
 use Rattle.et_event.specs.Moments.{Doing, Moment, begins}
 use Rattle.et_event.specs.Sites.{Site}
-use Rattle.et_calls.specs.declared.plans.CallPlan.{CallPlan}
-use Rattle.et_calls.specs.declared.plans.CallPlan.TheVariants.{Initializes}
-use Rattle.et_calls.specs.Plans.{planned}
+use Rattle.et_builtins.specs.declared.plans.CallPlan.{CallPlan}
+use Rattle.et_builtins.specs.declared.plans.CallPlan.TheVariants.{Initializes}
+use Rattle.et_builtins.specs.Plans.{planned}
 use Rattle.et_initialize.specs.Needs.{need_by, need_of}
 use Rattle.et_initialize.specs.declared.needs.Need.{Need}
 use Rattle.et_initialize.specs.declared.needs.Need.TheVariants.{Quiet, Begins}
@@ -77,9 +74,3 @@ quiet_answers e at method count class end m m' out out' name un quiet a =
 pub plan_answers : (e : Moment) (at : Site) (plan same : CallPlan) (end : EventEnd) (m m' : MachineState) (out out' : List Record) → plan ≡ same
     → EventAnswers (planned e at same) end m m' out out' → EventAnswers (planned e at plan) end m m' out out'
 plan_answers e at plan same end m m' out out' is a = subst (λ (q : CallPlan). EventAnswers (planned e at q) end m m' out out') (sym is) a
-
--- .. of an invoke
-pub row_answers : (e : Moment) (at : Site) (plan : CallPlan) (row : CallRow) (kind : CallKind) (end : EventEnd) (m m' : MachineState) (out out' : List Record) → row ≡ Invoke kind → invoke e at kind ≡ planned e at plan
-    → EventAnswers (planned e at plan) end m m' out out' → EventAnswers (call_event e at row) end m m' out out'
-row_answers e at plan row kind end m m' out out' named is a =
-    subst (λ (o : Outcome Kept). EventAnswers o end m m' out out') (sym (ap (λ (r : CallRow). call_event e at r) named ∙ is)) a

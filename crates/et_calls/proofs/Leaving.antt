@@ -37,7 +37,7 @@ use Rattle.et_event.specs.declared.rows.Operand.{Operand}
 use Rattle.et_calls.proofs.Coming.{after_return, came_after_return}
 use Rattle.et_calls.proofs.Values.{by_values, entries_are_in, return_is, width_returned}
 use Rattle.et_calls.specs.Returned.{FitsBelow, IsValueIn, entries_returned, returned_values, returning}
-use Rattle.et_calls.specs.Types.{returned_in}
+use Rattle.et_builtins.specs.Types.{returned_in}
 use Rattle.et_calls.specs.Stages.{IsClassIn}
 use Rattle.et_calls.specs.Ways.{Came}
 

@@ -1,16 +1,12 @@
-mod Walking
 mod Returning
 mod Values
 mod Coming
 mod Leaving
-mod Passing
-mod Fitting
-mod Planning
 mod EnteredFrames
 mod NewFrames
 mod Passed
 mod Calling
-mod Choosing
+mod Told
 mod CalledByCode
 mod Initial
 mod Fresh

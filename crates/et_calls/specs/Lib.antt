@@ -1,9 +1,6 @@
-pub mod Arguments
 pub mod Entering
-pub mod Plans
 pub mod Returned
 pub mod Stages
-pub mod Types
 pub mod Ways
 pub mod Fresh
 pub mod Runs

@@ -15,13 +15,13 @@ ghost use Rattle.et_event.specs.Sound.{IsSoundFor};
 ghost use Rattle.et_event.specs.Programs.{HasMachineSlots, HasMethods};
 ghost use Rattle.et_event.specs.InitializationOrder.{IsInOrder};
 ghost use Rattle.et_calls.specs.Entering.{codeless_call};
-ghost use Rattle.et_calls.specs.Plans.{HasRoom, IsPlan, planned};
-ghost use Rattle.et_calls.specs.declared.plans.CallPlan.TheVariants as plans;
+ghost use Rattle.et_builtins.specs.Plans.{HasRoom, IsPlan, planned};
+ghost use Rattle.et_builtins.specs.declared.plans.CallPlan.TheVariants as plans;
 
 use crate::entering::enter_code;
 use crate::new_frames::{Entered, Passed};
-use et_base::{MethodId, NoMemory, Steps, ThreadId};
-use et_builtins::built_in_method_event;
+use et_base::{NoMemory, Steps, ThreadId};
+use et_builtins::{Call, built_in_method_event};
 use et_class::flags::{NATIVE, has};
 use et_event::GuestError;
 use et_initialize::throw_after;
@@ -30,17 +30,6 @@ use et_program::{MethodInfo, Program};
 use et_state::{EventEnd, Lines, Machine};
 use std::alloc::Global;
 use std::sync::ledger::Ledger;
-
-/// A method that is called.
-#[derive(Clone, Copy)]
-pub(crate) struct Call {
-    /// The method, as it was selected.
-    pub method: MethodId,
-    /// So many entries on top of the operands are its arguments.
-    pub count: u32,
-    /// The pc behind the call.
-    pub next: u32,
-}
 
 /// What is thrown where a method without code that is not built in is called: a native one is not found (JVMS 2.11.8), and
 /// another one is abstract (JVMS 5.4.6).
@@ -81,16 +70,7 @@ fn codeless_event<L: Ledger>(
         let error = GuestError::UnsatisfiedLinkError;
         return throw_error(program, machine, thread, error, out);
     }
-    built_in_method_event(
-        program,
-        machine,
-        thread,
-        call.method,
-        call.count,
-        call.next,
-        out,
-        visits,
-    )
+    built_in_method_event(program, machine, thread, call, out, visits)
 }
 
 /// The event in which a selected method is called that needs no class (JVMS 2.6, 2.11.8, 2.11.10): one without code is done,

@@ -1,23 +1,21 @@
 //! The event call of calls and returns, of the entry of a thread and of the steps of initializers.
-ghost use Rattle.std.specs.Prelude.{◌≡◌, ◌+◌, ◌<◌, ◌≤◌, Some, IfOk};
+ghost use Rattle.std.specs.Prelude.{◌≡◌, ℕ, ◌+◌, ◌<◌, ◌≤◌, ◌↔◌, Some, IfOk, IsSome};
 ghost use Rattle.et_event.specs.declared.families.Family.TheVariants as families;
 ghost use Rattle.et_event.specs.Answered.{EventAnswers};
 ghost use Rattle.et_event.specs.Beginning.{BeginsEvent};
-ghost use Rattle.et_event.specs.Event.{does, event};
-ghost use Rattle.et_event.specs.Families.{family_of, family_of_row};
-ghost use Rattle.et_event.specs.Moments.{moment};
+ghost use Rattle.et_event.specs.Event.{event};
+ghost use Rattle.et_event.specs.Families.{family_of};
 ghost use Rattle.et_state.specs.declared.stage.Turn.TheVariants as turns;
 ghost use Rattle.et_state.specs.State.{kept_of};
 ghost use Rattle.et_state.specs.Threads.{turn_of};
-ghost use Rattle.et_state.specs.Words.{thread_at, top};
-ghost use Rattle.et_parts.specs.Places.{IsPlace, site_at};
+ghost use Rattle.et_state.specs.Words.{thread_at};
+ghost use Rattle.et_builtins.specs.Deferred.{DefersOrAnswers, deferred_call};
 
 use crate::entry::entry_event;
 use crate::rows::call_event;
 use et_base::{NoMemory, Steps, ThreadId};
-use et_event::Row;
 use et_initialize::initialization_event;
-use et_parts::{Place, ill_typed, place_of};
+use et_parts::{ill_typed, place_of};
 use et_program::Program;
 use et_state::{EventEnd, Lines, Machine, Stage, Turn};
 use std::alloc::Global;
@@ -42,35 +40,6 @@ fn initializer_event(
     }
 }
 
-/// The event of the call or the return at a place.
-fn place_event<L: Ledger>(
-    alloc: Global,
-    program: &Program,
-    machine: &mut Machine,
-    thread: ThreadId,
-    place: &Place<'_>,
-    out: &mut Lines,
-    visits: &mut Steps<L>,
-) -> Result<EventEnd, NoMemory>
-    requires begins { BeginsEvent program.now machine.old thread }
-    requires turn { turn_of (thread_at machine.old.guest thread) ≡ turns.Instruction }
-    requires place { IsPlace program.now (top machine.old.guest thread) place.now }
-    requires family { family_of_row (Some place.now.row) ≡ families.Calls }
-    ensures event { IfOk result (λ end. EventAnswers (does (moment program.now machine.old thread)
-        (site_at place.now) place.now.row) end machine.old machine.new out.old out.new) }
-    ensures visits { visits.new ≤ visits.old + 4 }
-{
-    match place.row {
-        Row::Call(row) => call_event(alloc, program, machine, thread, place, row, out, visits),
-        Row::Frame(_)
-        | Row::PoolConstant
-        | Row::Divide(_, _)
-        | Row::Heap(_)
-        | Row::Throw
-        | Row::Monitor(_) => unreachable!(),
-    }
-}
-
 /// The event of a thread whose turn is a call or a return.
 fn instruction_event<L: Ledger>(
     alloc: Global,
@@ -83,21 +52,26 @@ fn instruction_event<L: Ledger>(
     requires begins { BeginsEvent program.now machine.old thread }
     requires turn { turn_of (thread_at machine.old.guest thread) ≡ turns.Instruction }
     requires family { family_of program.now (kept_of machine.old) thread ≡ families.Calls }
-    ensures event { IfOk result (λ end. EventAnswers (event program.now
+    ensures event { IfOk result (λ end.
+        DefersOrAnswers (deferred_call program.now (kept_of machine.old) thread) (event program.now
         (kept_of machine.old) thread) end machine.old machine.new out.old out.new) }
     ensures visits { visits.new ≤ visits.old + 4 }
+    ensures deferred { IsSome (deferred_call program.now (kept_of machine.old) thread) →
+        visits.new ≤ visits.old + 1 }
 {
     match place_of(program, machine, thread) {
-        Some(place) => place_event(alloc, program, machine, thread, &place, out, visits),
+        Some(place) => call_event(alloc, program, machine, thread, &place, out, visits),
         None => Ok(ill_typed(machine, thread)),
     }
 }
 
 /// The event of a thread whose turn is a call or a return (JVMS 2.11.8, 6.5), to be entered (JVMS 5.2), or a step of an
-/// initializer (JVMS 5.5). It answers what the table of events says: `Done` or `Waited`, and then the machine keeps the next
-/// state, to which a legal step led, and the records of the event stand behind those that were there; or `IllTyped` or
-/// `ObjectLimit`, and then machine and records are as before. It visits six objects at most. After `NoMemory` the event may be
-/// half done, and machine and records may only be dropped.
+/// initializer (JVMS 5.5). It answers `Native` exactly where a call selects a built-in method without code of Thread, Reference
+/// or WeakReference; then machine and records are as before, and `sync_event` does the event. Else it answers what the table of
+/// events says: `Done` or `Waited`, and then the machine keeps the next state, to which a legal step led, and the records of the
+/// event stand behind those that were there; or `IllTyped` or `ObjectLimit`, and then machine and records are as before. It
+/// visits six objects at most, and one before `Native`. After `NoMemory` the event may be half done, and machine and records
+/// may only be dropped.
 #[tactic(auto, using(et_event::proofs::FamilyTurns::family_at))]
 pub fn calls_event<L: Ledger>(
     alloc: Global,
@@ -109,9 +83,14 @@ pub fn calls_event<L: Ledger>(
 ) -> Result<EventEnd, NoMemory>
     requires begins { BeginsEvent program.now machine.old thread }
     requires family { family_of program.now (kept_of machine.old) thread ≡ families.Calls }
-    ensures event { IfOk result (λ end. EventAnswers (event program.now
+    ensures event { IfOk result (λ end.
+        DefersOrAnswers (deferred_call program.now (kept_of machine.old) thread) (event program.now
         (kept_of machine.old) thread) end machine.old machine.new out.old out.new) }
+    ensures native { IfOk result (λ end. (method : ℕ) → (end ≡ EventEnd.Native method)
+        ↔ (deferred_call program.now (kept_of machine.old) thread ≡ Some method)) }
     ensures visits { visits.new ≤ visits.old + 6 }
+    ensures deferred { IsSome (deferred_call program.now (kept_of machine.old) thread) →
+        visits.new ≤ visits.old + 1 }
 {
     match machine.turn(thread) {
         Turn::Entry => entry_event(alloc, program, machine, thread, out, visits),

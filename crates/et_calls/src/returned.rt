@@ -3,10 +3,10 @@ ghost use Rattle.std.specs.Prelude.{◌≡◌};
 ghost use Rattle.et_state.specs.Words.{HasFrame, top};
 ghost use Rattle.et_event.specs.Kinds.{is_kind as kind_is, may_return as may};
 ghost use Rattle.et_calls.specs.Returned.{AreValuesIn, IsValueIn, value_in as value_among, value_of, values_of, returned_values as values};
-ghost use Rattle.et_calls.specs.Types.{returned_in};
+ghost use Rattle.et_builtins.specs.Types.{returned_in};
 
-use crate::types::{kind_of, returned_type};
 use et_base::{ThreadId, Value};
+use et_builtins::{kind_of, returned_type};
 use et_event::Operand;
 use et_parts::operand_at;
 use et_pool::descriptor::is_void_text;

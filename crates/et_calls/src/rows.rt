@@ -1,26 +1,28 @@
 //! The rows of calls and returns (JVMS 2.11.8, 5.5).
-ghost use Rattle.std.specs.Prelude.{◌≡◌, ◌+◌, ◌<◌, ◌≤◌, ◌^◌, IfOk};
+ghost use Rattle.std.specs.Prelude.{◌≡◌, ◌+◌, ◌<◌, ◌≤◌, ◌^◌, Some, IfOk, IsSome};
 ghost use Rattle.et_state.specs.declared.stage.Turn.TheVariants as turns;
 ghost use Rattle.et_state.specs.Threads.{turn_of};
 ghost use Rattle.et_state.specs.State.{kept_of};
 ghost use Rattle.et_state.specs.Words.{HasFrame, thread_at, top};
 ghost use Rattle.et_parts.specs.Places.{IsPlace, site_at};
-ghost use Rattle.et_event.specs.declared.rows.Row.TheVariants as rows;
+ghost use Rattle.et_event.specs.declared.families.Family.TheVariants as families;
 ghost use Rattle.et_event.specs.Answered.{EventAnswers};
-ghost use Rattle.et_event.specs.Calls.{call_event as calling};
+ghost use Rattle.et_event.specs.Event.{does};
+ghost use Rattle.et_event.specs.Families.{family_of_row};
 ghost use Rattle.et_event.specs.Moments.{moment};
 ghost use Rattle.et_event.specs.Sites.{Site};
 ghost use Rattle.et_event.specs.Sound.{IsSoundFor};
 ghost use Rattle.et_event.specs.Programs.{HasMachineSlots, HasMethods};
-ghost use Rattle.et_calls.specs.Plans.{IsPlan, planned};
-ghost use Rattle.et_calls.specs.declared.plans.CallPlan.TheVariants as plans;
+ghost use Rattle.et_builtins.specs.Deferred.{DefersOrAnswers, deferred_at};
+ghost use Rattle.et_builtins.specs.Plans.{IsPlan, planned as event_of};
+ghost use Rattle.et_builtins.specs.declared.plans.CallPlan.TheVariants as plans;
 ghost use Rattle.et_event.specs.InitializationOrder.{IsInOrder};
 
-use crate::called::{Call, enter_after, enter_event};
-use crate::plans::{CallPlan, invoke_plan};
+use crate::called::{enter_after, enter_event};
 use crate::returns::return_event;
 use et_base::{NoMemory, Steps, ThreadId};
-use et_event::CallRow;
+use et_builtins::{Call, CallPlan, deferred_method, invoke_plan};
+use et_event::{CallRow, Row};
 use et_initialize::{Need, begin_class_event, need_of};
 use et_parts::{Place, ill_typed, throw_error, wait_event};
 use et_program::Program;
@@ -47,7 +49,7 @@ fn initialize_event<L: Ledger>(
     requires plan { IsPlan
         (moment program.now machine.old thread) (plans.Initializes call.method call.count) }
     ensures ok { IfOk result
-        (λ end. (at : Site) → EventAnswers (planned (moment program.now machine.old thread) at
+        (λ end. (at : Site) → EventAnswers (event_of (moment program.now machine.old thread) at
         (plans.Initializes call.method call.count)) end machine.old machine.new out.old out.new) }
     ensures visits { visits.new ≤ visits.old + 3 }
 {
@@ -58,14 +60,20 @@ fn initialize_event<L: Ledger>(
     }
 }
 
-/// The event of a plan in front of the pc `next`. It visits three objects at most. After `NoMemory` the event may be half done.
+/// What an invoke comes to, and the pc behind it.
+#[derive(Clone, Copy)]
+struct Planned {
+    plan: CallPlan,
+    next: u32,
+}
+
+/// The event of a plan. It visits three objects at most. After `NoMemory` the event may be half done.
 fn plan_event<L: Ledger>(
     alloc: Global,
     program: &Program,
     machine: &mut Machine,
     thread: ThreadId,
-    plan: CallPlan,
-    next: u32,
+    planned: Planned,
     out: &mut Lines,
     visits: &mut Steps<L>,
 ) -> Result<EventEnd, NoMemory>
@@ -75,11 +83,13 @@ fn plan_event<L: Ledger>(
     requires slots { HasMachineSlots program.now }
     requires order { IsInOrder program.now }
     requires methods { HasMethods program.now }
-    requires plan { IsPlan (moment program.now machine.old thread) plan }
-    ensures ok { IfOk result (λ end. (at : Site) → at.next ≡ next → EventAnswers (planned (moment
-        program.now machine.old thread) at plan) end machine.old machine.new out.old out.new) }
+    requires plan { IsPlan (moment program.now machine.old thread) planned.plan }
+    ensures ok { IfOk result (λ end. (at : Site) →
+        at.next ≡ planned.next → EventAnswers (event_of (moment program.now machine.old thread)
+        at planned.plan) end machine.old machine.new out.old out.new) }
     ensures visits { visits.new ≤ visits.old + 3 }
 {
+    let Planned { plan, next } = planned;
     match plan {
         CallPlan::IllTyped => Ok(ill_typed(machine, thread)),
         CallPlan::Throws(error) => throw_error(program, machine, thread, error, out),
@@ -106,15 +116,15 @@ fn plan_event<L: Ledger>(
 /// The event of an invoke or a return at the place where a thread stands (JVMS 2.11.8, 5.5, 6.5 invokevirtual, invokespecial,
 /// invokestatic, invokeinterface, ireturn, lreturn, areturn, return). It answers what the table of events says. Where a static
 /// method is called whose class is untouched, the class begins, or a quiet one becomes done and the method is called in the
-/// same event. It visits four objects at most. After `NoMemory` the event may be half done, and machine and records may only be
-/// dropped.
+/// same event. Where a built-in method of threads or of weak references is selected it answers `Native`, with nothing changed.
+/// It visits four objects at most, and before `Native` one. After `NoMemory` the event may be half done, and machine and
+/// records may only be dropped.
 pub fn call_event<L: Ledger>(
     alloc: Global,
     program: &Program,
     machine: &mut Machine,
     thread: ThreadId,
     place: &Place<'_>,
-    row: CallRow,
     out: &mut Lines,
     visits: &mut Steps<L>,
 ) -> Result<EventEnd, NoMemory>
@@ -125,18 +135,35 @@ pub fn call_event<L: Ledger>(
     requires order { IsInOrder program.now }
     requires methods { HasMethods program.now }
     requires place { IsPlace program.now (top machine.old.guest thread) place.now }
-    requires row { place.now.row ≡ rows.Call row }
-    ensures ok { IfOk result (λ end. EventAnswers (calling (moment program.now machine.old thread)
-        (site_at place.now) row) end machine.old machine.new out.old out.new) }
+    requires family { family_of_row (Some place.now.row) ≡ families.Calls }
+    ensures ok { IfOk result (λ end. DefersOrAnswers
+        (deferred_at (moment program.now machine.old thread) (site_at place.now) place.now.row)
+        (does (moment program.now machine.old thread) (site_at place.now) place.now.row)
+        end machine.old machine.new out.old out.new) }
     ensures visits { visits.new ≤ visits.old + 4 }
+    ensures deferred { IsSome
+        (deferred_at (moment program.now machine.old thread) (site_at place.now) place.now.row)
+        → visits.new ≤ visits.old + 1 }
 {
-    match row {
-        CallRow::Invoke(kind) => {
-            let plan = invoke_plan(program, machine, thread, place, kind, visits);
-            plan_event(
-                alloc, program, machine, thread, plan, place.next, out, visits,
-            )
+    match place.row {
+        Row::Call(CallRow::Invoke(kind)) => {
+            let planned = Planned {
+                plan: invoke_plan(program, machine, thread, place, kind, visits),
+                next: place.next,
+            };
+            if let Some(method) = deferred_method(program, planned.plan) {
+                return Ok(EventEnd::Native { method });
+            }
+            plan_event(alloc, program, machine, thread, planned, out, visits)
         }
-        CallRow::Return(kind) => return_event(program, machine, thread, kind, out, visits),
+        Row::Call(CallRow::Return(kind)) => {
+            return_event(program, machine, thread, kind, out, visits)
+        }
+        Row::Frame(_)
+        | Row::PoolConstant
+        | Row::Divide(_, _)
+        | Row::Heap(_)
+        | Row::Throw
+        | Row::Monitor(_) => unreachable!(),
     }
 }

@@ -1,7 +1,10 @@
 //! The event of a thread that has the turn.
-ghost use Rattle.std.specs.Prelude.{◌+◌, ◌-◌, ◌<◌, ◌≤◌, ◌^◌, IfOk, length};
+ghost use Rattle.std.specs.Prelude.{◌≡◌, ◌+◌, ◌-◌, ◌<◌, ◌≤◌, ◌^◌, IfOk, length};
 ghost use Rattle.et_event.specs.Answered.{EventAnswers};
+ghost use Rattle.et_event.specs.Beginning.{BeginsEvent};
 ghost use Rattle.et_event.specs.Event.{event};
+ghost use Rattle.et_event.specs.Families.{family_of as family};
+ghost use Rattle.et_event.specs.declared.families.Family.TheVariants as families;
 ghost use Rattle.et_event.specs.Runnable.{IsRunnable};
 ghost use Rattle.et_event.specs.Sound.{IsSoundFor};
 ghost use Rattle.et_state.specs.State.{kept_of};
@@ -19,6 +22,28 @@ use et_sync::sync_event;
 use et_throw::throw_event;
 use std::alloc::Global;
 use std::sync::ledger::Ledger;
+
+/// The event of a thread whose turn is a call or a return, to be entered, or a step of an initializer. It visits six objects at
+/// most. After `NoMemory` the machine may only be dropped.
+fn call_turn_event<L: Ledger>(
+    alloc: Global,
+    program: &Program,
+    machine: &mut Machine,
+    thread: ThreadId,
+    out: &mut Lines,
+    visits: &mut Steps<L>,
+) -> Result<EventEnd, NoMemory>
+    requires begins { BeginsEvent program.now machine.old thread }
+    requires family { family program.now (kept_of machine.old) thread ≡ families.Calls }
+    ensures event { IfOk result (λ end. EventAnswers (event program.now
+        (kept_of machine.old) thread) end machine.old machine.new out.old out.new) }
+    ensures visits { visits.new ≤ visits.old + 6 }
+{
+    match calls_event(alloc, program, machine, thread, out, visits) {
+        Ok(EventEnd::Native { .. }) => sync_event(alloc, program, machine, thread, out, visits),
+        answer => answer,
+    }
+}
 
 /// The event of a thread that has not ended: an instruction, a step of an unwinding or of an initializer, the entry of the
 /// thread, or its end. It answers what the table of events says: `Done` or `Waited`, and then the machine keeps the next
@@ -45,7 +70,7 @@ pub fn turn_event<L: Ledger>(
     match family_of(program, machine, thread) {
         Family::Ops => ops_event(alloc, program, machine, thread, out, visits),
         Family::Refs => refs_event(alloc, program, machine, thread, out, visits),
-        Family::Calls => calls_event(alloc, program, machine, thread, out, visits),
+        Family::Calls => call_turn_event(alloc, program, machine, thread, out, visits),
         Family::Throw => throw_event(alloc, program, machine, thread, out, visits),
         Family::Sync => sync_event(alloc, program, machine, thread, out, visits),
     }

@@ -1,5 +1,5 @@
-//! The event call of monitors and of the end of a thread.
-ghost use Rattle.std.specs.Prelude.{◌≡◌, ◌+◌, ◌<◌, ◌≤◌, ◌^◌, Some, IfOk, OnErr};
+//! The event call of monitors, of the built-in methods of threads and of weak references, and of the end of a thread.
+ghost use Rattle.std.specs.Prelude.{◌≡◌, ◌+◌, ◌≤◌, ◌⊎◌, Some, IfOk, IsSome, OnErr};
 ghost use Rattle.et_state.specs.declared.stage.Turn.TheVariants as turns;
 ghost use Rattle.et_state.specs.State.{kept_of};
 ghost use Rattle.et_state.specs.Threads.{turn_of};
@@ -10,20 +10,21 @@ ghost use Rattle.et_event.specs.Beginning.{BeginsEvent};
 ghost use Rattle.et_event.specs.Event.{does, event};
 ghost use Rattle.et_event.specs.Families.{family_of, family_of_row};
 ghost use Rattle.et_event.specs.Moments.{moment};
-ghost use Rattle.et_event.specs.Sound.{IsSoundFor};
 ghost use Rattle.et_parts.specs.Places.{IsPlace, site_at};
+ghost use Rattle.et_builtins.specs.Deferred.{deferred_at, deferred_call};
 
+use crate::deferred::deferred_event;
 use crate::ending::end_event;
 use crate::monitoring::monitor_row_event;
 use et_base::{NoMemory, Steps, ThreadId};
-use et_event::Row;
+use et_event::{CallRow, Row};
 use et_parts::{Place, ill_typed, place_of};
 use et_program::Program;
 use et_state::{EventEnd, Lines, Machine, Turn};
 use std::alloc::Global;
 use std::sync::ledger::Ledger;
 
-/// The event of `monitorenter` or `monitorexit` at a place.
+/// The event of `monitorenter` or `monitorexit` at a place, or of a call of a deferred method.
 fn place_event<L: Ledger>(
     program: &Program,
     machine: &mut Machine,
@@ -32,30 +33,35 @@ fn place_event<L: Ledger>(
     out: &mut Lines,
     visits: &mut Steps<L>,
 ) -> Result<EventEnd, NoMemory>
-    requires sound { IsSoundFor program.now (kept_of machine.old) }
+    requires begins { BeginsEvent program.now machine.old thread }
     requires frame { HasFrame machine.old.guest thread }
-    requires clock { machine.old.guest.clock < 2 ^ 40 }
     requires place { IsPlace program.now (top machine.old.guest thread) place.now }
-    requires family { family_of_row (Some place.now.row) ≡ families.Sync }
+    requires turn { (family_of_row (Some place.now.row) ≡ families.Sync)
+        ⊎ IsSome (deferred_at (moment program.now machine.old thread)
+        (site_at place.now) place.now.row) }
     ensures event { IfOk result (λ end. EventAnswers (does (moment program.now machine.old thread)
         (site_at place.now) place.now.row) end machine.old machine.new out.old out.new) }
-    ensures visits { visits.new ≤ visits.old + 3 }
-    ensures err { OnErr result (machine.new.guest ≡ machine.old.guest) }
+    ensures visits { visits.new ≤ visits.old + 4 }
+    ensures err { family_of_row (Some place.now.row) ≡ families.Sync →
+        OnErr result (machine.new.guest ≡ machine.old.guest) }
 {
     match place.row {
         Row::Monitor(row) => {
             monitor_row_event(program, machine, thread, row, place.next, out, visits)
         }
-        Row::Frame(_)
+        Row::Call(CallRow::Invoke(kind)) => {
+            deferred_event(program, machine, thread, place, kind, out, visits)
+        }
+        Row::Call(CallRow::Return(_))
+        | Row::Frame(_)
         | Row::PoolConstant
         | Row::Divide(_, _)
         | Row::Heap(_)
-        | Row::Call(_)
         | Row::Throw => unreachable!(),
     }
 }
 
-/// The event of a thread whose turn is `monitorenter` or `monitorexit`.
+/// The event of a thread whose turn is `monitorenter` or `monitorexit`, or a call of a deferred method.
 fn instruction_event<L: Ledger>(
     program: &Program,
     machine: &mut Machine,
@@ -64,12 +70,14 @@ fn instruction_event<L: Ledger>(
     visits: &mut Steps<L>,
 ) -> Result<EventEnd, NoMemory>
     requires begins { BeginsEvent program.now machine.old thread }
-    requires turn { turn_of (thread_at machine.old.guest thread) ≡ turns.Instruction }
-    requires family { family_of program.now (kept_of machine.old) thread ≡ families.Sync }
+    requires instruction { turn_of (thread_at machine.old.guest thread) ≡ turns.Instruction }
+    requires turn { (family_of program.now (kept_of machine.old) thread ≡ families.Sync)
+        ⊎ IsSome (deferred_call program.now (kept_of machine.old) thread) }
     ensures event { IfOk result (λ end. EventAnswers (event program.now
         (kept_of machine.old) thread) end machine.old machine.new out.old out.new) }
-    ensures visits { visits.new ≤ visits.old + 3 }
-    ensures err { OnErr result (machine.new.guest ≡ machine.old.guest) }
+    ensures visits { visits.new ≤ visits.old + 4 }
+    ensures err { family_of program.now (kept_of machine.old) thread ≡ families.Sync →
+        OnErr result (machine.new.guest ≡ machine.old.guest) }
 {
     match place_of(program, machine, thread) {
         Some(place) => place_event(program, machine, thread, &place, out, visits),
@@ -77,11 +85,13 @@ fn instruction_event<L: Ledger>(
     }
 }
 
-/// The event of a thread whose turn is `monitorenter` or `monitorexit` (JVMS 2.11.10, 6.5), or to end (JVMS 2.5.1, 2.5.2). It
+/// The event of a thread whose turn is `monitorenter` or `monitorexit` (JVMS 2.11.10, 6.5), to end (JVMS 2.5.1, 2.5.2), or a
+/// call of a built-in method without code of Thread, Reference or WeakReference, for which `calls_event` answers `Native`. It
 /// answers what the table of events says: `Done`, and then the machine keeps the next state, to which a legal step led, and the
 /// records of the event stand behind those that were there; `Waited`, and then only the clock has gone on; or `IllTyped` or
-/// `ObjectLimit`, and then machine and records are as before. It visits three objects at most. After `NoMemory` the machine may
-/// have one object more, to which nothing refers, and there may be its record; all else is as before.
+/// `ObjectLimit`, and then machine and records are as before. It visits four objects at most. After `NoMemory` the machine may
+/// have one object more, to which nothing refers, and there may be its record, and all else is as before; but a call may then be
+/// half done, and machine and records may only be dropped.
 #[tactic(auto, using(et_event::proofs::FamilyTurns::family_at))]
 pub fn sync_event<L: Ledger>(
     _alloc: Global,
@@ -92,11 +102,13 @@ pub fn sync_event<L: Ledger>(
     visits: &mut Steps<L>,
 ) -> Result<EventEnd, NoMemory>
     requires begins { BeginsEvent program.now machine.old thread }
-    requires family { family_of program.now (kept_of machine.old) thread ≡ families.Sync }
+    requires turn { (family_of program.now (kept_of machine.old) thread ≡ families.Sync)
+        ⊎ IsSome (deferred_call program.now (kept_of machine.old) thread) }
     ensures event { IfOk result (λ end. EventAnswers (event program.now
         (kept_of machine.old) thread) end machine.old machine.new out.old out.new) }
-    ensures visits { visits.new ≤ visits.old + 3 }
-    ensures err { OnErr result (machine.new.guest ≡ machine.old.guest) }
+    ensures visits { visits.new ≤ visits.old + 4 }
+    ensures err { family_of program.now (kept_of machine.old) thread ≡ families.Sync →
+        OnErr result (machine.new.guest ≡ machine.old.guest) }
 {
     match machine.turn(thread) {
         Turn::EndThread => Ok(end_event(machine, thread)),

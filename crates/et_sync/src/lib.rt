@@ -1,7 +1,8 @@
-//! Monitors of objects, threads that wait, and the end of a thread (JVMS 2.5.1, 2.5.2, 2.11.10, 6.5 monitorenter and
-//! monitorexit).
+//! Monitors of objects, threads that are started, waited for and end, and weak references (JVMS 2.5.1, 2.5.2, 2.11.10, 6.5
+//! monitorenter and monitorexit).
 #![tactic(auto)]
 
+mod deferred;
 mod ending;
 mod event;
 mod monitoring;

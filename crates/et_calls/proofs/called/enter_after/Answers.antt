@@ -13,7 +13,8 @@ use Rattle.et_event.specs.Frames.{enters_code}
 use Rattle.et_event.specs.Initialization.{is_ready, prepared}
 use Rattle.et_event.specs.Moments.{moment, begins, throws}
 use Rattle.et_parts.proofs.Answering.{if_ok}
-use Rattle.et_calls.proofs.CalledByCode.{code_called, error_by, none_called, one_ready, one_within}
+use Rattle.et_builtins.proofs.ByCode.{code_called}
+use Rattle.et_calls.proofs.CalledByCode.{error_by, none_called, one_ready, one_within}
 use Rattle.et_calls.proofs.Initial.{quiet_answers}
 use Rattle.et_calls.proofs.called.enter_after.Goals as goal
 

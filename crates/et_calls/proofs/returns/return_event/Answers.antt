@@ -4,7 +4,7 @@ use Rattle.et_state.specs.Words.{top}
 use Rattle.et_event.specs.Sites.{method_of}
 use Rattle.et_parts.proofs.Answering.{if_ok}
 use Rattle.et_calls.specs.Returned.{returned_values}
-use Rattle.et_calls.specs.Types.{returned_in}
+use Rattle.et_builtins.specs.Types.{returned_in}
 use Rattle.et_calls.proofs.Leaving.{fits_returned, refused_answers, returned_answers}
 use Rattle.et_calls.proofs.returns.return_event.Goals as goal
 

@@ -6,8 +6,8 @@ ops_event-requires-clause-begins g c = record { program = c.requires.program; so
 pub refs_event-requires-clause-begins : goal.refs_event-requires-clause-begins
 refs_event-requires-clause-begins g c = record { program = c.requires.program; sound = c.requires.sound; clock = c.requires.clock; thread = c.requires.thread }
 
-pub calls_event-requires-clause-begins : goal.calls_event-requires-clause-begins
-calls_event-requires-clause-begins g c = record { program = c.requires.program; sound = c.requires.sound; clock = c.requires.clock; thread = c.requires.thread }
+pub call_turn_event-requires-clause-begins : goal.call_turn_event-requires-clause-begins
+call_turn_event-requires-clause-begins g c = record { program = c.requires.program; sound = c.requires.sound; clock = c.requires.clock; thread = c.requires.thread }
 
 pub throw_event-requires-clause-begins : goal.throw_event-requires-clause-begins
 throw_event-requires-clause-begins g c = record { program = c.requires.program; sound = c.requires.sound; clock = c.requires.clock; thread = c.requires.thread }

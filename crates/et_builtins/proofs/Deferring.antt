@@ -1,0 +1,103 @@
+-- Which turns call a deferred method, and what is answered then.
+use Rattle.std.proofs.Common.{◌≡◌, ℕ, Bool, true, false, ◌&&◌, List, Option, Some, None, Result, Ok, Err, refl, sym, ◌∙◌, ap, subst}
+use Rattle.std.specs.Prelude.{◌||◌, ◌↔◌, not, if◌then◌else◌, is_none, option_and_then, IsSome}
+use Rattle.et_code.specs.Bodies.{Body}
+use Rattle.et_code.specs.declared.instr.Instr.{Instr}
+use Rattle.et_code.specs.declared.instr.CodeFault.{CodeFault}
+use Rattle.et_class.specs.Names.{has}
+use Rattle.et_class.specs.declared.flags.TheConstants.{NATIVE}
+use Rattle.et_program.specs.Entries.{Linked, class_at, method_at, is_abstract, is_static}
+use Rattle.et_program.specs.Members.{kept}
+use Rattle.et_state.specs.declared.stage.Turn.{Turn}
+use Rattle.et_state.specs.declared.stage.Turn.TheVariants.{Instruction}
+use Rattle.et_state.specs.declared.records.Record.{Record}
+use Rattle.et_state.specs.declared.ends.EventEnd.{EventEnd}
+use Rattle.et_state.specs.declared.ends.EventEnd.TheVariants as ends
+use Rattle.et_state.specs.Outcome.{Outcome}
+use Rattle.et_state.specs.Outcome as outcome
+use Rattle.et_state.specs.Threads.{turn_of}
+use Rattle.et_state.specs.State.{Kept, MachineState, kept_of}
+use Rattle.et_state.specs.Words.{thread_at, top}
+use Rattle.et_event.specs.declared.rows.Row.{Row}
+use Rattle.et_event.specs.Answered.{EventAnswers}
+use Rattle.et_event.specs.Families.{row_at}
+use Rattle.et_event.specs.Moments.{Moment, frame_of, moment}
+use Rattle.et_event.specs.Sites.{Site, decoded_at, site_of}
+use Rattle.et_parts.specs.Places.{IsPlace, site_at}
+use Rattle.et_parts.specs.declared.places.Place.{Place}
+use Rattle.et_builtins.specs.Deferred.{DefersOrAnswers, deferred_at, deferred_by, deferred_call, deferred_in, is_deferred, is_deferring}
+
+-- WHICH TURN IT IS
+
+pub at_turn : (p : Linked) (s : Kept) (t : ℕ) (turn : Turn) → turn_of (thread_at s.guest t) ≡ turn → deferred_call p s t ≡ deferred_in (record { program = p; before = s; thread = t }) turn
+unfolding deferred_call
+at_turn p s t turn is = ap (λ (x : Turn). deferred_in (record { program = p; before = s; thread = t }) x) is
+
+pub at_place : (p : Linked) (m : MachineState) (t : ℕ) (place : Place) → turn_of (thread_at m.guest t) ≡ Instruction → IsPlace p (top m.guest t) place
+    → deferred_call p (kept_of m) t ≡ deferred_at (moment p m t) (site_at place) place.row
+at_place p m t place turn is =
+    let e : Moment = moment p m t in
+    at_turn p (kept_of m) t Instruction turn
+    ∙ (ap (λ (d : Result (Instr × ℕ) CodeFault). deferred_by e d) is.decoded
+    ∙ (ap (λ (r : Option Row). option_and_then (deferred_at e (site_of p (frame_of e) (place.instr, place.next))) r) is.row
+    ∙ ap (λ (at : Site). deferred_at e at place.row) (sym is.site)))
+
+no_row : (e : Moment) (d : Result (Instr × ℕ) CodeFault) → row_at d ≡ None → deferred_by e d ≡ None
+no_row e (Err fault) none = refl
+no_row e (Ok x) none = ap (λ (r : Option Row). option_and_then (deferred_at e (site_of e.program (frame_of e) x)) r) none
+
+pub at_no_place : (p : Linked) (m : MachineState) (t : ℕ) → turn_of (thread_at m.guest t) ≡ Instruction → row_at (decoded_at p (top m.guest t)) ≡ None → deferred_call p (kept_of m) t ≡ None
+at_no_place p m t turn none = at_turn p (kept_of m) t Instruction turn ∙ no_row (moment p m t) (decoded_at p (top m.guest t)) none
+
+-- A DEFERRED METHOD has no code and is not native
+
+abbrev tested : Bool → Bool → Bool → Bool → Bool → Bool
+tested codeless static native abstract class = codeless && not (static || native || abstract) && class
+
+codeless_tested : (code : Option Body) (s n a d : Bool) → tested (is_none code) s n a d ≡ true → code ≡ None
+codeless_tested None s n a d h = refl
+codeless_tested (Some body) s n a d h = cc
+
+not_native : (c s n a d : Bool) → tested c s n a d ≡ true → n ≡ false
+not_native c s false a d h = refl
+not_native true true true a d h = cc
+not_native true false true a d h = cc
+not_native false s true a d h = cc
+
+pub deferred_codeless : (p : Linked) (m : ℕ) → is_deferred p m ≡ true → (method_at p m).code ≡ None
+deferred_codeless p m h = codeless_tested (method_at p m).code (is_static p m) (has (method_at p m).flags NATIVE) (is_abstract p m) (is_deferring (class_at p (method_at p m).class).info.name) h
+
+pub deferred_not_native : (p : Linked) (m : ℕ) → is_deferred p m ≡ true → has (method_at p m).flags NATIVE ≡ false
+deferred_not_native p m h = not_native (is_none (method_at p m).code) (is_static p m) (has (method_at p m).flags NATIVE) (is_abstract p m) (is_deferring (class_at p (method_at p m).class).info.name) h
+
+kept_by : (b : Bool) (m : ℕ) → IsSome (if b then Some m else None) → b ≡ true
+kept_by true m h = refl
+kept_by false m h = cc
+
+pub kept_is : (p : Linked) (m : ℕ) → IsSome (kept (is_deferred p) (Some m)) → is_deferred p m ≡ true
+kept_is p m h = kept_by (is_deferred p m) m h
+
+-- WHAT IS ANSWERED
+
+pub answered : (r : Option ℕ) (o : Outcome Kept) (end : EventEnd) (m m' : MachineState) (out out' : List Record) → r ≡ None → EventAnswers o end m m' out out' → DefersOrAnswers r o end m m' out out'
+answered r o end m m' out out' none a = subst (λ (q : Option ℕ). DefersOrAnswers q o end m m' out out') (sym none) a
+
+pub told : (r : Option ℕ) (method : ℕ) (o : Outcome Kept) (m : MachineState) (out : List Record) → r ≡ Some method → DefersOrAnswers r o (ends.Native method) m m out out
+told r method o m out some = subst (λ (q : Option ℕ). DefersOrAnswers q o (ends.Native method) m m out out) (sym some) (refl, refl, refl)
+
+not_answered : (o : Outcome Kept) (method : ℕ) (m m' : MachineState) (out out' : List Record) → EventAnswers o (ends.Native method) m m' out out' → ⊥
+not_answered (outcome.Goes next records) method m m' out out' a = a
+not_answered (outcome.Waits next) method m m' out out' a = a
+not_answered (outcome.IllTyped k pc) method m m' out out' a = a
+not_answered outcome.ObjectLimit method m m' out out' a = a
+
+pub native_exactly : (r : Option ℕ) (o : Outcome Kept) (end : EventEnd) (m m' : MachineState) (out out' : List Record) → DefersOrAnswers r o end m m' out out' → (method : ℕ) → (end ≡ ends.Native method) ↔ (r ≡ Some method)
+native_exactly None o end m m' out out' a method = (λ is. absurd (not_answered o method m m' out out' (subst (λ (x : EventEnd). EventAnswers o x m m' out out') is a)), λ is. cc)
+native_exactly (Some k) o end m m' out out' a method =
+    let named : end ≡ ends.Native k = a.0 in
+    (λ is. cc, λ is. cc)
+
+-- an answer that tells no deferred method is that of the event
+pub not_told : (r : Option ℕ) (o : Outcome Kept) (end : EventEnd) (m m' : MachineState) (out out' : List Record) → ((method : ℕ) → end ≡ ends.Native method → ⊥) → DefersOrAnswers r o end m m' out out' → EventAnswers o end m m' out out'
+not_told None o end m m' out out' other a = a
+not_told (Some method) o end m m' out out' other a = absurd (other method a.0)

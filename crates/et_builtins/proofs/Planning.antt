@@ -1,0 +1,138 @@
+-- The receiver of a call, and what is selected.
+use Rattle.std.proofs.Common.{◌≡◌, ℕ, ◌<◌, Bool, true, false, List, length, Option, Some, None, refl, sym, ◌∙◌, ap, subst}
+use Rattle.std.specs.Prelude.{if◌then◌else◌, option_and_then, Result}
+use Rattle.std.specs.Result.{result_ok}
+use Rattle.et_base.specs.declared.value.Value.{Value}
+use Rattle.et_heap.specs.Objects.{ObjectState, IsHeld, at, found, is_there, object_at}
+use Rattle.et_state.specs.State.{Kept, MachineState, kept_of}
+use Rattle.et_program.specs.Entries.{Linked, is_static}
+use Rattle.et_program.specs.Members.{kept}
+use Rattle.et_program.specs.Resolution.{resolve_class, resolve_method, select, select_special}
+use Rattle.et_event.specs.declared.errors.GuestError.{GuestError}
+use Rattle.et_event.specs.declared.errors.GuestError.TheVariants.{IncompatibleClassChangeError, NullPointerException}
+use Rattle.et_event.specs.declared.rows.CallKind.TheVariants.{Virtual, Special, Interface}
+use Rattle.et_event.specs.Calls.{arguments_of, call_fits, dispatched, enters_method, entry_count, invoke, is_as, is_of_owner, is_static_call, special_class, with_method, with_type}
+use Rattle.et_event.specs.declared.rows.CallKind.{CallKind}
+use Rattle.et_builtins.specs.Arguments.{fitting}
+use Rattle.et_builtins.specs.Deferred.{is_deferred, selected_by, selected_from, selected_method, selected_on, with_resolved}
+use Rattle.et_pool.specs.Descriptors.{MethodType, method_type}
+use Rattle.et_state.specs.Outcome.{Outcome}
+use Rattle.et_event.specs.Checks.{ill_typed_unless, not_null, resolved, selected, throws_unless}
+use Rattle.et_event.specs.Frames.{first_reference}
+use Rattle.et_event.specs.Moments.{Moment, begins, class_of, ill_typed, throws}
+use Rattle.et_event.specs.Sites.{Member, Site, member_of, names_interface}
+use Rattle.et_event.specs.Sound.{IsSoundFor}
+
+there_is : (x : Option ObjectState) → is_there x → x ≡ Some (found x)
+there_is None h = absurd h
+there_is (Some x) h = refl
+
+pub class_within : (p : Linked) (m : MachineState) (o : ℕ) → IsSoundFor p (kept_of m) → IsHeld m.heap o → (object_at m.heap o).class < length p.classes
+class_within p m o sound held = (sound.objects o (found (at m.heap o)) (there_is (at m.heap o) held)).0.class
+
+-- WHAT THE TABLE SAYS OF A RECEIVER
+
+pub virtual_null : (e : Moment) (at : Site) (args : List Value) (named m : ℕ) → first_reference args ≡ None → dispatched e at Virtual args named m ≡ throws e NullPointerException (begins e)
+virtual_null e at args named m h =
+    ap (λ (r : Option ℕ). not_null e (begins e) r (λ o. ill_typed_unless e (is_of_owner e (begins e) m o) (selected e (begins e) (select e.program (class_of (begins e) o) m false) (enters_method e at (begins e) args)))) h
+
+pub virtual_refused : (e : Moment) (at : Site) (args : List Value) (named m o : ℕ) → first_reference args ≡ Some o → is_of_owner e (begins e) m o ≡ false → dispatched e at Virtual args named m ≡ ill_typed e
+virtual_refused e at args named m o h b =
+    ap (λ (r : Option ℕ). not_null e (begins e) r (λ o. ill_typed_unless e (is_of_owner e (begins e) m o) (selected e (begins e) (select e.program (class_of (begins e) o) m false) (enters_method e at (begins e) args)))) h
+    ∙ ap (λ (x : Bool). ill_typed_unless e x (selected e (begins e) (select e.program (class_of (begins e) o) m false) (enters_method e at (begins e) args))) b
+
+pub virtual_selected : (e : Moment) (at : Site) (args : List Value) (named m o : ℕ) → first_reference args ≡ Some o → is_of_owner e (begins e) m o ≡ true
+    → dispatched e at Virtual args named m ≡ selected e (begins e) (select e.program (class_of (begins e) o) m false) (enters_method e at (begins e) args)
+virtual_selected e at args named m o h b =
+    ap (λ (r : Option ℕ). not_null e (begins e) r (λ o. ill_typed_unless e (is_of_owner e (begins e) m o) (selected e (begins e) (select e.program (class_of (begins e) o) m false) (enters_method e at (begins e) args)))) h
+    ∙ ap (λ (x : Bool). ill_typed_unless e x (selected e (begins e) (select e.program (class_of (begins e) o) m false) (enters_method e at (begins e) args))) b
+
+pub interface_null : (e : Moment) (at : Site) (args : List Value) (named m : ℕ) → first_reference args ≡ None → dispatched e at Interface args named m ≡ throws e NullPointerException (begins e)
+interface_null e at args named m h =
+    ap (λ (r : Option ℕ). not_null e (begins e) r (λ o. selected e (begins e) (select e.program (class_of (begins e) o) m true) (enters_method e at (begins e) args))) h
+
+pub interface_selected : (e : Moment) (at : Site) (args : List Value) (named m o : ℕ) → first_reference args ≡ Some o
+    → dispatched e at Interface args named m ≡ selected e (begins e) (select e.program (class_of (begins e) o) m true) (enters_method e at (begins e) args)
+interface_selected e at args named m o h =
+    ap (λ (r : Option ℕ). not_null e (begins e) r (λ o. selected e (begins e) (select e.program (class_of (begins e) o) m true) (enters_method e at (begins e) args))) h
+
+pub special_null : (e : Moment) (at : Site) (args : List Value) (named m : ℕ) → first_reference args ≡ None → dispatched e at Special args named m ≡ throws e NullPointerException (begins e)
+special_null e at args named m h =
+    ap (λ (r : Option ℕ). not_null e (begins e) r (λ o. ill_typed_unless e (is_of_owner e (begins e) m o) (selected e (begins e) (select_special e.program at.class (special_class e.program named) m) (enters_method e at (begins e) args)))) h
+
+pub special_refused : (e : Moment) (at : Site) (args : List Value) (named m o : ℕ) → first_reference args ≡ Some o → is_of_owner e (begins e) m o ≡ false → dispatched e at Special args named m ≡ ill_typed e
+special_refused e at args named m o h b =
+    ap (λ (r : Option ℕ). not_null e (begins e) r (λ o. ill_typed_unless e (is_of_owner e (begins e) m o) (selected e (begins e) (select_special e.program at.class (special_class e.program named) m) (enters_method e at (begins e) args)))) h
+    ∙ ap (λ (x : Bool). ill_typed_unless e x (selected e (begins e) (select_special e.program at.class (special_class e.program named) m) (enters_method e at (begins e) args))) b
+
+pub special_selected : (e : Moment) (at : Site) (args : List Value) (named m o : ℕ) → first_reference args ≡ Some o → is_of_owner e (begins e) m o ≡ true
+    → dispatched e at Special args named m ≡ selected e (begins e) (select_special e.program at.class (special_class e.program named) m) (enters_method e at (begins e) args)
+special_selected e at args named m o h b =
+    ap (λ (r : Option ℕ). not_null e (begins e) r (λ o. ill_typed_unless e (is_of_owner e (begins e) m o) (selected e (begins e) (select_special e.program at.class (special_class e.program named) m) (enters_method e at (begins e) args)))) h
+    ∙ ap (λ (x : Bool). ill_typed_unless e x (selected e (begins e) (select_special e.program at.class (special_class e.program named) m) (enters_method e at (begins e) args))) b
+
+-- THE CHECKS BEFORE THE RECEIVER
+
+abbrev pub checks : Moment → Site → CallKind → ℕ → ℕ → ℕ → Outcome Kept
+checks e at kind count owner method =
+    throws_unless e (begins e) IncompatibleClassChangeError (is_as (is_static_call kind) (is_static e.program method)) (dispatched e at kind (arguments_of e count) owner method)
+
+abbrev pub resolves : Moment → Member → Bool → (ℕ → ℕ → Outcome Kept) → Outcome Kept
+resolves e m by_interface go =
+    resolved e (begins e) (resolve_class e.program m.owner) (λ owner. resolved e (begins e) (resolve_method e.program owner by_interface m.name m.descriptor) (go owner))
+
+-- by how many entries are passed, if the call may be done
+abbrev pub fitted : Moment → Site → CallKind → Member → Option ℕ → Outcome Kept
+fitted e at kind m None = ill_typed e
+fitted e at kind m (Some count) = resolves e m (names_interface at) (checks e at kind count)
+
+by_fit : (e : Moment) (at : Site) (kind : CallKind) (m : Member) (type : MethodType) (b : Bool)
+    → ill_typed_unless e b (resolves e m (names_interface at) (checks e at kind (entry_count (is_static_call kind) type))) ≡ fitted e at kind m (if b then Some (entry_count (is_static_call kind) type) else None)
+by_fit e at kind m type true = refl
+by_fit e at kind m type false = refl
+
+by_type : (e : Moment) (at : Site) (kind : CallKind) (m : Member) (o : Option MethodType)
+    → with_type e o (λ type. ill_typed_unless e (call_fits e (is_static_call kind) type) (resolves e m (names_interface at) (checks e at kind (entry_count (is_static_call kind) type)))) ≡ fitted e at kind m (fitting e (is_static_call kind) o)
+by_type e at kind m None = refl
+by_type e at kind m (Some type) = by_fit e at kind m type (call_fits e (is_static_call kind) type)
+
+pub invoke_is : (e : Moment) (at : Site) (kind : CallKind) (m : Member) → member_of at ≡ Some m → invoke e at kind ≡ fitted e at kind m (fitting e (is_static_call kind) (method_type m.descriptor))
+invoke_is e at kind m h =
+    ap (λ (o : Option Member). with_method e o (λ n type. ill_typed_unless e (call_fits e (is_static_call kind) type) (resolves e n (names_interface at) (checks e at kind (entry_count (is_static_call kind) type))))) h
+    ∙ by_type e at kind m (method_type m.descriptor)
+
+-- WHAT IS SELECTED, by how many entries are passed, if the call may be done
+
+abbrev pub fitted_method : Moment → Site → CallKind → Member → Option ℕ → Option ℕ
+fitted_method e at kind m None = None
+fitted_method e at kind m (Some count) = with_resolved e.program (names_interface at) m (selected_from e at kind (arguments_of e count))
+
+method_by_fit : (e : Moment) (at : Site) (kind : CallKind) (m : Member) (count : ℕ) (b : Bool)
+    → (if b then with_resolved e.program (names_interface at) m (selected_from e at kind (arguments_of e count)) else None) ≡ fitted_method e at kind m (if b then Some count else None)
+method_by_fit e at kind m count true = refl
+method_by_fit e at kind m count false = refl
+
+method_by_type : (e : Moment) (at : Site) (kind : CallKind) (m : Member) (o : Option MethodType) → option_and_then (selected_by e at kind m) o ≡ fitted_method e at kind m (fitting e (is_static_call kind) o)
+method_by_type e at kind m None = refl
+method_by_type e at kind m (Some type) = method_by_fit e at kind m (entry_count (is_static_call kind) type) (call_fits e (is_static_call kind) type)
+
+pub selected_is : (e : Moment) (at : Site) (kind : CallKind) (m : Member) → member_of at ≡ Some m → selected_method e at kind ≡ fitted_method e at kind m (fitting e (is_static_call kind) (method_type m.descriptor))
+selected_is e at kind m h =
+    ap (λ (o : Option Member). option_and_then (λ (named : Member). option_and_then (selected_by e at kind named) (method_type named.descriptor)) o) h
+    ∙ method_by_type e at kind m (method_type m.descriptor)
+
+-- .. by the kind of the invoke
+pub by_kind : (e : Moment) (at : Site) (kind same : CallKind) (r : Option ℕ) (count named m : ℕ) → kind ≡ same
+    → kept (is_deferred e.program) r ≡ kept (is_deferred e.program) (option_and_then (selected_on e at same named m) (first_reference (arguments_of e count)))
+    → kept (is_deferred e.program) r ≡ kept (is_deferred e.program) (option_and_then (selected_on e at kind named m) (first_reference (arguments_of e count)))
+by_kind e at kind same r count named m is h =
+    subst (λ (k : CallKind). kept (is_deferred e.program) r ≡ kept (is_deferred e.program) (option_and_then (selected_on e at k named m) (first_reference (arguments_of e count)))) (sym is) h
+
+-- .. where the method is static or not as the invoke wants it
+pub from_by : (e : Moment) (at : Site) (kind : CallKind) (count named m : ℕ) (b : Bool) → is_as (is_static_call kind) (is_static e.program m) ≡ b
+    → selected_from e at kind (arguments_of e count) named m ≡ (if b then option_and_then (selected_on e at kind named m) (first_reference (arguments_of e count)) else None)
+from_by e at kind count named m b is = ap (λ (x : Bool). if x then option_and_then (selected_on e at kind named m) (first_reference (arguments_of e count)) else None) is
+
+-- .. by what was resolved
+abbrev pub found_by : Result (ℕ × ℕ) GuestError → (ℕ → ℕ → Option ℕ) → Option ℕ
+found_by r go = option_and_then (λ (x : ℕ × ℕ). go x.0 x.1) (result_ok r)

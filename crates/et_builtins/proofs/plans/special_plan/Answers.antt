@@ -1,0 +1,27 @@
+use Rattle.std.proofs.Common.{◌≡◌, ℕ, true, rules, sym, ◌∙◌, ap}
+use Rattle.std.specs.Prelude.{Result}
+use Rattle.et_program.specs.declared.errors.LinkError.{LinkError}
+use Rattle.et_program.specs.Resolution.{select_special}
+use Rattle.et_event.specs.Calls.{arguments_of, enters_method, is_of_owner, special_class}
+use Rattle.et_event.specs.Checks.{selected}
+use Rattle.et_event.specs.Moments.{moment, begins}
+use Rattle.et_builtins.proofs.Choosing.{special_room}
+use Rattle.et_builtins.proofs.Planning.{special_selected}
+use Rattle.et_builtins.proofs.plans.special_plan.Goals as goal
+
+pub returns-clause-plan : goal.returns-clause-plan
+returns-clause-plan g c = λ at same.
+    let e = moment c.args.program.now c.args.machine.now c.args.thread in
+    let p = c.args.program.now in
+    let args = arguments_of e c.args.callee.count in
+    let owner : is_of_owner e (begins e) c.args.callee.method c.in-Some.receiver ≡ true = search rules in
+    let answer : select_special p at.class (special_class p c.args.callee.named) c.args.callee.method ≡ c.select_special.result =
+    ap (λ (k : ℕ). select_special p k (special_class p c.args.callee.named) c.args.callee.method) same
+    ∙ (ap (λ (k : ℕ). select_special p c.args.callee.current k c.args.callee.method) (sym c.special_class-from.ensures.value) ∙ sym c.select_special.ensures.value) in
+    special_selected e at args c.args.callee.named c.args.callee.method c.in-Some.receiver (sym c.in-Some.ensures.value) owner
+    ∙ (ap (λ (r : Result ℕ LinkError). selected e (begins e) r (enters_method e at (begins e) args)) answer ∙ c.selected.ensures.plan e at)
+
+pub returns-clause-within : goal.returns-clause-within
+returns-clause-within g c =
+    let e = moment c.args.program.now c.args.machine.now c.args.thread in
+    c.selected.ensures.within e c.select_special.ensures.within (special_room e c.args.callee.current c.special_class-from.result c.args.callee.method c.args.callee.count c.select_special.result c.select_special.ensures.value c.requires.room) c.requires.operands

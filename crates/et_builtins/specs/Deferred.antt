@@ -1,0 +1,101 @@
+-- DEFERRED CALLS: those of the built-in methods of threads and of weak references. The event call that does calls leaves them
+-- to the one that does monitors and threads.
+use Rattle.std.specs.Prelude.{◌≡◌, ℕ, ◌&&◌, ◌||◌, not, Bool, true, false, if◌then◌else◌, List, codes, Option, Some, None, is_none, option_and_then, Result, Ok, Err}
+use Rattle.std.specs.Result.{result_ok}
+use Rattle.std.specs.Str.{bytes_eq}
+use Rattle.et_pool.specs.Descriptors.{MethodType, method_type}
+use Rattle.et_code.specs.declared.instr.Instr.{Instr}
+use Rattle.et_code.specs.declared.instr.CodeFault.{CodeFault}
+use Rattle.et_class.specs.Names.{has}
+use Rattle.et_class.specs.declared.flags.TheConstants.{NATIVE}
+use Rattle.et_program.specs.Entries.{Linked, class_at, method_at, is_abstract, is_static}
+use Rattle.et_program.specs.Members.{kept}
+use Rattle.et_program.specs.Resolution.{resolve_class, resolve_method, select, select_special}
+use Rattle.et_base.specs.declared.value.Value.{Value}
+use Rattle.et_state.specs.declared.stage.Turn.{Turn}
+use Rattle.et_state.specs.declared.stage.Turn.TheVariants.{Instruction}
+use Rattle.et_state.specs.declared.records.Record.{Record}
+use Rattle.et_state.specs.declared.ends.EventEnd.{EventEnd}
+use Rattle.et_state.specs.declared.ends.EventEnd.TheVariants as ends
+use Rattle.et_state.specs.Outcome.{Outcome}
+use Rattle.et_state.specs.Threads.{turn_of}
+use Rattle.et_state.specs.State.{Kept, MachineState}
+use Rattle.et_event.specs.declared.rows.CallKind.{CallKind}
+use Rattle.et_event.specs.declared.rows.CallKind.TheVariants.{Virtual, Special, Static, Interface}
+use Rattle.et_event.specs.declared.rows.CallRow.TheVariants.{Invoke}
+use Rattle.et_event.specs.declared.rows.Row.{Row}
+use Rattle.et_event.specs.declared.rows.Row.TheVariants.{Call}
+use Rattle.et_event.specs.Answered.{EventAnswers}
+use Rattle.et_event.specs.Calls.{arguments_of, call_fits, entry_count, is_as, is_of_owner, is_static_call, special_class}
+use Rattle.et_event.specs.Frames.{first_reference}
+use Rattle.et_event.specs.Moments.{Moment, begins, class_of, frame_of, thread_of}
+use Rattle.et_event.specs.Sites.{Member, Site, decoded_at, member_of, names_interface, site_of}
+use Rattle.et_event.specs.Table.{row_of}
+
+-- THE METHODS
+
+-- java.lang.Thread, and java.lang.ref.Reference and WeakReference
+abbrev pub is_deferring : List ℕ → Bool
+is_deferring name = bytes_eq name (codes "java/lang/Thread") || bytes_eq name (codes "java/lang/ref/Reference") || bytes_eq name (codes "java/lang/ref/WeakReference")
+
+-- a method of one of these classes that has no code and is built in: it is called on an object, and neither native nor abstract
+abbrev pub is_deferred : Linked → ℕ → Bool
+is_deferred p m =
+    is_none (method_at p m).code
+    && not (is_static p m || has (method_at p m).flags NATIVE || is_abstract p m)
+    && is_deferring (class_at p (method_at p m).class).info.name
+
+-- WHICH METHOD IS SELECTED (JVMS 5.4.3.3, 5.4.3.4, 5.4.6 and 6.5 invokevirtual, invokespecial, invokeinterface), where no check
+-- of the table of events refuses. An invokestatic selects none: it calls the method that was resolved.
+
+-- by the receiver o, from the method m that was resolved in the named class
+abbrev pub selected_on : Moment → Site → CallKind → ℕ → ℕ → ℕ → Option ℕ
+selected_on e at Virtual named m o = if is_of_owner e (begins e) m o then result_ok (select e.program (class_of (begins e) o) m false) else None
+selected_on e at Special named m o = if is_of_owner e (begins e) m o then result_ok (select_special e.program at.class (special_class e.program named) m) else None
+selected_on e at Static named m o = None
+selected_on e at Interface named m o = result_ok (select e.program (class_of (begins e) o) m true)
+
+-- .. where m is static or not as the invoke wants it, and the receiver, the first argument, isn't null
+abbrev pub selected_from : Moment → Site → CallKind → List Value → ℕ → ℕ → Option ℕ
+selected_from e at kind arguments named m =
+    if is_as (is_static_call kind) (is_static e.program m) then option_and_then (selected_on e at kind named m) (first_reference arguments) else None
+
+-- what is found by the class and the method that a member names
+abbrev pub with_resolved : Linked → Bool → Member → (ℕ → ℕ → Option ℕ) → Option ℕ
+with_resolved p by_interface named go =
+    option_and_then (λ owner. option_and_then (go owner) (result_ok (resolve_method p owner by_interface named.name named.descriptor))) (result_ok (resolve_class p named.owner))
+
+-- .. of this type, where the arguments are there
+abbrev pub selected_by : Moment → Site → CallKind → Member → MethodType → Option ℕ
+selected_by e at kind named type =
+    if call_fits e (is_static_call kind) type
+    then with_resolved e.program (names_interface at) named (selected_from e at kind (arguments_of e (entry_count (is_static_call kind) type)))
+    else None
+
+abbrev pub selected_method : Moment → Site → CallKind → Option ℕ
+selected_method e at kind = option_and_then (λ named. option_and_then (selected_by e at kind named) (method_type named.descriptor)) (member_of at)
+
+-- THE DEFERRED METHOD THAT A TURN CALLS, if it calls one
+
+abbrev pub deferred_at : Moment → Site → Row → Option ℕ
+deferred_at e at (Call (Invoke kind)) = kept (is_deferred e.program) (selected_method e at kind)
+deferred_at e at other = None
+
+abbrev pub deferred_by : Moment → Result (Instr × ℕ) CodeFault → Option ℕ
+deferred_by e (Err fault) = None
+deferred_by e (Ok x) = option_and_then (deferred_at e (site_of e.program (frame_of e) x)) (row_of x.0.opcode)
+
+abbrev pub deferred_in : Moment → Turn → Option ℕ
+deferred_in e Instruction = deferred_by e (decoded_at e.program (frame_of e))
+deferred_in e other = None
+
+-- the turn of thread t in state s
+unfoldable pub deferred_call : Linked → Kept → ℕ → Option ℕ
+deferred_call p s t =
+    let e : Moment = record { program = p; before = s; thread = t } in
+    deferred_in e (turn_of (thread_of e))
+
+-- WHAT IS ANSWERED BY A CALL THAT DEFERS: the method, and then machine and records are as before. Else it does the event
+abbrev pub DefersOrAnswers : Option ℕ → Outcome Kept → EventEnd → MachineState → MachineState → List Record → List Record → Type 0
+DefersOrAnswers (Some method) o end m m' out out' = (end ≡ ends.Native method) × (m' ≡ m) × (out' ≡ out)
+DefersOrAnswers None o end m m' out out' = EventAnswers o end m m' out out'

@@ -1,0 +1,467 @@
+//! What an invoke comes to (JVMS 6.5, the invokes; 5.4.3), found out without a change.
+ghost use Rattle.std.specs.Prelude.{◌≡◌, ℕ, ◌+◌, ◌<◌, ◌≤◌, ◌^◌, ◌⊎◌, true, Option, Some, None, IfOk, IfSome, codes, length, option_and_then};
+ghost use Rattle.std.specs.Result.{result_ok};
+ghost use Rattle.et_heap.specs.Objects.{IsHeld};
+ghost use Rattle.et_state.specs.Sound.{IsSound};
+ghost use Rattle.et_state.specs.Words.{HasFrame, top};
+ghost use Rattle.et_event.specs.declared.rows.CallKind.TheVariants as kinds;
+ghost use Rattle.et_state.specs.State.{Kept, kept_of};
+ghost use Rattle.et_parts.specs.Places.{site_at};
+ghost use Rattle.et_parts.specs.Members.{shown_member};
+ghost use Rattle.et_program.specs.Entries.{is_static, method_at};
+ghost use Rattle.et_program.specs.Members.{kept};
+ghost use Rattle.et_program.specs.Resolution.{resolve_class, resolve_method};
+ghost use Rattle.et_state.specs.Outcome.{Outcome};
+ghost use Rattle.et_event.specs.declared.errors.GuestError.TheVariants as errors;
+ghost use Rattle.et_event.specs.Calls.{arguments_of, dispatched, enters_method, invoke, is_as, is_static_call as calls_static, special_class as class_of_special};
+ghost use Rattle.et_event.specs.Checks.{resolved, selected as selected_in, throws_unless};
+ghost use Rattle.et_event.specs.Errors.{class_called};
+ghost use Rattle.et_event.specs.Frames.{first_reference};
+ghost use Rattle.et_event.specs.Moments.{Moment, begins, frame_of, moment};
+ghost use Rattle.et_event.specs.Sites.{Site, natural};
+ghost use Rattle.et_event.specs.Initialization.{state_of};
+ghost use Rattle.et_event.specs.Sound.{IsSoundFor};
+ghost use Rattle.et_builtins.specs.Arguments.{arguments_in};
+ghost use Rattle.et_builtins.specs.Deferred.{is_deferred as is_deferred_in, is_deferring as is_deferring_class, selected_from, selected_method, selected_on, with_resolved};
+ghost use Rattle.et_builtins.specs.Plans.{entered_by, planned, HasRoom, IsPlan, resolving};
+
+use crate::arguments::{fitting_call, receiver};
+use et_base::{ClassId, MethodId, Steps, ThreadId};
+use et_class::flags::{ABSTRACT, NATIVE, STATIC, has};
+use et_event::{CallKind, GuestError};
+use et_parts::{MemberAt, Place, member_at, names_interface};
+use et_program::{Element, LinkError, Program};
+use et_state::{ClassState, Machine};
+use std::sync::ledger::Ledger;
+
+/// What an invoke comes to.
+#[derive(Clone, Copy, Debug, PartialEq, Eq)]
+pub enum CallPlan {
+    /// It has no meaning.
+    IllTyped,
+    /// An error is thrown.
+    Throws(GuestError),
+    /// Another thread initializes the class of the static method, and the thread waits.
+    Waits,
+    /// The class of the static method is untouched, and is initialized first.
+    Initializes { method: MethodId, count: u32 },
+    /// The selected method is entered, or done where it is built in, with so many entries as arguments.
+    Enters { method: MethodId, count: u32 },
+}
+
+/// A method that is called.
+#[derive(Clone, Copy)]
+pub struct Call {
+    /// The method, as it was selected.
+    pub method: MethodId,
+    /// So many entries on top of the operands are its arguments.
+    pub count: u32,
+    /// The pc behind the call.
+    pub next: u32,
+}
+
+/// A method that an invoke names, as it was resolved (JVMS 5.4.3.3, 5.4.3.4), and how many entries are its arguments.
+#[derive(Clone, Copy)]
+struct Callee {
+    /// The class of the method that calls.
+    current: ClassId,
+    /// The class that the invoke names.
+    named: ClassId,
+    method: MethodId,
+    count: u32,
+}
+
+/// The selected method is entered, or the error of the selection is thrown.
+fn selected(answer: Result<MethodId, LinkError>, count: u32) -> CallPlan
+    ensures within { (e : Moment) → IfOk answer (λ m. m < length e.program.methods) → IfOk answer
+        (λ m. HasRoom e m count) → count ≤ length (frame_of e).operands → IsPlan e result }
+    ensures plan { (e : Moment) (at : Site) → selected_in e (begins e) answer
+        (enters_method e at (begins e) (arguments_of e count)) ≡ planned e at result }
+    ensures entered { entered_by result ≡ result_ok answer }
+{
+    match answer {
+        Ok(method) => CallPlan::Enters { method, count },
+        Err(error) => CallPlan::Throws(GuestError::of(error)),
+    }
+}
+
+/// The plan of `invokevirtual` of a resolved method. It visits one object at most, as each plan.
+#[tactic(auto, using(crate::proofs::Planning::class_within))]
+fn virtual_plan<L: Ledger>(
+    program: &Program,
+    machine: &Machine,
+    thread: ThreadId,
+    method: MethodId,
+    count: u32,
+    visits: &mut Steps<L>,
+) -> CallPlan
+    requires frame { HasFrame machine.now.guest thread }
+    requires sound { IsSoundFor program.now (kept_of machine.now) }
+    requires operands { count ≤ length (top machine.now.guest thread).operands }
+    requires method { method < length program.now.methods }
+    requires room { HasRoom (moment program.now machine.now thread) method count }
+    ensures plan { (at : Site) (named : ℕ) → dispatched (moment program.now machine.now thread)
+        at kinds.Virtual (arguments_of (moment program.now machine.now thread) count) named method
+        ≡ planned (moment program.now machine.now thread) at result }
+    ensures entered { (at : Site) (named : ℕ) → entered_by result ≡ option_and_then (selected_on
+        (moment program.now machine.now thread) at kinds.Virtual named method) (first_reference
+        (arguments_of (moment program.now machine.now thread) count)) }
+    ensures within { IsPlan (moment program.now machine.now thread) result }
+    ensures visits { visits.new ≤ visits.old + 1 }
+{
+    let Some(receiver) = receiver(machine, thread, count) else {
+        return CallPlan::Throws(GuestError::NullPointerException);
+    };
+    let class = machine.heap.class_of(receiver, visits);
+    if !program.is_subclass(class, program.method(method).class) {
+        return CallPlan::IllTyped;
+    }
+    selected(program.select(class, method, false), count)
+}
+
+/// The plan of `invokeinterface` of a resolved method.
+#[tactic(auto, using(crate::proofs::Planning::class_within))]
+fn interface_plan<L: Ledger>(
+    program: &Program,
+    machine: &Machine,
+    thread: ThreadId,
+    method: MethodId,
+    count: u32,
+    visits: &mut Steps<L>,
+) -> CallPlan
+    requires frame { HasFrame machine.now.guest thread }
+    requires sound { IsSoundFor program.now (kept_of machine.now) }
+    requires operands { count ≤ length (top machine.now.guest thread).operands }
+    requires method { method < length program.now.methods }
+    requires room { HasRoom (moment program.now machine.now thread) method count }
+    ensures plan { (at : Site) (named : ℕ) → dispatched (moment program.now machine.now thread)
+        at kinds.Interface (arguments_of (moment program.now machine.now thread) count) named method
+        ≡ planned (moment program.now machine.now thread) at result }
+    ensures entered { (at : Site) (named : ℕ) → entered_by result ≡ option_and_then (selected_on
+        (moment program.now machine.now thread) at kinds.Interface named method) (first_reference
+        (arguments_of (moment program.now machine.now thread) count)) }
+    ensures within { IsPlan (moment program.now machine.now thread) result }
+    ensures visits { visits.new ≤ visits.old + 1 }
+{
+    let Some(receiver) = receiver(machine, thread, count) else {
+        return CallPlan::Throws(GuestError::NullPointerException);
+    };
+    let class = machine.heap.class_of(receiver, visits);
+    selected(program.select(class, method, true), count)
+}
+
+/// The class `java/lang/Object`.
+fn object_class(program: &Program) -> ClassId
+    requires { 0 < length program.now.classes }
+    ensures value { result ≡ class_called program.now (codes "java/lang/Object") }
+    ensures within { result < length program.now.classes }
+{
+    match program.resolve_class(b"java/lang/Object") {
+        Ok(class) => class,
+        Err(_) => ClassId::new(0),
+    }
+}
+
+/// The class from which `invokespecial` selects: the one that it names, or Object for an array class.
+fn special_class(program: &Program, named: ClassId) -> ClassId
+    requires { named < length program.now.classes }
+    ensures value { result ≡ class_of_special program.now named }
+    ensures within { result < length program.now.classes }
+{
+    match program.class(named).element {
+        Element::NoArray => named,
+        Element::Base(_) | Element::Class(_) => object_class(program),
+    }
+}
+
+/// The plan of `invokespecial` in a method of the current class, of a method that was resolved in a named one.
+#[tactic(auto, using(crate::proofs::Planning::class_within))]
+fn special_plan<L: Ledger>(
+    program: &Program,
+    machine: &Machine,
+    thread: ThreadId,
+    callee: Callee,
+    visits: &mut Steps<L>,
+) -> CallPlan
+    requires frame { HasFrame machine.now.guest thread }
+    requires sound { IsSoundFor program.now (kept_of machine.now) }
+    requires operands { callee.count ≤ length (top machine.now.guest thread).operands }
+    requires current { callee.current < length program.now.classes }
+    requires named { callee.named < length program.now.classes }
+    requires method { callee.method < length program.now.methods }
+    requires room { HasRoom (moment program.now machine.now thread) callee.method callee.count }
+    ensures plan { (at : Site) → at.class ≡ callee.current →
+        dispatched (moment program.now machine.now thread) at kinds.Special (arguments_of
+        (moment program.now machine.now thread) callee.count) callee.named callee.method
+        ≡ planned (moment program.now machine.now thread) at result }
+    ensures entered { (at : Site) → at.class ≡ callee.current →
+        entered_by result ≡ option_and_then (selected_on (moment program.now machine.now thread)
+        at kinds.Special callee.named callee.method) (first_reference
+        (arguments_of (moment program.now machine.now thread) callee.count)) }
+    ensures within { IsPlan (moment program.now machine.now thread) result }
+    ensures visits { visits.new ≤ visits.old + 1 }
+{
+    let Some(receiver) = receiver(machine, thread, callee.count) else {
+        return CallPlan::Throws(GuestError::NullPointerException);
+    };
+    let class = machine.heap.class_of(receiver, visits);
+    if !program.is_subclass(class, program.method(callee.method).class) {
+        return CallPlan::IllTyped;
+    }
+    let from = special_class(program, callee.named);
+    selected(
+        program.select_special(callee.current, from, callee.method),
+        callee.count,
+    )
+}
+
+/// The plan of `invokestatic` of a resolved method, by how far its class is with its initialization (JVMS 5.5).
+fn static_plan(
+    program: &Program,
+    machine: &Machine,
+    thread: ThreadId,
+    method: MethodId,
+    count: u32,
+) -> CallPlan
+    requires sound { IsSoundFor program.now (kept_of machine.now) }
+    requires operands { count ≤ length (top machine.now.guest thread).operands }
+    requires method { method < length program.now.methods }
+    requires room { HasRoom (moment program.now machine.now thread) method count }
+    requires is_static { is_static program.now method ≡ true }
+    ensures plan { (at : Site) (named : ℕ) → dispatched (moment program.now machine.now thread)
+        at kinds.Static (arguments_of (moment program.now machine.now thread) count) named method
+        ≡ planned (moment program.now machine.now thread) at result }
+    ensures entered { (entered_by result ≡ None) ⊎ (entered_by result ≡ Some method) }
+    ensures within { IsPlan (moment program.now machine.now thread) result }
+{
+    let class = program.method(method).class;
+    state_plan(machine.class_state(class), thread, method, count)
+}
+
+/// The plan of `invokestatic` where the class of the method is in this state.
+fn state_plan(state: ClassState, thread: ThreadId, method: MethodId, count: u32) -> CallPlan
+    ensures plan { (e : Moment) (at : Site) (class named : ℕ) → e.thread ≡ thread →
+        (method_at e.program method).class ≡ class → state_of (begins e) class ≡ state →
+        dispatched e at kinds.Static (arguments_of e count) named method ≡ planned e at result }
+    ensures entered { (entered_by result ≡ None) ⊎ (entered_by result ≡ Some method) }
+    ensures within { (e : Moment) → method < length e.program.methods →
+        HasRoom e method count → count ≤ length (frame_of e).operands →
+        state_of (begins e) (method_at e.program method).class ≡ state →
+        is_static e.program method ≡ true → IsPlan e result }
+{
+    match state {
+        ClassState::Done => CallPlan::Enters { method, count },
+        ClassState::Begun(owner) => if owner == thread {
+            CallPlan::Enters { method, count }
+        } else {
+            CallPlan::Waits
+        },
+        ClassState::Failed => CallPlan::Throws(GuestError::NoClassDefFoundError),
+        ClassState::Untouched => CallPlan::Initializes { method, count },
+    }
+}
+
+/// The plan of an invoke of a kind in a method of the current class, of a method that was resolved in a named one.
+fn dispatch_plan<L: Ledger>(
+    program: &Program,
+    machine: &Machine,
+    thread: ThreadId,
+    kind: CallKind,
+    callee: Callee,
+    visits: &mut Steps<L>,
+) -> CallPlan
+    requires frame { HasFrame machine.now.guest thread }
+    requires sound { IsSoundFor program.now (kept_of machine.now) }
+    requires operands { callee.count ≤ length (top machine.now.guest thread).operands }
+    requires current { callee.current < length program.now.classes }
+    requires named { callee.named < length program.now.classes }
+    requires method { callee.method < length program.now.methods }
+    requires room { HasRoom (moment program.now machine.now thread) callee.method callee.count }
+    requires is_static { is_as (calls_static kind) (is_static program.now callee.method) ≡ true }
+    ensures plan { (at : Site) → at.class ≡ callee.current →
+        dispatched (moment program.now machine.now thread) at kind (arguments_of
+        (moment program.now machine.now thread) callee.count) callee.named callee.method
+        ≡ planned (moment program.now machine.now thread) at result }
+    ensures deferred { (at : Site) → at.class ≡ callee.current →
+        kept (is_deferred_in program.now) (entered_by result)
+        ≡ kept (is_deferred_in program.now) (option_and_then (selected_on
+        (moment program.now machine.now thread) at kind callee.named callee.method)
+        (first_reference (arguments_of (moment program.now machine.now thread) callee.count))) }
+    ensures within { IsPlan (moment program.now machine.now thread) result }
+    ensures visits { visits.new ≤ visits.old + 1 }
+{
+    match kind {
+        CallKind::Virtual => {
+            virtual_plan(
+                program,
+                machine,
+                thread,
+                callee.method,
+                callee.count,
+                visits,
+            )
+        }
+        CallKind::Special => special_plan(program, machine, thread, callee, visits),
+        CallKind::Static => { static_plan(program, machine, thread, callee.method, callee.count) }
+        CallKind::Interface => {
+            interface_plan(
+                program,
+                machine,
+                thread,
+                callee.method,
+                callee.count,
+                visits,
+            )
+        }
+    }
+}
+
+/// Whether an invoke calls static methods.
+fn is_static_call(kind: CallKind) -> bool
+    ensures { result ≡ calls_static kind }
+{
+    matches!(kind, CallKind::Static)
+}
+
+/// The plan of an invoke of a resolved method, which is static or not as the invoke wants it.
+fn resolved_plan<L: Ledger>(
+    program: &Program,
+    machine: &Machine,
+    thread: ThreadId,
+    kind: CallKind,
+    callee: Callee,
+    visits: &mut Steps<L>,
+) -> CallPlan
+    requires frame { HasFrame machine.now.guest thread }
+    requires sound { IsSoundFor program.now (kept_of machine.now) }
+    requires operands { callee.count ≤ length (top machine.now.guest thread).operands }
+    requires current { callee.current < length program.now.classes }
+    requires named { callee.named < length program.now.classes }
+    requires method { callee.method < length program.now.methods }
+    requires room { HasRoom (moment program.now machine.now thread) callee.method callee.count }
+    ensures plan { (at : Site) →
+        at.class ≡ callee.current → throws_unless (moment program.now machine.now thread)
+        (begins (moment program.now machine.now thread)) errors.IncompatibleClassChangeError
+        (is_as (calls_static kind) (is_static program.now callee.method))
+        (dispatched (moment program.now machine.now thread) at kind (arguments_of
+        (moment program.now machine.now thread) callee.count) callee.named callee.method)
+        ≡ planned (moment program.now machine.now thread) at result }
+    ensures deferred { (at : Site) → at.class ≡ callee.current →
+        kept (is_deferred_in program.now) (entered_by result) ≡ kept (is_deferred_in program.now)
+        (selected_from (moment program.now machine.now thread) at kind (arguments_of
+        (moment program.now machine.now thread) callee.count) callee.named callee.method) }
+    ensures within { IsPlan (moment program.now machine.now thread) result }
+    ensures visits { visits.new ≤ visits.old + 1 }
+{
+    let is_static = has(program.method(callee.method).flags, STATIC);
+    if is_static != is_static_call(kind) {
+        return CallPlan::Throws(GuestError::IncompatibleClassChangeError);
+    }
+    dispatch_plan(program, machine, thread, kind, callee, visits)
+}
+
+/// The class and the method that an invoke names (JVMS 5.4.3.3, 5.4.3.4), or the error that is thrown.
+fn resolve(
+    program: &Program,
+    member: &MemberAt<'_>,
+    by_interface: bool,
+) -> Result<(ClassId, MethodId), GuestError>
+    ensures value { (e : Moment) (go : ℕ → ℕ → Outcome Kept) → e.program ≡ program.now → resolved e
+        (begins e) (resolve_class e.program member.now.owner.now) (λ owner. resolved e (begins e)
+        (resolve_method e.program owner by_interface member.now.name.now member.now.descriptor.now)
+        (go owner)) ≡ resolving e result go }
+    ensures found { (go : ℕ → ℕ → Option ℕ) →
+        with_resolved program.now by_interface (shown_member member.now) go
+        ≡ option_and_then (λ x. go x.0 x.1) (result_ok result) }
+    ensures within { IfOk result
+        (λ x. (x.0 < length program.now.classes) × (x.1 < length program.now.methods)) }
+    ensures same { IfOk result
+        (λ x. (method_at program.now x.1).descriptor ≡ member.now.descriptor.now) }
+{
+    let owner = match program.resolve_class(member.owner) {
+        Ok(owner) => owner,
+        Err(error) => return Err(GuestError::of(error)),
+    };
+    match program.resolve_method(owner, by_interface, member.name, member.descriptor) {
+        Ok(method) => Ok((owner, method)),
+        Err(error) => Err(GuestError::of(error)),
+    }
+}
+
+/// What an invoke comes to at a place: the table of events says of the invoke what it says of the plan. It visits one object
+/// at most.
+pub fn invoke_plan<L: Ledger>(
+    program: &Program,
+    machine: &Machine,
+    thread: ThreadId,
+    place: &Place<'_>,
+    kind: CallKind,
+    visits: &mut Steps<L>,
+) -> CallPlan
+    requires frame { HasFrame machine.now.guest thread }
+    requires sound { IsSoundFor program.now (kept_of machine.now) }
+    requires class { place.now.class < length program.now.classes }
+    requires index { natural place.now.instr.first < 2 ^ 16 }
+    ensures plan { invoke (moment program.now machine.now thread) (site_at place.now) kind
+        ≡ planned (moment program.now machine.now thread) (site_at place.now) result }
+    ensures deferred { kept (is_deferred_in program.now) (entered_by result)
+        ≡ kept (is_deferred_in program.now)
+        (selected_method (moment program.now machine.now thread) (site_at place.now) kind) }
+    ensures within { IsPlan (moment program.now machine.now thread) result }
+    ensures visits { visits.new ≤ visits.old + 1 }
+{
+    let Some(member) = member_at(place) else {
+        return CallPlan::IllTyped;
+    };
+    let Some(count) = fitting_call(machine, thread, is_static_call(kind), member.descriptor) else {
+        return CallPlan::IllTyped;
+    };
+    match resolve(program, &member, names_interface(place)) {
+        Ok(found) => {
+            let callee = Callee {
+                current: place.class,
+                named: found.0,
+                method: found.1,
+                count,
+            };
+            resolved_plan(program, machine, thread, kind, callee, visits)
+        }
+        Err(error) => CallPlan::Throws(error),
+    }
+}
+
+/// Whether a class is one of those whose built-in methods are deferred.
+fn is_deferring(name: &[u8]) -> bool
+    ensures { result ≡ is_deferring_class name.now }
+{
+    name == b"java/lang/Thread".as_slice()
+        || name == b"java/lang/ref/Reference".as_slice()
+        || name == b"java/lang/ref/WeakReference".as_slice()
+}
+
+/// Whether a method is a built-in one without code of threads or of weak references.
+fn is_deferred(program: &Program, method: MethodId) -> bool
+    requires { method < length program.now.methods }
+    ensures { result ≡ is_deferred_in program.now method }
+{
+    let info = program.method(method);
+    let flags = info.flags;
+    let is_other = has(flags, STATIC) || has(flags, NATIVE) || has(flags, ABSTRACT);
+    info.code.is_none() && !is_other && is_deferring(program.class(info.class).name.as_slice())
+}
+
+/// The method that a plan enters, where it is a built-in one without code of threads or of weak references.
+pub fn deferred_method(program: &Program, plan: CallPlan) -> Option<MethodId>
+    requires { IfSome (entered_by plan) (λ method. method < length program.now.methods) }
+    ensures { result ≡ kept (is_deferred_in program.now) (entered_by plan) }
+{
+    match plan {
+        CallPlan::Enters { method, .. } => if is_deferred(program, method) {
+            Some(method)
+        } else {
+            None
+        },
+        CallPlan::IllTyped | CallPlan::Throws(_) | CallPlan::Waits | CallPlan::Initializes { .. } =>
+            None,
+    }
+}
