@@ -5,3 +5,4 @@ mod TopLemmas
 mod NumberLemmas
 mod OptionLemmas
 mod SplitLemmas
+mod VisitLemmas

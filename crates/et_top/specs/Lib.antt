@@ -9,3 +9,4 @@ pub mod Numbers
 pub mod Command
 pub mod Parts
 pub mod Asked
+pub mod Visits

@@ -7,6 +7,7 @@ ghost use Rattle.et_state.specs.Options.{AreOptions};
 ghost use Rattle.et_replay.specs.declared.model.Kind.{Kind};
 ghost use Rattle.et_top.specs.Command as words;
 ghost use Rattle.et_top.specs.Top.{Defined, IsAskedDefined, Gives};
+ghost use Rattle.et_top.specs.Visits.{IsBeforeRun};
 
 use crate::answers::{refuse, written};
 use crate::command::Models;
@@ -44,6 +45,7 @@ pub fn trace<F: Files, O: Sink, E: Sink, L: Ledger>(
     ensures read_fault { result ≡ Status.ReadFault →
         Rose (F.faults files.old) (F.faults files.new) }
     ensures write_fault { result ≡ Status.WriteFault → Rose (O.faults out.old) (O.faults out.new) }
+    ensures no_visits { IsBeforeRun result → visits.new ≡ visits.old }
 {
     match load_program(alloc, paths, files) {
         Ok(program) => run(alloc, &program, options, out, err, visits),

@@ -11,6 +11,7 @@ ghost use Rattle.et_link.specs.Declaring.{HasItsFile};
 ghost use Rattle.et_top.specs.Loaded.{IsLinked, IsProgramOf};
 ghost use Rattle.et_top.specs.Told.{Tells, IsReading, IsFileRefusal, IsOfBytes, cause_of, status_of_result};
 ghost use Rattle.et_top.specs.Top.{Traces, Gives, status_of_end};
+ghost use Rattle.et_top.specs.Visits.{IsBeforeRun};
 
 use crate::answers::{of_fault, refuse};
 use crate::load_classes::load_classes;
@@ -114,6 +115,7 @@ pub fn run<O: Sink, E: Sink, L: Ledger>(
         (Rose (O.faults out.old) (O.faults out.new)) (Traces program.now options.now) result }
     ensures fault { (result ≡ Status.WriteFault → Rose (O.faults out.old) (O.faults out.new))
         × (result ≡ Status.Usage → ⊥) × (result ≡ Status.ReadFault → ⊥) }
+    ensures of_run { IsBeforeRun result → ⊥ }
     ensures never_falls { O.faults out.old ≤ O.faults out.new }
 {
     match et_run::run(alloc, program, options, out, visits) {

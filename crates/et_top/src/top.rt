@@ -6,6 +6,7 @@ ghost use Rattle.et_graph.specs.Graph.{Graph, Decides};
 ghost use Rattle.et_top.specs.Command.{command};
 ghost use Rattle.et_top.specs.Asked.{asked_by, AreInRange};
 ghost use Rattle.et_top.specs.Top.{Defined, IsAskedDefined, IsDefined, Gives};
+ghost use Rattle.et_top.specs.Visits.{IsWithoutRun};
 
 use crate::answers::refuse;
 use crate::command::{Command, read_words};
@@ -39,6 +40,8 @@ fn perform<F: Files, O: Sink, E: Sink, L: Ledger>(
     ensures read_fault { result ≡ Status.ReadFault →
         Rose (F.faults files.old) (F.faults files.new) }
     ensures write_fault { result ≡ Status.WriteFault → Rose (O.faults out.old) (O.faults out.new) }
+    ensures no_visits { IsWithoutRun (Some (asked_by command.now)) result →
+        visits.new ≡ visits.old }
 {
     match command {
         Command::Trace { options, paths } => {
@@ -65,7 +68,7 @@ fn perform<F: Files, O: Sink, E: Sink, L: Ledger>(
 ///
 /// Refusals come in this order: the words; of each file the read, the length and what it holds; linking; the run. Until
 /// all that is read is known to be good, and to link, nothing is put to out; after `WriteFault` and `NoMemory` out took a prefix of the output. A
-/// fault of err changes nothing.
+/// fault of err changes nothing. Only the run of a trace visits objects: no other answer changes the counter.
 pub fn elephant<F: Files, O: Sink, E: Sink, L: Ledger>(
     alloc: Global,
     words: &[String],
@@ -87,6 +90,8 @@ pub fn elephant<F: Files, O: Sink, E: Sink, L: Ledger>(
     ensures read_fault { result ≡ Status.ReadFault →
         Rose (F.faults files.old) (F.faults files.new) }
     ensures write_fault { result ≡ Status.WriteFault → Rose (O.faults out.old) (O.faults out.new) }
+    ensures no_visits { IsWithoutRun (command (map string_bytes words.now)) result →
+        visits.new ≡ visits.old }
 {
     let asked = match read_words(alloc, words) {
         Ok(asked) => asked,

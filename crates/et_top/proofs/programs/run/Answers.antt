@@ -1,9 +1,11 @@
-use Rattle.std.proofs.Common.{Err, ◌∙◌, ap}
+use Rattle.std.proofs.Common.{Err, ◌∙◌, ap, subst}
 use Rattle.et_io.specs.Faults.{Rose}
 use Rattle.et_io.specs.declared.putting.RunFault.{RunFault}
 use Rattle.et_top.specs.Refusals.{status_of}
 use Rattle.et_top.specs.declared.status.Status.TheVariants as status
+use Rattle.et_top.specs.Visits.{IsBeforeRun}
 use Rattle.et_top.proofs.TopLemmas.{history_gives, front_gives}
+use Rattle.et_top.proofs.VisitLemmas.{end_of_run, fault_of_run}
 use Rattle.et_top.proofs.programs.run.Goals as goal
 
 pub returns-in-Ok-ended-clause-gives : goal.returns-in-Ok-ended-clause-gives
@@ -17,3 +19,9 @@ returns-in-Err-ended-clause-gives g c reached decides =
 pub returns-in-Err-clause-gives : goal.returns-in-Err-clause-gives
 returns-in-Err-clause-gives g c reached decides =
     front_gives reached (g.O.Sink.taken c.args.out.now) (g.O.Sink.taken c.run.new.sink) c.args.visits.now c.run.new.visits ⊥ (Rose (g.O.Sink.faults c.args.out.now) (g.O.Sink.faults c.run.new.sink)) c.args.program.now c.args.options.now c.in-Err.fault c.refuse-in-Err.result (c.refuse-in-Err.ensures ∙ ap status_of c.of_fault.ensures) (c.in-Err.ensures.prefix reached decides) (λ e. c.in-Err.ensures.write (ap (λ (f : RunFault). Err f) e))
+
+pub returns-in-Err-ended-clause-of_run : goal.returns-in-Err-ended-clause-of_run
+returns-in-Err-ended-clause-of_run g c before = end_of_run c.in-Ok.ran.end (subst IsBeforeRun (c.refuse.ensures ∙ c.in-Err-ended.ensures) before)
+
+pub returns-in-Err-clause-of_run : goal.returns-in-Err-clause-of_run
+returns-in-Err-clause-of_run g c before = fault_of_run c.in-Err.fault (subst IsBeforeRun (c.refuse-in-Err.ensures ∙ ap status_of c.of_fault.ensures) before)

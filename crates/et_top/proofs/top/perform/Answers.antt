@@ -1,4 +1,8 @@
-use Rattle.std.proofs.Common.{[]}
+use Rattle.std.proofs.Common.{[], subst}
+use Rattle.std.specs.Prelude.{Some}
+use Rattle.et_top.specs.declared.command.Command.{Command}
+use Rattle.et_top.specs.Asked.{asked_by}
+use Rattle.et_top.specs.Visits.{IsWithoutRun}
 use Rattle.et_top.proofs.TopLemmas.{by_arm}
 use Rattle.et_top.proofs.top.perform.Goals as goal
 
@@ -8,12 +12,16 @@ returns-in-Trace-clause-gives g c held told d defined reached decides =
 
 pub returns-in-Assemble-clause-gives : goal.returns-in-Assemble-clause-gives
 returns-in-Assemble-clause-gives g c held told d defined reached decides =
-    c.assemble.ensures.gives held told [] d (by_arm _ held d _ _ c.in-Assemble.is defined) reached decides c.args.visits.now c.args.visits.now
+    c.assemble.ensures.gives held told [] d (by_arm _ held d _ _ c.in-Assemble.is defined) reached decides _ _
 
 pub returns-in-Replay-clause-gives : goal.returns-in-Replay-clause-gives
 returns-in-Replay-clause-gives g c held told d defined reached decides =
-    c.replay.ensures.gives held told d (by_arm _ held d _ _ c.in-Replay.is defined) reached decides c.args.visits.now c.args.visits.now
+    c.replay.ensures.gives held told d (by_arm _ held d _ _ c.in-Replay.is defined) reached decides _ _
 
 pub returns-in-Curve-clause-gives : goal.returns-in-Curve-clause-gives
 returns-in-Curve-clause-gives g c held told d defined reached decides =
-    c.curve.ensures.gives held told [] d (by_arm _ held d _ _ c.in-Curve.is defined) reached decides c.args.visits.now c.args.visits.now
+    c.curve.ensures.gives held told [] d (by_arm _ held d _ _ c.in-Curve.is defined) reached decides _ _
+
+pub returns-in-Trace-clause-no_visits : goal.returns-in-Trace-clause-no_visits
+returns-in-Trace-clause-no_visits g c without =
+    c.trace.ensures.no_visits (subst (λ (x : Command). IsWithoutRun (Some (asked_by x)) c.trace.result) c.in-Trace.is without)
