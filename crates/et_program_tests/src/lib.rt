@@ -17,6 +17,8 @@ mod first_path;
 #[cfg(test)]
 mod linking;
 #[cfg(test)]
+mod process;
+#[cfg(test)]
 mod programs;
 #[cfg(test)]
 mod round_trip;

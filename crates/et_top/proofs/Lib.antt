@@ -5,4 +5,5 @@ mod TopLemmas
 mod NumberLemmas
 mod OptionLemmas
 mod SplitLemmas
+mod KindLemmas
 mod VisitLemmas

@@ -9,4 +9,5 @@ pub mod Numbers
 pub mod Command
 pub mod Parts
 pub mod Asked
+pub mod Process
 pub mod Visits

@@ -11,6 +11,7 @@ mod load_trace;
 mod models;
 mod numbers;
 mod options;
+mod process;
 mod programs;
 mod refusal;
 mod split;
@@ -18,5 +19,6 @@ mod status;
 mod top;
 
 pub use command::{Command, Generations, Models, read_words};
+pub use process::{WordsFault, run_elephant, words};
 pub use status::Status;
 pub use top::elephant;
