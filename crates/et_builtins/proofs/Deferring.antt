@@ -49,6 +49,11 @@ no_row e (Ok x) none = ap (λ (r : Option Row). option_and_then (deferred_at e (
 pub at_no_place : (p : Linked) (m : MachineState) (t : ℕ) → turn_of (thread_at m.guest t) ≡ Instruction → row_at (decoded_at p (top m.guest t)) ≡ None → deferred_call p (kept_of m) t ≡ None
 at_no_place p m t turn none = at_turn p (kept_of m) t Instruction turn ∙ no_row (moment p m t) (decoded_at p (top m.guest t)) none
 
+-- no method is called where none is deferred
+pub none_deferred : (r : Option ℕ) → r ≡ None → IsSome r → ⊥
+none_deferred None none some = cc
+none_deferred (Some m) none some = cc
+
 -- A DEFERRED METHOD has no code and is not native
 
 abbrev tested : Bool → Bool → Bool → Bool → Bool → Bool
@@ -82,9 +87,6 @@ kept_is p m h = kept_by (is_deferred p m) m h
 pub answered : (r : Option ℕ) (o : Outcome Kept) (end : EventEnd) (m m' : MachineState) (out out' : List Record) → r ≡ None → EventAnswers o end m m' out out' → DefersOrAnswers r o end m m' out out'
 answered r o end m m' out out' none a = subst (λ (q : Option ℕ). DefersOrAnswers q o end m m' out out') (sym none) a
 
-pub told : (r : Option ℕ) (method : ℕ) (o : Outcome Kept) (m : MachineState) (out : List Record) → r ≡ Some method → DefersOrAnswers r o (ends.Native method) m m out out
-told r method o m out some = subst (λ (q : Option ℕ). DefersOrAnswers q o (ends.Native method) m m out out) (sym some) (refl, refl, refl)
-
 not_answered : (o : Outcome Kept) (method : ℕ) (m m' : MachineState) (out out' : List Record) → EventAnswers o (ends.Native method) m m' out out' → ⊥
 not_answered (outcome.Goes next records) method m m' out out' a = a
 not_answered (outcome.Waits next) method m m' out out' a = a
@@ -96,8 +98,3 @@ native_exactly None o end m m' out out' a method = (λ is. absurd (not_answered 
 native_exactly (Some k) o end m m' out out' a method =
     let named : end ≡ ends.Native k = a.0 in
     (λ is. cc, λ is. cc)
-
--- an answer that tells no deferred method is that of the event
-pub not_told : (r : Option ℕ) (o : Outcome Kept) (end : EventEnd) (m m' : MachineState) (out out' : List Record) → ((method : ℕ) → end ≡ ends.Native method → ⊥) → DefersOrAnswers r o end m m' out out' → EventAnswers o end m m' out out'
-not_told None o end m m' out out' other a = a
-not_told (Some method) o end m m' out out' other a = absurd (other method a.0)

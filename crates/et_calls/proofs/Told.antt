@@ -1,6 +1,5 @@
 -- What a turn of calls answers, by what is answered at its place.
-use Rattle.std.proofs.Common.{◌≡◌, ℕ, List, Option, Some, None, sym, subst}
-use Rattle.std.specs.Prelude.{IsSome}
+use Rattle.std.proofs.Common.{◌≡◌, ℕ, List, Option, sym, subst}
 use Rattle.et_program.specs.Entries.{Linked}
 use Rattle.et_state.specs.declared.stage.Turn.TheVariants.{Instruction}
 use Rattle.et_state.specs.Threads.{turn_of}
@@ -24,7 +23,3 @@ turn_answers p m t place end m' out out' turn is same a =
     let o : Outcome Kept = does (moment p m t) (site_at place) place.row in
     subst (λ (x : Outcome Kept). DefersOrAnswers (deferred_call p (kept_of m) t) x end m m' out out') (sym same)
     (subst (λ (r : Option ℕ). DefersOrAnswers r o end m m' out out') (sym (at_place p m t place turn is)) a)
-
-pub none_deferred : (r : Option ℕ) → r ≡ None → IsSome r → ⊥
-none_deferred None none some = cc
-none_deferred (Some m) none some = cc

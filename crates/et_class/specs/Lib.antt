@@ -13,3 +13,13 @@ pub mod Headers
 pub mod Members
 pub mod Lifted
 pub mod Classes
+pub use Rattle.et_pool.specs.Entries
+pub use Rattle.et_pool.specs.Looks
+pub use Rattle.et_pool.specs.Pools
+pub use Rattle.et_pool.specs.Descriptors
+pub use Rattle.et_pool.specs.declared.tags as PoolTags
+pub use Rattle.et_code.specs.Bodies
+pub use Rattle.et_code.specs.Decoding
+pub use Rattle.et_code.specs.Starts
+pub use Rattle.et_code.specs.declared.instr as Instructions
+pub use Rattle.et_code.specs.declared.opcode as Opcodes

@@ -10,7 +10,7 @@ use crate::fields::{check_field, check_names, constant_index};
 use crate::items::u16_item;
 use crate::keys::add_member;
 use crate::member::{Attribute, Member};
-use crate::methods::check_method;
+use crate::methods::{Constants, check_method};
 use crate::reading::{read_attributes, read_member};
 use et_base::marks::First;
 use et_pool::Pool;
@@ -69,12 +69,13 @@ fn methods_from(
 {
     let mut keys = HashSet::new(alloc);
     let mut methods = Vec::new(alloc);
+    let constants = Constants { pool, tags };
     let mut found = first;
     let mut at = start;
     for _ in 0..count {
         let (mut method, after) = read_member(alloc, bytes, at)?;
         let new = add_member(&mut keys, pool, &method)?;
-        let (next, code) = check_method(alloc, found, pool, tags, new, at, &method)?;
+        let (next, code) = check_method(alloc, found, &constants, new, at, &method)?;
         found = next;
         method.code = code;
         methods.push(method)?;

@@ -25,6 +25,15 @@ use et_pool::Pool;
 use et_pool::descriptor::{MethodShape, method_shape};
 use std::alloc::{AllocError, Global};
 
+/// A constant pool, with the tag of each of its slots.
+#[derive(Clone, Copy)]
+pub struct Constants<'a> {
+    /// The pool.
+    pub pool: &'a Pool,
+    /// By index, the tag of the entry that begins there; 0 where none does.
+    pub tags: &'a [u8],
+}
+
 fn has_method_flags(flags: u16) -> bool
     ensures { result ≡ is_method_flags flags }
 {
@@ -176,25 +185,25 @@ fn check_inner(
 fn check_body(
     alloc: Global,
     first: First,
-    pool: &Pool,
-    tags: &[u8],
+    constants: &Constants<'_>,
     receiver: usize,
     shape: Option<MethodShape>,
     place: usize,
     raw: RawCode,
 ) -> Result<(First, Option<Code>), AllocError>
-    requires tags_are { tags.now ≡ map tag_of_slot pool.now.slots }
+    requires tags_are { constants.now.tags.now
+        ≡ map tag_of_slot constants.now.pool.now.slots }
     requires one { receiver ≤ 1 }
     requires room { place + 6 + length raw.code.items + 8 * length raw.table.items < 2 ^ 64 }
     ensures { IfOk result (λ x.
         (x.0 ≡ first_from first (mark_of place CODE (fits_locals receiver raw.max_locals shape)
-        ∷ body_marks pool.now.slots place (body_of raw)))
-        × (x.1 ≡ kept_body pool.now.slots (body_of raw))) }
+        ∷ body_marks constants.now.pool.now.slots place (body_of raw)))
+        × (x.1 ≡ kept_body constants.now.pool.now.slots (body_of raw))) }
 {
     let fits = arguments_fit(receiver, raw.max_locals, shape);
     let found = mark(first, place, CODE, fits);
-    let found = check_instructions(found, pool, place + 4, &raw.code);
-    match check_code(alloc, raw, tags) {
+    let found = check_instructions(found, constants.pool, place + 4, &raw.code);
+    match check_code(alloc, raw, constants.tags) {
         Ok(code) => Ok((found, Some(code))),
         Err(CheckFault::At { kind, place: at }) => {
             Ok((mark(found, place + at, kind, false), None))
@@ -208,30 +217,30 @@ fn check_body(
 fn check_code_attribute(
     alloc: Global,
     first: First,
-    pool: &Pool,
-    tags: &[u8],
+    constants: &Constants<'_>,
     receiver: usize,
     shape: Option<MethodShape>,
     place: usize,
     body: &[u8],
 ) -> Result<(First, Option<Code>), AllocError>
-    requires tags_are { tags.now ≡ map tag_of_slot pool.now.slots }
+    requires tags_are { constants.now.tags.now
+        ≡ map tag_of_slot constants.now.pool.now.slots }
     requires one { receiver ≤ 1 }
     requires room { place + 6 + length body.now < 2 ^ 64 }
     ensures { IfOk result (λ x. (x.0 ≡ first_from first
-        (code_attribute_marks pool.now.slots receiver shape place (code_at body.now)))
-        × (x.1 ≡ kept_attribute pool.now.slots (code_at body.now))) }
+        (code_attribute_marks constants.now.pool.now.slots receiver shape place (code_at body.now)))
+        × (x.1 ≡ kept_attribute constants.now.pool.now.slots (code_at body.now))) }
 {
     match read_code(alloc, body) {
         Err(ClassFault::NoMemory) => Err(AllocError),
         Err(ClassFault::At { .. }) => Ok((mark(first, place, ATTRIBUTE, false), None)),
-        Ok((raw, at)) => match check_inner(first, pool, place + 6, body, at) {
+        Ok((raw, at)) => match check_inner(first, constants.pool, place + 6, body, at) {
             None => Ok((mark(first, place, ATTRIBUTE, false), None)),
             Some((end, found)) => {
                 if end < body.len() {
                     return Ok((mark(first, place, ATTRIBUTE, false), None));
                 }
-                check_body(alloc, found, pool, tags, receiver, shape, place + 10, raw)
+                check_body(alloc, found, constants, receiver, shape, place + 10, raw)
             }
         },
     }
@@ -242,29 +251,34 @@ fn check_code_attribute(
 fn check_method_attribute(
     alloc: Global,
     first: First,
-    pool: &Pool,
-    tags: &[u8],
+    constants: &Constants<'_>,
     method: &Member,
     seen: bool,
     place: usize,
     a: &Attribute,
 ) -> Result<(First, Option<Code>), AllocError>
-    requires tags_are { tags.now ≡ map tag_of_slot pool.now.slots }
+    requires tags_are { constants.now.tags.now
+        ≡ map tag_of_slot constants.now.pool.now.slots }
     requires room { place + length (attribute_bytes (attribute_of a.now)) < 2 ^ 64 }
-    ensures { IfOk result (λ x. (x.0 ≡ first_from first (method_attribute_marks_if pool.now.slots
-        (member_of method.now) seen place (attribute_of a.now)))
-        × (x.1 ≡ kept_in pool.now.slots seen (attribute_of a.now))) }
+    ensures { IfOk result (λ x. (x.0 ≡ first_from first (method_attribute_marks_if
+        constants.now.pool.now.slots (member_of method.now) seen place (attribute_of a.now)))
+        × (x.1 ≡ kept_in constants.now.pool.now.slots seen (attribute_of a.now))) }
 {
-    let found = mark(first, place, ATTRIBUTE, is_utf8(pool, a.name_index));
-    if !is_code_attribute(pool, a) {
+    let found = mark(
+        first,
+        place,
+        ATTRIBUTE,
+        is_utf8(constants.pool, a.name_index),
+    );
+    if !is_code_attribute(constants.pool, a) {
         return Ok((found, None));
     }
     if seen {
         return Ok((mark(found, place, ATTRIBUTE, false), None));
     }
-    let receiver = receiver_entries(pool, method);
-    let shape = shape(pool, method);
-    check_code_attribute(alloc, found, pool, tags, receiver, shape, place, &a.body)
+    let receiver = receiver_entries(constants.pool, method);
+    let shape = shape(constants.pool, method);
+    check_code_attribute(alloc, found, constants, receiver, shape, place, &a.body)
 }
 
 /// The code of the first Code, of two that follow one another.
@@ -279,31 +293,29 @@ fn earlier_code(seen: bool, before: Option<Code>, here: Option<Code>) -> Option<
 fn check_method_attributes(
     alloc: Global,
     first: First,
-    pool: &Pool,
-    tags: &[u8],
+    constants: &Constants<'_>,
     method: &Member,
     start: usize,
     attributes: &[Attribute],
 ) -> Result<(First, Option<Code>), AllocError>
-    requires tags_are { tags.now ≡ map tag_of_slot pool.now.slots }
+    requires tags_are { constants.now.tags.now
+        ≡ map tag_of_slot constants.now.pool.now.slots }
     requires room { start + length (flat_map attribute_bytes (attributes_of attributes.now))
         < 2 ^ 64 }
     ensures { IfOk result
-        (λ x. (x.0 ≡ first_from first (along attribute_bytes (method_attribute_marks pool.now.slots
-        (member_of method.now)) [] start (attributes_of attributes.now)))
-        × (x.1 ≡ kept_among pool.now.slots (attributes_of attributes.now))) }
+        (λ x. (x.0 ≡ first_from first (along attribute_bytes (method_attribute_marks
+        constants.now.pool.now.slots (member_of method.now)) [] start (attributes_of attributes.now)))
+        × (x.1 ≡ kept_among constants.now.pool.now.slots (attributes_of attributes.now))) }
 {
     let mut found = first;
     let mut place = start;
     let mut seen = false;
     let mut code = None;
     'attributes: for a in attributes {
-        let (next, body) = check_method_attribute(
-            alloc, found, pool, tags, method, seen, place, a,
-        )?;
+        let (next, body) = check_method_attribute(alloc, found, constants, method, seen, place, a)?;
         found = next;
         code = earlier_code(seen, code, body);
-        seen |= is_code_attribute(pool, a);
+        seen |= is_code_attribute(constants.pool, a);
         place += 6 + a.body.len();
     }
     Ok((found, code))
@@ -315,25 +327,27 @@ fn check_method_attributes(
 pub fn check_method(
     alloc: Global,
     first: First,
-    pool: &Pool,
-    tags: &[u8],
+    constants: &Constants<'_>,
     new: bool,
     place: usize,
     method: &Member,
 ) -> Result<(First, Option<Code>), AllocError>
-    requires tags_are { tags.now ≡ map tag_of_slot pool.now.slots }
+    requires tags_are { constants.now.tags.now
+        ≡ map tag_of_slot constants.now.pool.now.slots }
     requires room { place + length (member_bytes (member_of method.now)) < 2 ^ 64 }
-    ensures { IfOk result (λ x. (x.0 ≡ first_from first (method_marks_if pool.now.slots new place
-        (member_of method.now))) × (x.1 ≡ kept_code pool.now.slots (member_of method.now))) }
+    ensures { IfOk result (λ x. (x.0 ≡ first_from first
+        (method_marks_if constants.now.pool.now.slots new place (member_of method.now)))
+        × (x.1 ≡ kept_code constants.now.pool.now.slots (member_of method.now))) }
 {
-    let shape = shape(pool, method);
-    let receiver = receiver_entries(pool, method);
-    let init = names_text(pool, method.name_index, INIT);
-    let flags = is_class_initializer(pool, method) || has_method_flags(method.access_flags);
-    let named = names_some(pool, method.name_index);
+    let shape = shape(constants.pool, method);
+    let receiver = receiver_entries(constants.pool, method);
+    let init = names_text(constants.pool, method.name_index, INIT);
+    let flags = is_class_initializer(constants.pool, method)
+        || has_method_flags(method.access_flags);
+    let named = names_some(constants.pool, method.name_index);
     let found = mark(first, place, FLAGS, flags);
     let found = mark(found, place, MEMBER, named && new);
-    let found = mark(found, place, MEMBER, fits_code(pool, method));
+    let found = mark(found, place, MEMBER, fits_code(constants.pool, method));
     let found = mark(
         found,
         place + 4,
@@ -344,8 +358,7 @@ pub fn check_method(
     check_method_attributes(
         alloc,
         found,
-        pool,
-        tags,
+        constants,
         method,
         place + 8,
         &method.attributes,

@@ -2,3 +2,6 @@
 #![tactic(auto)]
 
 pub mod laws;
+
+pub use et_sound::event_laws::events_keep_sound;
+pub use et_sound::laws::answers_are_sound;

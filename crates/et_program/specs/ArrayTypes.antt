@@ -5,16 +5,16 @@ use Rattle.std.specs.Prelude.{ℕ, ◌-◌, ◌==◌, Bool, if◌then◌else◌,
 use Rattle.std.specs.List.{flat_map, filter_map, list_any, position_from, slice_index_or}
 use Rattle.std.specs.Option.{option_to_list}
 use Rattle.std.specs.Str.{bytes_eq}
-use Rattle.et_pool.specs.Entries.{Item}
-use Rattle.et_pool.specs.Looks.{named_by, class_name_at}
-use Rattle.et_pool.specs.Descriptors.{is_array, dimensions}
-use Rattle.et_pool.specs.declared.tags.TheConstants.{CLASS}
-use Rattle.et_code.specs.declared.instr.Instr.{Instr}
-use Rattle.et_code.specs.declared.instr.CodeFault.{CodeFault}
-use Rattle.et_code.specs.declared.opcode.TheConstants.{NEWARRAY, ANEWARRAY}
-use Rattle.et_code.specs.Decoding.{instruction_at}
-use Rattle.et_code.specs.Starts.{is_start}
-use Rattle.et_code.specs.Bodies.{Body}
+use Rattle.et_class.specs.Entries.{Item}
+use Rattle.et_class.specs.Looks.{named_by, class_name_at}
+use Rattle.et_class.specs.Descriptors.{is_array, dimensions}
+use Rattle.et_class.specs.PoolTags.TheConstants.{CLASS}
+use Rattle.et_class.specs.Instructions.Instr.{Instr}
+use Rattle.et_class.specs.Instructions.CodeFault.{CodeFault}
+use Rattle.et_class.specs.Opcodes.TheConstants.{NEWARRAY, ANEWARRAY}
+use Rattle.et_class.specs.Decoding.{instruction_at}
+use Rattle.et_class.specs.Starts.{is_start}
+use Rattle.et_class.specs.Bodies.{Body}
 use Rattle.et_class.specs.Codes.{index_of}
 use Rattle.et_program.specs.declared.info.Element.{Element}
 use Rattle.et_program.specs.declared.info.Element.TheVariants as element

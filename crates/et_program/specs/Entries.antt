@@ -3,7 +3,7 @@ use Rattle.std.specs.Prelude.{ℕ, Bool, false, List, [], Option, None}
 use Rattle.std.specs.List.{slice_index_or}
 use Rattle.et_class.specs.Names.{has}
 use Rattle.et_class.specs.declared.flags.TheConstants.{PRIVATE, STATIC, INTERFACE, ABSTRACT}
-use Rattle.et_pool.specs.Entries.{Constants}
+use Rattle.et_class.specs.Entries.{Constants}
 use Rattle.et_program.specs.declared.info.Element.{Element}
 use Rattle.et_program.specs.declared.info.Element.TheVariants.{NoArray}
 use Rattle.et_program.specs.declared.info.MethodInfo.{MethodInfo}

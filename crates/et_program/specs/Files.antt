@@ -1,7 +1,7 @@
 -- THE SET OF CLASSES that is linked: the built-in classes, and then those of the files in their order.
 use Rattle.std.specs.Prelude.{ℕ, List, [], ◌++◌, map, Option, None, Some}
-use Rattle.et_pool.specs.Entries.{Item}
-use Rattle.et_pool.specs.Looks.{class_name_at}
+use Rattle.et_class.specs.Entries.{Item}
+use Rattle.et_class.specs.Looks.{class_name_at}
 use Rattle.et_class.specs.Names.{has}
 use Rattle.et_class.specs.declared.flags.TheConstants.{INTERFACE, FINAL}
 use Rattle.et_boot.specs.Classes.{BootClassOf, boot_classes}

@@ -20,3 +20,4 @@ pub mod Classes
 pub mod ProgramOf
 pub mod LinkFaults
 pub mod Linking
+pub use Rattle.et_boot.specs.Classes as BootClasses

@@ -1,7 +1,7 @@
 -- WHAT LINKING READS OF A CLASS (JVMS 4.1, 4.5, 4.6).
 use Rattle.std.specs.Prelude.{ℕ, List, map, Option, None}
-use Rattle.et_pool.specs.Entries.{Item, Constants}
-use Rattle.et_code.specs.Bodies.{Body}
+use Rattle.et_class.specs.Entries.{Item, Constants}
+use Rattle.et_class.specs.Bodies.{Body}
 use Rattle.et_class.specs.declared.member.Member.{Member}
 use Rattle.et_class.specs.declared.class.ClassFile.{ClassFile}
 use Rattle.et_class.specs.Layout.{MemberOf, ClassOf}

@@ -1,9 +1,9 @@
 -- THE MEMBERS that the classes declare, class by class in the order of the set, each with the number of its class.
 use Rattle.std.specs.Prelude.{◌≡◌, ℕ, ◌+◌, false, List, [], ◌∷◌, ◌++◌, map, length, Option, option_map}
-use Rattle.et_pool.specs.Entries.{Item, Constants}
-use Rattle.et_pool.specs.Looks.{utf8_at}
-use Rattle.et_pool.specs.Pools.{IsPool}
-use Rattle.et_code.specs.Bodies.{Body}
+use Rattle.et_class.specs.Entries.{Item, Constants}
+use Rattle.et_class.specs.Looks.{utf8_at}
+use Rattle.et_class.specs.Pools.{IsPool}
+use Rattle.et_class.specs.Bodies.{Body}
 use Rattle.et_boot.specs.Classes.{BootClassOf, BootFieldOf, BootMethodOf, BootCodeOf}
 use Rattle.et_program.specs.declared.info.MethodInfo.{MethodInfo}
 use Rattle.et_program.specs.declared.info.FieldInfo.{FieldInfo}

@@ -3,7 +3,7 @@
 use Rattle.std.specs.Prelude.{◌≡◌, ℕ, Bool, not, ◌==◌, ◌&&◌, nat_lt, List, [], ◌∷◌, ◌++◌, length, Option, codes, is_some, unwrap_or}
 use Rattle.std.specs.List.{position_from}
 use Rattle.std.specs.Str.{bytes_eq}
-use Rattle.et_pool.specs.Entries.{Constants}
+use Rattle.et_class.specs.Entries.{Constants}
 use Rattle.et_class.specs.Names.{has}
 use Rattle.et_class.specs.declared.flags.TheConstants.{STATIC}
 use Rattle.et_hierarchy.specs.Outline.{Outline, place_of}

@@ -1,7 +1,7 @@
 //! What a program tells of its classes, methods and fields.
 
 use et_base::{ClassId, FieldId, MethodId, Name};
-use et_code::Code;
+use et_class::Code;
 
 /// What an array class has as its elements.
 #[derive(Clone, Copy, Debug, PartialEq, Eq)]

@@ -12,7 +12,7 @@ use crate::members::MemberIndex;
 use crate::names::NameIndex;
 use crate::tables::Tables;
 use et_base::{ClassId, FieldId, MethodId, NoMemory};
-use et_pool::Pool;
+use et_class::Pool;
 use std::alloc::Global;
 use std::marker::Model;
 

@@ -3,7 +3,7 @@
 use crate::class::Class;
 use crate::info::{FieldInfo, MethodInfo};
 use et_base::{FieldId, MethodId};
-use et_pool::Pool;
+use et_class::Pool;
 
 /// What a program is made of.
 #[derive(Drop)]

@@ -1,1 +1,3 @@
 pub mod Telling
+pub use Rattle.et_history.specs.Whole
+pub use Rattle.et_event.specs.Start

@@ -1,7 +1,7 @@
 -- The state of a program before the first event.
 use Rattle.std.specs.Prelude.{ℕ, ◌+◌, nat_lt, nat_le, ◌&&◌, Bool, if◌then◌else◌, List, [], ◌∷◌, length, replicate, codes, unwrap_or, suc, zero}
 use Rattle.et_base.specs.declared.value.Value.TheVariants.{Unset}
-use Rattle.et_boot.specs.Classes.{boot_classes}
+use Rattle.et_program.specs.BootClasses.{boot_classes}
 use Rattle.et_program.specs.Entries.{Linked}
 use Rattle.et_program.specs.Members.{class_named}
 use Rattle.et_state.specs.declared.class_state.ClassState.{ClassState}

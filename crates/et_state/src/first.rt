@@ -6,8 +6,7 @@ ghost use Rattle.et_state.specs.Start.{argument_class as class_of_arguments, fir
 use crate::class_state::ClassState;
 use crate::machine::Machine;
 use et_base::{ClassId, NoMemory, Value};
-use et_boot::boot_count;
-use et_program::Program;
+use et_program::{Program, boot_count};
 use std::alloc::Global;
 
 /// The class of the array of arguments, `[Ljava/lang/String;`, which each program that files are linked to has; class 0 where a

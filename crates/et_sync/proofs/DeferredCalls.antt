@@ -26,7 +26,7 @@ use Rattle.et_builtins.specs.Plans.{entered_by, planned}
 use Rattle.et_builtins.specs.declared.plans.CallPlan.{CallPlan}
 use Rattle.et_builtins.specs.declared.plans.CallPlan.TheVariants.{Enters}
 use Rattle.et_builtins.proofs.ByCode.{built_in_called}
-use Rattle.et_builtins.proofs.Deferring.{at_place, at_turn, deferred_codeless, deferred_not_native, kept_is}
+use Rattle.et_builtins.proofs.Deferring.{at_place, at_turn, deferred_codeless, deferred_not_native, kept_is, none_deferred}
 
 -- THE ROW OF SUCH A TURN
 
@@ -79,10 +79,6 @@ pub other_row : (e : Moment) (at : Site) (r q : Row) → r ≡ q → IsOther q �
 other_row e at r q named other h = none_other e at q other (subst (λ (x : Row). IsRow e at x) named h)
 
 -- A TURN THAT IS NO INSTRUCTION
-
-none_deferred : (r : Option ℕ) → r ≡ None → IsSome r → ⊥
-none_deferred None none some = cc
-none_deferred (Some m) none some = cc
 
 pub no_entry : (p : Linked) (s : Kept) (t : ℕ) (turn : Turn) → turn_of (thread_at s.guest t) ≡ turn → (family_of_turn turn (row_at (decoded_at p (top s.guest t))) ≡ Sync → ⊥) → deferred_call p s t ≡ None
     → (family_of p s t ≡ Sync) ⊎ IsSome (deferred_call p s t) → ⊥

@@ -11,8 +11,8 @@ use Rattle.et_state.specs.declared.options.Options.{Options}
 use Rattle.et_loop.specs.declared.options.Ran.{Ran}
 use Rattle.et_loop.specs.Traced.{WritesTrace, WritesPrefix}
 use Rattle.et_program.specs.Entries.{Linked}
-use Rattle.et_event.specs.Start.{start_records}
-use Rattle.et_history.specs.Whole.{whole_setting, whole_start, whole_visits_of}
+use Rattle.et_run.specs.Start.{start_records}
+use Rattle.et_run.specs.Whole.{whole_setting, whole_start, whole_visits_of}
 use Rattle.et_loop.specs.Visits.{allowed_visits}
 use Rattle.et_top.specs.Faults.{Fault, Absent, TooLong, BadClass, BadText, BadTrace, LinkFault, status_of_fault}
 use Rattle.et_io.specs.Files.{Held}

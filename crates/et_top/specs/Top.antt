@@ -18,8 +18,8 @@ use Rattle.et_replay.specs.declared.model.Policy.{Policy}
 use Rattle.et_top.specs.declared.command.Models.{Models}
 use Rattle.et_top.specs.Command as words
 use Rattle.et_program.specs.Entries.{Linked}
-use Rattle.et_event.specs.Start.{start_records}
-use Rattle.et_history.specs.Whole.{whole_setting, whole_start, whole_visits_of}
+use Rattle.et_run.specs.Start.{start_records}
+use Rattle.et_run.specs.Whole.{whole_setting, whole_start, whole_visits_of}
 use Rattle.et_loop.specs.Visits.{allowed_visits}
 use Rattle.et_top.specs.Faults.{Fault, status_of_fault}
 use Rattle.et_top.specs.Loaded.{bytes_of, most_of_class, most_of_trace, IsListingOf, IsTraceOf, IsProgramOf}

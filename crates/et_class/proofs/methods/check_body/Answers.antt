@@ -28,18 +28,18 @@ body_rules slots place b first fits found holds e h =
 
 pub overflow_add-place-in-Err-At : goal.overflow_add-place-in-Err-At
 overflow_add-place-in-Err-At c =
-    let first : IsFirst (code_marks (body_of c.args.raw) c.args.tags.now) c.in-Err-At.at c.in-Err-At.kind = rw c.in-Err-At.field-0-is at c.in-Err-At.ensures in
-    omega (arith, code_bound (body_of c.args.raw) c.args.tags.now c.in-Err-At.at c.in-Err-At.kind first, c.requires.room)
+    let first : IsFirst (code_marks (body_of c.args.raw) c.args.constants.now.tags.now) c.in-Err-At.at c.in-Err-At.kind = rw c.in-Err-At.field-0-is at c.in-Err-At.ensures in
+    omega (arith, code_bound (body_of c.args.raw) c.args.constants.now.tags.now c.in-Err-At.at c.in-Err-At.kind first, c.requires.room)
 
 pub returns-in-Ok : goal.returns-in-Ok
 returns-in-Ok c =
-    let none : first_from None (code_marks (body_of c.args.raw) (map tag_of_slot c.args.pool.now.slots)) ≡ None = ap (λ t. first_from None (code_marks (body_of c.args.raw) t)) (sym c.requires.tags_are) ∙ none_first (code_marks (body_of c.args.raw) c.args.tags.now) c.in-Ok.ensures.1 in
-    let rules = body_rules c.args.pool.now.slots c.args.place (body_of c.args.raw) c.args.first c.mark-found.result c.check_instructions-found.result (fits_locals c.args.receiver c.args.raw.max_locals c.args.shape) (c.mark-found.ensures ∙ ap (λ (b : Bool). marked c.args.first (mark c.args.place CODE b)) c.arguments_fit-fits.ensures) (c.check_instructions-found.ensures ∙ ap (λ (code : List ℕ). first_from c.mark-found.result (flat_map (named_marks c.args.pool.now.slots (c.args.place + 4) code) (starts code))) c.deref.ensures.value) in
+    let none : first_from None (code_marks (body_of c.args.raw) (map tag_of_slot c.args.constants.now.pool.now.slots)) ≡ None = ap (λ t. first_from None (code_marks (body_of c.args.raw) t)) (sym c.requires.tags_are) ∙ none_first (code_marks (body_of c.args.raw) c.args.constants.now.tags.now) c.in-Ok.ensures.1 in
+    let rules = body_rules c.args.constants.now.pool.now.slots c.args.place (body_of c.args.raw) c.args.first c.mark-found.result c.check_instructions-found.result (fits_locals c.args.receiver c.args.raw.max_locals c.args.shape) (c.mark-found.ensures ∙ ap (λ (b : Bool). marked c.args.first (mark c.args.place CODE b)) c.arguments_fit-fits.ensures) (c.check_instructions-found.ensures ∙ ap (λ (code : List ℕ). first_from c.mark-found.result (flat_map (named_marks c.args.constants.now.pool.now.slots (c.args.place + 4) code) (starts code))) c.deref.ensures.value) in
     (sym (rules ∙ ap (λ o. joined c.check_instructions-found.result (option_map (shift c.args.place) o)) none), ap (λ (b : Body). Some b) c.in-Ok.ensures.0 ∙ ap (λ o. cond (is_none o) (Some (body_of c.args.raw)) None) (sym none))
 
 pub returns-in-Err-At : goal.returns-in-Err-At
 returns-in-Err-At c =
-    let first : IsFirst (code_marks (body_of c.args.raw) c.args.tags.now) c.in-Err-At.at c.in-Err-At.kind = rw c.in-Err-At.field-0-is at c.in-Err-At.ensures in
-    let some : first_from None (code_marks (body_of c.args.raw) (map tag_of_slot c.args.pool.now.slots)) ≡ Some (c.in-Err-At.at, c.in-Err-At.kind) = ap (λ t. first_from None (code_marks (body_of c.args.raw) t)) (sym c.requires.tags_are) ∙ some_first (code_marks (body_of c.args.raw) c.args.tags.now) c.in-Err-At.at c.in-Err-At.kind first in
-    let rules = body_rules c.args.pool.now.slots c.args.place (body_of c.args.raw) c.args.first c.mark-found.result c.check_instructions-found.result (fits_locals c.args.receiver c.args.raw.max_locals c.args.shape) (c.mark-found.ensures ∙ ap (λ (b : Bool). marked c.args.first (mark c.args.place CODE b)) c.arguments_fit-fits.ensures) (c.check_instructions-found.ensures ∙ ap (λ (code : List ℕ). first_from c.mark-found.result (flat_map (named_marks c.args.pool.now.slots (c.args.place + 4) code) (starts code))) c.deref.ensures.value) in
+    let first : IsFirst (code_marks (body_of c.args.raw) c.args.constants.now.tags.now) c.in-Err-At.at c.in-Err-At.kind = rw c.in-Err-At.field-0-is at c.in-Err-At.ensures in
+    let some : first_from None (code_marks (body_of c.args.raw) (map tag_of_slot c.args.constants.now.pool.now.slots)) ≡ Some (c.in-Err-At.at, c.in-Err-At.kind) = ap (λ t. first_from None (code_marks (body_of c.args.raw) t)) (sym c.requires.tags_are) ∙ some_first (code_marks (body_of c.args.raw) c.args.constants.now.tags.now) c.in-Err-At.at c.in-Err-At.kind first in
+    let rules = body_rules c.args.constants.now.pool.now.slots c.args.place (body_of c.args.raw) c.args.first c.mark-found.result c.check_instructions-found.result (fits_locals c.args.receiver c.args.raw.max_locals c.args.shape) (c.mark-found.ensures ∙ ap (λ (b : Bool). marked c.args.first (mark c.args.place CODE b)) c.arguments_fit-fits.ensures) (c.check_instructions-found.ensures ∙ ap (λ (code : List ℕ). first_from c.mark-found.result (flat_map (named_marks c.args.constants.now.pool.now.slots (c.args.place + 4) code) (starts code))) c.deref.ensures.value) in
     (c.mark.ensures ∙ sym (rules ∙ ap (λ o. joined c.check_instructions-found.result (option_map (shift c.args.place) o)) some), ap (λ o. cond (is_none o) (Some (body_of c.args.raw)) None) (sym some))

@@ -43,18 +43,18 @@ by_code slots receiver shape place at first found b attributes code h e x p =
 pub returns-in-Err-At : goal.returns-in-Err-At
 returns-in-Err-At c =
     let h : code_body_at c.args.body.now ≡ Err (c.in-Err-At.field-0-1, c.in-Err-At.field-0-0) = rw c.in-Err-At.field-0-is at c.in-Err-At.ensures in
-    no_rules c.args.pool.now.slots c.args.receiver c.args.shape c.args.place c.args.first c.mark.result c.args.body.now (no_body c.args.body.now (c.in-Err-At.field-0-1, c.in-Err-At.field-0-0) h) c.mark.ensures
+    no_rules c.args.constants.now.pool.now.slots c.args.receiver c.args.shape c.args.place c.args.first c.mark.result c.args.body.now (no_body c.args.body.now (c.in-Err-At.field-0-1, c.in-Err-At.field-0-0) h) c.mark.ensures
 
 pub returns-in-None : goal.returns-in-None
 returns-in-None c =
-    no_rules c.args.pool.now.slots c.args.receiver c.args.shape c.args.place c.args.first c.mark-in-None.result c.args.body.now
-    (no_attributes c.args.pool.now.slots c.args.first (c.args.place + 6) c.args.body.now (body_of c.in-Ok.raw) c.in-Ok.at c.in-Ok.ensures c.in-None.ensures) c.mark-in-None.ensures
+    no_rules c.args.constants.now.pool.now.slots c.args.receiver c.args.shape c.args.place c.args.first c.mark-in-None.result c.args.body.now
+    (no_attributes c.args.constants.now.pool.now.slots c.args.first (c.args.place + 6) c.args.body.now (body_of c.in-Ok.raw) c.in-Ok.at c.in-Ok.ensures c.in-None.ensures) c.mark-in-None.ensures
 
 pub returns-then-end-body : goal.returns-then-end-body
 returns-then-end-body c =
-    let p = passed c.args.pool.now.slots c.args.first (c.args.place + 6) c.args.body.now (body_of c.in-Ok.raw) c.in-Ok.at c.in-Ok.ensures c.in-Some.end c.in-Some.found c.in-Some.ensures in
-    no_rules c.args.pool.now.slots c.args.receiver c.args.shape c.args.place c.args.first c.mark-then-end-body.result c.args.body.now
-    (too_long c.args.pool.now.slots c.args.first (c.args.place + 6) c.args.body.now (body_of c.in-Ok.raw) c.in-Ok.at c.in-Ok.ensures c.in-Some.end c.in-Some.found p c.if-end-body.true) c.mark-then-end-body.ensures
+    let p = passed c.args.constants.now.pool.now.slots c.args.first (c.args.place + 6) c.args.body.now (body_of c.in-Ok.raw) c.in-Ok.at c.in-Ok.ensures c.in-Some.end c.in-Some.found c.in-Some.ensures in
+    no_rules c.args.constants.now.pool.now.slots c.args.receiver c.args.shape c.args.place c.args.first c.mark-then-end-body.result c.args.body.now
+    (too_long c.args.constants.now.pool.now.slots c.args.first (c.args.place + 6) c.args.body.now (body_of c.in-Ok.raw) c.in-Ok.at c.in-Ok.ensures c.in-Some.end c.in-Some.found p c.if-end-body.true) c.mark-then-end-body.ensures
 
 pub overflow_add-place-in-Some : goal.overflow_add-place-in-Some
 overflow_add-place-in-Some c =
@@ -68,6 +68,6 @@ check_body-requires-clause-room c =
 
 pub returns-else-end-body : goal.returns-else-end-body
 returns-else-end-body c =
-    let p = passed c.args.pool.now.slots c.args.first (c.args.place + 6) c.args.body.now (body_of c.in-Ok.raw) c.in-Ok.at c.in-Ok.ensures c.in-Some.end c.in-Some.found c.in-Some.ensures in
-    let h = is_code c.args.pool.now.slots c.args.first (c.args.place + 6) c.args.body.now (body_of c.in-Ok.raw) c.in-Ok.at c.in-Ok.ensures c.in-Some.end c.in-Some.found p c.if-end-body.false in
-    IfOk-weaker c.check_body.result _ _ (λ x q. by_code c.args.pool.now.slots c.args.receiver c.args.shape c.args.place c.in-Ok.at c.args.first c.in-Some.found (body_of c.in-Ok.raw) p.attributes (code_at c.args.body.now) h p.found_is x q) c.check_body.ensures
+    let p = passed c.args.constants.now.pool.now.slots c.args.first (c.args.place + 6) c.args.body.now (body_of c.in-Ok.raw) c.in-Ok.at c.in-Ok.ensures c.in-Some.end c.in-Some.found c.in-Some.ensures in
+    let h = is_code c.args.constants.now.pool.now.slots c.args.first (c.args.place + 6) c.args.body.now (body_of c.in-Ok.raw) c.in-Ok.at c.in-Ok.ensures c.in-Some.end c.in-Some.found p c.if-end-body.false in
+    IfOk-weaker c.check_body.result _ _ (λ x q. by_code c.args.constants.now.pool.now.slots c.args.receiver c.args.shape c.args.place c.in-Ok.at c.args.first c.in-Some.found (body_of c.in-Ok.raw) p.attributes (code_at c.args.body.now) h p.found_is x q) c.check_body.ensures

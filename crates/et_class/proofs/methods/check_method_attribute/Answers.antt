@@ -45,21 +45,21 @@ first_one slots m seen place a first named y s e x p = (
 
 pub returns-then-not-is_code_attribute : goal.returns-then-not-is_code_attribute
 returns-then-not-is_code_attribute c =
-    no_code c.args.pool.now.slots (member_of c.args.method.now) c.args.seen c.args.place (attribute_of c.args.a.now) c.args.first c.mark-found.result (sym c.if-not-is_code_attribute.ensures)
+    no_code c.args.constants.now.pool.now.slots (member_of c.args.method.now) c.args.seen c.args.place (attribute_of c.args.a.now) c.args.first c.mark-found.result (sym c.if-not-is_code_attribute.ensures)
     (c.mark-found.ensures ∙ ap (λ (b : Bool). marked c.args.first (mark c.args.place ATTRIBUTE b)) c.is_utf8.ensures)
 
 pub returns-then-seen : goal.returns-then-seen
 returns-then-seen c =
-    second c.args.pool.now.slots (member_of c.args.method.now) c.args.seen c.args.place (attribute_of c.args.a.now) c.args.first c.mark-found.result c.mark.result (sym c.if-not-is_code_attribute.ensures) c.if-seen.true
+    second c.args.constants.now.pool.now.slots (member_of c.args.method.now) c.args.seen c.args.place (attribute_of c.args.a.now) c.args.first c.mark-found.result c.mark.result (sym c.if-not-is_code_attribute.ensures) c.if-seen.true
     (c.mark-found.ensures ∙ ap (λ (b : Bool). marked c.args.first (mark c.args.place ATTRIBUTE b)) c.is_utf8.ensures) c.mark.ensures
 
 pub returns : goal.returns
 returns c =
     IfOk-weaker c.check_code_attribute.result _ _ (λ x q.
-    first_one c.args.pool.now.slots (member_of c.args.method.now) c.args.seen c.args.place (attribute_of c.args.a.now) c.args.first c.mark-found.result (sym c.if-not-is_code_attribute.ensures) c.if-seen.false
+    first_one c.args.constants.now.pool.now.slots (member_of c.args.method.now) c.args.seen c.args.place (attribute_of c.args.a.now) c.args.first c.mark-found.result (sym c.if-not-is_code_attribute.ensures) c.if-seen.false
     (c.mark-found.ensures ∙ ap (λ (b : Bool). marked c.args.first (mark c.args.place ATTRIBUTE b)) c.is_utf8.ensures) x (
-      q.0 ∙ (ap (λ r. first_from c.mark-found.result (code_attribute_marks c.args.pool.now.slots r c.shape-shape.result c.args.place (code_at c.deref.result.now))) c.receiver_entries-receiver.ensures
-          ∙ (ap (λ h. first_from c.mark-found.result (code_attribute_marks c.args.pool.now.slots (receiver_of c.args.pool.now.slots (member_of c.args.method.now)) h c.args.place (code_at c.deref.result.now))) c.shape-shape.ensures
-          ∙ ap (λ (body : List ℕ). first_from c.mark-found.result (code_attribute_marks c.args.pool.now.slots (receiver_of c.args.pool.now.slots (member_of c.args.method.now)) (shape_at c.args.pool.now.slots (member_of c.args.method.now)) c.args.place (code_at body))) c.deref.ensures.value)),
-      q.1 ∙ ap (λ (body : List ℕ). kept_attribute c.args.pool.now.slots (code_at body)) c.deref.ensures.value,
+      q.0 ∙ (ap (λ r. first_from c.mark-found.result (code_attribute_marks c.args.constants.now.pool.now.slots r c.shape-shape.result c.args.place (code_at c.deref.result.now))) c.receiver_entries-receiver.ensures
+          ∙ (ap (λ h. first_from c.mark-found.result (code_attribute_marks c.args.constants.now.pool.now.slots (receiver_of c.args.constants.now.pool.now.slots (member_of c.args.method.now)) h c.args.place (code_at c.deref.result.now))) c.shape-shape.ensures
+          ∙ ap (λ (body : List ℕ). first_from c.mark-found.result (code_attribute_marks c.args.constants.now.pool.now.slots (receiver_of c.args.constants.now.pool.now.slots (member_of c.args.method.now)) (shape_at c.args.constants.now.pool.now.slots (member_of c.args.method.now)) c.args.place (code_at body))) c.deref.ensures.value)),
+      q.1 ∙ ap (λ (body : List ℕ). kept_attribute c.args.constants.now.pool.now.slots (code_at body)) c.deref.ensures.value,
     )) c.check_code_attribute.ensures

@@ -8,7 +8,7 @@ use Rattle.et_class.proofs.methods.check_method_attributes.Given as goal
 
 abbrev pub invariant-attributes : goal.invariant-attributes
 invariant-attributes l = record {
-  looked : Looked attribute_of attribute_bytes (method_attribute_marks l.pool.slots (member_of l.method)) l.fn.first l.found l.attributes l.start l.a-index l.place;
-  seen : l.seen ≡ list_any (is_code l.pool.slots) (map attribute_of (take l.a-index l.attributes));
-  code : l.code ≡ kept_among l.pool.slots (map attribute_of (take l.a-index l.attributes));
+  looked : Looked attribute_of attribute_bytes (method_attribute_marks l.constants.pool.now.slots (member_of l.method)) l.fn.first l.found l.attributes l.start l.a-index l.place;
+  seen : l.seen ≡ list_any (is_code l.constants.pool.now.slots) (map attribute_of (take l.a-index l.attributes));
+  code : l.code ≡ kept_among l.constants.pool.now.slots (map attribute_of (take l.a-index l.attributes));
 }
