@@ -1,9 +1,8 @@
 -- What a sink took in several puts.
-use Rattle.std.proofs.Common.{◌≡◌, ℕ, ◌≤◌, ◌-◌, List, [], ◌++◌, length, take, drop, refl, sym, ap, ◌∙◌, append_assoc, length-append, arith, rules}
+use Rattle.std.proofs.Common.{◌≡◌, ℕ, ◌-◌, List, [], ◌++◌, length, take, drop, refl, sym, ap, ◌∙◌, append_assoc, length-append, arith}
 use Rattle.std.specs.Prelude.{Option, Some, None}
 use Rattle.std.proofs.lemmas.List.{append-nil, take-append-drop, length-drop}
 use Rattle.std.proofs.Math.Seq.{take-length}
-use Rattle.et_io.specs.Faults.{Rose}
 use Rattle.et_io.specs.Sink.{with_more, TakesUpTo}
 
 -- nothing more
@@ -43,7 +42,3 @@ rest_of_nothing old new piece rest h e =
 -- nothing is left of the piece: it was taken whole
 pub takes_whole : (old new : Option (List ℕ)) (piece : List ℕ) → TakesUpTo old new piece [] → new ≡ with_more old piece
 takes_whole old new piece h = h.taken ∙ ap (λ t. with_more old t) (sym (h.parts ∙ append-nil h.prefix))
-
--- a count that rose later rose from before on
-pub rose_since : (old mid new : ℕ) → old ≤ mid → Rose mid new → Rose old new
-rose_since old mid new h r = grind (arith, rules)

@@ -1,7 +1,8 @@
 -- The calls of files or of a sink in memory, of which some are to fail.
-use Rattle.std.specs.Prelude.{ℕ, ◌+◌, ◌^◌, ◌<◌, ◌≤◌, min, Bool, List, All, if◌then◌else◌}
+use Rattle.std.specs.Prelude.{ℕ, ◌+◌, ◌^◌, ◌<◌, ◌≤◌, min, Bool, List, All}
 use Rattle.std.specs.List.{list_any}
 use Rattle.std.specs.Ordering.{nat_cmp, is_eq}
+use Rattle.et_io.specs.Faults.{count_after}
 
 -- how many calls were made, the numbers of those that are to fail, in order, and how many failed. Calls are numbered
 -- from 1; they are counted up to 2^63, and none from there on can be told to fail.
@@ -19,7 +20,7 @@ abbrev pub after_call : Calls → Calls
 after_call calls = record {
   made = min (calls.made + 1) (2 ^ 63);
   failing = calls.failing;
-  faults = if next_fails calls then calls.faults + 1 else calls.faults;
+  faults = count_after (next_fails calls) calls.faults;
 }
 
 -- each number that is to fail is below 2^63, and no more calls failed than were made

@@ -1,8 +1,8 @@
 -- What a read finds.
-use Rattle.std.specs.Prelude.{◌≡◌, ℕ, ◌<◌, ◌≤◌, List, length, Option, Some, None, IsSomeAnd}
+use Rattle.std.specs.Prelude.{◌≡◌, ℕ, ◌<◌, ◌≤◌, Bool, true, false, List, length, Option, Some, None, IsSomeAnd, Result, Ok, Err}
+use Rattle.et_base.specs.declared.memory.NoMemory.{NoMemory}
 use Rattle.et_io.specs.declared.files.Found.{Found}
 use Rattle.et_io.specs.declared.files.Found.TheVariants.{Bytes, Absent, TooLong, Failed}
-use Rattle.et_io.specs.Faults.{Rose}
 
 -- the files that are held: the bytes of the file at a path, if there is one
 abbrev pub Held : Type 0
@@ -23,9 +23,10 @@ IsWithin Absent most = Unit {0}
 IsWithin TooLong most = Unit {0}
 IsWithin Failed most = Unit {0}
 
--- a read failed only where the count of faults rose
-abbrev pub CountsFault : Found → ℕ → ℕ → Type 0
-CountsFault (Bytes bytes) old new = Unit {0}
-CountsFault Absent old new = Unit {0}
-CountsFault TooLong old new = Unit {0}
-CountsFault Failed old new = Rose old new
+-- the read failed
+abbrev pub is_failed : Result Found NoMemory → Bool
+is_failed (Ok (Bytes bytes)) = false
+is_failed (Ok Absent) = false
+is_failed (Ok TooLong) = false
+is_failed (Ok Failed) = true
+is_failed (Err want) = false

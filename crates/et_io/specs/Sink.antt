@@ -1,8 +1,7 @@
 -- What a sink takes.
-use Rattle.std.specs.Prelude.{◌≡◌, ℕ, ◌<◌, ◌≤◌, List, ◌++◌, length, take, Option, option_map}
+use Rattle.std.specs.Prelude.{◌≡◌, ℕ, ◌<◌, ◌≤◌, Bool, true, false, List, ◌++◌, length, take, Option, option_map}
 use Rattle.et_io.specs.declared.sink.Put.{Put}
 use Rattle.et_io.specs.declared.sink.Put.TheVariants.{Took, Failed, NoMemory}
-use Rattle.et_io.specs.Faults.{Rose}
 
 -- what a sink tells once it took these bytes more: a sink that tells nothing tells nothing then
 abbrev pub with_more : Option (List ℕ) → List ℕ → Option (List ℕ)
@@ -14,11 +13,11 @@ Takes (Took n) old new piece = (0 < length piece → 0 < n) × (n ≤ length pie
 Takes Failed old new piece = new ≡ old
 Takes NoMemory old new piece = new ≡ old
 
--- a put failed only where the count of faults rose
-abbrev pub CountsFault : Put → ℕ → ℕ → Type 0
-CountsFault (Took n) old new = Unit {0}
-CountsFault Failed old new = Rose old new
-CountsFault NoMemory old new = Unit {0}
+-- the put failed
+abbrev pub is_failed : Put → Bool
+is_failed (Took n) = false
+is_failed Failed = true
+is_failed NoMemory = false
 
 -- the sink took the piece up to this rest
 pub record TakesUpTo (old new : Option (List ℕ)) (piece rest : List ℕ) : Type 0 where

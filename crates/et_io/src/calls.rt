@@ -59,6 +59,7 @@ impl CallBook {
     pub fn next_call(&mut self) -> bool
         ensures value { result ≡ next_fails self.old }
         ensures counted { self.new ≡ after_call self.old }
+        ensures never_falls { self.old.faults ≤ self.new.faults }
     {
         let number = self.made + 1;
         let fails = self.failing.contains(&number);

@@ -1,6 +1,7 @@
 //! Files by their paths.
 ghost use Rattle.std.specs.Prelude.{◌≡◌, ℕ, ◌≤◌, Option, IfOk, IfSome};
-ghost use Rattle.et_io.specs.Files.{Held, Finds, IsWithin, CountsFault};
+ghost use Rattle.et_io.specs.Faults.{count_after};
+ghost use Rattle.et_io.specs.Files.{Held, Finds, IsWithin, is_failed};
 
 use et_base::NoMemory;
 use std::alloc::Global;
@@ -14,7 +15,7 @@ pub enum Found {
     Absent,
     /// The file has more bytes than were asked for.
     TooLong,
-    /// The read failed, and the count of faults rose.
+    /// The read failed, and the count of faults is one higher.
     Failed,
 }
 
@@ -26,14 +27,13 @@ pub trait Files {
     /// How many reads failed.
     ghost faults: { Self → ℕ };
 
-    /// Reads the file at the path, if it has at most this many bytes. A read changes no file. It fails only where the
-    /// count of faults rises, and that never falls. `NoMemory` says nothing of the file.
+    /// Reads the file at the path, if it has at most this many bytes. A read changes no file. One that fails counts one
+    /// fault, up to 2^64 - 1, and any other answer leaves the count as it was. `NoMemory` says nothing of the file.
     fn read(&mut self, alloc: Global, path: &str, most: u64) -> Result<Found, NoMemory>
         ensures found { IfOk result
             (λ found. IfSome (holds self.old) (λ held. Finds found most (held path.now))) }
         ensures within { IfOk result (λ found. IsWithin found most) }
-        ensures failed { IfOk result
-            (λ found. CountsFault found (faults self.old) (faults self.new)) }
+        ensures failed { faults self.new ≡ count_after (is_failed result) (faults self.old) }
         ensures kept { holds self.new ≡ holds self.old }
         ensures never_falls { faults self.old ≤ faults self.new };
 }

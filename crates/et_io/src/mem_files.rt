@@ -58,7 +58,8 @@ impl MemFiles {
 impl Files for MemFiles {
     ghost use Rattle.std.specs.Prelude.{◌≡◌, ◌≤◌, ◌↔◌, ℕ, List, Some, Ok, IfOk, IfSome, IsTrue};
     ghost use Rattle.et_io.specs.Calls.{next_fails, after_call};
-    ghost use Rattle.et_io.specs.Files.{Finds, IsWithin, CountsFault};
+    ghost use Rattle.et_io.specs.Faults.{count_after};
+    ghost use Rattle.et_io.specs.Files.{Finds, IsWithin, is_failed};
     ghost use Rattle.et_io.specs.MemFiles.{held, calls_of, FailsAsTold};
 
     ghost holds = { λ files. Some (held files) };
@@ -69,8 +70,8 @@ impl Files for MemFiles {
     fn read(&mut self, alloc: Global, path: &str, most: u64) -> Result<Found, NoMemory>
         ensures found { IfOk result (λ found. Finds found most (held self.old path.now)) }
         ensures within { IfOk result (λ found. IsWithin found most) }
-        ensures failed { IfOk result
-            (λ found. CountsFault found (calls_of self.old).faults (calls_of self.new).faults) }
+        ensures failed { (calls_of self.new).faults
+            ≡ count_after (is_failed result) (calls_of self.old).faults }
         ensures kept { Some (held self.new) ≡ Some (held self.old) }
         ensures never_falls { (calls_of self.old).faults ≤ (calls_of self.new).faults }
         ensures fails { FailsAsTold result (next_fails (calls_of self.old)) }

@@ -4,7 +4,8 @@ ghost use Rattle.std.specs.Ordering.{nat_cmp};
 ghost use Rattle.std.specs.BTreeSet.{insert_key};
 ghost use Rattle.et_io.specs.Calls.{next_fails, after_call};
 ghost use Rattle.et_io.specs.MemSink.{TakesMost};
-ghost use Rattle.et_io.specs.Sink.{Takes, CountsFault};
+ghost use Rattle.et_io.specs.Faults.{count_after};
+ghost use Rattle.et_io.specs.Sink.{Takes, is_failed};
 
 use crate::calls::CallBook;
 use crate::sink::{Put, Sink};
@@ -78,7 +79,8 @@ impl Sink for MemSink {
     /// Takes as many bytes of the piece as a call may. Fails exactly at the calls that are to fail.
     fn put(&mut self, piece: &[u8]) -> Put
         ensures takes { Takes result (Some self.old.taken) (Some self.new.taken) piece.now }
-        ensures failed { CountsFault result self.old.calls.faults self.new.calls.faults }
+        ensures failed { self.new.calls.faults
+            ≡ count_after (is_failed result) self.old.calls.faults }
         ensures never_falls { self.old.calls.faults ≤ self.new.calls.faults }
         ensures fails { (result ≡ Put.Failed) ↔ IsTrue (next_fails self.old.calls) }
         ensures takes_most { TakesMost result piece.now self.old.most }

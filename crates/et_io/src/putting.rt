@@ -1,6 +1,6 @@
 //! Putting a whole piece.
-ghost use Rattle.std.specs.Prelude.{◌≡◌, ◌≤◌, [], OnOk, OnErr, IsErrOf};
-ghost use Rattle.et_io.specs.Faults.{Rose};
+ghost use Rattle.std.specs.Prelude.{◌≡◌, ◌≤◌, [], OnOk, OnErr};
+ghost use Rattle.et_io.specs.Faults.{count_after, is_write_fault};
 ghost use Rattle.et_io.specs.Sink.{with_more, TakesPrefix};
 
 use crate::sink::{Put, Sink};
@@ -14,11 +14,12 @@ pub enum RunFault {
     NoMemory,
 }
 
-/// Puts the whole piece, in as many calls as the sink wants, and none where the piece is empty. `Write` comes only
-/// where the sink's count of faults rose. After `Write` and after `NoMemory` the sink took a prefix of the piece.
+/// Puts the whole piece, in as many calls as the sink wants, and none where the piece is empty. It ends with the first
+/// put that fails, which is answered `Write`: then the sink counted one fault, and otherwise none. After `Write` and
+/// after `NoMemory` the sink took a prefix of the piece.
 pub fn put_all<S: Sink>(sink: &mut S, piece: &[u8]) -> Result<(), RunFault>
     ensures ok { OnOk result (S.taken sink.new ≡ with_more (S.taken sink.old) piece.now) }
-    ensures write { IsErrOf result RunFault.Write → Rose (S.faults sink.old) (S.faults sink.new) }
+    ensures write { S.faults sink.new ≡ count_after (is_write_fault result) (S.faults sink.old) }
     ensures err { OnErr result (TakesPrefix (S.taken sink.old) (S.taken sink.new) piece.now) }
     ensures never_falls { S.faults sink.old ≤ S.faults sink.new }
     ensures no_call { piece.now ≡ [] → sink.new ≡ sink.old }

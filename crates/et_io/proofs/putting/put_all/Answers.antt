@@ -1,10 +1,10 @@
-use Rattle.std.proofs.Common.{arith}
+use Rattle.std.proofs.Common.{◌∙◌, arith}
 use Rattle.et_io.proofs.Taking.{takes_on_slice, rest_of_nothing}
 use Rattle.et_io.proofs.putting.put_all.Goals as goal
 
 pub loop-rest-preserved : goal.loop-rest-preserved
 loop-rest-preserved g c = (
   takes_on_slice _ _ _ _ _ _ c.loop-rest.invariant.0 c.in-Took.ensures.takes.2,
-  omega (arith, c.loop-rest.invariant.1, c.in-Took.ensures.never_falls),
+  c.in-Took.ensures.failed ∙ c.loop-rest.invariant.1,
   λ e. let none = rest_of_nothing _ _ _ _ c.loop-rest.invariant.0 e in absurd (grind (arith, none, c.loop-rest-test.ensures)),
 )
