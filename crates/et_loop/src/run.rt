@@ -1,6 +1,6 @@
 //! The whole run.
-ghost use Rattle.std.specs.Prelude.{◌≡◌, ℕ, Bool, ◌+◌, ◌≤◌, [], All, IfOk, OnErr, IsErrOf};
-ghost use Rattle.et_io.specs.Faults.{Rose};
+ghost use Rattle.std.specs.Prelude.{◌≡◌, ℕ, Bool, ◌+◌, ◌≤◌, [], All, IfOk, OnErr};
+ghost use Rattle.et_io.specs.Faults.{count_after, is_write_fault};
 ghost use Rattle.et_graph.specs.Graph.{Graph, nothing_made, Decides};
 ghost use Rattle.et_state.specs.Naming.{IsNamed};
 ghost use Rattle.et_state.specs.Options.{AreOptions};
@@ -32,8 +32,8 @@ fn first_room<G: Guest>(alloc: Global, objects: u32) -> Result<G::Room, NoMemory
 /// object, and searches nothing but at a flush: the visits are at most those that the flushes of the history make, eight
 /// for each event, and one for each object that an event makes.
 ///
-/// `Write` comes only where the sink's count of faults rose. After `Write` and after `NoMemory` the sink took a prefix
-/// of the trace, and the machine may only be dropped.
+/// `Write` comes exactly where a put failed, and the sink counted one fault. After `Write` and after `NoMemory` the sink
+/// took a prefix of the trace, and the machine may only be dropped.
 pub fn run_guest<G: Guest, O: Sink, L: Ledger>(
     alloc: Global,
     code: &G::Code,
@@ -60,7 +60,7 @@ pub fn run_guest<G: Guest, O: Sink, L: Ledger>(
         Decides reached → IfOk result (λ ran. visits.new ≤ visits.old + allowed_visits reached
         (setting_of (G.event_of code.now) G.unended_of G.graph_of G.flushed_of (G.Code.names
         code.now) options.now) G.flush_visits_of (G.state machine.old) made.now ran.event) }
-    ensures write { IsErrOf result RunFault.Write → Rose (O.faults sink.old) (O.faults sink.new) }
+    ensures write { O.faults sink.new ≡ count_after (is_write_fault result) (O.faults sink.old) }
     ensures never_falls { O.faults sink.old ≤ O.faults sink.new }
 {
     let objects = machine.made();

@@ -1,8 +1,8 @@
 //! The live curve.
-ghost use Rattle.std.specs.Prelude.{◌≡◌, ◌≤◌, ◌∷◌, ◌++◌, [], reverse, IfOk, OnOk, OnErr, IsErrOf};
+ghost use Rattle.std.specs.Prelude.{◌≡◌, ◌≤◌, ◌∷◌, ◌++◌, [], reverse, IfOk, OnOk, OnErr};
 ghost use Rattle.std.specs.Fmt.{decimal};
 ghost use Rattle.std.specs.List.{filter_map};
-ghost use Rattle.et_io.specs.Faults.{Rose};
+ghost use Rattle.et_io.specs.Faults.{count_after, is_write_fault};
 ghost use Rattle.et_io.specs.Sink.{with_more, TakesPrefix};
 ghost use Rattle.et_replay.specs.Curve.{happens_at, curve_events, curve_row, curve_text};
 ghost use Rattle.et_text.specs.Rules.{IsGood};
@@ -81,12 +81,12 @@ fn curve_text(alloc: Global, lines: &[TraceLine]) -> Result<Vec<u8>, NoMemory>
 
 /// Writes the live curve: for each event with an A, U, M, E or X line, in rising order, a line with the event and the
 /// bytes that are live at it. An object is live from the event that makes it up to the time of its D line, or to the
-/// end where it has none. Bytes are put only once the whole text is there. `Write` comes only where the sink's count of
-/// faults rose; after `Write` and after `NoMemory` the sink took a prefix of the text.
+/// end where it has none. Bytes are put only once the whole text is there. `Write` comes exactly where
+/// a put failed, and the sink counted one fault; after `Write` and after `NoMemory` the sink took a prefix of the text.
 pub fn curve_lines<O: Sink>(alloc: Global, trace: &Trace, sink: &mut O) -> Result<(), RunFault>
     ensures ok { OnOk result
         (O.taken sink.new ≡ with_more (O.taken sink.old) (curve_text trace.now)) }
-    ensures write { IsErrOf result RunFault.Write → Rose (O.faults sink.old) (O.faults sink.new) }
+    ensures write { O.faults sink.new ≡ count_after (is_write_fault result) (O.faults sink.old) }
     ensures err { OnErr result
         (TakesPrefix (O.taken sink.old) (O.taken sink.new) (curve_text trace.now)) }
     ensures never_falls { O.faults sink.old ≤ O.faults sink.new }

@@ -1,7 +1,7 @@
 //! The replay of a timeline through models of the heap.
-ghost use Rattle.std.specs.Prelude.{◌≡◌, ◌<◌, ◌≤◌, ◌++◌, ◌∷◌, [], ℕ, Bool, List, length, reverse, All, OnOk, IfOk, MatchOption, Some, None, OnErr, IsErrOf};
+ghost use Rattle.std.specs.Prelude.{◌≡◌, ◌<◌, ◌≤◌, ◌++◌, ◌∷◌, [], ℕ, Bool, List, length, reverse, All, OnOk, IfOk, MatchOption, Some, None, OnErr};
 ghost use Rattle.std.specs.List.{flat_map, AllZip};
-ghost use Rattle.et_io.specs.Faults.{Rose};
+ghost use Rattle.et_io.specs.Faults.{count_after, is_write_fault};
 ghost use Rattle.et_io.specs.Sink.{with_more, TakesPrefix};
 ghost use Rattle.et_graph.specs.Graph.{Graph, Decides};
 ghost use Rattle.et_replay.specs.Feeding.{HasRoom, MayCome};
@@ -191,8 +191,9 @@ fn lines_of(
 /// Feeds each item of a timeline to each model, and puts the line of each model's report to the sink, in the order of
 /// the models. A model that answers `Exhausted` has its report taken and is dropped there; the others go on. The
 /// models have their policies, were told of at least as many objects as the timeline makes, and were fed nothing. The
-/// answer is the number of lines. Bytes are put only once all lines are there. `Write` comes only where the sink's
-/// count of faults rose; after `Write` and after `NoMemory` the sink took a prefix of the lines.
+/// answer is the number of lines. Bytes are put only once all lines are there. `Write` comes
+/// exactly where a put failed, and the sink counted one fault; after `Write` and after `NoMemory` the sink took a prefix
+/// of the lines.
 pub fn replay<O: Sink>(
     alloc: Global,
     timeline: &Timeline,
@@ -206,7 +207,7 @@ pub fn replay<O: Sink>(
         OnOk result (O.taken sink.new
         ≡ with_more (O.taken sink.old) (replay_text reached timeline.now policies)) }
     ensures count { IfOk result (λ lines. lines ≡ length models.items) }
-    ensures write { IsErrOf result RunFault.Write → Rose (O.faults sink.old) (O.faults sink.new) }
+    ensures write { O.faults sink.new ≡ count_after (is_write_fault result) (O.faults sink.old) }
     ensures err { (reached : Graph → ℕ → Bool) → Decides reached → (policies : List Policy) →
         AllZip (λ b policy. (objects : ℕ) × stands_for b policy objects []) models.items policies →
         OnErr result (TakesPrefix

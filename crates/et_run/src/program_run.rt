@@ -1,12 +1,12 @@
 //! The run of a linked program.
-ghost use Rattle.std.specs.Prelude.{◌≡◌, ℕ, Bool, ◌+◌, ◌≤◌, IfOk, OnErr, IsErrOf};
+ghost use Rattle.std.specs.Prelude.{◌≡◌, ℕ, Bool, ◌+◌, ◌≤◌, IfOk, OnErr};
 ghost use Rattle.et_event.specs.Sound.{IsSoundFor};
 ghost use Rattle.et_state.specs.Start.{start};
 ghost use Rattle.et_event.specs.Start.{start_records};
 ghost use Rattle.et_graph.specs.Graph.{Graph, Decides};
 ghost use Rattle.et_history.specs.Settings.{flush_visits_of, setting};
 ghost use Rattle.et_history.specs.Whole.{whole_setting, whole_start, whole_visits_of};
-ghost use Rattle.et_io.specs.Faults.{Rose};
+ghost use Rattle.et_io.specs.Faults.{count_after, is_write_fault};
 ghost use Rattle.et_state.specs.State.{kept_of};
 ghost use Rattle.et_loop.specs.Visits.{allowed_visits};
 ghost use Rattle.et_program.specs.Tables.{IsTabled};
@@ -64,7 +64,7 @@ fn run_from<O: Sink, L: Ledger>(
     ensures visits { (reached : Graph → ℕ → Bool) →
         Decides reached → IfOk result (λ ran. visits.new ≤ visits.old + allowed_visits reached
         (setting program.now options.now) flush_visits_of (kept_of machine) made.now ran.event) }
-    ensures write { IsErrOf result RunFault.Write → Rose (O.faults sink.old) (O.faults sink.new) }
+    ensures write { O.faults sink.new ≡ count_after (is_write_fault result) (O.faults sink.old) }
     ensures never_falls { O.faults sink.old ≤ O.faults sink.new }
 {
     let code = NamedProgram::of(program);
@@ -77,8 +77,8 @@ fn run_from<O: Sink, L: Ledger>(
 /// visits of objects are at most those of the history's flushes, eight for each event, and one for each object that an event
 /// makes.
 ///
-/// `Write` comes only where the sink's count of faults rose. After `Write` and after `NoMemory` the sink took a prefix of the
-/// trace.
+/// `Write` comes exactly where a put failed, and the sink counted one fault. After `Write` and after `NoMemory` the sink took
+/// a prefix of the trace.
 pub fn run<O: Sink, L: Ledger>(
     alloc: Global,
     program: &Program,
@@ -99,7 +99,7 @@ pub fn run<O: Sink, L: Ledger>(
         (λ ran. visits.new ≤ visits.old + allowed_visits reached
         (whole_setting program.now options.now) whole_visits_of
         (whole_start program.now) (start_records program.now) ran.event) }
-    ensures write { IsErrOf result RunFault.Write → Rose (O.faults sink.old) (O.faults sink.new) }
+    ensures write { O.faults sink.new ≡ count_after (is_write_fault result) (O.faults sink.old) }
     ensures never_falls { O.faults sink.old ≤ O.faults sink.new }
 {
     // Laws: they tell the prover, and do nothing.

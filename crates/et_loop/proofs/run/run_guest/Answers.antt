@@ -60,7 +60,7 @@ events-init g c =
       limit = search rules;
       clock = c.requires.clock;
       sound = c.requires.sound;
-      faults = c.in_ok-put_all.ensures.never_falls;
+      faults = c.in_ok-put_all.ensures.write;
     }
 
 pub turn-requires-clause-made : goal.turn-requires-clause-made
@@ -103,8 +103,6 @@ events-preserved g c =
     let S = g.G.Guest.state in
     let graph = λ (m : g.row.G.Denot). g.G.Guest.graph_of (S m) in
     let limit : c.events.e < c.args.options.now.limit = subst (λ (end : Option End). IfNone end (c.events.e < c.args.options.now.limit)) c.in-None.is c.in-Ok-turn.ensures.limit in
-    let before = c.events.invariant.faults in
-    let rose = c.in_ok-put_all-2.ensures.never_falls in
     record {
       runs = λ reached decides.
           let G = g.G.Guest in
@@ -146,7 +144,7 @@ events-preserved g c =
       limit = omega arith;
       clock = subst (λ (end : Option End). IfNone end (g.G.Guest.clock_of (S c.turn.new.machine) ≡ c.events.e + 1)) c.in-None.is c.in-Ok-turn.ensures.clock;
       sound = subst (λ (end : Option End). IfNone end (g.G.Guest.is_sound c.args.code.now (S c.turn.new.machine))) c.in-None.is c.in-Ok-turn.ensures.sound;
-      faults = omega (arith, before, rose);
+      faults = c.in_ok-put_all-2.ensures.write ∙ c.events.invariant.faults;
     }
 
 -- the visits of the whole run

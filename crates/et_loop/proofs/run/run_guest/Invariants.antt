@@ -21,7 +21,7 @@ invariant-events g l =
       limit : l.e ≤ l.options.limit;
       clock : G.clock_of (G.state l.machine) ≡ l.e;
       sound : G.is_sound l.code (G.state l.machine);
-      faults : g.O.Sink.faults l.fn.sink ≤ g.O.Sink.faults l.sink;
+      faults : g.O.Sink.faults l.sink ≡ g.O.Sink.faults l.fn.sink;
     }
 
 abbrev pub decreases-events : goal.decreases-events
