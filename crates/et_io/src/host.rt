@@ -1,12 +1,14 @@
 //! The real files and streams. Nothing is proved of what they hold or take.
-ghost use Rattle.std.specs.Prelude.{◌<◌, ◌≤◌, length, IfOk, IfSome};
+ghost use Rattle.std.specs.Io.Buffered.{writer_buffer};
+ghost use Rattle.std.specs.Prelude.{◌≡◌, ◌<◌, ◌≤◌, [], length, IfOk, IfSome, true, false};
+ghost use Rattle.et_io.specs.Faults.{Rose};
 ghost use Rattle.et_io.specs.Files.{IsWithin};
 
 use crate::files::{Files, Found};
 use crate::sink::{Put, Sink};
 use et_base::NoMemory;
 use std::alloc::Global;
-use std::io::{ErrorKind, Read, Write};
+use std::io::{BufWriter, ErrorKind, Read, Write};
 use std::{fs, rt};
 
 /// The files of the system. They tell nothing of what they hold. The count of faults stays at its last number,
@@ -69,6 +71,34 @@ impl<W: Write> HostSink<W> {
     /// The sink of this stream.
     pub fn begin(stream: W) -> HostSink<W> {
         HostSink { stream, faults: 0 }
+    }
+}
+
+/// How many bytes a sink gathers before it hands them on.
+const GATHERED: usize = 65_536;
+
+impl<W: Write + Drop> HostSink<BufWriter<W>> {
+    /// The sink of this stream that gathers what it takes, and hands it on in pieces of 64 KiB. A put may then fail for
+    /// what an earlier one was given. What is gathered at the end is handed on by `hand_on`.
+    pub fn gathering(alloc: Global, stream: W) -> Result<HostSink<BufWriter<W>>, NoMemory> {
+        match BufWriter::with_capacity(alloc, GATHERED, stream) {
+            Ok(gathered) => Ok(HostSink::begin(gathered)),
+            Err(_) => Err(NoMemory),
+        }
+    }
+
+    /// Hands on to the stream what was gathered, and says whether the stream took it all. Where it didn't, the count of
+    /// faults rose.
+    pub fn hand_on(&mut self) -> bool
+        ensures taken { result ≡ true → writer_buffer self.new.stream ≡ [] }
+        ensures kept { result ≡ true → self.new.faults ≡ self.old.faults }
+        ensures failed { result ≡ false → Rose self.old.faults self.new.faults }
+    {
+        let is_taken = self.stream.flush().is_ok();
+        if !is_taken {
+            self.faults = self.faults.saturating_add(1);
+        }
+        is_taken
     }
 }
 

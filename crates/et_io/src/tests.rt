@@ -55,3 +55,19 @@ fn writes_to_a_real_stream(rt: HostRuntime) -> Result<(), Fail> {
     fs::remove_file(&rt, path)?;
     Ok(())
 }
+
+#[test]
+fn gathers_what_is_put(rt: HostRuntime) -> Result<(), Fail> {
+    let path = "et_io_gathers_what_is_put.txt";
+    let mut sink = HostSink::gathering(rt.alloc(), fs::create(&rt, path)?)?;
+    assert_eq!(rt; put_all(&mut sink, b"five"), Ok(()));
+    assert_eq!(rt; put_all(&mut sink, b"!"), Ok(()));
+    assert_eq!(rt; fs::read(&rt, path)?.len(), 0);
+    assert!(rt; sink.hand_on());
+    assert_eq!(rt; fs::read(&rt, path)?.as_slice(), b"five!".as_slice());
+    let mut unwritable = HostSink::gathering(rt.alloc(), fs::open(&rt, path)?)?;
+    assert_eq!(rt; unwritable.put(b"more"), Put::Took(4));
+    assert!(rt; !unwritable.hand_on());
+    fs::remove_file(&rt, path)?;
+    Ok(())
+}
