@@ -12,12 +12,12 @@ use crate::refusal::Refusal;
 use crate::status::Status;
 use crate::top::elephant;
 use et_base::{NoMemory, Steps};
-use et_io::{Files, Sink};
+use et_io::{Files, HostSink, Sink};
 use et_models::{Generational, MarkSweep, SemiSpace};
 use et_replay::HeapModel;
 use std::alloc::Global;
 use std::env::{self, Env};
-use std::io::ErrorKind;
+use std::io::{BufWriter, ErrorKind, Write};
 use std::marker::Brand;
 use std::sync::ledger::{Blank, Ledger};
 
@@ -119,5 +119,42 @@ pub fn run_elephant<F: Files, O: Sink, E: Sink>(
         }
         Err(WordsFault::NotUtf8) => refuse(alloc, err, &Refusal::Usage),
         Err(WordsFault::NoMemory) => refuse(alloc, err, &Refusal::NoMemory),
+    }
+}
+
+/// The status of a process whose output was gathered, once that is handed on: the one it came to, or `WriteFault` where
+/// all of its output was to be taken and the stream didn't take what was left.
+fn hand_on<W: Write + Drop, E: Sink>(
+    alloc: Global,
+    out: &mut HostSink<BufWriter<W>>,
+    err: &mut E,
+    status: Status,
+) -> Status
+    ensures { EndsAs status result }
+{
+    match status {
+        Status::Done | Status::IllTyped | Status::ObjectLimit if !out.hand_on() => {
+            refuse(alloc, err, &Refusal::WriteFault)
+        }
+        _ => status,
+    }
+}
+
+/// `run_elephant` whose output goes to a stream, in pieces of 64 KiB, and what is left of it before the process ends. Where
+/// the stream doesn't take that, the status is `WriteFault`.
+pub fn run_process<F: Files, W: Write + Drop, E: Sink>(
+    alloc: Global,
+    words: Result<Vec<String>, WordsFault>,
+    files: &mut F,
+    out: W,
+    err: &mut E,
+) -> Status
+{
+    match HostSink::gathering(alloc, out) {
+        Ok(mut out) => {
+            let status = run_elephant(alloc, words, files, &mut out, err);
+            hand_on(alloc, &mut out, err, status)
+        }
+        Err(_) => refuse(alloc, err, &Refusal::NoMemory),
     }
 }
