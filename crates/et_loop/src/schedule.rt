@@ -1,5 +1,5 @@
 //! What a run reads off its options and its end: whose turn it is, and how a Z line spells the end.
-ghost use Rattle.std.specs.Prelude.{◌≡◌};
+ghost use Rattle.std.specs.Prelude.{◌≡◌, ◌<◌, ◌%◌};
 ghost use Rattle.et_state.specs.History.{how_of};
 ghost use Rattle.et_state.specs.Options.{pick_of, AreOptions};
 
@@ -17,6 +17,21 @@ pub fn pick(options: &Options, e: u64) -> u64
             let list = words.as_slice();
             list[(e % list.len() as u64) as usize] as u64
         }
+    }
+}
+
+/// The place of the thread whose turn an event is, among so many that have not ended. Where there is one alone, nothing is
+/// divided.
+pub fn place_of_turn(options: &Options, e: u64, count: usize) -> usize
+    requires options { AreOptions options.now }
+    requires some { 0 < count }
+    ensures place { result ≡ pick_of options.now.schedule e % count }
+    ensures within { result < count }
+{
+    if count == 1 {
+        0
+    } else {
+        (pick(options, e) % count as u64) as usize
     }
 }
 

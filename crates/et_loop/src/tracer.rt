@@ -17,7 +17,7 @@ use crate::guest::Guest;
 use crate::marks::restamp;
 use crate::naming::Numbering;
 use crate::program::Program;
-use crate::schedule::pick;
+use crate::schedule::place_of_turn;
 use et_base::{End, NoMemory, Steps, TraceLine};
 use et_graph::Stamps;
 use et_state::{EventEnd, Lines, Options};
@@ -78,7 +78,7 @@ fn step<G: Guest, L: Ledger>(
     if e == options.limit {
         return Ok(Some(End::EventLimit));
     }
-    let thread = machine.unended_at((pick(options, e + 1) % count as u64) as usize);
+    let thread = machine.unended_at(place_of_turn(options, e + 1, count));
     let before = machine.made();
     let mut records = Lines::begin(alloc);
     match machine.event(alloc, code, thread, &mut records, visits)? {
