@@ -1,7 +1,7 @@
 //! The real files and streams. Nothing is proved of what they hold or take.
 ghost use Rattle.std.specs.Io.Buffered.{writer_buffer};
-ghost use Rattle.std.specs.Prelude.{◌≡◌, ◌<◌, ◌≤◌, [], length, IfOk, IfSome, true, false};
-ghost use Rattle.et_io.specs.Faults.{Rose};
+ghost use Rattle.std.specs.Prelude.{◌≡◌, ◌<◌, ◌≤◌, [], length, IfOk, IfSome, true, not};
+ghost use Rattle.et_io.specs.Faults.{count_after};
 ghost use Rattle.et_io.specs.Files.{IsWithin};
 
 use crate::files::{Files, Found};
@@ -87,12 +87,11 @@ impl<W: Write + Drop> HostSink<BufWriter<W>> {
         }
     }
 
-    /// Hands on to the stream what was gathered, and says whether the stream took it all. Where it didn't, the count of
-    /// faults rose.
+    /// Hands on to the stream what was gathered, and says whether the stream took it all. Where it didn't, one fault is
+    /// counted.
     pub fn hand_on(&mut self) -> bool
         ensures taken { result ≡ true → writer_buffer self.new.stream ≡ [] }
-        ensures kept { result ≡ true → self.new.faults ≡ self.old.faults }
-        ensures failed { result ≡ false → Rose self.old.faults self.new.faults }
+        ensures faults { self.new.faults ≡ count_after (not result) self.old.faults }
     {
         let is_taken = self.stream.flush().is_ok();
         if !is_taken {
