@@ -1,5 +1,5 @@
 -- Objects in a list that begins with object 1, and what such a list counts.
-use Rattle.std.proofs.Common.{◌≡◌, ℕ, zero, suc, ◌+◌, ◌-◌, ◌<◌, ◌≤◌, List, [], ◌∷◌, length, Option, Some, None, get_or, set, ap, subst, refl, sym, ◌∙◌, arith}
+use Rattle.std.proofs.Common.{◌≡◌, ℕ, zero, suc, ◌+◌, ◌-◌, ◌<◌, ◌≤◌, [], ◌∷◌, length, Option, Some, None, get_or, set, ap, subst, refl, arith}
 use Rattle.std.proofs.lemmas.List.Sums.{sum_by-cons, sum_by-set}
 use Rattle.et_heap.specs.Objects.{ObjectState, Objects, at, found, object_at, is_there, IsHeld, slots_in, slot_count, ones_in, held_count}
 
@@ -35,13 +35,14 @@ slots_there None = refl
 slots_there (Some x) = refl
 
 -- an object that is taken out is no longer counted, nor are its slots
-pub held_count-without : (xs : Objects) (o : ℕ) → IsHeld (None ∷ xs) o → held_count (set xs (o - 1) None) + 1 ≡ held_count xs
-held_count-without xs o held =
-    let there : is_there (get_or xs (o - 1) None) = subst is_there (at-below xs o (held-positive xs o held)) held in
-    let lt = there_below xs (o - 1) there in
-    let e = sum_by-set ones_in xs (o - 1) None None lt in
-    let one = one_there (get_or xs (o - 1) None) there in
+pub held_count-set : (xs : Objects) (i : ℕ) → IsHeld xs i → held_count (set xs i None) + 1 ≡ held_count xs
+held_count-set xs i held =
+    let e = sum_by-set ones_in xs i None None (there_below xs i held) in
+    let one = one_there (get_or xs i None) held in
     omega arith
+
+pub held_count-without : (xs : Objects) (o : ℕ) → IsHeld (None ∷ xs) o → held_count (set xs (o - 1) None) + 1 ≡ held_count xs
+held_count-without xs o held = held_count-set xs (o - 1) (subst is_there (at-below xs o (held-positive xs o held)) held)
 
 pub slot_count-without : (xs : Objects) (o : ℕ) → IsHeld (None ∷ xs) o → slot_count (set xs (o - 1) None) + length (object_at (None ∷ xs) o).slots ≡ slot_count xs
 slot_count-without xs o held =
@@ -52,22 +53,18 @@ slot_count-without xs o held =
     let same : slots_in (at (None ∷ xs) o) ≡ slots_in (get_or xs (o - 1) None) = ap slots_in (at-below xs o (held-positive xs o held)) in
     omega arith
 
-get_or_any : {X : Type 0} (xs : List X) (i : ℕ) (a b : X) → i < length xs → get_or xs i a ≡ get_or xs i b
-get_or_any [] i a b lt = absurd (omega arith)
-get_or_any (x ∷ xs) zero a b lt = refl
-get_or_any (x ∷ xs) (suc i) a b lt = get_or_any xs i a b (omega arith)
+-- another object in its place counts as well
+pub held_count-written : (xs : Objects) (o : ℕ) (x : ObjectState) → IsHeld (None ∷ xs) o → held_count (set xs (o - 1) (Some x)) ≡ held_count xs
+held_count-written xs o x held =
+    let there : is_there (get_or xs (o - 1) None) = subst is_there (at-below xs o (held-positive xs o held)) held in
+    let e = sum_by-set ones_in xs (o - 1) (Some x) None (there_below xs (o - 1) there) in
+    let one = one_there (get_or xs (o - 1) None) there in
+    omega arith
 
--- what stands at the place of an object is that object
-pub object-found : (heap xs : Objects) (o n : ℕ) (p : Option ObjectState) (x : ObjectState) → None ∷ xs ≡ heap → n ≡ o → IsHeld heap o → p ≡ get_or xs (n - 1) p → p ≡ Some x → object_at heap o ≡ x
-object-found heap xs o n p x view number held is some =
-    let held' : IsHeld (None ∷ xs) o = subst (λ h. IsHeld h o) (sym view) held in
-    let at-o : at (None ∷ xs) o ≡ get_or xs (o - 1) None = at-below xs o (held-positive xs o held') in
-    let lt = there_below xs (o - 1) (subst is_there at-o held') in
-    let same : p ≡ get_or xs (o - 1) None = is ∙ (ap (λ k. get_or xs (k - 1) p) number ∙ get_or_any xs (o - 1) p None lt) in
-    ap (λ h. object_at h o) (sym view) ∙ ap found (at-o ∙ (sym same ∙ some))
-
--- writing there writes at the number of the object
-pub place-written : (heap xs : Objects) (o n : ℕ) (y : Option ObjectState) → None ∷ xs ≡ heap → n ≡ o → IsHeld heap o → None ∷ set xs (n - 1) y ≡ set heap o y
-place-written heap xs o n y view number held =
-    let held' : IsHeld (None ∷ xs) o = subst (λ h. IsHeld h o) (sym view) held in
-    ap (λ k. None ∷ set xs (k - 1) y) number ∙ (sym (set-below xs o y (held-positive xs o held')) ∙ ap (λ h. set h o y) view)
+pub slot_count-written : (xs : Objects) (o : ℕ) (x : ObjectState) → IsHeld (None ∷ xs) o → length x.slots ≡ length (object_at (None ∷ xs) o).slots → slot_count (set xs (o - 1) (Some x)) ≡ slot_count xs
+slot_count-written xs o x held slots =
+    let there : is_there (get_or xs (o - 1) None) = subst is_there (at-below xs o (held-positive xs o held)) held in
+    let e = sum_by-set slots_in xs (o - 1) (Some x) None (there_below xs (o - 1) there) in
+    let these = slots_there (at (None ∷ xs) o) in
+    let same : slots_in (at (None ∷ xs) o) ≡ slots_in (get_or xs (o - 1) None) = ap slots_in (at-below xs o (held-positive xs o held)) in
+    omega arith

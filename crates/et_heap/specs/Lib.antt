@@ -1,4 +1,5 @@
 pub mod Objects
 pub mod Refs
+pub mod Pages
 pub mod Inside
 pub mod Remaining

@@ -1,5 +1,5 @@
 -- The objects of the guest (JVMS 2.4, 2.5.3).
-use Rattle.std.specs.Prelude.{ℕ, ◌+◌, ◌-◌, ◌&&◌, Bool, nat_le, List, Option, Some, None, length, replicate, slice_index_or, slice_set}
+use Rattle.std.specs.Prelude.{ℕ, ◌+◌, ◌-◌, ◌≤◌, ◌&&◌, Bool, nat_le, List, Option, Some, None, length, replicate, slice_index_or, slice_set}
 use Rattle.std.specs.List.{sum_by}
 use Rattle.et_base.specs.declared.value.Value.{Value}
 use Rattle.et_base.specs.declared.value.Value.TheVariants.{Unset, Null, Ref}
@@ -53,6 +53,12 @@ is_there (Some x) = Unit {0}
 -- the object was made and was not taken out
 abbrev pub IsHeld : Objects → ℕ → Type 0
 IsHeld heap o = is_there (at heap o)
+
+-- o is the first object that is held from number k on
+pub record IsNextHeld (heap : Objects) (k o : ℕ) : Type 0 where
+  pub held : IsHeld heap o
+  pub from : k ≤ o
+  pub first : (u : ℕ) → k ≤ u → IsHeld heap u → o ≤ u
 
 abbrev pub slot_of : ObjectState → ℕ → Value
 slot_of x i = slice_index_or x.slots i Unset

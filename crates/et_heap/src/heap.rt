@@ -1,14 +1,16 @@
 //! The heap.
-ghost use Rattle.std.specs.Prelude.{◌≡◌, ◌+◌, ◌<◌, ◌≤◌, ◌↔◌, ◌∷◌, ◌++◌, [], length, IsTrue, IfOk, OnOk, OnErr, Err, None, Some, false};
-ghost use Rattle.et_heap.specs.Objects.{IsHeld, object_at, slot_of, with_slot, with_referent, with_monitor, with_object_at, without_object_at, referent_value, referent_of, new_object, slot_count, held_count, has_room, most_objects, most_slots};
+ghost use Rattle.std.specs.Prelude.{◌≡◌, ◌+◌, ◌-◌, ◌/◌, ◌%◌, ◌<◌, ◌≤◌, ◌↔◌, ◌∷◌, ◌++◌, ℕ, [], length, IsTrue, IfOk, IfSome, OnOk, OnErr, Err, None, Some, false};
+ghost use Rattle.et_heap.specs.Objects.{IsHeld, IsNextHeld, object_at, slot_of, with_slot, with_referent, with_monitor, with_object_at, without_object_at, referent_value, referent_of, new_object, slot_count, held_count, has_room, most_objects, most_slots};
+ghost use Rattle.et_heap.specs.Pages.{page_size, all_places, IsPaged};
 ghost use Rattle.et_heap.specs.Refs.{refs_of as references};
 
 use crate::fault::MakeFault;
 use crate::monitor::Monitor;
 use crate::object::Object;
+use crate::page::{PLACES, Page};
 use crate::refs::Refs;
 use et_base::{ClassId, ObjectId, Steps, Value};
-use std::alloc::Global;
+use std::alloc::{AllocError, Global};
 use std::marker::Model;
 use std::sync::ledger::Ledger;
 
@@ -24,8 +26,10 @@ pub const MOST_SLOTS: u32 = 67_108_864;
 #[derive(Drop)]
 pub struct Heap {
     alloc: Global,
-    /// Object 1 stands first.
-    objects: Vec<Option<Object>>,
+    /// Object 1 stands first in the first page.
+    pages: Vec<Page>,
+    /// How many objects were ever made.
+    made: u32,
     /// How many objects are held, and how many slots they have.
     held: u32,
     slots: u32,
@@ -37,22 +41,45 @@ impl Model for Heap {
 
     ghost Value = { Objects };
 
+    ghost use Rattle.et_heap.specs.Pages.{all_places};
     ghost use Rattle.et_heap.specs.Inside.{IsHeap};
 
-    ghost view = { λ h. None ∷ h.objects.items };
+    ghost view = { λ h. None ∷ all_places h.pages.items };
 
     ghost invariant = { IsHeap };
 }
 
-/// The object of a number in a list that begins with object 1.
-fn object_in(objects: &[Option<Object>], o: ObjectId) -> &Object
-    requires { IsHeld (None ∷ objects.now) o }
-    ensures { result.now ≡ object_at (None ∷ objects.now) o }
+/// In which page an object stands.
+fn page_of(o: ObjectId) -> usize
+    requires { 0 < o }
+    ensures { result ≡ (o - 1) / page_size }
 {
-    match &objects[o.number() as usize - 1] {
-        Some(object) => object,
-        None => unreachable!(),
+    (o.number() as usize - 1) / PLACES
+}
+
+/// At which place of its page an object stands.
+fn place_of(o: ObjectId) -> usize
+    requires { 0 < o }
+    ensures { result ≡ (o - 1) % page_size }
+{
+    (o.number() as usize - 1) % PLACES
+}
+
+/// Puts an object at the end, into a new page where the last one has all places. After an error the places are as before.
+fn push(alloc: Global, pages: &mut Vec<Page>, made: usize, object: Object) -> Result<(), AllocError>
+    requires { IsPaged made pages.old.items }
+    ensures paged { OnOk result (IsPaged (made + 1) pages.new.items) }
+    ensures pushed { OnOk result
+        (all_places pages.new.items ≡ all_places pages.old.items ++ Some object ∷ []) }
+    ensures err { OnErr result (pages.new.items ≡ pages.old.items) }
+{
+    if made % PLACES == 0 {
+        pages.push(Page::begin(alloc, object)?)?;
+    } else {
+        let page = &mut pages[made / PLACES];
+        page.push(object)?;
     }
+    Ok(())
 }
 
 impl Heap {
@@ -62,7 +89,8 @@ impl Heap {
     {
         Heap {
             alloc,
-            objects: Vec::new(alloc),
+            pages: Vec::new(alloc),
+            made: 0,
             held: 0,
             slots: 0,
         }
@@ -78,16 +106,16 @@ impl Heap {
         ensures full { (result ≡ Err MakeFault.Full) ↔ (has_room self.old 1 slots ≡ false) }
         ensures err { OnErr result (self.new ≡ self.old) }
     {
-        let made = self.objects.len();
-        if made >= MOST_OBJECTS as usize || slots > MOST_SLOTS - self.slots {
+        if self.made >= MOST_OBJECTS || slots > MOST_SLOTS - self.slots {
             return Err(MakeFault::Full);
         }
         let empty = vec![in self.alloc; Value::Unset; slots as usize]?;
-        self.objects
-            .push(Some(Object::new(class, elements, empty)))?;
+        let object = Object::new(class, elements, empty);
+        push(self.alloc, &mut self.pages, self.made as usize, object)?;
+        self.made += 1;
         self.held += 1;
         self.slots += slots;
-        Ok(ObjectId::new(made as u32 + 1))
+        Ok(ObjectId::new(self.made))
     }
 
     /// Makes an object with this many fields, which hold nothing yet. Its number is one more than `count`. `Full` comes
@@ -116,6 +144,14 @@ impl Heap {
         self.make(class, elements, elements)
     }
 
+    /// The object of a number.
+    fn object(&self, o: ObjectId) -> &Object
+        requires { IsHeld self.now o }
+        ensures { result.now ≡ object_at self.now o }
+    {
+        self.pages[page_of(o)].object(place_of(o))
+    }
+
     /// The class of an object.
     pub fn class_of<L: Ledger>(&self, o: ObjectId, visits: &mut Steps<L>) -> ClassId
         requires { IsHeld self.now o }
@@ -123,7 +159,7 @@ impl Heap {
         ensures visits { visits.new ≡ visits.old + 1 }
     {
         visits.tick();
-        object_in(&self.objects, o).class()
+        self.object(o).class()
     }
 
     /// The length of an array, and 0 for what is no array.
@@ -133,7 +169,7 @@ impl Heap {
         ensures visits { visits.new ≡ visits.old + 1 }
     {
         visits.tick();
-        object_in(&self.objects, o).length()
+        self.object(o).length()
     }
 
     /// What a slot of an object holds. `Unset` stands for the 0 or null of a slot that was not written yet.
@@ -144,7 +180,7 @@ impl Heap {
         ensures visits { visits.new ≡ visits.old + 1 }
     {
         visits.tick();
-        object_in(&self.objects, o).slot(i)
+        self.object(o).slot(i)
     }
 
     /// Writes a slot of an object, and answers what stood there.
@@ -162,11 +198,8 @@ impl Heap {
         ensures visits { visits.new ≡ visits.old + 1 }
     {
         visits.tick();
-        let place = &mut self.objects[o.number() as usize - 1];
-        match place {
-            Some(object) => object.set_slot(i, v),
-            None => unreachable!(),
-        }
+        let page = &mut self.pages[page_of(o)];
+        page.set_slot(place_of(o), i, v)
     }
 
     /// What an object refers to weakly: `Ref` or `Null`. It is `Null` at first.
@@ -176,7 +209,7 @@ impl Heap {
         ensures visits { visits.new ≡ visits.old + 1 }
     {
         visits.tick();
-        object_in(&self.objects, o).referent()
+        self.object(o).referent()
     }
 
     /// Writes what an object refers to weakly, and answers what it referred to before. A value that is no reference
@@ -189,11 +222,8 @@ impl Heap {
         ensures visits { visits.new ≡ visits.old + 1 }
     {
         visits.tick();
-        let place = &mut self.objects[o.number() as usize - 1];
-        match place {
-            Some(object) => object.set_referent(v),
-            None => unreachable!(),
-        }
+        let page = &mut self.pages[page_of(o)];
+        page.set_referent(place_of(o), v)
     }
 
     /// The monitor of an object.
@@ -203,7 +233,7 @@ impl Heap {
         ensures visits { visits.new ≡ visits.old + 1 }
     {
         visits.tick();
-        object_in(&self.objects, o).monitor()
+        self.object(o).monitor()
     }
 
     /// Writes the monitor of an object, and answers the one before.
@@ -219,11 +249,8 @@ impl Heap {
         ensures visits { visits.new ≡ visits.old + 1 }
     {
         visits.tick();
-        let place = &mut self.objects[o.number() as usize - 1];
-        match place {
-            Some(object) => object.set_monitor(m),
-            None => unreachable!(),
-        }
+        let page = &mut self.pages[page_of(o)];
+        page.set_monitor(place_of(o), m)
     }
 
     /// The references in the slots of an object, in order.
@@ -233,15 +260,32 @@ impl Heap {
         ensures visits { visits.new ≡ visits.old + 1 }
     {
         visits.tick();
-        Refs::new(object_in(&self.objects, o).slots())
+        Refs::new(self.object(o).slots())
     }
 
     /// Whether the object was made and not taken out.
     pub fn is_held(&self, o: ObjectId) -> bool
         ensures { IsTrue result ↔ IsHeld self.now o }
     {
-        let number = o.number() as usize;
-        number > 0 && number <= self.objects.len() && self.objects[number - 1].is_some()
+        let number = o.number();
+        number > 0 && number <= self.made && self.pages[page_of(o)].is_held(place_of(o))
+    }
+
+    /// The first object that is held from this number on, if there is one. It skips what was given back a page at a
+    /// time, and visits no object.
+    pub fn next_held(&self, from: ObjectId) -> Option<ObjectId>
+        ensures some { IfSome result (λ o. IsNextHeld self.now from o) }
+        ensures none { result ≡ None → (u : ℕ) → from ≤ u → ¬ IsHeld self.now u }
+    {
+        let start = from.number().saturating_sub(1) as usize;
+        let mut place = start % PLACES;
+        for k in start / PLACES..self.pages.len() {
+            if let Some(found) = self.pages[k].next_held(place) {
+                return Some(ObjectId::new((k * PLACES + found) as u32 + 1));
+            }
+            place = 0;
+        }
+        None
     }
 
     /// Takes an object out. Its number is not used again.
@@ -249,8 +293,9 @@ impl Heap {
         requires { IsHeld self.old o }
         ensures { self.new ≡ without_object_at self.old o }
     {
-        let slots = object_in(&self.objects, o).slots().len() as u32;
-        self.objects[o.number() as usize - 1] = None;
+        let slots = self.object(o).slots().len() as u32;
+        let page = &mut self.pages[page_of(o)];
+        page.take_out(place_of(o));
         self.held -= 1;
         self.slots -= slots;
     }
@@ -260,7 +305,7 @@ impl Heap {
         ensures value { result + 1 ≡ length self.now }
         ensures few { result ≤ most_objects }
     {
-        self.objects.len() as u32
+        self.made
     }
 
     /// How many objects are held.
@@ -276,5 +321,11 @@ impl Heap {
         ensures few { result ≤ most_slots }
     {
         self.slots
+    }
+
+    /// How many pages were not given back.
+    #[cfg(test)]
+    pub fn pages_there(&self) -> usize {
+        self.pages.iter().filter(|page| page.is_there()).count()
     }
 }

@@ -3,6 +3,7 @@ ghost use Rattle.std.specs.Prelude.{◌≡◌, ◌<◌};
 
 use super::*;
 use crate::object::Object;
+use crate::page::Page;
 use et_base::{ClassId, ObjectId, Steps, Value};
 use std::marker::Brand;
 use std::mem::size_of;
@@ -32,6 +33,29 @@ fn numbers_and_counts(rt: HostRuntime) -> Result<(), Fail> {
     assert!(rt; heap.is_held(ObjectId::new(2)));
     assert!(rt; !heap.is_held(ObjectId::new(3)));
     assert_eq!(rt; heap.make_object(ClassId::new(3), 0)?.number(), 3);
+    Ok(())
+}
+
+#[test]
+fn pages_are_given_back(rt: HostRuntime) -> Result<(), Fail> {
+    let mut heap = Heap::begin(rt.alloc());
+    for _ in 0..3_000 {
+        heap.make_object(ClassId::new(3), 0)?;
+    }
+    assert_eq!(rt; heap.pages_there(), 3);
+    for number in 1..2_049 {
+        let o = ObjectId::new(number);
+        assert!(rt; heap.is_held(o));
+        heap.take_out(o);
+    }
+    assert_eq!(rt; heap.pages_there(), 1);
+    assert_eq!(rt; heap.held(), 952);
+    assert_eq!(rt;
+        heap.next_held(ObjectId::new(0)),
+        Some(ObjectId::new(2_049))
+    );
+    assert_eq!(rt; heap.next_held(ObjectId::new(3_001)), None);
+    assert_eq!(rt; heap.make_object(ClassId::new(3), 0)?.number(), 3_001);
     Ok(())
 }
 
@@ -81,4 +105,5 @@ fn roots_in_order(rt: HostRuntime) -> Result<(), Fail> {
 fn an_object_takes_64_bytes_and_16_a_slot(rt: HostRuntime) {
     assert!(rt; size_of::<Option<Object>>() <= 64);
     assert!(rt; size_of::<Value>() <= 16);
+    assert!(rt; size_of::<Page>() <= 32);
 }

@@ -1,14 +1,42 @@
-use Rattle.std.proofs.Common.{◌<◌, length, sym, ap, subst, ◌∙◌}
-use Rattle.et_heap.specs.Objects.{slot_of}
-use Rattle.et_heap.proofs.Places.{object-found}
+use Rattle.std.proofs.Common.{◌<◌, length, sym, ap, subst, ◌∙◌, arith, length-set}
+use Rattle.et_heap.specs.Objects.{found, is_there, with_object_at, with_slot, slot_of}
+use Rattle.et_heap.proofs.Pages.{number_positive, page-held-within, at-page, page-written, written-view, written-counts}
 use Rattle.et_heap.proofs.heap.Heap.set_slot.Goals as goal
+
+pub page_of-requires : goal.page_of-requires
+page_of-requires g c = number_positive _ c.self.inside.pages.items _ c.self.view_is c.requires.held
+
+pub place_of-requires : goal.place_of-requires
+place_of-requires g c = number_positive _ c.self.inside.pages.items _ c.self.view_is c.requires.held
+
+pub index_mut-page-requires : goal.index_mut-page-requires
+index_mut-page-requires g c = omega (arith, c.self.inside.pages.ok.0, page-held-within _ _ _ _ _ c.self.view_is c.self.invariant.paged c.requires.held c.page_of.ensures)
 
 pub set_slot-requires : goal.set_slot-requires
 set_slot-requires g c =
-    let is = object-found _ _ _ _ _ _ c.self.view_is c.number.ensures.value c.requires.held c.index_mut-place.ensures.value c.in-Some.is in
-    subst (λ x. c.args.i < length x.slots) is c.requires.slot
+    let is = at-page _ _ _ _ _ _ _ c.self.view_is c.self.invariant.paged c.requires.held c.page_of.ensures c.place_of.ensures c.index_mut-page.ensures.value in
+    record { held = subst is_there is c.requires.held; slot = subst (λ p. c.args.i < length (found p).slots) is c.requires.slot }
 
 pub returns-clause-old : goal.returns-clause-old
 returns-clause-old g c =
-    let is = object-found _ _ _ _ _ _ c.self.view_is c.number.ensures.value c.requires.held c.index_mut-place.ensures.value c.in-Some.is in
-    c.set_slot.ensures.old ∙ ap (λ x. slot_of x c.args.i) (sym is)
+    let is = at-page _ _ _ _ _ _ _ c.self.view_is c.self.invariant.paged c.requires.held c.page_of.ensures c.place_of.ensures c.index_mut-page.ensures.value in
+    c.set_slot.ensures.old ∙ ap (λ p. let x = found p in slot_of x c.args.i) (sym is)
+
+pub returns-clause-new : goal.returns-clause-new
+returns-clause-new g c =
+    let is = at-page _ _ _ _ _ _ _ c.self.view_is c.self.invariant.paged c.requires.held c.page_of.ensures c.place_of.ensures c.index_mut-page.ensures.value in
+    let written = page-written _ _ _ _ _ _ _ _ _ c.self.view_is c.self.invariant.paged c.requires.held c.page_of.ensures c.place_of.ensures c.index_mut-page.ensures.value c.set_slot.ensures.new in
+    written-view _ _ _ _ _ _ c.self.view_is c.requires.held written ∙ ap (λ p. with_object_at c.args.self.now c.args.o (with_slot c.args.i c.args.v (found p))) (sym is)
+
+pub invariant_of-self : goal.invariant_of-self
+invariant_of-self g c =
+    let is = at-page _ _ _ _ _ _ _ c.self.view_is c.self.invariant.paged c.requires.held c.page_of.ensures c.place_of.ensures c.index_mut-page.ensures.value in
+    let written = page-written _ _ _ _ _ _ _ _ _ c.self.view_is c.self.invariant.paged c.requires.held c.page_of.ensures c.place_of.ensures c.index_mut-page.ensures.value c.set_slot.ensures.new in
+    let counts = written-counts _ _ _ _ _ _ c.self.view_is c.requires.held written (length-set _ _ _ ∙ ap (λ p. length (found p).slots) (sym is)) in
+    record {
+      paged = written.paged;
+      held = c.self.invariant.held ∙ sym counts.0;
+      slots = c.self.invariant.slots ∙ sym counts.1;
+      few = c.self.invariant.few;
+      small = omega (arith, counts.1);
+    }

@@ -1,35 +1,38 @@
-use Rattle.std.proofs.Common.{◌≡◌, ◌-◌, ◌∷◌, ◌≤◌, ℕ, None, length, set, arith, subst, sym, ap, ◌∙◌, length-set}
-use Rattle.et_heap.specs.Objects.{IsHeld, object_at, slot_count, held_count, most_slots}
+use Rattle.std.proofs.Common.{◌≡◌, ◌∷◌, length, None, ap, subst, sym, ◌∙◌, arith}
+use Rattle.et_heap.specs.Objects.{IsHeld, object_at, is_there, slot_count, held_count}
+use Rattle.et_heap.specs.Pages.{all_places}
 use Rattle.et_heap.proofs.Places.{held_count-without, slot_count-without}
+use Rattle.et_heap.proofs.Pages.{page-held-within, at-page, page-written, written-view}
 use Rattle.et_heap.proofs.heap.Heap.take_out.Goals as goal
 
-pub overflow_sub-self : goal.overflow_sub-self
-overflow_sub-self c =
-    let xs = c.self.inside.objects.items in
-    let fewer = held_count-without xs c.args.o (subst (λ h. IsHeld h c.args.o) (sym c.self.view_is) c.requires) in
-    omega arith
+pub index_mut-page-requires : goal.index_mut-page-requires
+index_mut-page-requires c = omega (arith, c.self.inside.pages.ok.0, page-held-within _ _ _ _ _ c.self.view_is c.self.invariant.paged c.requires c.page_of.ensures)
 
-pub overflow_sub-self-2 : goal.overflow_sub-self-2
-overflow_sub-self-2 c =
-    let xs = c.self.inside.objects.items in
-    let o = c.args.o in
-    let emptier = slot_count-without xs o (subst (λ h. IsHeld h o) (sym c.self.view_is) c.requires) in
-    let slots : length c.slots.result.now ≡ length (object_at (None ∷ xs) o).slots =
-    ap length c.slots.ensures ∙ (ap (λ x. length x.slots) c.object_in.ensures ∙ ap (λ ys. length (object_at (None ∷ ys) o).slots) c.deref.ensures.value) in
-    omega arith
+pub take_out-requires : goal.take_out-requires
+take_out-requires c =
+    let is = at-page _ _ _ _ _ _ _ c.self.view_is c.self.invariant.paged c.requires c.page_of.ensures c.place_of.ensures c.index_mut-page.ensures.value in
+    subst is_there is c.requires
 
 pub invariant_of-self : goal.invariant_of-self
 invariant_of-self c =
-    let xs = c.self.inside.objects.items in
+    let written = page-written _ _ _ _ _ _ _ _ _ c.self.view_is c.self.invariant.paged c.requires c.page_of.ensures c.place_of.ensures c.index_mut-page.ensures.value c.take_out.ensures in
+    let xs = all_places c.self.inside.pages.items in
     let o = c.args.o in
     let held : IsHeld (None ∷ xs) o = subst (λ h. IsHeld h o) (sym c.self.view_is) c.requires in
     let fewer = held_count-without xs o held in
     let emptier = slot_count-without xs o held in
-    let slots : length c.slots.result.now ≡ length (object_at (None ∷ xs) o).slots =
-    ap length c.slots.ensures ∙ (ap (λ x. length x.slots) c.object_in.ensures ∙ ap (λ ys. length (object_at (None ∷ ys) o).slots) c.deref.ensures.value) in
+    let slots : length c.slots.result.now ≡ length (object_at (None ∷ xs) o).slots = ap length c.slots.ensures ∙ (ap (λ x. length x.slots) c.object.ensures ∙ ap (λ h. length (object_at h o).slots) (sym c.self.view_is)) in
+    let held-is = ap held_count written.same in
+    let slots-is = ap slot_count written.same in
     record {
-      held = subst (λ (k : ℕ). c.self.inside.held - 1 ≡ held_count (set xs (k - 1) None)) (sym c.number.ensures.value) (omega arith);
-      slots = subst (λ (k : ℕ). c.self.inside.slots - length c.slots.result.now ≡ slot_count (set xs (k - 1) None)) (sym c.number.ensures.value) (omega arith);
-      few = omega (arith, length-set xs (c.number.result - 1) None);
-      small = subst (λ (k : ℕ). slot_count (set xs (k - 1) None) ≤ most_slots) (sym c.number.ensures.value) (omega arith);
+      paged = written.paged;
+      held = omega arith;
+      slots = omega arith;
+      few = c.self.invariant.few;
+      small = omega arith;
     }
+
+pub returns : goal.returns
+returns c =
+    let written = page-written _ _ _ _ _ _ _ _ _ c.self.view_is c.self.invariant.paged c.requires c.page_of.ensures c.place_of.ensures c.index_mut-page.ensures.value c.take_out.ensures in
+    written-view _ _ _ _ _ _ c.self.view_is c.requires written
