@@ -54,7 +54,7 @@ at_push (x ∷ xs) y zero = inl refl
 at_push (x ∷ xs) y (suc u) = elim (at_push xs y u) [ inl e ↦ inl e | inr e ↦ (let le = e.0 in inr (omega arith, e.1)) ]
 
 -- the only number between a length and the next
-newest : {n m k : ℕ} → m ≡ n + 1 → n ≤ k → k < m → n ≡ k
+pub newest : {n m k : ℕ} → m ≡ n + 1 → n ≤ k → k < m → n ≡ k
 newest len le lt = omega (arith, len, le, lt)
 
 pub grown_push : (h : Objects) (y : ObjectState) → y.monitor ≡ free_monitor → Grown h (h ++ Some y ∷ [])
@@ -127,7 +127,7 @@ referent_fine s u sound = by (object_at s.heap u).referent refl
 fine_referent : (h : Objects) (q : Option ℕ) (r : ℕ) → FineSome h q → q ≡ Some r → IsHeld h r
 fine_referent h q r fine e = subst (λ (x : Option ℕ). FineSome h x) e fine
 
-targets_found : (x : Option ObjectState) → targets_of x ≡ refs_of (found x).slots
+pub targets_found : (x : Option ObjectState) → targets_of x ≡ refs_of (found x).slots
 targets_found None = refl
 targets_found (Some x) = refl
 

@@ -16,3 +16,9 @@ mod Alike
 mod Wholes
 mod Freed
 mod Histories
+mod NewStrings
+mod NewArrays
+mod NewWays
+mod NewRows
+mod NewTurns
+mod Reached

@@ -85,7 +85,7 @@ same_tests false true f g = g refl
 same_tests false false f g = refl
 
 -- what is reached over what is kept is reached over all
-reached_all : (s : State) (o : ℕ) → IsReached (graph_of s.kept) o → IsReached (graph s) o
+pub reached_all : (s : State) (o : ℕ) → IsReached (graph_of s.kept) o → IsReached (graph s) o
 reached_all s o r = (r.0, r.1, (r.2.0, walk_more (pairs_of s.kept.heap) (pairs_of s.kept.heap ++ pairs_of s.reported) (λ u x c. Contains-append_left (pairs_of s.kept.heap) (pairs_of s.reported) (u, x) c) r.0 r.2.0 o r.2.1))
 
 same_reached : (reached : Graph → ℕ → Bool) → Decides reached → (s : State) → IsSound s.kept → IsPast s.kept.heap s.reported → reached (graph_of s.kept) ≡ reached (graph s)
@@ -107,7 +107,7 @@ past_on h h' reported longer fresh past = record {
       ];
 }
 
-is_now : (b : Bool) → IsTrue b → b ≡ true
+pub is_now : (b : Bool) → IsTrue b → b ≡ true
 is_now b t = search (rules, t)
 
 now_is : (b : Bool) → b ≡ true → IsTrue b
@@ -117,7 +117,7 @@ tells : (g : Graph) (here : ℕ → Bool) → ((o : ℕ) → IsTrue (here o) ↔
 tells g here h o = (λ e. (h o).0 (now_is (here o) e), λ r. is_now (here o) ((h o).1 r))
 
 -- the thread that is picked was started and has not ended
-picked_unended : (s : Kept) (k : ℕ) → (length (unended_of s) == 0) ≡ false → IsUnended s.guest (slice_index (unended_of s) (k % length (unended_of s)))
+pub picked_unended : (s : Kept) (k : ℕ) → (length (unended_of s) == 0) ≡ false → IsUnended s.guest (slice_index (unended_of s) (k % length (unended_of s)))
 picked_unended s k some = by (length (unended_of s)) refl
   where
     us : List ℕ

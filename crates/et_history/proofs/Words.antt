@@ -210,7 +210,7 @@ pub referent_still : (e : Moment) {w : Way} (o : ℕ) (r : Option ℕ) (d : Doin
 referent_still e o r d h held fine = object_still e o (with_referent r (object_at d.state.heap o)) d.state h held refl (slots_fine d.state o h.changes.sound) fine
 
 -- what was held before a slot was written is held after it
-updated_same : (e : Moment) (o i : ℕ) (old v : Value) (d : Doing) → (updated e o i old v d).state ≡ d.state
+pub updated_same : (e : Moment) (o i : ℕ) (old v : Value) (d : Doing) → (updated e o i old v d).state ≡ d.state
 updated_same e o i old Unset d = refl
 updated_same e o i old (Int n) d = refl
 updated_same e o i old (Long n) d = refl

@@ -4,3 +4,4 @@ pub mod Holding
 pub mod Changing
 pub mod Histories
 pub mod Same
+pub mod Reaching
