@@ -85,7 +85,7 @@ first_fine h (LongHigh ∷ vs) f = tt
 first_fine h (Null ∷ vs) f = tt
 first_fine h (Ref o ∷ vs) f = f.0
 
-receiver_fine : (h : Objects) (p : Linked) (m : ℕ) (vs : List Value) → Fines h vs → FineSome h (receiver_of p m vs)
+pub receiver_fine : (h : Objects) (p : Linked) (m : ℕ) (vs : List Value) → Fines h vs → FineSome h (receiver_of p m vs)
 receiver_fine h p m vs f = if_case (FineSome h) (is_static p m) None (first_reference vs) tt (first_fine h vs f)
 
 slot_fine : (h : Objects) (p : Linked) (m : ℕ) (vs : List Value) → Fines h vs → FineSome h (lock_slot p m vs)
@@ -132,7 +132,7 @@ entered_frame e f lock d h fine has may same =
     pushed_fits e f t.frames lock (with_thread_state e (entered_by f t) x).state (ap (λ (y : ThreadState). y.frames) (thread_now x.state e.thread (entered_by f t) there.thread)) there.frames same
     (record { changes = after.changes; entered = may; left = tt })
 
-method_frame_fine : (e : Moment) (m : ℕ) (body : Body) (arguments : List Value) → Fines e.before.heap arguments → FineFrame e.before.heap (method_frame e.program m body arguments)
+pub method_frame_fine : (e : Moment) (m : ℕ) (body : Body) (arguments : List Value) → Fines e.before.heap arguments → FineFrame e.before.heap (method_frame e.program m body arguments)
 method_frame_fine e m body arguments f = record {
   locals = fines_append e.before.heap arguments (replicate (body.max_locals - length arguments) Unset) f (fines_unset e.before.heap (body.max_locals - length arguments));
   operands = tt;
@@ -175,7 +175,7 @@ starts_does e d o go None h g = unless_thrown e d errors.OutOfMemoryError (nat_l
 on_does : (e : Moment) (d : Doing) (name : List ℕ) (o : ℕ) (go : Outcome Kept) → Does e go → Does e (ill_typed_unless e (is_subclass e.program (class_of d o) (class_called e.program name)) go)
 on_does e d name o go g = unless_ill_typed e (is_subclass e.program (class_of d o) (class_called e.program name)) go g
 
-reference_fine : (h : Objects) (v : Value) → Fine h v → FineSome h (reference_of v)
+pub reference_fine : (h : Objects) (v : Value) → Fine h v → FineSome h (reference_of v)
 reference_fine h Unset f = tt
 reference_fine h (Int n) f = tt
 reference_fine h (Long n) f = tt
@@ -293,7 +293,7 @@ run_does e (Some o) knows held =
     unless_ill_typed e (is_of_owner e (begins e) m o) _ (
     where_resolved e (begins e) (select e.program (class_of (begins e) o) m false) _ (ground e knows) (λ k. first_does e (begins e) (Ref o ∷ []) k knows (held, tt) (ground e knows))))
 
-entry_fine : (h : Objects) (o : Option ℕ) → FineSome h o → Fines h (entry_arguments o)
+pub entry_fine : (h : Objects) (o : Option ℕ) → FineSome h o → Fines h (entry_arguments o)
 entry_fine h None held = tt
 entry_fine h (Some o) held = (held, tt)
 

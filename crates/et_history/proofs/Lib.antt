@@ -11,6 +11,12 @@ mod Calls
 mod Returns
 mod Turns
 mod Events
+mod Records
+mod Recording
+mod Saying
+mod RowRecords
+mod CallRecords
+mod EventRecords
 mod Agreeing
 mod Alike
 mod Wholes
@@ -22,3 +28,5 @@ mod NewWays
 mod NewRows
 mod NewTurns
 mod Reached
+mod Allocations
+mod LinkedSizes

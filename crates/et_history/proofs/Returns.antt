@@ -59,7 +59,7 @@ dropped_fits e lock s some shorter same h =
 
 -- THE LOCK of the topmost frame
 
-abbrev own_lock : Moment → Option Lock
+abbrev pub own_lock : Moment → Option Lock
 own_lock e = lock_in (frame_of e).stage (method_of e.program (frame_of e)) (frame_of e).lock
 
 staged_there : (e : Moment) (stage : Stage) (m : ℕ) (r : Option ℕ) → Knows e → FineSome e.before.heap r → AllThere e (lock_in stage (method_at e.program m) r)
@@ -67,7 +67,7 @@ staged_there e Plain m r knows fine = lock_there e m r knows fine
 staged_there e (Before c) m r knows fine = tt
 staged_there e (Clinit c) m r knows fine = tt
 
-own_there : (e : Moment) → Knows e → AllThere e (own_lock e)
+pub own_there : (e : Moment) → Knows e → AllThere e (own_lock e)
 own_there e knows = staged_there e (frame_of e).stage (unwrap_or (frame_of e).method 0) (frame_of e).lock knows (frame_fine e knows).lock
 
 all_there : (e : Moment) (lock : Option Lock) → AllThere e lock → IfSome lock (λ l. IsThere e.before l)
@@ -97,7 +97,7 @@ resumed_fine : (h : Objects) (p : Linked) (values : List Value) (fs : List Frame
 resumed_fine h p values [] g fine = tt
 resumed_fine h p values (f ∷ below) g fine = (record { locals = fine.0.locals; operands = fines_append h values f.operands g fine.0.operands; lock = fine.0.lock }, fine.1)
 
-returned_fine : (h : Objects) (p : Linked) (stage : Stage) (values : List Value) (fs : List FrameState) → Fines h values → FineFrames h fs → FineFrames h (frames_after_return p stage values fs)
+pub returned_fine : (h : Objects) (p : Linked) (stage : Stage) (values : List Value) (fs : List FrameState) → Fines h values → FineFrames h fs → FineFrames h (frames_after_return p stage values fs)
 returned_fine h p Plain values fs g fine = resumed_fine h p values fs g fine
 returned_fine h p (Before c) values fs g fine = fine
 returned_fine h p (Clinit c) values fs g fine = fine
@@ -111,7 +111,7 @@ returned_length p Plain values fs = resumed_length p values fs
 returned_length p (Before c) values fs = refl
 returned_length p (Clinit c) values fs = refl
 
-frames_grow : (h h' : Objects) (fs : List FrameState) → Grows h h' → FineFrames h fs → FineFrames h' fs
+pub frames_grow : (h h' : Objects) (fs : List FrameState) → Grows h h' → FineFrames h fs → FineFrames h' fs
 frames_grow h h' [] g fine = tt
 frames_grow h h' (f ∷ below) g fine = (frame_grows h h' f g fine.0, frames_grow h h' below g fine.1)
 

@@ -166,7 +166,7 @@ load_element_does e at kind here =
     done_does e at (entries_of v ++ below) here (fines_append e.before.heap (entries_of v) below
     (fine_entries e.before.heap v (fine_read e.before.heap (Some (kind_of_elements kind)) (slot_of (object_at e.before.heap o) (natural i)) (read_fine e o (natural i) here))) g))))
 
-kept_fine : (h : Objects) (kind : Elements) (v : Value) → Fine h v → Fine h (kept_element kind v)
+pub kept_fine : (h : Objects) (kind : Elements) (v : Value) → Fine h v → Fine h (kept_element kind v)
 kept_fine h elements.Int v f = f
 kept_fine h elements.Long v f = f
 kept_fine h elements.Reference v f = f
@@ -272,7 +272,7 @@ arrays_make e {w = w} class n (m ∷ more) d h =
       first = all.stays (next_object d) there;
     }
 
-lengths_does : {A : Type 0} (P : A → Type 0) (refused : A) (ill : P refused) (heap : Objects) (n : ℕ) (found : List ℤ) (ops : List Value) (go : List ℤ → List Value → A) → Fines heap ops
+pub lengths_does : {A : Type 0} (P : A → Type 0) (refused : A) (ill : P refused) (heap : Objects) (n : ℕ) (found : List ℤ) (ops : List Value) (go : List ℤ → List Value → A) → Fines heap ops
     → ((ls : List ℤ) (below : List Value) → length ls ≡ length found + n → Fines heap below → P (go ls below)) → P (with_lengths n found refused ops go)
 lengths_does P refused ill heap zero found ops go f h = h found ops (omega arith) f
 lengths_does P refused ill heap (suc n) found ops go f h =
@@ -300,7 +300,7 @@ new_multi_array_does e at here dimensions =
 
 -- TYPE TESTS
 
-truth_fine : (h : Objects) (b : Bool) → Fine h (truth b)
+pub truth_fine : (h : Objects) (b : Bool) → Fine h (truth b)
 truth_fine h true = tt
 truth_fine h false = tt
 

@@ -240,7 +240,7 @@ object_step : (b : Bool) (v : ℕ) (vs : List ℕ) (r : Option ℕ) (o : ℕ) �
 object_step true v vs r o ih h = subst (λ (k : ℕ). Contains (v ∷ vs) k) (some_inj v o h) (Contains-here v vs)
 object_step false v vs r o ih h = Contains-there v vs o (ih h)
 
-object_in : (es : List (List ℕ × ℕ)) (bytes : List ℕ) (o : ℕ) → object_of es bytes ≡ Some o → Contains (objects_of es) o
+pub object_in : (es : List (List ℕ × ℕ)) (bytes : List ℕ) (o : ℕ) → object_of es bytes ≡ Some o → Contains (objects_of es) o
 object_in [] bytes o h = absurd (none_some o h)
 object_in (e ∷ es) bytes o h = object_step (bytes_eq bytes e.0) e.1 (objects_of es) (object_of es bytes) o (object_in es bytes o) h
 
@@ -248,7 +248,7 @@ push_step : (b : Bool) (v n : ℕ) (r r' : Option ℕ) → (r ≡ None → r' �
 push_step true v n r r' ih h = absurd (none_some v (sym h))
 push_step false v n r r' ih h = ih h
 
-object_pushed : (es : List (List ℕ × ℕ)) (bytes : List ℕ) (n : ℕ) → object_of es bytes ≡ None → object_of (es ++ (bytes, n) ∷ []) bytes ≡ Some n
+pub object_pushed : (es : List (List ℕ × ℕ)) (bytes : List ℕ) (n : ℕ) → object_of es bytes ≡ None → object_of (es ++ (bytes, n) ∷ []) bytes ≡ Some n
 object_pushed [] bytes n h = ap (λ (b : Bool). cond b (Some n) None) ((bytes_eq-Decides bytes bytes).1 refl)
 object_pushed (e ∷ es) bytes n h = push_step (bytes_eq bytes e.0) e.1 n (object_of es bytes) (object_of (es ++ (bytes, n) ∷ []) bytes) (λ q. object_pushed es bytes n q) h
 

@@ -5,3 +5,5 @@ pub mod Changing
 pub mod Histories
 pub mod Same
 pub mod Reaching
+pub mod Records
+pub mod Allocations
