@@ -1,5 +1,5 @@
 -- What calls, entries and returns tell, what unwinding does, and what the steps of an initializer do.
-use Rattle.std.proofs.Common.{ℕ, ◌+◌, ◌-◌, ◌==◌, true, false, List, [], ◌∷◌, ◌++◌, length, take, drop, Option, Some, None, Result, refl}
+use Rattle.std.proofs.Common.{ℕ, ◌<◌, ◌+◌, ◌-◌, ◌==◌, true, false, List, [], ◌∷◌, ◌++◌, length, take, drop, Option, Some, None, Result, refl, inl, arith}
 use Rattle.std.specs.Prelude.{not, codes, nat_lt, unwrap_or, find, take_while}
 use Rattle.et_base.specs.declared.value.Value.{Value}
 use Rattle.et_base.specs.declared.value.Value.TheVariants.{Ref}
@@ -77,6 +77,13 @@ left_if_told : (e : Moment) (lock : Option Lock) (d : Doing) → Told e d → Al
 left_if_told e None d h has = h
 left_if_told e (Some lock) d h has = if_case (λ (x : Doing). Told e x) (owns e d lock) (left lock d) d (left_told e lock d h (still_there e lock d h has)) h
 
+-- the slots that the machine itself uses
+first_own : 0 < 2
+first_own = omega arith
+
+second_own : 1 < 2
+second_own = omega arith
+
 module _ (e : Moment) (ready : Ready e) where
   -- A METHOD IS ENTERED
 
@@ -134,19 +141,19 @@ module _ (e : Moment) (ready : Ready e) where
   built_in_says at d arguments o built.Nothing h f held = answering_told at arguments [] d h tt
   built_in_says at d arguments o built.SetMessage h f held =
       on_says d (codes "java/lang/Throwable") o _
-      (slot_told e o 0 (argument arguments 1) (answering e at arguments [] d) (answering_told at arguments [] d h tt) held (fine_at d.state.heap arguments 1 f))
+      (slot_told e o 0 (argument arguments 1) (answering e at arguments [] d) (answering_told at arguments [] d h tt) held (inl first_own) (fine_at d.state.heap arguments 1 f))
   built_in_says at d arguments o built.SetMessageAndCause h f held =
       let x : Doing = answering e at arguments [] d in
       let v : Value = argument arguments 1 in
       let y : Doing = slot_written e o 0 v x in
-      let hy : Told e y = slot_told e o 0 v x (answering_told at arguments [] d h tt) held (fine_at d.state.heap arguments 1 f) in
+      let hy : Told e y = slot_told e o 0 v x (answering_told at arguments [] d h tt) held (inl first_own) (fine_at d.state.heap arguments 1 f) in
       on_says d (codes "java/lang/Throwable") o _
-      (slot_told e o 1 (argument arguments 2) y hy (written_held e o 0 v x o held held) (fine_grows d.state.heap y.state.heap (argument arguments 2) (λ k is. written_held e o 0 v x k held is) (fine_at d.state.heap arguments 2 f)))
+      (slot_told e o 1 (argument arguments 2) y hy (written_held e o 0 v x o held held) (inl second_own) (fine_grows d.state.heap y.state.heap (argument arguments 2) (λ k is. written_held e o 0 v x k held is) (fine_at d.state.heap arguments 2 f)))
   built_in_says at d arguments o built.GetMessage h f held = on_says d (codes "java/lang/Throwable") o _ (answering_told at arguments (reference_in d o 0 ∷ []) d h (read_reference d o 0 h, tt))
   built_in_says at d arguments o built.GetCause h f held = on_says d (codes "java/lang/Throwable") o _ (answering_told at arguments (reference_in d o 1 ∷ []) d h (read_reference d o 1 h, tt))
   built_in_says at d arguments o built.SetTarget h f held =
       on_says d (codes "java/lang/Thread") o _
-      (slot_told e o 0 (argument arguments 1) (answering e at arguments [] d) (answering_told at arguments [] d h tt) held (fine_at d.state.heap arguments 1 f))
+      (slot_told e o 0 (argument arguments 1) (answering e at arguments [] d) (answering_told at arguments [] d h tt) held (inl first_own) (fine_at d.state.heap arguments 1 f))
   built_in_says at d arguments o built.Start h f held =
       let x : Doing = answering e at arguments [] d in
       on_says d (codes "java/lang/Thread") o _
@@ -317,7 +324,7 @@ module _ (e : Moment) (ready : Ready e) where
       let y : Doing = slot_written e error 1 (Ref o) x in
       let new : IsHeld x.state.heap error = new_held d.state.heap (new_object class 0 (class_at e.program class).info.slots) in
       let old : IsHeld x.state.heap o = (steady_push d.state.heap (new_object class 0 (class_at e.program class).info.slots)).stays o held in
-      pending_told e error y (slot_told e error 1 (Ref o) x (error_told e ready errors.ExceptionInInitializerError d h) new old) (written_held e error 1 (Ref o) x error new new)
+      pending_told e error y (slot_told e error 1 (Ref o) x (error_told e ready errors.ExceptionInInitializerError d h) new (inl second_own) old) (written_held e error 1 (Ref o) x error new new)
 
   failed_says : (c o : ℕ) (d : Doing) → IsHeld e.before.heap o → Told e d → Says e (ends (failed e c o d))
   failed_says c o d held h =
@@ -359,4 +366,4 @@ module _ (e : Moment) (ready : Ready e) where
   step_says c =
       let classes : List ℕ = (class_at e.program c).info.prerequisites in
       let ready_ones : List ℕ = take_while (is_ready e (begins e)) classes in
-      by_blocker_says c (prepared e ready_ones (begins e)) (find (λ k. not (is_ready e (begins e) k)) classes) (prepared_told e ready.plain ready_ones (begins e) (first e ready))
+      by_blocker_says c (prepared e ready_ones (begins e)) (find (λ k. not (is_ready e (begins e) k)) classes) (prepared_told e ready.plain ready.may.initializers ready_ones (begins e) (first e ready))

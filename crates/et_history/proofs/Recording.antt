@@ -1,10 +1,12 @@
 -- What the words of an event tell: the records so far are those of what it has made so far.
-use Rattle.std.proofs.Common.{◌≡◌, ℕ, ◌+◌, ◌*◌, ◌<◌, true, List, [], ◌∷◌, ◌++◌, length, set, Option, Some, None, refl, sym, ◌∙◌, ap, subst, inl, inr, arith}
-use Rattle.std.specs.Prelude.{if◌then◌else◌, codes, is_some, fold, unwrap_or}
+use Rattle.std.proofs.Common.{◌≡◌, ℕ, zero, suc, ◌+◌, ◌*◌, ◌<◌, ◌≤◌, ◌⊎◌, true, List, [], ◌∷◌, ◌++◌, length, set, get_or, Option, Some, None, refl, sym, ◌∙◌, ap, subst, inl, inr, arith}
+use Rattle.std.specs.Prelude.{All, if◌then◌else◌, codes, is_some, fold, unwrap_or}
+use Rattle.std.proofs.lemmas.Bool.{cases_lt}
+use Rattle.std.proofs.lemmas.List.Elements.{All-nil, All-head, All-tail}
 use Rattle.std.proofs.lemmas.List.{length-set, length-append, length-replicate, length_push}
 use Rattle.et_base.specs.declared.value.Value.{Value}
 use Rattle.et_base.specs.declared.value.Value.TheVariants.{Unset, Int, Long, LongHigh, Null, Ref}
-use Rattle.et_program.specs.Entries.{class_at, field_at}
+use Rattle.et_program.specs.Entries.{ClassEntry, Linked, no_class, class_at, field_at}
 use Rattle.et_program.specs.declared.info.Element.{Element}
 use Rattle.et_program.specs.declared.info.Element.TheVariants.{NoArray, Base, Class}
 use Rattle.et_program.specs.declared.info.FieldInfo.{FieldInfo}
@@ -27,12 +29,13 @@ use Rattle.et_event.specs.Initialization.{with_state, constant_set, field_set, c
 use Rattle.et_event.specs.Kinds.{is_array, narrowed}
 use Rattle.et_event.specs.Moments.{Moment, Doing, begins, told, with_guest, with_thread_state, with_frame, next_object, made, instance_made, array_made, array_size, element_width, number_of, updated, slot_written, static_written, pending_now, entry_given_up}
 use Rattle.et_event.specs.Monitors.{Lock, OfObject, OfClass, with_monitor_of}
+use Rattle.et_event.specs.Programs.{HasConstant, HasInitializers}
 use Rattle.et_event.specs.Sites.{LoadedConstant, AnInt, ALong, AString, constant_at, pool_of}
 use Rattle.et_event.specs.Strings.{interned, string_object}
-use Rattle.et_history.specs.Records.{size_by, size_of, IsAlike, IsMadeBefore, IsMadeBeforeOrNone, next_after, IsAllocationOf, IsRecordOf, AreRecordsOf, HasPlainStrings}
-use Rattle.et_history.proofs.Values.{Fine, Fines, FineSome, FineFrame, FineThread, Grows, fine_at, fines_set, rest_fine}
+use Rattle.et_history.specs.Records.{size_by, size_of, IsAlike, IsMadeBefore, IsMadeBeforeOrNone, IsUpdated, next_after, IsAllocationOf, IsRecordOf, AreRecordsOf, HasPlainStrings}
+use Rattle.et_history.proofs.Values.{Fine, Fines, FineSome, FineFrame, FineThread, Grows, fine_grows, fine_at, fines_set, rest_fine}
 use Rattle.et_history.proofs.Heaps.{sound_guest, fine_thread, thread_sound, new_thread_sound, string_sound, static_sound, statics_fine, slots_fine, referent_fine, object_sound, made_sound, new_held}
-use Rattle.et_history.proofs.Words.{if_case, fine_narrowed, object_in, object_pushed}
+use Rattle.et_history.proofs.Words.{if_case, fine_narrowed, object_in, object_pushed, updated_same}
 use Rattle.et_history.proofs.Records.{Steady, steady_itself, steady_then, steady_set, steady_push, newest_at, records_grow, records_more}
 
 -- an event has come to this state with these records
@@ -155,7 +158,7 @@ number_there d LongHigh fine = inl refl
 number_there d Null fine = inl refl
 number_there d (Ref o) fine = inr (there d o fine)
 
-updated_told : (e : Moment) (o i : ℕ) (old v : Value) (d : Doing) → Told e d → IsMadeBeforeOrNone d.state.heap (length d.state.heap) o → Fine d.state.heap old → Fine d.state.heap v → Told e (updated e o i old v d)
+updated_told : (e : Moment) (o i : ℕ) (old v : Value) (d : Doing) → Told e d → IsUpdated e.program d.state.heap (length d.state.heap) o i → Fine d.state.heap old → Fine d.state.heap v → Told e (updated e o i old v d)
 updated_told e o i old Unset d h object was fine = h
 updated_told e o i old (Int n) d h object was fine = h
 updated_told e o i old (Long n) d h object was fine = h
@@ -163,29 +166,39 @@ updated_told e o i old LongHigh d h object was fine = h
 updated_told e o i old Null d h object was fine = record_told e (Update d.state.guest.clock e.thread o i (number_of old) 0) d h refl (h.clock, refl, object, number_there d old was, inl refl)
 updated_told e o i old (Ref new) d h object was fine = record_told e (Update d.state.guest.clock e.thread o i (number_of old) new) d h refl (h.clock, refl, object, number_there d old was, inr (there d new fine))
 
-pub slot_told : (e : Moment) (o i : ℕ) (v : Value) (d : Doing) → Told e d → IsHeld d.state.heap o → Fine d.state.heap v → Told e (slot_written e o i v d)
-slot_told e o i v d h held fine =
+-- a slot that the machine itself uses, or one of the object
+abbrev pub HasSlot : Objects → (o i : ℕ) → Type 0
+HasSlot h o i = (i < 2) ⊎ (i < length (object_at h o).slots)
+
+slot_stays : (h h' : Objects) (o i : ℕ) → Steady h h' → IsHeld h o → HasSlot h o i → HasSlot h' o i
+slot_stays h h' o i steady held (inl own) = inl own
+slot_stays h h' o i steady held (inr within) = let same = (steady.alike o held).slots in inr (omega arith)
+
+-- the object is alike with another slot written
+with_slot_steady : (h : Objects) (o i : ℕ) (v : Value) → IsHeld h o → Steady h (with_object_at h o (with_slot i v (object_at h o)))
+with_slot_steady h o i v held = steady_set h o (with_slot i v (object_at h o)) held (record { class = refl; elements = refl; slots = length-set (object_at h o).slots i v })
+
+pub slot_steady : (e : Moment) (o i : ℕ) (v : Value) (d : Doing) → IsHeld d.state.heap o → Steady d.state.heap (slot_written e o i v d).state.heap
+slot_steady e o i v d held =
+    let x : ObjectState = object_at d.state.heap o in
+    let next : Doing = record { state = record { heap = with_object_at d.state.heap o (with_slot i v x); guest = d.state.guest }; records = d.records } in
+    subst (λ (s : Kept). Steady d.state.heap s.heap) (sym (updated_same e o i (slot_of x i) v next)) (with_slot_steady d.state.heap o i v held)
+
+pub slot_told : (e : Moment) (o i : ℕ) (v : Value) (d : Doing) → Told e d → IsHeld d.state.heap o → HasSlot d.state.heap o i → Fine d.state.heap v → Told e (slot_written e o i v d)
+slot_told e o i v d h held has fine =
     let heap : Objects = d.state.heap in
     let x : ObjectState = object_at heap o in
     let y : ObjectState = with_slot i v x in
-    let alike : IsAlike x y = record { class = refl; elements = refl; slots = length-set x.slots i v } in
     let next : Doing = record { state = record { heap = with_object_at heap o y; guest = d.state.guest }; records = d.records } in
     let slots : Fines heap x.slots = slots_fine d.state o h.sound in
-    let steady : Steady heap next.state.heap = steady_set heap o y held alike in
-    let now : Told e next = object_told e o y d h held alike (fines_set heap x.slots i v fine slots) (referent_fine d.state o h.sound) in
-    updated_told e o i (slot_of x i) v next now (inr (there next o (steady.stays o held))) (fine_then heap next.state.heap (slot_of x i) steady (fine_at heap x.slots i slots)) (fine_then heap next.state.heap v steady fine)
-  where
-    fine_then : (a b : Objects) (w : Value) → Steady a b → Fine a w → Fine b w
-    fine_then a b Unset st f = tt
-    fine_then a b (Int n) st f = tt
-    fine_then a b (Long n) st f = tt
-    fine_then a b LongHigh st f = tt
-    fine_then a b Null st f = tt
-    fine_then a b (Ref k) st f = st.stays k f
+    let steady : Steady heap next.state.heap = with_slot_steady heap o i v held in
+    let now : Told e next = object_told e o y d h held (record { class = refl; elements = refl; slots = length-set x.slots i v }) (fines_set heap x.slots i v fine slots) (referent_fine d.state o h.sound) in
+    updated_told e o i (slot_of x i) v next now (inr (there next o (steady.stays o held), slot_stays heap next.state.heap o i steady held has))
+    (fine_grows heap next.state.heap (slot_of x i) steady.stays (fine_at heap x.slots i slots)) (fine_grows heap next.state.heap v steady.stays fine)
 
-pub written_static_told : (e : Moment) (i : ℕ) (v : Value) (d : Doing) → Told e d → Fine d.state.heap v → Told e (static_written e i v d)
-written_static_told e i v d h fine =
-    updated_told e 0 i (static_at d.state.guest i) v (with_guest (with_static d.state.guest i v) d) (static_told e i v d h fine) (inl refl) (fine_at d.state.heap d.state.guest.statics i (statics_fine d.state h.sound)) fine
+pub written_static_told : (e : Moment) (i : ℕ) (v : Value) (d : Doing) → Told e d → i < length e.program.statics → Fine d.state.heap v → Told e (static_written e i v d)
+written_static_told e i v d h within fine =
+    updated_told e 0 i (static_at d.state.guest i) v (with_guest (with_static d.state.guest i v) d) (static_told e i v d h fine) (inl (refl, within)) (fine_at d.state.heap d.state.guest.statics i (statics_fine d.state h.sound)) fine
 
 -- OBJECTS
 
@@ -293,19 +306,37 @@ fold_told : {A : Type 0} (e : Moment) (f : Doing → A → Doing) → ((x : Doin
 fold_told e f step [] d h = h
 fold_told e f step (a ∷ xs) d h = fold_told e f step xs (f d a) (step d a h)
 
-module _ (e : Moment) (plain : HasPlainStrings e.program) where
-  constant_told : (f : FieldInfo) (k : Option LoadedConstant) (d : Doing) → Told e d → Told e (constant_set e f k d)
-  constant_told f None d h = h
-  constant_told f (Some (AnInt n)) d h = written_static_told e f.slot (narrowed f.descriptor (Int n)) d h (fine_narrowed d.state.heap f.descriptor (Int n) tt)
-  constant_told f (Some (ALong n)) d h = written_static_told e f.slot (Long n) d h tt
-  constant_told f (Some (AString bytes)) d h =
+fold_all_told : {A : Type 0} (e : Moment) (P : A → Type 0) (f : Doing → A → Doing) → ((x : Doing) (a : A) → P a → Told e x → Told e (f x a)) → (xs : List A) → All P xs → (d : Doing) → Told e d → Told e (fold f d xs)
+fold_all_told e P f step [] all d h = h
+fold_all_told e P f step (a ∷ xs) all d h = fold_all_told e P f step xs (All-tail P a xs all) (f d a) (step d a (All-head P a xs all) h)
+
+-- what is no class has no constants
+no_class_beyond : (cs : List ClassEntry) (c : ℕ) → length cs ≤ c → get_or cs c no_class ≡ no_class
+no_class_beyond [] c le = refl
+no_class_beyond (x ∷ cs) zero le = absurd (omega arith)
+no_class_beyond (x ∷ cs) (suc c) le = no_class_beyond cs c (omega arith)
+
+constants_are : (p : Linked) (c : ℕ) → HasInitializers p → All (HasConstant p c) (class_at p c).info.constants
+constants_are p c initializers = elim (cases_lt c (length p.classes)) [
+  | inl lt ↦ initializers.constants c lt
+  | inr le ↦ subst (λ (x : ClassEntry). All (HasConstant p c) x.info.constants) (sym (no_class_beyond p.classes c le)) (All-nil (HasConstant p c))
+]
+
+module _ (e : Moment) (plain : HasPlainStrings e.program) (initializers : HasInitializers e.program) where
+  constant_told : (f : FieldInfo) (k : Option LoadedConstant) (d : Doing) → f.slot < length e.program.statics → Told e d → Told e (constant_set e f k d)
+  constant_told f None d lt h = h
+  constant_told f (Some (AnInt n)) d lt h = written_static_told e f.slot (narrowed f.descriptor (Int n)) d h lt (fine_narrowed d.state.heap f.descriptor (Int n) tt)
+  constant_told f (Some (ALong n)) d lt h = written_static_told e f.slot (Long n) d h lt tt
+  constant_told f (Some (AString bytes)) d lt h =
       let x : Doing = interned e bytes d in
       let string : Interned e bytes d x = interned_told e bytes d plain h in
-      written_static_told e f.slot (Ref (string_object bytes x)) x string.tells string.held
+      written_static_told e f.slot (Ref (string_object bytes x)) x string.tells lt string.held
 
   pub constants_told : (c : ℕ) (d : Doing) → Told e d → Told e (constants_set e c d)
   constants_told c d h =
-      fold_told e (field_set e) (λ x f g. constant_told (field_at e.program f) (constant_at (pool_of e.program (field_at e.program f).class) (field_at e.program f).constant) x g) (class_at e.program c).info.constants d h
+      fold_all_told e (HasConstant e.program c) (field_set e)
+      (λ x f has g. constant_told (field_at e.program f) (constant_at (pool_of e.program (field_at e.program f).class) (field_at e.program f).constant) x has.slot g)
+      (class_at e.program c).info.constants (constants_are e.program c initializers) d h
 
   class_done_told : (c : ℕ) (x : ClassState) (d : Doing) → Told e d → Told e (class_done e c x d)
   class_done_told c Untouched d h = constants_told c (with_state c Done d) (state_told e c Done d h)

@@ -1,5 +1,5 @@
 -- The records of an event, as the heap grows: what they tell of objects stays true.
-use Rattle.std.proofs.Common.{◌≡◌, ℕ, List, [], ◌∷◌, ◌++◌, length, Option, Some, None, refl, sym, ◌∙◌, ap, subst, inl, inr, get_or-set_same}
+use Rattle.std.proofs.Common.{◌≡◌, ℕ, List, [], ◌∷◌, ◌++◌, length, Option, Some, None, refl, sym, ◌∙◌, ap, subst, inl, inr, arith, get_or-set_same}
 use Rattle.std.proofs.lemmas.Bool.{cases_eq}
 use Rattle.std.proofs.lemmas.List.{get_or-set_other, get_or_append_left}
 use Rattle.et_heap.specs.Objects.{ObjectState, Objects, IsHeld, at, found, object_at, with_object_at}
@@ -7,7 +7,7 @@ use Rattle.et_heap.proofs.HeapLists.{held_within, held_set, held_push}
 use Rattle.et_program.specs.Entries.{Linked, class_at}
 use Rattle.et_state.specs.declared.records.Record.{Record}
 use Rattle.et_state.specs.declared.records.Record.TheVariants.{Alloc, Update, Enter, Exit, Unwind}
-use Rattle.et_history.specs.Records.{size_by, size_of, IsAlike, IsMadeBefore, IsMadeBeforeOrNone, next_after, IsAllocationOf, IsRecordOf, AreRecordsOf}
+use Rattle.et_history.specs.Records.{size_by, size_of, IsAlike, IsMadeBefore, IsMadeBeforeOrNone, IsUpdated, next_after, IsAllocationOf, IsRecordOf, AreRecordsOf}
 use Rattle.et_history.proofs.Values.{Grows}
 
 -- HEAPS: what is held stays, and alike
@@ -70,6 +70,12 @@ told_grows h h' next o steady told = (told.0, steady.stays o told.1)
 told_or_grows : (h h' : Objects) (next o : ℕ) → Steady h h' → IsMadeBeforeOrNone h next o → IsMadeBeforeOrNone h' next o
 told_or_grows h h' next o steady told = elim told [ inl none ↦ inl none | inr made ↦ inr (told_grows h h' next o steady made) ]
 
+updated_grows : (p : Linked) (h h' : Objects) (next o i : ℕ) → Steady h h' → IsUpdated p h next o i → IsUpdated p h' next o i
+updated_grows p h h' next o i steady place = elim place [
+  | inl static ↦ inl static
+  | inr slot ↦ inr (told_grows h h' next o steady slot.0, elim slot.1 [ inl own ↦ inl own | inr within ↦ (let same = (steady.alike o slot.0.1).slots in inr (omega (arith, within))) ])
+]
+
 allocation_grows : (p : Linked) (h h' : Objects) (next object class size elements : ℕ) → Steady h h' → IsAllocationOf p h next object class size elements → IsAllocationOf p h' next object class size elements
 allocation_grows p h h' next object class size elements steady is =
     let alike : IsAlike (object_at h object) (object_at h' object) = steady.alike object is.held in
@@ -84,7 +90,7 @@ allocation_grows p h h' next object class size elements steady is =
 record_grows : (p : Linked) (clock t : ℕ) (h h' : Objects) (next : ℕ) (r : Record) → Steady h h' → IsRecordOf p clock t h next r → IsRecordOf p clock t h' next r
 record_grows p clock t h h' next (Alloc event thread object class size elements) steady is = (is.0, is.1, allocation_grows p h h' next object class size elements steady is.2)
 record_grows p clock t h h' next (Update event thread object slot old new) steady is =
-    (is.0, is.1, told_or_grows h h' next object steady is.2, told_or_grows h h' next old steady is.3, told_or_grows h h' next new steady is.4)
+    (is.0, is.1, updated_grows p h h' next object slot steady is.2, told_or_grows h h' next old steady is.3, told_or_grows h h' next new steady is.4)
 record_grows p clock t h h' next (Enter event thread method receiver) steady is = (is.0, is.1, told_or_grows h h' next receiver steady is.2)
 record_grows p clock t h h' next (Exit event thread method) steady is = is
 record_grows p clock t h h' next (Unwind event thread method exception) steady is = (is.0, is.1, told_grows h h' next exception steady is.2)

@@ -1,10 +1,12 @@
 -- What the rows tell that enter and leave no frame.
-use Rattle.std.proofs.Common.{◌≡◌, ℕ, zero, suc, ◌+◌, ◌<◌, true, false, List, [], ◌∷◌, ◌++◌, length, Option, Some, None, Ok, refl, sym, subst, arith}
+use Rattle.std.proofs.Common.{◌≡◌, ℕ, zero, suc, ◌+◌, ◌<◌, ◌≤◌, true, false, List, [], ◌∷◌, ◌++◌, length, Option, Some, None, Ok, refl, sym, ◌∙◌, ap, subst, inr, arith}
+use Rattle.std.proofs.lemmas.Bool.{and_parts, false≢true, ltb-true, not-true}
+use Rattle.std.proofs.lemmas.List.{length-replicate}
 use Rattle.std.specs.Int.{w32, w64}
-use Rattle.std.specs.Prelude.{ℤ, pos, int_le, not, nat_le, nat_lt, unwrap_or}
+use Rattle.std.specs.Prelude.{ℤ, pos, negsuc, int_le, int_lt, not, nat_le, nat_lt, unwrap_or}
 use Rattle.std.specs.List.{list_all}
 use Rattle.et_base.specs.declared.value.Value.{Value}
-use Rattle.et_base.specs.declared.value.Value.TheVariants.{Int, Long, LongHigh, Null, Ref}
+use Rattle.et_base.specs.declared.value.Value.TheVariants.{Unset, Int, Long, LongHigh, Null, Ref}
 use Rattle.et_pool.specs.Descriptors.{is_field_descriptor}
 use Rattle.et_program.specs.Entries.{Linked, class_at, field_at}
 use Rattle.et_program.specs.Members.{class_named, base_array, is_subclass}
@@ -12,14 +14,16 @@ use Rattle.et_program.specs.Types.{passes}
 use Rattle.et_program.specs.Resolution.{resolve_class, resolve_field}
 use Rattle.et_program.specs.declared.errors.LinkError.TheVariants.{NoClassDefFound}
 use Rattle.et_program.specs.declared.info.Element.{Element}
+use Rattle.et_program.specs.declared.info.Element.TheVariants.{NoArray, Base, Class}
 use Rattle.et_program.proofs.PlaceLemmas.{class_found_within}
-use Rattle.et_heap.specs.Objects.{IsHeld, new_object, object_at, slot_of}
+use Rattle.et_heap.specs.Objects.{ObjectState, Objects, IsHeld, is_there, at, found, new_object, object_at, slot_of}
 use Rattle.et_state.specs.Threads.{FrameState, as_ended}
 use Rattle.et_state.specs.State.{Kept}
 use Rattle.et_state.specs.Words.{static_at}
 use Rattle.et_state.specs.Outcome.{Outcome}
 use Rattle.et_event.specs.declared.rows.Division.{Division}
 use Rattle.et_event.specs.declared.rows.Elements.{Elements}
+use Rattle.et_event.specs.declared.rows.Elements.TheVariants as elements
 use Rattle.et_event.specs.declared.rows.HeapRow.{HeapRow}
 use Rattle.et_event.specs.declared.rows.HeapRow.TheVariants as row
 use Rattle.et_event.specs.declared.rows.Number.{Number}
@@ -32,21 +36,22 @@ use Rattle.et_event.specs.Kinds.{kind_of, kind_of_field, or_zero, narrowed, are_
 use Rattle.et_event.specs.Plain.{on_frame, constant, divided, quotient, divides, put}
 use Rattle.et_event.specs.Programs.{IsArrayClass, HasDimensions}
 use Rattle.et_event.specs.Sites.{Site, Member, LoadedConstant, AnInt, ALong, AString, member_of, class_operand, natural}
+use Rattle.et_event.specs.Sound.{IsSoundObject, slots_by}
 use Rattle.et_event.specs.Strings.{interned, string_object}
 use Rattle.et_event.specs.Sync.{end_of_thread}
 use Rattle.et_event.specs.Throw.{is_throwable, throw}
 use Rattle.et_sound.proofs.Arrays.{length-naturals}
-use Rattle.et_sound.proofs.Fields.{ok_is}
-use Rattle.et_history.proofs.Values.{Fine, Fines, FineSome, FineFrame, FineThread, Grows, fine_grows, fines_grow, fine_at, fines_append, frame_grows}
+use Rattle.et_sound.proofs.Fields.{ok_is, field_found}
+use Rattle.et_history.proofs.Values.{Fine, Fines, FineSome, FineFrame, FineThread, fine_grows, fines_grow, fine_at, fines_append, frame_grows}
 use Rattle.et_history.proofs.Heaps.{statics_fine, slots_fine, new_held}
-use Rattle.et_history.proofs.Words.{written_held, fine_narrowed}
+use Rattle.et_history.proofs.Words.{fine_narrowed}
 use Rattle.et_history.proofs.Taken.{any_int, any_long, any_reference, any_value, fine_entries, fine_read}
 use Rattle.et_history.proofs.Plain.{FineFrameSome, put_fine}
 use Rattle.et_history.proofs.Rows.{kept_fine, truth_fine, lengths_does}
 use Rattle.et_history.proofs.Ways.{thread_fine, frame_fine}
-use Rattle.et_history.proofs.Records.{steady_push}
-use Rattle.et_history.proofs.Recording.{Told, thread_told, top_told, instance_told, array_told, slot_told, written_static_told, interned_told, pending_told}
-use Rattle.et_history.proofs.Saying.{Ready, Says, ground, ends_says, throws_says, unless_ill_typed, unless_thrown, where_resolved, where_not_null, initialized_says}
+use Rattle.et_history.proofs.Records.{Steady, steady_itself, steady_then, steady_push, newest_at}
+use Rattle.et_history.proofs.Recording.{Told, HasSlot, thread_told, top_told, instance_told, array_told, slot_told, slot_steady, written_static_told, interned_told, pending_told}
+use Rattle.et_history.proofs.Saying.{Ready, Says, ground, ends_says, throws_says, unless_ill_typed, where_typed, unless_thrown, where_resolved, where_not_null, initialized_says}
 
 -- the classes of the arrays that the row makes
 pub record MakesArrays (p : Linked) (at : Site) (r : HeapRow) : Type 0 where
@@ -56,6 +61,32 @@ pub record MakesArrays (p : Linked) (at : Site) (r : HeapRow) : Type 0 where
 
 class_within : (p : Linked) (name : List ℕ) (class : ℕ) → resolve_class p name ≡ Ok class → class < length p.classes
 class_within p name class e = ok_is (λ c. c < length p.classes) (class_named p name) NoClassDefFound class (class_found_within p name (class_named p name) refl) e
+
+-- the object that is held
+found_at : (h : Objects) (o : ℕ) → IsHeld h o → at h o ≡ Some (object_at h o)
+found_at h o held = by (at h o) held
+  where
+    by : (x : Option ObjectState) → is_there x → x ≡ Some (found x)
+    by None there = absurd there
+    by (Some x) there = refl
+
+-- an array has a slot for each element
+no_elements : (kind : Elements) → are_elements kind NoArray ≡ true → ⊥
+no_elements elements.Int q = false≢true q
+no_elements elements.Long q = false≢true q
+no_elements elements.Reference q = false≢true q
+no_elements elements.Byte q = false≢true q
+no_elements elements.Char q = false≢true q
+no_elements elements.Short q = false≢true q
+
+array_slots : (kind : Elements) (x : Element) (slots n : ℕ) → are_elements kind x ≡ true → slots_by x slots n ≡ n
+array_slots kind NoArray slots n is = absurd (no_elements kind is)
+array_slots kind (Base base) slots n is = refl
+array_slots kind (Class class) slots n is = refl
+
+natural_within : (i : ℤ) (n : ℕ) → in_bounds i n ≡ true → natural i < n
+natural_within (pos k) n is = ltb-true k n (and_parts (int_le (pos 0) (pos k)) (int_lt (pos k) (pos n)) is).1
+natural_within (negsuc k) n is = absurd (false≢true is)
 
 module _ (e : Moment) (ready : Ready e) where
   pub first : Told e (begins e)
@@ -81,8 +112,8 @@ module _ (e : Moment) (ready : Ready e) where
   ended_says : (at : Site) (ops : List Value) (d : Doing) → Told e d → Fines d.state.heap ops → Says e (ends (leaving e at ops d))
   ended_says at ops d h f = ends_says e ready (leaving e at ops d) (leaving_told at ops d h f)
 
-  written_says : (at : Site) (o i : ℕ) (v : Value) (ops : List Value) → IsHeld e.before.heap o → Fine e.before.heap v → Fines e.before.heap ops → Says e (goes (slot_written e o i v (leaving e at ops (begins e))))
-  written_says at o i v ops held fine f = slot_told e o i v (leaving e at ops (begins e)) (leaving_told at ops (begins e) first f) held fine
+  written_says : (at : Site) (o i : ℕ) (v : Value) (ops : List Value) → IsHeld e.before.heap o → HasSlot e.before.heap o i → Fine e.before.heap v → Fines e.before.heap ops → Says e (goes (slot_written e o i v (leaving e at ops (begins e))))
+  written_says at o i v ops held has fine f = slot_told e o i v (leaving e at ops (begins e)) (leaving_told at ops (begins e) first f) held has fine
 
   -- WHAT IS NAMED
 
@@ -97,8 +128,8 @@ module _ (e : Moment) (ready : Ready e) where
   class_resolved : (name : List ℕ) (go : ℕ → Outcome Kept) → ((c : ℕ) → resolve_class e.program name ≡ Ok c → Says e (go c)) → Says e (resolved_class e (begins e) name go)
   class_resolved name go h = where_resolved e ready (begins e) (resolve_class e.program name) go first h
 
-  field_resolved : (m : Member) (go : ℕ → Outcome Kept) → ((f : ℕ) → Says e (go f)) → Says e (resolved_field e (begins e) m go)
-  field_resolved m go h = class_resolved m.owner _ (λ owner is. where_resolved e ready (begins e) (resolve_field e.program owner m.name m.descriptor) _ first (λ f found. h f))
+  field_resolved : (m : Member) (go : ℕ → Outcome Kept) → ((f : ℕ) → f < length e.program.fields → Says e (go f)) → Says e (resolved_field e (begins e) m go)
+  field_resolved m go h = class_resolved m.owner _ (λ owner is. where_resolved e ready (begins e) (resolve_field e.program owner m.name m.descriptor) _ first (λ f found. h f (field_found e.program owner m.name m.descriptor f found).within))
 
   -- FIELDS
 
@@ -106,7 +137,7 @@ module _ (e : Moment) (ready : Ready e) where
   get_static_says at =
       field_says (member_of at) _ (λ m.
       unless_ill_typed e ready (field_fits e (frame_of e).operands m) _ (
-      field_resolved m _ (λ f.
+      field_resolved m _ (λ f within.
       unless_thrown e ready (begins e) errors.IncompatibleClassChangeError (is_static_field e.program f) _ first (λ static.
       initialized_says e ready (begins e) (field_at e.program f).class _ first (λ d h.
       let v : Value = or_zero (kind_of m.descriptor) (static_at d.state.guest (field_at e.program f).slot) in
@@ -119,17 +150,17 @@ module _ (e : Moment) (ready : Ready e) where
   put_static_says at =
       field_says (member_of at) _ (λ m.
       any_value (Says e) (ill_typed e) tt e.before.heap (kind_of_field m.descriptor) (frame_of e).operands _ operands_fine (λ v below fine f.
-      field_resolved m _ (λ k.
+      field_resolved m _ (λ k within.
       unless_thrown e ready (begins e) errors.IncompatibleClassChangeError (is_static_field e.program k) _ first (λ static.
       initialized_says e ready (begins e) (field_at e.program k).class _ first (λ d h.
       let x : Doing = leaving e at below d in
       ends_says e ready (static_written e (field_at e.program k).slot (narrowed m.descriptor v) x)
-      (written_static_told e (field_at e.program k).slot (narrowed m.descriptor v) x (leaving_told at below d h (later_fine d below h f))
+      (written_static_told e (field_at e.program k).slot (narrowed m.descriptor v) x (leaving_told at below d h (later_fine d below h f)) (ready.may.slots.statics k within static).0
       (fine_narrowed d.state.heap m.descriptor v (fine_grows e.before.heap d.state.heap v h.steady.stays fine))))))))
 
-  holder_says : (f : ℕ) (r : Reference) (go : ℕ → Outcome Kept) → FineSome e.before.heap r → ((o : ℕ) → IsHeld e.before.heap o → Says e (go o)) → Says e (with_holder e (begins e) f r go)
+  holder_says : (f : ℕ) (r : Reference) (go : ℕ → Outcome Kept) → FineSome e.before.heap r → ((o : ℕ) → IsHeld e.before.heap o → is_subclass e.program (object_at e.before.heap o).class (field_at e.program f).class ≡ true → Says e (go o)) → Says e (with_holder e (begins e) f r go)
   holder_says f r go held h =
-      where_not_null e ready (begins e) r _ first held (λ o there. unless_ill_typed e ready (is_subclass e.program (class_of (begins e) o) (field_at e.program f).class) (go o) (h o there))
+      where_not_null e ready (begins e) r _ first held (λ o there. where_typed e ready (is_subclass e.program (class_of (begins e) o) (field_at e.program f).class) (go o) (h o there))
 
   read_fine : (o i : ℕ) → Fine e.before.heap (slot_of (object_at e.before.heap o) i)
   read_fine o i = fine_at e.before.heap (object_at e.before.heap o).slots i (slots_fine e.before o ready.knows.sound.held)
@@ -139,35 +170,48 @@ module _ (e : Moment) (ready : Ready e) where
       field_says (member_of at) _ (λ m.
       any_reference (Says e) (ill_typed e) tt e.before.heap (frame_of e).operands _ operands_fine (λ r below held f.
       unless_ill_typed e ready (field_fits e below m) _ (
-      field_resolved m _ (λ k.
+      field_resolved m _ (λ k within.
       unless_thrown e ready (begins e) errors.IncompatibleClassChangeError (not (is_static_field e.program k)) _ first (λ instance.
-      holder_says k r _ held (λ o there.
+      holder_says k r _ held (λ o there below_it.
       let v : Value = or_zero (kind_of m.descriptor) (slot_of (object_at e.before.heap o) (field_at e.program k).slot) in
       done_says at (entries_of v ++ below) (fines_append e.before.heap (entries_of v) below
       (fine_entries e.before.heap v (fine_read e.before.heap (kind_of m.descriptor) (slot_of (object_at e.before.heap o) (field_at e.program k).slot) (read_fine o (field_at e.program k).slot))) f)))))))
+
+  -- the object of a field has its slot
+  object_sound : (o : ℕ) → IsHeld e.before.heap o → IsSoundObject e.program (object_at e.before.heap o)
+  object_sound o there = (ready.knows.sound.objects o (object_at e.before.heap o) (found_at e.before.heap o there)).0
+
+  field_slot : (o k : ℕ) → IsHeld e.before.heap o → k < length e.program.fields → is_static_field e.program k ≡ false → is_subclass e.program (object_at e.before.heap o).class (field_at e.program k).class ≡ true
+      → HasSlot e.before.heap o (field_at e.program k).slot
+  field_slot o k there within instance below_it = inr ((object_sound o there).fields k within instance below_it).slot
 
   put_field_says : (at : Site) → Says e (put_field e at)
   put_field_says at =
       field_says (member_of at) _ (λ m.
       any_value (Says e) (ill_typed e) tt e.before.heap (kind_of_field m.descriptor) (frame_of e).operands _ operands_fine (λ v more fine f.
       any_reference (Says e) (ill_typed e) tt e.before.heap more _ f (λ r below held g.
-      field_resolved m _ (λ k.
+      field_resolved m _ (λ k within.
       unless_thrown e ready (begins e) errors.IncompatibleClassChangeError (not (is_static_field e.program k)) _ first (λ instance.
-      holder_says k r _ held (λ o there. written_says at o (field_at e.program k).slot (narrowed m.descriptor v) below there (fine_narrowed e.before.heap m.descriptor v fine) g))))))
+      holder_says k r _ held (λ o there below_it.
+      written_says at o (field_at e.program k).slot (narrowed m.descriptor v) below there (field_slot o k there within (not-true (is_static_field e.program k) instance) below_it) (fine_narrowed e.before.heap m.descriptor v fine) g))))))
 
   -- ELEMENTS
 
-  element_says : (kind : Elements) (r : Reference) (i : ℤ) (go : ℕ → Outcome Kept) → FineSome e.before.heap r → ((o : ℕ) → IsHeld e.before.heap o → Says e (go o)) → Says e (with_element e kind r i go)
+  element_says : (kind : Elements) (r : Reference) (i : ℤ) (go : ℕ → Outcome Kept) → FineSome e.before.heap r → ((o : ℕ) → IsHeld e.before.heap o → HasSlot e.before.heap o (natural i) → Says e (go o)) → Says e (with_element e kind r i go)
   element_says kind r i go held h =
       where_not_null e ready (begins e) r _ first held (λ o there.
-      unless_ill_typed e ready (are_elements kind (element_of e o)) _ (
-      unless_thrown e ready (begins e) errors.ArrayIndexOutOfBoundsException (in_bounds i (length_of e o)) (go o) first (λ within. h o there)))
+      where_typed e ready (are_elements kind (element_of e o)) _ (λ elements.
+      unless_thrown e ready (begins e) errors.ArrayIndexOutOfBoundsException (in_bounds i (length_of e o)) (go o) first (λ within.
+      let count : length (object_at e.before.heap o).slots ≡ length_of e o =
+      (object_sound o there).slots ∙ array_slots kind (element_of e o) (class_at e.program (object_at e.before.heap o).class).info.slots (length_of e o) elements in
+      let lt : natural i < length_of e o = natural_within i (length_of e o) within in
+      h o there (inr (omega arith)))))
 
   load_element_says : (at : Site) (kind : Elements) → Says e (load_element e at kind)
   load_element_says at kind =
       any_int (Says e) (ill_typed e) tt e.before.heap (frame_of e).operands _ operands_fine (λ i more f.
       any_reference (Says e) (ill_typed e) tt e.before.heap more _ f (λ r below held g.
-      element_says kind r i _ held (λ o there.
+      element_says kind r i _ held (λ o there slot.
       let v : Value = or_zero (Some (kind_of_elements kind)) (slot_of (object_at e.before.heap o) (natural i)) in
       done_says at (entries_of v ++ below) (fines_append e.before.heap (entries_of v) below
       (fine_entries e.before.heap v (fine_read e.before.heap (Some (kind_of_elements kind)) (slot_of (object_at e.before.heap o) (natural i)) (read_fine o (natural i)))) g))))
@@ -177,9 +221,9 @@ module _ (e : Moment) (ready : Ready e) where
       any_value (Says e) (ill_typed e) tt e.before.heap (Some (kind_of_elements kind)) (frame_of e).operands _ operands_fine (λ v most fine f.
       any_int (Says e) (ill_typed e) tt e.before.heap most _ f (λ i more g.
       any_reference (Says e) (ill_typed e) tt e.before.heap more _ g (λ r below held j.
-      element_says kind r i _ held (λ o there.
+      element_says kind r i _ held (λ o there slot.
       unless_thrown e ready (begins e) errors.ArrayStoreException (passes_element e v (element_of e o)) (goes (slot_written e o (natural i) (kept_element kind v) (leaving e at below (begins e)))) first
-      (λ passed. written_says at o (natural i) (kept_element kind v) below there (kept_fine e.before.heap kind v fine) j)))))
+      (λ passed. written_says at o (natural i) (kept_element kind v) below there slot (kept_fine e.before.heap kind v fine) j)))))
 
   array_length_says : (at : Site) → Says e (array_length e at)
   array_length_says at =
@@ -221,39 +265,48 @@ module _ (e : Moment) (ready : Ready e) where
 
   record Makes (d x : Doing) : Type 0 where
     tells : Told e x
-    stays : Grows d.state.heap x.state.heap
+    steady : Steady d.state.heap x.state.heap
 
   record MakesOne (d x : Doing) : Type 0 where
     makes : Makes d x
     first_held : IsHeld x.state.heap (next_object d)
 
-  filled_makes : (o : ℕ) (make : Doing → Doing) (n : ℕ) (d : Doing) → ((x : Doing) → Told e x → MakesOne x (make x)) → Told e d → IsHeld d.state.heap o → Makes d (filled e o make n d)
-  filled_makes o make zero d step h held = record { tells = h; stays = λ k there. there }
-  filled_makes o make (suc i) d step h held =
+  filled_makes : (o : ℕ) (make : Doing → Doing) (n : ℕ) (d : Doing) → ((x : Doing) → Told e x → MakesOne x (make x)) → Told e d → IsHeld d.state.heap o → n ≤ length (object_at d.state.heap o).slots → Makes d (filled e o make n d)
+  filled_makes o make zero d step h held room = record { tells = h; steady = steady_itself d.state.heap }
+  filled_makes o make (suc i) d step h held room =
       let x : Doing = filled e o make i d in
-      let so : Makes d x = filled_makes o make i d step h held in
+      let so : Makes d x = filled_makes o make i d step h held (omega (arith, room)) in
       let one : MakesOne x (make x) = step x so.tells in
-      let there : IsHeld (make x).state.heap o = one.makes.stays o (so.stays o held) in
+      let both : Steady d.state.heap (make x).state.heap = steady_then d.state.heap x.state.heap (make x).state.heap so.steady one.makes.steady in
+      let there : IsHeld (make x).state.heap o = both.stays o held in
+      let same : length (object_at (make x).state.heap o).slots ≡ length (object_at d.state.heap o).slots = (both.alike o held).slots in
+      let lt : i < length (object_at (make x).state.heap o).slots = omega (arith, room) in
       record {
-        tells = slot_told e o i (Ref (next_object x)) (make x) one.makes.tells there one.first_held;
-        stays = λ k is. written_held e o i (Ref (next_object x)) (make x) k there (one.makes.stays k (so.stays k is));
+        tells = slot_told e o i (Ref (next_object x)) (make x) one.makes.tells there (inr lt) one.first_held;
+        steady = steady_then d.state.heap (make x).state.heap (slot_written e o i (Ref (next_object x)) (make x)).state.heap both (slot_steady e o i (Ref (next_object x)) (make x) there);
       }
 
   arrays_make : (class n : ℕ) (more : List ℕ) (d : Doing) → HasDimensions e.program (length (n ∷ more)) class → Told e d → MakesOne d (arrays_made e class (n ∷ more) d)
   arrays_make class n [] d has h = record {
-    makes = record { tells = array_told e class n d h has.array; stays = (steady_push d.state.heap (new_object class n n)).stays };
+    makes = record { tells = array_told e class n d h has.array; steady = steady_push d.state.heap (new_object class n n) };
     first_held = new_held d.state.heap (new_object class n n);
   }
   arrays_make class n (m ∷ more) d has h =
       let inner : ℕ = element_class (class_at e.program class).info.element in
       let dimensions : HasDimensions e.program (length (m ∷ more)) inner = subst (λ (x : Element). HasDimensions e.program (length (m ∷ more)) (element_class x)) (sym has.1.1) has.1.2 in
+      let object : ObjectState = new_object class n n in
       let y : Doing = array_made e class n d in
-      let there : IsHeld y.state.heap (next_object d) = new_held d.state.heap (new_object class n n) in
+      let there : IsHeld y.state.heap (next_object d) = new_held d.state.heap object in
+      let count : length (object_at y.state.heap (next_object d)).slots ≡ n =
+      ap (λ (x : Option ObjectState). length (found x).slots) (newest_at d.state.heap object) ∙ length-replicate n Unset in
       let all : Makes y (filled e (next_object d) (arrays_made e inner (m ∷ more)) n y) =
-      filled_makes (next_object d) (arrays_made e inner (m ∷ more)) n y (λ x g. arrays_make inner m more x dimensions g) (array_told e class n d h has.0.array) there in
+      filled_makes (next_object d) (arrays_made e inner (m ∷ more)) n y (λ x g. arrays_make inner m more x dimensions g) (array_told e class n d h has.0.array) there (omega arith) in
       record {
-        makes = record { tells = all.tells; stays = λ j is. all.stays j ((steady_push d.state.heap (new_object class n n)).stays j is) };
-        first_held = all.stays (next_object d) there;
+        makes = record {
+          tells = all.tells;
+          steady = steady_then d.state.heap y.state.heap (filled e (next_object d) (arrays_made e inner (m ∷ more)) n y).state.heap (steady_push d.state.heap object) all.steady;
+        };
+        first_held = all.steady.stays (next_object d) there;
       }
 
   multi_says : (at : Site) (class : ℕ) (ls : List ℤ) (below : List Value) → 0 < length ls → HasDimensions e.program (length (naturals ls)) class → Fines e.before.heap below

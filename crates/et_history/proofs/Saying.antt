@@ -85,6 +85,10 @@ module _ (e : Moment) (ready : Ready e) where
   unless_ill_typed true go h = h
   unless_ill_typed false go h = tt
 
+  pub where_typed : (b : Bool) (go : Outcome Kept) → (b ≡ true → Says e go) → Says e (ill_typed_unless e b go)
+  where_typed true go h = h refl
+  where_typed false go h = tt
+
   pub unless_thrown : (d : Doing) (error : GuestError) (b : Bool) (go : Outcome Kept) → Told e d → (b ≡ true → Says e go) → Says e (throws_unless e d error b go)
   unless_thrown d error true go h g = g refl
   unless_thrown d error false go h g = throws_says error d h
@@ -109,7 +113,7 @@ module _ (e : Moment) (ready : Ready e) where
   begun_says : (c : ℕ) (d : Doing) → Told e d → Says e (ends (begun_by e c d))
   begun_says c d h =
       let x : Doing = constants_set e c (with_state c (Begun e.thread) d) in
-      let there : Told e x = constants_told e ready.plain c (with_state c (Begun e.thread) d) (state_told e c (Begun e.thread) d h) in
+      let there : Told e x = constants_told e ready.plain ready.may.initializers c (with_state c (Begun e.thread) d) (state_told e c (Begun e.thread) d h) in
       let t : ThreadState = thread_at x.state.guest e.thread in
       let was : FineThread x.state.heap t = told_thread e x there in
       let f : FrameState = initializer_frame c in
@@ -123,7 +127,7 @@ module _ (e : Moment) (ready : Ready e) where
   needed_says d c Done go h g = g d h
   needed_says d c (Begun t) go h g = if_case (Says e) (t == e.thread) (go d) (waits e) (g d h) refl
   needed_says d c Failed go h g = throws_says NoClassDefFoundError d h
-  needed_says d c Untouched go h g = if_case (Says e) (is_quiet e d c) (go (quietly_done e c d)) (begins_class e c d) (g (quietly_done e c d) (quietly_told e ready.plain c d h)) (begins_class_says c d h)
+  needed_says d c Untouched go h g = if_case (Says e) (is_quiet e d c) (go (quietly_done e c d)) (begins_class e c d) (g (quietly_done e c d) (quietly_told e ready.plain ready.may.initializers c d h)) (begins_class_says c d h)
 
   pub initialized_says : (d : Doing) (c : ℕ) (go : Doing → Outcome Kept) → Told e d → ((y : Doing) → Told e y → Says e (go y)) → Says e (initialized e d c go)
   initialized_says d c go h g = needed_says d c (state_of d c) go h g

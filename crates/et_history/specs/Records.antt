@@ -34,6 +34,13 @@ IsMadeBefore heap next o = (o < next) × IsHeld heap o
 abbrev pub IsMadeBeforeOrNone : Objects → ℕ → ℕ → Type 0
 IsMadeBeforeOrNone heap next o = (o ≡ 0) ⊎ IsMadeBefore heap next o
 
+-- what a record says was written: a static, for no object (0), or a slot of an object that was made before. The machine
+-- itself writes the first two slots of a Throwable, and the first of a Thread
+abbrev pub IsUpdated : Linked → Objects → (next object slot : ℕ) → Type 0
+IsUpdated p heap next object slot =
+    ((object ≡ 0) × (slot < length p.statics))
+    ⊎ (IsMadeBefore heap next object × ((slot < 2) ⊎ (slot < length (object_at heap object).slots)))
+
 -- the number of the object that is made next, after a record
 abbrev pub next_after : ℕ → Record → ℕ
 next_after next (Alloc event thread object class size elements) = next + 1
@@ -56,7 +63,7 @@ module _ (p : Linked) (clock t : ℕ) (heap : Objects) where
   IsRecordOf next (Alloc event thread object class size elements) =
       (event ≡ clock) × (thread ≡ t) × IsAllocationOf p heap next object class size elements
   IsRecordOf next (Update event thread object slot old new) =
-      (event ≡ clock) × (thread ≡ t) × IsMadeBeforeOrNone heap next object × IsMadeBeforeOrNone heap next old × IsMadeBeforeOrNone heap next new
+      (event ≡ clock) × (thread ≡ t) × IsUpdated p heap next object slot × IsMadeBeforeOrNone heap next old × IsMadeBeforeOrNone heap next new
   IsRecordOf next (Enter event thread method receiver) = (event ≡ clock) × (thread ≡ t) × IsMadeBeforeOrNone heap next receiver
   IsRecordOf next (Exit event thread method) = (event ≡ clock) × (thread ≡ t)
   IsRecordOf next (Unwind event thread method exception) = (event ≡ clock) × (thread ≡ t) × IsMadeBefore heap next exception

@@ -24,8 +24,9 @@ ghost use Rattle.et_history.specs.Whole.{whole_start};
 
 /// The records of an event are of it and of its thread. Its allocations are of the objects that it makes, in order, each with
 /// the number, the class, the length and the bytes that the object has in the next state. What other records name is held,
-/// and was made before the record. A thread that waits makes nothing and tells nothing. The class, the length and the number
-/// of slots of an object never change.
+/// and was made before the record; what an update writes is a static, a slot of its object, or one of the two that the machine
+/// itself uses. A thread that waits makes nothing and tells nothing. The class, the length and the number of slots of an object
+/// never change.
 pub fn events_tell_objects()
     ensures { (p : Linked) (s : Kept) (t : ℕ) →
         IsSoundFor p s → IsUnended s.guest t → IsRunnable p → HasPlainStrings p →
