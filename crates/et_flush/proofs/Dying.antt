@@ -3,87 +3,91 @@ use Rattle.std.proofs.Common.{◌≡◌, ℕ, ◌+◌, ◌-◌, ◌<◌, ◌≤�
 use mathlib.Core.Logic.{⊎_elim}
 use Rattle.std.specs.List.Sorted.{IsStrictlyIncreasing}
 use Rattle.std.proofs.lemmas.Bool.{cases_lt}
-use Rattle.std.proofs.lemmas.List.{length-append, get_or_append_left, get_or_push, map-append}
-use Rattle.std.proofs.lemmas.List.Elements.{Contains-append_left, Contains-push, Contains-push_cases}
+use Rattle.std.proofs.lemmas.List.{map-append}
+use Rattle.std.proofs.lemmas.List.Elements.{Contains-append_left, Contains-push, Contains-push_cases, Contains-get_or}
 use Rattle.et_base.proofs.Lists.{Contains-none}
-use Rattle.et_heap.specs.Objects.{Objects, IsHeld}
+use Rattle.et_heap.specs.Objects.{Objects}
 use Rattle.et_flush.specs.declared.times.TheConstants.{NOW}
+use Rattle.et_flush.specs.Searches.{AreAllHeld, AreBelow}
+use Rattle.et_flush.proofs.Holding.{rising_push, below_push}
+use Rattle.et_flush.proofs.Listings.{each_at}
 
 abbrev pub firsts : List (ℕ × ℕ) → List ℕ
 firsts ds = map (λ d. d.0) ds
 
--- THE LIST SO FAR, of the objects up to n
-pub record AreListedTo (heap : Objects) (times : List ℕ) (n : ℕ) (ds : List (ℕ × ℕ)) : Type 0 where
+-- THE LIST SO FAR, of the first i objects
+pub record AreListedTo (held times : List ℕ) (i : ℕ) (ds : List (ℕ × ℕ)) : Type 0 where
   pub rising : IsStrictlyIncreasing (firsts ds)
-  pub below : (k : ℕ) → k < length (firsts ds) → get_or (firsts ds) k 0 ≤ n
-  pub each : (o t : ℕ) → Contains ds (o, t) → IsHeld heap o × (get_or times (o - 1) 0 ≡ t) × (t < NOW)
-  pub all : (o t : ℕ) → o ≤ n → IsHeld heap o → get_or times (o - 1) 0 ≡ t → t < NOW → Contains ds (o, t)
+  pub below : i < length held → (k : ℕ) → k < length (firsts ds) → get_or (firsts ds) k 0 < get_or held i 0
+  pub each : (o t : ℕ) → Contains ds (o, t) → Contains held o × (get_or times (o - 1) 0 ≡ t) × (t < NOW)
+  pub all : (k : ℕ) → k < i → get_or times (get_or held k 0 - 1) 0 < NOW → Contains ds (get_or held k 0, get_or times (get_or held k 0 - 1) 0)
 
-pub listed_none : (heap : Objects) (times : List ℕ) (ds : List (ℕ × ℕ)) → ds ≡ [] → (IsHeld heap 0 → ⊥) → AreListedTo heap times 0 ds
-listed_none heap times ds none zero_free = record {
+pub listed_none : (held times : List ℕ) (ds : List (ℕ × ℕ)) → ds ≡ [] → AreListedTo held times 0 ds
+listed_none held times ds none = record {
   rising = λ k lt. let e : length (firsts ds) ≡ 0 = ap (λ (xs : List (ℕ × ℕ)). length (firsts xs)) none in absurd (omega arith);
-  below = λ k lt. let e : length (firsts ds) ≡ 0 = ap (λ (xs : List (ℕ × ℕ)). length (firsts xs)) none in absurd (omega arith);
+  below = λ _ k lt. let e : length (firsts ds) ≡ 0 = ap (λ (xs : List (ℕ × ℕ)). length (firsts xs)) none in absurd (omega arith);
   each = λ o t c. absurd (Contains-none (o, t) (subst (λ (xs : List (ℕ × ℕ)). Contains xs (o, t)) none c));
-  all = λ o t le held _ _. absurd (zero_free (subst (λ (k : ℕ). IsHeld heap k) (let e : o ≡ 0 = omega arith in e) held));
+  all = λ k lt. absurd (omega arith);
 }
-
-rising_push : (xs : List ℕ) (x n : ℕ) → IsStrictlyIncreasing xs → ((k : ℕ) → k < length xs → get_or xs k 0 ≤ n) → n < x → IsStrictlyIncreasing (xs ++ x ∷ [])
-rising_push xs x n rising below more k lt =
-    ⊎_elim
-    (λ b. omega (arith, rising k b, get_or_append_left xs (x ∷ []) 0 k (omega arith), get_or_append_left xs (x ∷ []) 0 (k + 1) b))
-    (λ g.
-    let e : length xs ≡ k + 1 = omega (arith, length-append xs (x ∷ [])) in
-    omega (arith, below k (omega arith), get_or_append_left xs (x ∷ []) 0 k (omega arith), get_or_push xs x 0 (k + 1) e))
-    (cases_lt (k + 1) (length xs))
-
-below_push : (xs : List ℕ) (x n : ℕ) → ((k : ℕ) → k < length xs → get_or xs k 0 ≤ n) → x ≤ n + 1 → (k : ℕ) → k < length (xs ++ x ∷ []) → get_or (xs ++ x ∷ []) k 0 ≤ n + 1
-below_push xs x n below le k lt =
-    ⊎_elim
-    (λ b. omega (arith, below k b, get_or_append_left xs (x ∷ []) 0 k b))
-    (λ g. let e : length xs ≡ k = omega (arith, length-append xs (x ∷ [])) in omega (arith, get_or_push xs x 0 k e))
-    (cases_lt k (length xs))
 
 firsts_push : (ds : List (ℕ × ℕ)) (o t : ℕ) → firsts (ds ++ (o, t) ∷ []) ≡ firsts ds ++ o ∷ []
 firsts_push ds o t = map-append (λ d. d.0) ds ((o, t) ∷ [])
 
-module _ (heap : Objects) (times : List ℕ) (n : ℕ) (ds ds' : List (ℕ × ℕ)) (o t : ℕ) (are : AreListedTo heap times n ds) (number : o ≡ n + 1) (time : t ≡ get_or times n 0) where
-  time_at : get_or times (o - 1) 0 ≡ t
-  time_at = ap (λ (k : ℕ). get_or times k 0) (let e : o - 1 ≡ n = omega arith in e) ∙ sym time
+module _ (held times : List ℕ) (i : ℕ) (ds ds' : List (ℕ × ℕ)) (o t : ℕ) (rises : IsStrictlyIncreasing held) (are : AreListedTo held times i ds)
+    (lt : i < length held) (number : o ≡ get_or held i 0) (time : t ≡ get_or times (o - 1) 0) where
+  later : i + 1 < length held → get_or held i 0 < get_or held (i + 1) 0
+  later more = rises i more
 
   -- one more dies
-  pub listed_hit : ds' ≡ ds ++ (o, t) ∷ [] → IsHeld heap o → t < NOW → AreListedTo heap times (n + 1) ds'
-  listed_hit push held lt =
-      subst (λ (xs : List (ℕ × ℕ)). AreListedTo heap times (n + 1) xs) (sym push)
+  pub listed_hit : ds' ≡ ds ++ (o, t) ∷ [] → t < NOW → AreListedTo held times (i + 1) ds'
+  listed_hit push small =
+      let before : (k : ℕ) → k < length (firsts ds) → get_or (firsts ds) k 0 < o = λ k less. omega (arith, are.below lt k less) in
+      subst (λ (xs : List (ℕ × ℕ)). AreListedTo held times (i + 1) xs) (sym push)
       (record {
-        rising = subst (λ (xs : List ℕ). IsStrictlyIncreasing xs) (sym (firsts_push ds o t)) (rising_push (firsts ds) o n are.rising are.below (omega arith));
-        below = subst (λ (xs : List ℕ). (k : ℕ) → k < length xs → get_or xs k 0 ≤ n + 1) (sym (firsts_push ds o t)) (below_push (firsts ds) o n are.below (omega arith));
+        rising = subst (λ (xs : List ℕ). IsStrictlyIncreasing xs) (sym (firsts_push ds o t)) (rising_push (firsts ds) o are.rising before);
+        below = λ more. subst (λ (xs : List ℕ). (k : ℕ) → k < length xs → get_or xs k 0 < get_or held (i + 1) 0) (sym (firsts_push ds o t)) (below_push (firsts ds) o (get_or held (i + 1) 0) before (omega (arith, later more)));
         each = λ x v c.
             ⊎_elim
             (λ d. are.each x v d)
-            (λ e. subst (λ (p : ℕ × ℕ). IsHeld heap p.0 × (get_or times (p.0 - 1) 0 ≡ p.1) × (p.1 < NOW)) e (held, time_at, lt))
+            (λ e.
+            subst (λ (p : ℕ × ℕ). Contains held p.0 × (get_or times (p.0 - 1) 0 ≡ p.1) × (p.1 < NOW)) e
+            (subst (λ (z : ℕ). Contains held z) (sym number) (Contains-get_or held i 0 lt), sym time, small))
             (Contains-push_cases ds (o, t) (x, v) c);
-        all = λ x v le h at small.
+        all = λ k less below.
             ⊎_elim
-            (λ b. Contains-append_left ds ((o, t) ∷ []) (x, v) (are.all x v (omega arith) h at small))
+            (λ b. Contains-append_left ds ((o, t) ∷ []) (get_or held k 0, get_or times (get_or held k 0 - 1) 0) (are.all k b below))
             (λ g.
-            let e : o ≡ x = omega arith in
-            let f : t ≡ v = sym time_at ∙ (ap (λ (k : ℕ). get_or times (k - 1) 0) e ∙ at) in
-            subst (λ (k : ℕ). Contains (ds ++ (o, t) ∷ []) (k, v)) e (subst (λ (w : ℕ). Contains (ds ++ (o, t) ∷ []) (o, w)) f (Contains-push ds (o, t))))
-            (cases_lt x (n + 1));
+            let e : i ≡ k = omega arith in
+            let at : o ≡ get_or held k 0 = number ∙ ap (λ (j : ℕ). get_or held j 0) e in
+            let same_time : t ≡ get_or times (get_or held k 0 - 1) 0 = time ∙ ap (λ (z : ℕ). get_or times (z - 1) 0) at in
+            subst (λ (z : ℕ). Contains (ds ++ (o, t) ∷ []) (z, get_or times (get_or held k 0 - 1) 0)) at
+            (subst (λ (w : ℕ). Contains (ds ++ (o, t) ∷ []) (o, w)) same_time (Contains-push ds (o, t))))
+            (cases_lt k i);
       })
 
   -- one more doesn't
-  pub listed_miss : (IsHeld heap o → t < NOW → ⊥) → AreListedTo heap times (n + 1) ds
+  pub listed_miss : NOW ≤ t → AreListedTo held times (i + 1) ds
   listed_miss lives = record {
     rising = are.rising;
-    below = λ k lt. omega (arith, are.below k lt);
+    below = λ more k less. omega (arith, are.below lt k less, later more);
     each = are.each;
-    all = λ x v le h at small.
+    all = λ k less below.
         ⊎_elim
-        (λ b. are.all x v (omega arith) h at small)
+        (λ b. are.all k b below)
         (λ g.
-        let e : o ≡ x = omega arith in
-        let f : t ≡ v = sym time_at ∙ (ap (λ (k : ℕ). get_or times (k - 1) 0) e ∙ at) in
-        absurd (lives (subst (λ (k : ℕ). IsHeld heap k) (sym e) h) (omega arith)))
-        (cases_lt x (n + 1));
+        let e : i ≡ k = omega arith in
+        let at : o ≡ get_or held k 0 = number ∙ ap (λ (j : ℕ). get_or held j 0) e in
+        absurd (omega (arith, below, time, ap (λ (z : ℕ). get_or times (z - 1) 0) at)))
+        (cases_lt k i);
   }
+
+pub below_are : (heap : Objects) (held times : List ℕ) (i : ℕ) (ds : List (ℕ × ℕ)) → AreListedTo held times i ds → length held ≤ i → AreAllHeld heap held → AreBelow heap times ds
+below_are heap held times i ds are le all = record {
+  rising = are.rising;
+  exact = λ o t. (
+    λ c. let r = are.each o t c in ((all.exact o).0 r.0, r.1, r.2),
+    λ (h, at, small).
+        subst (λ (v : ℕ). Contains ds (o, v)) at
+        (each_at (λ z. get_or times (z - 1) 0 < NOW → Contains ds (z, get_or times (z - 1) 0)) held i le are.all o ((all.exact o).1 h) (omega arith)),
+  );
+}

@@ -1,5 +1,6 @@
 pub mod Targets
 pub mod Orders
+pub mod Holding
 pub mod Listings
 pub mod Dying
 pub mod Sweeping

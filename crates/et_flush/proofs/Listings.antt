@@ -1,76 +1,88 @@
--- Times and sources that are listed one after the other.
-use Rattle.std.proofs.Common.{◌≡◌, ℕ, ◌+◌, ◌-◌, ◌<◌, ◌≤◌, List, [], ◌∷◌, ◌++◌, length, get_or, Contains, sym, ◌∙◌, ap, subst, arith}
+-- Times and sources of a list of objects, one after the other.
+use Rattle.std.proofs.Common.{◌≡◌, ◌≢◌, ℕ, ◌+◌, ◌-◌, ◌<◌, ◌≤◌, Bool, false, List, [], ◌∷◌, ◌++◌, length, get_or, set, Contains, sym, ◌∙◌, ap, subst, arith, true≢false, get_or-set_same, get_or-set_other}
 use mathlib.Core.Logic.{⊎_elim}
-use Rattle.std.proofs.lemmas.Bool.{cases_lt}
-use Rattle.std.proofs.lemmas.List.{length-append, get_or_append_left, get_or_push, get_or_past}
-use Rattle.std.proofs.lemmas.List.Elements.{Contains-append_left, Contains-push, Contains-push_cases}
+use Rattle.std.proofs.lemmas.Bool.{cases_eq, cases_lt}
+use Rattle.std.proofs.lemmas.List.{get_or_default}
+use Rattle.std.proofs.lemmas.List.Elements.{Contains-append_left, Contains-push, Contains-push_cases, Contains-get_or}
+use Rattle.et_graph.specs.Times.{AreWithin, IsSet}
 use Rattle.et_base.proofs.Lists.{Contains-none}
-use Rattle.et_heap.specs.Objects.{Objects, IsHeld}
+use Rattle.et_heap.specs.Objects.{Objects}
 use Rattle.et_flush.specs.declared.times.TheConstants.{NOW}
 use Rattle.et_flush.specs.declared.order.Source.{Source}
+use Rattle.et_flush.specs.Searches.{AreAllHeld, AreSources}
+
+-- what holds at each place of a list holds of each of its elements
+pub each_at : (P : ℕ → Type 0) (xs : List ℕ) (n : ℕ) → length xs ≤ n → ((k : ℕ) → k < n → P (get_or xs k 0)) → (x : ℕ) → Contains xs x → P x
+each_at P xs n all each x c = subst P (sym (get_or_default xs c.0 x 0 c.1) ∙ c.2) (each c.0 (omega (arith, c.1)))
 
 -- TIMES
 
-module _ (heap : Objects) (stamps times times' : List ℕ) (n t : ℕ) (long : length times ≡ n) (push : times' ≡ times ++ t ∷ []) where
-  here : (o : ℕ) → o - 1 ≡ n → get_or times' (o - 1) 0 ≡ t
-  here o e = subst (λ (ts : List ℕ). get_or ts (o - 1) 0 ≡ t) (sym push) (get_or_push times t 0 (o - 1) (long ∙ sym e))
+module _ (held : List ℕ) (n i o place : ℕ) (within : AreWithin n held) (lt : i < length held) (is : o ≡ get_or held i o) (at : place + 1 ≡ o) where
+  here_is : o ≡ get_or held i 0
+  here_is = is ∙ get_or_default held i o 0 lt
 
-  before : (o : ℕ) → o - 1 < n → get_or times' (o - 1) 0 ≡ get_or times (o - 1) 0
-  before o lt = subst (λ (ts : List ℕ). get_or ts (o - 1) 0 ≡ get_or times (o - 1) 0) (sym push) (get_or_append_left times (t ∷ []) 0 (o - 1) (omega arith))
+  above : (k : ℕ) → k < length held → 0 < get_or held k 0
+  above k less = (within (get_or held k 0) (Contains-get_or held k 0 less)).0
 
-  longer : length times' ≡ n + 1
-  longer = let e : length times' ≡ length (times ++ t ∷ []) = ap length push in let f : length (times ++ t ∷ []) ≡ length times + 1 = length-append times (t ∷ []) in omega arith
+  same_object : (k : ℕ) → k < length held → get_or held k 0 - 1 ≡ place → o ≡ get_or held k 0
+  same_object k less e = omega (arith, above k less)
 
-  pub times_held : ((o : ℕ) → 0 < o → o ≤ n → IsHeld heap o → get_or times (o - 1) 0 ≡ get_or stamps o 0) → (IsHeld heap (n + 1) → t ≡ get_or stamps (n + 1) 0) → (o : ℕ) → 0 < o → o ≤ n + 1 → IsHeld heap o → get_or times' (o - 1) 0 ≡ get_or stamps o 0
-  times_held held new o above le h =
+  earlier : (k : ℕ) → k < i + 1 → get_or held k 0 - 1 ≢ place → k < i
+  earlier k less ne =
       ⊎_elim
-      (λ b. before o b ∙ held o above (omega arith) h)
-      (λ g. let e : o ≡ n + 1 = omega arith in here o (omega arith) ∙ (new (subst (λ (k : ℕ). IsHeld heap k) e h) ∙ ap (λ (k : ℕ). get_or stamps k 0) (sym e)))
-      (cases_lt (o - 1) n)
-
-  pub times_gone : ((o : ℕ) → 0 < o → ¬ IsHeld heap o → get_or times (o - 1) 0 ≡ 0) → (¬ IsHeld heap (n + 1) → t ≡ 0) → (o : ℕ) → 0 < o → ¬ IsHeld heap o → get_or times' (o - 1) 0 ≡ 0
-  times_gone gone new o above out =
-      ⊎_elim
-      (λ b. before o b ∙ gone o above out)
+      (λ b. b)
       (λ g.
+      let e : k ≡ i = omega arith in
+      absurd (ne (ap (λ (j : ℕ). get_or held j 0 - 1) e ∙ omega (arith, here_is))))
+      (cases_lt k i)
+
+  pub times_more : (stamps times : List ℕ) (v : ℕ) → place < length times → v ≡ get_or stamps o 0
+      → ((k : ℕ) → k < i → get_or times (get_or held k 0 - 1) 0 ≡ get_or stamps (get_or held k 0) 0)
+      → (k : ℕ) → k < i + 1 → get_or (set times place v) (get_or held k 0 - 1) 0 ≡ get_or stamps (get_or held k 0) 0
+  times_more stamps times v inside value before k less =
       ⊎_elim
-      (λ less. let e : o ≡ n + 1 = omega arith in here o (omega arith) ∙ new (subst (λ (k : ℕ). ¬ IsHeld heap k) e out))
-      (λ past. get_or_past times' (o - 1) 0 (omega (arith, longer)))
-      (cases_lt (o - 1) (n + 1)))
-      (cases_lt (o - 1) n)
+      (λ e.
+      ap (λ (j : ℕ). get_or (set times place v) j 0) e
+      ∙ (get_or-set_same times place v 0 inside ∙ (value ∙ ap (λ (z : ℕ). get_or stamps z 0) (same_object k (omega arith) e))))
+      (λ ne. get_or-set_other times place (get_or held k 0 - 1) v 0 ne ∙ before k (earlier k less ne))
+      (cases_eq (get_or held k 0 - 1) place)
+
+  pub unseen_more : (seen : List Bool) → place < length seen
+      → ((k : ℕ) → k < i → ¬ IsSet seen (get_or held k 0)) → (k : ℕ) → k < i + 1 → ¬ IsSet (set seen place false) (get_or held k 0)
+  unseen_more seen inside before k less s =
+      ⊎_elim
+      (λ e. true≢false (sym s ∙ (ap (λ (j : ℕ). get_or (set seen place false) j false) e ∙ get_or-set_same seen place false false inside)))
+      (λ ne. before k (earlier k less ne) (sym (get_or-set_other seen place (get_or held k 0 - 1) false false ne) ∙ s))
+      (cases_eq (get_or held k 0 - 1) place)
 
 -- SOURCES
 
-abbrev pub AreEach : Objects → List ℕ → List Source → Type 0
-AreEach heap times order = (s : Source) → Contains order s → IsHeld heap s.object × (s.age ≡ NOW - get_or times (s.object - 1) 0) × (get_or times (s.object - 1) 0 ≤ NOW)
+abbrev pub AreEach : List ℕ → List ℕ → List Source → Type 0
+AreEach held times order = (s : Source) → Contains order s → Contains held s.object × (s.age ≡ NOW - get_or times (s.object - 1) 0) × (get_or times (s.object - 1) 0 ≤ NOW)
 
-abbrev pub AreAll : Objects → List Source → ℕ → Type 0
-AreAll heap order n = (o : ℕ) → o ≤ n → IsHeld heap o → (s : Source) × Contains order s × (s.object ≡ o)
+abbrev pub AreAll : List ℕ → List Source → ℕ → Type 0
+AreAll held order n = (k : ℕ) → k < n → (s : Source) × Contains order s × (s.object ≡ get_or held k 0)
 
-pub each_none : (heap : Objects) (times : List ℕ) (order : List Source) → order ≡ [] → AreEach heap times order
-each_none heap times order none s c = absurd (Contains-none s (subst (λ (ss : List Source). Contains ss s) none c))
+pub each_none : (held times : List ℕ) (order : List Source) → order ≡ [] → AreEach held times order
+each_none held times order none s c = absurd (Contains-none s (subst (λ (ss : List Source). Contains ss s) none c))
 
-pub all_none : (heap : Objects) (order : List Source) → (IsHeld heap 0 → ⊥) → AreAll heap order 0
-all_none heap order none o le held = absurd (none (subst (λ (k : ℕ). IsHeld heap k) (let e : o ≡ 0 = omega arith in e) held))
-
-module _ (heap : Objects) (times : List ℕ) (order order' : List Source) (x : Source) (push : order' ≡ order ++ x ∷ []) where
-  pub each_more : AreEach heap times order → IsHeld heap x.object → x.age ≡ NOW - get_or times (x.object - 1) 0 → get_or times (x.object - 1) 0 ≤ NOW → AreEach heap times order'
-  each_more each held age below s c =
+module _ (held times : List ℕ) (order order' : List Source) (x : Source) (push : order' ≡ order ++ x ∷ []) where
+  pub each_more : AreEach held times order → Contains held x.object → x.age ≡ NOW - get_or times (x.object - 1) 0 → get_or times (x.object - 1) 0 ≤ NOW → AreEach held times order'
+  each_more each here age below s c =
       ⊎_elim
       (λ d. each s d)
-      (λ e. subst (λ (y : Source). IsHeld heap y.object × (y.age ≡ NOW - get_or times (y.object - 1) 0) × (get_or times (y.object - 1) 0 ≤ NOW)) e (held, age, below))
+      (λ e. subst (λ (y : Source). Contains held y.object × (y.age ≡ NOW - get_or times (y.object - 1) 0) × (get_or times (y.object - 1) 0 ≤ NOW)) e (here, age, below))
       (Contains-push_cases order x s (subst (λ (ss : List Source). Contains ss s) push c))
 
-  pub all_more : (n : ℕ) → AreAll heap order n → x.object ≡ n + 1 → AreAll heap order' (n + 1)
-  all_more n all at o le held =
+  pub all_more : (n : ℕ) → AreAll held order n → x.object ≡ get_or held n 0 → AreAll held order' (n + 1)
+  all_more n all at k lt =
       ⊎_elim
-      (λ b. let r = all o (omega arith) held in (r.0, subst (λ (ss : List Source). Contains ss r.0) (sym push) (Contains-append_left order (x ∷ []) r.0 r.1), r.2))
-      (λ g. (x, subst (λ (ss : List Source). Contains ss x) (sym push) (Contains-push order x), (let e : x.object ≡ o = omega arith in e)))
-      (cases_lt o (n + 1))
+      (λ b. let r = all k b in (r.0, subst (λ (ss : List Source). Contains ss r.0) (sym push) (Contains-append_left order (x ∷ []) r.0 r.1), r.2))
+      (λ g. let e : n ≡ k = omega arith in (x, subst (λ (ss : List Source). Contains ss x) (sym push) (Contains-push order x), at ∙ ap (λ (j : ℕ). get_or held j 0) e))
+      (cases_lt k n)
 
-pub all_skip : (heap : Objects) (order : List Source) (n : ℕ) → (IsHeld heap (n + 1) → ⊥) → AreAll heap order n → AreAll heap order (n + 1)
-all_skip heap order n out all o le held =
-    ⊎_elim
-    (λ b. all o (omega arith) held)
-    (λ g. absurd (out (subst (λ (k : ℕ). IsHeld heap k) (let e : o ≡ n + 1 = omega arith in e) held)))
-    (cases_lt o (n + 1))
+pub sources_are : (heap : Objects) (held times : List ℕ) (order : List Source) (n : ℕ) → AreAllHeld heap held → length held ≤ n → AreEach held times order → AreAll held order n → AreSources heap times order
+sources_are heap held times order n are le each all = record {
+  each = λ s c. let r = each s c in ((are.exact s.object).0 r.0, r.1, r.2);
+  all = λ o h. each_at (λ z. (s : Source) × Contains order s × (s.object ≡ z)) held n le all o ((are.exact o).1 h);
+}

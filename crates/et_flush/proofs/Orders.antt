@@ -21,15 +21,17 @@ pub record AreCarried (pairs : List (ℕ × ℕ)) (start : List ℕ) (order : Li
   pub carries : Carries pairs start times
   pub kept : (o : ℕ) → 0 < o → ¬ IsSet seen o → get_or times (o - 1) 0 ≡ get_or start (o - 1) 0
   pub followed : AreFollowed pairs times seen (λ v. ⊥)
-  pub above : (o : ℕ) → 0 < o → IsSet seen o → (k : ℕ) (d : Source) → i ≤ k → k < length order → get_or start ((get_or order k d).object - 1) 0 ≤ get_or times (o - 1) 0
+  pub above : (u o : ℕ) → Contains pairs (u, o) → IsSet seen o → (k : ℕ) (d : Source) → i ≤ k → k < length order → get_or start ((get_or order k d).object - 1) 0 ≤ get_or times (o - 1) 0
   pub done : (k : ℕ) (d : Source) → k < i → IsSet seen (get_or order k d).object
 
-pub none_carried : (pairs : List (ℕ × ℕ)) (start : List ℕ) (order : List Source) (seen : List Bool) → ((o : ℕ) → ¬ IsSet seen o) → AreCarried pairs start order 0 start seen
-none_carried pairs start order seen unseen = record {
+pub none_carried : (pairs : List (ℕ × ℕ)) (start : List ℕ) (order : List Source) (seen : List Bool)
+    → ((u o : ℕ) → Contains pairs (u, o) → ¬ IsSet seen u) → ((u o : ℕ) → Contains pairs (u, o) → ¬ IsSet seen o)
+    → AreCarried pairs start order 0 start seen
+none_carried pairs start order seen unseen_from unseen_to = record {
   carries = carries_none pairs start;
   kept = λ o _ _. refl;
-  followed = λ u x c s. absurd (unseen u s);
-  above = λ o _ s. absurd (unseen o s);
+  followed = λ u x c s. absurd (unseen_from u x c s);
+  above = λ u o c s. absurd (unseen_to u o c s);
   done = λ k d lt. absurd (omega arith);
 }
 
@@ -42,27 +44,23 @@ pub cases_held : (heap : Objects) (o : ℕ) → IsHeld heap o ⊎ (IsHeld heap o
 cases_held heap o = cases_there (at heap o)
 
 module _ (heap : Objects) (pairs : List (ℕ × ℕ)) (start : List ℕ) (order : List Source) (i : ℕ) (s : Source) (times : List ℕ) (seen : List Bool)
-    (none : IsHeld heap 0 → ⊥) (gone : (o : ℕ) → 0 < o → ¬ IsHeld heap o → get_or start (o - 1) 0 ≡ 0)
+    (none : IsHeld heap 0 → ⊥) (targets : (u o : ℕ) → Contains pairs (u, o) → IsHeld heap o)
     (is_order : IsOrder heap start order) (lt : i < length order) (is : s ≡ get_or order i s)
     (carried : AreCarried pairs start order i times seen) where
   object_at : (k : ℕ) (d : Source) → k ≡ i → (get_or order k d).object ≡ s.object
   object_at k d e = ap (λ (j : ℕ). (get_or order j d).object) e ∙ ap (λ (z : Source). z.object) (get_or_default order i d s lt ∙ sym is)
 
-  -- what wasn't seen has no greater time
-  unseen_below : (o : ℕ) → 0 < o → ¬ IsSet seen o → get_or start (o - 1) 0 ≤ get_or start (s.object - 1) 0
-  unseen_below o above unseen =
-      elim (cases_held heap o) [
-        | inr out ↦ omega (arith, gone o above out)
-        | inl held ↦
-            let found = is_order.all o held in
-            elim (cases_lt found.0 i) [
-              | inl before ↦ absurd (unseen (subst (λ (z : ℕ). IsSet seen z) (found.2 s) (carried.done found.0 s before)))
-              | inr later ↦
-                  let falls = is_order.falls i found.0 s later found.1 in
-                  let here : get_or start ((get_or order found.0 s).object - 1) 0 ≡ get_or start (o - 1) 0 = ap (λ (z : ℕ). get_or start (z - 1) 0) (found.2 s) in
-                  let there : get_or start ((get_or order i s).object - 1) 0 ≡ get_or start (s.object - 1) 0 = ap (λ (z : ℕ). get_or start (z - 1) 0) (object_at i s refl) in
-                  omega (arith, falls, here, there)
-            ]
+  -- what is held and wasn't seen has no greater time
+  unseen_below : (o : ℕ) → IsHeld heap o → ¬ IsSet seen o → get_or start (o - 1) 0 ≤ get_or start (s.object - 1) 0
+  unseen_below o held unseen =
+      let found = is_order.all o held in
+      elim (cases_lt found.0 i) [
+        | inl before ↦ absurd (unseen (subst (λ (z : ℕ). IsSet seen z) (found.2 s) (carried.done found.0 s before)))
+        | inr later ↦
+            let falls = is_order.falls i found.0 s later found.1 in
+            let here : get_or start ((get_or order found.0 s).object - 1) 0 ≡ get_or start (o - 1) 0 = ap (λ (z : ℕ). get_or start (z - 1) 0) (found.2 s) in
+            let there : get_or start ((get_or order i s).object - 1) 0 ≡ get_or start (s.object - 1) 0 = ap (λ (z : ℕ). get_or start (z - 1) 0) (object_at i s refl) in
+            omega (arith, falls, here, there)
       ]
 
   first_above : 0 < s.object
@@ -87,7 +85,7 @@ module _ (heap : Objects) (pairs : List (ℕ × ℕ)) (start : List ℕ) (order 
               carries = carried.carries;
               kept = carried.kept;
               followed = carried.followed;
-              above = λ o above set k d le less. carried.above o above set k d (omega arith) less;
+              above = λ u o c set k d le less. carried.above u o c set k d (omega arith) less;
               done = done_more seen (λ x here. here) before;
             }))
         | inr unseen ↦
@@ -97,8 +95,8 @@ module _ (heap : Objects) (pairs : List (ℕ × ℕ)) (start : List ℕ) (order 
             let spread : IsSpread pairs start t times seen [] = record {
               carries = carried.carries;
               kept = carried.kept;
-              above = λ o above set. omega (arith, own, place, carried.above o above set i s (omega arith) lt);
-              below = λ o above out. omega (arith, own, carried.kept o above out, unseen_below o above out);
+              above = λ u o c set. omega (arith, own, place, carried.above u o c set i s (omega arith) lt);
+              below = λ u o c out. let held = targets u o c in omega (arith, own, carried.kept o (held_above heap o none held) out, unseen_below o held out);
               waiting = λ o c. absurd (Contains-none o c);
             } in
             let now = spreads.spreads start unseen spread carried.followed in
@@ -106,10 +104,10 @@ module _ (heap : Objects) (pairs : List (ℕ × ℕ)) (start : List ℕ) (order 
               carries = now.0.carries;
               kept = now.0.kept;
               followed = now.1;
-              above = λ o above set k d le less.
+              above = λ u o c set k d le less.
                   let falls = is_order.falls i k d (omega arith) less in
                   let there : get_or start ((get_or order i d).object - 1) 0 ≡ get_or start (s.object - 1) 0 = ap (λ (z : ℕ). get_or start (z - 1) 0) (object_at i d refl) in
-                  omega (arith, own, falls, there, now.0.above o above set);
+                  omega (arith, own, falls, there, now.0.above u o c set);
               done = done_more seen' spreads.grows spreads.source;
             }
       ]

@@ -1,5 +1,5 @@
 -- What the times of a flush tell.
-use Rattle.std.proofs.Common.{◌≡◌, ℕ, suc, ◌+◌, ◌-◌, ◌<◌, ◌≤◌, ◌↔◌, Bool, true, false, List, [], ◌∷◌, length, get_or, Contains, All, Option, Some, None, refl, sym, ◌∙◌, ap, subst, inl, inr, arith, true≢false}
+use Rattle.std.proofs.Common.{◌≡◌, ℕ, suc, ◌+◌, ◌-◌, ◌<◌, ◌≤◌, ◌⊎◌, ◌↔◌, Bool, true, false, List, [], ◌∷◌, length, get_or, Contains, All, Option, Some, None, refl, sym, ◌∙◌, ap, subst, inl, inr, arith, true≢false}
 use Rattle.std.specs.Prelude.{if◌then◌else◌, not, ◌&&◌}
 use Rattle.std.proofs.lemmas.Bool.{cases_Bool, leb-true, le-leb}
 use Rattle.std.proofs.lemmas.List.Sums.{sum_by-cons}
@@ -7,7 +7,7 @@ use Rattle.et_graph.specs.Graph.{IsWalk, Leads, IsReached, IsDead}
 use Rattle.et_graph.specs.Times.{set_each, unset_count}
 use Rattle.et_graph.proofs.Walks.{cases_reached}
 use Rattle.et_graph.proofs.Carrying.{carried_greatest, set_each_in, set_each_out}
-use Rattle.et_heap.specs.Objects.{ObjectState, Objects, IsHeld, is_there, found, object_at, made_count, held_count, ones_in}
+use Rattle.et_heap.specs.Objects.{ObjectState, Objects, IsHeld, is_there, found, object_at, held_count, ones_in}
 use Rattle.et_heap.specs.Refs.{pairs_of}
 use Rattle.et_heap.specs.Remaining.{kept_referent, left_place, remaining}
 use Rattle.et_heap.proofs.HeapLists.{pair_at, pair_held, held_within, gone_at, at_gone}
@@ -45,7 +45,7 @@ module _ (heap : Objects) (roots stamps times : List ℕ) (none : IsHeld heap 0 
       let here : IsHeld heap u = lead_held heap u o leads held in
       let above : 0 < u = held_above heap u none here in
       let out : ¬ Contains roots u = λ c. unreached (u, c, leads) in
-      set_each_out roots NOW settled.first u (λ r d. held_above heap r none (roots_held r d)) above out ∙ settled.begins.held u above (held_within heap u here) here
+      set_each_out roots NOW settled.first u (λ r d. held_above heap r none (roots_held r d)) above out ∙ settled.begins.held u here
 
   -- the time of an object that isn't reached is the greatest stamp that leads to it
   unreached_time : (o : ℕ) → IsHeld heap o → ¬ IsReached (heap_graph heap roots) o → IsGreatest (heap_graph heap roots) (λ u. get_or stamps u 0) o (get_or times (o - 1) 0)
@@ -182,22 +182,35 @@ visits_at here other k (x ∷ xs) agree weak =
 pub visits_bound : (heap : Objects) (here other : ℕ → Bool) → ((o : ℕ) → IsHeld heap o → here o ≡ other o) → ((u r : ℕ) → (object_at heap u).referent ≡ Some r → IsHeld heap r) → visits_from here 0 heap ≤ held_count heap + cleared_from other 0 heap
 visits_bound heap here other same referents = visits_at here other 0 heap (agrees heap here other same) (λ j r e. same r (referents j r e))
 
-one_few : (b : Bool) (x : Option ObjectState) → (b ≡ true → is_there x) → 1 ≤ (if b then 0 else 1) + ones_in x
-one_few false x there = omega arith
-one_few true None there = absurd (there refl)
-one_few true (Some x) there = omega arith
+one_few : (before after : Bool) (x : Option ObjectState) → (after ≡ true → (before ≡ true) ⊎ is_there x) → (if before then 0 else 1) ≤ (if after then 0 else 1) + ones_in x
+one_few true after x there = omega arith
+one_few false false x there = omega arith
+one_few false true None there = elim (there refl) [ inl e ↦ absurd (true≢false (sym e)) | inr h ↦ absurd h ]
+one_few false true (Some x) there = omega arith
 
--- what was seen is held, so what isn't held wasn't
-seen_few : (flags : List Bool) (xs : Objects) → length flags ≡ length xs → ((j : ℕ) → get_or flags j false ≡ true → is_there (get_or xs j None)) → length flags ≤ unset_count flags + held_count xs
-seen_few [] xs long seen = omega arith
-seen_few (b ∷ flags) [] long seen = omega arith
-seen_few (b ∷ flags) (x ∷ xs) long seen =
-    let rest = seen_few flags xs (omega arith) (λ j s. seen (suc j) s) in
-    let first = one_few b x (λ s. seen 0 s) in
-    omega (arith, sum_by-cons (λ (c : Bool). if c then 0 else 1) b flags, sum_by-cons ones_in x xs)
+-- what was seen since is held
+seen_few : (before after : List Bool) (xs : Objects) → length before ≡ length after → ((j : ℕ) → get_or after j false ≡ true → (get_or before j false ≡ true) ⊎ is_there (get_or xs j None)) → unset_count before ≤ unset_count after + held_count xs
+seen_few [] after xs long seen = omega arith
+seen_few (b ∷ before) [] xs long seen = absurd (omega arith)
+seen_few (b ∷ before) (a ∷ after) [] long seen =
+    let rest = seen_few before after [] (omega arith) (λ j s. seen (suc j) s) in
+    let first = one_few b a None (λ s. seen 0 s) in
+    omega (arith, sum_by-cons (λ (c : Bool). if c then 0 else 1) b before, sum_by-cons (λ (c : Bool). if c then 0 else 1) a after)
+seen_few (b ∷ before) (a ∷ after) (x ∷ xs) long seen =
+    let rest = seen_few before after xs (omega arith) (λ j s. seen (suc j) s) in
+    let first = one_few b a x (λ s. seen 0 s) in
+    omega (arith, sum_by-cons (λ (c : Bool). if c then 0 else 1) b before, sum_by-cons (λ (c : Bool). if c then 0 else 1) a after, sum_by-cons ones_in x xs)
 
-pub few_visits : (heap : Objects) (seen : List Bool) → (IsHeld heap 0 → ⊥) → length seen ≡ made_count heap → AreSeenHeld heap seen → made_count heap ≤ unset_count seen + held_count heap
-few_visits [] seen none long are = omega arith
-few_visits (x ∷ xs) seen none long are =
-    let few = seen_few seen xs (omega arith) (λ j s. are (suc j) (omega arith) (let e : j ≡ suc j - 1 = omega arith in subst (λ (i : ℕ). get_or seen i false ≡ true) e s)) in
-    omega (arith, sum_by-cons ones_in x xs)
+flag_at : (flags : List Bool) (j : ℕ) → get_or flags j false ≡ get_or flags (suc j - 1) false
+flag_at flags j = ap (λ (i : ℕ). get_or flags i false) (let e : j ≡ suc j - 1 = omega arith in e)
+
+seen_at : (before after : List Bool) (xs : Objects) (j : ℕ) → AreSeenHeld xs before after → get_or after j false ≡ true → (get_or before j false ≡ true) ⊎ IsHeld xs (suc j)
+seen_at before after xs j are s =
+    elim (are (suc j) (omega arith) (sym (flag_at after j) ∙ s)) [
+      | inl was ↦ inl (flag_at before j ∙ was)
+      | inr held ↦ inr held
+    ]
+
+pub few_visits : (heap : Objects) (before after : List Bool) → length before ≡ length after → AreSeenHeld heap before after → unset_count before ≤ unset_count after + held_count heap
+few_visits [] before after long are = seen_few before after [] long (λ j s. seen_at before after [] j are s)
+few_visits (x ∷ xs) before after long are = omega (arith, seen_few before after xs long (λ j s. seen_at before after (x ∷ xs) j are s), sum_by-cons ones_in x xs)

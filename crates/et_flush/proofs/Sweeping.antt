@@ -1,8 +1,8 @@
 -- Objects that are swept one after the other.
-use Rattle.std.proofs.Common.{◌≡◌, ℕ, zero, suc, ◌+◌, ◌-◌, ◌<◌, ◌≤◌, Bool, true, false, List, [], ◌∷◌, length, get_or, set, Option, Some, None, refl, sym, ◌∙◌, ap, subst, arith, drop, drop-cons}
+use Rattle.std.proofs.Common.{◌≡◌, ℕ, zero, suc, ◌+◌, ◌-◌, ◌<◌, ◌≤◌, Bool, true, false, List, [], ◌∷◌, length, get_or, set, Option, Some, None, refl, sym, ◌∙◌, ap, subst, inl, inr, arith, drop, drop-cons}
 use Rattle.std.proofs.lemmas.List.{set-get_or, drop_all}
 use Rattle.std.specs.Prelude.{if◌then◌else◌}
-use Rattle.std.proofs.lemmas.Bool.{le-leb}
+use Rattle.std.proofs.lemmas.Bool.{le-leb, cases_lt}
 use Rattle.et_base.specs.declared.value.Value.TheVariants.{Ref}
 use Rattle.et_heap.specs.Objects.{ObjectState, Objects, IsHeld, is_there, at, found, object_at, with_referent, referent_value}
 use Rattle.et_heap.specs.Remaining.{kept_referent, left_place, remaining}
@@ -41,20 +41,34 @@ swept_all here zero k (x ∷ xs) le = absurd (omega arith)
 swept_all here (suc n) k [] le = refl
 swept_all here (suc n) k (x ∷ xs) le = ap (λ (ys : Objects). left_place here (here k) x ∷ ys) (swept_all here n (k + 1) xs (omega arith))
 
--- nothing has the number 0
+-- where nothing is held, nothing changes
 left_none : (here : ℕ → Bool) (b : Bool) (p : Option ObjectState) → (is_there p → ⊥) → left_place here b p ≡ p
 left_none here b None out = refl
 left_none here b (Some x) out = absurd (out tt)
 
-pub swept_first : (here : ℕ → Bool) (xs : Objects) → (IsHeld xs 0 → ⊥) → swept here 1 0 xs ≡ xs
-swept_first here [] none = refl
-swept_first here (x ∷ xs) none = ap (λ (p : Option ObjectState). p ∷ xs) (left_none here (here 0) x none)
+swept_same : (here : ℕ → Bool) (n : ℕ) (xs : Objects) → (IsHeld xs n → ⊥) → swept here (suc n) 0 xs ≡ swept here n 0 xs
+swept_same here n xs out =
+    elim (cases_lt n (length xs)) [
+      | inl lt ↦
+          swept_next here n 0 xs lt
+          ∙ (ap (λ (p : Option ObjectState). set (swept here n 0 xs) n p) (left_none here (here (0 + n)) (get_or xs n None) out ∙ sym (swept_at here n 0 xs))
+          ∙ set-get_or (swept here n 0 xs) n None)
+      | inr past ↦ swept_all here (suc n) 0 xs (omega arith) ∙ sym (swept_all here n 0 xs past)
+    ]
+
+swept_skip : (here : ℕ → Bool) (n m : ℕ) (xs : Objects) → ((u : ℕ) → n ≤ u → u < n + m → IsHeld xs u → ⊥) → swept here (n + m) 0 xs ≡ swept here n 0 xs
+swept_skip here n zero xs out = ap (λ (k : ℕ). swept here k 0 xs) (let e : n + 0 ≡ n = omega arith in e)
+swept_skip here n (suc m) xs out =
+    ap (λ (k : ℕ). swept here k 0 xs) (let e : n + suc m ≡ suc (n + m) = omega arith in e)
+    ∙ (swept_same here (n + m) xs (out (n + m) (omega arith) (omega arith)) ∙ swept_skip here n m xs (λ u le lt. out u le (omega arith)))
+
+-- places where nothing is held are swept
+pub swept_to : (here : ℕ → Bool) (n m : ℕ) (xs : Objects) → n ≤ m → ((u : ℕ) → n ≤ u → u < m → IsHeld xs u → ⊥) → swept here n 0 xs ≡ swept here m 0 xs
+swept_to here n m xs le out =
+    let e : n + (m - n) ≡ m = omega arith in
+    sym (swept_skip here n (m - n) xs (λ u from lt. out u from (omega arith))) ∙ ap (λ (k : ℕ). swept here k 0 xs) e
 
 -- ONE PLACE
-
--- where nothing is held, nothing changes
-pub gone_stays : (here : ℕ → Bool) (b : Bool) (xs : Objects) (o : ℕ) → (IsHeld xs o → ⊥) → xs ≡ set xs o (left_place here b (at xs o))
-gone_stays here b xs o out = sym (ap (λ (p : Option ObjectState). set xs o p) (left_none here b (at xs o) out) ∙ set-get_or xs o None)
 
 taken : (here : ℕ → Bool) (p : Option ObjectState) → None ≡ left_place here false p
 taken here None = refl
@@ -74,9 +88,6 @@ kept_place here b xs ys o held on is =
 no_visit : (here : ℕ → Bool) (b : Bool) (p : Option ObjectState) → (is_there p → ⊥) → visits_of here b p ≡ 0
 no_visit here b None out = refl
 no_visit here b (Some x) out = absurd (out tt)
-
-pub gone_visits : (here : ℕ → Bool) (b : Bool) (xs : Objects) (o visits : ℕ) → (IsHeld xs o → ⊥) → visits ≡ visits + visits_of here b (at xs o)
-gone_visits here b xs o visits out = let e = no_visit here b (at xs o) out in omega arith
 
 none_taken : (here : ℕ → Bool) (p : Option ObjectState) → visits_of here false p ≡ 0
 none_taken here None = refl
@@ -129,10 +140,16 @@ swept_step here xs ys zs n o before same lt is =
 pub place_before : (here : ℕ → Bool) (xs ys : Objects) (n o : ℕ) → ys ≡ swept here n 0 xs → o ≡ n → at ys o ≡ at xs n
 place_before here xs ys n o before same = ap (λ (k : ℕ). at ys k) same ∙ (ap (λ (v : Objects). at v n) before ∙ swept_at here n 0 xs)
 
+pub held_before : (here : ℕ → Bool) (xs ys : Objects) (n o : ℕ) → ys ≡ swept here n 0 xs → o ≡ n → IsHeld xs n → IsHeld ys o
+held_before here xs ys n o before same held = subst is_there (sym (place_before here xs ys n o before same)) held
+
 pub within_before : (here : ℕ → Bool) (xs ys : Objects) (n o m : ℕ) → ys ≡ swept here n 0 xs → o ≡ n → ReferentsWithin m (object_at xs n) → ReferentsWithin m (object_at ys o)
 within_before here xs ys n o m before same within = subst (λ (p : Option ObjectState). ReferentsWithin m (found p)) (sym (place_before here xs ys n o before same)) within
 
 -- THE VISITS OF ALL
+
+pub visits_end : (here : ℕ → Bool) (n : ℕ) (xs : Objects) → length xs ≤ n → visits_from here n (drop n xs) ≡ 0
+visits_end here n xs all = ap (λ (ys : Objects). visits_from here n ys) (drop_all n xs all)
 
 visits_left : (here : ℕ → Bool) (n : ℕ) (xs : Objects) → n < length xs → visits_from here n (drop n xs) ≡ visits_of here (here n) (get_or xs n None) + visits_from here (n + 1) (drop (n + 1) xs)
 visits_left here n xs lt =
@@ -140,9 +157,23 @@ visits_left here n xs lt =
     let place : drop (suc n) xs ≡ drop (n + 1) xs = ap (λ (j : ℕ). drop j xs) (let e : suc n ≡ n + 1 = omega arith in e) in
     ap (λ (ys : Objects). visits_from here n ys) (first ∙ ap (λ (ys : Objects). get_or xs n None ∷ ys) place)
 
-pub visits_first : (here : ℕ → Bool) (xs : Objects) → (IsHeld xs 0 → ⊥) → visits_from here 1 (drop 1 xs) ≡ visits_from here 0 xs
-visits_first here [] none = refl
-visits_first here (x ∷ xs) none = let e : visits_of here (here 0) x ≡ 0 = no_visit here (here 0) x none in omega arith
+visits_same : (here : ℕ → Bool) (n : ℕ) (xs : Objects) → (IsHeld xs n → ⊥) → visits_from here (n + 1) (drop (n + 1) xs) ≡ visits_from here n (drop n xs)
+visits_same here n xs out =
+    elim (cases_lt n (length xs)) [
+      | inl lt ↦ let none = no_visit here (here n) (get_or xs n None) out in omega (arith, visits_left here n xs lt)
+      | inr past ↦ visits_end here (n + 1) xs (omega arith) ∙ sym (visits_end here n xs past)
+    ]
+
+visits_skip : (here : ℕ → Bool) (n m : ℕ) (xs : Objects) → ((u : ℕ) → n ≤ u → u < n + m → IsHeld xs u → ⊥) → visits_from here (n + m) (drop (n + m) xs) ≡ visits_from here n (drop n xs)
+visits_skip here n zero xs out = ap (λ (k : ℕ). visits_from here k (drop k xs)) (let e : n + 0 ≡ n = omega arith in e)
+visits_skip here n (suc m) xs out =
+    ap (λ (k : ℕ). visits_from here k (drop k xs)) (let e : n + suc m ≡ n + m + 1 = omega arith in e)
+    ∙ (visits_same here (n + m) xs (out (n + m) (omega arith) (omega arith)) ∙ visits_skip here n m xs (λ u le lt. out u le (omega arith)))
+
+pub visits_to : (here : ℕ → Bool) (n m : ℕ) (xs : Objects) → n ≤ m → ((u : ℕ) → n ≤ u → u < m → IsHeld xs u → ⊥) → visits_from here n (drop n xs) ≡ visits_from here m (drop m xs)
+visits_to here n m xs le out =
+    let e : n + (m - n) ≡ m = omega arith in
+    sym (visits_skip here n (m - n) xs (λ u from lt. out u from (omega arith))) ∙ ap (λ (k : ℕ). visits_from here k (drop k xs)) e
 
 pub visits_step : (here : ℕ → Bool) (xs ys : Objects) (n o all old v v' : ℕ) → ys ≡ swept here n 0 xs → o ≡ n → n < length xs → v + visits_from here n (drop n xs) ≡ old + all → v' ≡ v + visits_of here (here o) (at ys o) → v' + visits_from here (n + 1) (drop (n + 1) xs) ≡ old + all
 visits_step here xs ys n o all old v v' before same lt sum is =
@@ -151,6 +182,3 @@ visits_step here xs ys n o all old v v' before same lt sum is =
 
 pub swept_end : (here : ℕ → Bool) (xs ys : Objects) (n : ℕ) → ys ≡ swept here n 0 xs → length xs ≤ n → ys ≡ remaining here 0 xs
 swept_end here xs ys n before all = before ∙ swept_all here n 0 xs all
-
-pub visits_end : (here : ℕ → Bool) (n : ℕ) (xs : Objects) → length xs ≤ n → visits_from here n (drop n xs) ≡ 0
-visits_end here n xs all = ap (λ (ys : Objects). visits_from here n ys) (drop_all n xs all)

@@ -56,11 +56,21 @@ held_more heap work x held are o c =
     ]
 
 -- .. and is seen
-pub seen_held : (heap : Objects) (seen : List Bool) (x : ℕ) → x - 1 < length seen → 0 < x → IsHeld heap x → AreSeenHeld heap seen → AreSeenHeld heap (set seen (x - 1) true)
-seen_held heap seen x within above held are o positive s =
+pub seen_held : (heap : Objects) (before seen : List Bool) (x : ℕ) → x - 1 < length seen → 0 < x → IsHeld heap x → AreSeenHeld heap before seen → AreSeenHeld heap before (set seen (x - 1) true)
+seen_held heap before seen x within above held are o positive s =
     elim (set_back seen x within o positive above s) [
-      | inl e ↦ subst (λ (z : ℕ). IsHeld heap z) (sym e) held
-      | inr before ↦ are o positive before
+      | inl e ↦ inr (subst (λ (z : ℕ). IsHeld heap z) (sym e) held)
+      | inr was ↦ are o positive was
+    ]
+
+pub seen_none : (heap : Objects) (seen : List Bool) → AreSeenHeld heap seen seen
+seen_none heap seen o positive s = inl s
+
+pub seen_on : (heap : Objects) (first second third : List Bool) → AreSeenHeld heap first second → AreSeenHeld heap second third → AreSeenHeld heap first third
+seen_on heap first second third f g o positive s =
+    elim (g o positive s) [
+      | inl before ↦ f o positive before
+      | inr held ↦ inr held
     ]
 
 -- no object has the number 0
@@ -69,7 +79,7 @@ held_above heap zero none held = absurd (none held)
 held_above heap (suc o) none held = omega arith
 
 -- what a pair names was made
-pub are_within : (heap : Objects) (n : ℕ) → n + 1 ≡ length heap → (IsHeld heap 0 → ⊥) → ArePairsHeld heap → ArePairsWithin n (pairs_of heap)
+pub are_within : (heap : Objects) (n : ℕ) → length heap ≤ n + 1 → (IsHeld heap 0 → ⊥) → ArePairsHeld heap → ArePairsWithin n (pairs_of heap)
 are_within heap n long none held u x c =
     let from : IsHeld heap u = pair_held heap u x (pair_at heap u x c) in
     let to : IsHeld heap x = held u x c in

@@ -1,5 +1,5 @@
 -- What a search over a heap keeps to.
-use Rattle.std.specs.Prelude.{◌≡◌, ℕ, ◌+◌, ◌-◌, ◌<◌, ◌≤◌, ◌↔◌, Bool, List, length, map, Contains, slice_index, slice_index_or}
+use Rattle.std.specs.Prelude.{◌≡◌, ℕ, ◌+◌, ◌-◌, ◌<◌, ◌≤◌, ◌⊎◌, ◌↔◌, Bool, List, length, map, Contains, slice_index, slice_index_or}
 use Rattle.std.specs.List.Sorted.{IsStrictlyIncreasing}
 use Rattle.et_graph.specs.Times.{IsSet}
 use Rattle.et_heap.specs.Objects.{Objects, IsHeld}
@@ -14,15 +14,19 @@ ArePairsHeld heap = (u o : ℕ) → Contains (pairs_of heap) (u, o) → IsHeld h
 abbrev pub AreHeld : Objects → List ℕ → Type 0
 AreHeld heap objects = (o : ℕ) → Contains objects o → IsHeld heap o
 
--- what was seen is held
-abbrev pub AreSeenHeld : Objects → List Bool → Type 0
-AreSeenHeld heap seen = (o : ℕ) → 0 < o → IsSet seen o → IsHeld heap o
+-- what was seen since is held
+abbrev pub AreSeenHeld : Objects → List Bool → List Bool → Type 0
+AreSeenHeld heap before seen = (o : ℕ) → 0 < o → IsSet seen o → IsSet before o ⊎ IsHeld heap o
 
--- The times as a search begins, the one of object o at o - 1: its stamp, and 0 where it was taken out.
+-- the objects that are held, in rising order
+pub record AreAllHeld (heap : Objects) (held : List ℕ) : Type 0 where
+  pub rising : IsStrictlyIncreasing held
+  pub exact : (o : ℕ) → Contains held o ↔ IsHeld heap o
+
+-- The times as a search begins, the one of object o at o - 1: each object that is held has its stamp.
 pub record AreTimes (heap : Objects) (stamps times : List ℕ) : Type 0 where
-  pub long : length times + 1 ≡ length heap
-  pub held : (o : ℕ) → 0 < o → o < length heap → IsHeld heap o → slice_index times (o - 1) ≡ slice_index stamps o
-  pub gone : (o : ℕ) → 0 < o → ¬ IsHeld heap o → slice_index times (o - 1) ≡ 0
+  pub long : length heap ≤ length times + 1
+  pub held : (o : ℕ) → IsHeld heap o → slice_index times (o - 1) ≡ slice_index stamps o
 
 -- the objects that are held, each with the difference of its time from NOW
 pub record AreSources (heap : Objects) (times : List ℕ) (order : List Source) : Type 0 where

@@ -3,6 +3,7 @@
 #![tactic(auto)]
 
 mod deaths;
+mod held;
 mod machine;
 mod order;
 mod room;

@@ -100,7 +100,7 @@ impl FlushRoom {
             &mut self.work,
             visits,
         );
-        sweep(heap, &self.work.times, visits);
+        sweep(heap, &self.work.held, &self.work.times, visits);
     }
 }
 

@@ -54,8 +54,7 @@ fn visit<L: Ledger>(
         object time times.old seen.old work.old.items times.new seen.new work.new.items }
     ensures held { ArePairsHeld heap.now →
         AreHeld heap.now work.old.items → AreHeld heap.now work.new.items }
-    ensures seen { ArePairsHeld heap.now →
-        AreSeenHeld heap.now seen.old → AreSeenHeld heap.now seen.new }
+    ensures seen { ArePairsHeld heap.now → AreSeenHeld heap.now seen.old seen.new }
     ensures counted { visits.new ≡ visits.old + 1 }
     ensures grows { vec_capacity work.old ≤ vec_capacity work.new }
 {
@@ -80,13 +79,13 @@ pub(crate) fn spread<L: Ledger>(
     requires none { ¬ IsHeld heap.now 0 }
     requires source { IsHeld heap.now source }
     requires pairs { ArePairsHeld heap.now }
-    requires long { length times.old + 1 ≡ length heap.now }
+    requires long { length heap.now ≤ length times.old + 1 }
     requires ready { IsReady times.old seen.old work.old }
     requires empty { work.old.items ≡ [] }
     ensures ready { IsReady times.new seen.new work.new }
     ensures empty { work.new.items ≡ [] }
     ensures spreads { Spreads (pairs_of heap.now) source times.old seen.old times.new seen.new }
-    ensures seen { AreSeenHeld heap.now seen.old → AreSeenHeld heap.now seen.new }
+    ensures seen { AreSeenHeld heap.now seen.old seen.new }
     ensures visits { visits.new + unset_count seen.new ≡ visits.old + unset_count seen.old }
     ensures grows { vec_capacity work.old ≤ vec_capacity work.new }
 {

@@ -2,6 +2,7 @@
 ghost use Rattle.std.specs.Prelude.{◌≡◌, ℕ, ◌+◌, ◌<◌, ◌≤◌, length, slice_set, true, Some};
 ghost use Rattle.et_heap.specs.Objects.{IsHeld, at, object_at};
 ghost use Rattle.et_heap.specs.Remaining.{left_place, remaining};
+ghost use Rattle.et_flush.specs.Searches.{AreAllHeld};
 ghost use Rattle.et_flush.specs.Sweeps.{is_now, ReferentsWithin, visits_of, visits_from};
 
 use crate::search::place_of;
@@ -34,18 +35,15 @@ fn clear_referent<L: Ledger>(
 
 /// Takes an object out whose time is below `NOW`, and clears what another one refers to weakly, where that is below `NOW`.
 fn sweep_one<L: Ledger>(heap: &mut Heap, times: &[u64], object: ObjectId, visits: &mut Steps<L>)
+    requires held { IsHeld heap.old object }
     requires first { 0 < object }
     requires last { object ≤ length times.now }
-    requires long { length times.now + 1 ≡ length heap.old }
     requires within { ReferentsWithin (length times.now) (object_at heap.old object) }
     ensures heap { heap.new ≡ slice_set heap.old object
         (left_place (is_now times.now) (is_now times.now object) (at heap.old object)) }
     ensures visits { visits.new
         ≡ visits.old + visits_of (is_now times.now) (is_now times.now object) (at heap.old object) }
 {
-    if !heap.is_held(object) {
-        return;
-    }
     if times[place_of(object)] < NOW {
         heap.take_out(object);
         return;
@@ -54,14 +52,20 @@ fn sweep_one<L: Ledger>(heap: &mut Heap, times: &[u64], object: ObjectId, visits
 }
 
 /// Takes each object out whose time is below `NOW`, and clears what the others refer to weakly, where that is below `NOW`.
-pub(crate) fn sweep<L: Ledger>(heap: &mut Heap, times: &[u64], visits: &mut Steps<L>)
-    requires long { length times.now + 1 ≡ length heap.old }
+pub(crate) fn sweep<L: Ledger>(
+    heap: &mut Heap,
+    held: &[ObjectId],
+    times: &[u64],
+    visits: &mut Steps<L>,
+)
+    requires held { AreAllHeld heap.old held.now }
+    requires long { length heap.old ≤ length times.now + 1 }
     requires none { ¬ IsHeld heap.old 0 }
     requires within { (o : ℕ) → ReferentsWithin (length times.now) (object_at heap.old o) }
     ensures heap { heap.new ≡ remaining (is_now times.now) 0 heap.old }
     ensures visits { visits.new ≡ visits.old + visits_from (is_now times.now) 0 heap.old }
 {
-    for number in 0..heap.count() {
-        sweep_one(heap, times, ObjectId::new(number + 1), visits);
+    for object in held {
+        sweep_one(heap, times, *object, visits);
     }
 }

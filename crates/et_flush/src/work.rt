@@ -1,13 +1,12 @@
 //! The vectors in which a flush works.
-ghost use Rattle.std.specs.Prelude.{◌≡◌, ℕ, ◌+◌, ◌-◌, ◌<◌, ◌≤◌, [], length, slice_index, vec_capacity, All, Contains, OnOk};
+ghost use Rattle.std.specs.Prelude.{◌≡◌, ℕ, ◌+◌, ◌-◌, ◌<◌, ◌≤◌, [], length, max, vec_capacity, All, Contains, OnOk};
 ghost use Rattle.et_graph.specs.Listing.{death_pairs};
-ghost use Rattle.et_graph.specs.Times.{set_each, Carries, AreSettled, IsSet, IsReady, unset_count};
-ghost use Rattle.et_heap.specs.Objects.{IsHeld, made_count};
-ghost use Rattle.et_heap.specs.Refs.{pairs_of};
-ghost use Rattle.et_flush.specs.Searches.{ArePairsHeld, AreSeenHeld, AreBelow};
-ghost use Rattle.et_flush.specs.Works.{HasPlaces, IsSettled};
+ghost use Rattle.et_heap.specs.Objects.{IsHeld, made_count, held_count};
+ghost use Rattle.et_flush.specs.Searches.{ArePairsHeld, AreSeenHeld, AreAllHeld, AreBelow};
+ghost use Rattle.et_flush.specs.Works.{HasPlaces, IsPrepared, IsSettled};
 
 use crate::deaths::list_deaths;
+use crate::held::list_held;
 use crate::order::{Source, order_sources, spread_all};
 use crate::times::{NOW, write_roots, write_times};
 use et_base::{ObjectId, Steps, within};
@@ -16,12 +15,14 @@ use et_heap::Heap;
 use std::alloc::{AllocError, Global};
 use std::sync::ledger::Ledger;
 
-/// What a flush works in. The entry of object `o` is at `o - 1`.
+/// What a flush works in. The entry of object `o` is at `o - 1` of `times` and of `seen`; those of objects that aren't held
+/// are left over from earlier flushes, and nothing reads them. The lists are as long as objects are held.
 #[derive(Drop)]
 pub(crate) struct Work {
     pub times: Vec<u64>,
     pub seen: Vec<bool>,
     pub waiting: Vec<ObjectId>,
+    pub held: Vec<ObjectId>,
     pub order: Vec<Source>,
     pub deaths: Vec<Death>,
 }
@@ -35,13 +36,26 @@ pub(crate) fn no_work(alloc: Global) -> Work
         times: Vec::new(alloc),
         seen: Vec::new(alloc),
         waiting: Vec::new(alloc),
+        held: Vec::new(alloc),
         order: Vec::new(alloc),
         deaths: Vec::new(alloc),
     }
 }
 
+/// Makes a vector this long, with copies of `value` at the end, where it is shorter.
+fn lengthen<T: Copy + Drop>(v: &mut Vec<T>, count: usize, value: T)
+    requires room { count ≤ vec_capacity v.old }
+    ensures long { length v.new.items ≡ max (length v.old.items) count }
+    ensures grows { vec_capacity v.old ≤ vec_capacity v.new }
+{
+    if v.len() < count {
+        within::resize(v, count, value);
+    }
+}
+
 /// Makes places for so many objects.
 pub(crate) fn reserve(work: &mut Work, count: usize) -> Result<(), AllocError>
+    requires { HasPlaces 0 work.old }
     ensures ok { OnOk result (HasPlaces count work.new) }
     ensures kept { (n : ℕ) → HasPlaces n work.old → HasPlaces n work.new }
     ensures deaths { work.new.deaths.items ≡ work.old.deaths.items }
@@ -49,45 +63,32 @@ pub(crate) fn reserve(work: &mut Work, count: usize) -> Result<(), AllocError>
     within::reserve(&mut work.times, count)?;
     within::reserve(&mut work.seen, count)?;
     within::reserve(&mut work.waiting, count)?;
+    within::reserve(&mut work.held, count)?;
     within::reserve(&mut work.order, count)?;
     within::reserve(&mut work.deaths, count)?;
+    lengthen(&mut work.times, count, 0);
+    lengthen(&mut work.seen, count, false);
     Ok(())
 }
 
-/// Writes `NOW` at the roots, and carries the times as far as references lead.
-fn carry<L: Ledger>(
-    heap: &Heap,
-    roots: &[ObjectId],
-    times: &mut [u64],
-    order: &mut Vec<Source>,
-    seen: &mut [bool],
-    waiting: &mut Vec<ObjectId>,
-    visits: &mut Steps<L>,
-)
+/// Lists the objects that are held, gives them their times, and orders them by these.
+fn prepare(heap: &Heap, roots: &[ObjectId], stamps: &[u64], work: &mut Work)
     requires none { ¬ IsHeld heap.now 0 }
     requires roots { (o : ℕ) → Contains roots.now o → IsHeld heap.now o }
-    requires pairs { ArePairsHeld heap.now }
-    requires long { length times.old + 1 ≡ length heap.now }
-    requires below { All (λ t. t ≤ NOW) times.old }
-    requires gone { (o : ℕ) → 0 < o → ¬ IsHeld heap.now o → slice_index times.old (o - 1) ≡ 0 }
-    requires room { length times.old ≤ vec_capacity order.old }
-    requires ready { IsReady times.old seen.old waiting.old }
-    requires empty { waiting.old.items ≡ [] }
-    requires unseen { (o : ℕ) → ¬ IsSet seen.old o }
-    ensures carries { Carries (pairs_of heap.now) (set_each roots.now NOW times.old) times.new }
-    ensures settled { AreSettled (pairs_of heap.now) times.new }
-    ensures order { vec_capacity order.old ≤ vec_capacity order.new }
-    ensures waiting { vec_capacity waiting.old ≤ vec_capacity waiting.new }
-    ensures seen { AreSeenHeld heap.now seen.new }
-    ensures visits { visits.new + unset_count seen.new ≡ visits.old + unset_count seen.old }
+    requires long { length heap.now ≤ length stamps.now }
+    requires below { All (λ t. t < NOW) stamps.now }
+    requires places { HasPlaces (made_count heap.now) work.old }
+    ensures prepared { IsPrepared heap.now roots.now stamps.now work.new }
+    ensures places { (n : ℕ) → HasPlaces n work.old → HasPlaces n work.new }
 {
-    write_roots(times, roots);
-    order_sources(heap, times, order);
-    spread_all(heap, order, times, seen, waiting, visits);
+    list_held(heap, &mut work.held);
+    write_times(&work.held, stamps, &mut work.times, &mut work.seen);
+    write_roots(&mut work.times, roots);
+    order_sources(&work.held, &work.times, &mut work.order);
 }
 
-/// Finds the time of each object: `NOW` where it is reached, else the greatest stamp that leads to it. Each object that is
-/// held is visited once at most.
+/// Finds the time of each object that is held: `NOW` where it is reached, else the greatest stamp that leads to it. Each is
+/// visited once at most.
 pub(crate) fn settle<L: Ledger>(
     heap: &Heap,
     roots: &[ObjectId],
@@ -102,21 +103,16 @@ pub(crate) fn settle<L: Ledger>(
     requires below { All (λ t. t < NOW) stamps.now }
     requires places { HasPlaces (made_count heap.now) work.old }
     ensures settled { IsSettled heap.now roots.now stamps.now work.new.times.items }
+    ensures held { AreAllHeld heap.now work.new.held.items }
     ensures places { (n : ℕ) → HasPlaces n work.old → HasPlaces n work.new }
-    ensures seen { AreSeenHeld heap.now work.new.seen.items }
-    ensures visits { visits.new + unset_count work.new.seen.items
-        ≡ visits.old + made_count heap.now }
-    ensures length { length work.new.seen.items ≡ made_count heap.now }
+    ensures visits { visits.new ≤ visits.old + held_count heap.now }
 {
-    write_times(heap, stamps, &mut work.times);
+    prepare(heap, roots, stamps, work);
     work.waiting.clear();
-    work.seen.clear();
-    within::resize(&mut work.seen, work.times.len(), false);
-    carry(
+    spread_all(
         heap,
-        roots,
+        &work.order,
         &mut work.times,
-        &mut work.order,
         &mut work.seen,
         &mut work.waiting,
         visits,
@@ -138,13 +134,11 @@ pub(crate) fn find_deaths<L: Ledger>(
     requires below { All (λ t. t < NOW) stamps.now }
     requires places { HasPlaces (made_count heap.now) work.old }
     ensures settled { IsSettled heap.now roots.now stamps.now work.new.times.items }
+    ensures held { AreAllHeld heap.now work.new.held.items }
     ensures deaths { AreBelow heap.now work.new.times.items (death_pairs work.new.deaths.items) }
     ensures places { (n : ℕ) → HasPlaces n work.old → HasPlaces n work.new }
-    ensures seen { AreSeenHeld heap.now work.new.seen.items }
-    ensures visits { visits.new + unset_count work.new.seen.items
-        ≡ visits.old + made_count heap.now }
-    ensures length { length work.new.seen.items ≡ made_count heap.now }
+    ensures visits { visits.new ≤ visits.old + held_count heap.now }
 {
     settle(heap, roots, stamps, work, visits);
-    list_deaths(heap, &work.times, &mut work.deaths);
+    list_deaths(&work.held, &work.times, &mut work.deaths);
 }

@@ -25,7 +25,7 @@ carrying_source pairs o t n times seen pairs_within long above within time unsee
       grows = λ x s. set_keeps seen o seen_within x s;
       spreads = λ start spread followed.
           let carry : Carries pairs times (set times (o - 1) t) = subst (λ (v : ℕ). Carries pairs times (set times (o - 1) v)) (sym time) (carry_own pairs times o) in (
-            mark_spread pairs start t times seen o long above within unseen [] carry spread,
+            mark_spread pairs start t times seen o long above within unseen n [] pairs_within carry spread,
             mark_followed pairs start t times seen o long above within unseen n (λ v. ⊥) (λ v. Contains (o ∷ []) v) pairs_within (λ v none. absurd none) (0, omega arith, refl) followed,
           );
     }
@@ -69,7 +69,7 @@ pub record AreCarried (pairs : List (ℕ × ℕ)) (start : List ℕ) (order : Li
   pub carries : Carries pairs start times
   pub kept : (o : ℕ) → 0 < o → ¬ IsSet seen o → get_or times (o - 1) 0 ≡ get_or start (o - 1) 0
   pub followed : AreFollowed pairs times seen (λ v. ⊥)
-  pub above : (o : ℕ) → 0 < o → IsSet seen o → (k : ℕ) (d : Source) → i ≤ k → k < length order → get_or start ((get_or order k d).object - 1) 0 ≤ get_or times (o - 1) 0
+  pub above : (u o : ℕ) → Contains pairs (u, o) → IsSet seen o → (k : ℕ) (d : Source) → i ≤ k → k < length order → get_or start ((get_or order k d).object - 1) 0 ≤ get_or times (o - 1) 0
   pub done : (k : ℕ) (d : Source) → k < i → IsSet seen (get_or order k d).object
 
 pub none_carried : (pairs : List (ℕ × ℕ)) (start : List ℕ) (order : List Source) (seen : List Bool) → ((o : ℕ) → ¬ IsSet seen o) → AreCarried pairs start order 0 start seen
@@ -77,12 +77,12 @@ none_carried pairs start order seen unseen = record {
   carries = carries_none pairs start;
   kept = λ o _ _. refl;
   followed = λ u x c s. absurd (unseen u s);
-  above = λ o _ s. absurd (unseen o s);
+  above = λ _ o _ s. absurd (unseen o s);
   done = λ k d lt. absurd (omega arith);
 }
 
 module _ (pairs : List (ℕ × ℕ)) (start : List ℕ) (order : List Source) (i : ℕ) (s : Source) (times : List ℕ) (seen : List Bool)
-    (is_order : IsOrder start order) (lt : i < length order) (is : s ≡ get_or order i s)
+    (pairs_within : ArePairsWithin (length start) pairs) (is_order : IsOrder start order) (lt : i < length order) (is : s ≡ get_or order i s)
     (carried : AreCarried pairs start order i times seen) where
   object_at : (k : ℕ) (d : Source) → k ≡ i → (get_or order k d).object ≡ s.object
   object_at k d e = ap (λ (j : ℕ). (get_or order j d).object) e ∙ ap (λ (z : Source). z.object) (get_or_default order i d s lt ∙ sym is)
@@ -126,7 +126,7 @@ module _ (pairs : List (ℕ × ℕ)) (start : List ℕ) (order : List Source) (i
               carries = carried.carries;
               kept = carried.kept;
               followed = carried.followed;
-              above = λ o above set k d le less. carried.above o above set k d (omega arith) less;
+              above = λ u o c set k d le less. carried.above u o c set k d (omega arith) less;
               done = done_more seen (λ x here. here) before;
             }))
         | inr unseen ↦
@@ -136,8 +136,8 @@ module _ (pairs : List (ℕ × ℕ)) (start : List ℕ) (order : List Source) (i
             let spread : IsSpread pairs start t times seen [] = record {
               carries = carried.carries;
               kept = carried.kept;
-              above = λ o above set. omega (arith, own, place, carried.above o above set i s (omega arith) lt);
-              below = λ o above out. omega (arith, own, carried.kept o above out, unseen_below o above out);
+              above = λ u o c set. omega (arith, own, place, carried.above u o c set i s (omega arith) lt);
+              below = λ u o c out. let above = (pairs_within u o c).2 in omega (arith, own, carried.kept o above out, unseen_below o above out);
               waiting = λ o c. absurd (Contains-none o c);
             } in
             let now = spreads.spreads start unseen spread carried.followed in
@@ -145,10 +145,10 @@ module _ (pairs : List (ℕ × ℕ)) (start : List ℕ) (order : List Source) (i
               carries = now.0.carries;
               kept = now.0.kept;
               followed = now.1;
-              above = λ o above set k d le less.
+              above = λ u o c set k d le less.
                   let falls = is_order.falls i k d (omega arith) less in
                   let there : get_or start ((get_or order i d).object - 1) 0 ≡ get_or start (s.object - 1) 0 = ap (λ (z : ℕ). get_or start (z - 1) 0) (object_at i d refl) in
-                  omega (arith, own, falls, there, now.0.above o above set);
+                  omega (arith, own, falls, there, now.0.above u o c set);
               done = done_more seen' spreads.grows spreads.source;
             }
       ]

@@ -72,15 +72,17 @@ module _ (pairs : List (ℕ × ℕ)) (start : List ℕ) (t : ℕ) (times : List 
   here_time : get_or (set times (x - 1) t) (x - 1) 0 ≡ t
   here_time = get_or-set_same times (x - 1) t 0 within
 
-  pub mark_spread : (work : List ℕ) → Carries pairs times (set times (x - 1) t) → IsSpread pairs start t times seen work → IsSpread pairs start t (set times (x - 1) t) (set seen (x - 1) true) (work ++ x ∷ [])
-  mark_spread work carry spread = record {
+  pub mark_spread : (n : ℕ) (work : List ℕ) → ArePairsWithin n pairs → Carries pairs times (set times (x - 1) t) → IsSpread pairs start t times seen work → IsSpread pairs start t (set times (x - 1) t) (set seen (x - 1) true) (work ++ x ∷ [])
+  mark_spread n work pairs_within carry spread = record {
     carries = carries_more pairs start times (set times (x - 1) t) spread.carries carry;
     kept = λ o po out. unseen_time o out ∙ spread.kept o po (still_unseen o out);
-    above = λ o po s. elim (set_back seen x seen_within o po px s) [
-      | inl e ↦ omega (arith, here_time, ap (λ (z : ℕ). get_or (set times (x - 1) t) (z - 1) 0) e)
-      | inr before ↦ omega (arith, other_time o po before, spread.above o po before)
-    ];
-    below = λ o po out. omega (arith, unseen_time o out, spread.below o po (still_unseen o out));
+    above = λ u o c s.
+        let po : 0 < o = (pairs_within u o c).2 in
+        elim (set_back seen x seen_within o po px s) [
+          | inl e ↦ omega (arith, here_time, ap (λ (z : ℕ). get_or (set times (x - 1) t) (z - 1) 0) e)
+          | inr before ↦ omega (arith, other_time o po before, spread.above u o c before)
+        ];
+    below = λ u o c out. omega (arith, unseen_time o out, spread.below u o c (still_unseen o out));
     waiting = λ o c. elim (Contains-push_cases work x o c) [
       | inl d ↦ let w = spread.waiting o d in (w.0, set_keeps seen x seen_within o w.1, other_time o w.0 w.1 ∙ w.2)
       | inr e ↦ subst (λ (z : ℕ). (0 < z) × IsSet (set seen (x - 1) true) z × (get_or (set times (x - 1) t) (z - 1) 0 ≡ t)) e (px, set_here seen x seen_within, here_time)
@@ -103,7 +105,7 @@ pub carry_pair : (pairs : List (ℕ × ℕ)) (start : List ℕ) (t n : ℕ) (tim
 carry_pair pairs start t n times seen work u x pairs_within c within time unseen spread =
     let at = pairs_within u x c in
     subst (λ (v : ℕ). Carries pairs times (set times (x - 1) v)) time
-    (carries_one pairs times u x c at.0 at.2 within (omega (arith, time, spread.below x at.2 unseen)))
+    (carries_one pairs times u x c at.0 at.2 within (omega (arith, time, spread.below u x c unseen)))
 
 -- its own time is carried to an object
 pub carry_own : (pairs : List (ℕ × ℕ)) (times : List ℕ) (x : ℕ) → Carries pairs times (set times (x - 1) (get_or times (x - 1) 0))
@@ -130,15 +132,15 @@ popped_followed pairs times seen work o followed u x c s =
     ]
 
 -- all targets of o were seen
-pub visited_followed : (pairs : List (ℕ × ℕ)) (start : List ℕ) (t n o : ℕ) (times : List ℕ) (seen : List Bool) (work : List ℕ) → ArePairsWithin n pairs → IsSpread pairs start t times seen work → get_or times (o - 1) 0 ≡ t → ((x : ℕ) → Contains pairs (o, x) → IsSet seen x) → AreFollowed pairs times seen (λ v. Contains work v ⊎ (v ≡ o)) → AreFollowed pairs times seen (λ v. Contains work v)
-visited_followed pairs start t n o times seen work pairs_within spread time targets followed u x c s =
+pub visited_followed : (pairs : List (ℕ × ℕ)) (start : List ℕ) (t o : ℕ) (times : List ℕ) (seen : List Bool) (work : List ℕ) → IsSpread pairs start t times seen work → get_or times (o - 1) 0 ≡ t → ((x : ℕ) → Contains pairs (o, x) → IsSet seen x) → AreFollowed pairs times seen (λ v. Contains work v ⊎ (v ≡ o)) → AreFollowed pairs times seen (λ v. Contains work v)
+visited_followed pairs start t o times seen work spread time targets followed u x c s =
     elim (followed u x c s) [
       | inl w ↦ elim w [
         | inl d ↦ inl d
         | inr e ↦
             let c' : Contains pairs (o, x) = subst (λ (z : ℕ). Contains pairs (z, x)) e c in
             let seen_x : IsSet seen x = targets x c' in
-            inr (seen_x, omega (arith, spread.above x (pairs_within u x c).2 seen_x, time, ap (λ (z : ℕ). get_or times (z - 1) 0) e))
+            inr (seen_x, omega (arith, spread.above o x c' seen_x, time, ap (λ (z : ℕ). get_or times (z - 1) 0) e))
       ]
       | inr r ↦ inr r
     ]

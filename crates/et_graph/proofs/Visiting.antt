@@ -39,7 +39,7 @@ visiting_mark pairs o t n times seen work times' seen' work' x pairs_within c lo
       spreads = λ start spread s time followed.
           let now = visiting.spreads start spread s time followed in
           let carry = carry_pair pairs start t n times' seen' work' o x pairs_within c within now.2 unseen now.0 in (
-            mark_spread pairs start t times' seen' x long at.2 within unseen work' carry now.0,
+            mark_spread pairs start t times' seen' x long at.2 within unseen n work' pairs_within carry now.0,
             mark_followed pairs start t times' seen' x long at.2 within unseen n (λ v. Contains work' v ⊎ (v ≡ o)) (λ v. Contains (work' ++ x ∷ []) v ⊎ (v ≡ o)) pairs_within
                 (λ v. elim [ inl d ↦ inl (Contains-append_left work' (x ∷ []) v d) | inr e ↦ inr e ])
                 (inl (Contains-append_right work' (x ∷ []) x (Contains-here x []))) now.1,
@@ -48,16 +48,16 @@ visiting_mark pairs o t n times seen work times' seen' work' x pairs_within c lo
     }
 
 -- all targets were seen
-pub visiting_all : (pairs : List (ℕ × ℕ)) (o t n : ℕ) (times : List ℕ) (seen : List Bool) (work times' : List ℕ) (seen' : List Bool) (work' : List ℕ)
-    → ArePairsWithin n pairs → ((x : ℕ) → Contains pairs (o, x) → IsSet seen' x)
+pub visiting_all : (pairs : List (ℕ × ℕ)) (o t : ℕ) (times : List ℕ) (seen : List Bool) (work times' : List ℕ) (seen' : List Bool) (work' : List ℕ)
+    → ((x : ℕ) → Contains pairs (o, x) → IsSet seen' x)
     → IsVisiting pairs o t times seen work times' seen' work' → Visits pairs o t times seen work times' seen' work'
-visiting_all pairs o t n times seen work times' seen' work' pairs_within targets visiting = record {
+visiting_all pairs o t times seen work times' seen' work' targets visiting = record {
   grows = visiting.grows;
   spent = visiting.spent;
   fewer = visiting.fewer;
   spreads = λ start spread s time followed.
       let now = visiting.spreads start spread s time followed in
-      (now.0, visited_followed pairs start t n o times' seen' work' pairs_within now.0 now.2 targets now.1);
+      (now.0, visited_followed pairs start t o times' seen' work' now.0 now.2 targets now.1);
 }
 
 -- the targets of the first pairs were seen

@@ -45,14 +45,14 @@ pub record IsReady (times : List ℕ) (seen : List Bool) (work : Vec ℕ) : Type
   pub fits : length work.items + unset_count seen ≤ length times
   pub room : length times ≤ vec_capacity work
 
--- A search carries the time t from the objects that are in its work. It began with the times of start, and those that
--- it has seen before have t or more.
+-- A search carries the time t from the objects that are in its work. It began with the times of start, and of the
+-- objects to which pairs lead, those that it has seen have t or more, and the others t or less.
 pub record IsSpread (pairs : List (ℕ × ℕ)) (start : List ℕ) (t : ℕ)
     (times : List ℕ) (seen : List Bool) (work : List ℕ) : Type 0 where
   pub carries : Carries pairs start times
   pub kept : (o : ℕ) → 0 < o → ¬ IsSet seen o → slice_index times (o - 1) ≡ slice_index start (o - 1)
-  pub above : (o : ℕ) → 0 < o → IsSet seen o → t ≤ slice_index times (o - 1)
-  pub below : (o : ℕ) → 0 < o → ¬ IsSet seen o → slice_index times (o - 1) ≤ t
+  pub above : (u o : ℕ) → Contains pairs (u, o) → IsSet seen o → t ≤ slice_index times (o - 1)
+  pub below : (u o : ℕ) → Contains pairs (u, o) → ¬ IsSet seen o → slice_index times (o - 1) ≤ t
   pub waiting : (o : ℕ) → Contains work o → (0 < o) × IsSet seen o × (slice_index times (o - 1) ≡ t)
 
 -- the pairs of each object that was seen were followed, but for those of which P holds

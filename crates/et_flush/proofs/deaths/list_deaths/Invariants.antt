@@ -4,9 +4,9 @@ use Rattle.et_graph.specs.Listing.{death_pairs}
 use Rattle.et_flush.proofs.Dying.{AreListedTo}
 use Rattle.et_flush.proofs.deaths.list_deaths.Given as goal
 
-abbrev pub invariant-loop-number : goal.invariant-loop-number
-invariant-loop-number l = record {
-  few : length l.deaths.items ≤ l.number;
-  listed : AreListedTo l.heap l.times l.number (death_pairs l.deaths.items);
+abbrev pub invariant-loop-object : goal.invariant-loop-object
+invariant-loop-object l = record {
+  few : length l.deaths.items ≤ l.object-index;
+  listed : AreListedTo l.held l.times l.object-index (death_pairs l.deaths.items);
   room : vec_capacity l.fn.deaths ≤ vec_capacity l.deaths;
 }

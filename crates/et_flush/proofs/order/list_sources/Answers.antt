@@ -1,57 +1,47 @@
-use Rattle.std.proofs.Common.{◌≡◌, ℕ, ◌+◌, ◌-◌, ◌<◌, ◌≤◌, [], ◌∷◌, ◌++◌, length, get_or, sym, ◌∙◌, ap, subst, arith, refl, true≢false}
-use Rattle.std.proofs.lemmas.List.{length-append}
-use Rattle.et_heap.specs.Objects.{IsHeld}
-use Rattle.et_heap.proofs.HeapLists.{held_within}
+use Rattle.std.proofs.Common.{◌≡◌, ℕ, ◌-◌, [], ◌∷◌, length, get_or, ap, sym, ◌∙◌, arith}
+use Rattle.std.proofs.lemmas.List.{length-append, get_or_default}
 use Rattle.et_flush.specs.declared.times.TheConstants.{NOW}
 use Rattle.et_flush.specs.declared.order.Source.{Source}
-use Rattle.et_flush.proofs.Listings.{each_none, all_none, each_more, all_more, all_skip}
+use Rattle.et_flush.proofs.Listings.{each_none, each_more, all_more, sources_are}
 use Rattle.et_flush.proofs.order.list_sources.Goals as goal
-use Rattle.et_flush.proofs.order.list_sources.Goals.{then-is_held, else-is_held}
 
-pub loop-number-init : goal.loop-number-init
-loop-number-init c = record {
+pub loop-object-init : goal.loop-object-init
+loop-object-init c = record {
   few = omega (arith, ap length c.clear.ensures.items);
-  each = each_none c.args.heap.now c.args.times.now c.clear.new.self.items c.clear.ensures.items;
-  all = all_none c.args.heap.now c.clear.new.self.items c.requires.none;
+  each = each_none c.args.held.now c.args.times.now c.clear.new.self.items c.clear.ensures.items;
+  all = λ k lt. absurd (omega arith);
   room = omega (arith, c.clear.ensures.capacity);
 }
 
-pub push-requires : goal.push-requires
-push-requires c = record { room = omega (arith, c.loop-number.order.ok.0, c.count-number-end.ensures.value) }
+pub place_of-requires : goal.place_of-requires
+place_of-requires c = (c.requires.within c.object-item.result (c.loop-object.object-index, c.loop-object-test.true, sym c.object-item.is)).0
 
-pub loop-number-preserved : goal.loop-number-preserved
-loop-number-preserved c =
-    let n : ℕ = c.loop-number.number in
-    let o : ℕ = c.new-object.result in
-    let number : o ≡ n + 1 = c.new-object.ensures in
-    let place : n ≡ o - 1 = omega arith in
-    let inside : n < length c.args.times.now = omega (arith, c.count-number-end.ensures.value) in
-    elim c.if-is_held.branch [
-      | then-is_held w ↦
-          let x : Source = record { age = NOW - get_or c.args.times.now n 0; object = o } in
-          let held : IsHeld c.args.heap.now o = w.if-is_held.ensures.0 refl in
-          let push : c.if-is_held.order.items ≡ c.loop-number.order.items ++ x ∷ [] = ap (λ v. v.items) w.order-is ∙ w.push.ensures.items in
-          record {
-            few = omega (arith, ap length push, length-append c.loop-number.order.items (x ∷ []));
-            each =
-                each_more c.args.heap.now c.args.times.now c.loop-number.order.items c.if-is_held.order.items x push c.loop-number.invariant.each held
-                (ap (λ (k : ℕ). NOW - get_or c.args.times.now k 0) place)
-                (subst (λ (k : ℕ). get_or c.args.times.now k 0 ≤ NOW) place (c.requires.below n 0 inside));
-            all = all_more c.args.heap.now c.args.times.now c.loop-number.order.items c.if-is_held.order.items x push n c.loop-number.invariant.all number;
-            room = rw w.order-is (omega (arith, w.push.ensures.grows));
-          }
-      | else-is_held w ↦
-          let out : IsHeld c.args.heap.now (n + 1) → ⊥ = λ h. true≢false (sym (w.if-is_held.ensures.1 (subst (λ (k : ℕ). IsHeld c.args.heap.now k) (sym number) h))) in
-          rw w.order-is (record {
-            few = omega arith;
-            each = c.loop-number.invariant.each;
-            all = all_skip c.args.heap.now c.loop-number.order.items n out c.loop-number.invariant.all;
-            room = omega arith;
-          })
-    ]
+pub bounds-times-place_of : goal.bounds-times-place_of
+bounds-times-place_of c = omega (arith, c.requires.within c.object-item.result (c.loop-object.object-index, c.loop-object-test.true, sym c.object-item.is), c.place_of.ensures.place)
+
+pub overflow_sub-age : goal.overflow_sub-age
+overflow_sub-age c =
+    let place : c.object-item.result - 1 ≡ c.place_of.result = omega (arith, c.place_of.ensures.place) in
+    omega (arith, c.requires.below c.object-item.result (c.loop-object.object-index, c.loop-object-test.true, sym c.object-item.is), ap (λ (k : ℕ). get_or c.args.times.now k 0) place)
+
+pub push-requires : goal.push-requires
+push-requires c = record { room = omega (arith, c.loop-object.order.ok.0, c.loop-object.invariant.few, c.loop-object.invariant.room, c.loop-object-test.true, c.requires.room) }
+
+pub loop-object-preserved : goal.loop-object-preserved
+loop-object-preserved c =
+    let o : ℕ = c.object-item.result in
+    let place : c.place_of.result ≡ o - 1 = omega (arith, c.place_of.ensures.place) in
+    let x : Source = record { age = NOW - get_or c.args.times.now c.place_of.result 0; object = o } in
+    record {
+      few = omega (arith, ap length c.push.ensures.items, length-append c.loop-object.order.items (x ∷ []), c.loop-object.invariant.few);
+      each =
+          each_more c.args.held.now c.args.times.now c.loop-object.order.items c.push.new.v.items x c.push.ensures.items c.loop-object.invariant.each (c.loop-object.object-index, c.loop-object-test.true, sym c.object-item.is)
+          (ap (λ (k : ℕ). NOW - get_or c.args.times.now k 0) place) (c.requires.below o (c.loop-object.object-index, c.loop-object-test.true, sym c.object-item.is));
+      all =
+          all_more c.args.held.now c.args.times.now c.loop-object.order.items c.push.new.v.items x c.push.ensures.items c.loop-object.object-index c.loop-object.invariant.all
+          (c.object-item.is ∙ get_or_default c.args.held.now c.loop-object.object-index o 0 c.loop-object-test.true);
+      room = omega (arith, c.push.ensures.grows, c.loop-object.invariant.room);
+    }
 
 pub returns-clause-sources : goal.returns-clause-sources
-returns-clause-sources c = record {
-  each = c.loop-number.invariant.each;
-  all = λ o held. let lt : o < length c.args.heap.now = held_within c.args.heap.now o held in c.loop-number.invariant.all o (omega (arith, c.count-number-end.ensures.value)) held;
-}
+returns-clause-sources c = λ heap are. sources_are heap c.args.held.now c.args.times.now c.loop-object.order.items c.loop-object.object-index are c.loop-object-test.false c.loop-object.invariant.each c.loop-object.invariant.all

@@ -6,5 +6,6 @@ use Rattle.et_flush.proofs.order.order_sources.Goals as goal
 
 pub returns-clause-order : goal.returns-clause-order
 returns-clause-order c =
-    order_is c.args.heap.now c.args.times.now c.list_sources.new.order.items c.sort_unstable_by_key.new.self.items c.list_sources.ensures.sources c.sort_unstable_by_key.ensures.permutation
+    λ heap are.
+    order_is heap c.args.times.now c.list_sources.new.order.items c.sort_unstable_by_key.new.self.items (c.list_sources.ensures.sources heap are) c.sort_unstable_by_key.ensures.permutation
     (IsNonDecreasingBy-from_sort_by_key (λ (s : Source). s.age) _ c.sort_unstable_by_key.ensures.sorted (λ a r q k. search rules))

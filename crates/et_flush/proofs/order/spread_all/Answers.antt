@@ -1,5 +1,7 @@
 use Rattle.std.proofs.Common.{refl, sym, arith}
 use Rattle.et_heap.specs.Refs.{pairs_of}
+use Rattle.et_heap.proofs.HeapLists.{pair_at, pair_held}
+use Rattle.et_flush.proofs.Targets.{seen_none, seen_on}
 use Rattle.et_flush.proofs.Orders.{none_carried, carried_more, carried_all}
 use Rattle.et_flush.proofs.order.spread_all.Goals as goal
 
@@ -7,8 +9,11 @@ pub loop-source-init : goal.loop-source-init
 loop-source-init g c = record {
   ready = c.requires.ready;
   empty = c.requires.empty;
-  carried = none_carried (pairs_of c.args.heap.now) c.args.times.now c.args.order.now c.args.seen.now c.requires.unseen;
-  held = λ o above s. absurd (c.requires.unseen o s);
+  carried =
+      none_carried (pairs_of c.args.heap.now) c.args.times.now c.args.order.now c.args.seen.now
+      (λ u x d. c.requires.unseen u (pair_held c.args.heap.now u x (pair_at c.args.heap.now u x d)))
+      (λ u x d. c.requires.unseen x (c.requires.pairs u x d));
+  held = seen_none c.args.heap.now c.args.seen.now;
   room = omega arith;
   visits = refl;
 }
@@ -22,8 +27,8 @@ loop-source-preserved g c = record {
   empty = c.spread.ensures.empty;
   carried =
       carried_more c.args.heap.now (pairs_of c.args.heap.now) c.args.times.now c.args.order.now c.loop-source.source-index c.source-item.result c.loop-source.times c.loop-source.seen
-      c.requires.none c.requires.gone c.requires.order c.loop-source-test.true c.source-item.is c.loop-source.invariant.carried c.spread.new.times c.spread.new.seen c.spread.ensures.spreads;
-  held = c.spread.ensures.seen c.loop-source.invariant.held;
+      c.requires.none c.requires.pairs c.requires.order c.loop-source-test.true c.source-item.is c.loop-source.invariant.carried c.spread.new.times c.spread.new.seen c.spread.ensures.spreads;
+  held = seen_on c.args.heap.now c.args.seen.now c.loop-source.seen c.spread.new.seen c.loop-source.invariant.held c.spread.ensures.seen;
   room = omega (arith, c.spread.ensures.grows, c.loop-source.invariant.room);
   visits = omega (arith, c.spread.ensures.visits, c.loop-source.invariant.visits);
 }

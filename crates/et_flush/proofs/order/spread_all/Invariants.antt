@@ -11,7 +11,7 @@ invariant-loop-source g l = record {
   ready : IsReady l.times l.seen l.work;
   empty : l.work.items ≡ [];
   carried : AreCarried (pairs_of l.heap) l.fn.times l.order l.source-index l.times l.seen;
-  held : AreSeenHeld l.heap l.seen;
+  held : AreSeenHeld l.heap l.fn.seen l.seen;
   room : vec_capacity l.fn.work ≤ vec_capacity l.work;
   visits : l.visits + unset_count l.seen ≡ l.fn.visits + unset_count l.fn.seen;
 }

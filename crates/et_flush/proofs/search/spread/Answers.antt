@@ -6,7 +6,7 @@ use Rattle.et_base.proofs.Lists.{none_long}
 use Rattle.et_graph.proofs.Rounds.{IsCarrying, carrying_source, carrying_visit, carrying_end}
 use Rattle.et_heap.specs.Refs.{pairs_of}
 use Rattle.et_heap.proofs.HeapLists.{held_within}
-use Rattle.et_flush.proofs.Targets.{held_above, are_within, held_one, held_front, held_last, seen_held, counted_mark}
+use Rattle.et_flush.proofs.Targets.{held_above, are_within, held_one, held_front, held_last, seen_held, seen_none, seen_on, counted_mark}
 use Rattle.et_flush.proofs.search.spread.Goals as goal
 
 -- the object wasn't seen
@@ -33,7 +33,7 @@ loop-object-init g c =
           (carrying_source (pairs_of c.args.heap.now) c.args.source (get_or c.args.times.now c.place_of-place.result 0) (length c.args.times.now) c.args.times.now c.args.seen.now (are_within c.args.heap.now (length c.args.times.now) c.requires.long c.requires.none c.requires.pairs)
           c.requires.ready.long above inside (time_is c.args.times.now c.args.source c.place_of-place.result c.place_of-place.ensures.place) unseen);
       held = rw (c.mark.ensures.work, c.requires.empty) (held_one c.args.heap.now c.args.source c.requires.source);
-      held_seen = λ h. rw c.mark.ensures.seen (seen_held c.args.heap.now c.args.seen.now c.args.source inside' above c.requires.source h);
+      held_seen = rw c.mark.ensures.seen (seen_held c.args.heap.now c.args.seen.now c.args.seen.now c.args.source inside' above c.requires.source (seen_none c.args.heap.now c.args.seen.now));
       room = c.mark.ensures.grows;
       visits = counted_mark c.args.seen.now c.mark.new.seen c.args.source c.args.visits.now c.mark.new.work.items c.args.work.now.items inside' unseen c.mark.ensures.seen c.mark.ensures.work c.requires.empty;
     }
@@ -55,7 +55,7 @@ loop-object-preserved g c = record {
       c.in-Some.ensures.items c.loop-object.invariant.carrying)
       c.visit.ensures.visits;
   held = c.visit.ensures.held c.requires.pairs (held_front c.args.heap.now c.loop-object.work.items c.pop.new.self.items c.in-Some.object c.in-Some.ensures.items c.loop-object.invariant.held);
-  held_seen = λ h. c.visit.ensures.seen c.requires.pairs (c.loop-object.invariant.held_seen h);
+  held_seen = seen_on c.args.heap.now c.args.seen.now c.loop-object.seen c.visit.new.seen c.loop-object.invariant.held_seen (c.visit.ensures.seen c.requires.pairs);
   room = omega (arith, c.visit.ensures.grows, c.in-Some.ensures.capacity, c.loop-object.invariant.room);
   visits =
       let popped : length c.loop-object.work.items ≡ length c.pop.new.self.items + 1 = ap length c.in-Some.ensures.items ∙ length-append c.pop.new.self.items (c.in-Some.object ∷ []) in

@@ -11,7 +11,7 @@ invariant-loop-object g l = record {
   ready : IsReady l.times l.seen l.work;
   carrying : IsCarrying (pairs_of l.heap) l.fn.source l.time l.fn.times l.fn.seen l.times l.seen l.work.items;
   held : AreHeld l.heap l.work.items;
-  held_seen : AreSeenHeld l.heap l.fn.seen → AreSeenHeld l.heap l.seen;
+  held_seen : AreSeenHeld l.heap l.fn.seen l.seen;
   room : vec_capacity l.fn.work ≤ vec_capacity l.work;
   visits : l.visits + unset_count l.seen + length l.work.items ≡ l.fn.visits + unset_count l.fn.seen;
 }

@@ -4,7 +4,7 @@ use Rattle.et_graph.specs.Times.{IsSet}
 use Rattle.et_graph.proofs.Spreading.{set_here, set_keeps}
 use Rattle.et_graph.proofs.Visiting.{visiting_none, visiting_mark, visiting_all}
 use Rattle.et_heap.specs.Refs.{pairs_of}
-use Rattle.et_flush.proofs.Targets.{target_pair, pair_target, target_here, left_there, done_more, all_done, held_more, seen_held}
+use Rattle.et_flush.proofs.Targets.{target_pair, pair_target, target_here, left_there, done_more, all_done, held_more, seen_held, seen_none}
 use Rattle.et_flush.proofs.search.visit.Goals as goal
 
 pub targets-init : goal.targets-init
@@ -14,7 +14,7 @@ targets-init g c = record {
   left = target_pair c.args.heap.now c.args.object c.refs_of-targets.result c.requires.object c.refs_of-targets.ensures.value;
   done = λ x d. inl (pair_target c.args.heap.now c.args.object c.refs_of-targets.result c.requires.object c.refs_of-targets.ensures.value x d);
   held = λ p h. h;
-  held_seen = λ p h. h;
+  held_seen = λ p. seen_none c.args.heap.now c.args.seen.now;
   room = omega arith;
 }
 
@@ -52,7 +52,7 @@ targets-preserved-then-not-seen-place_of g c =
           rw c.mark.ensures.seen
           (done_more (λ y. Contains (pairs_of c.args.heap.now) (c.args.object, y)) x c.targets.targets c.next.new.self seen (set seen (x - 1) true) c.in-Some.ensures.steps (set_keeps seen x inside) (set_here seen x inside) c.targets.invariant.done);
       held = λ p h. rw c.mark.ensures.work (held_more c.args.heap.now c.targets.work.items x (p c.args.object x target.0) (c.targets.invariant.held p h));
-      held_seen = λ p h. rw c.mark.ensures.seen (seen_held c.args.heap.now seen x inside target.1 (p c.args.object x target.0) (c.targets.invariant.held_seen p h));
+      held_seen = λ p. rw c.mark.ensures.seen (seen_held c.args.heap.now c.args.seen.now seen x inside target.1 (p c.args.object x target.0) (c.targets.invariant.held_seen p));
       room = omega (arith, c.mark.ensures.grows, c.targets.invariant.room);
     }
 
@@ -73,7 +73,6 @@ targets-preserved g c =
 
 pub returns-clause-visits : goal.returns-clause-visits
 returns-clause-visits g c =
-    visiting_all (pairs_of c.args.heap.now) c.args.object c.args.time (length c.args.times.now) c.args.times.now c.args.seen.now c.args.work.now.items c.targets.times c.targets.seen c.targets.work.items
-    c.requires.within
+    visiting_all (pairs_of c.args.heap.now) c.args.object c.args.time c.args.times.now c.args.seen.now c.args.work.now.items c.targets.times c.targets.seen c.targets.work.items
     (all_done (λ y. Contains (pairs_of c.args.heap.now) (c.args.object, y)) c.targets.targets c.targets.seen c.in_default.ensures.steps.0 c.targets.invariant.done)
     c.targets.invariant.visiting

@@ -13,7 +13,7 @@ invariant-targets g l = record {
   left : (o : ℕ) → Contains l.targets o → Contains (pairs_of l.heap) (l.fn.object, o);
   done : (o : ℕ) → Contains (pairs_of l.heap) (l.fn.object, o) → Contains l.targets o ⊎ IsSet l.seen o;
   held : ArePairsHeld l.heap → AreHeld l.heap l.fn.work.items → AreHeld l.heap l.work.items;
-  held_seen : ArePairsHeld l.heap → AreSeenHeld l.heap l.fn.seen → AreSeenHeld l.heap l.seen;
+  held_seen : ArePairsHeld l.heap → AreSeenHeld l.heap l.fn.seen l.seen;
   room : vec_capacity l.fn.work ≤ vec_capacity l.work;
 }
 

@@ -1,32 +1,73 @@
-use Rattle.std.proofs.Common.{ℕ, ◌+◌, ◌<◌, length, sym, ap, arith}
+use Rattle.std.proofs.Common.{◌≡◌, ℕ, ◌+◌, ◌<◌, ◌≤◌, length, get_or, sym, ◌∙◌, ap, arith}
+use Rattle.std.proofs.lemmas.List.{get_or_default, get_or_past}
+use Rattle.et_heap.specs.Objects.{IsHeld}
+use Rattle.et_heap.proofs.HeapLists.{held_within}
 use Rattle.et_flush.specs.Sweeps.{is_now, visits_from}
-use Rattle.et_flush.proofs.Sweeping.{swept_length, swept_first, swept_step, within_before, visits_first, visits_step, swept_end, visits_end}
+use Rattle.et_flush.proofs.Holding.{here_held, gap_first, gap_next, next_later, held_are_within}
+use Rattle.et_flush.proofs.Sweeping.{swept_to, swept_step, held_before, within_before, visits_to, visits_step, swept_end, visits_end}
 use Rattle.et_flush.proofs.sweep.sweep.Goals as goal
 
-pub sweep_one-requires-clause-long : goal.sweep_one-requires-clause-long
-sweep_one-requires-clause-long g c = omega (arith, ap length c.loop-number.invariant.heap, swept_length (is_now c.args.times.now) (c.loop-number.number + 1) 0 c.args.heap.now, c.requires.long)
+pub loop-object-init : goal.loop-object-init
+loop-object-init g c =
+    let end : ℕ = length c.args.heap.now in
+    let next : ℕ = get_or c.args.held.now 0 end in
+    let gap : (u : ℕ) → 0 ≤ u → u < next → IsHeld c.args.heap.now u → ⊥ = λ u _ lt h. gap_first c.args.heap.now c.args.held.now c.requires.held end u lt h in
+    record {
+      heap = swept_to (is_now c.args.times.now) 0 next c.args.heap.now (omega arith) gap;
+      visits = ap (λ (k : ℕ). c.args.visits.now + k) (sym (visits_to (is_now c.args.times.now) 0 next c.args.heap.now (omega arith) gap));
+    }
+
+pub sweep_one-requires-clause-held : goal.sweep_one-requires-clause-held
+sweep_one-requires-clause-held g c =
+    let i : ℕ = c.loop-object.object-index in
+    let end : ℕ = length c.args.heap.now in
+    held_before (is_now c.args.times.now) c.args.heap.now c.loop-object.heap (get_or c.args.held.now i end) c.object-item.result c.loop-object.invariant.heap
+    (c.object-item.is ∙ get_or_default c.args.held.now i c.object-item.result end c.loop-object-test.true) (here_held c.args.heap.now c.args.held.now c.requires.held i end c.loop-object-test.true)
+
+pub sweep_one-requires-clause-first : goal.sweep_one-requires-clause-first
+sweep_one-requires-clause-first g c =
+    (held_are_within c.args.heap.now c.args.held.now c.requires.held (length c.args.times.now) c.requires.none c.requires.long c.object-item.result (c.loop-object.object-index, c.loop-object-test.true, sym c.object-item.is)).0
+
+pub sweep_one-requires-clause-last : goal.sweep_one-requires-clause-last
+sweep_one-requires-clause-last g c =
+    (held_are_within c.args.heap.now c.args.held.now c.requires.held (length c.args.times.now) c.requires.none c.requires.long c.object-item.result (c.loop-object.object-index, c.loop-object-test.true, sym c.object-item.is)).1
 
 pub sweep_one-requires-clause-within : goal.sweep_one-requires-clause-within
-sweep_one-requires-clause-within g c = within_before (is_now c.args.times.now) c.args.heap.now c.loop-number.heap (c.loop-number.number + 1) c.new.result (length c.args.times.now) c.loop-number.invariant.heap c.new.ensures (c.requires.within (c.loop-number.number + 1))
+sweep_one-requires-clause-within g c =
+    let i : ℕ = c.loop-object.object-index in
+    let end : ℕ = length c.args.heap.now in
+    within_before (is_now c.args.times.now) c.args.heap.now c.loop-object.heap (get_or c.args.held.now i end) c.object-item.result (length c.args.times.now) c.loop-object.invariant.heap
+    (c.object-item.is ∙ get_or_default c.args.held.now i c.object-item.result end c.loop-object-test.true) (c.requires.within (get_or c.args.held.now i end))
 
-pub loop-number-init : goal.loop-number-init
-loop-number-init g c = record {
-  heap = sym (swept_first (is_now c.args.times.now) c.args.heap.now c.requires.none);
-  visits = ap (λ (k : ℕ). c.args.visits.now + k) (visits_first (is_now c.args.times.now) c.args.heap.now c.requires.none);
-}
-
-pub loop-number-preserved : goal.loop-number-preserved
-loop-number-preserved g c =
-    let lt : c.loop-number.number + 1 < length c.args.heap.now = omega (arith, c.count-number-end.ensures.value) in
+pub loop-object-preserved : goal.loop-object-preserved
+loop-object-preserved g c =
+    let i : ℕ = c.loop-object.object-index in
+    let end : ℕ = length c.args.heap.now in
+    let o : ℕ = c.object-item.result in
+    let n : ℕ = get_or c.args.held.now i end in
+    let m : ℕ = get_or c.args.held.now (i + 1) end in
+    let same : o ≡ n = c.object-item.is ∙ get_or_default c.args.held.now i o end c.loop-object-test.true in
+    let within : n < end = held_within c.args.heap.now n (here_held c.args.heap.now c.args.held.now c.requires.held i end c.loop-object-test.true) in
+    let more : n + 1 ≤ m = omega (arith, next_later c.args.heap.now c.args.held.now c.requires.held i c.loop-object-test.true) in
+    let gap : (u : ℕ) → n + 1 ≤ u → u < m → IsHeld c.args.heap.now u → ⊥ = λ u from lt h. gap_next c.args.heap.now c.args.held.now c.requires.held i end u c.loop-object-test.true (omega (arith, from)) lt h in
     record {
-      heap = swept_step (is_now c.args.times.now) c.args.heap.now c.loop-number.heap c.sweep_one.new.heap (c.loop-number.number + 1) c.new.result c.loop-number.invariant.heap c.new.ensures lt c.sweep_one.ensures.heap;
+      heap =
+          swept_step (is_now c.args.times.now) c.args.heap.now c.loop-object.heap c.sweep_one.new.heap n o c.loop-object.invariant.heap same within c.sweep_one.ensures.heap
+          ∙ swept_to (is_now c.args.times.now) (n + 1) m c.args.heap.now more gap;
       visits =
-          visits_step (is_now c.args.times.now) c.args.heap.now c.loop-number.heap (c.loop-number.number + 1) c.new.result (visits_from (is_now c.args.times.now) 0 c.args.heap.now) c.args.visits.now c.loop-number.visits c.sweep_one.new.visits
-          c.loop-number.invariant.heap c.new.ensures lt c.loop-number.invariant.visits c.sweep_one.ensures.visits;
+          ap (λ (k : ℕ). c.sweep_one.new.visits + k) (sym (visits_to (is_now c.args.times.now) (n + 1) m c.args.heap.now more gap))
+          ∙ visits_step (is_now c.args.times.now) c.args.heap.now c.loop-object.heap n o (visits_from (is_now c.args.times.now) 0 c.args.heap.now) c.args.visits.now c.loop-object.visits c.sweep_one.new.visits
+          c.loop-object.invariant.heap same within c.loop-object.invariant.visits c.sweep_one.ensures.visits;
     }
 
 pub returns-clause-heap : goal.returns-clause-heap
-returns-clause-heap g c = swept_end (is_now c.args.times.now) c.args.heap.now c.loop-number.heap (c.loop-number.number + 1) c.loop-number.invariant.heap (omega (arith, c.count-number-end.ensures.value))
+returns-clause-heap g c =
+    let end : ℕ = length c.args.heap.now in
+    let next : ℕ = get_or c.args.held.now c.loop-object.object-index end in
+    swept_end (is_now c.args.times.now) c.args.heap.now c.loop-object.heap next c.loop-object.invariant.heap (omega (arith, get_or_past c.args.held.now c.loop-object.object-index end c.loop-object-test.false))
 
 pub returns-clause-visits : goal.returns-clause-visits
-returns-clause-visits g c = omega (arith, c.loop-number.invariant.visits, visits_end (is_now c.args.times.now) (c.loop-number.number + 1) c.args.heap.now (omega (arith, c.count-number-end.ensures.value)))
+returns-clause-visits g c =
+    let end : ℕ = length c.args.heap.now in
+    let next : ℕ = get_or c.args.held.now c.loop-object.object-index end in
+    omega (arith, c.loop-object.invariant.visits, visits_end (is_now c.args.times.now) next c.args.heap.now (omega (arith, get_or_past c.args.held.now c.loop-object.object-index end c.loop-object-test.false)))

@@ -1,11 +1,11 @@
--- The objects so far are swept.
-use Rattle.std.proofs.Common.{◌≡◌, ◌+◌, drop}
+-- The objects so far are swept, up to the next one.
+use Rattle.std.proofs.Common.{◌≡◌, ◌+◌, drop, get_or, length}
 use Rattle.et_flush.specs.Sweeps.{is_now, visits_from}
 use Rattle.et_flush.proofs.Sweeping.{swept}
 use Rattle.et_flush.proofs.sweep.sweep.Given as goal
 
-abbrev pub invariant-loop-number : goal.invariant-loop-number
-invariant-loop-number g l = record {
-  heap : l.heap ≡ swept (is_now l.times) (l.number + 1) 0 l.fn.heap;
-  visits : l.visits + visits_from (is_now l.times) (l.number + 1) (drop (l.number + 1) l.fn.heap) ≡ l.fn.visits + visits_from (is_now l.times) 0 l.fn.heap;
+abbrev pub invariant-loop-object : goal.invariant-loop-object
+invariant-loop-object g l = let next = get_or l.held l.object-index (length l.fn.heap) in record {
+  heap : l.heap ≡ swept (is_now l.times) next 0 l.fn.heap;
+  visits : l.visits + visits_from (is_now l.times) next (drop next l.fn.heap) ≡ l.fn.visits + visits_from (is_now l.times) 0 l.fn.heap;
 }

@@ -25,7 +25,7 @@ loop-source-preserved c = record {
   empty = c.spread.ensures.empty;
   carried =
       carried_more c.args.pairs.now c.args.times.now c.args.order.now c.loop-source.source-index c.source-item.result c.loop-source.times c.loop-source.seen
-      c.requires.order c.loop-source-test.true c.source-item.is c.loop-source.invariant.carried c.spread.new.times c.spread.new.seen c.spread.ensures.spreads;
+      c.requires.within c.requires.order c.loop-source-test.true c.source-item.is c.loop-source.invariant.carried c.spread.new.times c.spread.new.seen c.spread.ensures.spreads;
 }
 
 pub returns-clause-settled : goal.returns-clause-settled

@@ -63,7 +63,6 @@ loop-pair-preserved c =
 
 pub returns-clause-visits : goal.returns-clause-visits
 returns-clause-visits c =
-    visiting_all c.args.pairs.now c.args.object c.args.time (length c.args.times.now) c.args.times.now c.args.seen.now c.args.work.now.items c.loop-pair.times c.loop-pair.seen c.loop-pair.work.items
-    c.requires.within
+    visiting_all c.args.pairs.now c.args.object c.args.time c.args.times.now c.args.seen.now c.args.work.now.items c.loop-pair.times c.loop-pair.seen c.loop-pair.work.items
     (λ x d. seen_all c.pairs_of-pair-items.result.now c.loop-pair.pair-index c.loop-pair.seen (c.args.object, x) c.loop-pair-test.false c.loop-pair.invariant.done ((c.pairs_of-pair-items.ensures (c.args.object, x)).1 (d, refl)))
     c.loop-pair.invariant.visiting

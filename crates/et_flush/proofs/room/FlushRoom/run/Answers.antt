@@ -1,4 +1,4 @@
-use Rattle.std.proofs.Common.{◌≡◌, ℕ, ◌<◌, ◌≤◌, ◌^◌, ◌↔◌, Bool, true, List, Contains, All, length, get_or, ◌∙◌, ap, subst, arith}
+use Rattle.std.proofs.Common.{◌≡◌, ℕ, ◌<◌, ◌≤◌, ◌^◌, ◌↔◌, Bool, true, List, Contains, All, length, get_or, sym, ◌∙◌, ap, subst, arith}
 use Rattle.et_graph.specs.Graph.{IsReached}
 use Rattle.et_graph.specs.Listing.{death_pairs}
 use Rattle.et_heap.specs.Objects.{IsHeld, made_count}
@@ -6,12 +6,13 @@ use Rattle.et_heap.specs.Remaining.{remaining}
 use Rattle.et_heap.proofs.HeapLists.{held_within}
 use Rattle.et_flush.specs.declared.times.TheConstants.{NOW}
 use Rattle.et_flush.specs.Sweeps.{is_now, visits_from}
+use Rattle.et_flush.specs.Searches.{AreAllHeld}
 use Rattle.et_flush.specs.Works.{IsSettled}
 use Rattle.et_flush.specs.Rooms.{Room}
 use Rattle.et_flush.specs.Flushes.{heap_graph}
 use Rattle.et_flush.proofs.Targets.{held_above}
 use Rattle.et_flush.proofs.Working.{settled_long, places_least}
-use Rattle.et_flush.proofs.Reaching.{below_listed, now_reached, tests_same, remaining_same, visits_bound, few_visits}
+use Rattle.et_flush.proofs.Reaching.{below_listed, now_reached, tests_same, remaining_same, visits_bound}
 use Rattle.et_flush.proofs.room.FlushRoom.run.Given as given
 use Rattle.et_flush.proofs.room.FlushRoom.run.Goals as goal
 
@@ -30,13 +31,16 @@ settled g c =
     subst (λ (rs : List ℕ). IsSettled c.args.heap.now rs c.args.stamps.now c.find_deaths.new.work.times.items) c.as_slice.ensures
     (subst (λ (ts : List ℕ). IsSettled c.args.heap.now c.as_slice.result.now ts c.find_deaths.new.work.times.items) c.as_slice-2.ensures.value c.find_deaths.ensures.settled)
 
+pub sweep-requires-clause-held : goal.sweep-requires-clause-held
+sweep-requires-clause-held g c = subst (λ (xs : List ℕ). AreAllHeld c.args.heap.now xs) (sym c.deref.ensures.value) c.find_deaths.ensures.held
+
 pub sweep-requires-clause-long : goal.sweep-requires-clause-long
-sweep-requires-clause-long g c = omega (arith, ap length c.deref.ensures.value, settled_long c.args.heap.now c.args.roots.now c.args.stamps.now c.find_deaths.new.work.times.items (settled g c))
+sweep-requires-clause-long g c = omega (arith, ap length c.deref-2.ensures.value, settled_long c.args.heap.now c.args.roots.now c.args.stamps.now c.find_deaths.new.work.times.items (settled g c))
 
 pub sweep-requires-clause-within : goal.sweep-requires-clause-within
 sweep-requires-clause-within g c = λ o r e.
     let held : IsHeld c.args.heap.now r = c.requires.referents o r e in
-    (held_above c.args.heap.now r c.requires.none held, omega (arith, ap length c.deref.ensures.value, settled_long c.args.heap.now c.args.roots.now c.args.stamps.now c.find_deaths.new.work.times.items (settled g c), held_within c.args.heap.now r held))
+    (held_above c.args.heap.now r c.requires.none held, omega (arith, ap length c.deref-2.ensures.value, settled_long c.args.heap.now c.args.roots.now c.args.stamps.now c.find_deaths.new.work.times.items (settled g c), held_within c.args.heap.now r held))
 
 pub invariant_of-self : goal.invariant_of-self
 invariant_of-self g c = c.find_deaths.ensures.places c.self.inside.places c.self.invariant
@@ -60,11 +64,10 @@ same g c here decides =
 
 pub returns-clause-heap : goal.returns-clause-heap
 returns-clause-heap g c = λ here decides.
-    c.sweep.ensures.heap ∙ (ap (λ (ts : List ℕ). remaining (is_now ts) 0 c.args.heap.now) c.deref.ensures.value ∙ remaining_same c.args.heap.now (is_now c.find_deaths.new.work.times.items) here (same g c here decides) c.requires.referents)
+    c.sweep.ensures.heap ∙ (ap (λ (ts : List ℕ). remaining (is_now ts) 0 c.args.heap.now) c.deref-2.ensures.value ∙ remaining_same c.args.heap.now (is_now c.find_deaths.new.work.times.items) here (same g c here decides) c.requires.referents)
 
 pub returns-clause-visits : goal.returns-clause-visits
 returns-clause-visits g c = λ here decides.
-    let few = few_visits c.args.heap.now c.find_deaths.new.work.seen.items c.requires.none c.find_deaths.ensures.length c.find_deaths.ensures.seen in
-    let times = ap (λ (ts : List ℕ). visits_from (is_now ts) 0 c.args.heap.now) c.deref.ensures.value in
+    let times = ap (λ (ts : List ℕ). visits_from (is_now ts) 0 c.args.heap.now) c.deref-2.ensures.value in
     let bound = visits_bound c.args.heap.now (is_now c.find_deaths.new.work.times.items) here (same g c here decides) c.requires.referents in
-    omega (arith, few, times, bound, c.find_deaths.ensures.visits, c.sweep.ensures.visits)
+    omega (arith, times, bound, c.find_deaths.ensures.visits, c.sweep.ensures.visits)
