@@ -16,7 +16,7 @@ none_there zero j there = there
 none_there (suc n) zero there = there
 none_there (suc n) (suc j) there = none_there n j there
 
-pub empty_places-none : (j : ℕ) → IsHeld empty_places j → ⊥
+empty_places-none : (j : ℕ) → IsHeld empty_places j → ⊥
 unfolding empty_places
 empty_places-none j held = none_there page_size j held
 
@@ -24,10 +24,6 @@ empty_places-none j held = none_there page_size j held
 pub kept-held : (kept : Objects) (j : ℕ) → IsHeld (places_of kept) j → (places_of kept ≡ kept) × (j < length kept)
 kept-held [] j held = absurd (empty_places-none j held)
 kept-held (x ∷ xs) j held = (refl, held_within (x ∷ xs) j held)
-
-pub held-kept : (kept : Objects) (j : ℕ) → IsHeld kept j → IsHeld (places_of kept) j
-held-kept [] j held = absurd held
-held-kept (x ∷ xs) j held = held
 
 pub kept-within : (page kept : Objects) (j : ℕ) → places_of kept ≡ page → IsHeld page j → j < length kept
 kept-within page kept j view held = (kept-held kept j (subst (λ h. IsHeld h j) (sym view) held)).1
@@ -248,10 +244,6 @@ found_below pages made k i p paged there is held =
 abbrev pub NoneBefore : List Objects → ℕ → ℕ → ℕ → Type 0
 NoneBefore pages f k j = (u : ℕ) → f ≤ u → u < page_size * k + j + 1 → IsHeld (None ∷ all_places pages) u → ⊥
 
-pub none-begin : (pages : List Objects) (f k j : ℕ) → page_size * k + j ≡ f - 1 → NoneBefore pages f k j
-none-begin pages f k j e zero from below held = held
-none-begin pages f k j e (suc u) from below held = absurd (omega arith)
-
 pub none-page : (pages : List Objects) (made f k j : ℕ) (p : Objects) → IsPaged made pages → p ≡ get_or pages k p → ((v : ℕ) → j ≤ v → IsHeld p v → ⊥) → NoneBefore pages f k j → NoneBefore pages f (k + 1) 0
 none-page pages made f k j p paged is out before u from below held =
     elim (cases_lt u (page_size * k + j + 1)) [
@@ -290,18 +282,6 @@ next-found heap pages made f k j i p view paged there is from before next =
     }
 
 -- ONE OBJECT MORE
-
-pub count_of_pages : (n : ℕ) (pages : List Objects) (k : ℕ) → IsPaged n pages → n ≡ page_size * k → length pages ≡ k
-count_of_pages n [] k paged e = let none : n ≡ 0 = paged in omega arith
-count_of_pages n (p ∷ ps) zero paged e = let some = paged.0 in absurd (omega arith)
-count_of_pages n (p ∷ ps) (suc k) paged e =
-    let some = paged.0 in
-    let rest = count_of_pages (n - page_size) ps k paged.2 (omega arith) in
-    omega arith
-
-pub all_places-new_page : (pages : List Objects) (x : Option ObjectState) → all_places (pages ++ (x ∷ []) ∷ []) ≡ all_places pages ++ x ∷ []
-all_places-new_page [] x = refl
-all_places-new_page (p ∷ ps) x = ap (λ (xs : Objects). p ++ xs) (all_places-new_page ps x) ∙ sym (append_assoc p (all_places ps) (x ∷ []))
 
 pub IsPaged-new_page : (n : ℕ) (pages : List Objects) (k : ℕ) (x : Option ObjectState) → IsPaged n pages → n ≡ page_size * k → IsPaged (n + 1) (pages ++ (x ∷ []) ∷ [])
 IsPaged-new_page n [] k x paged e =

@@ -65,7 +65,8 @@ fn place_of(o: ObjectId) -> usize
     (o.number() as usize - 1) % PLACES
 }
 
-/// Puts an object at the end, into a new page where the last one has all places. After an error the places are as before.
+/// Puts an object at the end, into a new page where the last one has all places. After an error the places are as
+/// before.
 fn push(alloc: Global, pages: &mut Vec<Page>, made: usize, object: Object) -> Result<(), AllocError>
     requires { IsPaged made pages.old.items }
     ensures paged { OnOk result (IsPaged (made + 1) pages.new.items) }

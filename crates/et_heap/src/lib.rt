@@ -1,8 +1,8 @@
 //! The objects of the guest, by their numbers.
 //!
-//! An object takes 64 bytes and 16 more for each of its slots. Objects stand in pages of 1,024 numbers. Of an object that
-//! was taken out the 64 bytes stay, and no slot, as long as an object of its page is held or still to be made. Then the
-//! page is given back, and 32 bytes of it stay.
+//! An object takes 64 bytes and 16 more for each of its slots. Objects stand in pages of 1,024 numbers. Of an object
+//! that was taken out the 64 bytes stay, and no slot, as long as an object of its page is held or still to be made. Then
+//! the page is given back, and 32 bytes of it stay.
 #![tactic(auto)]
 
 mod fault;
