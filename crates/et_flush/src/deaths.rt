@@ -1,5 +1,5 @@
 //! What a flush lists.
-ghost use Rattle.std.specs.Prelude.{◌≡◌, ◌+◌, ◌≤◌, length, vec_capacity};
+ghost use Rattle.std.specs.Prelude.{◌≤◌, length, vec_capacity};
 ghost use Rattle.std.specs.List.Sorted.{IsStrictlyIncreasing};
 ghost use Rattle.et_graph.specs.Listing.{death_pairs};
 ghost use Rattle.et_graph.specs.Times.{AreWithin};

@@ -1,5 +1,5 @@
 //! The objects that a flush goes over.
-ghost use Rattle.std.specs.Prelude.{◌≡◌, ◌+◌, ◌≤◌, vec_capacity};
+ghost use Rattle.std.specs.Prelude.{◌≤◌, vec_capacity};
 ghost use Rattle.et_heap.specs.Objects.{IsHeld, made_count};
 ghost use Rattle.et_flush.specs.Searches.{AreAllHeld};
 

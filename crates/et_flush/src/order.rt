@@ -1,5 +1,5 @@
 //! The order in which a flush takes the objects: those with the greatest time first.
-ghost use Rattle.std.specs.Prelude.{◌≡◌, ℕ, ◌+◌, ◌-◌, ◌^◌, ◌<◌, ◌≤◌, [], length, slice_index, Contains, vec_capacity};
+ghost use Rattle.std.specs.Prelude.{◌≡◌, ℕ, ◌+◌, ◌-◌, ◌≤◌, [], length, slice_index, Contains, vec_capacity};
 ghost use Rattle.et_graph.specs.Times.{AreWithin, Carries, AreSettled, IsSet, IsReady, unset_count};
 ghost use Rattle.et_heap.specs.Objects.{Objects, IsHeld};
 ghost use Rattle.et_heap.specs.Refs.{pairs_of};

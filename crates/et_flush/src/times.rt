@@ -1,5 +1,5 @@
 //! The times of objects as a search begins.
-ghost use Rattle.std.specs.Prelude.{◌≡◌, ℕ, ◌+◌, ◌-◌, ◌^◌, ◌<◌, ◌≤◌, length, slice_index, Contains};
+ghost use Rattle.std.specs.Prelude.{◌≡◌, ℕ, ◌-◌, ◌<◌, length, slice_index, Contains};
 ghost use Rattle.et_graph.specs.Times.{set_each, ArePositive, AreWithin, IsSet};
 
 use crate::search::place_of;

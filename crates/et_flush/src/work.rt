@@ -1,8 +1,8 @@
 //! The vectors in which a flush works.
-ghost use Rattle.std.specs.Prelude.{◌≡◌, ℕ, ◌+◌, ◌-◌, ◌<◌, ◌≤◌, [], length, max, vec_capacity, All, Contains, OnOk};
+ghost use Rattle.std.specs.Prelude.{◌≡◌, ℕ, ◌+◌, ◌<◌, ◌≤◌, [], length, max, vec_capacity, All, Contains, OnOk};
 ghost use Rattle.et_graph.specs.Listing.{death_pairs};
 ghost use Rattle.et_heap.specs.Objects.{IsHeld, made_count, held_count};
-ghost use Rattle.et_flush.specs.Searches.{ArePairsHeld, AreSeenHeld, AreAllHeld, AreBelow};
+ghost use Rattle.et_flush.specs.Searches.{ArePairsHeld, AreAllHeld, AreBelow};
 ghost use Rattle.et_flush.specs.Works.{HasPlaces, IsPrepared, IsSettled};
 
 use crate::deaths::list_deaths;
