@@ -8,7 +8,7 @@ use Rattle.et_graph.specs.Times.{AreWithin, IsSet}
 use Rattle.et_base.proofs.Lists.{Contains-none}
 use Rattle.et_heap.specs.Objects.{Objects}
 use Rattle.et_flush.specs.declared.times.TheConstants.{NOW}
-use Rattle.et_flush.specs.declared.order.Source.{Source}
+use Rattle.et_graph.specs.declared.search.Source.{Source}
 use Rattle.et_flush.specs.Searches.{AreAllHeld, AreSources}
 
 -- what holds at each place of a list holds of each of its elements

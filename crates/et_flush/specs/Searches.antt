@@ -1,11 +1,11 @@
 -- What a search over a heap keeps to.
-use Rattle.std.specs.Prelude.{◌≡◌, ℕ, ◌+◌, ◌-◌, ◌<◌, ◌≤◌, ◌⊎◌, ◌↔◌, Bool, List, length, map, Contains, slice_index, slice_index_or}
+use Rattle.std.specs.Prelude.{◌≡◌, ℕ, ◌+◌, ◌-◌, ◌<◌, ◌≤◌, ◌⊎◌, ◌↔◌, Bool, List, length, map, Contains, slice_index}
 use Rattle.std.specs.List.Sorted.{IsStrictlyIncreasing}
 use Rattle.et_graph.specs.Times.{IsSet}
 use Rattle.et_heap.specs.Objects.{Objects, IsHeld}
 use Rattle.et_heap.specs.Refs.{pairs_of}
 use Rattle.et_flush.specs.declared.times.TheConstants.{NOW}
-use Rattle.et_flush.specs.declared.order.Source.{Source}
+use Rattle.et_graph.specs.declared.search.Source.{Source}
 
 -- what stands in a slot is held
 abbrev pub ArePairsHeld : Objects → Type 0
@@ -32,13 +32,6 @@ pub record AreTimes (heap : Objects) (stamps times : List ℕ) : Type 0 where
 pub record AreSources (heap : Objects) (times : List ℕ) (order : List Source) : Type 0 where
   pub each : (s : Source) → Contains order s → IsHeld heap s.object × (s.age ≡ NOW - slice_index times (s.object - 1)) × (slice_index times (s.object - 1) ≤ NOW)
   pub all : (o : ℕ) → IsHeld heap o → (s : Source) × Contains order s × (s.object ≡ o)
-
--- each object that is held is there, and none comes after one with a smaller time
-pub record IsOrder (heap : Objects) (times : List ℕ) (order : List Source) : Type 0 where
-  pub each : (s : Source) → Contains order s → IsHeld heap s.object
-  pub all : (o : ℕ) → IsHeld heap o → (k : ℕ) × (k < length order) × ((d : Source) → (slice_index_or order k d).object ≡ o)
-  pub falls : (i j : ℕ) (d : Source) → i ≤ j → j < length order
-      → slice_index times ((slice_index_or order j d).object - 1) ≤ slice_index times ((slice_index_or order i d).object - 1)
 
 -- the objects that are held and whose times are below NOW, in rising order, each with its time
 pub record AreBelow (heap : Objects) (times : List ℕ) (deaths : List (ℕ × ℕ)) : Type 0 where

@@ -1,11 +1,12 @@
 -- The places of a flush, and the times that it finds.
 use Rattle.std.specs.Prelude.{◌≡◌, ℕ, ◌≤◌, List, length, vec_capacity}
+use Rattle.et_graph.specs.Order.{IsOrder}
 use Rattle.et_graph.specs.Times.{set_each, Carries, AreSettled, IsSet}
 use Rattle.et_heap.specs.Objects.{Objects, IsHeld}
 use Rattle.et_heap.specs.Refs.{pairs_of}
 use Rattle.et_flush.specs.declared.times.TheConstants.{NOW}
 use Rattle.et_flush.specs.declared.work.Work.{Work}
-use Rattle.et_flush.specs.Searches.{AreAllHeld, AreTimes, IsOrder}
+use Rattle.et_flush.specs.Searches.{AreAllHeld, AreTimes}
 
 -- there are places for n objects
 pub record HasPlaces (n : ℕ) (w : Work) : Type 0 where
@@ -24,7 +25,7 @@ pub record IsPrepared (heap : Objects) (roots stamps : List ℕ) (w : Work) : Ty
   pub begins : AreTimes heap stamps first
   pub times : w.times.items ≡ set_each roots NOW first
   pub unseen : (o : ℕ) → IsHeld heap o → ¬ IsSet w.seen.items o
-  pub order : IsOrder heap w.times.items w.order.items
+  pub order : IsOrder (IsHeld heap) w.times.items w.order.items
 
 -- the times are the stamps, with NOW at each root, carried along the references as far as they lead
 pub record IsSettled (heap : Objects) (roots stamps times : List ℕ) : Type 0 where

@@ -6,10 +6,9 @@ ghost use Rattle.et_graph.specs.Times.{AreWithin};
 ghost use Rattle.et_heap.specs.Objects.{Objects};
 ghost use Rattle.et_flush.specs.Searches.{AreAllHeld, AreBelow};
 
-use crate::search::place_of;
 use crate::times::NOW;
 use et_base::{ObjectId, within};
-use et_graph::Death;
+use et_graph::{Death, place_of};
 
 /// Lists the objects whose times are below `NOW`, in rising order, each with its time.
 pub(crate) fn list_deaths(held: &[ObjectId], times: &[u64], deaths: &mut Vec<Death>)

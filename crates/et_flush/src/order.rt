@@ -1,22 +1,17 @@
 //! The order in which a flush takes the objects: those with the greatest time first.
 ghost use Rattle.std.specs.Prelude.{◌≡◌, ℕ, ◌+◌, ◌-◌, ◌≤◌, [], length, slice_index, Contains, vec_capacity};
+ghost use Rattle.et_graph.specs.Order.{IsOrder};
 ghost use Rattle.et_graph.specs.Times.{AreWithin, Carries, AreSettled, IsSet, IsReady, unset_count};
 ghost use Rattle.et_heap.specs.Objects.{Objects, IsHeld};
 ghost use Rattle.et_heap.specs.Refs.{pairs_of};
-ghost use Rattle.et_flush.specs.Searches.{ArePairsHeld, AreSeenHeld, AreAllHeld, AreSources, IsOrder};
+ghost use Rattle.et_flush.specs.Searches.{ArePairsHeld, AreSeenHeld, AreAllHeld, AreSources};
 
-use crate::search::{place_of, spread};
+use crate::search::spread;
 use crate::times::NOW;
 use et_base::{ObjectId, Steps, within};
+use et_graph::{Source, place_of};
 use et_heap::Heap;
 use std::sync::ledger::Ledger;
-
-/// An object from which a search begins, and how far its time is from `NOW`.
-#[derive(Clone, Copy, Debug)]
-pub(crate) struct Source {
-    pub age: u64,
-    pub object: ObjectId,
-}
 
 /// Lists the objects as sources.
 fn list_sources(held: &[ObjectId], times: &[u64], order: &mut Vec<Source>)
@@ -46,7 +41,7 @@ pub(crate) fn order_sources(held: &[ObjectId], times: &[u64], order: &mut Vec<So
     requires below { (o : ℕ) → Contains held.now o → slice_index times.now (o - 1) ≤ NOW }
     requires room { length held.now ≤ vec_capacity order.old }
     ensures order { (heap : Objects) → AreAllHeld heap held.now →
-        IsOrder heap times.now order.new.items }
+        IsOrder (IsHeld heap) times.now order.new.items }
     ensures room { vec_capacity order.old ≤ vec_capacity order.new }
 {
     list_sources(held, times, order);
@@ -65,7 +60,7 @@ pub(crate) fn spread_all<L: Ledger>(
     requires none { ¬ IsHeld heap.now 0 }
     requires pairs { ArePairsHeld heap.now }
     requires long { length heap.now ≤ length times.old + 1 }
-    requires order { IsOrder heap.now times.old order.now }
+    requires order { IsOrder (IsHeld heap.now) times.old order.now }
     requires ready { IsReady times.old seen.old work.old }
     requires empty { work.old.items ≡ [] }
     requires unseen { (o : ℕ) → IsHeld heap.now o → ¬ IsSet seen.old o }

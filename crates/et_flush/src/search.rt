@@ -5,36 +5,10 @@ ghost use Rattle.et_heap.specs.Objects.{IsHeld};
 ghost use Rattle.et_heap.specs.Refs.{pairs_of};
 ghost use Rattle.et_flush.specs.Searches.{ArePairsHeld, AreHeld, AreSeenHeld};
 
-use et_base::{ObjectId, Steps, within};
+use et_base::{ObjectId, Steps};
+use et_graph::{mark, place_of};
 use et_heap::Heap;
 use std::sync::ledger::Ledger;
-
-/// The place of the entry of an object, since objects are numbered from 1.
-pub(crate) fn place_of(object: ObjectId) -> usize
-    requires { 0 < object }
-    ensures place { result + 1 ≡ object }
-    ensures fits { result < 2 ^ 32 }
-{
-    object.number() as usize - 1
-}
-
-/// Notes that the object was seen at the time, and that its slots are still to be looked into.
-fn mark(object: ObjectId, time: u64, times: &mut [u64], seen: &mut [bool], work: &mut Vec<ObjectId>)
-    requires ready { IsReady times.old seen.old work.old }
-    requires first { 0 < object }
-    requires last { object ≤ length times.old }
-    requires unseen { ¬ IsSet seen.old object }
-    ensures ready { IsReady times.new seen.new work.new }
-    ensures times { times.new ≡ slice_set times.old (object - 1) time }
-    ensures seen { seen.new ≡ slice_set seen.old (object - 1) true }
-    ensures work { work.new.items ≡ work.old.items ++ object ∷ [] }
-    ensures grows { vec_capacity work.old ≤ vec_capacity work.new }
-{
-    let place = place_of(object);
-    times[place] = time;
-    seen[place] = true;
-    within::push(work, object);
-}
 
 /// Looks into the slots of an object: what is there and wasn't seen yet gets its time.
 fn visit<L: Ledger>(

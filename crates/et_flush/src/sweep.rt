@@ -5,9 +5,9 @@ ghost use Rattle.et_heap.specs.Remaining.{left_place, remaining};
 ghost use Rattle.et_flush.specs.Searches.{AreAllHeld};
 ghost use Rattle.et_flush.specs.Sweeps.{is_now, ReferentsWithin, visits_of, visits_from};
 
-use crate::search::place_of;
 use crate::times::NOW;
 use et_base::{ObjectId, Steps, Value};
+use et_graph::place_of;
 use et_heap::Heap;
 use std::sync::ledger::Ledger;
 

@@ -2,8 +2,8 @@
 ghost use Rattle.std.specs.Prelude.{◌≡◌, ℕ, ◌-◌, ◌<◌, length, slice_index, Contains};
 ghost use Rattle.et_graph.specs.Times.{set_each, ArePositive, AreWithin, IsSet};
 
-use crate::search::place_of;
 use et_base::ObjectId;
+use et_graph::place_of;
 
 /// Greater than the number of any event: the time of what is reached now.
 pub const NOW: u64 = 1_099_511_627_777;

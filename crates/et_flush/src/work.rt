@@ -7,10 +7,10 @@ ghost use Rattle.et_flush.specs.Works.{HasPlaces, IsPrepared, IsSettled};
 
 use crate::deaths::list_deaths;
 use crate::held::list_held;
-use crate::order::{Source, order_sources, spread_all};
+use crate::order::{order_sources, spread_all};
 use crate::times::{NOW, write_roots, write_times};
 use et_base::{ObjectId, Steps, within};
-use et_graph::Death;
+use et_graph::{Death, Source};
 use et_heap::Heap;
 use std::alloc::{AllocError, Global};
 use std::sync::ledger::Ledger;

@@ -1,13 +1,13 @@
 -- The sources of a search, one after the other.
 use Rattle.std.proofs.Common.{◌≡◌, ℕ, ◌+◌, ◌-◌, ◌<◌, ◌≤◌, Bool, true, List, [], ◌∷◌, ◌++◌, length, get_or, set, Contains, refl, sym, ◌∙◌, ap, subst, inl, inr, arith}
 use Rattle.std.proofs.lemmas.Bool.{cases_lt}
-use Rattle.std.proofs.lemmas.List.{get_or_past, get_or_default}
+use Rattle.std.proofs.lemmas.List.{get_or_default}
 use Rattle.et_graph.specs.declared.search.Source.{Source}
 use Rattle.et_graph.specs.Times.{ArePairsWithin, Carries, AreSettled, IsSet, IsSpread, AreFollowed, Visits, Spreads}
 use Rattle.et_graph.specs.Order.{IsOrder}
 use Rattle.et_base.proofs.Lists.{Contains-none}
 use Rattle.et_graph.proofs.Carrying.{carries_none}
-use Rattle.et_graph.proofs.Spreading.{cases_set, set_here, set_keeps, mark_spread, mark_followed, carry_own, popped_spread, popped_waits, popped_followed, none_waits, followed_settled}
+use Rattle.et_graph.proofs.Spreading.{cases_set, set_here, set_keeps, mark_spread, mark_followed, carry_own, popped_spread, popped_waits, popped_followed, none_waits}
 
 -- While the time t of object o is carried.
 pub record IsCarrying (pairs : List (ℕ × ℕ)) (o t : ℕ) (times : List ℕ) (seen : List Bool) (times' : List ℕ) (seen' : List Bool) (work' : List ℕ) : Type 0 where
@@ -72,40 +72,40 @@ pub record AreCarried (pairs : List (ℕ × ℕ)) (start : List ℕ) (order : Li
   pub above : (u o : ℕ) → Contains pairs (u, o) → IsSet seen o → (k : ℕ) (d : Source) → i ≤ k → k < length order → get_or start ((get_or order k d).object - 1) 0 ≤ get_or times (o - 1) 0
   pub done : (k : ℕ) (d : Source) → k < i → IsSet seen (get_or order k d).object
 
-pub none_carried : (pairs : List (ℕ × ℕ)) (start : List ℕ) (order : List Source) (seen : List Bool) → ((o : ℕ) → ¬ IsSet seen o) → AreCarried pairs start order 0 start seen
-none_carried pairs start order seen unseen = record {
+pub none_carried : (pairs : List (ℕ × ℕ)) (start : List ℕ) (order : List Source) (seen : List Bool)
+    → ((u o : ℕ) → Contains pairs (u, o) → ¬ IsSet seen u) → ((u o : ℕ) → Contains pairs (u, o) → ¬ IsSet seen o)
+    → AreCarried pairs start order 0 start seen
+none_carried pairs start order seen unseen_from unseen_to = record {
   carries = carries_none pairs start;
   kept = λ o _ _. refl;
-  followed = λ u x c s. absurd (unseen u s);
-  above = λ _ o _ s. absurd (unseen o s);
+  followed = λ u x c s. absurd (unseen_from u x c s);
+  above = λ u o c s. absurd (unseen_to u o c s);
   done = λ k d lt. absurd (omega arith);
 }
 
-module _ (pairs : List (ℕ × ℕ)) (start : List ℕ) (order : List Source) (i : ℕ) (s : Source) (times : List ℕ) (seen : List Bool)
-    (pairs_within : ArePairsWithin (length start) pairs) (is_order : IsOrder start order) (lt : i < length order) (is : s ≡ get_or order i s)
+-- The sources are the objects of which P holds, and each pair leads to one of them.
+module _ (P : ℕ → Type 0) (pairs : List (ℕ × ℕ)) (start : List ℕ) (order : List Source) (i : ℕ) (s : Source) (times : List ℕ) (seen : List Bool)
+    (positive : (o : ℕ) → P o → 0 < o) (targets : (u o : ℕ) → Contains pairs (u, o) → P o)
+    (is_order : IsOrder P start order) (lt : i < length order) (is : s ≡ get_or order i s)
     (carried : AreCarried pairs start order i times seen) where
   object_at : (k : ℕ) (d : Source) → k ≡ i → (get_or order k d).object ≡ s.object
   object_at k d e = ap (λ (j : ℕ). (get_or order j d).object) e ∙ ap (λ (z : Source). z.object) (get_or_default order i d s lt ∙ sym is)
 
   -- what wasn't seen has no greater time
-  unseen_below : (o : ℕ) → 0 < o → ¬ IsSet seen o → get_or start (o - 1) 0 ≤ get_or start (s.object - 1) 0
-  unseen_below o above unseen =
-      elim (cases_lt (length start) o) [
-        | inl past ↦ omega (arith, get_or_past start (o - 1) 0 (omega arith))
-        | inr within ↦
-            let found = is_order.all o above within in
-            elim (cases_lt found.0 i) [
-              | inl before ↦ absurd (unseen (subst (λ (z : ℕ). IsSet seen z) (found.2 s) (carried.done found.0 s before)))
-              | inr later ↦
-                  let falls = is_order.falls i found.0 s later found.1 in
-                  let here : get_or start ((get_or order found.0 s).object - 1) 0 ≡ get_or start (o - 1) 0 = ap (λ (z : ℕ). get_or start (z - 1) 0) (found.2 s) in
-                  let there : get_or start ((get_or order i s).object - 1) 0 ≡ get_or start (s.object - 1) 0 = ap (λ (z : ℕ). get_or start (z - 1) 0) (object_at i s refl) in
-                  omega (arith, falls, here, there)
-            ]
+  unseen_below : (o : ℕ) → P o → ¬ IsSet seen o → get_or start (o - 1) 0 ≤ get_or start (s.object - 1) 0
+  unseen_below o there unseen =
+      let found = is_order.all o there in
+      elim (cases_lt found.0 i) [
+        | inl before ↦ absurd (unseen (subst (λ (z : ℕ). IsSet seen z) (found.2 s) (carried.done found.0 s before)))
+        | inr later ↦
+            let falls = is_order.falls i found.0 s later found.1 in
+            let here : get_or start ((get_or order found.0 s).object - 1) 0 ≡ get_or start (o - 1) 0 = ap (λ (z : ℕ). get_or start (z - 1) 0) (found.2 s) in
+            let own : get_or start ((get_or order i s).object - 1) 0 ≡ get_or start (s.object - 1) 0 = ap (λ (z : ℕ). get_or start (z - 1) 0) (object_at i s refl) in
+            omega (arith, falls, here, own)
       ]
 
-  first_within : (0 < s.object) × (s.object ≤ length start)
-  first_within = is_order.each s (i, lt, sym is)
+  first_above : 0 < s.object
+  first_above = positive s.object (is_order.each s (i, lt, sym is))
 
   done_more : (seen' : List Bool) → ((x : ℕ) → IsSet seen x → IsSet seen' x) → IsSet seen' s.object → (k : ℕ) (d : Source) → k < i + 1 → IsSet seen' (get_or order k d).object
   done_more seen' grows here k d less =
@@ -131,13 +131,13 @@ module _ (pairs : List (ℕ × ℕ)) (start : List ℕ) (order : List Source) (i
             }))
         | inr unseen ↦
             let t : ℕ = get_or times (s.object - 1) 0 in
-            let own : t ≡ get_or start (s.object - 1) 0 = carried.kept s.object first_within.0 unseen in
+            let own : t ≡ get_or start (s.object - 1) 0 = carried.kept s.object first_above unseen in
             let place : get_or start ((get_or order i s).object - 1) 0 ≡ get_or start (s.object - 1) 0 = ap (λ (z : ℕ). get_or start (z - 1) 0) (object_at i s refl) in
             let spread : IsSpread pairs start t times seen [] = record {
               carries = carried.carries;
               kept = carried.kept;
               above = λ u o c set. omega (arith, own, place, carried.above u o c set i s (omega arith) lt);
-              below = λ u o c out. let above = (pairs_within u o c).2 in omega (arith, own, carried.kept o above out, unseen_below o above out);
+              below = λ u o c out. let there = targets u o c in omega (arith, own, carried.kept o (positive o there) out, unseen_below o there out);
               waiting = λ o c. absurd (Contains-none o c);
             } in
             let now = spreads.spreads start unseen spread carried.followed in
@@ -153,11 +153,13 @@ module _ (pairs : List (ℕ × ℕ)) (start : List ℕ) (order : List Source) (i
             }
       ]
 
-pub carried_all : (pairs : List (ℕ × ℕ)) (start : List ℕ) (order : List Source) (i : ℕ) (times : List ℕ) (seen : List Bool) → ArePairsWithin (length start) pairs → IsOrder start order → length order ≤ i → AreCarried pairs start order i times seen → AreSettled pairs times
-carried_all pairs start order i times seen within is_order all carried =
-    followed_settled pairs (length start) times seen within
-    (λ o above le.
-    let found = is_order.all o above le in
+pub carried_all : (P : ℕ → Type 0) (pairs : List (ℕ × ℕ)) (start : List ℕ) (order : List Source) (i : ℕ) (times : List ℕ) (seen : List Bool)
+    → ((u o : ℕ) → Contains pairs (u, o) → P u) → IsOrder P start order → length order ≤ i → AreCarried pairs start order i times seen → AreSettled pairs times
+carried_all P pairs start order i times seen sources is_order all carried u x c =
+    let found = is_order.all u (sources u x c) in
     let d : Source = record { age = 0; object = 0 } in
-    subst (λ (z : ℕ). IsSet seen z) (found.2 d) (carried.done found.0 d (omega (arith, found.1))))
-    carried.followed
+    let s : IsSet seen u = subst (λ (z : ℕ). IsSet seen z) (found.2 d) (carried.done found.0 d (omega (arith, found.1))) in
+    elim (carried.followed u x c s) [
+      | inl never ↦ absurd never
+      | inr r ↦ r.1
+    ]

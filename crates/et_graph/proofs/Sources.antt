@@ -5,7 +5,7 @@ use Rattle.std.proofs.lemmas.List.{get_or_default}
 use Rattle.std.proofs.lemmas.List.Elements.{Contains-get_or}
 use Rattle.std.proofs.lemmas.List.Sorted.{Contains-permutation, IsPermutation-sym}
 use Rattle.et_graph.specs.declared.search.Source.{Source}
-use Rattle.et_graph.specs.Order.{sources, IsOrder}
+use Rattle.et_graph.specs.Order.{sources, IsOneOf, IsOrder}
 use Rattle.et_base.proofs.Lists.{Contains-none, Contains-here, Contains-there, Contains-cons}
 
 -- the source stands at this place
@@ -48,10 +48,10 @@ module _ (top : ℕ) (times : List ℕ) (order : List Source) (below : All (λ t
       let at : get_or times r.place 0 ≡ get_or times (s.object - 1) 0 = ap (λ (i : ℕ). get_or times i 0) place in
       (r.age ∙ ap (λ (t : ℕ). top - t) at, omega (arith, at, below r.place 0 r.within))
 
-  pub order_is : IsNonDecreasingBy (λ (s : Source). s.age) order → IsOrder times order
+  pub order_is : IsNonDecreasingBy (λ (s : Source). s.age) order → IsOrder (IsOneOf (length times)) times order
   order_is rises = record {
     each = λ s c. let r = at_place s c in (omega (arith, r.object), omega (arith, r.object, r.within));
-    all = λ o above le.
+    all = λ o (above, le).
         let r = at_source 1 top times (o - 1) (omega arith) in
         let c = Contains-permutation (sources 1 top times) order r.0 same r.1 in
         (c.0, c.1, λ d. ap (λ (z : Source). z.object) (get_or_default order c.0 d r.0 c.1 ∙ c.2) ∙ omega (arith, r.2));

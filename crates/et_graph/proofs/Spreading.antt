@@ -1,10 +1,10 @@
 -- A search that carries times along pairs, over plain lists.
-use Rattle.std.proofs.Common.{◌≡◌, ◌≢◌, ℕ, ◌+◌, ◌-◌, ◌<◌, ◌≤◌, ◌⊎◌, Bool, true, false, cond, List, [], ◌∷◌, ◌++◌, length, get_or, set, Contains, sym, ◌∙◌, ap, subst, inl, inr, arith, get_or-set_same, get_or-set_other}
+use Rattle.std.proofs.Common.{◌≡◌, ◌≢◌, ℕ, ◌+◌, ◌-◌, ◌<◌, ◌⊎◌, Bool, true, false, cond, List, [], ◌∷◌, ◌++◌, length, get_or, set, Contains, sym, ◌∙◌, ap, subst, inl, inr, arith, get_or-set_same, get_or-set_other}
 use Rattle.std.proofs.lemmas.Bool.{cases_eq, cases_Bool, both_ways}
 use Rattle.std.proofs.lemmas.List.{set-get_or}
 use Rattle.std.proofs.lemmas.List.Elements.{Contains-push_cases, Contains-append_left, Contains-append_right}
 use Rattle.std.proofs.lemmas.List.Sums.{sum_by-set}
-use Rattle.et_graph.specs.Times.{ArePairsWithin, Carries, AreSettled, IsSet, unset_count, IsSpread, AreFollowed}
+use Rattle.et_graph.specs.Times.{ArePairsWithin, Carries, IsSet, unset_count, IsSpread, AreFollowed}
 use Rattle.et_base.proofs.Lists.{Contains-none, Contains-here, Cases}
 use Rattle.et_graph.proofs.Carrying.{carries_none, carries_one, carries_more}
 
@@ -151,12 +151,4 @@ none_waits pairs times seen work none followed u x c s =
     elim (followed u x c s) [
       | inl w ↦ absurd (Contains-none u (subst (λ (ws : List ℕ). Contains ws u) none w))
       | inr r ↦ inr r
-    ]
-
-pub followed_settled : (pairs : List (ℕ × ℕ)) (n : ℕ) (times : List ℕ) (seen : List Bool) → ArePairsWithin n pairs → ((o : ℕ) → 0 < o → o ≤ n → IsSet seen o) → AreFollowed pairs times seen (λ v. ⊥) → AreSettled pairs times
-followed_settled pairs n times seen pairs_within all followed u x c =
-    let at = pairs_within u x c in
-    elim (followed u x c (all u at.0 at.1)) [
-      | inl none ↦ absurd none
-      | inr r ↦ r.1
     ]

@@ -8,10 +8,14 @@ abbrev pub sources : ℕ → ℕ → List ℕ → List Source
 sources k top [] = []
 sources k top (t ∷ times) = record { age = top - t; object = k } ∷ sources (k + 1) top times
 
--- each object with a time is there, and none comes after one with a smaller time
-pub record IsOrder (times : List ℕ) (order : List Source) : Type 0 where
-  pub each : (s : Source) → Contains order s → (0 < s.object) × (s.object ≤ length times)
-  pub all : (o : ℕ) → 0 < o → o ≤ length times
+-- the object is one of the first n
+abbrev pub IsOneOf : ℕ → ℕ → Type 0
+IsOneOf n o = (0 < o) × (o ≤ n)
+
+-- each object of which P holds is there, and none comes after one with a smaller time
+pub record IsOrder (P : ℕ → Type 0) (times : List ℕ) (order : List Source) : Type 0 where
+  pub each : (s : Source) → Contains order s → P s.object
+  pub all : (o : ℕ) → P o
       → (k : ℕ) × (k < length order) × ((d : Source) → (slice_index_or order k d).object ≡ o)
   pub falls : (i j : ℕ) (d : Source) → i ≤ j → j < length order
       → slice_index times ((slice_index_or order j d).object - 1)

@@ -12,4 +12,6 @@ mod stamps;
 
 pub use book::{GraphStep, StampBook};
 pub use objects::Death;
+pub use places::place_of;
+pub use search::{Source, mark};
 pub use stamps::Stamps;

@@ -3,7 +3,7 @@
 ghost use Rattle.std.specs.Prelude.{◌≡◌, ℕ, ◌+◌, ◌-◌, ◌^◌, ◌<◌, ◌≤◌, ◌++◌, [], ◌∷◌, true, length, slice_index, slice_set, All, OnOk, vec_capacity};
 ghost use Rattle.std.specs.List.Sorted.{IsNonDecreasingBy};
 ghost use Rattle.et_graph.specs.Times.{ArePairsWithin, Carries, AreSettled, IsSet, IsReady, Visits, Spreads};
-ghost use Rattle.et_graph.specs.Order.{sources, IsOrder, HasRoom};
+ghost use Rattle.et_graph.specs.Order.{sources, IsOneOf, IsOrder, HasRoom};
 
 use crate::pairs::pairs_of;
 use crate::places::place_of;
@@ -37,7 +37,13 @@ pub fn reserve(room: &mut Room, count: usize) -> Result<(), AllocError>
 }
 
 /// Notes that the object was seen at the time, and that its pairs are still to be followed.
-fn mark(object: ObjectId, time: u64, times: &mut [u64], seen: &mut [bool], work: &mut Vec<ObjectId>)
+pub fn mark(
+    object: ObjectId,
+    time: u64,
+    times: &mut [u64],
+    seen: &mut [bool],
+    work: &mut Vec<ObjectId>,
+)
     requires ready { IsReady times.old seen.old work.old }
     requires first { 0 < object }
     requires last { object ≤ length times.old }
@@ -46,6 +52,7 @@ fn mark(object: ObjectId, time: u64, times: &mut [u64], seen: &mut [bool], work:
     ensures times { times.new ≡ slice_set times.old (object - 1) time }
     ensures seen { seen.new ≡ slice_set seen.old (object - 1) true }
     ensures work { work.new.items ≡ work.old.items ++ object ∷ [] }
+    ensures grows { vec_capacity work.old ≤ vec_capacity work.new }
 {
     let place = place_of(object);
     times[place] = time;
@@ -115,7 +122,7 @@ fn spread_all(
 )
     requires sorted { IsNonDecreasingBy (λ (p : ℕ × ℕ). p.0) pairs.now }
     requires within { ArePairsWithin (length times.old) pairs.now }
-    requires order { IsOrder times.old order.now }
+    requires order { IsOrder (IsOneOf (length times.old)) times.old order.now }
     requires ready { IsReady times.old seen.old work.old }
     requires empty { work.old.items ≡ [] }
     requires unseen { (o : ℕ) → ¬ IsSet seen.old o }
@@ -153,7 +160,7 @@ fn order_sources(times: &[u64], top: u64, order: &mut Vec<Source>)
     requires below { All (λ t. t ≤ top) times.now }
     requires small { length times.now < 2 ^ 32 }
     requires room { length times.now ≤ vec_capacity order.old }
-    ensures order { IsOrder times.now order.new.items }
+    ensures order { IsOrder (IsOneOf (length times.now)) times.now order.new.items }
     ensures room { length times.now ≤ vec_capacity order.new }
 {
     list_sources(times, top, order);

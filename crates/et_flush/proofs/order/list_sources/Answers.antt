@@ -1,7 +1,7 @@
 use Rattle.std.proofs.Common.{◌≡◌, ℕ, ◌-◌, [], ◌∷◌, length, get_or, ap, sym, ◌∙◌, arith}
 use Rattle.std.proofs.lemmas.List.{length-append, get_or_default}
 use Rattle.et_flush.specs.declared.times.TheConstants.{NOW}
-use Rattle.et_flush.specs.declared.order.Source.{Source}
+use Rattle.et_graph.specs.declared.search.Source.{Source}
 use Rattle.et_flush.proofs.Listings.{each_none, each_more, all_more, sources_are}
 use Rattle.et_flush.proofs.order.list_sources.Goals as goal
 

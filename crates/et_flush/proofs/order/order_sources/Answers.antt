@@ -1,6 +1,6 @@
 use Rattle.std.proofs.Common.{rules}
 use Rattle.std.proofs.lemmas.List.Sorted.{IsNonDecreasingBy-from_sort_by_key}
-use Rattle.et_flush.specs.declared.order.Source.{Source}
+use Rattle.et_graph.specs.declared.search.Source.{Source}
 use Rattle.et_flush.proofs.Orders.{order_is}
 use Rattle.et_flush.proofs.order.order_sources.Goals as goal
 

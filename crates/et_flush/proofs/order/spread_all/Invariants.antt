@@ -3,7 +3,7 @@ use Rattle.std.proofs.Common.{◌≡◌, ◌+◌, ◌≤◌, [], vec_capacity}
 use Rattle.et_graph.specs.Times.{IsReady, unset_count}
 use Rattle.et_heap.specs.Refs.{pairs_of}
 use Rattle.et_flush.specs.Searches.{AreSeenHeld}
-use Rattle.et_flush.proofs.Orders.{AreCarried}
+use Rattle.et_graph.proofs.Rounds.{AreCarried}
 use Rattle.et_flush.proofs.order.spread_all.Given as goal
 
 abbrev pub invariant-loop-source : goal.invariant-loop-source

@@ -4,7 +4,9 @@ use Rattle.std.proofs.lemmas.List.{with_items_is}
 use Rattle.et_graph.specs.Times.{AreWithin, IsSet}
 use Rattle.et_heap.proofs.HeapLists.{held_within}
 use Rattle.et_flush.specs.declared.times.TheConstants.{NOW}
-use Rattle.et_flush.specs.Searches.{AreAllHeld, AreTimes, IsOrder}
+use Rattle.et_flush.specs.Searches.{AreAllHeld, AreTimes}
+use Rattle.et_graph.specs.Order.{IsOrder}
+use Rattle.et_heap.specs.Objects.{IsHeld}
 use Rattle.et_flush.proofs.Targets.{held_above}
 use Rattle.et_flush.proofs.Holding.{held_are_within, held_few}
 use Rattle.et_flush.proofs.Working.{times_below}
@@ -28,9 +30,9 @@ pub order_sources-requires-clause-within : goal.order_sources-requires-clause-wi
 order_sources-requires-clause-within c =
     let stamped : c.deref_mut-3.result.now ≡ c.write_times.new.times = c.deref_mut-3.ensures.value ∙ with_items_is c.args.work.now.times c.write_times.new.times (c.write_times.auto.times ∙ c.deref_mut.ensures.len) in
     let rooted : (with_items (with_items c.args.work.now.times c.write_times.new.times) c.write_roots.new.times).items ≡ c.write_roots.new.times =
-        with_items_is (with_items c.args.work.now.times c.write_times.new.times) c.write_roots.new.times (c.write_roots.auto.times ∙ c.deref_mut-3.ensures.len) in
+    with_items_is (with_items c.args.work.now.times c.write_times.new.times) c.write_roots.new.times (c.write_roots.auto.times ∙ c.deref_mut-3.ensures.len) in
     let long : length (with_items (with_items c.args.work.now.times c.write_times.new.times) c.write_roots.new.times).items ≡ length c.args.work.now.times.items =
-        ap length rooted ∙ (c.write_roots.auto.times ∙ (ap length stamped ∙ (c.write_times.auto.times ∙ ap length c.deref_mut.ensures.value))) in
+    ap length rooted ∙ (c.write_roots.auto.times ∙ (ap length stamped ∙ (c.write_times.auto.times ∙ ap length c.deref_mut.ensures.value))) in
     subst (λ (xs : List ℕ). AreWithin (length c.deref-3.result.now) xs) (sym c.deref-2.ensures.value)
     (held_are_within c.args.heap.now c.list_held.new.held.items c.list_held.ensures.held (length c.deref-3.result.now) c.requires.none (omega (arith, ap length c.deref-3.ensures.value, long, c.requires.places.times)))
 
@@ -44,7 +46,7 @@ order_sources-requires-clause-below c =
           ∙ c.write_times.ensures.times o (subst (λ (xs : List ℕ). Contains xs o) (sym c.deref.ensures.value) ((c.list_held.ensures.held.exact o).1 h));
     } in
     let rooted : (with_items (with_items c.args.work.now.times c.write_times.new.times) c.write_roots.new.times).items ≡ c.write_roots.new.times =
-        with_items_is (with_items c.args.work.now.times c.write_times.new.times) c.write_roots.new.times (c.write_roots.auto.times ∙ c.deref_mut-3.ensures.len) in
+    with_items_is (with_items c.args.work.now.times c.write_times.new.times) c.write_roots.new.times (c.write_roots.auto.times ∙ c.deref_mut-3.ensures.len) in
     λ o d.
     subst (λ (ts : List ℕ). get_or ts (o - 1) 0 ≤ NOW) (sym (c.deref-3.ensures.value ∙ (rooted ∙ c.write_roots.ensures)))
     (times_below c.args.heap.now c.args.roots.now c.args.stamps.now c.deref_mut-3.result.now c.requires.none c.requires.roots begins c.requires.long c.requires.below o
@@ -63,7 +65,7 @@ returns-clause-prepared c =
           ∙ c.write_times.ensures.times o (subst (λ (xs : List ℕ). Contains xs o) (sym c.deref.ensures.value) ((c.list_held.ensures.held.exact o).1 h));
     } in
     let rooted : (with_items (with_items c.args.work.now.times c.write_times.new.times) c.write_roots.new.times).items ≡ c.write_roots.new.times =
-        with_items_is (with_items c.args.work.now.times c.write_times.new.times) c.write_roots.new.times (c.write_roots.auto.times ∙ c.deref_mut-3.ensures.len) in
+    with_items_is (with_items c.args.work.now.times c.write_times.new.times) c.write_roots.new.times (c.write_roots.auto.times ∙ c.deref_mut-3.ensures.len) in
     let seen_is : (with_items c.args.work.now.seen c.write_times.new.seen).items ≡ c.write_times.new.seen = with_items_is c.args.work.now.seen c.write_times.new.seen (c.write_times.auto.seen ∙ c.deref_mut-2.ensures.len) in
     record {
       held = c.list_held.ensures.held;
@@ -74,7 +76,7 @@ returns-clause-prepared c =
           subst (λ (fs : List Bool). ¬ IsSet fs o) (sym seen_is)
           (c.write_times.ensures.seen o (subst (λ (xs : List ℕ). Contains xs o) (sym c.deref.ensures.value) ((c.list_held.ensures.held.exact o).1 h)));
       order =
-          subst (λ (ts : List ℕ). IsOrder c.args.heap.now ts c.order_sources.new.order.items) c.deref-3.ensures.value
+          subst (λ (ts : List ℕ). IsOrder (IsHeld c.args.heap.now) ts c.order_sources.new.order.items) c.deref-3.ensures.value
           (c.order_sources.ensures.order c.args.heap.now (subst (λ (xs : List ℕ). AreAllHeld c.args.heap.now xs) (sym c.deref-2.ensures.value) c.list_held.ensures.held));
     }
 
@@ -82,12 +84,12 @@ pub returns-clause-places : goal.returns-clause-places
 returns-clause-places c =
     let stamped : c.deref_mut-3.result.now ≡ c.write_times.new.times = c.deref_mut-3.ensures.value ∙ with_items_is c.args.work.now.times c.write_times.new.times (c.write_times.auto.times ∙ c.deref_mut.ensures.len) in
     let rooted : (with_items (with_items c.args.work.now.times c.write_times.new.times) c.write_roots.new.times).items ≡ c.write_roots.new.times =
-        with_items_is (with_items c.args.work.now.times c.write_times.new.times) c.write_roots.new.times (c.write_roots.auto.times ∙ c.deref_mut-3.ensures.len) in
+    with_items_is (with_items c.args.work.now.times c.write_times.new.times) c.write_roots.new.times (c.write_roots.auto.times ∙ c.deref_mut-3.ensures.len) in
     let long : length (with_items (with_items c.args.work.now.times c.write_times.new.times) c.write_roots.new.times).items ≡ length c.args.work.now.times.items =
-        ap length rooted ∙ (c.write_roots.auto.times ∙ (ap length stamped ∙ (c.write_times.auto.times ∙ ap length c.deref_mut.ensures.value))) in
+    ap length rooted ∙ (c.write_roots.auto.times ∙ (ap length stamped ∙ (c.write_times.auto.times ∙ ap length c.deref_mut.ensures.value))) in
     let seen_is : (with_items c.args.work.now.seen c.write_times.new.seen).items ≡ c.write_times.new.seen = with_items_is c.args.work.now.seen c.write_times.new.seen (c.write_times.auto.seen ∙ c.deref_mut-2.ensures.len) in
     let seen : length (with_items c.args.work.now.seen c.write_times.new.seen).items ≡ length c.args.work.now.seen.items =
-        ap length seen_is ∙ (c.write_times.auto.seen ∙ ap length c.deref_mut-2.ensures.value) in
+    ap length seen_is ∙ (c.write_times.auto.seen ∙ ap length c.deref_mut-2.ensures.value) in
     λ n h. record {
       times = omega (arith, h.times, long);
       seen = omega (arith, h.seen, long, seen);

@@ -5,8 +5,9 @@ use Rattle.et_graph.specs.Times.{Carries, IsSet}
 use Rattle.et_graph.proofs.Carrying.{length-set_each}
 use Rattle.et_heap.specs.Refs.{pairs_of}
 use Rattle.et_flush.specs.declared.times.TheConstants.{NOW}
-use Rattle.et_flush.specs.declared.order.Source.{Source}
-use Rattle.et_flush.specs.Searches.{IsOrder}
+use Rattle.et_graph.specs.declared.search.Source.{Source}
+use Rattle.et_graph.specs.Order.{IsOrder}
+use Rattle.et_heap.specs.Objects.{IsHeld}
 use Rattle.et_flush.proofs.Working.{unset_within}
 use Rattle.et_flush.proofs.Reaching.{few_visits}
 use Rattle.et_flush.proofs.work.settle.Goals as goal
@@ -16,8 +17,8 @@ spread_all-requires-clause-long g c = omega (arith, ap length c.deref_mut.ensure
 
 pub spread_all-requires-clause-order : goal.spread_all-requires-clause-order
 spread_all-requires-clause-order g c =
-    subst (λ (ts : List ℕ). IsOrder c.args.heap.now ts c.deref.result.now) (sym c.deref_mut.ensures.value)
-    (subst (λ (ss : List Source). IsOrder c.args.heap.now c.prepare.new.work.times.items ss) (sym c.deref.ensures.value) c.prepare.ensures.prepared.order)
+    subst (λ (ts : List ℕ). IsOrder (IsHeld c.args.heap.now) ts c.deref.result.now) (sym c.deref_mut.ensures.value)
+    (subst (λ (ss : List Source). IsOrder (IsHeld c.args.heap.now) c.prepare.new.work.times.items ss) (sym c.deref.ensures.value) c.prepare.ensures.prepared.order)
 
 pub spread_all-requires-clause-ready : goal.spread_all-requires-clause-ready
 spread_all-requires-clause-ready g c =
@@ -49,9 +50,9 @@ pub returns-clause-places : goal.returns-clause-places
 returns-clause-places g c = λ n h.
     let s = c.prepare.ensures.places n h in
     let times : length (with_items c.prepare.new.work.times c.spread_all.new.times).items ≡ length c.prepare.new.work.times.items =
-        ap length (with_items_is c.prepare.new.work.times c.spread_all.new.times (c.spread_all.auto.times ∙ c.deref_mut.ensures.len)) ∙ (c.spread_all.auto.times ∙ ap length c.deref_mut.ensures.value) in
+    ap length (with_items_is c.prepare.new.work.times c.spread_all.new.times (c.spread_all.auto.times ∙ c.deref_mut.ensures.len)) ∙ (c.spread_all.auto.times ∙ ap length c.deref_mut.ensures.value) in
     let seen : length (with_items c.prepare.new.work.seen c.spread_all.new.seen).items ≡ length c.prepare.new.work.seen.items =
-        ap length (with_items_is c.prepare.new.work.seen c.spread_all.new.seen (c.spread_all.auto.seen ∙ c.deref_mut-2.ensures.len)) ∙ (c.spread_all.auto.seen ∙ ap length c.deref_mut-2.ensures.value) in
+    ap length (with_items_is c.prepare.new.work.seen c.spread_all.new.seen (c.spread_all.auto.seen ∙ c.deref_mut-2.ensures.len)) ∙ (c.spread_all.auto.seen ∙ ap length c.deref_mut-2.ensures.value) in
     record {
       times = omega (arith, s.times, times);
       seen = omega (arith, s.seen, times, seen);
