@@ -77,7 +77,7 @@ module _ (P : (event object size elements : ℕ) → Type 0) where
     line_tells m next (Alloc event thread object class size elements) rs last le are =
         let is : IsAllocationOf p heap next object class size elements = are.0.2 in
         let same : object ≡ next = is.number_is in
-        let own : IsAllocationOf p heap object object class size elements = record { number_is = refl; held = is.held; class_is = is.class_is; length_is = is.length_is; size_is = is.size_is } in
+        let own : IsAllocationOf p heap object object class size elements = record { number_is = refl; held = is.held; class_is = is.class_is; length_is = is.length_is; size_is = is.size_is; plain = is.plain } in
         let made : P clock object size elements = told object class size elements (omega arith) own in
         ((same, subst (λ (k : ℕ). P k object size elements) (sym are.0.0) made), refl)
     line_tells m next (Update event thread object slot old new) rs last le are = (tt, refl)
@@ -320,7 +320,7 @@ module _ (reached : Graph → ℕ → Bool) (p : Linked) (options : Options) (pi
       let class : ℕ = argument_class p in
       let object : ObjectState = new_object class 0 0 in
       let heap : Objects = None ∷ Some object ∷ [] in
-      let allocation : IsAllocationOf p heap 1 1 class (array_size 0 8) 0 = record { number_is = refl; held = tt; class_is = refl; length_is = refl; size_is = argument_size (class_at p class).info.element arguments } in (
+      let allocation : IsAllocationOf p heap 1 1 class (array_size 0 8) 0 = record { number_is = refl; held = tt; class_is = refl; length_is = refl; size_is = argument_size (class_at p class).info.element arguments; plain = λ none. refl } in (
         tt,
         lines_tell (Made 0) p 0 0 heap 1
             (λ o c size elements le is. record {

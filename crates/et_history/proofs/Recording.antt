@@ -1,7 +1,7 @@
 -- What the words of an event tell: the records so far are those of what it has made so far.
 use Rattle.std.proofs.Common.{◌≡◌, ℕ, zero, suc, ◌+◌, ◌*◌, ◌<◌, ◌≤◌, ◌⊎◌, true, List, [], ◌∷◌, ◌++◌, length, set, get_or, Option, Some, None, refl, sym, ◌∙◌, ap, subst, inl, inr, arith}
 use Rattle.std.specs.Prelude.{All, if◌then◌else◌, codes, is_some, fold, unwrap_or}
-use Rattle.std.proofs.lemmas.Bool.{cases_lt}
+use Rattle.std.proofs.lemmas.Bool.{cases_lt, false≢true}
 use Rattle.std.proofs.lemmas.List.Elements.{All-nil, All-head, All-tail}
 use Rattle.std.proofs.lemmas.List.{length-set, length-append, length-replicate, length_push}
 use Rattle.et_base.specs.declared.value.Value.{Value}
@@ -202,8 +202,8 @@ written_static_told e i v d h within fine =
 
 -- OBJECTS
 
-made_told : (e : Moment) (class elements slots size : ℕ) (d : Doing) → Told e d → size ≡ size_of e.program (new_object class elements slots) → Told e (made e (new_object class elements slots) size d)
-made_told e class elements slots size d h is =
+made_told : (e : Moment) (class elements slots size : ℕ) (d : Doing) → Told e d → size ≡ size_of e.program (new_object class elements slots) → ((class_at e.program class).info.element ≡ NoArray → elements ≡ 0) → Told e (made e (new_object class elements slots) size d)
+made_told e class elements slots size d h is bare =
     let y : ObjectState = new_object class elements slots in
     let heap : Objects = d.state.heap in
     let now : Objects = heap ++ Some y ∷ [] in
@@ -217,6 +217,7 @@ made_told e class elements slots size d h is =
       class_is = ap (λ (x : ObjectState). x.class) here;
       length_is = ap (λ (x : ObjectState). x.length) here;
       size_is = is ∙ ap (λ (x : ObjectState). size_of e.program x) here;
+      plain = bare;
     } in
     let r : Record = Alloc d.state.guest.clock e.thread (length heap) class size elements in
     record {
@@ -233,17 +234,20 @@ pub instance_told : (e : Moment) (class : ℕ) (d : Doing) → Told e d → (cla
 instance_told e class d h plain =
     let slots : ℕ = (class_at e.program class).info.slots in
     made_told e class 0 slots (16 + 8 * slots) d h
-    (ap (λ (n : ℕ). 16 + 8 * n) (sym (length-replicate slots Unset)) ∙ ap (λ (x : Element). size_by x 0 (length (new_object class 0 slots).slots)) (sym plain))
+    (ap (λ (n : ℕ). 16 + 8 * n) (sym (length-replicate slots Unset)) ∙ ap (λ (x : Element). size_by x 0 (length (new_object class 0 slots).slots)) (sym plain)) (λ none. refl)
 
 array_size_is : (x : Element) (n slots : ℕ) → is_array x ≡ true → array_size n (element_width x) ≡ size_by x n slots
 array_size_is NoArray n slots is = cc
 array_size_is (Base kind) n slots is = refl
 array_size_is (Class class) n slots is = refl
 
+no_array : (x : Element) → x ≡ NoArray → is_array x ≡ true → ⊥
+no_array x none is = false≢true (sym (ap (λ (y : Element). is_array y) none) ∙ is)
+
 pub array_told : (e : Moment) (class n : ℕ) (d : Doing) → Told e d → is_array (class_at e.program class).info.element ≡ true → Told e (array_made e class n d)
 array_told e class n d h array =
     let x : Element = (class_at e.program class).info.element in
-    made_told e class n n (array_size n (element_width x)) d h (array_size_is x n (length (new_object class n n).slots) array)
+    made_told e class n n (array_size n (element_width x)) d h (array_size_is x n (length (new_object class n n).slots) array) (λ none. absurd (no_array x none array))
 
 -- STRINGS OF CONSTANTS
 

@@ -85,6 +85,7 @@ allocation_grows p h h' next object class size elements steady is =
       class_is = is.class_is ∙ sym alike.class;
       length_is = is.length_is ∙ sym alike.elements;
       size_is = is.size_is ∙ same_size p (object_at h object) (object_at h' object) alike;
+      plain = is.plain;
     }
 
 record_grows : (p : Linked) (clock t : ℕ) (h h' : Objects) (next : ℕ) (r : Record) → Steady h h' → IsRecordOf p clock t h next r → IsRecordOf p clock t h' next r

@@ -56,6 +56,8 @@ pub record IsAllocationOf (p : Linked) (heap : Objects) (next object class size 
   pub class_is : class ≡ (object_at heap object).class
   pub length_is : elements ≡ (object_at heap object).length
   pub size_is : size ≡ size_of p (object_at heap object)
+  -- what is no array has the length 0
+  pub plain : (class_at p class).info.element ≡ NoArray → elements ≡ 0
 
 module _ (p : Linked) (clock t : ℕ) (heap : Objects) where
   -- a record of this event of thread t, which led to this heap, where the object made next has this number
