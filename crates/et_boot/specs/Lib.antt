@@ -1,3 +1,4 @@
 pub mod Classes
 pub mod Shown
 pub mod Facts
+pub mod Pools

@@ -1,9 +1,10 @@
 //! What is true of the whole table.
 
-ghost use Rattle.std.specs.Prelude.{IsTrue, []};
+ghost use Rattle.std.specs.Prelude.{All, IsTrue, []};
 ghost use Rattle.std.specs.List.{list_all};
 ghost use Rattle.et_boot.specs.Classes.{boot_classes};
 ghost use Rattle.et_boot.specs.Facts.{are_distinct, are_in_order, defers_exactly};
+ghost use Rattle.et_boot.specs.Pools.{HasPool};
 
 /// No two built-in classes share a name.
 pub fn names_differ()
@@ -19,4 +20,9 @@ pub fn classes_are_in_order()
 /// The deferred methods are exactly those without code of Thread, Reference and WeakReference.
 pub fn deferred_exactly()
     ensures { IsTrue (list_all defers_exactly boot_classes) }
+{}
+
+/// The bytes of each built-in class are a constant pool (JVMS 4.4), whole.
+pub fn pools_are_read()
+    ensures { All HasPool boot_classes }
 {}

@@ -1,18 +1,13 @@
 -- Files are a program, or have a fault.
-use Rattle.std.proofs.Common.{◌≡◌, ℕ, ◌+◌, ◌<◌, ◌≤◌, ◌^◌, Bool, true, ◌||◌, List, [], ◌∷◌, ◌++◌, length, map, Option, None, Some, Result, Ok, Err, refl, sym, ◌∙◌, ap, subst, arith, append-nil}
+use Rattle.std.proofs.Common.{◌≡◌, ℕ, ◌+◌, ◌<◌, ◌≤◌, List, [], ◌∷◌, ◌++◌, length, map, Option, None, Some, Result, Ok, Err, refl, arith}
 use mathlib.Core.Logic.{⊎_elim}
 use Rattle.std.specs.Prelude.{All}
-use Rattle.std.specs.List.{list_all}
-use Rattle.std.specs.Str.{bytes_eq}
-use Rattle.std.proofs.lemmas.Bool.{cases_Bool, cases_lt, and_parts}
-use Rattle.std.proofs.lemmas.List.Elements.{All-nil, All-from_recursion}
-use Rattle.std.proofs.lemmas.Slice.Eq.{bytes_eq-Decides}
-use Rattle.et_pool.specs.Entries.{Item, Constants, slots_of}
-use Rattle.et_pool.specs.Pools.{IsPool}
-use Rattle.et_pool.specs.Text.{is_modified}
-use Rattle.et_pool.specs.Spelling.{IsEntry, pool_bytes}
-use Rattle.et_pool.proofs.Spelled.{spelled_pool}
-use Rattle.et_boot.specs.Classes.{BootClassOf, thread_pool}
+use Rattle.std.proofs.lemmas.Bool.{cases_lt}
+use Rattle.std.proofs.lemmas.List.Elements.{All-head, All-tail}
+use Rattle.et_pool.specs.Entries.{Constants}
+use Rattle.et_boot.specs.Classes.{BootClassOf}
+use Rattle.et_boot.specs.Pools.{HasPool}
+use Rattle.et_boot.proofs.PoolLemmas.{pools_are_read}
 use Rattle.et_hierarchy.specs.Links.{links}
 use Rattle.et_hierarchy.specs.Faults.{IsLinkFault, IsFaultless}
 use Rattle.et_hierarchy.specs.Ancestry.{Ancestry, IsAncestry}
@@ -33,43 +28,16 @@ use Rattle.et_link.proofs.LinkingLemmas.{set_fault, late_fault, late_inside, lin
 
 -- POOLS OF THE BUILT-IN CLASSES
 
-spelled_alone : (es : List Item) → All IsEntry es → length (slots_of es) < 2 ^ 16 → IsPool (pool_bytes es) 0 (slots_of es) (length (pool_bytes es))
-spelled_alone es all few =
-    spelled_pool (pool_bytes es) 0 (slots_of es) (length (pool_bytes es)) (record { entries = es; are_entries = all; few = few; slots_are = refl; stands = ([], sym (append-nil (pool_bytes es))); after_is = omega arith })
-
-thread_entries : All IsEntry thread_pool
-unfolding is_modified
-thread_entries =
-    All-from_recursion IsEntry thread_pool
-    ((refl, omega arith), ((refl, omega arith), ((refl, omega arith), ((refl, omega arith), ((refl, omega arith, omega arith), ((refl, omega arith, omega arith), ((refl, omega arith), ((refl, omega arith), ((refl, omega arith), ((refl, omega arith), ((refl, omega arith, omega arith), ((refl, omega arith, omega arith), tt))))))))))))
-
-abbrev is_spelled : BootClassOf → Bool
-is_spelled c = bytes_eq c.pool (pool_bytes []) || bytes_eq c.pool (pool_bytes thread_pool)
-
-pool_by : (c : BootClassOf) (es : List Item) → All IsEntry es → length (slots_of es) < 2 ^ 16 → c.pool ≡ pool_bytes es → (p : Constants) × IsBootPool c p
-pool_by c es all few e = (
-  record { at = 0; slots = slots_of es },
-  record { place = refl; after = length (pool_bytes es); spelled = subst (λ (b : List ℕ). IsPool b 0 (slots_of es) (length (pool_bytes es))) (sym e) (spelled_alone es all few) },
-)
-
-boot_pool : (c : BootClassOf) → is_spelled c ≡ true → (p : Constants) × IsBootPool c p
-boot_pool c h =
-    ⊎_elim
-    (λ y. pool_by c [] (All-nil IsEntry) (omega arith) ((bytes_eq-Decides c.pool (pool_bytes [])).0 y))
-    (λ n. pool_by c thread_pool thread_entries (omega arith) ((bytes_eq-Decides c.pool (pool_bytes thread_pool)).0 (sym (ap (λ b. b || bytes_eq c.pool (pool_bytes thread_pool)) n) ∙ h)))
-    (cases_Bool (bytes_eq c.pool (pool_bytes [])))
-
-boot_pools : (cs : List BootClassOf) → list_all is_spelled cs ≡ true → (ps : List Constants) × AreBootPools cs ps
+boot_pools : (cs : List BootClassOf) → All HasPool cs → (ps : List Constants) × AreBootPools cs ps
 boot_pools [] h = ([], tt)
 boot_pools (c ∷ cs) h =
-    let both = and_parts (is_spelled c) (list_all is_spelled cs) h in
-    let p = boot_pool c both.0 in
-    let r = boot_pools cs both.1 in
-    (p.0 ∷ r.0, (p.1, r.1))
+    let p : HasPool c = All-head HasPool c cs h in
+    let r = boot_pools cs (All-tail HasPool c cs h) in
+    (record { at = 0; slots = p.slots } ∷ r.0, (record { place = refl; after = length c.pool; spelled = p.read }, r.1))
 
-are_spelled : list_all is_spelled boots ≡ true
+are_read : All HasPool boots
 unfolding boots
-are_spelled = refl
+are_read = pools_are_read
 
 -- ANSWERS
 
@@ -89,7 +57,7 @@ module _ (files : List LoadedClass) (some : 0 < length files) where
 
     of_main : (m : ℕ) → Least None → main_of (methods_of files) ≡ Some m → length files ≤ 4096 → Answer
     of_main m none main few =
-        let ps = boot_pools boots are_spelled in
+        let ps = boot_pools boots are_read in
         let pools : List Constants = ps.0 ++ map file_pool files in (
           Ok (program_with files rows pools),
           (linkable files rows ancestry faultless m none main few, record { rows = rows; ancestry = ancestry; pools = record { built_in = ps.0; are_spelled = ps.1; are = refl }; tables = refl }),

@@ -9,3 +9,4 @@ pub mod LinkingLemmas
 pub mod BuildLemmas
 pub mod Unique
 pub mod Exists
+pub mod BuiltInLemmas

@@ -4,3 +4,4 @@ pub mod Known
 pub mod Crossing
 pub mod Refusals
 pub mod Declaring
+pub mod BuiltIn

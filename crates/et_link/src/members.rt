@@ -11,8 +11,8 @@ use crate::boots::{boot, boots};
 use et_base::{ClassId, Name, NoMemory};
 use et_boot::{BootClass, BootCode, BootField, BootMethod};
 use et_class::{ClassFile, Member};
-use et_code::{Code, RawCode, check_code};
-use et_pool::{Pool, read_pool};
+use et_code::{CheckFault, Code, RawCode, check_code};
+use et_pool::{Pool, PoolFault, read_pool};
 use et_program::{FieldInfo, MethodInfo};
 use std::alloc::Global;
 
@@ -134,9 +134,11 @@ pub(crate) fn all_fields(alloc: Global, files: &[ClassFile]) -> Result<Vec<Field
     Ok(list)
 }
 
-ghost use Rattle.std.specs.Prelude.{List, [], length};
+ghost use Rattle.std.specs.Prelude.{List, [], length, All, IfSome};
 ghost use Rattle.et_pool.specs.Entries.{Constants};
+ghost use Rattle.et_boot.specs.Pools.{HasPool};
 ghost use Rattle.et_program.specs.MembersOf.{methods_of, IsBootPool, AreBootPools, HasPools, file_pool};
+ghost use Rattle.et_link.specs.BuiltIn.{IsKeptBy, HasKeptCode};
 
 /// The methods of the classes, and the pools.
 #[derive(Drop)]
@@ -186,6 +188,7 @@ fn add_file_methods(
 
 /// The code of a built-in method.
 fn code_of_boot(alloc: Global, code: BootCode, tags: &[u8]) -> Result<Code, NoMemory>
+    requires { IsKeptBy tags.now (shown_code code) }
     ensures { IfOk result (λ c. c ≡ boot_body (shown_code code)) }
 {
     let raw = RawCode {
@@ -196,12 +199,14 @@ fn code_of_boot(alloc: Global, code: BootCode, tags: &[u8]) -> Result<Code, NoMe
     };
     match check_code(alloc, raw, tags) {
         Ok(code) => Ok(code),
-        Err(_) => Err(NoMemory),
+        Err(CheckFault::At { .. }) => unreachable!(),
+        Err(CheckFault::NoMemory) => Err(NoMemory),
     }
 }
 
 /// The code of a built-in method that has some.
 fn code_if_any(alloc: Global, code: Option<BootCode>, tags: &[u8]) -> Result<Option<Code>, NoMemory>
+    requires { IfSome (option_map shown_code code) (IsKeptBy tags.now) }
     ensures { IfOk result (λ c. c ≡ option_map boot_body (option_map shown_code code)) }
 {
     match code {
@@ -220,6 +225,7 @@ fn method_of_boot(
     method: &BootMethod,
     tags: &[u8],
 ) -> Result<MethodInfo, NoMemory>
+    requires { HasKeptCode tags.now (shown_method method.now) }
     ensures { IfOk result (λ m. m ≡ boot_method class (shown_method method.now)) }
 {
     let name = Name::of(alloc, method.name)?;
@@ -243,6 +249,7 @@ fn add_boot_methods(
     boot: BootClass,
     tags: &[u8],
 ) -> Result<(), NoMemory>
+    requires { All (HasKeptCode tags.now) (shown boot).methods }
     ensures { OnOk result (list.new.items ≡ list.old.items ++ boot_methods class (shown boot)) }
 {
     for method in boot.methods {
@@ -254,11 +261,15 @@ fn add_boot_methods(
 
 /// The pool of a built-in class.
 fn pool_of_boot(alloc: Global, boot: BootClass) -> Result<Pool, NoMemory>
+    requires { HasPool (shown boot) }
     ensures { IfOk result (IsBootPool (shown boot)) }
 {
     match read_pool(alloc, boot.pool, 0) {
         Ok((pool, _)) => Ok(pool),
-        Err(_) => Err(NoMemory),
+        Err(fault) => match fault {
+            PoolFault::NoMemory => Err(NoMemory),
+            _ => unreachable!(),
+        },
     }
 }
 
@@ -271,9 +282,10 @@ fn boot_members(alloc: Global) -> Result<Members, NoMemory>
     let mut pools = Vec::new(alloc);
     'classes: for i in 0..boots() {
         let class = class_at_place(i)?;
-        let pool = pool_of_boot(alloc, boot(i))?;
+        let boot = boot(i);
+        let pool = pool_of_boot(alloc, boot)?;
         let tags = pool.tags(alloc)?;
-        add_boot_methods(alloc, &mut methods, class, boot(i), tags.as_slice())?;
+        add_boot_methods(alloc, &mut methods, class, boot, tags.as_slice())?;
         pools.push(pool)?;
     }
     Ok(Members { methods, pools })
