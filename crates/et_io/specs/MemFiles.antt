@@ -16,16 +16,22 @@ held files path = option_map (λ bytes. bytes.items) (get_by_text files.files pa
 abbrev pub calls_of : MemFiles → Calls
 calls_of files = files.calls
 
--- the new files are the old ones with this file at this path, and no call was made
+-- the paths of the reads so far
+abbrev pub asked_of : MemFiles → List (List ℕ)
+asked_of files = files.reads.paths
+
+-- the new files are the old ones with this file at this path, and no read was made
 pub record Holds (old new : MemFiles) (path bytes : List ℕ) : Type 0 where
   pub there : held new path ≡ Some bytes
   pub others : (q : List ℕ) → q ≢ path → held new q ≡ held old q
   pub no_call : calls_of new ≡ calls_of old
+  pub no_read : asked_of new ≡ asked_of old
 
 -- both hold the same files, and have the same calls
 pub record IsUnchanged (old new : MemFiles) : Type 0 where
   pub files : (q : List ℕ) → held new q ≡ held old q
   pub no_call : calls_of new ≡ calls_of old
+  pub no_read : asked_of new ≡ asked_of old
 
 -- a read fails where it is to fail, and nowhere else
 abbrev pub FailsAsTold : Result Found NoMemory → Bool → Type 0

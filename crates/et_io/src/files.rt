@@ -1,5 +1,5 @@
 //! Files by their paths.
-ghost use Rattle.std.specs.Prelude.{◌≡◌, ℕ, ◌≤◌, Option, IfOk, IfSome};
+ghost use Rattle.std.specs.Prelude.{◌≡◌, ℕ, ◌≤◌, ◌++◌, ◌∷◌, [], List, Option, IfOk, IfSome};
 ghost use Rattle.et_io.specs.Faults.{count_after};
 ghost use Rattle.et_io.specs.Files.{Held, Finds, IsWithin, is_failed};
 
@@ -19,10 +19,13 @@ pub enum Found {
     Failed,
 }
 
-/// Files, each at a path. They may tell what they hold; each tells how often it failed.
+/// Files, each at a path. They may tell what they hold; each tells which reads were made, and how many failed.
 pub trait Files {
     /// The bytes at each path, where the files tell them.
     ghost holds: { Self → Option Held };
+
+    /// The paths of the reads made so far, in order.
+    ghost asked: { Self → List (List ℕ) };
 
     /// How many reads failed.
     ghost faults: { Self → ℕ };
@@ -34,6 +37,7 @@ pub trait Files {
             (λ found. IfSome (holds self.old) (λ held. Finds found most (held path.now))) }
         ensures within { IfOk result (λ found. IsWithin found most) }
         ensures failed { faults self.new ≡ count_after (is_failed result) (faults self.old) }
+        ensures asked { asked self.new ≡ asked self.old ++ path.now ∷ [] }
         ensures kept { holds self.new ≡ holds self.old }
         ensures never_falls { faults self.old ≤ faults self.new };
 }

@@ -5,6 +5,7 @@ ghost use Rattle.et_io.specs.Faults.{count_after};
 ghost use Rattle.et_io.specs.Files.{IsWithin};
 
 use crate::files::{Files, Found};
+use crate::reads::{Read as Asked, Reads};
 use crate::sink::{Put, Sink};
 use et_base::NoMemory;
 use std::alloc::Global;
@@ -17,12 +18,17 @@ use std::{fs, rt};
 pub struct HostFiles<R: rt::Files> {
     runtime: R,
     faults: u64,
+    reads: Reads,
 }
 
 impl<R: rt::Files> HostFiles<R> {
     /// The files that this runtime reaches.
     pub fn begin(runtime: R) -> HostFiles<R> {
-        HostFiles { runtime, faults: 0 }
+        HostFiles {
+            runtime,
+            faults: 0,
+            reads: Reads::begin(),
+        }
     }
 }
 
@@ -44,9 +50,12 @@ impl<R: rt::Files> Files for HostFiles<R> {
 
     ghost holds = { λ _. None };
 
+    ghost asked = { λ files. files.reads.paths };
+
     ghost faults = { λ files. files.faults };
 
     fn read(&mut self, alloc: Global, path: &str, most: u64) -> Result<Found, NoMemory> {
+        self.reads = self.reads.then(&Asked { path });
         let found = match fs::open(&self.runtime, path) {
             Ok(file) => read_open(file, alloc, most)?,
             Err(error) if error.kind() == ErrorKind::NotFound => Found::Absent,

@@ -9,6 +9,7 @@ mod host;
 mod mem_files;
 mod mem_sink;
 mod putting;
+mod reads;
 mod sink;
 
 pub use files::{Files, Found};

@@ -1,6 +1,7 @@
 //! Files in memory.
 use crate::calls::CallBook;
 use crate::files::{Files, Found};
+use crate::reads::{Read, Reads};
 use et_base::NoMemory;
 use std::alloc::Global;
 use std::collections::HashMap;
@@ -11,23 +12,26 @@ pub struct MemFiles {
     files: HashMap<String, Vec<u8>>,
     alloc: Global,
     calls: CallBook,
+    reads: Reads,
 }
 
 impl MemFiles {
     ghost use Rattle.std.specs.Prelude.{◌≡◌, ◌<◌, ◌^◌, List, ℕ, [], None, OnOk, OnErr};
     ghost use Rattle.std.specs.Ordering.{nat_cmp};
     ghost use Rattle.std.specs.BTreeSet.{insert_key};
-    ghost use Rattle.et_io.specs.MemFiles.{held, calls_of, Holds, IsUnchanged};
+    ghost use Rattle.et_io.specs.MemFiles.{held, calls_of, asked_of, Holds, IsUnchanged};
 
     /// Nothing held, no call made, none to fail and no faults.
     pub fn begin(alloc: Global) -> MemFiles
         ensures nothing { (path : List ℕ) → held result path ≡ None }
         ensures calls { calls_of result ≡ record { made = 0; failing = []; faults = 0 } }
+        ensures asked { asked_of result ≡ [] }
     {
         MemFiles {
             files: HashMap::new(alloc),
             alloc,
             calls: CallBook::begin(alloc),
+            reads: Reads::begin(),
         }
     }
 
@@ -49,6 +53,7 @@ impl MemFiles {
         ensures ok { OnOk result (calls_of self.new ≡ record (calls_of self.old)
             { failing = insert_key nat_cmp (calls_of self.old).failing call }) }
         ensures files { (path : List ℕ) → held self.new path ≡ held self.old path }
+        ensures asked { asked_of self.new ≡ asked_of self.old }
         ensures err { OnErr result (calls_of self.new ≡ calls_of self.old) }
     {
         self.calls.fail_at(call)
@@ -56,13 +61,15 @@ impl MemFiles {
 }
 
 impl Files for MemFiles {
-    ghost use Rattle.std.specs.Prelude.{◌≡◌, ◌≤◌, ◌↔◌, ℕ, List, Some, Ok, IfOk, IfSome, IsTrue};
+    ghost use Rattle.std.specs.Prelude.{◌≡◌, ◌≤◌, ◌↔◌, ◌++◌, ◌∷◌, [], ℕ, List, Some, Ok, IfOk, IfSome, IsTrue};
     ghost use Rattle.et_io.specs.Calls.{next_fails, after_call};
     ghost use Rattle.et_io.specs.Faults.{count_after};
     ghost use Rattle.et_io.specs.Files.{Finds, IsWithin, is_failed};
-    ghost use Rattle.et_io.specs.MemFiles.{held, calls_of, FailsAsTold};
+    ghost use Rattle.et_io.specs.MemFiles.{held, calls_of, asked_of, FailsAsTold};
 
     ghost holds = { λ files. Some (held files) };
+
+    ghost asked = { asked_of };
 
     ghost faults = { λ files. (calls_of files).faults };
 
@@ -72,11 +79,13 @@ impl Files for MemFiles {
         ensures within { IfOk result (λ found. IsWithin found most) }
         ensures failed { (calls_of self.new).faults
             ≡ count_after (is_failed result) (calls_of self.old).faults }
+        ensures asked { asked_of self.new ≡ asked_of self.old ++ path.now ∷ [] }
         ensures kept { Some (held self.new) ≡ Some (held self.old) }
         ensures never_falls { (calls_of self.old).faults ≤ (calls_of self.new).faults }
         ensures fails { FailsAsTold result (next_fails (calls_of self.old)) }
         ensures calls { calls_of self.new ≡ after_call (calls_of self.old) }
     {
+        self.reads = self.reads.then(&Read { path });
         if self.calls.next_call() {
             return Ok(Found::Failed);
         }

@@ -7,4 +7,5 @@ returns-clause-ok c = record {
   there = grind (arith, text_keys);
   others = λ q other. grind (arith, text_keys, other);
   no_call = refl;
+  no_read = refl;
 }
