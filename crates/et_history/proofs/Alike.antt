@@ -1,5 +1,5 @@
 -- Two histories of which each pair of states matches: what one tells, the other tells.
-use Rattle.std.proofs.Common.{◌≡◌, ℕ, zero, suc, ◌+◌, ◌<◌, ◌==◌, Bool, true, false, List, [], ◌∷◌, ◌++◌, length, Option, Some, None, refl, sym, ◌∙◌, ap, subst, inl, inr, arith}
+use Rattle.std.proofs.Common.{◌≡◌, ℕ, zero, suc, ◌+◌, ◌<◌, ◌≤◌, ◌==◌, Bool, true, false, List, [], ◌∷◌, ◌++◌, length, Option, Some, None, refl, sym, ◌∙◌, ap, subst, inl, inr, arith}
 use Rattle.std.specs.Prelude.{if◌then◌else◌, ◌%◌, slice_index}
 use Rattle.std.specs.List.{list_any}
 use mathlib.Core.Path.{fun_ext}
@@ -12,7 +12,9 @@ use Rattle.et_graph.specs.Graph.{Graph}
 use Rattle.et_state.specs.declared.records.Record.{Record}
 use Rattle.et_state.specs.Naming.{Names, Mentions, mentions_after, lines_of}
 use Rattle.et_state.specs.Outcome.{Outcome, state_after, records_of, end_by}
-use Rattle.et_loop.specs.Visits.{visits_at, visits_below, allowed_visits}
+use Rattle.et_io.specs.Sink.{with_more}
+use Rattle.et_text.specs.Spelling.{text}
+use Rattle.et_loop.specs.Visits.{visits_at, visits_below, allowed_visits, visits_to, visits_of_turn, turn_visits, due_visits, made_after, IsCut}
 use Rattle.et_state.specs.History.{Rule, Setting, is_flush_point, is_gone, deaths_to, flush_lines, turn_of, step_of, ending, settled, left_by, records_at, IsLast, last_reached, deaths, mentions_to, lines_to, trace_of, how_of}
 
 -- two graphs of which a history tells the same
@@ -67,6 +69,12 @@ module _ (names : Names) (b : Bool) (e : ℕ) {ls ls' : List TraceLine} {ds ds' 
 same_ending : (e : ℕ) (end : End) {ls ls' : List TraceLine} {ds ds' : List (ℕ × ℕ)} → ls ≡ ls' → ds ≡ ds'
     → ls ++ flush_lines e ds ++ Finish e (how_of end) ∷ [] ≡ ls' ++ flush_lines e ds' ++ Finish e (how_of end) ∷ []
 same_ending e end {ls} {ls'} {ds} {ds'} el ed = ap (λ x. x ++ flush_lines e ds ++ Finish e (how_of end) ∷ []) el ∙ ap (λ x. ls' ++ flush_lines e x ++ Finish e (how_of end) ∷ []) ed
+
+same_turns : (end end' : Option End) (due : Bool) (flush flush' made made' : ℕ) → end ≡ end' → flush ≡ flush' → (end ≡ None → made ≡ made') → turn_visits end due flush made ≡ turn_visits end' due flush' made'
+same_turns None end' due flush flush' made made' e f m =
+    ap (λ (n : ℕ). due_visits due n + (8 + made)) f ∙ (ap (λ (n : ℕ). due_visits due flush' + (8 + n)) (m refl) ∙ ap (λ (x : Option End). turn_visits x due flush' made') e)
+same_turns (Some end) end' due flush flush' made made' e f m =
+    ap (λ (n : ℕ). n + 8) f ∙ ap (λ (x : Option End). turn_visits x due flush' made') e
 
 module _ {S T : Type 0} (reached : Graph → ℕ → Bool) (given : Setting S) (rule : Rule T) (M : ℕ → S → T → Type 0) where
   -- the same setting over the other states
@@ -217,3 +225,27 @@ module _ {S T : Type 0} (reached : Graph → ℕ → Bool) (given : Setting S) (
 
         pub allowed_alike : (e : ℕ) → GoesTo e → allowed_visits reached given visits start made e ≡ allowed_visits reached other visits' start' made e
         allowed_alike e goes = omega (arith, below_alike e goes, now_alike e goes, (looks_alike e goes).made, (mirrors.looks 0 start start' first).made)
+
+        -- the turn after event e, by how both histories go on or end there
+        turn_alike : (e : ℕ) → GoesTo e → visits_of_turn reached given visits e (one e) ≡ visits_of_turn reached other visits' e (two e)
+        turn_alike e goes =
+            same_turns (ending given e (settled reached given e (one e))) (ending other e (settled reached other e (two e))) (is_flush_point given.interval e) _ _ _ _ (ends_alike e goes) (now_alike e goes)
+            (λ on.
+            let next : made_after given e (settled reached given e (one e)) ≡ made_after other e (settled reached other e (two e)) = (mirrors.looks (suc e) _ _ (goes_alike e _ _ (settled_alike e _ _ (all_alike e goes)) on).next).made in
+            omega (arith, next, (looks_alike e goes).made))
+
+        pub turns_alike : (e : ℕ) → GoesTo e → visits_to reached given visits start made e ≡ visits_to reached other visits' start' made e
+        turns_alike e goes = omega (arith, below_alike e goes, turn_alike e goes, (looks_alike e goes).made, (mirrors.looks 0 start start' first).made)
+
+        -- a run that was cut off in a turn of one was so in the same turn of the other
+        pub cut_alike : (before after : Option (List ℕ)) (old new : ℕ) → IsCut reached given visits start made before after old new → IsCut reached other visits' start' made before after old new
+        cut_alike before after old new (inl same) = inl same
+        cut_alike before after old new (inr (e, c)) = inr (
+          e,
+          record {
+            goes = goes_there e c.goes;
+            rest = c.rest;
+            taken = c.taken ∙ ap (λ (ls : List TraceLine). with_more before (text ls ++ c.rest)) (lines_alike e c.goes);
+            visits = subst (λ (n : ℕ). new ≤ old + n) (turns_alike e c.goes) c.visits;
+          },
+        )

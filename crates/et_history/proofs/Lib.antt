@@ -17,6 +17,7 @@ mod Saying
 mod RowRecords
 mod CallRecords
 mod EventRecords
+mod SoundStates
 mod Agreeing
 mod Alike
 mod Wholes

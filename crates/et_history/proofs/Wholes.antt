@@ -39,13 +39,13 @@ use Rattle.et_loop.specs.declared.options.Ran.{Ran}
 use Rattle.et_loop.specs.Traced.{WritesTrace, WritesPrefix}
 use Rattle.et_text.specs.Spelling.{text}
 use Rattle.et_loop.specs.Kept.{IsKept}
-use Rattle.et_loop.specs.Visits.{allowed_visits}
+use Rattle.et_loop.specs.Visits.{allowed_visits, IsCut}
 use Rattle.et_history.specs.Settings.{IsSoundRun, flush_visits_of, setting, unended_of, flushed_of}
 use Rattle.et_history.specs.Changing.{KeepsMonitors}
 use Rattle.et_history.specs.Histories.{picked, state_at, settled_at, GoesOn, WholeGoesOn, moment_at, whole_picked, whole_at, whole_settled_at}
 use Rattle.et_history.specs.Same.{TellsTheSame, IsHere}
 use Rattle.et_history.specs.Whole.{beside, cleared, whole_event, whole_flushed, whole_setting, whole_start, whole_visits_of}
-use Rattle.et_history.proofs.Alike.{is_open, settled_alike, LooksAlike, LeadsAlike, IsTurn, Mirrors, all_alike, looks_alike, last_alike, deaths_alike, lines_alike, trace_alike, last_there, last_back, goes_back, allowed_alike}
+use Rattle.et_history.proofs.Alike.{is_open, settled_alike, LooksAlike, LeadsAlike, IsTurn, Mirrors, all_alike, looks_alike, last_alike, deaths_alike, lines_alike, trace_alike, last_there, last_back, goes_back, allowed_alike, cut_alike}
 use Rattle.et_history.proofs.Events.{event_keeps}
 use Rattle.et_history.proofs.Unended.{unended_thread}
 
@@ -352,6 +352,9 @@ module _ (reached : Graph → ℕ → Bool) (p : Linked) (options : Options) (pi
       → allowed_visits reached given flush_visits_of (start p) (start_records p) e ≡ allowed_visits reached (whole_picked p options pick) whole_visits_of (whole_start p) (start_records p) e
   same_allowed e end last = allowed_alike reached given whole M mirrors (start p) (whole_start p) (start_records p) first flush_visits_of whole_visits_of same_visits e last.first
 
+  pub same_cut : (before after : Option (List ℕ)) (old new : ℕ) → IsCut reached given flush_visits_of (start p) (start_records p) before after old new → IsCut reached (whole_picked p options pick) whole_visits_of (whole_start p) (start_records p) before after old new
+  same_cut before after old new c = cut_alike reached given whole M mirrors (start p) (whole_start p) (start_records p) first flush_visits_of whole_visits_of same_visits before after old new c
+
   -- the states that match, before and after the flush that may be due
   pub all_match : (e : ℕ) → ((k : ℕ) → k < e → GoesOn reached p options pick k) → M e (state_at reached p options pick e) (whole_at reached p options pick e)
   all_match e goes = all_alike reached given whole M mirrors (start p) (whole_start p) (start_records p) first e goes
@@ -420,6 +423,10 @@ pub visits : (reached : Graph → ℕ → Bool) (p : Linked) (options : Options)
     → IsLast reached (setting p options) (start p) (start_records p) e end
     → allowed_visits reached (setting p options) flush_visits_of (start p) (start_records p) e ≡ allowed_visits reached (whole_setting p options) whole_visits_of (whole_start p) (start_records p) e
 visits reached p options e end decides run are last = same_allowed reached p options (pick_of options.schedule) decides run are e end last
+
+pub cut : (reached : Graph → ℕ → Bool) (p : Linked) (options : Options) (before after : Option (List ℕ)) (old new : ℕ) → Decides reached → IsSoundRun p (start p) → AreOptions options
+    → IsCut reached (setting p options) flush_visits_of (start p) (start_records p) before after old new → IsCut reached (whole_setting p options) whole_visits_of (whole_start p) (start_records p) before after old new
+cut reached p options before after old new decides run are c = same_cut reached p options (pick_of options.schedule) decides run are before after old new c
 
 pub ends : (reached : Graph → ℕ → Bool) (p : Linked) (options : Options) (pick : ℕ → ℕ) (e : ℕ) (end : End) → Decides reached → IsSoundRun p (start p) → AreOptions options
     → IsLast reached (picked p options pick) (start p) (start_records p) e end ↔ IsLast reached (whole_picked p options pick) (whole_start p) (start_records p) e end

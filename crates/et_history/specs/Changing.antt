@@ -2,11 +2,13 @@
 use Rattle.std.specs.Prelude.{◌≡◌, ℕ, ◌+◌, ◌<◌, ◌≤◌, ◌⊎◌, true, if◌then◌else◌, length, Option, Some, IfSome}
 use Rattle.et_heap.specs.declared.monitor.Monitor.{Monitor}
 use Rattle.et_heap.specs.Objects.{IsHeld, free_monitor}
+use Rattle.et_program.specs.Entries.{Linked}
 use Rattle.et_state.specs.Sound.{IsSound}
 use Rattle.et_state.specs.State.{Kept}
 use Rattle.et_state.specs.Outcome.{Outcome}
 use Rattle.et_state.specs.Outcome as outcome
 use Rattle.et_event.specs.Moments.{Moment, begins, later}
+use Rattle.et_event.specs.Sound.{IsSoundFor}
 use Rattle.et_event.specs.Monitors.{Lock, OfObject, is_owner, left_once, may_enter}
 use Rattle.et_sound.specs.WellFormed.{IsThere}
 use Rattle.et_history.specs.Holding.{entry_of, exit_of, is_one, monitor_in}
@@ -50,3 +52,10 @@ KeepsMonitors e (outcome.Goes after records) = MovesMonitors e (entry_of e after
 KeepsMonitors e (outcome.Waits after) = after ≡ later e.before
 KeepsMonitors e (outcome.IllTyped method pc) = Unit {0}
 KeepsMonitors e outcome.ObjectLimit = Unit {0}
+
+-- SOUND STATES: where the event is done, or the thread waits, the next state is one
+abbrev pub LeadsToSound : Linked → Outcome Kept → Type 0
+LeadsToSound p (outcome.Goes next records) = IsSoundFor p next
+LeadsToSound p (outcome.Waits next) = IsSoundFor p next
+LeadsToSound p (outcome.IllTyped method pc) = Unit {0}
+LeadsToSound p outcome.ObjectLimit = Unit {0}

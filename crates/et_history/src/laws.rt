@@ -1,6 +1,6 @@
 //! The histories of a program. Each law is a function with an empty body: what it promises is its contract.
 
-ghost use Rattle.std.specs.Prelude.{◌≡◌, ◌↔◌, ℕ, ◌+◌, ◌<◌, ◌≤◌, Bool, List, Option, Some, Contains};
+ghost use Rattle.std.specs.Prelude.{◌≡◌, ◌↔◌, ℕ, ◌+◌, ◌<◌, ◌≤◌, ◌^◌, Bool, List, Option, Some, Contains};
 ghost use Rattle.et_base.specs.declared.value.End.{End};
 ghost use Rattle.et_graph.specs.Graph.{Graph, Decides};
 ghost use Rattle.et_heap.specs.Objects.{ObjectState, IsHeld, at};
@@ -19,9 +19,9 @@ ghost use Rattle.et_event.specs.Sound.{IsSoundFor};
 ghost use Rattle.et_event.specs.Start.{start_records};
 ghost use Rattle.et_loop.specs.declared.options.Ran.{Ran};
 ghost use Rattle.et_loop.specs.Traced.{WritesTrace, WritesPrefix};
-ghost use Rattle.et_loop.specs.Visits.{allowed_visits};
+ghost use Rattle.et_loop.specs.Visits.{allowed_visits, IsCut};
 ghost use Rattle.et_sound.specs.WellFormed.{IsThere};
-ghost use Rattle.et_history.specs.Changing.{KeepsMonitors};
+ghost use Rattle.et_history.specs.Changing.{KeepsMonitors, LeadsToSound};
 ghost use Rattle.et_history.specs.Histories.{picked, state_at, GoesOn, whole_picked, whole_at, WholeGoesOn, times_held};
 ghost use Rattle.et_history.specs.Holding.{monitor_in};
 ghost use Rattle.et_history.specs.Same.{IsHere, IsReportedAs, TellsTheSame};
@@ -34,6 +34,14 @@ pub fn events_keep_monitors()
     ensures { (p : Linked) (s : Kept) (t : ℕ) →
         IsSoundFor p s → IsUnended s.guest t → IsRunnable p →
         KeepsMonitors (record { program = p; before = s; thread = t }) (event p s t) }
+{}
+
+/// Each event of a thread that has not ended leads from a sound state to a sound one, where it is done or the thread waits: what
+/// the next state refers to is held too.
+pub fn events_lead_to_sound_states()
+    ensures { (p : Linked) (s : Kept) (t : ℕ) →
+        IsSoundFor p s → s.guest.clock < 2 ^ 40 → IsUnended s.guest t → IsRunnable p →
+        LeadsToSound p (event p s t) }
 {}
 
 /// In every state of every history of a program that may be run, over every list of picks, no two threads hold one monitor:
@@ -103,7 +111,8 @@ pub fn histories_tell_the_same()
         ↔ IsLast reached (whole_picked p options pick) (whole_start p) (start_records p) e end }
 {}
 
-/// So a trace of one history is a trace of the other, and a prefix of it is too. A run may make as many visits of objects.
+/// So a trace of one history is a trace of the other, and a prefix of it is too. A run may make as many visits of objects, up
+/// to the end and up to each turn before.
 pub fn traces_are_the_same()
     ensures trace { (reached : Graph → ℕ → Bool) (p : Linked) (options : Options) (ran : Ran)
         (before after : Option (List ℕ)) → Decides reached → IsSoundRun p (start p) →
@@ -123,4 +132,11 @@ pub fn traces_are_the_same()
         allowed_visits reached (setting p options) flush_visits_of (start p) (start_records p) e
         ≡ allowed_visits reached (whole_setting p options) whole_visits_of (whole_start p)
         (start_records p) e }
+    ensures cut { (reached : Graph → ℕ → Bool) (p : Linked) (options : Options)
+        (before after : Option (List ℕ)) (old new : ℕ) → Decides reached →
+        IsSoundRun p (start p) → AreOptions options →
+        IsCut reached (setting p options) flush_visits_of (start p) (start_records p)
+        before after old new →
+        IsCut reached (whole_setting p options) whole_visits_of (whole_start p) (start_records p)
+        before after old new }
 {}

@@ -5,6 +5,3 @@
 pub mod laws;
 pub mod object_laws;
 pub mod record_laws;
-
-pub use et_sound::event_laws::events_keep_sound;
-pub use et_sound::laws::answers_are_sound;

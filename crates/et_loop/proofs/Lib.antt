@@ -9,3 +9,4 @@ pub mod Joins
 pub mod Marking
 pub mod TurnSteps
 pub mod Counts
+pub mod Cuts

@@ -13,7 +13,7 @@ use Rattle.et_text.specs.Spelling.{text, spelling}
 use Rattle.et_loop.specs.Run.{noted, flush_of, due_lines, due_state, last_lines, Goes, Turns}
 
 -- a flush where it is due leads to the settled state
-settled_is : {S : Type 0} (reached : Graph → ℕ → Bool) (given : Setting S) (s : S) (b : Bool) → due_state b (given.rule.flushed (reached (given.rule.graph s)) s) s ≡ (if b then given.rule.flushed (reached (given.rule.graph s)) s else s)
+pub settled_is : {S : Type 0} (reached : Graph → ℕ → Bool) (given : Setting S) (s : S) (b : Bool) → due_state b (given.rule.flushed (reached (given.rule.graph s)) s) s ≡ (if b then given.rule.flushed (reached (given.rule.graph s)) s else s)
 settled_is reached given s true = refl
 settled_is reached given s false = refl
 

@@ -58,7 +58,7 @@ fn report<G: Guest, L: Ledger>(
         OnOk result (G.state machine.new ≡ G.flushed_of here (G.state machine.old)) }
     ensures visits { (here : ℕ → Bool) →
         ((o : ℕ) → IsTrue (here o) ↔ IsReached (G.graph_of (G.state machine.old)) o) →
-        OnOk result (visits.new ≤ visits.old + G.flush_visits_of here (G.state machine.old)) }
+        visits.new ≤ visits.old + G.flush_visits_of here (G.state machine.old) }
     ensures graph { OnOk result
         (Settles true (G.graph_of (G.state machine.old)) (G.graph_of (G.state machine.new))) }
     ensures clock { OnOk result
@@ -92,8 +92,8 @@ pub fn settle<G: Guest, L: Ledger>(
         ↔ IsReached (G.graph_of (G.state machine.old)) o) → OnOk result (G.state machine.new
         ≡ due_state due (G.flushed_of here (G.state machine.old)) (G.state machine.old)) }
     ensures visits { (here : ℕ → Bool) →
-        ((o : ℕ) → IsTrue (here o) ↔ IsReached (G.graph_of (G.state machine.old)) o) → OnOk result
-        (visits.new ≤ visits.old + due_visits due (G.flush_visits_of here (G.state machine.old))) }
+        ((o : ℕ) → IsTrue (here o) ↔ IsReached (G.graph_of (G.state machine.old)) o) →
+        visits.new ≤ visits.old + due_visits due (G.flush_visits_of here (G.state machine.old)) }
     ensures graph { OnOk result
         (Settles due (G.graph_of (G.state machine.old)) (G.graph_of (G.state machine.new))) }
     ensures clock { OnOk result
@@ -124,8 +124,8 @@ pub fn conclude<G: Guest, L: Ledger>(
     requires stamps { HasStamps (G.graph_of (G.state machine.old)) tracer.old.stamps }
     requires room { G.has_places tracer.old.room (G.graph_of (G.state machine.old)).made }
     ensures visits { (here : ℕ → Bool) → (due ≡ false →
-        (o : ℕ) → IsTrue (here o) ↔ IsReached (G.graph_of (G.state machine.old)) o) → OnOk result
-        (visits.new ≤ visits.old + last_visits due (G.flush_visits_of here (G.state machine.old))) }
+        (o : ℕ) → IsTrue (here o) ↔ IsReached (G.graph_of (G.state machine.old)) o) →
+        visits.new ≤ visits.old + last_visits due (G.flush_visits_of here (G.state machine.old)) }
     ensures lines { (deaths : List (ℕ × ℕ)) → (due ≡ false →
         AreListed (G.graph_of (G.state machine.old)) (slice_index tracer.old.stamps) deaths) →
         OnOk result (tracer.new.buffer.items

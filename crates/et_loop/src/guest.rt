@@ -2,7 +2,7 @@
 ghost use Rattle.std.specs.Prelude.{◌≡◌, ℕ, Bool, ◌+◌, ◌-◌, ◌<◌, ◌≤◌, ◌^◌, ◌↔◌, List, All, length, IfOk, OnOk, IsTrue, Contains, slice_index};
 ghost use Rattle.et_graph.specs.Graph.{Graph, IsReached};
 ghost use Rattle.et_graph.specs.Listing.{death_pairs};
-ghost use Rattle.et_state.specs.Outcome.{Outcome};
+ghost use Rattle.et_state.specs.Outcome.{Outcome, state_after};
 ghost use Rattle.et_state.specs.Naming.{Names, IsNamed};
 ghost use Rattle.et_state.specs.Answers.{Answers, TicksWhereDone};
 ghost use Rattle.et_graph.specs.Listed.{AreListed};
@@ -90,6 +90,7 @@ pub trait Guest {
 
     /// Lists the dead objects, each with the greatest stamp of those that lead to it, takes them out, and clears the
     /// references to them. After `NoMemory`, which may come while the roots are listed, the machine may only be dropped.
+    /// Whatever it answers, it visits no more objects than such a flush does.
     fn flush<L: Ledger>(
         &mut self,
         code: &Self::Code,
@@ -108,13 +109,14 @@ pub trait Guest {
             OnOk result (state self.new ≡ flushed_of here (state self.old)) }
         ensures visits { (here : ℕ → Bool) →
             ((o : ℕ) → IsTrue (here o) ↔ IsReached (graph_of (state self.old)) o) →
-            OnOk result (visits.new ≤ visits.old + flush_visits_of here (state self.old)) }
+            visits.new ≤ visits.old + flush_visits_of here (state self.old) }
         ensures graph { OnOk result
             (IsCleared (graph_of (state self.old)) (graph_of (state self.new))) }
         ensures clock { OnOk result (clock_of (state self.new) ≡ clock_of (state self.old)) }
         ensures sound { OnOk result (is_sound code.now (state self.new)) };
 
-    /// The event of a thread that has not ended.
+    /// The event of a thread that has not ended. Whatever it answers, it visits eight objects at most, and one for each that
+    /// the event makes.
     fn event<L: Ledger>(
         &mut self,
         alloc: Global,
@@ -130,8 +132,8 @@ pub trait Guest {
             (state self.old) thread) end (state self.old) (state self.new) out.old out.new) }
         ensures step { IfOk result (λ end. StepsWhereDone end
             (graph_of (state self.old)) (graph_of (state self.new)) (lost_of self.new)) }
-        ensures visits { IfOk result (λ end. visits.new ≤ visits.old
-            + 8 + ((graph_of (state self.new)).made - (graph_of (state self.old)).made)) }
+        ensures visits { visits.new ≤ visits.old + 8 + ((graph_of (state_after (state self.old)
+            (event_of code.now (state self.old) thread))).made - (graph_of (state self.old)).made) }
         ensures sound { OnOk result (is_sound code.now (state self.new)) }
         ensures clock { IfOk result
             (λ end. TicksWhereDone end (clock_of (state self.old)) (clock_of (state self.new))) }

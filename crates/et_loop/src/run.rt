@@ -7,7 +7,7 @@ ghost use Rattle.et_state.specs.Options.{AreOptions};
 ghost use Rattle.et_loop.specs.Options.{setting_of};
 ghost use Rattle.et_loop.specs.Traced.{WritesTrace, WritesPrefix};
 ghost use Rattle.et_loop.specs.Kept.{IsStepTo};
-ghost use Rattle.et_loop.specs.Visits.{allowed_visits};
+ghost use Rattle.et_loop.specs.Visits.{allowed_visits, IsCut};
 
 use crate::guest::Guest;
 use crate::options::Ran;
@@ -33,7 +33,8 @@ fn first_room<G: Guest>(alloc: Global, objects: u32) -> Result<G::Room, NoMemory
 /// for each event, and one for each object that an event makes.
 ///
 /// `Write` comes exactly where a put failed, and the sink counted one fault. After `Write` and after `NoMemory` the sink
-/// took a prefix of the trace, and the machine may only be dropped.
+/// took a prefix of the trace, and the machine may only be dropped. Then the run was cut off in one turn, and the visits are
+/// at most those that the turns up to it may make; before the first turn there are none.
 pub fn run_guest<G: Guest, O: Sink, L: Ledger>(
     alloc: Global,
     code: &G::Code,
@@ -60,6 +61,10 @@ pub fn run_guest<G: Guest, O: Sink, L: Ledger>(
         Decides reached → IfOk result (λ ran. visits.new ≤ visits.old + allowed_visits reached
         (setting_of (G.event_of code.now) G.unended_of G.graph_of G.flushed_of (G.Code.names
         code.now) options.now) G.flush_visits_of (G.state machine.old) made.now ran.event) }
+    ensures cut { (reached : Graph → ℕ → Bool) → Decides reached → OnErr result (IsCut reached
+        (setting_of (G.event_of code.now) G.unended_of G.graph_of G.flushed_of (G.Code.names
+        code.now) options.now) G.flush_visits_of (G.state machine.old) made.now
+        (O.taken sink.old) (O.taken sink.new) visits.old visits.new) }
     ensures write { O.faults sink.new ≡ count_after (is_write_fault result) (O.faults sink.old) }
     ensures never_falls { O.faults sink.old ≤ O.faults sink.new }
 {

@@ -10,7 +10,7 @@ ghost use Rattle.et_loop.specs.Options.{setting_of};
 ghost use Rattle.et_loop.specs.Run.{noted, Goes, Turns};
 ghost use Rattle.et_graph.specs.Listed.{AreListed};
 ghost use Rattle.et_loop.specs.Stamping.{HasStamps, Stamped, Passes};
-ghost use Rattle.et_loop.specs.Visits.{TurnVisits};
+ghost use Rattle.et_loop.specs.Visits.{visits_of_event, visits_of_turn};
 
 use crate::flushes::{conclude, settle};
 use crate::guest::Guest;
@@ -38,7 +38,8 @@ pub struct Tracer<R: Drop> {
     pub buffer: Vec<u8>,
 }
 
-/// The next event, or how the history ends after event e.
+/// The next event, or how the history ends after event e. Whatever it answers, it visits objects eight times at most, and
+/// once for each that the event makes.
 fn step<G: Guest, L: Ledger>(
     alloc: Global,
     code: &G::Code,
@@ -60,8 +61,9 @@ fn step<G: Guest, L: Ledger>(
         (λ end. Goes (setting_of (G.event_of code.now) G.unended_of G.graph_of G.flushed_of
         (G.Code.names code.now) options.now) e (G.state machine.old) tracer.old.numbering (G.state
         machine.new) tracer.new.numbering tracer.old.buffer.items tracer.new.buffer.items end) }
-    ensures visits { IfOk result (λ end. visits.new ≤ visits.old
-        + 8 + ((G.graph_of (G.state machine.new)).made - (G.graph_of (G.state machine.old)).made)) }
+    ensures visits { visits.new ≤ visits.old + visits_of_event (setting_of (G.event_of code.now)
+        G.unended_of G.graph_of G.flushed_of (G.Code.names code.now) options.now)
+        e (G.state machine.old) }
     ensures stamped { IfOk result (λ end. Stamped end e (G.graph_of (G.state machine.old))
         (G.graph_of (G.state machine.new)) tracer.old.stamps tracer.new.stamps) }
     ensures stamps { OnOk result (HasStamps (G.graph_of (G.state machine.new)) tracer.new.stamps) }
@@ -134,7 +136,7 @@ impl<R: Drop> Tracer<R> {
 }
 
 /// One turn of the run after event e: a flush comes where it is due, and then the next event is done, or the history
-/// ends.
+/// ends. After `NoMemory` too it made no more visits of objects than the turn may.
 pub fn turn<G: Guest, L: Ledger>(
     alloc: Global,
     code: &G::Code,
@@ -160,11 +162,10 @@ pub fn turn<G: Guest, L: Ledger>(
         (G.Code.names code.now) options.now) e (G.state machine.old) last tracer.old.numbering
         (G.state machine.new) (noted (reached (G.graph_of (G.state machine.old))) last e)
         tracer.new.numbering tracer.old.buffer.items tracer.new.buffer.items end) }
-    ensures visits { (here : ℕ → Bool) →
-        ((o : ℕ) → IsTrue (here o) ↔ IsReached (G.graph_of (G.state machine.old)) o) →
-        IfOk result (λ end. TurnVisits end (is_flush_point options.now.interval e)
-        (G.flush_visits_of here (G.state machine.old)) (G.graph_of (G.state machine.old)).made
-        (G.graph_of (G.state machine.new)).made visits.old visits.new) }
+    ensures visits { (reached : Graph → ℕ → Bool) → Decides reached → visits.new ≤ visits.old
+        + visits_of_turn reached (setting_of (G.event_of code.now) G.unended_of G.graph_of
+        G.flushed_of (G.Code.names code.now) options.now) G.flush_visits_of
+        e (G.state machine.old) }
     ensures passes { IfOk result (λ end. IfNone end (Passes
         (is_flush_point options.now.interval e) e (G.graph_of (G.state machine.old)) (G.graph_of
         (G.state machine.new)) (slice_index tracer.old.stamps) (slice_index tracer.new.stamps))) }

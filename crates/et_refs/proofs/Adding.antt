@@ -23,7 +23,7 @@ use Rattle.et_state.proofs.UnderWay.{root_is_reached, slot_is_reached}
 use Rattle.et_program.specs.Entries.{Linked}
 use Rattle.et_state.specs.declared.records.Record.{Record}
 use Rattle.et_state.specs.declared.ends.EventEnd.TheVariants as endings
-use Rattle.et_state.specs.Outcome.{Outcome}
+use Rattle.et_state.specs.Outcome.{Outcome, state_after}
 use Rattle.et_event.specs.Answered.{EventAnswers}
 use Rattle.et_event.specs.Heap.{arrays_made, naturals}
 use Rattle.et_event.specs.Moments.{Moment, moment, Doing, begins, with_frame, next_object, fits}
@@ -179,3 +179,22 @@ arrays_full p t c next ns below m out fit =
     let e : Moment = moment p m t in
     let d : Doing = with_frame e (record (top m.guest t) { pc = next; operands = Ref (next_object (begins e)) ∷ below }) (arrays_doing p m t c ns) in
     subst (λ (z : Outcome Kept). EventAnswers z endings.ObjectLimit m m out out) (sym (ends_full d fit)) (refl, refl)
+
+-- HOW MANY ARRAYS THE EVENT MAKES: where they fit, as many as are made from the machine at which it began
+pub arrays_many : (p : Linked) (t c next : ℕ) (ns : List ℤ) (below : List Value) (m m₁ : MachineState) (out : List Record) → m₁ ≡ begun m → fits (arrays_made (moment p m t) c (naturals ns) (begins (moment p m t))).state.heap ≡ true
+    → length (arrays_made (moment p m t) c (naturals ns) (doing_of m₁ out)).state.heap ≡ length (state_after (kept_of m) (new_arrays_outcome (moment p m t) next ns below c)).heap
+arrays_many p t c next ns below m m₁ out e₁ fit =
+    let e : Moment = moment p m t in
+    let d : Doing = with_frame e (record (top m.guest t) { pc = next; operands = Ref (next_object (begins e)) ∷ below }) (arrays_doing p m t c ns) in
+    ap (λ (z : MachineState). length (arrays_made e c (naturals ns) (doing_of z out)).state.heap) e₁
+    ∙ (ap (λ (x : Doing). length x.state.heap) (arrays_begun e c (naturals ns) out)
+    ∙ ap (λ (o : Outcome Kept). length (state_after (kept_of m) o).heap) (sym (ends_fit d fit)))
+
+-- .. so whatever making them answered, it visited no more
+pub arrays_visited : (p : Linked) (t c next : ℕ) (ns : List ℤ) (below : List Value) (m m₁ m₂ : MachineState) (out : List Record) (old new : ℕ) → m₁ ≡ begun m → fits (arrays_made (moment p m t) c (naturals ns) (begins (moment p m t))).state.heap ≡ true
+    → new + length m₁.heap ≤ old + length m₂.heap → length m₂.heap ≤ length (arrays_made (moment p m t) c (naturals ns) (doing_of m₁ out)).state.heap
+    → new ≤ old + (length (state_after (kept_of m) (new_arrays_outcome (moment p m t) next ns below c)).heap - length m.heap)
+arrays_visited p t c next ns below m m₁ m₂ out old new e₁ fit visits most =
+    let same : length m₁.heap ≡ length m.heap = ap (λ (z : MachineState). length z.heap) e₁ in
+    let many = arrays_many p t c next ns below m m₁ out e₁ fit in
+    omega (arith, visits, most, same, many)

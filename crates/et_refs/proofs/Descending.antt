@@ -14,7 +14,7 @@ use Rattle.et_event.specs.Sites.{natural}
 use Rattle.et_event.specs.Heap.{naturals}
 use Rattle.et_refs.specs.declared.filling.Filling.{Filling}
 use Rattle.et_refs.specs.Filling.{doing_of, ComesTo, IsFilling, AreFillings, inner_dimensions, first_filling, with_elements}
-use Rattle.et_refs.proofs.Finishing.{pushed, next_fits}
+use Rattle.et_refs.proofs.Finishing.{pushed, next_fits, next_made}
 use Rattle.et_refs.proofs.Stacking.{last_filling, push_filling, kept_made, dimensions_at, counted_deep, counted_last}
 
 pub came : (d : Doing) (m m' : MachineState) (out : List Record) → ComesTo d m m' out → doing_of m' out ≡ d
@@ -100,3 +100,10 @@ room_few heap heap' slots room e =
     let b = and_parts _ _ room in
     let number : length heap - 1 + 1 ≤ most_objects = leb-true _ _ b.0 in
     omega (arith, e, number)
+
+-- there is one more array in the end than now
+pub level_made : (e : Moment) (m : MachineState) (out : List Record) (ns : List ℤ) (xs : List Filling) (f : Filling) (level : ℕ) → AreFillings m.heap (length ns) 0 (xs ++ f ∷ []) → f.next < f.count → level ≡ length xs + 1
+    → length m.heap + 1 ≤ length (with_elements e (xs ++ f ∷ []) (inner_dimensions (naturals ns)) (doing_of m out)).state.heap
+level_made e m out ns xs f level h lt is =
+    next_made e xs f (lengths_at ns level) (drop (level + 1) (naturals ns)) (inner_dimensions (naturals ns)) (doing_of m out) lt
+    (dimensions ns (length xs) level is (level_there m.heap ns xs f level h lt is))

@@ -2,9 +2,9 @@
 use Rattle.std.proofs.Common.{◌≡◌, ℕ, zero, suc, ◌+◌, ◌-◌, ◌<◌, ◌≤◌, leb, Bool, true, List, [], ◌∷◌, ◌++◌, length, drop, set, refl, sym, ◌∙◌, ap, subst, arith, Some}
 use Rattle.std.specs.Prelude.{◌&&◌}
 use Rattle.std.proofs.lemmas.Bool.{and_parts, leb-true, le-leb}
-use Rattle.std.proofs.lemmas.List.{length-set}
+use Rattle.std.proofs.lemmas.List.{length-set, length_push}
 use Rattle.et_base.specs.declared.value.Value.TheVariants.{Ref}
-use Rattle.et_heap.specs.Objects.{object_at, with_slot, has_room, slot_count, most_objects, most_slots}
+use Rattle.et_heap.specs.Objects.{object_at, new_object, with_slot, has_room, slot_count, most_objects, most_slots}
 use Rattle.et_program.specs.Entries.{class_at}
 use Rattle.et_event.specs.Heap.{arrays_made, filled, element_class}
 use Rattle.et_event.specs.Moments.{Moment, Doing, next_object, array_made, slot_written, fits}
@@ -162,3 +162,26 @@ first_fits e c n ns d some fit =
     let x = array_made e c n d in
     let all : fits (with_elements e (child ∷ []) ns x).state.heap ≡ true = ap (λ (y : Doing). fits y.state.heap) (opened e c n ns d) ∙ fit in
     sym (fits_array d.state.heap c n some) ∙ fits_kept x (with_elements e (child ∷ []) ns x) (finished_keeps e (child ∷ []) ns x) all
+
+-- HOW MANY OBJECTS THERE ARE IN THE END: no fewer than there are now, and where one is still to be made, one more
+
+pub still_made : (e : Moment) (fs : List Filling) (ns : List ℕ) (d : Doing) → length d.state.heap ≤ length (with_elements e fs ns d).state.heap
+still_made e fs ns d = (finished_keeps e fs ns d).objects
+
+pub next_made : (e : Moment) (xs : List Filling) (f : Filling) (n : ℕ) (ns ms : List ℕ) (d : Doing) → f.next < f.count → drop (length xs) ms ≡ n ∷ ns → length d.state.heap + 1 ≤ length (with_elements e (xs ++ f ∷ []) ms d).state.heap
+next_made e xs f n ns ms d lt at =
+    let child = first_filling e (next_object d) f.inner n ns in
+    let x = array_made e f.inner n d in
+    let more : length x.state.heap ≡ length d.state.heap + 1 = length_push d.state.heap (Some (new_object f.inner n n)) in
+    let kept : length x.state.heap ≤ length (with_elements e (xs ++ f ∷ child ∷ []) ms x).state.heap = still_made e (xs ++ f ∷ child ∷ []) ms x in
+    let same : length (with_elements e (xs ++ f ∷ child ∷ []) ms x).state.heap ≡ length (with_elements e (xs ++ f ∷ []) ms d).state.heap = ap (λ (y : Doing). length y.state.heap) (pushed e xs f n ns ms d lt at) in
+    omega (arith, more, kept, same)
+
+pub first_made : (e : Moment) (c n : ℕ) (ns : List ℕ) (d : Doing) → length d.state.heap + 1 ≤ length (arrays_made e c (n ∷ ns) d).state.heap
+first_made e c n ns d =
+    let child = first_filling e (next_object d) c n ns in
+    let x = array_made e c n d in
+    let more : length x.state.heap ≡ length d.state.heap + 1 = length_push d.state.heap (Some (new_object c n n)) in
+    let kept : length x.state.heap ≤ length (with_elements e (child ∷ []) ns x).state.heap = still_made e (child ∷ []) ns x in
+    let same : length (with_elements e (child ∷ []) ns x).state.heap ≡ length (arrays_made e c (n ∷ ns) d).state.heap = ap (λ (y : Doing). length y.state.heap) (opened e c n ns d) in
+    omega (arith, more, kept, same)

@@ -1,5 +1,5 @@
 -- The first array is made, and then all that is in it.
-use Rattle.std.proofs.Common.{◌≡◌, ℕ, ◌<◌, true, List, [], ◌∷◌, ◌++◌, length, drop, Some, refl, sym, ◌∙◌, ap, subst, arith}
+use Rattle.std.proofs.Common.{◌≡◌, ℕ, ◌+◌, ◌<◌, ◌≤◌, true, List, [], ◌∷◌, ◌++◌, length, drop, Some, refl, sym, ◌∙◌, ap, subst, arith}
 use Rattle.std.specs.Prelude.{ℤ}
 use Rattle.et_heap.specs.Objects.{Objects, new_object, has_room}
 use Rattle.et_state.specs.State.{MachineState}
@@ -9,7 +9,7 @@ use Rattle.et_event.specs.Moments.{Moment, Doing, array_made, fits}
 use Rattle.et_refs.specs.declared.filling.Filling.{Filling}
 use Rattle.et_refs.specs.Filling.{doing_of, ComesTo, IsFilling, inner_dimensions, first_filling, with_elements}
 use Rattle.et_refs.proofs.Descending.{came, lengths_at, new_filling}
-use Rattle.et_refs.proofs.Finishing.{opened, first_fits}
+use Rattle.et_refs.proofs.Finishing.{opened, first_fits, first_made}
 
 split : (ns : List ℤ) → 0 < length ns → naturals ns ≡ lengths_at ns 0 ∷ drop 1 (naturals ns)
 split [] some = absurd (omega arith)
@@ -43,3 +43,11 @@ started e c ns m m' out out' f some opens made =
     ∙ (ap (λ (y : Doing). with_elements e (child ∷ []) (inner_dimensions (naturals ns)) y) (came x m m' out' made)
     ∙ (ap (λ (l : List ℕ). with_elements e (child ∷ []) l x) (lower_drop (naturals ns))
     ∙ (opened e c n ms (doing_of m out) ∙ ap (λ (l : List ℕ). arrays_made e c l (doing_of m out)) (sym (split ns some)))))
+
+-- there is one more array in the end than at first
+pub start_made : (e : Moment) (c : ℕ) (ns : List ℤ) (m : MachineState) (out : List Record) → 0 < length ns → length m.heap + 1 ≤ length (arrays_made e c (naturals ns) (doing_of m out)).state.heap
+start_made e c ns m out some =
+    let more = first_made e c (lengths_at ns 0) (drop 1 (naturals ns)) (doing_of m out) in
+    let same : length (arrays_made e c (lengths_at ns 0 ∷ drop 1 (naturals ns)) (doing_of m out)).state.heap ≡ length (arrays_made e c (naturals ns) (doing_of m out)).state.heap =
+    ap (λ (l : List ℕ). length (arrays_made e c l (doing_of m out)).state.heap) (sym (split ns some)) in
+    omega (arith, more, same)

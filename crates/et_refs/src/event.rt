@@ -8,6 +8,7 @@ ghost use Rattle.et_event.specs.Event.{does, event};
 ghost use Rattle.et_event.specs.Families.{family_of, family_of_row};
 ghost use Rattle.et_event.specs.Moments.{moment};
 ghost use Rattle.et_state.specs.declared.stage.Turn.TheVariants as turns;
+ghost use Rattle.et_state.specs.Outcome.{state_after};
 ghost use Rattle.et_state.specs.State.{kept_of};
 ghost use Rattle.et_state.specs.Threads.{turn_of};
 ghost use Rattle.et_state.specs.Words.{HasFrame, thread_at, top};
@@ -59,8 +60,9 @@ fn place_event<L: Ledger>(
     requires family { family_of_row (Some place.now.row) ≡ families.Refs }
     ensures event { IfOk result (λ end. EventAnswers (does (moment program.now machine.old thread)
         (site_at place.now) place.now.row) end machine.old machine.new out.old out.new) }
-    ensures visits { IfOk result
-        (λ end. visits.new ≤ visits.old + 6 + (length machine.new.heap - length machine.old.heap)) }
+    ensures visits { visits.new ≤ visits.old + 6 + (length (state_after (kept_of machine.old)
+        (does (moment program.now machine.old thread) (site_at place.now) place.now.row)).heap
+        - length machine.old.heap) }
 {
     let row = heap_row(place);
     match plan_of(program, machine, thread, place, row, visits) {
@@ -78,8 +80,8 @@ fn place_event<L: Ledger>(
 /// The event of a thread whose turn is an instruction on fields, arrays and classes (JVMS 2.11.5, 6.5). It answers what the
 /// table of events says: `Done` or `Waited`, and then the machine keeps the next state, to which a legal step led, and the
 /// records of the event stand behind those that were there; or `IllTyped` or `ObjectLimit`, and then machine and records are
-/// as before. It visits six objects at most, and one for each array that it makes. After `NoMemory` the event may be half
-/// done, and machine and records may only be dropped.
+/// as before. Whatever it answers, it visits six objects at most, and one for each object that the event makes. After
+/// `NoMemory` the event may be half done, and machine and records may only be dropped.
 #[tactic(auto, using(et_event::proofs::FamilyTurns::refs_instructs))]
 pub fn refs_event<L: Ledger>(
     alloc: Global,
@@ -93,8 +95,8 @@ pub fn refs_event<L: Ledger>(
     requires family { family_of program.now (kept_of machine.old) thread ≡ families.Refs }
     ensures event { IfOk result (λ end. EventAnswers (event program.now
         (kept_of machine.old) thread) end machine.old machine.new out.old out.new) }
-    ensures visits { IfOk result
-        (λ end. visits.new ≤ visits.old + 6 + (length machine.new.heap - length machine.old.heap)) }
+    ensures visits { visits.new ≤ visits.old + 6 + (length (state_after (kept_of machine.old)
+        (event program.now (kept_of machine.old) thread)).heap - length machine.old.heap) }
 {
     match place_of(program, machine, thread) {
         Some(place) => place_event(alloc, program, machine, thread, &place, out, visits),

@@ -5,7 +5,7 @@ ghost use Rattle.et_state.specs.Threads.{turn_of};
 ghost use Rattle.et_state.specs.State.{Kept, kept_of};
 ghost use Rattle.et_state.specs.Words.{HasFrame, thread_at, top};
 ghost use Rattle.et_state.specs.Sound.{IsSound};
-ghost use Rattle.et_state.specs.Outcome.{Outcome};
+ghost use Rattle.et_state.specs.Outcome.{Outcome, state_after};
 ghost use Rattle.et_program.specs.Resolution.{resolve_class};
 ghost use Rattle.et_event.specs.declared.rows.Row.TheVariants as row_kinds;
 ghost use Rattle.et_event.specs.declared.rows.HeapRow.TheVariants as heap_rows;
@@ -85,8 +85,10 @@ fn add_arrays<L: Ledger>(
         (moment program.now machine.old thread) arrays.now.next arrays.now.lengths.now (drop
         (length arrays.now.lengths.now) (top machine.old.guest thread).operands) arrays.now.class)
         end machine.old machine.new out.old out.new) }
-    ensures visits { IfOk result
-        (λ end. visits.new ≤ visits.old + (length machine.new.heap - length machine.old.heap)) }
+    ensures visits { visits.new ≤ visits.old + (length (state_after (kept_of machine.old)
+        (new_arrays_outcome (moment program.now machine.old thread) arrays.now.next
+        arrays.now.lengths.now (drop (length arrays.now.lengths.now) (top machine.old.guest
+        thread).operands) arrays.now.class)).heap - length machine.old.heap) }
 {
     if !arrays_fit(machine, arrays.lengths) {
         return Ok(EventEnd::ObjectLimit);
@@ -99,8 +101,8 @@ fn add_arrays<L: Ledger>(
     Ok(EventEnd::Done)
 }
 
-/// The event of `multianewarray` at the place where the thread stands (JVMS 6.5). It visits an object for each array that it
-/// makes, at most. After `NoMemory` the event may be half done.
+/// The event of `multianewarray` at the place where the thread stands (JVMS 6.5). Whatever it answers, it visits an object for
+/// each array that the event makes, at most. After `NoMemory` the event may be half done.
 pub fn multi_array_event<L: Ledger>(
     alloc: Global,
     program: &Program,
@@ -119,8 +121,9 @@ pub fn multi_array_event<L: Ledger>(
     requires row { place.now.row ≡ row_kinds.Heap heap_rows.NewMultiArray }
     ensures ok { IfOk result (λ end. EventAnswers (new_multi_array (moment program.now
         machine.old thread) (site_at place.now)) end machine.old machine.new out.old out.new) }
-    ensures visits { IfOk result
-        (λ end. visits.new ≤ visits.old + (length machine.new.heap - length machine.old.heap)) }
+    ensures visits { visits.new ≤ visits.old + (length (state_after (kept_of machine.old)
+        (new_multi_array (moment program.now machine.old thread) (site_at place.now))).heap
+        - length machine.old.heap) }
 {
     let Some(name) = class_operand(place) else {
         return refuse(program, machine, thread, Refusal::IllTyped, out);

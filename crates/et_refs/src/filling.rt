@@ -66,6 +66,7 @@ fn make_array(
     ensures made { OnOk result (ComesTo (array_made (moment program.now machine.old thread)
         class elements (doing_of machine.old out.old)) machine.old machine.new out.new) }
     ensures grown { length machine.old.heap ≤ length machine.new.heap }
+    ensures one { length machine.new.heap ≤ length machine.old.heap + 1 }
 {
     let width = width_in(program, class);
     let object = match machine.heap.make_array(class, elements) {
@@ -118,6 +119,7 @@ pub fn open_array(
         (natural_of (slice_index_or lengths.now level (pos 0)))
         (doing_of machine.old out.old)) machine.old machine.new out.new) }
     ensures grown { length machine.old.heap ≤ length machine.new.heap }
+    ensures one { length machine.new.heap ≤ length machine.old.heap + 1 }
 {
     let elements = natural(lengths[level]);
     let array = make_array(program, machine, thread, class, elements, out)?;
@@ -160,6 +162,10 @@ fn descend(
     ensures made { OnOk result (length machine.new.heap ≡ length machine.old.heap + 1) }
     ensures few { OnOk result (length machine.new.heap ≤ most_objects + 1) }
     ensures grown { length machine.old.heap ≤ length machine.new.heap }
+    ensures most { (b : Kept) → length machine.new.heap ≤ length (with_elements
+        (record { program = program.now; before = b; thread = thread })
+        (stack.old.items ++ top ∷ []) (inner_dimensions (naturals lengths.now))
+        (doing_of machine.old out.old)).state.heap }
 {
     let level = stack.len() + 1;
     let last = open_array(program, machine, thread, lengths, level, top.inner, out)?;
@@ -204,7 +210,8 @@ fn ascend<L: Ledger>(
     })
 }
 
-/// Makes arrays in the event under way, and answers the first one. All fit. After `NoMemory` the event is half done.
+/// Makes arrays in the event under way, and answers the first one. All fit. After `NoMemory` the event is half done: some of
+/// them are made. Whatever it answers, it visits an object for each array that it made, at most.
 pub fn make_arrays<L: Ledger>(
     alloc: Global,
     program: &Program,
@@ -225,6 +232,9 @@ pub fn make_arrays<L: Ledger>(
         (naturals arrays.now.lengths.now) (doing_of machine.old out.old)) }
     ensures lost { OnOk result (machine.new.lost ≡ machine.old.lost) }
     ensures visits { visits.new + length machine.old.heap ≤ visits.old + length machine.new.heap }
+    ensures most { (b : Kept) → length machine.new.heap ≤ length (arrays_made
+        (record { program = program.now; before = b; thread = thread }) arrays.now.class
+        (naturals arrays.now.lengths.now) (doing_of machine.old out.old)).state.heap }
 {
     let lengths = arrays.lengths;
     let first = open_array(program, machine, thread, lengths, 0, arrays.class, out)?;

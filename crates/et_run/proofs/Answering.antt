@@ -16,11 +16,13 @@ use Rattle.et_state.specs.Naming.{IsNamed}
 use Rattle.et_state.specs.Outcome.{Outcome}
 use Rattle.et_state.specs.Outcome as outcome
 use Rattle.et_event.specs.Answered.{EventAnswers}
+use Rattle.et_event.specs.Sound.{IsSoundFor}
 use Rattle.et_loop.specs.Kept.{IsStepTo}
 use Rattle.et_loop.specs.Stamping.{StepsWhereDone}
 use Rattle.et_state.specs.Roots.{fresh_of}
 use Rattle.et_state.specs.Moves.{Led}
 use Rattle.et_run.specs.Telling.{HasElementClasses, IsTold}
+use Rattle.et_history.specs.Changing.{LeadsToSound}
 use Rattle.et_history.specs.Settings.{names_of}
 
 led_steps : (s x : Kept) (m : MachineState) → Led s x m → IsStepTo (graph_of s) (graph_of (kept_of m)) m.lost
@@ -56,6 +58,14 @@ named p (outcome.Waits next) ends.Waited m m' out out' told h before = subst (λ
 named p (outcome.IllTyped method pc) (ends.IllTyped there at) m m' out out' told h before = subst (λ (rs : List Record). All (IsNamed (names_of p)) rs) (sym h.3) before
 named p outcome.ObjectLimit ends.ObjectLimit m m' out out' told h before = subst (λ (rs : List Record). All (IsNamed (names_of p)) rs) (sym h.1) before
 named p _ _ m m' out out' told h before = absurd h
+
+-- what is left is sound, where the outcome is
+pub sound_after : (p : Linked) (o : Outcome Kept) (end : EventEnd) (m m' : MachineState) (out out' : List Record) → IsSoundFor p (kept_of m) → LeadsToSound p o → EventAnswers o end m m' out out' → IsSoundFor p (kept_of m')
+sound_after p (outcome.Goes next records) ends.Done m m' out out' before leads h = subst (λ (s : Kept). IsSoundFor p s) (sym h.0.kept) leads
+sound_after p (outcome.Waits next) ends.Waited m m' out out' before leads h = subst (λ (s : Kept). IsSoundFor p s) (sym h.0.kept) leads
+sound_after p (outcome.IllTyped method pc) (ends.IllTyped named at) m m' out out' before leads h = subst (λ (x : MachineState). IsSoundFor p (kept_of x)) (sym h.2) before
+sound_after p outcome.ObjectLimit ends.ObjectLimit m m' out out' before leads h = subst (λ (x : MachineState). IsSoundFor p (kept_of x)) (sym h.0) before
+sound_after p _ _ m m' out out' before leads h = absurd h
 
 -- what holds where a call was answered
 pub on_ok : {A E : Type 0} (r : Result A E) (P : A → Type 0) (Q : Type 0) → IfOk r P → ((a : A) → P a → Q) → OnOk r Q

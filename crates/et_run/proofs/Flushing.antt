@@ -23,10 +23,6 @@ true_is b = (λ t. is_now b t, λ e. now_is b e)
 pub test_is : (g : Graph) (here : ℕ → Bool) → ((o : ℕ) → IsTrue (here o) ↔ IsReached g o) → (o : ℕ) → (here o ≡ true) ↔ IsReached g o
 test_is g here h o = (λ e. (h o).0 ((true_is (here o)).1 e), λ r. (true_is (here o)).0 ((h o).1 r))
 
-pub any_ok : {A E : Type 0} (r : Result A E) (P : Type 0) → P → OnOk r P
-any_ok (Ok a) P h = h
-any_ok (Err e) P h = tt
-
 pub on_ok_map : {A E : Type 0} (r : Result A E) (P Q : Type 0) → OnOk r P → (P → Q) → OnOk r Q
 on_ok_map (Ok a) P Q h go = go h
 on_ok_map (Err e) P Q h go = tt

@@ -21,7 +21,7 @@ use Rattle.et_history.specs.Settings.{IsSoundRun, flush_visits_of, setting}
 use Rattle.et_history.specs.Whole.{whole_setting, whole_start, whole_visits_of}
 use Rattle.et_loop.specs.declared.options.Ran.{Ran}
 use Rattle.et_loop.specs.Traced.{WritesTrace, WritesPrefix}
-use Rattle.et_loop.specs.Visits.{allowed_visits}
+use Rattle.et_loop.specs.Visits.{allowed_visits, IsCut}
 use Rattle.et_state.specs.History.{IsLast}
 use Rattle.et_state.specs.State.{Kept}
 use Rattle.et_state.specs.declared.options.Options.{Options}
@@ -74,3 +74,9 @@ module _ (reached : Graph → ℕ → Bool) (p : Linked) (options : Options) (s 
       let wrote = from_first (λ x rs. WritesTrace reached (setting p options) x rs ran before after) w in
       subst (λ n. new ≤ old + n) (same ran.event ran.end wrote.ends) (from_first (λ x rs. new ≤ old + allowed_visits reached (setting p options) flush_visits_of x rs ran.event) v)
   whole_visits before after old new (Err fault) same w v = v
+
+  pub whole_cut : (before after : Option (List ℕ)) (old new : ℕ) (r : Result Ran RunFault)
+      → (IsCut reached (setting p options) flush_visits_of (start p) (start_records p) before after old new → IsCut reached (whole_setting p options) whole_visits_of (whole_start p) (start_records p) before after old new)
+      → OnErr r (IsCut reached (setting p options) flush_visits_of s made before after old new) → OnErr r (IsCut reached (whole_setting p options) whole_visits_of (whole_start p) (start_records p) before after old new)
+  whole_cut before after old new (Ok ran) same h = h
+  whole_cut before after old new (Err fault) same h = same (from_first (λ x rs. IsCut reached (setting p options) flush_visits_of x rs before after old new) h)

@@ -8,7 +8,7 @@ ghost use Rattle.et_history.specs.Settings.{flush_visits_of, setting};
 ghost use Rattle.et_history.specs.Whole.{whole_setting, whole_start, whole_visits_of};
 ghost use Rattle.et_io.specs.Faults.{count_after, is_write_fault};
 ghost use Rattle.et_state.specs.State.{kept_of};
-ghost use Rattle.et_loop.specs.Visits.{allowed_visits};
+ghost use Rattle.et_loop.specs.Visits.{allowed_visits, IsCut};
 ghost use Rattle.et_program.specs.Tables.{IsTabled};
 ghost use Rattle.et_loop.specs.Traced.{WritesTrace, WritesPrefix};
 ghost use Rattle.et_state.specs.Options.{AreOptions};
@@ -64,6 +64,9 @@ fn run_from<O: Sink, L: Ledger>(
     ensures visits { (reached : Graph → ℕ → Bool) →
         Decides reached → IfOk result (λ ran. visits.new ≤ visits.old + allowed_visits reached
         (setting program.now options.now) flush_visits_of (kept_of machine) made.now ran.event) }
+    ensures cut { (reached : Graph → ℕ → Bool) → Decides reached → OnErr result
+        (IsCut reached (setting program.now options.now) flush_visits_of (kept_of machine) made.now
+        (O.taken sink.old) (O.taken sink.new) visits.old visits.new) }
     ensures write { O.faults sink.new ≡ count_after (is_write_fault result) (O.faults sink.old) }
     ensures never_falls { O.faults sink.old ≤ O.faults sink.new }
 {
@@ -78,7 +81,7 @@ fn run_from<O: Sink, L: Ledger>(
 /// makes.
 ///
 /// `Write` comes exactly where a put failed, and the sink counted one fault. After `Write` and after `NoMemory` the sink took
-/// a prefix of the trace.
+/// a prefix of the trace; the run was cut off in one turn, and the visits are at most those that the turns up to it may make.
 pub fn run<O: Sink, L: Ledger>(
     alloc: Global,
     program: &Program,
@@ -99,6 +102,10 @@ pub fn run<O: Sink, L: Ledger>(
         (λ ran. visits.new ≤ visits.old + allowed_visits reached
         (whole_setting program.now options.now) whole_visits_of
         (whole_start program.now) (start_records program.now) ran.event) }
+    ensures cut { (reached : Graph → ℕ → Bool) → Decides reached → OnErr result
+        (IsCut reached (whole_setting program.now options.now) whole_visits_of
+        (whole_start program.now) (start_records program.now)
+        (O.taken sink.old) (O.taken sink.new) visits.old visits.new) }
     ensures write { O.faults sink.new ≡ count_after (is_write_fault result) (O.faults sink.old) }
     ensures never_falls { O.faults sink.old ≤ O.faults sink.new }
 {

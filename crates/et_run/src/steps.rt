@@ -10,6 +10,7 @@ ghost use Rattle.et_graph.specs.Cleared.{IsCleared};
 ghost use Rattle.et_graph.specs.Listed.{AreListed};
 ghost use Rattle.et_state.specs.Answers.{Answers, TicksWhereDone};
 ghost use Rattle.et_state.specs.Naming.{IsNamed};
+ghost use Rattle.et_state.specs.Outcome.{state_after};
 
 use crate::laws::events_are_told;
 use crate::turns::turn_event;
@@ -18,7 +19,6 @@ use et_flush::{FlushRoom, flush_machine};
 use et_graph::Stamps;
 use et_graph::laws::reaching_is_decided;
 use et_heap::RootList;
-use et_history::{answers_are_sound, events_keep_sound};
 use et_linked::start_laws::flush_keeps_sound;
 use et_program::Program;
 use et_state::{EventEnd, Lines, Machine};
@@ -41,8 +41,9 @@ pub fn machine_event<L: Ledger>(
         end (kept_of machine.old) (kept_of machine.new) out.old out.new) }
     ensures step { IfOk result (λ end. StepsWhereDone end
         (graph_of (kept_of machine.old)) (graph_of (kept_of machine.new)) machine.new.lost) }
-    ensures visits { IfOk result (λ end. visits.new ≤ visits.old
-        + 8 + ((graph_of (kept_of machine.new)).made - (graph_of (kept_of machine.old)).made)) }
+    ensures visits { visits.new ≤ visits.old + 8 + ((graph_of (state_after (kept_of machine.old)
+        (event program.now (kept_of machine.old) thread))).made
+        - (graph_of (kept_of machine.old)).made) }
     ensures sound { OnOk result (IsSoundRun program.now (kept_of machine.new)) }
     ensures clock { IfOk result
         (λ end. TicksWhereDone end machine.old.guest.clock machine.new.guest.clock) }
@@ -50,8 +51,6 @@ pub fn machine_event<L: Ledger>(
         All (IsNamed (names_of program.now)) out.new) }
 {
     // Laws: they tell the prover, and do nothing.
-    answers_are_sound();
-    events_keep_sound();
     events_are_told();
     turn_event(alloc, program, machine, thread, out, visits)
 }
@@ -76,7 +75,7 @@ pub fn machine_flush<L: Ledger>(
         OnOk result (kept_of machine.new ≡ flushed_of here (kept_of machine.old)) }
     ensures visits { (here : ℕ → Bool) →
         ((o : ℕ) → IsTrue (here o) ↔ IsReached (graph_of (kept_of machine.old)) o) →
-        OnOk result (visits.new ≤ visits.old + flush_visits_of here (kept_of machine.old)) }
+        visits.new ≤ visits.old + flush_visits_of here (kept_of machine.old) }
     ensures graph { OnOk result
         (IsCleared (graph_of (kept_of machine.old)) (graph_of (kept_of machine.new))) }
     ensures clock { OnOk result (machine.new.guest.clock ≡ machine.old.guest.clock) }

@@ -13,7 +13,7 @@ use Rattle.et_loop.specs.Traced.{WritesTrace, WritesPrefix}
 use Rattle.et_program.specs.Entries.{Linked}
 use Rattle.et_run.specs.Start.{start_records}
 use Rattle.et_run.specs.Whole.{whole_setting, whole_start, whole_visits_of}
-use Rattle.et_loop.specs.Visits.{allowed_visits}
+use Rattle.et_loop.specs.Visits.{allowed_visits, IsCut}
 use Rattle.et_top.specs.Faults.{Fault, Absent, TooLong, BadClass, BadText, BadTrace, LinkFault, status_of_fault}
 use Rattle.et_io.specs.Files.{Held}
 use Rattle.et_top.specs.Command.{Asked}
@@ -53,9 +53,9 @@ module _ (reached : Graph → ℕ → Bool) (before after : Option (List ℕ)) (
       by ends.ObjectLimit e = history ran ends.ObjectLimit status.ObjectLimit e refl w v
 
   -- a history that was not run to its end left a prefix of its trace
-  pub front_gives : (fault : RunFault) (answer : Status) → answer ≡ status_of (refusal_of fault) → WritesPrefix reached (whole_setting program options) (whole_start program) (start_records program) before after → ((fault ≡ write.Write) → written) → Gives reached before after old new read written (Traces program options) answer
-  front_gives write.Write answer is front rose = subst (Gives reached before after old new read written (Traces program options)) (sym is) (rose refl, front)
-  front_gives write.NoMemory answer is front rose = subst (Gives reached before after old new read written (Traces program options)) (sym is) front
+  pub front_gives : (fault : RunFault) (answer : Status) → answer ≡ status_of (refusal_of fault) → WritesPrefix reached (whole_setting program options) (whole_start program) (start_records program) before after → IsCut reached (whole_setting program options) whole_visits_of (whole_start program) (start_records program) before after old new → ((fault ≡ write.Write) → written) → Gives reached before after old new read written (Traces program options) answer
+  front_gives write.Write answer is front cut rose = subst (Gives reached before after old new read written (Traces program options)) (sym is) (rose refl, record { wrote = front; visits = cut })
+  front_gives write.NoMemory answer is front cut rose = subst (Gives reached before after old new read written (Traces program options)) (sym is) (record { wrote = front; visits = cut })
 
   -- what is given where no read can fail is given where one can
   pub history_more : (answer : Status) → Gives reached before after old new ⊥ written (Traces program options) answer → Gives reached before after old new read written (Traces program options) answer
@@ -101,6 +101,19 @@ IsLoaded (Refused fault) = Unit {0}
 IsLoaded (Writes text) = Unit {0}
 IsLoaded (Traces program options) = Unit {0}
 
+-- .. and where a history is, nothing was visited
+abbrev IsStill : ℕ → ℕ → Defined → Type 0
+IsStill old new Usage = Unit {0}
+IsStill old new (Refused fault) = Unit {0}
+IsStill old new (Writes text) = Unit {0}
+IsStill old new (Traces program options) = new ≡ old
+
+pub still : (visits : ℕ) (d : Defined) → IsStill visits visits d
+still visits Usage = tt
+still visits (Refused fault) = tt
+still visits (Writes text) = tt
+still visits (Traces program options) = refl
+
 module _ (reached : Graph → ℕ → Bool) (taken : Option (List ℕ)) (old new : ℕ) (read written : Type 0) where
   reading_gives : (d : Defined) → IsLoaded d → read → Gives reached taken taken old new read written d status.ReadFault
   reading_gives Usage loaded h = absurd loaded
@@ -108,29 +121,29 @@ module _ (reached : Graph → ℕ → Bool) (taken : Option (List ℕ)) (old new
   reading_gives (Writes text) loaded h = (h, refl)
   reading_gives (Traces program options) loaded h = (h, refl)
 
-  pub memory_gives : (d : Defined) → Gives reached taken taken old new read written d status.NoMemory
-  memory_gives Usage = (refl, inr refl)
-  memory_gives (Refused fault) = (refl, inr (inr refl))
-  memory_gives (Writes text) = front_nothing taken (text reached)
-  memory_gives (Traces program options) = λ e end last. front_nothing taken _
+  pub memory_gives : (d : Defined) → IsStill old new d → Gives reached taken taken old new read written d status.NoMemory
+  memory_gives Usage none = (refl, inr refl)
+  memory_gives (Refused fault) none = (refl, inr (inr refl))
+  memory_gives (Writes text) none = front_nothing taken (text reached)
+  memory_gives (Traces program options) none = record { wrote = λ e end last. front_nothing taken _; visits = inl none }
 
   file_gives : (fault : Fault) (answer : Status) → answer ≡ status_of_fault fault → Gives reached taken taken old new read written (Refused fault) answer
   file_gives fault answer is = (refl, inl is)
 
   -- a file is refused for what it was found to have
-  by_cause : (d : Defined) (r : Refusal) → IsLoaded d → ((fault : Fault) → cause_of r ≡ File fault → d ≡ Refused fault) → (cause_of r ≡ Reading → read) → (cause_of r ≡ Other → ⊥) → Gives reached taken taken old new read written d (status_of r)
-  by_cause d (refusal.Absent path) loaded file reads other = subst (λ x. Gives reached taken taken old new read written x status.Absent) (sym (file Absent refl)) (file_gives Absent status.Absent refl)
-  by_cause d (refusal.TooLong path) loaded file reads other = subst (λ x. Gives reached taken taken old new read written x status.TooLong) (sym (file TooLong refl)) (file_gives TooLong status.TooLong refl)
-  by_cause d (refusal.BadClass path kind offset) loaded file reads other = subst (λ x. Gives reached taken taken old new read written x status.BadClass) (sym (file (BadClass kind offset) refl)) (file_gives (BadClass kind offset) status.BadClass refl)
-  by_cause d (refusal.BadText path kind line) loaded file reads other = subst (λ x. Gives reached taken taken old new read written x status.BadText) (sym (file (BadText kind line) refl)) (file_gives (BadText kind line) status.BadText refl)
-  by_cause d (refusal.BadTrace path kind line) loaded file reads other = subst (λ x. Gives reached taken taken old new read written x status.BadTrace) (sym (file (BadTrace kind line) refl)) (file_gives (BadTrace kind line) status.BadTrace refl)
-  by_cause d (refusal.LinkFault kind class) loaded file reads other = subst (λ x. Gives reached taken taken old new read written x status.LinkFault) (sym (file (LinkFault kind class) refl)) (file_gives (LinkFault kind class) status.LinkFault refl)
-  by_cause d (refusal.ReadFault path) loaded file reads other = reading_gives d loaded (reads refl)
-  by_cause d refusal.NoMemory loaded file reads other = memory_gives d
-  by_cause d refusal.Usage loaded file reads other = absurd (other refl)
-  by_cause d refusal.WriteFault loaded file reads other = absurd (other refl)
-  by_cause d refusal.ObjectLimit loaded file reads other = absurd (other refl)
-  by_cause d (refusal.IllTyped t c m descriptor p) loaded file reads other = absurd (other refl)
+  by_cause : (d : Defined) (r : Refusal) → IsLoaded d → IsStill old new d → ((fault : Fault) → cause_of r ≡ File fault → d ≡ Refused fault) → (cause_of r ≡ Reading → read) → (cause_of r ≡ Other → ⊥) → Gives reached taken taken old new read written d (status_of r)
+  by_cause d (refusal.Absent path) loaded none file reads other = subst (λ x. Gives reached taken taken old new read written x status.Absent) (sym (file Absent refl)) (file_gives Absent status.Absent refl)
+  by_cause d (refusal.TooLong path) loaded none file reads other = subst (λ x. Gives reached taken taken old new read written x status.TooLong) (sym (file TooLong refl)) (file_gives TooLong status.TooLong refl)
+  by_cause d (refusal.BadClass path kind offset) loaded none file reads other = subst (λ x. Gives reached taken taken old new read written x status.BadClass) (sym (file (BadClass kind offset) refl)) (file_gives (BadClass kind offset) status.BadClass refl)
+  by_cause d (refusal.BadText path kind line) loaded none file reads other = subst (λ x. Gives reached taken taken old new read written x status.BadText) (sym (file (BadText kind line) refl)) (file_gives (BadText kind line) status.BadText refl)
+  by_cause d (refusal.BadTrace path kind line) loaded none file reads other = subst (λ x. Gives reached taken taken old new read written x status.BadTrace) (sym (file (BadTrace kind line) refl)) (file_gives (BadTrace kind line) status.BadTrace refl)
+  by_cause d (refusal.LinkFault kind class) loaded none file reads other = subst (λ x. Gives reached taken taken old new read written x status.LinkFault) (sym (file (LinkFault kind class) refl)) (file_gives (LinkFault kind class) status.LinkFault refl)
+  by_cause d (refusal.ReadFault path) loaded none file reads other = reading_gives d loaded (reads refl)
+  by_cause d refusal.NoMemory loaded none file reads other = memory_gives d none
+  by_cause d refusal.Usage loaded none file reads other = absurd (other refl)
+  by_cause d refusal.WriteFault loaded none file reads other = absurd (other refl)
+  by_cause d refusal.ObjectLimit loaded none file reads other = absurd (other refl)
+  by_cause d (refusal.IllTyped t c m descriptor p) loaded none file reads other = absurd (other refl)
 
   cause_file : {A : Type 0} (found : Result A Fault) (cause : Cause) (fault : Fault) → IsCause read found cause → cause ≡ File fault → found ≡ Err fault
   cause_file found cause fault is e = subst (IsCause read found) e is
@@ -145,6 +158,14 @@ module _ (reached : Graph → ℕ → Bool) (taken : Option (List ℕ)) (old new
   writes_loaded text (Err fault) = tt
   writes_loaded text (Ok a) = tt
 
+  writes_still : {A : Type 0} (text : (Graph → ℕ → Bool) → A → List ℕ) (found : Result A Fault) → IsStill old new (writes text found)
+  writes_still text (Err fault) = tt
+  writes_still text (Ok a) = tt
+
+  traces_still : (options : Options) (found : Result Linked Fault) → new ≡ old → IsStill old new (traces options found)
+  traces_still options (Err fault) none = tt
+  traces_still options (Ok program) none = none
+
   traces_loaded : (options : Options) (found : Result Linked Fault) → IsLoaded (traces options found)
   traces_loaded options (Err fault) = tt
   traces_loaded options (Ok program) = tt
@@ -152,13 +173,13 @@ module _ (reached : Graph → ℕ → Bool) (taken : Option (List ℕ)) (old new
   pub refused_text : {A : Type 0} (text : (Graph → ℕ → Bool) → A → List ℕ) (found : Result A Fault) (r : Refusal) (d : Defined) (answer : Status) → d ≡ writes text found → IsCause read found (cause_of r) → answer ≡ status_of r → Gives reached taken taken old new read written d answer
   refused_text text found r d answer e is how =
       subst (Gives reached taken taken old new read written d) (sym how)
-      (by_cause d r (subst IsLoaded (sym e) (writes_loaded text found)) (λ fault c. e ∙ ap (writes text) (cause_file found (cause_of r) fault is c))
+      (by_cause d r (subst IsLoaded (sym e) (writes_loaded text found)) (subst (IsStill old new) (sym e) (writes_still text found)) (λ fault c. e ∙ ap (writes text) (cause_file found (cause_of r) fault is c))
       (cause_reads found (cause_of r) is) (cause_other found (cause_of r) is))
 
-  pub refused_trace : (options : Options) (found : Result Linked Fault) (r : Refusal) (d : Defined) (answer : Status) → d ≡ traces options found → IsCause read found (cause_of r) → answer ≡ status_of r → Gives reached taken taken old new read written d answer
-  refused_trace options found r d answer e is how =
+  pub refused_trace : (options : Options) (found : Result Linked Fault) (r : Refusal) (d : Defined) (answer : Status) → d ≡ traces options found → IsCause read found (cause_of r) → answer ≡ status_of r → new ≡ old → Gives reached taken taken old new read written d answer
+  refused_trace options found r d answer e is how none =
       subst (Gives reached taken taken old new read written d) (sym how)
-      (by_cause d r (subst IsLoaded (sym e) (traces_loaded options found)) (λ fault c. e ∙ ap (traces options) (cause_file found (cause_of r) fault is c))
+      (by_cause d r (subst IsLoaded (sym e) (traces_loaded options found)) (subst (IsStill old new) (sym e) (traces_still options found none)) (λ fault c. e ∙ ap (traces options) (cause_file found (cause_of r) fault is c))
       (cause_reads found (cause_of r) is) (cause_other found (cause_of r) is))
 
   pub usage_gives : (answer : Status) → answer ≡ status.Usage → Gives reached taken taken old new read written Usage answer

@@ -20,7 +20,7 @@ use Rattle.et_top.specs.Command as words
 use Rattle.et_program.specs.Entries.{Linked}
 use Rattle.et_run.specs.Start.{start_records}
 use Rattle.et_run.specs.Whole.{whole_setting, whole_start, whole_visits_of}
-use Rattle.et_loop.specs.Visits.{allowed_visits}
+use Rattle.et_loop.specs.Visits.{allowed_visits, IsCut}
 use Rattle.et_top.specs.Faults.{Fault, status_of_fault}
 use Rattle.et_top.specs.Loaded.{bytes_of, most_of_class, most_of_trace, IsListingOf, IsTraceOf, IsProgramOf}
 use Rattle.et_top.specs.declared.status.Status.{Status}
@@ -84,6 +84,12 @@ module _ (reached : Graph → ℕ → Bool) (before after : Option (List ℕ)) (
     pub wrote : WritesTrace reached (whole_setting program options) (whole_start program) (start_records program) ran before after
     pub visits : new ≤ old + allowed_visits reached (whole_setting program options) whole_visits_of (whole_start program) (start_records program) ran.event
 
+  -- the history of the program was cut off: out took a prefix of its trace, and the counter allows for the turns up to the
+  -- one in which that was, or is as before where no turn was begun
+  pub record WritesCut (program : Linked) (options : Options) : Type 0 where
+    pub wrote : WritesPrefix reached (whole_setting program options) (whole_start program) (start_records program) before after
+    pub visits : IsCut reached (whole_setting program options) whole_visits_of (whole_start program) (start_records program) before after old new
+
   -- THE ANSWER where the files and out tell what they hold and took. `read` and `written` say that the count of faults
   -- of the files and of out rose in this call. Each answer has what is defined; but a fault of reading or writing comes
   -- where its count rose, and want of memory anywhere. Where nothing is defined to be written nothing was taken; after
@@ -101,6 +107,6 @@ module _ (reached : Graph → ℕ → Bool) (before after : Option (List ℕ)) (
   Gives read written (Traces program options) status.IllTyped = WritesHistory program options status.IllTyped
   Gives read written (Traces program options) status.ObjectLimit = WritesHistory program options status.ObjectLimit
   Gives read written (Traces program options) status.ReadFault = read × (after ≡ before)
-  Gives read written (Traces program options) status.WriteFault = written × WritesPrefix reached (whole_setting program options) (whole_start program) (start_records program) before after
-  Gives read written (Traces program options) status.NoMemory = WritesPrefix reached (whole_setting program options) (whole_start program) (start_records program) before after
+  Gives read written (Traces program options) status.WriteFault = written × WritesCut program options
+  Gives read written (Traces program options) status.NoMemory = WritesCut program options
   Gives read written (Traces program options) answer = ⊥

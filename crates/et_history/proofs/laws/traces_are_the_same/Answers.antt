@@ -1,4 +1,4 @@
-use Rattle.et_history.proofs.Wholes.{trace, prefix, visits}
+use Rattle.et_history.proofs.Wholes.{trace, prefix, visits, cut}
 use Rattle.et_history.proofs.laws.traces_are_the_same.Goals as goal
 
 pub returns-clause-trace : goal.returns-clause-trace
@@ -9,3 +9,6 @@ returns-clause-prefix c = prefix
 
 pub returns-clause-visits : goal.returns-clause-visits
 returns-clause-visits c = visits
+
+pub returns-clause-cut : goal.returns-clause-cut
+returns-clause-cut c = cut

@@ -7,8 +7,8 @@ use Rattle.et_loop.specs.Options.{setting_of}
 use Rattle.et_loop.proofs.RunLemmas.{running_start, turn_end, front_start, front_nothing, front_now, front_turn, on_any, noted_before}
 use Rattle.et_loop.specs.Stamping.{HasStamps, Passes}
 use Rattle.et_loop.proofs.Turns.{told_first, told_made}
-use Rattle.et_loop.specs.Visits.{TurnVisits}
-use Rattle.et_loop.proofs.Counts.{none_so_far, more_so_far, last_allowed, passes_grow}
+use Rattle.et_loop.proofs.Counts.{none_so_far, more_so_far, last_allowed, cut_allowed, passes_grow, going_few, ending_few}
+use Rattle.et_loop.proofs.Cuts.{cut_first, cut_here, cut_putting}
 use Rattle.et_loop.proofs.Joins.{graphs, graph_first, running_as, listed_here, next_runs, next_told}
 use Rattle.et_loop.proofs.run.run_guest.Goals as goal
 
@@ -136,7 +136,10 @@ events-preserved g c =
           let due = is_flush_point c.args.options.now.interval c.events.e in
           let passes : Passes due c.events.e (graph c.events.machine) (graph c.turn.new.machine) (λ o. get_or c.events.tracer.stamps o 0) (λ o. get_or c.turn.new.tracer.stamps o 0) =
           subst (λ (end : Option End). IfNone end (Passes due c.events.e (graph c.events.machine) (graph c.turn.new.machine) (λ o. get_or c.events.tracer.stamps o 0) (λ o. get_or c.turn.new.tracer.stamps o 0))) c.in-None.is c.in-Ok-turn.ensures.passes in
-          let turn = subst (λ (end : Option End). TurnVisits end due (G.flush_visits_of (reached (G.graph_of s)) s) (graph c.events.machine).made (graph c.turn.new.machine).made c.events.visits c.turn.new.visits) c.in-None.is (c.in-Ok-turn.ensures.visits (reached (G.graph_of s)) (decides (G.graph_of s))) in
+          let last = λ (o : ℕ). noted_before reached given start c.args.made.now o c.events.e in
+          let runs = c.events.invariant.runs reached decides in
+          let listed = listed_here reached decides given start c.args.made.now c.events.e _ _ _ _ runs (λ o. get_or c.events.tracer.stamps o 0) (c.events.invariant.told reached decides) in
+          let turn = going_few reached given G.flush_visits_of c.events.e s _ _ _ _ _ _ _ c.in-Ok-turn.next (c.in-Ok-turn.ensures.turns reached decides last listed) c.events.visits c.turn.new.visits (c.in-Ok-turn.ensures.visits reached decides) c.in-None.is in
           more_so_far reached given G.flush_visits_of start c.args.made.now c.events.e s c.args.visits.now c.events.visits (c.events.invariant.visits reached decides) ((c.events.invariant.runs reached decides).state) (S c.turn.new.machine) c.turn.new.visits
           (passes_grow due c.events.e (graph c.events.machine) (graph c.turn.new.machine) (λ o. get_or c.events.tracer.stamps o 0) (λ o. get_or c.turn.new.tracer.stamps o 0) passes) turn (c.events.e + 1) (add-one c.events.e);
       stamps = subst (λ (end : Option End). IfNone end (HasStamps (graph c.turn.new.machine) c.turn.new.tracer.stamps)) c.in-None.is c.in-Ok-turn.ensures.stamps;
@@ -154,6 +157,45 @@ returns-in-Some-clause-visits g c reached decides =
     let given = setting_of (G.event_of c.args.code.now) G.unended_of G.graph_of G.flushed_of (g.G.Code.Program.names c.args.code.now) c.args.options.now in
     let start = G.state c.args.machine.now in
     let s = G.state c.events.machine in
-    let due = is_flush_point c.args.options.now.interval c.events.e in
-    let turn = subst (λ (end : Option End). TurnVisits end due (G.flush_visits_of (reached (G.graph_of s)) s) (G.graph_of s).made (G.graph_of (G.state c.turn.new.machine)).made c.events.visits c.turn.new.visits) c.in-Some.is (c.in-Ok-turn.ensures.visits (reached (G.graph_of s)) (decides (G.graph_of s))) in
-    last_allowed reached given G.flush_visits_of start c.args.made.now c.events.e s c.args.visits.now c.events.visits (c.events.invariant.visits reached decides) ((c.events.invariant.runs reached decides).state) c.turn.new.visits turn
+    let last = λ (o : ℕ). noted_before reached given start c.args.made.now o c.events.e in
+    let runs = c.events.invariant.runs reached decides in
+    let listed = listed_here reached decides given start c.args.made.now c.events.e _ _ _ _ runs (λ o. get_or c.events.tracer.stamps o 0) (c.events.invariant.told reached decides) in
+    let turn = ending_few reached given G.flush_visits_of c.events.e s _ _ _ _ _ _ _ c.in-Ok-turn.next (c.in-Ok-turn.ensures.turns reached decides last listed) c.events.visits c.turn.new.visits (c.in-Ok-turn.ensures.visits reached decides) c.in-Some.end c.in-Some.is in
+    last_allowed reached given G.flush_visits_of start c.args.made.now c.events.e s c.args.visits.now c.events.visits (c.events.invariant.visits reached decides) runs.state c.turn.new.visits turn
+
+-- .. and of one that is cut off
+pub returns-in-Err-clause-cut : goal.returns-in-Err-clause-cut
+returns-in-Err-clause-cut g c reached decides =
+    let G = g.G.Guest in
+    let given = setting_of (G.event_of c.args.code.now) G.unended_of G.graph_of G.flushed_of (g.G.Code.Program.names c.args.code.now) c.args.options.now in
+    cut_first reached given G.flush_visits_of (G.state c.args.machine.now) c.args.made.now (g.O.Sink.taken c.args.sink.now) c.args.visits.now c.args.visits.now (g.O.Sink.taken c.args.sink.now) refl
+
+pub returns-in-Err-begin-clause-cut : goal.returns-in-Err-begin-clause-cut
+returns-in-Err-begin-clause-cut g c reached decides =
+    let G = g.G.Guest in
+    let given = setting_of (G.event_of c.args.code.now) G.unended_of G.graph_of G.flushed_of (g.G.Code.Program.names c.args.code.now) c.args.options.now in
+    cut_first reached given G.flush_visits_of (G.state c.args.machine.now) c.args.made.now (g.O.Sink.taken c.args.sink.now) c.args.visits.now c.args.visits.now (g.O.Sink.taken c.args.sink.now) refl
+
+pub returns-in_err-put_all-clause-cut : goal.returns-in_err-put_all-clause-cut
+returns-in_err-put_all-clause-cut g c reached decides =
+    let G = g.G.Guest in
+    let given = setting_of (G.event_of c.args.code.now) G.unended_of G.graph_of G.flushed_of (g.G.Code.Program.names c.args.code.now) c.args.options.now in
+    on_any c.from_residual.result (cut_first reached given G.flush_visits_of (G.state c.args.machine.now) c.args.made.now (g.O.Sink.taken c.args.sink.now) c.args.visits.now c.args.visits.now (g.O.Sink.taken c.put_all.new.sink) refl)
+
+pub returns-in-Err-turn-clause-cut : goal.returns-in-Err-turn-clause-cut
+returns-in-Err-turn-clause-cut g c reached decides =
+    let G = g.G.Guest in
+    let given = setting_of (G.event_of c.args.code.now) G.unended_of G.graph_of G.flushed_of (g.G.Code.Program.names c.args.code.now) c.args.options.now in
+    let start = G.state c.args.machine.now in
+    let runs = c.events.invariant.runs reached decides in
+    let few = cut_allowed reached given G.flush_visits_of start c.args.made.now c.events.e (G.state c.events.machine) c.args.visits.now c.events.visits (c.events.invariant.visits reached decides) runs.state c.turn.new.visits (c.in-Err-turn.ensures.visits reached decides) in
+    cut_here reached given G.flush_visits_of start c.args.made.now (g.O.Sink.taken c.args.sink.now) c.args.visits.now c.turn.new.visits c.events.e _ _ _ _ runs few
+
+pub returns-in_err-put_all-2-clause-cut : goal.returns-in_err-put_all-2-clause-cut
+returns-in_err-put_all-2-clause-cut g c reached decides =
+    let G = g.G.Guest in
+    let given = setting_of (G.event_of c.args.code.now) G.unended_of G.graph_of G.flushed_of (g.G.Code.Program.names c.args.code.now) c.args.options.now in
+    let start = G.state c.args.machine.now in
+    let runs = c.events.invariant.runs reached decides in
+    let few = cut_allowed reached given G.flush_visits_of start c.args.made.now c.events.e (G.state c.events.machine) c.args.visits.now c.events.visits (c.events.invariant.visits reached decides) runs.state c.turn.new.visits (c.in-Ok-turn.ensures.visits reached decides) in
+    on_any c.from_residual-in_err-put_all-2.result (cut_putting reached given G.flush_visits_of start c.args.made.now (g.O.Sink.taken c.args.sink.now) c.args.visits.now c.turn.new.visits c.events.e _ _ _ _ runs few (g.O.Sink.taken c.put_all-in-events.new.sink) _ c.in_err-put_all-2.ensures.err)

@@ -1,10 +1,9 @@
-use Rattle.std.proofs.Common.{◌≡◌, ℕ, Bool, ◌↔◌, IsTrue, [], false, subst, sym, ◌∙◌, ap, None}
+use Rattle.std.proofs.Common.{◌≡◌, ℕ, Bool, ◌↔◌, IsTrue, [], false, subst, sym, ◌∙◌, ap}
 use Rattle.et_graph.specs.Graph.{IsReached}
 use Rattle.et_loop.specs.Options.{setting_of}
 use Rattle.et_loop.specs.Run.{due_state, Goes}
 use Rattle.et_loop.specs.Stamping.{Stamped}
-use Rattle.et_loop.specs.Visits.{TurnVisits}
-use Rattle.et_loop.proofs.Counts.{settled_as_many, turn_on_visits, turn_last_visits}
+use Rattle.et_loop.proofs.Counts.{settled_as_many, settled_state, turn_flushed, turn_allowed, last_turn_allowed}
 use Rattle.et_loop.proofs.TurnSteps.{settled_made, deaths_now, goes_on, goes_out, still_listed}
 use Rattle.et_loop.proofs.tracer.turn.Goals as goal
 
@@ -49,25 +48,67 @@ returns-in_ok-conclude-in-Some-clause-turns g c reached decides last listed =
     record { ends = out.ends; lines = out.lines }
 
 -- the visits of a turn
-pub returns-in-None-clause-visits : goal.returns-in-None-clause-visits
-returns-in-None-clause-visits g c here decides =
-    let G = g.G.Guest in
-    let s = G.state c.args.machine.now in
-    let t = turn_on_visits c.is_flush_point-due.result (G.flush_visits_of here s) (G.graph_of s).made (G.graph_of (G.state c.settle.new.machine)).made (G.graph_of (G.state c.step.new.machine)).made c.args.visits.now c.settle.new.visits c.step.new.visits
-    (c.in_ok-settle.ensures.visits here decides) c.in_ok-step.ensures.visits (settled_as_many c.is_flush_point-due.result (G.graph_of s) (G.graph_of (G.state c.settle.new.machine)) c.in_ok-settle.ensures.graph) in
-    subst (λ (due : Bool). TurnVisits None due (G.flush_visits_of here s) (G.graph_of s).made (G.graph_of (G.state c.step.new.machine)).made c.args.visits.now c.step.new.visits) c.is_flush_point-due.ensures t
-
-pub returns-in_ok-conclude-in-Some-clause-visits : goal.returns-in_ok-conclude-in-Some-clause-visits
-returns-in_ok-conclude-in-Some-clause-visits g c here decides =
+pub returns-in_err-settle-clause-visits : goal.returns-in_err-settle-clause-visits
+returns-in_err-settle-clause-visits g c reached decides =
     let G = g.G.Guest in
     let s = G.state c.args.machine.now in
     let given = setting_of (G.event_of c.args.code.now) G.unended_of G.graph_of G.flushed_of (g.G.Code.Program.names c.args.code.now) c.args.options.now in
+    turn_flushed reached given G.flush_visits_of c.args.e s c.is_flush_point-due.result c.args.visits.now c.settle.new.visits c.is_flush_point-due.ensures (c.in_err-settle.ensures.visits (reached (G.graph_of s)) (decides (G.graph_of s)))
+
+pub returns-in_err-step-clause-visits : goal.returns-in_err-step-clause-visits
+returns-in_err-step-clause-visits g c reached decides =
+    let G = g.G.Guest in
+    let s = G.state c.args.machine.now in
+    let given = setting_of (G.event_of c.args.code.now) G.unended_of G.graph_of G.flushed_of (g.G.Code.Program.names c.args.code.now) c.args.options.now in
+    let due = c.is_flush_point-due.result in
+    let at = settled_state reached given c.args.e s (G.state c.settle.new.machine) due c.is_flush_point-due.ensures (c.in_ok-settle.ensures.state (reached (G.graph_of s)) (decides (G.graph_of s))) in
+    let flushed = c.in_ok-settle.ensures.visits (reached (G.graph_of s)) (decides (G.graph_of s)) in
+    turn_allowed reached given G.flush_visits_of c.args.e s due c.args.visits.now c.settle.new.visits c.is_flush_point-due.ensures flushed (G.state c.settle.new.machine) at c.step.new.visits c.in_err-step.ensures.visits
+    (settled_as_many due (G.graph_of s) (G.graph_of (G.state c.settle.new.machine)) c.in_ok-settle.ensures.graph)
+
+pub returns-in-None-clause-visits : goal.returns-in-None-clause-visits
+returns-in-None-clause-visits g c reached decides =
+    let G = g.G.Guest in
+    let s = G.state c.args.machine.now in
+    let given = setting_of (G.event_of c.args.code.now) G.unended_of G.graph_of G.flushed_of (g.G.Code.Program.names c.args.code.now) c.args.options.now in
+    let due = c.is_flush_point-due.result in
+    let at = settled_state reached given c.args.e s (G.state c.settle.new.machine) due c.is_flush_point-due.ensures (c.in_ok-settle.ensures.state (reached (G.graph_of s)) (decides (G.graph_of s))) in
+    let flushed = c.in_ok-settle.ensures.visits (reached (G.graph_of s)) (decides (G.graph_of s)) in
+    turn_allowed reached given G.flush_visits_of c.args.e s due c.args.visits.now c.settle.new.visits c.is_flush_point-due.ensures flushed (G.state c.settle.new.machine) at c.step.new.visits c.in_ok-step.ensures.visits
+    (settled_as_many due (G.graph_of s) (G.graph_of (G.state c.settle.new.machine)) c.in_ok-settle.ensures.graph)
+
+pub returns-in_err-conclude-in-Some-clause-visits : goal.returns-in_err-conclude-in-Some-clause-visits
+returns-in_err-conclude-in-Some-clause-visits g c reached decides =
+    let G = g.G.Guest in
+    let s = G.state c.args.machine.now in
+    let given = setting_of (G.event_of c.args.code.now) G.unended_of G.graph_of G.flushed_of (g.G.Code.Program.names c.args.code.now) c.args.options.now in
+    let due = c.is_flush_point-due.result in
+    let at = settled_state reached given c.args.e s (G.state c.settle.new.machine) due c.is_flush_point-due.ensures (c.in_ok-settle.ensures.state (reached (G.graph_of s)) (decides (G.graph_of s))) in
+    let flushed = c.in_ok-settle.ensures.visits (reached (G.graph_of s)) (decides (G.graph_of s)) in
     let step = subst (λ n. Goes given c.args.e (G.state c.settle.new.machine) n (G.state c.step.new.machine) c.step.new.tracer.numbering c.settle.new.tracer.buffer.items c.step.new.tracer.buffer.items c.in_ok-step.field-0) c.in_ok-settle.ensures.numbering c.in_ok-step.ensures.goes in
     let goes = subst (λ end. Goes given c.args.e (G.state c.settle.new.machine) c.args.tracer.now.numbering (G.state c.step.new.machine) c.step.new.tracer.numbering c.settle.new.tracer.buffer.items c.step.new.tracer.buffer.items end) c.in-Some.is step in
-    let state = c.in_ok-settle.ensures.state here decides in
-    let same : c.is_flush_point-due.result ≡ false → G.state c.step.new.machine ≡ s =
-    λ none. goes.state ∙ (state ∙ ap (λ (b : Bool). due_state b (G.flushed_of here s) s) none) in
-    turn_last_visits c.is_flush_point-due.result (G.flush_visits_of here s) (G.flush_visits_of here (G.state c.step.new.machine)) (G.graph_of (G.state c.settle.new.machine)).made (G.graph_of (G.state c.step.new.machine)).made c.args.visits.now c.settle.new.visits c.step.new.visits c.conclude.new.visits
-    (c.in_ok-settle.ensures.visits here decides) c.in_ok-step.ensures.visits (ap (λ (x : G.State). (G.graph_of x).made) goes.state)
-    (c.in_ok-conclude-in-Some.ensures.visits here (λ none. subst (λ (x : G.State). (o : ℕ) → IsTrue (here o) ↔ IsReached (G.graph_of x) o) (sym (same none)) decides))
-    (λ none. ap (λ (x : G.State). G.flush_visits_of here x) (same none))
+    let state = c.in_ok-settle.ensures.state (reached (G.graph_of s)) (decides (G.graph_of s)) in
+    let same : due ≡ false → G.state c.step.new.machine ≡ s =
+    λ none. goes.state ∙ (state ∙ ap (λ (b : Bool). due_state b (G.flushed_of (reached (G.graph_of s)) s) s) none) in
+    last_turn_allowed reached given G.flush_visits_of c.args.e s due c.args.visits.now c.settle.new.visits c.is_flush_point-due.ensures flushed (G.state c.settle.new.machine) at c.step.new.visits c.in_ok-step.ensures.visits
+    c.in-Some.end (G.flush_visits_of (reached (G.graph_of s)) (G.state c.step.new.machine)) c.conclude.new.visits goes.ends
+    (c.in_err-conclude-in-Some.ensures.visits (reached (G.graph_of s)) (λ none. subst (λ (x : G.State). (o : ℕ) → IsTrue (reached (G.graph_of s) o) ↔ IsReached (G.graph_of x) o) (sym (same none)) (decides (G.graph_of s))))
+    (λ none. ap (λ (x : G.State). G.flush_visits_of (reached (G.graph_of s)) x) (same none))
+
+pub returns-in_ok-conclude-in-Some-clause-visits : goal.returns-in_ok-conclude-in-Some-clause-visits
+returns-in_ok-conclude-in-Some-clause-visits g c reached decides =
+    let G = g.G.Guest in
+    let s = G.state c.args.machine.now in
+    let given = setting_of (G.event_of c.args.code.now) G.unended_of G.graph_of G.flushed_of (g.G.Code.Program.names c.args.code.now) c.args.options.now in
+    let due = c.is_flush_point-due.result in
+    let at = settled_state reached given c.args.e s (G.state c.settle.new.machine) due c.is_flush_point-due.ensures (c.in_ok-settle.ensures.state (reached (G.graph_of s)) (decides (G.graph_of s))) in
+    let flushed = c.in_ok-settle.ensures.visits (reached (G.graph_of s)) (decides (G.graph_of s)) in
+    let step = subst (λ n. Goes given c.args.e (G.state c.settle.new.machine) n (G.state c.step.new.machine) c.step.new.tracer.numbering c.settle.new.tracer.buffer.items c.step.new.tracer.buffer.items c.in_ok-step.field-0) c.in_ok-settle.ensures.numbering c.in_ok-step.ensures.goes in
+    let goes = subst (λ end. Goes given c.args.e (G.state c.settle.new.machine) c.args.tracer.now.numbering (G.state c.step.new.machine) c.step.new.tracer.numbering c.settle.new.tracer.buffer.items c.step.new.tracer.buffer.items end) c.in-Some.is step in
+    let state = c.in_ok-settle.ensures.state (reached (G.graph_of s)) (decides (G.graph_of s)) in
+    let same : due ≡ false → G.state c.step.new.machine ≡ s =
+    λ none. goes.state ∙ (state ∙ ap (λ (b : Bool). due_state b (G.flushed_of (reached (G.graph_of s)) s) s) none) in
+    last_turn_allowed reached given G.flush_visits_of c.args.e s due c.args.visits.now c.settle.new.visits c.is_flush_point-due.ensures flushed (G.state c.settle.new.machine) at c.step.new.visits c.in_ok-step.ensures.visits
+    c.in-Some.end (G.flush_visits_of (reached (G.graph_of s)) (G.state c.step.new.machine)) c.conclude.new.visits goes.ends
+    (c.in_ok-conclude-in-Some.ensures.visits (reached (G.graph_of s)) (λ none. subst (λ (x : G.State). (o : ℕ) → IsTrue (reached (G.graph_of s) o) ↔ IsReached (G.graph_of x) o) (sym (same none)) (decides (G.graph_of s))))
+    (λ none. ap (λ (x : G.State). G.flush_visits_of (reached (G.graph_of s)) x) (same none))

@@ -6,7 +6,7 @@ use Rattle.et_parts.specs.Places.{site_at}
 use Rattle.et_event.specs.Moments.{moment}
 use Rattle.et_event.specs.Sites.{natural}
 use Rattle.et_refs.specs.Events.{new_arrays_outcome}
-use Rattle.et_refs.proofs.Answering.{answers_as, as_many, taken_ok, taken_err}
+use Rattle.et_refs.proofs.Answering.{answers_as, visits_as, as_many, taken_ok, taken_err}
 use Rattle.et_refs.proofs.Placed.{some_dimension, with_name}
 use Rattle.et_refs.proofs.events.multi_array_event.Goals as goal
 
@@ -58,3 +58,19 @@ returns-clause-ok g c =
     ∙ (taken_ok e at name c.dimensions.result c.in_ok-lengths.field-0 (λ x. x.items) c.in-Ok.lengths lengths c.dimensions.ensures (c.in_ok-lengths.ensures.is e) c.in-Ok.is many c.deref.ensures.value
     ∙ c.in-Err-class_wanted.ensures.is (kept_of m) c.args.thread (new_arrays_outcome e c.args.place.now.next lengths (drop (length lengths) (top m.guest c.args.thread).operands))))
     c.refuse-in-Err-class_wanted.ensures.ok
+
+pub returns-in-Ok-class_wanted-clause-visits : goal.returns-in-Ok-class_wanted-clause-visits
+returns-in-Ok-class_wanted-clause-visits g c =
+    let m = c.args.machine.now in
+    let e = moment c.args.program.now m c.args.thread in
+    let at = site_at c.args.place.now in
+    let name = c.in-Some.name.now in
+    let operands = (top m.guest c.args.thread).operands in
+    let lengths = c.deref.result.now in
+    let many = as_many c.in_ok-lengths.field-0 (λ x. x.items) c.dimensions.result c.in-Ok.lengths lengths c.in-Ok.is c.deref.ensures.value c.in_ok-lengths.ensures.count in
+    visits_as _ _ m c.args.visits.now c.add_arrays.new.visits
+    (with_name e at name c.in-Some.ensures
+    ∙ (taken_ok e at name c.dimensions.result c.in_ok-lengths.field-0 (λ x. x.items) c.in-Ok.lengths lengths c.dimensions.ensures (c.in_ok-lengths.ensures.is e) c.in-Ok.is many c.deref.ensures.value
+    ∙ (c.in-Ok-class_wanted.ensures.is (kept_of m) c.args.thread (new_arrays_outcome e c.args.place.now.next lengths (drop (length lengths) operands))
+    ∙ ap (λ (ns : List ℤ). new_arrays_outcome e c.args.place.now.next ns (drop (length ns) operands) c.in-Ok-class_wanted.class) (c.deref.ensures.value ∙ sym c.deref-in-Ok-class_wanted.ensures.value))))
+    c.add_arrays.ensures.visits

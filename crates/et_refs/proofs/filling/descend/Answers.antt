@@ -1,7 +1,7 @@
-use Rattle.std.proofs.Common.{rules, ◌≡◌, ◌+◌, length, ◌++◌, ◌∷◌, []}
+use Rattle.std.proofs.Common.{rules, arith, ◌≡◌, ◌+◌, length, ◌++◌, ◌∷◌, []}
 use Rattle.et_state.specs.State.{kept_of}
 use Rattle.et_event.specs.Moments.{Moment, moment}
-use Rattle.et_refs.proofs.Descending.{level_there, room_there, descended, descended_fillings, one_more, room_few}
+use Rattle.et_refs.proofs.Descending.{level_there, room_there, descended, descended_fillings, one_more, room_few, level_made}
 use Rattle.et_refs.proofs.filling.descend.Goals as goal
 
 pub open_array-requires-clause-level : goal.open_array-requires-clause-level
@@ -38,3 +38,28 @@ returns-clause-few c =
     let e = moment c.args.program.now c.args.machine.now c.args.thread in
     let room = room_there e c.args.machine.now c.args.out.now c.args.lengths.now c.args.stack.now.items c.args.top (c.len-level.result + 1) c.requires.fillings c.requires.more at (c.requires.fits (kept_of c.args.machine.now)) in
     room_few c.args.machine.now.heap c.open_array.new.machine.heap _ room (one_more e c.args.top.inner _ c.args.machine.now c.open_array.new.machine c.args.out.now c.open_array.new.out c.in_ok-last.ensures.made)
+
+-- whatever it answered, one array at most was made, and there is one more in the end
+pub returns-in_err-last-clause-most : goal.returns-in_err-last-clause-most
+returns-in_err-last-clause-most c =
+    let at : c.len-level.result + 1 ≡ length c.args.stack.now.items + 1 = search rules in
+    let one = c.in_err-last.ensures.one in
+    λ b.
+    let more = level_made (record { program = c.args.program.now; before = b; thread = c.args.thread }) c.args.machine.now c.args.out.now c.args.lengths.now c.args.stack.now.items c.args.top (c.len-level.result + 1) c.requires.fillings c.requires.more at in
+    omega (arith, one, more)
+
+pub returns-in_err-push-clause-most : goal.returns-in_err-push-clause-most
+returns-in_err-push-clause-most c =
+    let at : c.len-level.result + 1 ≡ length c.args.stack.now.items + 1 = search rules in
+    let one = c.in_ok-last.ensures.one in
+    λ b.
+    let more = level_made (record { program = c.args.program.now; before = b; thread = c.args.thread }) c.args.machine.now c.args.out.now c.args.lengths.now c.args.stack.now.items c.args.top (c.len-level.result + 1) c.requires.fillings c.requires.more at in
+    omega (arith, one, more)
+
+pub returns-clause-most : goal.returns-clause-most
+returns-clause-most c =
+    let at : c.len-level.result + 1 ≡ length c.args.stack.now.items + 1 = search rules in
+    let one = c.in_ok-last.ensures.one in
+    λ b.
+    let more = level_made (record { program = c.args.program.now; before = b; thread = c.args.thread }) c.args.machine.now c.args.out.now c.args.lengths.now c.args.stack.now.items c.args.top (c.len-level.result + 1) c.requires.fillings c.requires.more at in
+    omega (arith, one, more)

@@ -2,12 +2,13 @@ use Rattle.std.proofs.Common.{◌≡◌, ◌+◌, ◌≤◌, List, [], ◌∷◌
 use Rattle.std.proofs.lemmas.List.{length_push}
 use Rattle.et_state.specs.State.{MachineState, kept_of}
 use Rattle.et_event.specs.Heap.{naturals}
-use Rattle.et_event.specs.Moments.{Moment, moment}
+use Rattle.et_event.specs.Moments.{Moment, Doing, moment}
 use Rattle.et_refs.specs.declared.filling.Filling.{Filling}
 use Rattle.et_refs.specs.Filling.{doing_of, with_elements, inner_dimensions, AreFillings}
 use Rattle.et_refs.proofs.Ascending.{parent_there, slot_there, ascended, ascended_fillings}
 use Rattle.et_refs.proofs.Stacking.{last_filling}
-use Rattle.et_refs.proofs.Starting.{start_fits, start_filling, started}
+use Rattle.et_refs.proofs.Finishing.{still_made}
+use Rattle.et_refs.proofs.Starting.{start_fits, start_filling, started, start_made}
 use Rattle.et_refs.proofs.filling.make_arrays.Goals as goal
 
 pub open_array-requires-clause-room : goal.open_array-requires-clause-room
@@ -83,3 +84,29 @@ elements-preserved g c =
 
 pub returns-in_default-clause-first : goal.returns-in_default-clause-first
 returns-in_default-clause-first g c = ap (λ (f : Filling). f.array) (c.in_ok-first.ensures.filling (kept_of c.args.machine.now))
+
+-- whatever it answered, no more arrays were made than are made in the end
+pub returns-in_err-first-clause-most : goal.returns-in_err-first-clause-most
+returns-in_err-first-clause-most g c b =
+    let one = c.in_err-first.ensures.one in
+    let more = start_made (record { program = c.args.program.now; before = b; thread = c.args.thread }) c.args.arrays.now.class c.args.arrays.now.lengths.now c.args.machine.now c.args.out.now c.requires.some in
+    omega (arith, one, more)
+
+pub returns-in_err-last-clause-most : goal.returns-in_err-last-clause-most
+returns-in_err-last-clause-most g c b =
+    let most = c.in_err-last.ensures.most b in
+    let same = ap (λ (d : Doing). length d.state.heap) (c.elements.invariant.same b) in
+    omega (arith, most, same)
+
+pub returns-in_err-last-2-clause-most : goal.returns-in_err-last-2-clause-most
+returns-in_err-last-2-clause-most g c b =
+    let as_many = c.in_err-last-2.ensures.same in
+    let still = still_made (record { program = c.args.program.now; before = b; thread = c.args.thread }) (c.elements.stack.items ++ c.elements.last ∷ []) (inner_dimensions (naturals c.args.arrays.now.lengths.now)) (doing_of c.elements.machine c.elements.out) in
+    let same = ap (λ (d : Doing). length d.state.heap) (c.elements.invariant.same b) in
+    omega (arith, as_many, still, same)
+
+pub returns-in_default-clause-most : goal.returns-in_default-clause-most
+returns-in_default-clause-most g c b =
+    let still = still_made (record { program = c.args.program.now; before = b; thread = c.args.thread }) (c.elements.stack.items ++ c.elements.last ∷ []) (inner_dimensions (naturals c.args.arrays.now.lengths.now)) (doing_of c.elements.machine c.elements.out) in
+    let same = ap (λ (d : Doing). length d.state.heap) (c.elements.invariant.same b) in
+    omega (arith, still, same)

@@ -1,8 +1,9 @@
+use Rattle.std.proofs.Common.{inl, refl}
 use Rattle.et_program.specs.Entries.{Linked}
 use Rattle.et_event.specs.Start.{start_records}
 use Rattle.et_loop.proofs.RunLemmas.{front_nothing}
 use Rattle.et_history.specs.Whole.{whole_setting, whole_start}
-use Rattle.et_run.proofs.Running.{program_runs, program_starts, sound_run, whole_trace, whole_prefix, whole_visits}
+use Rattle.et_run.proofs.Running.{program_runs, program_starts, sound_run, whole_trace, whole_prefix, whole_visits, whole_cut}
 use Rattle.et_run.proofs.program_run.run.Goals as goal
 
 pub run_from-requires-clause-runnable : goal.run_from-requires-clause-runnable
@@ -34,3 +35,15 @@ returns-in-Ok-clause-visits g c reached decides =
 
 pub returns-in-Err-clause-prefix : goal.returns-in-Err-clause-prefix
 returns-in-Err-clause-prefix g c reached decides = front_nothing reached (whole_setting c.args.program.now c.args.options.now) (whole_start c.args.program.now) (start_records c.args.program.now) (g.O.Sink.taken c.args.sink.now)
+
+pub returns-in-Ok-clause-cut : goal.returns-in-Ok-clause-cut
+returns-in-Ok-clause-cut g c reached decides =
+    let p : Linked = c.args.program.now in
+    let sound = sound_run p c.files_keep_rules.ensures c.programs_may_run.ensures c.first_state_is_sound.ensures c.names_what_it_has.ensures c.is_linked.ensures in
+    let before = g.O.Sink.taken c.args.sink.now in
+    let after = g.O.Sink.taken c.run_from.new.sink in
+    whole_cut reached p c.args.options.now _ _ c.in-Ok.ensures.state c.in-Ok.ensures.records before after c.args.visits.now c.run_from.new.visits c.run_from.result
+    (c.traces_are_the_same.ensures.cut reached p c.args.options.now before after c.args.visits.now c.run_from.new.visits decides sound c.requires.options) (c.run_from.ensures.cut reached decides)
+
+pub returns-in-Err-clause-cut : goal.returns-in-Err-clause-cut
+returns-in-Err-clause-cut g c reached decides = inl refl

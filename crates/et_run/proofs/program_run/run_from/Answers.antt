@@ -7,7 +7,7 @@ use Rattle.et_state.specs.State.{Kept, MachineState, kept_of}
 use Rattle.et_state.specs.declared.records.Record.{Record}
 use Rattle.et_state.specs.Naming.{IsNamed}
 use Rattle.et_loop.specs.Kept.{IsStepTo}
-use Rattle.et_loop.specs.Visits.{allowed_visits}
+use Rattle.et_loop.specs.Visits.{allowed_visits, IsCut}
 use Rattle.et_loop.specs.Traced.{WritesTrace, WritesPrefix}
 use Rattle.et_history.specs.Settings.{flush_visits_of, setting, names_of}
 use Rattle.et_run.proofs.Starting.{first_step, records_named}
@@ -37,3 +37,8 @@ pub returns-clause-visits : goal.returns-clause-visits
 returns-clause-visits g c reached decides =
     subst (λ (p : Linked). IfOk c.run_guest.result (λ ran. c.run_guest.new.visits ≤ c.args.visits.now + allowed_visits reached (setting p c.args.options.now) flush_visits_of (kept_of c.args.machine) c.args.made.now ran.event)) c.of-code.ensures
     (subst (λ (m : MachineState). IfOk c.run_guest.result (λ ran. c.run_guest.new.visits ≤ c.args.visits.now + allowed_visits reached (setting c.of-code.result c.args.options.now) flush_visits_of (kept_of m) c.args.made.now ran.event)) c.of-guest.ensures (c.run_guest.ensures.visits reached decides))
+
+pub returns-clause-cut : goal.returns-clause-cut
+returns-clause-cut g c reached decides =
+    subst (λ (p : Linked). OnErr c.run_guest.result (IsCut reached (setting p c.args.options.now) flush_visits_of (kept_of c.args.machine) c.args.made.now (g.O.Sink.taken c.args.sink.now) (g.O.Sink.taken c.run_guest.new.sink) c.args.visits.now c.run_guest.new.visits)) c.of-code.ensures
+    (subst (λ (m : MachineState). OnErr c.run_guest.result (IsCut reached (setting c.of-code.result c.args.options.now) flush_visits_of (kept_of m) c.args.made.now (g.O.Sink.taken c.args.sink.now) (g.O.Sink.taken c.run_guest.new.sink) c.args.visits.now c.run_guest.new.visits)) c.of-guest.ensures (c.run_guest.ensures.cut reached decides))

@@ -1,6 +1,8 @@
 use Rattle.et_state.specs.State.{Kept, kept_of}
 use Rattle.et_event.specs.Event.{event}
 use Rattle.et_run.specs.Telling.{IsTold}
+use Rattle.std.proofs.Common.{arith}
+use Rattle.et_run.proofs.Flushing.{on_ok_map}
 use Rattle.et_run.proofs.Answering.{on_ok, if_ok, answers, steps, ticks, named, element_classes}
 use Rattle.et_history.proofs.Unended.{unended_thread}
 use Rattle.et_run.proofs.steps.machine_event.Goals as goal
@@ -18,16 +20,13 @@ returns-clause-step g c =
 
 pub returns-clause-sound : goal.returns-clause-sound
 returns-clause-sound g c =
-    let p = c.args.program.now in
-    let s : Kept = kept_of c.args.machine.now in
-    let t = c.args.thread in
-    on_ok c.turn_event.result _ _ c.turn_event.ensures.event (λ end h.
-    record {
-      tabled = c.requires.sound.tabled;
-      runnable = c.requires.sound.runnable;
-      state = c.answers_are_sound.ensures p (event p s t) end c.args.machine.now c.turn_event.new.machine c.args.out.now c.turn_event.new.out h c.requires.sound.state
-          (c.events_keep_sound.ensures p s t c.requires.sound.state c.requires.clock (unended_thread c.args.machine.now.guest t c.requires.thread) c.requires.sound.runnable);
-    })
+    on_ok_map c.turn_event.result _ _ c.turn_event.ensures.sound (λ state. record { tabled = c.requires.sound.tabled; runnable = c.requires.sound.runnable; state = state })
+
+pub returns-clause-visits : goal.returns-clause-visits
+returns-clause-visits g c =
+    let few = c.turn_event.ensures.visits in
+    let some = c.requires.sound.state.held.room in
+    omega (arith, few, some)
 
 pub returns-clause-clock : goal.returns-clause-clock
 returns-clause-clock g c =

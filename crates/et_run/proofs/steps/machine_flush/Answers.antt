@@ -1,7 +1,7 @@
 use Rattle.std.proofs.Common.{ℕ, Bool}
 use Rattle.et_state.specs.Roots.{graph_of}
 use Rattle.et_state.specs.State.{MachineState, kept_of}
-use Rattle.et_run.proofs.Flushing.{times_flushed, test_is, any_ok, on_ok_map, kept_flushed, clock_flushed, run_flushed}
+use Rattle.et_run.proofs.Flushing.{times_flushed, test_is, on_ok_map, kept_flushed, clock_flushed, run_flushed}
 use Rattle.et_run.proofs.steps.machine_flush.Goals as goal
 
 pub returns-clause-state : goal.returns-clause-state
@@ -14,7 +14,7 @@ pub returns-clause-visits : goal.returns-clause-visits
 returns-clause-visits g c here h =
     let m : MachineState = c.args.machine.now in
     let is = test_is (graph_of (kept_of m)) here h in
-    any_ok c.flush_machine.result _ (times_flushed here m c.args.visits.now c.flush_machine.new.visits (c.flush_machine.ensures.visits here (λ o held. is o)))
+    times_flushed here m c.args.visits.now c.flush_machine.new.visits (c.flush_machine.ensures.visits here (λ o held. is o))
 
 pub returns-clause-clock : goal.returns-clause-clock
 returns-clause-clock g c =

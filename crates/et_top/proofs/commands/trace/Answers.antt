@@ -1,4 +1,4 @@
-use Rattle.std.proofs.Common.{sym, ◌∙◌, ap, subst}
+use Rattle.std.proofs.Common.{refl, sym, ◌∙◌, ap, subst}
 use Rattle.et_io.specs.Faults.{Rose}
 use Rattle.et_top.specs.Top.{traces, Gives}
 use Rattle.et_top.proofs.TopLemmas.{history_more, refused_trace}
@@ -18,8 +18,8 @@ returns-in-Ok-clause-gives g c held told kinds d defined reached decides =
 
 pub returns-in-Err-clause-gives : goal.returns-in-Err-clause-gives
 returns-in-Err-clause-gives g c held told kinds d defined reached decides =
-    refused_trace reached (g.O.Sink.taken c.args.out.now) _ _ (Rose (g.F.Files.faults c.args.files.now) (g.F.Files.faults c.load_program.new.files)) (Rose (g.O.Sink.faults c.args.out.now) (g.O.Sink.faults c.args.out.now))
-    c.args.options.now defined.0 c.in-Err.refusal d c.refuse.result defined.2 (c.in-Err.ensures.tells held told defined.0 defined.1) c.refuse.ensures
+    refused_trace reached (g.O.Sink.taken c.args.out.now) c.args.visits.now c.args.visits.now (Rose (g.F.Files.faults c.args.files.now) (g.F.Files.faults c.load_program.new.files)) (Rose (g.O.Sink.faults c.args.out.now) (g.O.Sink.faults c.args.out.now))
+    c.args.options.now defined.0 c.in-Err.refusal d c.refuse.result defined.2 (c.in-Err.ensures.tells held told defined.0 defined.1) c.refuse.ensures refl
 
 pub returns-in-Ok-clause-no_visits : goal.returns-in-Ok-clause-no_visits
 returns-in-Ok-clause-no_visits g c before = absurd (c.run.ensures.of_run before)

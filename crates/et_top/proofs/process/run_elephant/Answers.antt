@@ -3,7 +3,7 @@ use Rattle.std.specs.Prelude.{string_bytes}
 use Rattle.et_top.specs.Command.{command}
 use Rattle.et_top.specs.Top.{IsDefined}
 use Rattle.et_top.specs.Process.{model_kinds}
-use Rattle.et_top.proofs.TopLemmas.{memory_gives}
+use Rattle.et_top.proofs.TopLemmas.{memory_gives, still}
 use Rattle.et_top.proofs.process.run_elephant.Goals as goal
 
 pub returns-in-Ok-with_models-clause-answers : goal.returns-in-Ok-with_models-clause-answers
@@ -16,4 +16,4 @@ returns-in-Ok-with_models-clause-no_command g c =
 
 pub returns-in-Ok-clause-answers : goal.returns-in-Ok-clause-answers
 returns-in-Ok-clause-answers g c =
-    rw c.in-Ok.is (λ held told d defined reached decides. (0, rw (c.in-Err.ensures.out, c.in-Err.ensures.files, c.refuse.ensures) (memory_gives reached (g.O.Sink.taken c.args.out.now) 0 0 _ _ d)))
+    rw c.in-Ok.is (λ held told d defined reached decides. (0, rw (c.in-Err.ensures.out, c.in-Err.ensures.files, c.refuse.ensures) (memory_gives reached (g.O.Sink.taken c.args.out.now) 0 0 _ _ d (still 0 d))))

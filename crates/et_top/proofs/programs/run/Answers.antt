@@ -18,7 +18,7 @@ returns-in-Err-ended-clause-gives g c reached decides =
 
 pub returns-in-Err-clause-gives : goal.returns-in-Err-clause-gives
 returns-in-Err-clause-gives g c reached decides =
-    front_gives reached (g.O.Sink.taken c.args.out.now) (g.O.Sink.taken c.run.new.sink) c.args.visits.now c.run.new.visits ⊥ (Rose (g.O.Sink.faults c.args.out.now) (g.O.Sink.faults c.run.new.sink)) c.args.program.now c.args.options.now c.in-Err.fault c.refuse-in-Err.result (c.refuse-in-Err.ensures ∙ ap status_of c.of_fault.ensures) (c.in-Err.ensures.prefix reached decides) (λ e. c.in-Err.ensures.write (ap (λ (f : RunFault). Err f) e))
+    front_gives reached (g.O.Sink.taken c.args.out.now) (g.O.Sink.taken c.run.new.sink) c.args.visits.now c.run.new.visits ⊥ (Rose (g.O.Sink.faults c.args.out.now) (g.O.Sink.faults c.run.new.sink)) c.args.program.now c.args.options.now c.in-Err.fault c.refuse-in-Err.result (c.refuse-in-Err.ensures ∙ ap status_of c.of_fault.ensures) (c.in-Err.ensures.prefix reached decides) (c.in-Err.ensures.cut reached decides) (λ e. c.in-Err.ensures.write (ap (λ (f : RunFault). Err f) e))
 
 pub returns-in-Err-ended-clause-of_run : goal.returns-in-Err-ended-clause-of_run
 returns-in-Err-ended-clause-of_run g c before = end_of_run c.in-Ok.ran.end (subst IsBeforeRun (c.refuse.ensures ∙ c.in-Err-ended.ensures) before)

@@ -6,7 +6,7 @@ use Rattle.et_top.specs.Visits.{IsWithoutRun}
 use Rattle.std.specs.Prelude.{Option, option_map}
 use Rattle.et_top.specs.Asked.{asked_by}
 use Rattle.et_top.specs.declared.command.Command.{Command}
-use Rattle.et_top.proofs.TopLemmas.{by_command, memory_gives}
+use Rattle.et_top.proofs.TopLemmas.{by_command, memory_gives, still}
 use Rattle.et_top.proofs.top.elephant.Goals as goal
 
 pub returns-in-Some-clause-answers : goal.returns-in-Some-clause-answers
@@ -19,7 +19,7 @@ returns-in-Err-clause-answers g c held told d defined reached decides =
     let read = Rose (g.F.Files.faults c.args.files.now) (g.F.Files.faults c.args.files.now) in
     let written = Rose (g.O.Sink.faults c.args.out.now) (g.O.Sink.faults c.args.out.now) in
     let visits = c.args.visits.now in
-    subst (Gives reached taken taken visits visits read written d) (sym c.refuse.ensures) (memory_gives reached taken visits visits read written d)
+    subst (Gives reached taken taken visits visits read written d) (sym c.refuse.ensures) (memory_gives reached taken visits visits read written d (still visits d))
 
 pub returns-in-Some-clause-no_visits : goal.returns-in-Some-clause-no_visits
 returns-in-Some-clause-no_visits g c without =

@@ -12,4 +12,4 @@ returns-clause-state g c here h =
 
 pub returns-clause-visits : goal.returns-clause-visits
 returns-clause-visits g c here h =
-    subst (λ (m : MachineState). ((o : ℕ) → IsTrue (here o) ↔ IsReached (graph_of (kept_of m)) o) → OnOk c.machine_flush.result (c.machine_flush.new.visits ≤ c.args.visits.now + flush_visits_of here (kept_of m))) c.self.view_is (c.machine_flush.ensures.visits here) h
+    subst (λ (m : MachineState). ((o : ℕ) → IsTrue (here o) ↔ IsReached (graph_of (kept_of m)) o) → c.machine_flush.new.visits ≤ c.args.visits.now + flush_visits_of here (kept_of m)) c.self.view_is (c.machine_flush.ensures.visits here) h

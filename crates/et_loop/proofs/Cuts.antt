@@ -1,0 +1,40 @@
+-- A run that is cut off in a turn.
+use Rattle.std.proofs.Common.{◌≡◌, ℕ, ◌+◌, ◌≤◌, Bool, List, [], Option, sym, ◌∙◌, ap, inl, inr, append-nil}
+use Rattle.et_graph.specs.Graph.{Graph}
+use Rattle.et_io.specs.Sink.{with_more, TakesPrefix}
+use Rattle.et_state.specs.declared.records.Record.{Record}
+use Rattle.et_state.specs.Naming.{Mentions}
+use Rattle.et_state.specs.History.{Setting, lines_to}
+use Rattle.et_text.specs.Spelling.{text}
+use Rattle.et_loop.specs.Visits.{visits_to, IsCut}
+use Rattle.et_loop.proofs.RunLemmas.{Running, more_twice}
+
+module _ {S : Type 0} (reached : Graph → ℕ → Bool) (given : Setting S) (flush_visits : (ℕ → Bool) → S → ℕ) (start : S) (made : List Record) (before : Option (List ℕ)) (old new : ℕ) where
+  -- before the first turn nothing was visited
+  pub cut_first : (after : Option (List ℕ)) → new ≡ old → IsCut reached given flush_visits start made before after old new
+  cut_first after same = inl same
+
+  module _ (e : ℕ) (s : S) (last : ℕ → ℕ) (m : Mentions) (now : Option (List ℕ)) (runs : Running reached given start made e s last m before now) (few : new ≤ old + visits_to reached given flush_visits start made e) where
+    -- in a turn of which nothing was put
+    pub cut_here : IsCut reached given flush_visits start made before now old new
+    cut_here = inr (
+      e,
+      record {
+        goes = runs.first;
+        rest = [];
+        taken = runs.lines ∙ ap (λ (bytes : List ℕ). with_more before bytes) (sym (append-nil (text (lines_to reached given start made e))));
+        visits = few;
+      },
+    )
+
+    -- .. or as it was put
+    pub cut_putting : (after : Option (List ℕ)) (piece : List ℕ) → TakesPrefix now after piece → IsCut reached given flush_visits start made before after old new
+    cut_putting after piece (rest, h) = inr (
+      e,
+      record {
+        goes = runs.first;
+        rest = h.prefix;
+        taken = h.taken ∙ (ap (λ (t : Option (List ℕ)). with_more t h.prefix) runs.lines ∙ more_twice before (text (lines_to reached given start made e)) h.prefix);
+        visits = few;
+      },
+    )
