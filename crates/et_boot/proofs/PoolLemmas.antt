@@ -1,15 +1,15 @@
 -- The pool of each class is read: it is spelled there.
-use Rattle.std.proofs.Common.{◌≡◌, ℕ, zero, suc, ◌+◌, ◌<◌, ◌^◌, Bool, true, false, ◌&&◌, ◌||◌, ◌⊎◌, inl, inr, List, [], ◌∷◌, ◌++◌, length, Option, refl, sym, subst, lit<, arith, append-nil}
-use Rattle.std.specs.Prelude.{All, nat_lt, codes, IsTrue, slice_index}
+use Rattle.std.proofs.Common.{◌≡◌, ℕ, ◌<◌, ◌^◌, Bool, true, false, ◌||◌, ◌⊎◌, inl, inr, List, [], ◌∷◌, length, refl, sym, subst, lit<, arith, append-nil}
+use Rattle.std.specs.Prelude.{All}
 use Rattle.std.specs.List.{list_all}
 use Rattle.std.specs.Str.{bytes_eq}
 use Rattle.std.proofs.lemmas.Bool.{and_parts}
 use Rattle.std.proofs.lemmas.List.Elements.{All-nil, All-cons, All-from_recursion}
 use Rattle.std.proofs.lemmas.Slice.Eq.{bytes_eq-Decides}
-use Rattle.et_pool.specs.Entries.{Item, Text, Name, Pair, slots_of}
-use Rattle.et_pool.specs.Text.{is_modified, unit_len}
+use Rattle.et_pool.specs.Entries.{Item, slots_of}
+use Rattle.et_pool.specs.Text.{is_modified}
 use Rattle.et_pool.specs.Pools.{IsPool}
-use Rattle.et_pool.specs.Spelling.{IsEntry, IsSpelled, pool_bytes}
+use Rattle.et_pool.specs.Spelling.{IsEntry, pool_bytes}
 use Rattle.et_pool.proofs.Spelled.{spelled_pool}
 use Rattle.et_boot.specs.Classes.{BootClassOf, boot_classes, thread, thread_pool}
 use Rattle.et_boot.specs.Pools.{HasPool}
