@@ -31,3 +31,5 @@ mod NewTurns
 mod Reached
 mod Allocations
 mod LinkedSizes
+mod Ends
+mod Runs

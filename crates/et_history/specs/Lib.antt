@@ -7,3 +7,4 @@ pub mod Same
 pub mod Reaching
 pub mod Records
 pub mod Allocations
+pub mod Ends

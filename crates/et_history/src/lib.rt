@@ -5,3 +5,4 @@
 pub mod laws;
 pub mod object_laws;
 pub mod record_laws;
+pub mod run_laws;
