@@ -2,13 +2,12 @@
 #![tactic(auto)]
 
 use et_io::{HostFiles, HostSink};
-use et_top::{run_elephant, words};
+use et_top::{run_process, words};
 use std::process::ExitCode;
 
 fn main(rt: HostRuntime) -> ExitCode {
     let mut files = HostFiles::begin(&rt);
-    let mut out = HostSink::begin(rt.stdout());
     let mut err = HostSink::begin(rt.stderr());
-    let status = run_elephant(rt.alloc(), words(&rt), &mut files, &mut out, &mut err);
+    let status = run_process(rt.alloc(), words(&rt), &mut files, rt.stdout(), &mut err);
     ExitCode::from(status.number())
 }

@@ -3,7 +3,7 @@
 use crate::first_path::BOX;
 use crate::runs::{answer, is_answered};
 use crate::traces::{BAD, Row, USE, USE_TRACE, are_answered, files_of};
-use et_io::{MemFiles, MemSink};
+use et_io::{Files, Found, MemFiles, MemSink};
 use et_top::Status;
 use std::alloc::Global;
 use std::process::Abort;
@@ -54,6 +54,27 @@ fn each_read_of_a_run_fails_in_turn(rt: HostRuntime) -> Result<(), Fail> {
             assert_eq!(rt; out.bytes(), USE_TRACE);
         }
     }
+    Ok(())
+}
+
+/// Of three files the first is no class file, and the second read would fail: the fault of the first is answered, and nothing
+/// more is read.
+#[test]
+fn a_fault_stands_before_a_later_read(rt: HostRuntime) -> Result<(), Fail> {
+    let alloc = rt.alloc();
+    let mut files = MemFiles::begin(alloc);
+    files.hold("Cut.class", &BOX[..10])?;
+    files.hold("Box.class", &BOX)?;
+    files.fail_at(2)?;
+    let mut out = MemSink::begin(alloc, 1000);
+    let mut err = MemSink::begin(alloc, 1000);
+    let line = "trace Cut.class Box.class Box.class";
+    let status = answer(alloc, line, &mut files, &mut out, &mut err)?;
+    assert_eq!(rt; status, Status::BadClass);
+    assert!(rt; out.bytes().is_empty());
+    assert!(rt; err.bytes().starts_with(b"elephant: bad class Cut.class "));
+    // the second read is still to come
+    assert!(rt; matches!(&files.read(alloc, "Box.class", 1000)?, Found::Failed));
     Ok(())
 }
 

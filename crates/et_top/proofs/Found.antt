@@ -13,7 +13,7 @@ use Rattle.et_class.specs.Classes.{IsClassFile, HasFault, ClassIs, HasOneClass}
 use Rattle.et_text.specs.Text.{IsTextOf, IsTraceFault}
 use Rattle.et_top.specs.Faults.{Fault, BadClass, BadText, BadTrace}
 use Rattle.et_top.specs.Loaded.{IsClassOf, IsListingOf, IsTraceOf, AreFirstAnd, AreClassesOf, bytes_of as file_bytes, most_of_class, before}
-use Rattle.et_top.specs.Told.{Cause, File, Reading, Memory, Other, Tells, IsCause, IsReading, IsOfBytes, IsFileRefusal, cause_of}
+use Rattle.et_top.specs.Told.{Cause, File, Reading, Memory, Other, Tells, IsCause, IsOfBytes, IsFileRefusal, cause_of}
 use Rattle.et_top.specs.declared.refusal.Refusal.{Refusal}
 
 or_class : Result ClassOf (ℕ × ℕ) → ClassOf → ClassOf
@@ -118,22 +118,12 @@ trace_not_read read file Reading trace h is = h
 trace_not_read read file Memory trace h is = tt
 trace_not_read read file Other trace h is = absurd h
 
--- what speaks of bytes speaks of no read, and of a file
-no_reading : (cause : Cause) (read : Type 0) → IsOfBytes cause → IsReading cause → read
-no_reading (File fault) read of h = absurd h
-no_reading Reading read of h = absurd of
-no_reading Memory read of h = absurd h
-no_reading Other read of h = absurd of
-
+-- what speaks of bytes speaks of a file
 of_file : (cause : Cause) → IsOfBytes cause → IsFileRefusal cause
 of_file (File fault) of = tt
 of_file Reading of = tt
 of_file Memory of = tt
 of_file Other of = absurd of
-
-pub no_read_fault : {A : Type 0} (read : Type 0) (r : Result A Refusal) → IfErr r (λ refusal. IsOfBytes (cause_of refusal)) → IfErr r (λ refusal. IsReading (cause_of refusal) → read)
-no_read_fault read (Ok a) h = tt
-no_read_fault read (Err r) h = no_reading (cause_of r) read h
 
 pub file_refusal : {A : Type 0} (r : Result A Refusal) → IfErr r (λ refusal. IsOfBytes (cause_of refusal)) → IfErr r (λ refusal. IsFileRefusal (cause_of refusal))
 file_refusal (Ok a) h = tt

@@ -1,4 +1,6 @@
 mod Found
+mod FaultLemmas
+mod ReadLemmas
 mod LinkLemmas
 mod ModelLemmas
 mod TopLemmas
@@ -7,3 +9,4 @@ mod OptionLemmas
 mod SplitLemmas
 mod KindLemmas
 mod VisitLemmas
+mod EndLemmas

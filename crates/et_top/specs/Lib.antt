@@ -11,3 +11,4 @@ pub mod Parts
 pub mod Asked
 pub mod Process
 pub mod Visits
+pub mod Reads

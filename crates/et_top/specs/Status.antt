@@ -1,5 +1,5 @@
 -- The numbers of the answers.
-use Rattle.std.specs.Prelude.{ℕ}
+use Rattle.std.specs.Prelude.{ℕ, Bool, true, false}
 use Rattle.et_top.specs.declared.status.Status.{Status}
 use Rattle.et_top.specs.declared.status.Status.TheVariants as status
 
@@ -18,3 +18,13 @@ number_of status.IllTyped = 10
 number_of status.ObjectLimit = 11
 number_of status.BadText = 12
 number_of status.TooLong = 13
+
+-- the answer is that a read failed
+abbrev pub is_read_status : Status → Bool
+is_read_status status.ReadFault = true
+is_read_status _ = false
+
+-- the answer is that a write failed
+abbrev pub is_write_status : Status → Bool
+is_write_status status.WriteFault = true
+is_write_status _ = false

@@ -1,10 +1,12 @@
 -- What the parts of the top call answer.
-use Rattle.std.specs.Prelude.{◌≡◌, ℕ, List, map, Option, Some, None, Result, Ok, Err}
+use Rattle.std.specs.Prelude.{◌≡◌, ℕ, Bool, true, false, List, map, Option, Some, None, Result, Ok, Err, IsErrAnd}
 use Rattle.et_top.specs.declared.refusal.Refusal.{Refusal}
 use Rattle.et_top.specs.declared.refusal.Refusal.TheVariants as refusal
 use Rattle.et_class.specs.declared.class.ClassFile.{ClassFile}
 use Rattle.et_class.specs.Layout.{ClassOf}
 use Rattle.et_class.specs.Classes.{class_of}
+use Rattle.et_io.specs.declared.files.Found.{Found}
+use Rattle.et_io.specs.declared.files.Found.TheVariants as finds
 use Rattle.et_io.specs.declared.putting.RunFault.{RunFault}
 use Rattle.et_io.specs.declared.putting.RunFault.TheVariants as write
 use Rattle.et_text.specs.Text.{IsTraceFault}
@@ -48,11 +50,23 @@ abbrev pub Tells : {A B : Type 0} → (read : Type 0) → (A → B) → Result B
 Tells read view found (Ok a) = found ≡ Ok (view a)
 Tells read view found (Err r) = IsCause read found (cause_of r)
 
-abbrev pub IsReading : Cause → Type 0
-IsReading (File fault) = ⊥
-IsReading Reading = Unit {0}
-IsReading Memory = ⊥
-IsReading Other = ⊥
+-- a read failed
+abbrev pub is_read_cause : Cause → Bool
+is_read_cause (File fault) = false
+is_read_cause Reading = true
+is_read_cause Memory = false
+is_read_cause Other = false
+
+abbrev pub is_reading : {A : Type 0} → Result A Refusal → Bool
+is_reading (Ok a) = false
+is_reading (Err r) = is_read_cause (cause_of r)
+
+-- what a read found is answered so: by the bytes, or by why there are none
+abbrev pub TellsFound : Found → Result (Vec ℕ Global) Refusal → Type 0
+TellsFound (finds.Bytes bytes) answer = answer ≡ Ok bytes
+TellsFound finds.Absent answer = IsErrAnd answer (λ r. cause_of r ≡ File Absent)
+TellsFound finds.TooLong answer = IsErrAnd answer (λ r. cause_of r ≡ File TooLong)
+TellsFound finds.Failed answer = IsErrAnd answer (λ r. cause_of r ≡ Reading)
 
 -- it speaks of a file, or of memory
 abbrev pub IsFileRefusal : Cause → Type 0
@@ -77,7 +91,7 @@ IsTraceAnswer bytes (faults.At kind line) = IsTraceFault bytes kind line
 IsTraceAnswer bytes faults.NoMemory = Unit {0}
 
 -- the status of an answer: done, or that of the refusal
-abbrev pub status_of_result : Result (Unit {0}) Refusal → Status
+abbrev pub status_of_result : {A : Type 0} → Result A Refusal → Status
 status_of_result (Ok done) = status.Done
 status_of_result (Err r) = status_of r
 

@@ -1,15 +1,29 @@
 //! Reading a file.
-ghost use Rattle.std.specs.Prelude.{◌≡◌, ◌≤◌, Some, IfErr};
-ghost use Rattle.et_io.specs.Faults.{Rose};
+ghost use Rattle.std.specs.Prelude.{◌≡◌, ◌≤◌, ◌++◌, ◌∷◌, [], true, Some, IfErr};
+ghost use Rattle.et_io.specs.Faults.{Rose, count_after};
 ghost use Rattle.et_io.specs.Files.{Held};
 ghost use Rattle.et_top.specs.Loaded.{bytes_of};
-ghost use Rattle.et_top.specs.Told.{Tells, IsReading, IsFileRefusal, cause_of};
+ghost use Rattle.et_top.specs.Reads.{is_early};
+ghost use Rattle.et_top.specs.Refusals.{status_of};
+ghost use Rattle.et_top.specs.Told.{Tells, TellsFound, IsFileRefusal, cause_of, is_reading};
 
 use crate::refusal::Refusal;
 use et_io::{Files, Found};
 use std::alloc::Global;
 
-/// The bytes of the file at the path, at most so many.
+/// The bytes that a read found, or why there are none.
+fn bytes_found<'a>(path: &'a str, found: Found) -> Result<Vec<u8>, Refusal<'a>>
+    ensures { TellsFound found result }
+{
+    match found {
+        Found::Bytes(bytes) => Ok(bytes),
+        Found::Absent => Err(Refusal::Absent(path)),
+        Found::TooLong => Err(Refusal::TooLong(path)),
+        Found::Failed => Err(Refusal::ReadFault(path)),
+    }
+}
+
+/// The bytes of the file at the path, at most so many, by one read.
 pub fn read_file<'a, F: Files>(
     alloc: Global,
     path: &'a str,
@@ -18,17 +32,15 @@ pub fn read_file<'a, F: Files>(
 ) -> Result<Vec<u8>, Refusal<'a>>
     ensures tells { (held : Held) → F.holds files.old ≡ Some held → Tells (Rose (F.faults files.old)
         (F.faults files.new)) (λ bytes. bytes.items) (bytes_of most (held path.now)) result }
-    ensures fault { IfErr result
-        (λ refusal. IsReading (cause_of refusal) → Rose (F.faults files.old) (F.faults files.new)) }
+    ensures faults { F.faults files.new ≡ count_after (is_reading result) (F.faults files.old) }
+    ensures asked { F.asked files.new ≡ F.asked files.old ++ path.now ∷ [] }
+    ensures early { IfErr result (λ refusal. is_early (status_of refusal) ≡ true) }
     ensures file { IfErr result (λ refusal. IsFileRefusal (cause_of refusal)) }
     ensures never_falls { F.faults files.old ≤ F.faults files.new }
     ensures kept { F.holds files.new ≡ F.holds files.old }
 {
     match files.read(alloc, path, most) {
-        Ok(Found::Bytes(bytes)) => Ok(bytes),
-        Ok(Found::Absent) => Err(Refusal::Absent(path)),
-        Ok(Found::TooLong) => Err(Refusal::TooLong(path)),
-        Ok(Found::Failed) => Err(Refusal::ReadFault(path)),
+        Ok(found) => bytes_found(path, found),
         Err(_) => Err(Refusal::NoMemory),
     }
 }

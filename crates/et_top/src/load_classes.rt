@@ -1,13 +1,15 @@
 //! The classes of the files that a command names.
-ghost use Rattle.std.specs.Prelude.{◌≡◌, ◌≤◌, ◌++◌, ◌∷◌, [], List, Result, Ok, Some, All, IfOk, IfErr, OnOk, length, map, string_bytes};
-ghost use Rattle.et_io.specs.Faults.{Rose};
+ghost use Rattle.std.specs.Prelude.{◌≡◌, ◌≤◌, ◌++◌, ◌∷◌, [], true, List, Result, Ok, Some, All, IfOk, IfErr, OnOk, length, map, string_bytes};
+ghost use Rattle.et_io.specs.Faults.{Rose, count_after};
 ghost use Rattle.et_io.specs.Files.{Held};
 ghost use Rattle.et_class.specs.Layout.{ClassOf};
-ghost use Rattle.et_class.specs.Classes.{class_of, HasItsParts};
+ghost use Rattle.et_class.specs.Classes.{IsClassFile, class_of, HasItsParts};
 ghost use Rattle.et_top.specs.Faults.{Fault};
 ghost use Rattle.et_link.specs.Declaring.{HasItsFile};
 ghost use Rattle.et_top.specs.Loaded.{bytes_of, most_of_class, IsClassOf, AreClassesOf};
-ghost use Rattle.et_top.specs.Told.{Tells, IsReading, IsFileRefusal, IsOfBytes, cause_of, classes_of};
+ghost use Rattle.et_top.specs.Reads.{ReadsInOrder, HoldsClass, is_early};
+ghost use Rattle.et_top.specs.Refusals.{status_of};
+ghost use Rattle.et_top.specs.Told.{Tells, IsFileRefusal, IsOfBytes, cause_of, classes_of, is_reading, status_of_result};
 
 use crate::files::read_file;
 use crate::refusal::Refusal;
@@ -25,7 +27,9 @@ fn class_in<'a>(alloc: Global, path: &'a str, bytes: &[u8]) -> Result<ClassFile,
         IsClassOf (Ok bytes.now) class → Tells ⊥ class_of class result }
     ensures parts { IfOk result HasItsParts }
     ensures of_file { IfOk result HasItsFile }
+    ensures class { IfOk result (λ class. IsClassFile bytes.now (class_of class)) }
     ensures bytes { IfErr result (λ refusal. IsOfBytes (cause_of refusal)) }
+    ensures early { IfErr result (λ refusal. is_early (status_of refusal) ≡ true) }
 {
     // Laws: they tell the prover, and do nothing.
     exactly_one();
@@ -47,8 +51,11 @@ fn load_class<'a, F: Files>(
         Tells (Rose (F.faults files.old) (F.faults files.new)) class_of class result }
     ensures parts { IfOk result HasItsParts }
     ensures of_file { IfOk result HasItsFile }
-    ensures fault { IfErr result
-        (λ refusal. IsReading (cause_of refusal) → Rose (F.faults files.old) (F.faults files.new)) }
+    ensures faults { F.faults files.new ≡ count_after (is_reading result) (F.faults files.old) }
+    ensures asked { F.asked files.new ≡ F.asked files.old ++ path.now ∷ [] }
+    ensures early { IfErr result (λ refusal. is_early (status_of refusal) ≡ true) }
+    ensures good { (held : Held) →
+        F.holds files.old ≡ Some held → OnOk result (HoldsClass held path.now) }
     ensures file { IfErr result (λ refusal. IsFileRefusal (cause_of refusal)) }
     ensures never_falls { F.faults files.old ≤ F.faults files.new }
     ensures kept { F.holds files.new ≡ F.holds files.old }
@@ -59,7 +66,7 @@ fn load_class<'a, F: Files>(
     }
 }
 
-/// The class files at the paths, in order.
+/// The class files at the paths, in order: each is read when the one before it was found to be a class file.
 pub fn load_classes<'a, F: Files>(
     alloc: Global,
     paths: &'a [String],
@@ -71,8 +78,9 @@ pub fn load_classes<'a, F: Files>(
     ensures parts { IfOk result (λ classes. All HasItsParts classes.items) }
     ensures of_files { IfOk result (λ classes. All HasItsFile classes.items) }
     ensures count { IfOk result (λ classes. length classes.items ≡ length paths.now) }
-    ensures fault { IfErr result
-        (λ refusal. IsReading (cause_of refusal) → Rose (F.faults files.old) (F.faults files.new)) }
+    ensures faults { F.faults files.new ≡ count_after (is_reading result) (F.faults files.old) }
+    ensures reads { ReadsInOrder (F.holds files.old) (F.asked files.old) (F.asked files.new)
+        (map string_bytes paths.now) (status_of_result result) }
     ensures file { IfErr result (λ refusal. IsFileRefusal (cause_of refusal)) }
     ensures never_falls { F.faults files.old ≤ F.faults files.new }
 {

@@ -1,10 +1,10 @@
 //! The class file of the listing that a command names.
-ghost use Rattle.std.specs.Prelude.{◌≡◌, ◌≤◌, ℕ, List, Result, Ok, Some, IfErr};
-ghost use Rattle.et_io.specs.Faults.{Rose};
+ghost use Rattle.std.specs.Prelude.{◌≡◌, ◌≤◌, ◌++◌, ◌∷◌, [], ℕ, List, Result, Ok, Some, IfErr};
+ghost use Rattle.et_io.specs.Faults.{Rose, count_after};
 ghost use Rattle.et_io.specs.Files.{Held};
 ghost use Rattle.et_top.specs.Faults.{Fault};
 ghost use Rattle.et_top.specs.Loaded.{bytes_of, most_of_class, IsListingOf};
-ghost use Rattle.et_top.specs.Told.{Tells, IsReading, IsFileRefusal, IsOfBytes, cause_of};
+ghost use Rattle.et_top.specs.Told.{Tells, IsFileRefusal, IsOfBytes, cause_of, is_reading};
 
 use crate::files::read_file;
 use crate::refusal::Refusal;
@@ -40,8 +40,8 @@ pub fn load_listing<'a, F: Files>(
     ensures tells { (held : Held) → F.holds files.old ≡ Some held → (class : Result
         (List ℕ) Fault) → IsListingOf (bytes_of most_of_class (held path.now)) class →
         Tells (Rose (F.faults files.old) (F.faults files.new)) (λ bytes. bytes.items) class result }
-    ensures fault { IfErr result
-        (λ refusal. IsReading (cause_of refusal) → Rose (F.faults files.old) (F.faults files.new)) }
+    ensures faults { F.faults files.new ≡ count_after (is_reading result) (F.faults files.old) }
+    ensures asked { F.asked files.new ≡ F.asked files.old ++ path.now ∷ [] }
     ensures file { IfErr result (λ refusal. IsFileRefusal (cause_of refusal)) }
     ensures never_falls { F.faults files.old ≤ F.faults files.new }
 {

@@ -1,12 +1,12 @@
 //! The trace of the file that a command names.
-ghost use Rattle.std.specs.Prelude.{◌≡◌, ◌≤◌, List, Result, Ok, Some, IfOk, IfErr};
+ghost use Rattle.std.specs.Prelude.{◌≡◌, ◌≤◌, ◌++◌, ◌∷◌, [], List, Result, Ok, Some, IfOk, IfErr};
 ghost use Rattle.et_base.specs.declared.line.TraceLine.{TraceLine};
-ghost use Rattle.et_io.specs.Faults.{Rose};
+ghost use Rattle.et_io.specs.Faults.{Rose, count_after};
 ghost use Rattle.et_io.specs.Files.{Held};
 ghost use Rattle.et_text.specs.Text.{IsTextOf};
 ghost use Rattle.et_top.specs.Faults.{Fault};
 ghost use Rattle.et_top.specs.Loaded.{bytes_of, most_of_trace, IsTraceOf};
-ghost use Rattle.et_top.specs.Told.{Tells, IsReading, IsFileRefusal, IsOfBytes, cause_of, IsTraceAnswer};
+ghost use Rattle.et_top.specs.Told.{Tells, IsFileRefusal, IsOfBytes, cause_of, is_reading, IsTraceAnswer};
 
 use crate::files::read_file;
 use crate::refusal::Refusal;
@@ -54,8 +54,8 @@ pub fn load_trace<'a, F: Files>(
     ensures tells { (held : Held) → F.holds files.old ≡ Some held → (trace : Result
         (List TraceLine) Fault) → IsTraceOf (bytes_of most_of_trace (held path.now)) trace →
         Tells (Rose (F.faults files.old) (F.faults files.new)) (λ lines. lines) trace result }
-    ensures fault { IfErr result
-        (λ refusal. IsReading (cause_of refusal) → Rose (F.faults files.old) (F.faults files.new)) }
+    ensures faults { F.faults files.new ≡ count_after (is_reading result) (F.faults files.old) }
+    ensures asked { F.asked files.new ≡ F.asked files.old ++ path.now ∷ [] }
     ensures file { IfErr result (λ refusal. IsFileRefusal (cause_of refusal)) }
     ensures never_falls { F.faults files.old ≤ F.faults files.new }
 {

@@ -1,8 +1,8 @@
 //! The models of a replay.
-ghost use Rattle.std.specs.Prelude.{◌≡◌, ◌≤◌, ◌<◌, ◌^◌, ◌∷◌, ℕ, Bool, [], All, length, map, IfOk, IfSome, OnOk, OnErr, IsErrOf};
+ghost use Rattle.std.specs.Prelude.{◌≡◌, ◌≤◌, ◌<◌, ◌^◌, ◌∷◌, ℕ, Bool, [], All, length, map, IfOk, IfSome, OnOk, OnErr};
 ghost use Rattle.std.specs.List.{AllZip};
 ghost use Rattle.et_graph.specs.Graph.{Graph, Decides};
-ghost use Rattle.et_io.specs.Faults.{Rose};
+ghost use Rattle.et_io.specs.Faults.{count_after, is_write_fault};
 ghost use Rattle.et_io.specs.Sink.{with_more, TakesPrefix};
 ghost use Rattle.et_replay.specs.Replay.{replay_text};
 ghost use Rattle.et_replay.specs.Timeline.{timeline_items};
@@ -114,7 +114,7 @@ pub fn replay_trace<O: Sink>(
     ensures ok { (reached : Graph → ℕ → Bool) → Decides reached →
         OnOk result (O.taken out.new ≡ with_more (O.taken out.old) (replay_text reached
         (timeline_items trace.now) (policies_of asked.now (map (λ b. kind_of b) models.items)))) }
-    ensures write { IsErrOf result RunFault.Write → Rose (O.faults out.old) (O.faults out.new) }
+    ensures write { O.faults out.new ≡ count_after (is_write_fault result) (O.faults out.old) }
     ensures err { (reached : Graph → ℕ → Bool) → Decides reached →
         OnErr result (TakesPrefix (O.taken out.old) (O.taken out.new) (replay_text reached
         (timeline_items trace.now) (policies_of asked.now (map (λ b. kind_of b) models.items)))) }

@@ -1,10 +1,12 @@
 //! What a process does: its words, and the top call with the three models and a counter of its own.
 ghost use Rattle.std.specs.Prelude.{◌≡◌, ◌⊎◌, ◌<◌, ℕ, Bool, Some, None, IfOk, IfErr, OnErr, map, string_bytes};
-ghost use Rattle.et_io.specs.Faults.{Rose};
+ghost use Rattle.et_io.specs.Faults.{Rose, count_after};
 ghost use Rattle.et_io.specs.Files.{Held};
 ghost use Rattle.et_graph.specs.Graph.{Graph, Decides};
 ghost use Rattle.et_top.specs.Command.{command};
-ghost use Rattle.et_top.specs.Process.{model_kinds, status_of_words};
+ghost use Rattle.et_top.specs.Process.{model_kinds, status_of_words, EndsAs};
+ghost use Rattle.et_top.specs.Reads.{ReadsInOrder, paths_of};
+ghost use Rattle.et_top.specs.Status.{is_read_status, is_write_status};
 ghost use Rattle.et_top.specs.Top.{Defined, IsDefined, Gives};
 
 use crate::answers::refuse;
@@ -67,10 +69,12 @@ fn with_models<F: Files, O: Sink, E: Sink, L: Ledger>(
         (λ status. status ≡ Status.Usage → command (map string_bytes words.now) ≡ None) }
     ensures no_command { IfOk result (λ status. command (map string_bytes words.now) ≡ None →
         (status ≡ Status.Usage) ⊎ (status ≡ Status.NoMemory)) }
-    ensures read_fault { IfOk result
-        (λ status. status ≡ Status.ReadFault → Rose (F.faults files.old) (F.faults files.new)) }
-    ensures write_fault { IfOk result
-        (λ status. status ≡ Status.WriteFault → Rose (O.faults out.old) (O.faults out.new)) }
+    ensures read_fault { IfOk result (λ status. F.faults files.new
+        ≡ count_after (is_read_status status) (F.faults files.old)) }
+    ensures write_fault { IfOk result (λ status. O.faults out.new
+        ≡ count_after (is_write_status status) (O.faults out.old)) }
+    ensures reads { IfOk result (λ status. ReadsInOrder (F.holds files.old) (F.asked files.old)
+        (F.asked files.new) (paths_of (command (map string_bytes words.now))) status) }
     ensures files { OnErr result (files.new ≡ files.old) }
     ensures out { OnErr result (out.new ≡ out.old) }
 {
@@ -103,9 +107,12 @@ pub fn run_elephant<F: Files, O: Sink, E: Sink>(
         (λ some. result ≡ Status.Usage → command (map string_bytes some.items) ≡ None) }
     ensures no_command { IfOk words (λ some. command (map string_bytes some.items) ≡ None →
         (result ≡ Status.Usage) ⊎ (result ≡ Status.NoMemory)) }
-    ensures read_fault { result ≡ Status.ReadFault →
-        Rose (F.faults files.old) (F.faults files.new) }
-    ensures write_fault { result ≡ Status.WriteFault → Rose (O.faults out.old) (O.faults out.new) }
+    ensures read_fault { F.faults files.new
+        ≡ count_after (is_read_status result) (F.faults files.old) }
+    ensures write_fault { O.faults out.new
+        ≡ count_after (is_write_status result) (O.faults out.old) }
+    ensures reads { IfOk words (λ some. ReadsInOrder (F.holds files.old) (F.asked files.old)
+        (F.asked files.new) (paths_of (command (map string_bytes some.items))) result) }
     ensures no_words { IfErr words (λ fault. result ≡ status_of_words fault) }
     ensures no_file { OnErr words (files.new ≡ files.old) }
     ensures nothing { OnErr words (out.new ≡ out.old) }
@@ -122,8 +129,8 @@ pub fn run_elephant<F: Files, O: Sink, E: Sink>(
     }
 }
 
-/// The status of a process whose output was gathered, once that is handed on: the one it came to, or `WriteFault` where
-/// all of its output was to be taken and the stream didn't take what was left.
+/// The status of a process whose output was gathered, once that is handed on: the one that it came to, or `WriteFault`
+/// where the whole output was to be taken and the stream didn't take what was left.
 fn hand_on<W: Write + Drop, E: Sink>(
     alloc: Global,
     out: &mut HostSink<BufWriter<W>>,
@@ -133,24 +140,44 @@ fn hand_on<W: Write + Drop, E: Sink>(
     ensures { EndsAs status result }
 {
     match status {
-        Status::Done | Status::IllTyped | Status::ObjectLimit if !out.hand_on() => {
-            refuse(alloc, err, &Refusal::WriteFault)
+        Status::Done | Status::IllTyped | Status::ObjectLimit => {
+            if out.hand_on() {
+                status
+            } else {
+                refuse(alloc, err, &Refusal::WriteFault)
+            }
         }
         _ => status,
     }
 }
 
-/// `run_elephant` whose output goes to a stream, in pieces of 64 KiB, and what is left of it before the process ends. Where
-/// the stream doesn't take that, the status is `WriteFault`.
+/// All that a process does where its output goes to a stream: `run_elephant`, whose output is handed on in pieces of 64
+/// KiB, and what is left of it before the process ends. Where the stream doesn't take that, the status is `WriteFault`,
+/// with its line. Of the stream nothing is known, so that a write may fail at any time.
 pub fn run_process<F: Files, W: Write + Drop, E: Sink>(
     alloc: Global,
     words: Result<Vec<String>, WordsFault>,
     files: &mut F,
-    out: W,
+    stream: W,
     err: &mut E,
 ) -> Status
+    ensures answers { IfOk words (λ some. (held : Held) → F.holds files.old ≡ Some held →
+        (d : Defined) → IsDefined model_kinds (map string_bytes some.items) held d →
+        (reached : Graph → ℕ → Bool) → Decides reached → (visits : ℕ) × Gives reached None None
+        0 visits (Rose (F.faults files.old) (F.faults files.new)) (Unit {0}) d result) }
+    ensures usage { IfOk words
+        (λ some. result ≡ Status.Usage → command (map string_bytes some.items) ≡ None) }
+    ensures no_command { IfOk words (λ some. command (map string_bytes some.items) ≡ None →
+        (result ≡ Status.Usage) ⊎ (result ≡ Status.NoMemory)) }
+    ensures read_fault { F.faults files.new
+        ≡ count_after (is_read_status result) (F.faults files.old) }
+    ensures reads { IfOk words (λ some. ReadsInOrder (F.holds files.old) (F.asked files.old)
+        (F.asked files.new) (paths_of (command (map string_bytes some.items))) result) }
+    ensures no_words { IfErr words
+        (λ fault. (result ≡ status_of_words fault) ⊎ (result ≡ Status.NoMemory)) }
+    ensures no_file { OnErr words (files.new ≡ files.old) }
 {
-    match HostSink::gathering(alloc, out) {
+    match HostSink::gathering(alloc, stream) {
         Ok(mut out) => {
             let status = run_elephant(alloc, words, files, &mut out, err);
             hand_on(alloc, &mut out, err, status)

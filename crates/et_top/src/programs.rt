@@ -1,6 +1,6 @@
 //! The program that `trace` runs, and its run.
-ghost use Rattle.std.specs.Prelude.{◌≡◌, ◌≤◌, ◌<◌, ℕ, Bool, Ok, Some, Result, All, IfOk, IfErr, length, map, string_bytes};
-ghost use Rattle.et_io.specs.Faults.{Rose};
+ghost use Rattle.std.specs.Prelude.{◌≡◌, ◌≤◌, ◌<◌, ℕ, Bool, false, Ok, Some, Result, All, IfOk, IfErr, length, map, string_bytes};
+ghost use Rattle.et_io.specs.Faults.{Rose, count_after};
 ghost use Rattle.et_io.specs.Files.{Held};
 ghost use Rattle.et_graph.specs.Graph.{Graph, Decides};
 ghost use Rattle.et_state.specs.Options.{AreOptions};
@@ -9,7 +9,9 @@ ghost use Rattle.et_program.specs.Entries.{Linked, method_at};
 ghost use Rattle.et_top.specs.Faults.{Fault};
 ghost use Rattle.et_link.specs.Declaring.{HasItsFile};
 ghost use Rattle.et_top.specs.Loaded.{IsLinked, IsProgramOf};
-ghost use Rattle.et_top.specs.Told.{Tells, IsReading, IsFileRefusal, IsOfBytes, cause_of, status_of_result};
+ghost use Rattle.et_top.specs.Reads.{ReadsInOrder};
+ghost use Rattle.et_top.specs.Status.{is_read_status, is_write_status};
+ghost use Rattle.et_top.specs.Told.{Tells, IsFileRefusal, IsOfBytes, cause_of, is_reading, status_of_result};
 ghost use Rattle.et_top.specs.Top.{Traces, Gives, status_of_end};
 ghost use Rattle.et_top.specs.Visits.{IsBeforeRun};
 
@@ -56,8 +58,9 @@ pub fn load_program<'a, F: Files>(
         F.holds files.old ≡ Some held → (program : Result Linked Fault) →
         IsProgramOf (map held (map string_bytes paths.now)) program →
         Tells (Rose (F.faults files.old) (F.faults files.new)) (λ p. p) program result }
-    ensures fault { IfErr result
-        (λ refusal. IsReading (cause_of refusal) → Rose (F.faults files.old) (F.faults files.new)) }
+    ensures faults { F.faults files.new ≡ count_after (is_reading result) (F.faults files.old) }
+    ensures reads { ReadsInOrder (F.holds files.old) (F.asked files.old) (F.asked files.new)
+        (map string_bytes paths.now) (status_of_result result) }
     ensures file { IfErr result (λ refusal. IsFileRefusal (cause_of refusal)) }
     ensures never_falls { F.faults files.old ≤ F.faults files.new }
 {
@@ -113,8 +116,10 @@ pub fn run<O: Sink, E: Sink, L: Ledger>(
     ensures gives { (reached : Graph → ℕ → Bool) →
         Decides reached → Gives reached (O.taken out.old) (O.taken out.new) visits.old visits.new ⊥
         (Rose (O.faults out.old) (O.faults out.new)) (Traces program.now options.now) result }
-    ensures fault { (result ≡ Status.WriteFault → Rose (O.faults out.old) (O.faults out.new))
-        × (result ≡ Status.Usage → ⊥) × (result ≡ Status.ReadFault → ⊥) }
+    ensures write_fault { O.faults out.new
+        ≡ count_after (is_write_status result) (O.faults out.old) }
+    ensures no_read { is_read_status result ≡ false }
+    ensures usage { result ≡ Status.Usage → ⊥ }
     ensures of_run { IsBeforeRun result → ⊥ }
     ensures never_falls { O.faults out.old ≤ O.faults out.new }
 {

@@ -1,10 +1,12 @@
 //! The top call: all that the program does.
 ghost use Rattle.std.specs.Prelude.{◌≡◌, ◌⊎◌, ℕ, Bool, Some, None, All, map, string_bytes};
-ghost use Rattle.et_io.specs.Faults.{Rose};
+ghost use Rattle.et_io.specs.Faults.{Rose, count_after};
 ghost use Rattle.et_io.specs.Files.{Held};
 ghost use Rattle.et_graph.specs.Graph.{Graph, Decides};
 ghost use Rattle.et_top.specs.Command.{command};
 ghost use Rattle.et_top.specs.Asked.{asked_by, AreInRange};
+ghost use Rattle.et_top.specs.Reads.{ReadsInOrder, paths_of};
+ghost use Rattle.et_top.specs.Status.{is_read_status, is_write_status};
 ghost use Rattle.et_top.specs.Top.{Defined, IsAskedDefined, IsDefined, Gives};
 ghost use Rattle.et_top.specs.Visits.{IsWithoutRun};
 
@@ -37,9 +39,12 @@ fn perform<F: Files, O: Sink, E: Sink, L: Ledger>(
         (O.taken out.new) visits.old visits.new (Rose (F.faults files.old) (F.faults files.new))
         (Rose (O.faults out.old) (O.faults out.new)) d result }
     ensures usage { result ≡ Status.Usage → ⊥ }
-    ensures read_fault { result ≡ Status.ReadFault →
-        Rose (F.faults files.old) (F.faults files.new) }
-    ensures write_fault { result ≡ Status.WriteFault → Rose (O.faults out.old) (O.faults out.new) }
+    ensures read_fault { F.faults files.new
+        ≡ count_after (is_read_status result) (F.faults files.old) }
+    ensures write_fault { O.faults out.new
+        ≡ count_after (is_write_status result) (O.faults out.old) }
+    ensures reads { ReadsInOrder (F.holds files.old) (F.asked files.old) (F.asked files.new)
+        (paths_of (Some (asked_by command.now))) result }
     ensures no_visits { IsWithoutRun (Some (asked_by command.now)) result →
         visits.new ≡ visits.old }
 {
@@ -66,8 +71,10 @@ fn perform<F: Files, O: Sink, E: Sink, L: Ledger>(
 ///   reports of the trace. The other models are dropped.
 /// - `curve` reads a trace and writes its live curve.
 ///
-/// Refusals come in this order: the words; of each file the read, the length and what it holds; linking; the run. Until
-/// all that is read is known to be good, and to link, nothing is put to out; after `WriteFault` and `NoMemory` out took a prefix of the output. A
+/// Refusals come in this order: the words; of each file the read, the length and what it holds; linking; the run. Each file
+/// is read once, and only when the one before it was found good. A read that fails counts one fault and is answered so, and
+/// so does a put; no other answer changes these counts. Until all that is read is known to be good, and to link, nothing is
+/// put to out; after `WriteFault` and `NoMemory` out took a prefix of the output. A
 /// fault of err changes nothing. Only the run of a trace visits objects: no other answer changes the counter.
 pub fn elephant<F: Files, O: Sink, E: Sink, L: Ledger>(
     alloc: Global,
@@ -87,9 +94,12 @@ pub fn elephant<F: Files, O: Sink, E: Sink, L: Ledger>(
     ensures usage { result ≡ Status.Usage → command (map string_bytes words.now) ≡ None }
     ensures no_command { command (map string_bytes words.now) ≡ None →
         (result ≡ Status.Usage) ⊎ (result ≡ Status.NoMemory) }
-    ensures read_fault { result ≡ Status.ReadFault →
-        Rose (F.faults files.old) (F.faults files.new) }
-    ensures write_fault { result ≡ Status.WriteFault → Rose (O.faults out.old) (O.faults out.new) }
+    ensures read_fault { F.faults files.new
+        ≡ count_after (is_read_status result) (F.faults files.old) }
+    ensures write_fault { O.faults out.new
+        ≡ count_after (is_write_status result) (O.faults out.old) }
+    ensures reads { ReadsInOrder (F.holds files.old) (F.asked files.old) (F.asked files.new)
+        (paths_of (command (map string_bytes words.now))) result }
     ensures no_visits { IsWithoutRun (command (map string_bytes words.now)) result →
         visits.new ≡ visits.old }
 {

@@ -1,5 +1,12 @@
-use Rattle.std.proofs.Common.{refl, sym, ◌∙◌, ap, subst}
+use Rattle.std.proofs.Common.{sym, ◌∙◌, ap, subst, refl, map, string_bytes}
 use Rattle.et_io.specs.Faults.{Rose}
+use Rattle.et_top.specs.Reads.{ReadsInOrder}
+use Rattle.et_top.specs.declared.status.Status.{Status}
+use Rattle.et_top.specs.declared.status.Status.TheVariants as status
+use Rattle.et_top.specs.Status.{is_read_status, is_write_status}
+use Rattle.et_top.specs.Told.{cause_of, is_read_cause}
+use Rattle.et_top.proofs.FaultLemmas.{same_count, counted_as, read_status, no_write_status}
+use Rattle.et_top.proofs.ReadLemmas.{reads_whole}
 use Rattle.et_top.specs.Top.{traces, Gives}
 use Rattle.et_top.proofs.TopLemmas.{history_more, refused_trace}
 use Rattle.et_top.proofs.commands.trace.Goals as goal
@@ -23,3 +30,18 @@ returns-in-Err-clause-gives g c held told kinds d defined reached decides =
 
 pub returns-in-Ok-clause-no_visits : goal.returns-in-Ok-clause-no_visits
 returns-in-Ok-clause-no_visits g c before = absurd (c.run.ensures.of_run before)
+
+pub returns-in-Ok-clause-read_fault : goal.returns-in-Ok-clause-read_fault
+returns-in-Ok-clause-read_fault g c = same_count (is_read_status c.run.result) _ _ c.in-Ok.ensures.faults c.run.ensures.no_read
+
+pub returns-in-Ok-clause-reads : goal.returns-in-Ok-clause-reads
+returns-in-Ok-clause-reads g c = reads_whole _ _ _ _ status.Done _ refl c.in-Ok.ensures.reads
+
+pub returns-in-Err-clause-reads : goal.returns-in-Err-clause-reads
+returns-in-Err-clause-reads g c = subst (λ (s : Status). ReadsInOrder (g.F.Files.holds c.args.files.now) (g.F.Files.asked c.args.files.now) (g.F.Files.asked c.load_program.new.files) (map string_bytes c.args.paths.now) s) (sym c.refuse.ensures) c.in-Err.ensures.reads
+
+pub returns-in-Err-clause-read_fault : goal.returns-in-Err-clause-read_fault
+returns-in-Err-clause-read_fault g c = counted_as (is_read_cause (cause_of c.in-Err.refusal)) (is_read_status c.refuse.result) _ _ c.in-Err.ensures.faults (ap is_read_status c.refuse.ensures ∙ read_status c.in-Err.refusal)
+
+pub returns-in-Err-clause-write_fault : goal.returns-in-Err-clause-write_fault
+returns-in-Err-clause-write_fault g c = same_count (is_write_status c.refuse.result) _ _ refl (ap is_write_status c.refuse.ensures ∙ no_write_status c.in-Err.refusal c.in-Err.ensures.file)

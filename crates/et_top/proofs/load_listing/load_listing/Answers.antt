@@ -1,15 +1,16 @@
 use Rattle.std.proofs.Common.{Ok, subst, sym}
 use Rattle.et_top.specs.Loaded.{IsListingOf}
-use Rattle.et_top.specs.Told.{cause_of}
-use Rattle.et_top.proofs.Found.{tells_more, listing_not_read, no_read_fault, file_refusal}
+use Rattle.et_top.specs.Told.{cause_of, is_reading}
+use Rattle.et_top.proofs.FaultLemmas.{same_count, not_reading}
+use Rattle.et_top.proofs.Found.{tells_more, listing_not_read, file_refusal}
 use Rattle.et_top.proofs.load_listing.load_listing.Goals as goal
 
 pub returns-in-Ok-clause-tells : goal.returns-in-Ok-clause-tells
 returns-in-Ok-clause-tells g c held told found is =
     tells_more _ _ found c.listing_in.result (c.listing_in.ensures.tells found (subst (λ bytes. IsListingOf (Ok bytes) found) (sym c.deref.ensures.value) (subst (λ file. IsListingOf file found) (c.in-Ok.ensures.tells held told) is)))
 
-pub returns-in-Ok-clause-fault : goal.returns-in-Ok-clause-fault
-returns-in-Ok-clause-fault g c = no_read_fault _ c.listing_in.result c.listing_in.ensures.bytes
+pub returns-in-Ok-clause-faults : goal.returns-in-Ok-clause-faults
+returns-in-Ok-clause-faults g c = same_count (is_reading c.listing_in.result) _ _ c.in-Ok.ensures.faults (not_reading c.listing_in.result c.listing_in.ensures.bytes)
 
 pub returns-in-Ok-clause-file : goal.returns-in-Ok-clause-file
 returns-in-Ok-clause-file g c = file_refusal c.listing_in.result c.listing_in.ensures.bytes

@@ -1,11 +1,16 @@
-use Rattle.std.proofs.Common.{◌∙◌, ap, sym, subst}
+use Rattle.std.proofs.Common.{◌∙◌, refl, ap, sym, subst, map, string_bytes}
 use Rattle.et_io.specs.Faults.{Rose}
 use Rattle.et_top.specs.Command.{Asked}
 use Rattle.et_top.specs.Top.{Gives}
+use Rattle.et_top.specs.Reads.{ReadsInOrder, paths_of, is_early}
+use Rattle.et_top.specs.Command.{command}
 use Rattle.et_top.specs.Visits.{IsWithoutRun}
 use Rattle.std.specs.Prelude.{Option, option_map}
 use Rattle.et_top.specs.Asked.{asked_by}
 use Rattle.et_top.specs.declared.command.Command.{Command}
+use Rattle.et_top.specs.Status.{is_read_status, is_write_status}
+use Rattle.et_top.proofs.FaultLemmas.{same_count}
+use Rattle.et_top.proofs.ReadLemmas.{none_read}
 use Rattle.et_top.proofs.TopLemmas.{by_command, memory_gives, still}
 use Rattle.et_top.proofs.top.elephant.Goals as goal
 
@@ -25,3 +30,28 @@ pub returns-in-Some-clause-no_visits : goal.returns-in-Some-clause-no_visits
 returns-in-Some-clause-no_visits g c without =
     let is = sym (ap (λ (o : Option Command). option_map asked_by o) c.in-Some.is) ∙ c.in-Ok.ensures.command in
     c.perform.ensures.no_visits (subst (λ (a : Option Asked). IsWithoutRun a c.perform.result) (sym is) without)
+
+pub returns-in-Some-clause-reads : goal.returns-in-Some-clause-reads
+returns-in-Some-clause-reads g c =
+    let is = sym (ap (λ (o : Option Command). option_map asked_by o) c.in-Some.is) ∙ c.in-Ok.ensures.command in
+    subst (λ (a : Option Asked). ReadsInOrder (g.F.Files.holds c.args.files.now) (g.F.Files.asked c.args.files.now) (g.F.Files.asked c.perform.new.files) (paths_of a) c.perform.result) is c.perform.ensures.reads
+
+pub returns-in-Err-clause-reads : goal.returns-in-Err-clause-reads
+returns-in-Err-clause-reads g c = none_read _ _ (paths_of (command (map string_bytes c.args.words.now))) c.refuse.result (λ late. let early = ap is_early c.refuse.ensures in absurd (cc (early, late)))
+
+pub returns-in-None-clause-reads : goal.returns-in-None-clause-reads
+returns-in-None-clause-reads g c =
+    let is = sym (ap (λ (o : Option Command). option_map asked_by o) c.in-None.is) ∙ c.in-Ok.ensures.command in
+    none_read _ _ (paths_of (command (map string_bytes c.args.words.now))) c.refuse-in-None.result (λ late. ap paths_of (sym is))
+
+pub returns-in-Err-clause-read_fault : goal.returns-in-Err-clause-read_fault
+returns-in-Err-clause-read_fault g c = same_count (is_read_status c.refuse.result) _ _ refl (ap is_read_status c.refuse.ensures)
+
+pub returns-in-Err-clause-write_fault : goal.returns-in-Err-clause-write_fault
+returns-in-Err-clause-write_fault g c = same_count (is_write_status c.refuse.result) _ _ refl (ap is_write_status c.refuse.ensures)
+
+pub returns-in-None-clause-read_fault : goal.returns-in-None-clause-read_fault
+returns-in-None-clause-read_fault g c = same_count (is_read_status c.refuse-in-None.result) _ _ refl (ap is_read_status c.refuse-in-None.ensures)
+
+pub returns-in-None-clause-write_fault : goal.returns-in-None-clause-write_fault
+returns-in-None-clause-write_fault g c = same_count (is_write_status c.refuse-in-None.result) _ _ refl (ap is_write_status c.refuse-in-None.ensures)

@@ -1,8 +1,10 @@
-use Rattle.std.proofs.Common.{[], subst}
+use Rattle.std.proofs.Common.{[], sym, subst}
 use Rattle.std.specs.Prelude.{Some}
 use Rattle.et_top.specs.declared.command.Command.{Command}
 use Rattle.et_top.specs.Asked.{asked_by}
 use Rattle.et_top.specs.Visits.{IsWithoutRun}
+use Rattle.et_top.specs.Reads.{ReadsInOrder, paths_of}
+use Rattle.et_top.proofs.ReadLemmas.{one_read}
 use Rattle.et_top.proofs.TopLemmas.{by_arm}
 use Rattle.et_top.proofs.top.perform.Goals as goal
 
@@ -25,3 +27,15 @@ returns-in-Curve-clause-gives g c held told d defined reached decides =
 pub returns-in-Trace-clause-no_visits : goal.returns-in-Trace-clause-no_visits
 returns-in-Trace-clause-no_visits g c without =
     c.trace.ensures.no_visits (subst (λ (x : Command). IsWithoutRun (Some (asked_by x)) c.trace.result) c.in-Trace.is without)
+
+pub returns-in-Trace-clause-reads : goal.returns-in-Trace-clause-reads
+returns-in-Trace-clause-reads g c = subst (λ (x : Command). ReadsInOrder (g.F.Files.holds c.args.files.now) (g.F.Files.asked c.args.files.now) (g.F.Files.asked c.trace.new.files) (paths_of (Some (asked_by x))) c.trace.result) (sym c.in-Trace.is) c.trace.ensures.reads
+
+pub returns-in-Assemble-clause-reads : goal.returns-in-Assemble-clause-reads
+returns-in-Assemble-clause-reads g c = subst (λ (x : Command). ReadsInOrder (g.F.Files.holds c.args.files.now) (g.F.Files.asked c.args.files.now) (g.F.Files.asked c.assemble.new.files) (paths_of (Some (asked_by x))) c.assemble.result) (sym c.in-Assemble.is) (one_read _ _ _ _ _ c.assemble.ensures.asked)
+
+pub returns-in-Replay-clause-reads : goal.returns-in-Replay-clause-reads
+returns-in-Replay-clause-reads g c = subst (λ (x : Command). ReadsInOrder (g.F.Files.holds c.args.files.now) (g.F.Files.asked c.args.files.now) (g.F.Files.asked c.replay.new.files) (paths_of (Some (asked_by x))) c.replay.result) (sym c.in-Replay.is) (one_read _ _ _ _ _ c.replay.ensures.asked)
+
+pub returns-in-Curve-clause-reads : goal.returns-in-Curve-clause-reads
+returns-in-Curve-clause-reads g c = subst (λ (x : Command). ReadsInOrder (g.F.Files.holds c.args.files.now) (g.F.Files.asked c.args.files.now) (g.F.Files.asked c.curve.new.files) (paths_of (Some (asked_by x))) c.curve.result) (sym c.in-Curve.is) (one_read _ _ _ _ _ c.curve.ensures.asked)

@@ -1,0 +1,161 @@
+-- Files read one by one.
+use Rattle.std.proofs.Common.{◌≡◌, ℕ, ◌+◌, ◌-◌, ◌<◌, ◌≤◌, zero, suc, inr, Bool, true, false, List, [], ◌∷◌, ◌++◌, map, length, take, get_or, string_bytes, Option, Some, None, Result, Ok, Err, refl, sym, ◌∙◌, ap, subst, append-nil, append_assoc, add-one, arith, rules}
+use Rattle.std.specs.Prelude.{All, IfOk, IfErr, OnOk}
+use Rattle.std.proofs.lemmas.Bool.Decides.{nat_tests}
+use Rattle.std.proofs.lemmas.List.{length-map}
+use Rattle.std.proofs.lemmas.List.Elements.{All-nil, All-cons, All-head, All-tail}
+use Rattle.std.specs.declared.string.String.{String}
+use Rattle.std.specs.declared.vec.Vec.{Vec}
+use Rattle.std.specs.declared.alloc.Global.{Global}
+use Rattle.et_class.specs.Classes.{IsClassFile, class_of}
+use Rattle.et_class.specs.declared.class.ClassFile.{ClassFile}
+use Rattle.et_io.specs.Faults.{Rose, count_after}
+use Rattle.et_io.specs.Files.{Held, Finds, IsWithin, is_failed}
+use Rattle.et_io.specs.declared.files.Found.{Found}
+use Rattle.et_io.specs.declared.files.Found.TheVariants as finds
+use Rattle.et_top.specs.Faults.{Fault, Absent, TooLong, BadClass, BadText, BadTrace, LinkFault}
+use Rattle.et_top.specs.Loaded.{bytes_of, most_of_class, IsClassOf}
+use Rattle.et_top.specs.Reads.{HoldsClass, ReadsInOrder, is_early}
+use Rattle.et_top.specs.Told.{Cause, File, Reading, Memory, Other, Tells, TellsFound, IsCause, IsFileRefusal, cause_of, is_read_cause, is_reading}
+use Rattle.et_top.specs.Refusals.{status_of}
+use Rattle.et_top.specs.declared.refusal.Refusal.{Refusal}
+use Rattle.et_top.specs.declared.refusal.Refusal.TheVariants as refusal
+use Rattle.et_top.specs.declared.status.Status.{Status}
+use Rattle.et_top.proofs.FaultLemmas.{rose_one}
+
+-- WHAT A READ FOUND
+
+-- the bytes of a file that is not too long
+bytes_there : (most : ℕ) (file : Option (List ℕ)) (bytes : List ℕ) → file ≡ Some bytes → length bytes ≤ most → bytes_of most file ≡ Ok bytes
+bytes_there most file bytes is within = ap (bytes_of most) is ∙ first_of (search rules, grind (arith, nat_tests))
+
+-- .. and of one that is
+too_long : (most : ℕ) (file : Option (List ℕ)) (found : Found) → found ≡ finds.TooLong → Finds found most file → bytes_of most file ≡ Err TooLong
+too_long most None found is h = absurd (subst (λ f. Finds f most None) is h)
+too_long most (Some bytes) found is h = let long : most < length bytes = subst (λ f. Finds f most (Some bytes)) is h in first_of (search rules, grind (arith, nat_tests))
+
+pub found_tells : (old new most : ℕ) (file : Option (List ℕ)) (found : Found) (answer : Result (Vec ℕ Global) Refusal) → TellsFound found answer → Finds found most file → IsWithin found most → new ≡ count_after (is_failed (Ok found)) old
+    → Tells (Rose old new) (λ (bytes : Vec ℕ Global). bytes.items) (bytes_of most file) answer
+found_tells old new most file (finds.Bytes bytes) answer is there within count = subst (λ a. Tells (Rose old new) (λ (bytes : Vec ℕ Global). bytes.items) (bytes_of most file) a) (sym is) (bytes_there most file bytes.items there within)
+found_tells old new most file finds.Absent (Ok bytes) is there within count = absurd is
+found_tells old new most file finds.Absent (Err r) is there within count = subst (IsCause (Rose old new) (bytes_of most file)) (sym is) (ap (bytes_of most) there)
+found_tells old new most file finds.TooLong (Ok bytes) is there within count = absurd is
+found_tells old new most file finds.TooLong (Err r) is there within count = subst (IsCause (Rose old new) (bytes_of most file)) (sym is) (too_long most file finds.TooLong refl there)
+found_tells old new most file finds.Failed (Ok bytes) is there within count = absurd is
+found_tells old new most file finds.Failed (Err r) is there within count = subst (IsCause (Rose old new) (bytes_of most file)) (sym is) (rose_one old new count)
+
+pub found_reading : (found : Found) (answer : Result (Vec ℕ Global) Refusal) → TellsFound found answer → is_reading answer ≡ is_failed (Ok found)
+found_reading (finds.Bytes bytes) answer is = ap is_reading is
+found_reading finds.Absent (Ok bytes) is = absurd is
+found_reading finds.Absent (Err r) is = ap is_read_cause is
+found_reading finds.TooLong (Ok bytes) is = absurd is
+found_reading finds.TooLong (Err r) is = ap is_read_cause is
+found_reading finds.Failed (Ok bytes) is = absurd is
+found_reading finds.Failed (Err r) is = ap is_read_cause is
+
+-- it speaks of one file, or of memory
+abbrev IsOfOne : Cause → Type 0
+IsOfOne (File Absent) = Unit {0}
+IsOfOne (File TooLong) = Unit {0}
+IsOfOne (File (BadClass kind offset)) = Unit {0}
+IsOfOne (File (BadText kind line)) = Unit {0}
+IsOfOne (File (BadTrace kind line)) = Unit {0}
+IsOfOne (File (LinkFault kind class)) = ⊥
+IsOfOne Reading = Unit {0}
+IsOfOne Memory = Unit {0}
+IsOfOne Other = ⊥
+
+early_one : (r : Refusal) → IsOfOne (cause_of r) → is_early (status_of r) ≡ true
+early_one refusal.Usage one = absurd one
+early_one (refusal.Absent path) one = refl
+early_one (refusal.BadClass path kind offset) one = refl
+early_one (refusal.ReadFault path) one = refl
+early_one refusal.WriteFault one = absurd one
+early_one refusal.NoMemory one = refl
+early_one (refusal.BadText path kind line) one = refl
+early_one (refusal.BadTrace path kind line) one = refl
+early_one (refusal.IllTyped thread class method descriptor pc) one = absurd one
+early_one refusal.ObjectLimit one = absurd one
+early_one (refusal.TooLong path) one = refl
+early_one (refusal.LinkFault kind class) one = absurd one
+
+pub found_file : (found : Found) (answer : Result (Vec ℕ Global) Refusal) → TellsFound found answer → IfErr answer (λ r. IsFileRefusal (cause_of r))
+found_file (finds.Bytes bytes) answer is = subst (λ (a : Result (Vec ℕ Global) Refusal). IfErr a (λ r. IsFileRefusal (cause_of r))) (sym is) tt
+found_file finds.Absent (Ok bytes) is = tt
+found_file finds.Absent (Err r) is = subst IsFileRefusal (sym is) tt
+found_file finds.TooLong (Ok bytes) is = tt
+found_file finds.TooLong (Err r) is = subst IsFileRefusal (sym is) tt
+found_file finds.Failed (Ok bytes) is = tt
+found_file finds.Failed (Err r) is = subst IsFileRefusal (sym is) tt
+
+pub found_early : (found : Found) (answer : Result (Vec ℕ Global) Refusal) → TellsFound found answer → IfErr answer (λ r. is_early (status_of r) ≡ true)
+found_early (finds.Bytes bytes) answer is = subst (λ (a : Result (Vec ℕ Global) Refusal). IfErr a (λ r. is_early (status_of r) ≡ true)) (sym is) tt
+found_early finds.Absent (Ok bytes) is = tt
+found_early finds.Absent (Err r) is = early_one r (subst IsOfOne (sym is) tt)
+found_early finds.TooLong (Ok bytes) is = tt
+found_early finds.TooLong (Err r) is = early_one r (subst IsOfOne (sym is) tt)
+found_early finds.Failed (Ok bytes) is = tt
+found_early finds.Failed (Err r) is = early_one r (subst IsOfOne (sym is) tt)
+
+-- THE CLASS OF A FILE
+
+pub holds_class : (held : Held) (path bytes : List ℕ) (r : Result ClassFile Refusal) → bytes_of most_of_class (held path) ≡ Ok bytes → IfOk r (λ class. IsClassFile bytes (class_of class)) → OnOk r (HoldsClass held path)
+holds_class held path bytes (Ok class) is file = (class_of class, subst (λ (f : Result (List ℕ) Fault). IsClassOf f (Ok (class_of class))) (sym is) (inr (class_of class, file, refl)))
+holds_class held path bytes (Err r) is file = tt
+
+-- FILES IN ORDER
+
+take_more : (paths : List (String Global)) (i : ℕ) (d : String Global) → i < length paths → take (suc i) (map string_bytes paths) ≡ take i (map string_bytes paths) ++ string_bytes (get_or paths i d) ∷ []
+take_more [] i d lt = absurd (omega arith)
+take_more (p ∷ ps) zero d lt = refl
+take_more (p ∷ ps) (suc i) d lt = ap (λ xs. string_bytes p ∷ xs) (take_more ps i d (omega arith))
+
+-- one path more
+pub next_taken : (paths : List (String Global)) (i : ℕ) (item d : String Global) (path : List ℕ) → i < length paths → item ≡ get_or paths i d → path ≡ string_bytes item → take (i + 1) (map string_bytes paths) ≡ take i (map string_bytes paths) ++ path ∷ []
+next_taken paths i item d path lt is value = rw add-one (take_more paths i d lt ∙ ap (λ p. take i (map string_bytes paths) ++ p ∷ []) (sym (value ∙ ap string_bytes is)))
+
+-- .. was read
+pub next_asked : (old mid new : List (List ℕ)) (paths : List (String Global)) (i : ℕ) (path : List ℕ) → take (i + 1) (map string_bytes paths) ≡ take i (map string_bytes paths) ++ path ∷ [] → mid ≡ old ++ take i (map string_bytes paths) → new ≡ mid ++ path ∷ []
+    → new ≡ old ++ take (i + 1) (map string_bytes paths)
+next_asked old mid new paths i path more was is = is ∙ (ap (λ xs. xs ++ path ∷ []) was ∙ (append_assoc old (take i (map string_bytes paths)) (path ∷ []) ∙ ap (λ xs. old ++ xs) (sym more)))
+
+all_fewer : (P : List ℕ → Type 0) (xs : List (List ℕ)) (m n : ℕ) → m ≤ n → All P (take n xs) → All P (take m xs)
+all_fewer P xs zero n le all = All-nil P
+all_fewer P [] (suc m) n le all = All-nil P
+all_fewer P (x ∷ xs) (suc m) zero le all = absurd (omega arith)
+all_fewer P (x ∷ xs) (suc m) (suc n) le all = All-cons P x (take m xs) (All-head P x (take n xs) all) (all_fewer P xs m n (omega arith) (All-tail P x (take n xs) all))
+
+module _ (told : Option Held) (old : List (List ℕ)) where
+  -- all are read, and all are good
+  pub read_whole : (new : List (List ℕ)) (paths : List (String Global)) (i : ℕ) (answer : Status) → i ≡ length paths → new ≡ old ++ take i (map string_bytes paths) → ((held : Held) → told ≡ Some held → All (HoldsClass held) (take i (map string_bytes paths)))
+      → ReadsInOrder told old new (map string_bytes paths) answer
+  read_whole new paths i answer end asked good = record {
+    count = i;
+    few = omega (arith, end, length-map paths string_bytes);
+    asked = asked;
+    good = λ held is. all_fewer (HoldsClass held) (map string_bytes paths) (i - 1) i (omega arith) (good held is);
+    whole = λ late. end ∙ sym (length-map paths string_bytes);
+  }
+
+  -- the last one that was read isn't
+  pub read_up_to : (new : List (List ℕ)) (paths : List (String Global)) (i : ℕ) (answer : Status) → i < length paths → is_early answer ≡ true → new ≡ old ++ take (i + 1) (map string_bytes paths)
+      → ((held : Held) → told ≡ Some held → All (HoldsClass held) (take i (map string_bytes paths))) → ReadsInOrder told old new (map string_bytes paths) answer
+  read_up_to new paths i answer lt early asked good = record {
+    count = i + 1;
+    few = omega (arith, lt, length-map paths string_bytes);
+    asked = asked;
+    good = λ held is. all_fewer (HoldsClass held) (map string_bytes paths) (i + 1 - 1) i (omega arith) (good held is);
+    whole = λ late. absurd (cc (early, late));
+  }
+
+  -- all were read, whatever is answered then
+  pub reads_whole : (new paths : List (List ℕ)) (before answer : Status) → is_early before ≡ false → ReadsInOrder told old new paths before → ReadsInOrder told old new paths answer
+  reads_whole new paths before answer late h = record { count = h.count; few = h.few; asked = h.asked; good = h.good; whole = λ e. h.whole late }
+
+  -- the one file was read
+  pub one_read : (new : List (List ℕ)) (path : List ℕ) (answer : Status) → new ≡ old ++ path ∷ [] → ReadsInOrder told old new (path ∷ []) answer
+  one_read new path answer asked = record { count = 1; few = search rules; asked = asked; good = λ held is. All-nil (HoldsClass held); whole = λ e. refl }
+
+  -- none was read
+  pub none_read : (paths : List (List ℕ)) (answer : Status) → (is_early answer ≡ false → paths ≡ []) → ReadsInOrder told old old paths answer
+  none_read paths answer none = record { count = 0; few = search rules; asked = sym (append-nil old); good = λ held is. All-nil (HoldsClass held); whole = λ e. sym (ap length (none e)) }
