@@ -1,5 +1,5 @@
 -- How often reads and writes failed, by the answer.
-use Rattle.std.proofs.Common.{◌≡◌, ℕ, ◌+◌, ◌<◌, ◌≤◌, ◌⊎◌, inl, inr, min, Bool, true, false, Result, Ok, Err, refl, sym, ◌∙◌, ap, arith}
+use Rattle.std.proofs.Common.{◌≡◌, ℕ, ◌+◌, ◌<◌, ◌≤◌, ◌⊎◌, inl, inr, min, Bool, false, Result, Ok, Err, refl, sym, ◌∙◌, ap, arith}
 use Rattle.std.specs.Prelude.{IfErr}
 use Rattle.et_base.specs.declared.value.End.{End}
 use Rattle.et_base.specs.declared.value.End.TheVariants as ends
@@ -12,7 +12,6 @@ use Rattle.et_top.specs.Told.{Cause, File, Reading, Memory, Other, IsOfBytes, Is
 use Rattle.et_top.specs.Top.{status_of_end}
 use Rattle.et_top.specs.declared.refusal.Refusal.{Refusal}
 use Rattle.et_top.specs.declared.refusal.Refusal.TheVariants as refusal
-use Rattle.et_top.specs.declared.status.Status.{Status}
 
 less : (a b : ℕ) → (a < b) ⊎ (b ≤ a)
 less a b = grind arith

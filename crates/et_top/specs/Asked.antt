@@ -1,5 +1,5 @@
 -- What the command that the code answers asks for.
-use Rattle.std.specs.Prelude.{ℕ, ◌<◌, length, map, string_bytes}
+use Rattle.std.specs.Prelude.{◌<◌, length, map, string_bytes}
 use Rattle.et_state.specs.Options.{AreOptions}
 use Rattle.et_top.specs.declared.command.Command.{Command}
 use Rattle.et_top.specs.declared.command.Command.TheVariants as words

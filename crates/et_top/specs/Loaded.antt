@@ -3,8 +3,7 @@
 use Rattle.std.specs.Prelude.{◌≡◌, ℕ, ◌⊎◌, nat_lt, if◌then◌else◌, List, [], ◌∷◌, length, map, Option, None, Some, Result, Ok, Err}
 use Rattle.et_base.specs.declared.line.TraceLine.{TraceLine}
 use Rattle.et_class.specs.Layout.{ClassOf}
-use Rattle.et_class.specs.Classes.{IsClassFile, HasFault, class_of}
-use Rattle.et_class.specs.declared.class.ClassFile.{ClassFile}
+use Rattle.et_class.specs.Classes.{IsClassFile, HasFault}
 use Rattle.et_text.specs.Text.{IsTextOf, IsTraceFault}
 use Rattle.et_base.specs.Marks.{MarksAre, IsFirst}
 use Rattle.et_asm.specs.Listings.{marks_of, bytes_of as class_file_of}

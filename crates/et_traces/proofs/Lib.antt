@@ -1,0 +1,12 @@
+mod Lengths
+mod Numbering
+mod Standing
+mod RecordLines
+mod FlushLines
+mod EventLines
+mod TraceLines
+mod ClassNames
+mod DeathLines
+mod Reported
+mod LiveSums
+mod LiveReached

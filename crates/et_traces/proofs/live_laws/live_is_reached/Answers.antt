@@ -1,0 +1,39 @@
+use Rattle.std.proofs.Common.{ℕ, ◌+◌, ◌<◌, ◌≤◌, List, length, map, sym, subst, arith}
+use Rattle.std.proofs.lemmas.List.{length-map}
+use Rattle.et_program.specs.Loaded.{LoadedClass, loaded_class}
+use Rattle.et_state.specs.Options.{pick_of}
+use Rattle.et_state.specs.Start.{start}
+use Rattle.et_history.specs.Histories.{GoesOn, WholeGoesOn}
+use Rattle.et_history.specs.Settings.{IsSoundRun}
+use Rattle.et_traces.proofs.Reported.{Knows}
+use Rattle.et_traces.proofs.LiveReached.{live_is}
+use Rattle.et_traces.proofs.live_laws.live_is_reached.Goals as goal
+
+pub returns-clause-live : goal.returns-clause-live
+returns-clause-live c reached p options e last end decides run plain arguments are is le =
+    let pick : ℕ → ℕ = pick_of options.schedule in
+    let goes : (n : ℕ) → n ≤ last → (k : ℕ) → k < n → WholeGoesOn reached p options pick k = λ n le k lt. is.first k (omega (arith, le, lt)) in
+    let kept = (c.histories_tell_the_same.ensures.ends reached p options pick last end decides run are).1 is in
+    let goes_kept : (n : ℕ) → n ≤ last → (k : ℕ) → k < n → GoesOn reached p options pick k = λ n le k lt. kept.first k (omega (arith, le, lt)) in
+    let knows : Knows reached p options pick last = record {
+      first = λ o some within. c.objects_are_reached_as_made.ensures.first reached p options pick o decides some within;
+      told = λ n within. c.allocations_are_told.ensures reached p options pick n decides run plain arguments are (goes n within);
+      here = λ n m o within h. c.nothing_is_freed.ensures.here reached p options pick n m o decides run are (goes (n + m) within) h;
+      stays = λ n m o x within h. c.nothing_is_freed.ensures.reported reached p options pick n m o x decides run are (goes (n + m) within) h;
+      all = λ n o within some below. c.nothing_is_freed.ensures.all reached p options pick n o decides run are (goes n within) some below;
+      gone = λ n o within. c.nothing_is_freed.ensures.gone reached p options pick n o decides run are (goes n within);
+      same = λ n within. c.histories_tell_the_same.ensures.same reached p options pick n decides run are (goes_kept n within);
+    } in
+    live_is reached p options pick last end decides knows e le
+
+pub returns-clause-linked : goal.returns-clause-linked
+returns-clause-linked c p tabled is =
+    let files : List LoadedClass = map loaded_class is.classes in
+    let rules = c.files_keep_rules.ensures is.classes is.of_files in
+    let some : 0 < length files = subst (λ (n : ℕ). 0 < n) (sym (length-map is.classes loaded_class)) is.some in
+    let run : IsSoundRun p (start p) = record {
+      tabled = tabled;
+      runnable = c.programs_may_run.ensures files p some rules is.linkable is.program;
+      state = c.first_state_is_sound.ensures files p rules.names is.program;
+    } in
+    (run, c.programs_have_sizes.ensures.strings files p is.program, c.programs_have_sizes.ensures.arguments files p rules.names is.program)

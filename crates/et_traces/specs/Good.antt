@@ -1,0 +1,38 @@
+-- WHAT A TRACE ASKS OF A PROGRAM that it is the trace of.
+use Rattle.std.specs.Prelude.{◌≡◌, ℕ, ◌<◌, ◌^◌, All, true, bytes_eq, length}
+use Rattle.et_program.specs.Entries.{Linked}
+use Rattle.et_state.specs.Naming.{Names, IsNamed}
+use Rattle.et_state.specs.Outcome.{Outcome}
+use Rattle.et_state.specs.Outcome as outcome
+use Rattle.et_state.specs.State.{Kept}
+use Rattle.et_text.specs.Ranges.{IsText}
+use Rattle.et_event.specs.Event.{event}
+use Rattle.et_event.specs.Sound.{IsSoundFor}
+use Rattle.et_history.specs.Records.{HasPlainStrings}
+use Rattle.et_history.specs.Settings.{names_of}
+
+-- the names of a program are apart: each is one that a line can tell, and no two are alike
+pub record AreNamesApart (names : Names) : Type 0 where
+  pub class_texts : (c : ℕ) → c < names.class_count → IsText (names.class_name c)
+  pub method_texts : (m : ℕ) → m < names.method_count → IsText (names.method_name m)
+  pub descriptor_texts : (m : ℕ) → m < names.method_count → IsText (names.method_descriptor m)
+  -- no two classes have one name
+  pub classes_apart : (c d : ℕ) → c < names.class_count → d < names.class_count → bytes_eq (names.class_name c) (names.class_name d) ≡ true → c ≡ d
+  -- .. and no two methods of a class have one name and descriptor
+  pub methods_apart : (m n : ℕ) → m < names.method_count → n < names.method_count → names.method_class m ≡ names.method_class n
+      → bytes_eq (names.method_name m) (names.method_name n) ≡ true → bytes_eq (names.method_descriptor m) (names.method_descriptor n) ≡ true → m ≡ n
+
+-- the records of an event name only classes and methods of these
+abbrev pub NamesOnly : Names → Outcome Kept → Type 0
+NamesOnly names (outcome.Goes next records) = All (IsNamed names) records
+NamesOnly names (outcome.Waits next) = Unit {0}
+NamesOnly names (outcome.IllTyped method pc) = Unit {0}
+NamesOnly names outcome.ObjectLimit = Unit {0}
+
+-- THE PROGRAM is one that a trace can tell of
+pub record IsTraceable (p : Linked) : Type 0 where
+  pub names : AreNamesApart (names_of p)
+  -- in every sound state, what an event names is of the program
+  pub own : (s : Kept) (t : ℕ) → IsSoundFor p s → NamesOnly (names_of p) (event p s t)
+  pub few_statics : length p.statics < 2 ^ 28
+  pub strings : HasPlainStrings p

@@ -1,0 +1,74 @@
+//! Traces are good. Each law is a function with an empty body: what it promises is its contract.
+
+ghost use Rattle.std.specs.Prelude.{◌≡◌, ◌↔◌, ℕ, ◌<◌, All, Bool, List, bytes_eq, length, true};
+ghost use Rattle.et_base.specs.declared.line.TraceLine.{TraceLine};
+ghost use Rattle.et_base.specs.declared.value.End.{End};
+ghost use Rattle.et_graph.specs.Graph.{Graph, Decides};
+ghost use Rattle.et_linked.specs.ClassNames.{HasClassName};
+ghost use Rattle.et_program.specs.Entries.{Linked, class_at};
+ghost use Rattle.et_program.specs.LinkFaults.{IsLinkable};
+ghost use Rattle.et_program.specs.Loaded.{LoadedClass};
+ghost use Rattle.et_program.specs.ProgramOf.{IsProgramOf};
+ghost use Rattle.et_state.specs.declared.options.Options.{Options};
+ghost use Rattle.et_state.specs.History.{IsLast, trace_of};
+ghost use Rattle.et_state.specs.Options.{AreOptions};
+ghost use Rattle.et_state.specs.Start.{start};
+ghost use Rattle.et_text.specs.Rules.{IsGood};
+ghost use Rattle.et_text.specs.Spelling.{text};
+ghost use Rattle.et_text.specs.Text.{IsTextOf, IsTraceFault};
+ghost use Rattle.et_event.specs.Start.{start_records};
+ghost use Rattle.et_history.specs.Histories.{whole_picked};
+ghost use Rattle.et_history.specs.Settings.{IsSoundRun};
+ghost use Rattle.et_history.specs.Whole.{whole_start};
+ghost use Rattle.et_traces.specs.Good.{IsTraceable};
+
+use et_history::laws::{events_keep_monitors, histories_tell_the_same};
+use et_history::object_laws::objects_are_reached_as_made;
+use et_history::record_laws::events_tell_objects;
+use et_text::laws::{good_lists_differ, good_texts_have_no_fault};
+
+/// The trace of every history of a program that a trace can tell of is a good list, over every list of picks.
+pub fn traces_are_good()
+    ensures { (reached : Graph → ℕ → Bool) (p : Linked) (options : Options) (pick : ℕ → ℕ)
+        (last : ℕ) (end : End) → Decides reached → IsSoundRun p (start p) →
+        IsTraceable p → AreOptions options →
+        IsLast reached (whole_picked p options pick) (whole_start p) (start_records p) last end →
+        IsGood 1 (trace_of reached (whole_picked p options pick) (whole_start p)
+        (start_records p) last end) }
+{
+    // Laws: they tell the prover, and do nothing.
+    events_tell_objects();
+    events_keep_monitors();
+    histories_tell_the_same();
+    objects_are_reached_as_made();
+}
+
+/// So its text is read to exactly its lines, and has no fault.
+pub fn traces_are_read()
+    ensures lines { (reached : Graph → ℕ → Bool) (p : Linked) (options : Options) (pick : ℕ → ℕ)
+        (last : ℕ) (end : End) (lines : List TraceLine) → Decides reached →
+        IsSoundRun p (start p) → IsTraceable p → AreOptions options →
+        IsLast reached (whole_picked p options pick) (whole_start p) (start_records p) last end →
+        IsTextOf lines (text (trace_of reached (whole_picked p options pick) (whole_start p)
+        (start_records p) last end)) ↔ (lines ≡ trace_of reached (whole_picked p options pick)
+        (whole_start p) (start_records p) last end) }
+    ensures none { (reached : Graph → ℕ → Bool) (p : Linked) (options : Options) (pick : ℕ → ℕ)
+        (last : ℕ) (end : End) (kind number : ℕ) → Decides reached →
+        IsSoundRun p (start p) → IsTraceable p → AreOptions options →
+        IsLast reached (whole_picked p options pick) (whole_start p) (start_records p) last end →
+        IsTraceFault (text (trace_of reached (whole_picked p options pick) (whole_start p)
+        (start_records p) last end)) kind number → ⊥ }
+{
+    // Laws: they tell the prover, and do nothing.
+    traces_are_good();
+    good_lists_differ();
+    good_texts_have_no_fault();
+}
+
+/// No two classes of a linked program have one name.
+pub fn class_names_are_apart()
+    ensures { (files : List LoadedClass) (p : Linked) → All HasClassName files →
+        IsLinkable files → IsProgramOf files p →
+        (c d : ℕ) → c < length p.classes → d < length p.classes →
+        bytes_eq (class_at p c).info.name (class_at p d).info.name ≡ true → c ≡ d }
+{}
