@@ -7,7 +7,7 @@ use Rattle.et_listing.specs.declared.line.Parsed.{Parsed}
 use Rattle.et_listing.specs.Words.{words, lines}
 use Rattle.et_listing.specs.Lines.{parsed_of}
 use Rattle.et_asm.specs.Pool.{pool}
-use Rattle.et_asm.specs.Listings.{listing_marks, class_bytes, parsed_lines, marks_of, bytes_of}
+use Rattle.et_asm.specs.Listings.{listing_marks, listed_class_bytes, parsed_lines, marks_of, assembled_bytes}
 
 pub lines_are : (text : List ℕ) (split : List (List (List ℕ))) (ps : List Parsed) → split ≡ map words (lines text) → ps ≡ map parsed_of split → ps ≡ parsed_lines text
 lines_are text split ps a b = b ∙ ap (map parsed_of) a
@@ -18,5 +18,5 @@ found_are text ps keys found lines_is keys_is found_is =
     found_is ∙ (ap (λ ks. first_from None (listing_marks ks ps)) keys_is ∙ ap (λ qs. first_from None (listing_marks (pool qs) qs)) lines_is) in
     subst (MarksAre (marks_of text)) (sym whole) (found_is_first (marks_of text))
 
-pub bytes_are : (text : List ℕ) (ps : List Parsed) (keys : List Entry) (bytes : List ℕ) → ps ≡ parsed_lines text → keys ≡ pool ps → bytes ≡ class_bytes keys ps → bytes ≡ bytes_of text
-bytes_are text ps keys bytes lines_is keys_is bytes_is = bytes_is ∙ (ap (λ ks. class_bytes ks ps) keys_is ∙ ap (λ qs. class_bytes (pool qs) qs) lines_is)
+pub bytes_are : (text : List ℕ) (ps : List Parsed) (keys : List Entry) (bytes : List ℕ) → ps ≡ parsed_lines text → keys ≡ pool ps → bytes ≡ listed_class_bytes keys ps → bytes ≡ assembled_bytes text
+bytes_are text ps keys bytes lines_is keys_is bytes_is = bytes_is ∙ (ap (λ ks. listed_class_bytes ks ps) keys_is ∙ ap (λ qs. listed_class_bytes (pool qs) qs) lines_is)

@@ -7,8 +7,8 @@ use Rattle.std.proofs.lemmas.List.Sums.{fold-append}
 use Rattle.et_listing.specs.declared.entry.Entry.{Entry}
 use Rattle.et_listing.specs.declared.line.Parsed.{Parsed}
 use Rattle.et_asm.specs.Along.{along_from}
-use Rattle.et_asm.specs.Code.{Labels, size, place_behind, defines, labels_of, place_of, catch_count}
-use Rattle.et_asm.specs.Listings.{body_marks_at, body_marks}
+use Rattle.et_asm.specs.Code.{Labels, size, place_behind, defines, labels_of, label_place, catch_count}
+use Rattle.et_asm.specs.Listings.{body_marks_at, listed_body_marks}
 use Rattle.et_asm.proofs.Held.{AllHold, front_holds, rest_holds}
 
 pub record IsWithin (entries : List Entry) (body : List Parsed) : Type 0 where
@@ -25,7 +25,7 @@ module _ (entries : List Entry) (labels : Labels) (number : ℕ) where
       subst (IsWithin entries) (append_assoc before (p ∷ []) more)
       (within_from (before ++ p ∷ []) more rest (record { code = leb-true _ _ rules.1.1.1.0; handlers = leb-true _ _ rules.1.1.1.1.0 }))
 
-pub body_within : (entries : List Entry) (number : ℕ) (body : List Parsed) → AllHold (body_marks entries number body) → IsWithin entries body
+pub body_within : (entries : List Entry) (number : ℕ) (body : List Parsed) → AllHold (listed_body_marks entries number body) → IsWithin entries body
 body_within entries number body h = within_from entries (labels_of entries body) number [] body h (record { code = omega arith; handlers = omega arith })
 
 grows : (entries : List Entry) (lines : List Parsed) (at : ℕ) → at ≤ fold (λ n p. n + size entries n p.line) at lines
@@ -37,7 +37,7 @@ front_within entries body i =
     let whole = fold-append (λ n p. n + size entries n p.line) 0 (take i body) (drop i body) in
     omega (arith, grows entries (drop i body) (place_behind entries (take i body)), whole, ap (place_behind entries) (take-append-drop i body))
 
-pub place_within : (entries : List Entry) (body : List Parsed) (name : List ℕ) → place_of (labels_of entries body) name ≤ place_behind entries body
+pub place_within : (entries : List Entry) (body : List Parsed) (name : List ℕ) → label_place (labels_of entries body) name ≤ place_behind entries body
 unfolding labels_of
 place_within entries body name = by (position (λ p. defines name p.line) body)
   where

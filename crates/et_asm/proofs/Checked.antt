@@ -7,7 +7,7 @@ use Rattle.et_listing.specs.declared.line.Parsed.{Parsed}
 use Rattle.et_asm.specs.declared.order.Stage.{Stage}
 use Rattle.et_asm.specs.Order.{stage_of}
 use Rattle.et_asm.specs.Code.{Labels, place_behind, labels_of, catch_count}
-use Rattle.et_asm.specs.Listings.{count, is_interface, is_field, is_method, counts_fit, number_behind, body_line_marks, body_marks_at, line_marks, listing_marks, end_mark}
+use Rattle.et_asm.specs.Listings.{count, is_interface_line, is_field_line, is_method_line, counts_fit, number_behind, body_line_marks, body_marks_at, line_marks, listing_marks, end_mark}
 use Rattle.et_asm.specs.Symbols.{stage_marks}
 use Rattle.et_asm.proofs.Taken.{taken}
 use Rattle.et_asm.proofs.Marked.{marks_more}
@@ -36,11 +36,11 @@ body_step entries body labels labels' seen number i p at end catches lt e labels
     ∙ ap (λ x. body_line_marks labels' number' seen' at' end' x p.line) (catches_is ∙ ap catch_count more)))))
 
 pub few_is : (lines : List Parsed) (interfaces fields methods : ℕ) (few : Bool) → few ≡ (nat_le interfaces 65535 && nat_le fields 65535 && nat_le methods 65535)
-    → interfaces ≡ count is_interface lines → fields ≡ count is_field lines → methods ≡ count is_method lines → few ≡ counts_fit lines
+    → interfaces ≡ count is_interface_line lines → fields ≡ count is_field_line lines → methods ≡ count is_method_line lines → few ≡ counts_fit lines
 few_is lines interfaces fields methods few is a b c =
     is ∙ (ap (λ x. nat_le x 65535 && nat_le fields 65535 && nat_le methods 65535) a
-    ∙ (ap (λ x. nat_le (count is_interface lines) 65535 && nat_le x 65535 && nat_le methods 65535) b
-    ∙ ap (λ x. nat_le (count is_interface lines) 65535 && nat_le (count is_field lines) 65535 && nat_le x 65535) c))
+    ∙ (ap (λ x. nat_le (count is_interface_line lines) 65535 && nat_le x 65535 && nat_le methods 65535) b
+    ∙ ap (λ x. nat_le (count is_interface_line lines) 65535 && nat_le (count is_field_line lines) 65535 && nat_le x 65535) c))
 
 pub line_step : (entries : List Entry) (lines : List Parsed) (i : ℕ) (p : Parsed) (stage : Stage) (few : Bool) (more : List Parsed) → i < length lines → p ≡ get_or lines i p
     → stage ≡ stage_of (take i lines) → few ≡ counts_fit (take (i + 1) lines) → more ≡ drop (i + 1) lines

@@ -5,8 +5,8 @@ use Rattle.et_base.specs.Marks.{Mark, MarksAre}
 use Rattle.et_listing.specs.declared.entry.Entry.{Entry}
 use Rattle.et_listing.specs.declared.line.Parsed.{Parsed}
 use Rattle.et_asm.specs.Along.{along_from}
-use Rattle.et_asm.specs.Order.{opens, body_of, stage_of, is_inside, is_finished, may_stand}
-use Rattle.et_asm.specs.Listings.{number_behind, line_fits, counts_fit, fault_marks, own_marks, outside_marks, body_marks, line_marks, end_mark}
+use Rattle.et_asm.specs.Order.{opens, lines_of_body, stage_of, is_inside, is_finished, may_stand}
+use Rattle.et_asm.specs.Listings.{number_behind, line_fits, counts_fit, fault_marks, own_marks, outside_marks, listed_body_marks, line_marks, end_mark}
 
 -- each rule holds
 abbrev pub AllHold : List Mark → Type 0
@@ -33,7 +33,7 @@ pub record LineHolds (entries : List Entry) (before : List Parsed) (p : Parsed) 
   pub stands : may_stand (stage_of before) p.line ≡ true
   pub fits : line_fits entries p.line ≡ true
   pub few : counts_fit (before ++ p ∷ []) ≡ true
-  pub body : is_inside (stage_of before) ≡ false → opens p.line ≡ true → AllHold (body_marks entries (number_behind before + 1) (body_of behind))
+  pub body : is_inside (stage_of before) ≡ false → opens p.line ≡ true → AllHold (listed_body_marks entries (number_behind before + 1) (lines_of_body behind))
 
 -- and so do all lines behind others, and the listing is whole at their end
 abbrev pub LinesHold : List Entry → List Parsed → List Parsed → Type 0
@@ -53,7 +53,7 @@ line_holds entries before p behind h =
       few = rules.1.1.0;
       body = λ out opening.
           let all : AllHold outside = subst (λ (b : Bool). AllHold (cond b [] outside)) out (rest_holds own (cond (is_inside (stage_of before)) [] outside) h) in
-          subst (λ (b : Bool). AllHold (cond b (body_marks entries (number + 1) (body_of behind)) [])) opening all.1;
+          subst (λ (b : Bool). AllHold (cond b (listed_body_marks entries (number + 1) (lines_of_body behind)) [])) opening all.1;
     }
 
 lines_from : (entries : List Entry) (before more : List Parsed) → AllHold (along_from (line_marks entries) before more ++ end_mark (before ++ more) ∷ []) → LinesHold entries before more

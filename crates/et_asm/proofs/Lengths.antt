@@ -13,8 +13,8 @@ use Rattle.et_listing.specs.declared.line.Line.TheVariants as line
 use Rattle.et_listing.specs.declared.line.Parsed.{Parsed}
 use Rattle.et_listing.specs.Lines.{pairs}
 use Rattle.et_asm.specs.Along.{along_from}
-use Rattle.et_asm.specs.Pool.{index_of}
-use Rattle.et_asm.specs.Code.{Labels, is_short, is_short_increment, padding, instruction_size, size, place_behind, offset2, offset4, table_bytes, pair_bytes, lookup_bytes, branch_bytes, local_bytes, load_bytes, increment_bytes, switch_bytes, instruction_bytes, line_bytes, bytes_at, code_bytes}
+use Rattle.et_asm.specs.Pool.{entry_index}
+use Rattle.et_asm.specs.Code.{Labels, is_short, is_short_increment, padding, instruction_size, size, place_behind, offset2, offset4, table_bytes, pair_bytes, lookup_bytes, branch_bytes, local_bytes, load_bytes, increment_bytes, switch_bytes, instruction_bytes, line_bytes, encoded_at, code_bytes}
 
 either : (b : Bool) (xs ys : List ℕ) (m n : ℕ) → length xs ≡ m → length ys ≡ n → length (cond b xs ys) ≡ cond b m n
 either true xs ys m n first second = first
@@ -44,7 +44,7 @@ instruction_length entries labels at (instruction.Byte opcode operand) = refl
 instruction_length entries labels at (instruction.Short opcode operand) = refl
 instruction_length entries labels at (instruction.Local opcode local) = either (is_short local) _ _ 2 4 refl refl
 instruction_length entries labels at (instruction.Increment local constant) = either (is_short_increment local constant) _ _ 3 6 refl refl
-instruction_length entries labels at (instruction.Load e) = either (is_short (index_of entries e)) _ _ 2 3 refl refl
+instruction_length entries labels at (instruction.Load e) = either (is_short (entry_index entries e)) _ _ 2 3 refl refl
 instruction_length entries labels at (instruction.Pool opcode e) = refl
 instruction_length entries labels at (instruction.Interface class name descriptor) = refl
 instruction_length entries labels at (instruction.Array class dimensions) = refl
@@ -61,25 +61,25 @@ line_length entries labels at other = refl
 place_push : (entries : List Entry) (before : List Parsed) (p : Parsed) → place_behind entries (before ++ p ∷ []) ≡ place_behind entries before + size entries (place_behind entries before) p.line
 place_push entries before p = fold-append (λ at q. at + size entries at q.line) 0 before (p ∷ [])
 
-length_from : (entries : List Entry) (labels : Labels) (before more : List Parsed) → place_behind entries before + length (along_from (bytes_at entries labels) before more) ≡ place_behind entries (before ++ more)
+length_from : (entries : List Entry) (labels : Labels) (before more : List Parsed) → place_behind entries before + length (along_from (encoded_at entries labels) before more) ≡ place_behind entries (before ++ more)
 unfolding along_from
 length_from entries labels before [] = omega (arith, ap (place_behind entries) (append-nil before))
 length_from entries labels before (p ∷ more) =
     let here = line_bytes entries labels (place_behind entries before) p.line in
-    let rest = along_from (bytes_at entries labels) (before ++ p ∷ []) more in
+    let rest = along_from (encoded_at entries labels) (before ++ p ∷ []) more in
     omega (arith, length-append here rest, line_length entries labels (place_behind entries before) p.line, place_push entries before p, length_from entries labels (before ++ p ∷ []) more, ap (place_behind entries) (append_assoc before (p ∷ []) more))
 
 pub code_length : (entries : List Entry) (labels : Labels) (body : List Parsed) → length (code_bytes entries labels body) ≡ place_behind entries body
 code_length entries labels body = omega (arith, length_from entries labels [] body)
 
-split_from : (entries : List Entry) (labels : Labels) (first before more : List Parsed) → along_from (bytes_at entries labels) first (before ++ more) ≡ along_from (bytes_at entries labels) first before ++ along_from (bytes_at entries labels) (first ++ before) more
+split_from : (entries : List Entry) (labels : Labels) (first before more : List Parsed) → along_from (encoded_at entries labels) first (before ++ more) ≡ along_from (encoded_at entries labels) first before ++ along_from (encoded_at entries labels) (first ++ before) more
 unfolding along_from
-split_from entries labels first [] more = ap (λ xs. along_from (bytes_at entries labels) xs more) (sym (append-nil first))
+split_from entries labels first [] more = ap (λ xs. along_from (encoded_at entries labels) xs more) (sym (append-nil first))
 split_from entries labels first (p ∷ before) more =
     let here = line_bytes entries labels (place_behind entries first) p.line in
     ap (λ xs. here ++ xs) (split_from entries labels (first ++ p ∷ []) before more)
-    ∙ (sym (append_assoc here (along_from (bytes_at entries labels) (first ++ p ∷ []) before) (along_from (bytes_at entries labels) ((first ++ p ∷ []) ++ before) more))
-    ∙ ap (λ xs. (here ++ along_from (bytes_at entries labels) (first ++ p ∷ []) before) ++ along_from (bytes_at entries labels) xs more) (append_assoc first (p ∷ []) before))
+    ∙ (sym (append_assoc here (along_from (encoded_at entries labels) (first ++ p ∷ []) before) (along_from (encoded_at entries labels) ((first ++ p ∷ []) ++ before) more))
+    ∙ ap (λ xs. (here ++ along_from (encoded_at entries labels) (first ++ p ∷ []) before) ++ along_from (encoded_at entries labels) xs more) (append_assoc first (p ∷ []) before))
 
-pub code_splits : (entries : List Entry) (labels : Labels) (before more : List Parsed) → code_bytes entries labels (before ++ more) ≡ code_bytes entries labels before ++ along_from (bytes_at entries labels) before more
+pub code_splits : (entries : List Entry) (labels : Labels) (before more : List Parsed) → code_bytes entries labels (before ++ more) ≡ code_bytes entries labels before ++ along_from (encoded_at entries labels) before more
 code_splits entries labels before more = split_from entries labels [] before more

@@ -9,7 +9,7 @@ use Rattle.et_listing.specs.declared.entry.Entry.{Entry}
 use Rattle.et_listing.specs.declared.line.Parsed.{Parsed}
 use Rattle.et_listing.specs.contracts.entry.EntryEq.TheImpl.Laws.{laws-law}
 use Rattle.et_asm.specs.Pool.{same_entry, parts, each_once, uses, pool}
-use Rattle.et_asm.specs.Symbols.{added}
+use Rattle.et_asm.specs.Symbols.{entry_added}
 use Rattle.et_asm.proofs.Alike.{alike}
 
 pub laws : IsEquivalence same_entry
@@ -106,6 +106,6 @@ gather ks (x ∷ xs) = elim (cases_Bool (list_any (same_entry x) ks)) [
 pub once : (xs : List Entry) → insert_all same_entry [] xs ≡ each_once xs
 once xs = gather [] xs ∙ filter_all (each_once xs)
 
-pub pool_once : (lines : List Parsed) → added [] (uses lines) ≡ pool lines
-unfolding added pool
+pub pool_once : (lines : List Parsed) → entry_added [] (uses lines) ≡ pool lines
+unfolding entry_added pool
 pool_once lines = once (flat_map parts (uses lines))

@@ -10,7 +10,7 @@ use Rattle.et_listing.specs.declared.line.Parsed.{Parsed}
 use Rattle.et_asm.specs.declared.order.Stage.{Stage}
 use Rattle.et_asm.specs.declared.order.Stage.TheVariants as stage
 use Rattle.et_asm.specs.Along.{along_from}
-use Rattle.et_asm.specs.Order.{opens, body_of, step, stage_of, is_inside, is_finished, may_stand}
+use Rattle.et_asm.specs.Order.{opens, lines_of_body, step, stage_of, is_inside, is_finished, may_stand}
 use Rattle.et_asm.specs.Pool.{same_entry, parts, header_entries, body_uses, outside_uses, line_uses, uses, pool}
 use Rattle.et_asm.proofs.Once.{laws}
 use Rattle.et_asm.proofs.Sets.{sets}
@@ -159,7 +159,7 @@ inside_none s l h k = absurd (true≢false (sym h))
 module _ (entries xs : List Entry) where
   named_line : (before : List Parsed) (p : Parsed) (behind : List Parsed) (b : Bool) → is_inside (stage_of before) ≡ b → may_stand (stage_of before) p.line ≡ true → AllHas xs (cond b [] (outside_uses p.line behind)) → AllHas xs (header_entries p.line)
   named_line before p behind true e m h = subst (AllHas xs) (sym (inside_none (stage_of before) p.line e m)) tt
-  named_line before p behind false e m h = has_front xs (header_entries p.line) (cond (opens p.line) (body_uses (body_of behind)) []) h
+  named_line before p behind false e m h = has_front xs (header_entries p.line) (cond (opens p.line) (body_uses (lines_of_body behind)) []) h
 
   named_from : (before more : List Parsed) → LinesHold entries before more → AllHas xs (along_from line_uses before more) → AllNamed xs more
   unfolding along_from

@@ -12,7 +12,7 @@ use Rattle.et_listing.specs.declared.entry.Entry.{Entry}
 use Rattle.et_listing.specs.declared.line.Line.{Line}
 use Rattle.et_listing.specs.declared.line.Line.TheVariants as line
 use Rattle.et_listing.specs.declared.line.Parsed.{Parsed}
-use Rattle.et_listing.specs.Words.{same}
+use Rattle.et_listing.specs.Words.{same_word}
 use Rattle.et_asm.specs.Code.{place_behind, defines, labels_of}
 use Rattle.et_asm.specs.Symbols.{places, define}
 use Rattle.et_asm.proofs.Taken.{taken}
@@ -85,7 +85,7 @@ push entries body p q = elim (cases_lt (position_or_len (is_of q) body) (length 
 
 -- as the map is written
 defined : (labels : List ℕ → Option ℕ) (l : Line) (at : ℕ) (q : List ℕ) → cond (is_some (labels q)) (labels q) (cond (defines q l) (Some at) None) ≡ define at l labels q
-defined labels (line.Label name) at q = by (same name q) (labels q) refl refl
+defined labels (line.Label name) at q = by (same_word name q) (labels q) refl refl
   where
     kept : (o : Option ℕ) → cond (is_some o) o None ≡ o
     kept None = refl
@@ -95,10 +95,10 @@ defined labels (line.Label name) at q = by (same name q) (labels q) refl refl
     either true o = refl
     either false o = refl
 
-    by : (b : Bool) (o : Option ℕ) → same name q ≡ b → labels q ≡ o → cond (is_some (labels q)) (labels q) (cond (same name q) (Some at) None) ≡ cond (is_some (labels name)) (labels q) (cond (same name q) (Some at) (labels q))
+    by : (b : Bool) (o : Option ℕ) → same_word name q ≡ b → labels q ≡ o → cond (is_some (labels q)) (labels q) (cond (same_word name q) (Some at) None) ≡ cond (is_some (labels name)) (labels q) (cond (same_word name q) (Some at) (labels q))
     by true o e h =
         let one : name ≡ q = same_text name q (sym e) in
-        subst (λ x. cond (is_some (labels q)) (labels q) (cond (same name q) (Some at) None) ≡ cond (is_some (labels x)) (labels q) (cond (same name q) (Some at) (labels q))) (sym one)
+        subst (λ x. cond (is_some (labels q)) (labels q) (cond (same_word name q) (Some at) None) ≡ cond (is_some (labels x)) (labels q) (cond (same_word name q) (Some at) (labels q))) (sym one)
         (ap (λ b. cond (is_some (labels q)) (labels q) (cond b (Some at) None)) e ∙ sym (ap (λ b. cond (is_some (labels q)) (labels q) (cond b (Some at) (labels q))) e))
     by false o e h =
         ap (λ b. cond (is_some (labels q)) (labels q) (cond b (Some at) None)) e ∙ (kept (labels q) ∙ (sym (either (is_some (labels name)) (labels q)) ∙ sym (ap (λ b. cond (is_some (labels name)) (labels q) (cond b (Some at) (labels q))) e)))

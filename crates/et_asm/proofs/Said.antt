@@ -15,7 +15,7 @@ use Rattle.et_pool.specs.declared.tags.TheConstants.{STRING}
 use Rattle.et_pool.specs.Looks.{slot_at, utf8_at, class_name_at, string_at, integer_of_slot, long_of_slot, named_by}
 use Rattle.et_code.specs.Bodies.{Body}
 use Rattle.et_class.specs.declared.names.TheConstants.{CODE_NAME, CONSTANT_VALUE}
-use Rattle.et_class.specs.Layout.{AttributeOf, ClassOf}
+use Rattle.et_class.specs.Layout.{AttributeOf, ClassOf, u2}
 use Rattle.et_class.specs.Names.{is_text}
 use Rattle.et_class.specs.Fields.{is_constant_value, index_in}
 use Rattle.et_class.specs.Codes.{code_at}
@@ -31,12 +31,12 @@ use Rattle.et_listing.specs.declared.line.Parsed.{Parsed}
 use Rattle.et_listing.specs.Words.{words, lines, unescaped}
 use Rattle.et_listing.proofs.Sane.{fits32, fits64, IsConstant, AreLimits, IsSane, AllSane, all_sane}
 use Rattle.et_asm.specs.Along.{along_from}
-use Rattle.et_asm.specs.Order.{body_of, stage_of, is_inside}
-use Rattle.et_asm.specs.Pool.{header_entries, constant_entries, attribute_entries, pool, index_behind, index_of, u2}
-use Rattle.et_asm.specs.Spelled.{slots, FindsEntries}
+use Rattle.et_asm.specs.Order.{lines_of_body, stage_of, is_inside}
+use Rattle.et_asm.specs.Pool.{header_entries, constant_entries, attribute_entries, pool, index_behind, entry_index}
+use Rattle.et_asm.specs.Spelled.{entry_slots, FindsEntries}
 use Rattle.et_asm.specs.Code.{labels_of, caught_index}
-use Rattle.et_asm.specs.Listings.{parsed_lines, marks_of, bytes_of}
-use Rattle.et_asm.specs.Accepted.{Header, Constant, IntValue, LongValue, StringValue, Field, Method, constant_at, constant_in, field_in, method_in, listed_header, listed_interface, listed_constant, listed_field, listed_row, listed_body, listed_method, method_line, HasListing}
+use Rattle.et_asm.specs.Listings.{parsed_lines, marks_of, assembled_bytes}
+use Rattle.et_asm.specs.Accepted.{Header, Constant, IntValue, LongValue, StringValue, AcceptedField, AcceptedMethod, accepted_constant, constant_in, accepted_field, accepted_method, listed_header, listed_interface, listed_constant, listed_field, listed_row, listed_body, listed_method, listed_methods, HasListing}
 use Rattle.et_asm.specs.Laws.{ClassesHaveListings}
 use Rattle.et_asm.proofs.Slots.{finds}
 use Rattle.et_asm.proofs.Within.{Has}
@@ -85,45 +85,45 @@ map_same {Y} {Z} entries f g k each (p ∷ more) s n =
     ∙ (ap (λ (zs : List Z). zs ++ map f (flat_map (λ q. g q.line) more)) (each p.line s.0 n.0) ∙ ap (λ (zs : List Z). k p.line ++ zs) (map_same entries f g k each more s.1 n.1))
 
 module _ (entries : List Entry) (found : FindsEntries entries) (low : index_behind entries ≤ 65535) where
-  interface_said : (l : Line) → IsSane l → AllHas entries (header_entries l) → map (class_name_at (slots entries)) (made_interface entries l) ≡ listed_interface l
+  interface_said : (l : Line) → IsSane l → AllHas entries (header_entries l) → map (class_name_at (entry_slots entries)) (made_interface entries l) ≡ listed_interface l
   interface_said (line.Interface name) s n = ap (λ o. o ∷ []) (found.classes name n.0)
   interface_said l s n = refl
 
   -- CONSTANTS
 
   abbrev constant_of_slot : Option Item → Option Constant
-  constant_of_slot slot = option_or (option_map IntValue (integer_of_slot slot)) (option_or (option_map LongValue (long_of_slot slot)) (option_map StringValue (named_by (slots entries) STRING slot)))
+  constant_of_slot slot = option_or (option_map IntValue (integer_of_slot slot)) (option_or (option_map LongValue (long_of_slot slot)) (option_map StringValue (named_by (entry_slots entries) STRING slot)))
 
-  constant_said : (e : Entry) → IsConstant (Some e) → Has entries e → constant_at (slots entries) (index_of entries e) ≡ listed_constant e
+  constant_said : (e : Entry) → IsConstant (Some e) → Has entries e → accepted_constant (entry_slots entries) (entry_index entries e) ≡ listed_constant e
   constant_said (entry.Integer value) s h = ap constant_of_slot (found.items (entry.Integer value) h) ∙ ap (λ (z : ℤ). Some (IntValue z)) (to_z-of_z w32 value (fits32 value s))
   constant_said (entry.Long value) s h = ap constant_of_slot (found.items (entry.Long value) h) ∙ ap (λ (z : ℤ). Some (LongValue z)) (to_z-of_z w64 value (fits64 value s))
   constant_said (entry.Text text) s h =
-      let slot = slot_at (slots entries) (index_of entries (entry.Text text)) in
-      let string = string_at (slots entries) (index_of entries (entry.Text text)) in
+      let slot = slot_at (entry_slots entries) (entry_index entries (entry.Text text)) in
+      let string = string_at (entry_slots entries) (entry_index entries (entry.Text text)) in
       let there = found.items (entry.Text text) h in
       ap (λ (o : Option ℤ). option_or (option_map IntValue o) (option_or (option_map LongValue (long_of_slot slot)) (option_map StringValue string))) (ap integer_of_slot there)
       ∙ (ap (λ (o : Option ℤ). option_or (option_map LongValue o) (option_map StringValue string)) (ap long_of_slot there)
       ∙ ap (λ (o : Option (List ℕ)). option_map StringValue o) (found.strings text h))
   constant_said e s h = absurd s
 
-  value_said : (constant : Option Entry) → IsConstant constant → AllHas entries (constant_entries constant) → constant_in (slots entries) (made_constant entries constant) ≡ option_and_then listed_constant constant
+  value_said : (constant : Option Entry) → IsConstant constant → AllHas entries (constant_entries constant) → constant_in (entry_slots entries) (made_constant entries constant) ≡ option_and_then listed_constant constant
   value_said None s n = refl
   value_said (Some e) s n =
-      let a : AttributeOf = record { name = index_of entries (entry.Utf8 (codes "ConstantValue")); body = u2 (index_of entries e) } in
-      let named : is_constant_value (slots entries) a ≡ true = ap (λ o. is_text o CONSTANT_VALUE.now) (found.texts (codes "ConstantValue") n.0) ∙ constant_name in
-      let index : from_be_bytes w16 (u2 (index_of entries e)) ≡ index_of entries e = wide16.forth (index_of entries e) [] (index_fits entries low e) in
-      ap (λ (b : Bool). option_and_then (λ (x : AttributeOf). constant_at (slots entries) (index_in (Some x))) (cond b (Some a) None)) named
-      ∙ (ap (λ (i : ℕ). constant_at (slots entries) i) index ∙ constant_said e s n.1.0)
+      let a : AttributeOf = record { name = entry_index entries (entry.Utf8 (codes "ConstantValue")); body = u2 (entry_index entries e) } in
+      let named : is_constant_value (entry_slots entries) a ≡ true = ap (λ o. is_text o CONSTANT_VALUE.now) (found.texts (codes "ConstantValue") n.0) ∙ constant_name in
+      let index : from_be_bytes w16 (u2 (entry_index entries e)) ≡ entry_index entries e = wide16.forth (entry_index entries e) [] (index_fits entries low e) in
+      ap (λ (b : Bool). option_and_then (λ (x : AttributeOf). accepted_constant (entry_slots entries) (index_in (Some x))) (cond b (Some a) None)) named
+      ∙ (ap (λ (i : ℕ). accepted_constant (entry_slots entries) i) index ∙ constant_said e s n.1.0)
 
   -- FIELDS
 
-  abbrev field_of : ℕ → Option (List ℕ) → Option (List ℕ) → Option Constant → List Field
+  abbrev field_of : ℕ → Option (List ℕ) → Option (List ℕ) → Option Constant → List AcceptedField
   field_of flags name descriptor constant = record { flags = flags; name = name; descriptor = descriptor; constant = constant } ∷ []
 
-  field_said : (l : Line) → IsSane l → AllHas entries (header_entries l) → map (field_in (slots entries)) (made_field entries l) ≡ listed_field l
+  field_said : (l : Line) → IsSane l → AllHas entries (header_entries l) → map (accepted_field (entry_slots entries)) (made_field entries l) ≡ listed_field l
   field_said (line.Field name descriptor flags constant) s n =
-      let type = utf8_at (slots entries) (index_of entries (entry.Utf8 descriptor)) in
-      let value = constant_in (slots entries) (made_constant entries constant) in
+      let type = utf8_at (entry_slots entries) (entry_index entries (entry.Utf8 descriptor)) in
+      let value = constant_in (entry_slots entries) (made_constant entries constant) in
       ap (λ (o : Option (List ℕ)). field_of flags o type value) (found.texts name n.0)
       ∙ (ap (λ (o : Option (List ℕ)). field_of flags (Some (unescaped name)) o value) (found.texts descriptor n.1.0)
       ∙ ap (λ (o : Option Constant). field_of flags (Some (unescaped name)) (Some (unescaped descriptor)) o) (value_said constant s.1 n.1.1))
@@ -158,39 +158,39 @@ module _ (entries : List Entry) (found : FindsEntries entries) (low : index_behi
   }
 
   abbrev code_in : List AttributeOf → Option Body
-  code_in attributes = option_and_then (λ a. body_in (code_at a.body)) (find (is_code (slots entries)) attributes)
+  code_in attributes = option_and_then (λ a. body_in (code_at a.body)) (find (is_code (entry_slots entries)) attributes)
 
   code_said : (body : List Parsed) (limits : Option (ℕ × ℕ)) → AreLimits limits → ((x : ℕ × ℕ) → limits ≡ Some x → IsWithin entries body) → AllHas entries (attribute_entries limits) → code_in (made_code entries body limits) ≡ option_map (listed_body entries body) limits
   code_said body None s w n = refl
   code_said body (Some limits) s w n =
       let b = listed_body entries body limits in
-      let a : AttributeOf = record { name = index_of entries (entry.Utf8 (codes "Code")); body = coded.code_bytes b ++ u2 0 } in
-      let named : is_code (slots entries) a ≡ true = ap (λ o. is_text o CODE_NAME.now) (found.texts (codes "Code") n.0) ∙ code_name in
+      let a : AttributeOf = record { name = entry_index entries (entry.Utf8 (codes "Code")); body = coded.code_bytes b ++ u2 0 } in
+      let named : is_code (entry_slots entries) a ≡ true = ap (λ o. is_text o CODE_NAME.now) (found.texts (codes "Code") n.0) ∙ code_name in
       ap (λ (t : Bool). option_and_then (λ (x : AttributeOf). body_in (code_at x.body)) (cond t (Some a) None)) named
       ∙ ap body_in (code_back b (body_valid body limits (w limits refl) s))
 
-  abbrev method_of : ℕ → Option (List ℕ) → Option (List ℕ) → Option Body → List Method
+  abbrev method_of : ℕ → Option (List ℕ) → Option (List ℕ) → Option Body → List AcceptedMethod
   method_of flags name descriptor code = record { flags = flags; name = name; descriptor = descriptor; code = code } ∷ []
 
-  method_said : (before : List Parsed) (p : Parsed) (behind : List Parsed) → LineHolds entries before p behind → is_inside (stage_of before) ≡ false → (l : Line) → p.line ≡ l → IsSane l → AllHas entries (header_entries l) → map (method_in (slots entries)) (made_method entries l behind) ≡ listed_method entries l behind
+  method_said : (before : List Parsed) (p : Parsed) (behind : List Parsed) → LineHolds entries before p behind → is_inside (stage_of before) ≡ false → (l : Line) → p.line ≡ l → IsSane l → AllHas entries (header_entries l) → map (accepted_method (entry_slots entries)) (made_method entries l behind) ≡ listed_method entries l behind
   method_said before p behind h out (line.Method name descriptor flags limits) e s n =
-      let type = utf8_at (slots entries) (index_of entries (entry.Utf8 descriptor)) in
-      let code = code_in (made_code entries (body_of behind) limits) in
+      let type = utf8_at (entry_slots entries) (entry_index entries (entry.Utf8 descriptor)) in
+      let code = code_in (made_code entries (lines_of_body behind) limits) in
       ap (λ (o : Option (List ℕ)). method_of flags o type code) (found.texts name n.0)
       ∙ (ap (λ (o : Option (List ℕ)). method_of flags (Some (unescaped name)) o code) (found.texts descriptor n.1.0)
       ∙ ap (λ (o : Option Body). method_of flags (Some (unescaped name)) (Some (unescaped descriptor)) o)
-      (code_said (body_of behind) limits s.1 (λ x is. opened entries low before p behind h out name descriptor flags x (e ∙ ap (line.Method name descriptor flags) is)) n.1.1))
+      (code_said (lines_of_body behind) limits s.1 (λ x is. opened entries low before p behind h out name descriptor flags x (e ∙ ap (line.Method name descriptor flags) is)) n.1.1))
   method_said before p behind h out l e s n = refl
 
-  methods_said : (before more : List Parsed) → LinesHold entries before more → AllSane more → AllNamed entries more → map (method_in (slots entries)) (along_from (method_item entries) before more) ≡ along_from (method_line entries) before more
+  methods_said : (before more : List Parsed) → LinesHold entries before more → AllSane more → AllNamed entries more → map (accepted_method (entry_slots entries)) (along_from (method_item entries) before more) ≡ along_from (listed_methods entries) before more
   unfolding along_from
   methods_said before [] h s n = refl
   methods_said before (p ∷ more) h s n =
-      map-append (method_in (slots entries)) (method_item entries before p more) (along_from (method_item entries) (before ++ p ∷ []) more)
-      ∙ (ap (λ (ms : List Method). ms ++ map (method_in (slots entries)) (along_from (method_item entries) (before ++ p ∷ []) more)) (by (is_inside (stage_of before)) (λ out. method_said before p more h.0 out p.line refl s.0 n.0))
-      ∙ ap (λ (ms : List Method). method_line entries before p more ++ ms) (methods_said (before ++ p ∷ []) more h.1 s.1 n.1))
+      map-append (accepted_method (entry_slots entries)) (method_item entries before p more) (along_from (method_item entries) (before ++ p ∷ []) more)
+      ∙ (ap (λ (ms : List AcceptedMethod). ms ++ map (accepted_method (entry_slots entries)) (along_from (method_item entries) (before ++ p ∷ []) more)) (by (is_inside (stage_of before)) (λ out. method_said before p more h.0 out p.line refl s.0 n.0))
+      ∙ ap (λ (ms : List AcceptedMethod). listed_methods entries before p more ++ ms) (methods_said (before ++ p ∷ []) more h.1 s.1 n.1))
     where
-      by : (b : Bool) → (b ≡ false → map (method_in (slots entries)) (made_method entries p.line more) ≡ listed_method entries p.line more) → map (method_in (slots entries)) (cond b [] (made_method entries p.line more)) ≡ cond b [] (listed_method entries p.line more)
+      by : (b : Bool) → (b ≡ false → map (accepted_method (entry_slots entries)) (made_method entries p.line more) ≡ listed_method entries p.line more) → map (accepted_method (entry_slots entries)) (cond b [] (made_method entries p.line more)) ≡ cond b [] (listed_method entries p.line more)
       by true k = refl
       by false k = k refl
 
@@ -211,7 +211,7 @@ say text c marks is =
     let h = one_class entries ls held in
     let facts = subst (Facts entries) h.is (class_facts entries ls sane named) in
     let same = read_is ls held sane h facts.0.0 c is.read in
-    let super_at = class_name_at (slots entries) (index_of entries (entry.Class h.super)) in
+    let super_at = class_name_at (entry_slots entries) (entry_index entries (entry.Class h.super)) in
     let header = ap (λ (o : Option (List ℕ)). header_of h.flags o super_at) (found.classes h.name facts.0.1.0) ∙ ap (λ (o : Option (List ℕ)). header_of h.flags (Some (unescaped h.name)) o) (found.classes h.super facts.0.1.1.0) in
     subst (HasListing ls) (sym same) (record {
       minor = refl;
@@ -219,12 +219,12 @@ say text c marks is =
       constants = refl;
       named = λ e used. found.items e (pool_has ls e used);
       header = header ∙ sym (by_class listed_header header_only ls ∙ ap (flat_map listed_header) h.is);
-      interfaces = map_same entries (class_name_at (slots entries)) (made_interface entries) listed_interface (interface_said entries found low) ls sane named;
-      fields = map_same entries (field_in (slots entries)) (made_field entries) listed_field (field_said entries found low) ls sane named;
+      interfaces = map_same entries (class_name_at (entry_slots entries)) (made_interface entries) listed_interface (interface_said entries found low) ls sane named;
+      fields = map_same entries (accepted_field (entry_slots entries)) (made_field entries) listed_field (field_said entries found low) ls sane named;
       methods = methods_said entries found low [] ls held sane named;
       attributes = refl;
     })
 
 -- the same for bytes that are those of the listing
-pub accepted : (text bytes : List ℕ) → MarksAre (marks_of text) None → bytes ≡ bytes_of text → (c : ClassOf) → IsClassFile bytes c → HasListing (parsed_lines text) c
+pub accepted : (text bytes : List ℕ) → MarksAre (marks_of text) None → bytes ≡ assembled_bytes text → (c : ClassOf) → IsClassFile bytes c → HasListing (parsed_lines text) c
 accepted text bytes marks same c is = say text c marks (subst (λ (bs : List ℕ). IsClassFile bs c) same is)

@@ -10,7 +10,7 @@ use Rattle.std.proofs.lemmas.List.Sums.{position_or_len_is}
 use Rattle.et_listing.specs.declared.entry.Entry.{Entry}
 use Rattle.et_listing.specs.declared.line.Parsed.{Parsed}
 use Rattle.std.specs.List.{flat_map}
-use Rattle.et_asm.specs.Pool.{same_entry, parts, each_once, uses, pool, index_behind, index_of}
+use Rattle.et_asm.specs.Pool.{same_entry, parts, each_once, uses, pool, index_behind, entry_index}
 use Rattle.et_asm.specs.Laws.{IsSetOf, PoolsAreSets, IndicesName}
 use Rattle.et_asm.proofs.Once.{laws}
 
@@ -76,7 +76,7 @@ at_place entries test i lt is =
     ap (λ n. cond (nat_lt n (length entries)) (Some n) None) is ∙ ap (λ b. cond b (Some i) None) (lt-ltb i (length entries) lt)
 
 pub named : IndicesName
-unfolding index_of
+unfolding entry_index
 named lines i d lt =
     let entries = pool lines in
     let e = get_or entries i d in

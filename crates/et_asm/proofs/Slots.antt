@@ -15,14 +15,15 @@ use Rattle.et_pool.specs.declared.tags.TheConstants.{CLASS, STRING}
 use Rattle.et_listing.specs.declared.entry.Entry.{Entry}
 use Rattle.et_listing.specs.declared.entry.Entry.TheVariants.{Utf8, Integer, Long, Class, Text, NameAndType, Field, Method, InterfaceMethod}
 use Rattle.et_listing.specs.declared.line.Parsed.{Parsed}
-use Rattle.et_listing.specs.Words.{same}
-use Rattle.et_asm.specs.Pool.{same_entry, parts, uses, pool, width, index_behind, index_of, entry_bytes, u2}
-use Rattle.et_asm.specs.Spelled.{item_of, slots, PoolsAreSpelled, PoolsFind}
+use Rattle.et_listing.specs.Words.{same_word}
+use Rattle.et_asm.specs.Pool.{same_entry, parts, uses, pool, width, index_behind, entry_index, entry_bytes}
+use Rattle.et_class.specs.Layout.{u2}
+use Rattle.et_asm.specs.Spelled.{pool_item_of, entry_slots, PoolsAreSpelled, PoolsFind}
 use Rattle.et_asm.proofs.Sets.{sets}
 
 -- BYTES AND WIDTHS
 
-of_entry : (entries : List Entry) (e : Entry) → flat_map slot_bytes (slots_of_item (item_of entries e)) ≡ entry_bytes entries e
+of_entry : (entries : List Entry) (e : Entry) → flat_map slot_bytes (slots_of_item (pool_item_of entries e)) ≡ entry_bytes entries e
 unfolding entry_bytes
 of_entry entries (Utf8 text) = append-nil _
 of_entry entries (Integer value) = refl
@@ -34,7 +35,7 @@ of_entry entries (Field class name descriptor) = refl
 of_entry entries (Method class name descriptor) = refl
 of_entry entries (InterfaceMethod class name descriptor) = refl
 
-room : (entries : List Entry) (e : Entry) → length (slots_of_item (item_of entries e)) ≡ width e
+room : (entries : List Entry) (e : Entry) → length (slots_of_item (pool_item_of entries e)) ≡ width e
 room entries (Utf8 text) = refl
 room entries (Integer value) = refl
 room entries (Long value) = refl
@@ -45,7 +46,7 @@ room entries (Field class name descriptor) = refl
 room entries (Method class name descriptor) = refl
 room entries (InterfaceMethod class name descriptor) = refl
 
-front : (entries : List Entry) (e : Entry) (rest : List (Option Item)) → get_or (slots_of_item (item_of entries e) ++ rest) 0 None ≡ Some (item_of entries e)
+front : (entries : List Entry) (e : Entry) (rest : List (Option Item)) → get_or (slots_of_item (pool_item_of entries e) ++ rest) 0 None ≡ Some (pool_item_of entries e)
 front entries (Utf8 text) rest = refl
 front entries (Integer value) rest = refl
 front entries (Long value) rest = refl
@@ -58,34 +59,34 @@ front entries (InterfaceMethod class name descriptor) rest = refl
 
 -- the slots of entries, but for the one at index 0
 abbrev rest_of : List Entry → List Entry → List (Option Item)
-rest_of entries xs = flat_map slots_of_item (map (item_of entries) xs)
+rest_of entries xs = flat_map slots_of_item (map (pool_item_of entries) xs)
 
 rest_bytes : (entries xs : List Entry) → flat_map slot_bytes (rest_of entries xs) ≡ flat_map (entry_bytes entries) xs
 rest_bytes entries [] = refl
 rest_bytes entries (x ∷ xs) =
-    flat_map-append slot_bytes (slots_of_item (item_of entries x)) (rest_of entries xs)
+    flat_map-append slot_bytes (slots_of_item (pool_item_of entries x)) (rest_of entries xs)
     ∙ (ap (λ bs. bs ++ flat_map slot_bytes (rest_of entries xs)) (of_entry entries x) ∙ ap (λ bs. entry_bytes entries x ++ bs) (rest_bytes entries xs))
 
 rest_length : (entries xs : List Entry) → length (rest_of entries xs) ≡ sum_by width xs
 rest_length entries [] = refl
-rest_length entries (x ∷ xs) = omega (arith, length-append (slots_of_item (item_of entries x)) (rest_of entries xs), room entries x, rest_length entries xs, sum_by-cons width x xs)
+rest_length entries (x ∷ xs) = omega (arith, length-append (slots_of_item (pool_item_of entries x)) (rest_of entries xs), room entries x, rest_length entries xs, sum_by-cons width x xs)
 
-rest_at : (entries xs : List Entry) (i : ℕ) (d : Entry) → i < length xs → get_or (rest_of entries xs) (sum_by width (take i xs)) None ≡ Some (item_of entries (get_or xs i d))
+rest_at : (entries xs : List Entry) (i : ℕ) (d : Entry) → i < length xs → get_or (rest_of entries xs) (sum_by width (take i xs)) None ≡ Some (pool_item_of entries (get_or xs i d))
 rest_at entries [] i d lt = absurd (omega arith)
 rest_at entries (x ∷ xs) zero d lt = front entries x (rest_of entries xs)
 rest_at entries (x ∷ xs) (suc i) d lt =
     ap (λ n. get_or (rest_of entries (x ∷ xs)) n None) (sum_by-cons width x (take i xs) ∙ ap (λ n. n + sum_by width (take i xs)) (sym (room entries x)))
-    ∙ (get_or-append-add (slots_of_item (item_of entries x)) (rest_of entries xs) (sum_by width (take i xs)) None ∙ rest_at entries xs i d (omega arith))
+    ∙ (get_or-append-add (slots_of_item (pool_item_of entries x)) (rest_of entries xs) (sum_by width (take i xs)) None ∙ rest_at entries xs i d (omega arith))
 
-pub slots_length : (entries : List Entry) → length (slots entries) ≡ index_behind entries
-unfolding slots
+pub slots_length : (entries : List Entry) → length (entry_slots entries) ≡ index_behind entries
+unfolding entry_slots
 slots_length entries = omega (arith, rest_length entries entries)
 
 pub spelled : PoolsAreSpelled
-unfolding slots
+unfolding entry_slots
 spelled lines =
     let entries = pool lines in
-    ap (λ n. u2 n ++ flat_map (entry_bytes entries) entries) (sym (slots_length entries)) ∙ ap (λ bs. u2 (length (slots entries)) ++ bs) (sym (rest_bytes entries entries))
+    ap (λ n. u2 n ++ flat_map (entry_bytes entries) entries) (sym (slots_length entries)) ∙ ap (λ bs. u2 (length (entry_slots entries)) ++ bs) (sym (rest_bytes entries entries))
 
 -- LOOK-UPS
 
@@ -97,16 +98,16 @@ pub and_right : (a b : Bool) → (a && b) ≡ true → b ≡ true
 and_right true b h = h
 and_right false b h = absurd (true≢false (sym h))
 
-pub one_text : (a b : List ℕ) → same a b ≡ true → a ≡ b
+pub one_text : (a b : List ℕ) → same_word a b ≡ true → a ≡ b
 one_text a b h = same_text a b (sym h)
 
-one_pair : (a b c d : List ℕ) → (same a c && same b d) ≡ true → (a ≡ c) × (b ≡ d)
-one_pair a b c d h = (one_text a c (and_left (same a c) (same b d) h), one_text b d (and_right (same a c) (same b d) h))
+one_pair : (a b c d : List ℕ) → (same_word a c && same_word b d) ≡ true → (a ≡ c) × (b ≡ d)
+one_pair a b c d h = (one_text a c (and_left (same_word a c) (same_word b d) h), one_text b d (and_right (same_word a c) (same_word b d) h))
 
-one_member : (make : List ℕ → List ℕ → List ℕ → Entry) (a b c d e f : List ℕ) → (same a d && (same b e && same c f)) ≡ true → make a b c ≡ make d e f
+one_member : (make : List ℕ → List ℕ → List ℕ → Entry) (a b c d e f : List ℕ) → (same_word a d && (same_word b e && same_word c f)) ≡ true → make a b c ≡ make d e f
 one_member make a b c d e f h =
-    let first = one_text a d (and_left (same a d) (same b e && same c f) h) in
-    let others = one_pair b c e f (and_right (same a d) (same b e && same c f) h) in
+    let first = one_text a d (and_left (same_word a d) (same_word b e && same_word c f) h) in
+    let others = one_pair b c e f (and_right (same_word a d) (same_word b e && same_word c f) h) in
     ap (λ x. make x b c) first ∙ (ap (λ x. make d x c) others.0 ∙ ap (make d e) others.1)
 
 -- entries that are the same are one
@@ -144,8 +145,8 @@ first_at p (x ∷ xs) h = elim (cases_Bool (p x)) [
 at_first : (p : Entry → Bool) (xs : List Entry) → position_or_len p xs < length xs → position p xs ≡ Some (position_or_len p xs)
 at_first p xs lt = ap (λ b. cond b (Some (position_or_len p xs)) None) (lt-ltb (position_or_len p xs) (length xs) lt)
 
-item_at : (entries : List Entry) (e : Entry) → list_any (same_entry e) entries ≡ true → slot_at (slots entries) (index_of entries e) ≡ Some (item_of entries e)
-unfolding slots index_of
+item_at : (entries : List Entry) (e : Entry) → list_any (same_entry e) entries ≡ true → slot_at (entry_slots entries) (entry_index entries e) ≡ Some (pool_item_of entries e)
+unfolding entry_slots entry_index
 item_at entries e h =
     let found = first_at (same_entry e) entries h in
     let n = position_or_len (same_entry e) entries in
@@ -154,7 +155,7 @@ item_at entries e h =
     let same_one : get_or entries n e ≡ e = sym (one_entry e (get_or entries n e) (found.1 e)) in
     ap (λ i. get_or (None ∷ rest_of entries entries) i None) index
     ∙ (get_or-append-add (None ∷ []) (rest_of entries entries) (sum_by width (take n entries)) None
-    ∙ (rest_at entries entries n e found.0 ∙ ap (λ x. Some (item_of entries x)) same_one))
+    ∙ (rest_at entries entries n e found.0 ∙ ap (λ x. Some (pool_item_of entries x)) same_one))
 
 -- THE PARTS OF AN ENTRY STAND IN THE POOL
 
@@ -163,14 +164,14 @@ or_none true c h = refl
 or_none false c h = absurd (true≢false (sym h))
 
 pub class_parts : (n : List ℕ) (e : Entry) → list_any (same_entry (Class n)) (parts e) ≡ true → list_any (same_entry (Utf8 n)) (parts e) ≡ true
-class_parts n (Class name) h = or_none (same n name) _ h
-class_parts n (Field class name descriptor) h = or_none (same n class) _ h
-class_parts n (Method class name descriptor) h = or_none (same n class) _ h
-class_parts n (InterfaceMethod class name descriptor) h = or_none (same n class) _ h
+class_parts n (Class name) h = or_none (same_word n name) _ h
+class_parts n (Field class name descriptor) h = or_none (same_word n class) _ h
+class_parts n (Method class name descriptor) h = or_none (same_word n class) _ h
+class_parts n (InterfaceMethod class name descriptor) h = or_none (same_word n class) _ h
 class_parts n e h = absurd (true≢false (sym h))
 
 pub text_parts : (n : List ℕ) (e : Entry) → list_any (same_entry (Text n)) (parts e) ≡ true → list_any (same_entry (Utf8 n)) (parts e) ≡ true
-text_parts n (Text text) h = or_none (same n text) _ h
+text_parts n (Text text) h = or_none (same_word n text) _ h
 text_parts n e h = absurd (true≢false (sym h))
 
 pub any_append : (p : Entry → Bool) (xs ys : List Entry) → list_any p (xs ++ ys) ≡ (list_any p xs || list_any p ys)
@@ -206,6 +207,6 @@ finds lines =
     record {
       items = item_at entries;
       texts = texts;
-      classes = λ name h. ap (named_by (slots entries) CLASS) (item_at entries (Class name) h) ∙ texts name (in_pool lines (Class name) (Utf8 name) (class_parts name) h);
-      strings = λ text h. ap (named_by (slots entries) STRING) (item_at entries (Text text) h) ∙ texts text (in_pool lines (Text text) (Utf8 text) (text_parts text) h);
+      classes = λ name h. ap (named_by (entry_slots entries) CLASS) (item_at entries (Class name) h) ∙ texts name (in_pool lines (Class name) (Utf8 name) (class_parts name) h);
+      strings = λ text h. ap (named_by (entry_slots entries) STRING) (item_at entries (Text text) h) ∙ texts text (in_pool lines (Text text) (Utf8 text) (text_parts text) h);
     }

@@ -23,10 +23,10 @@ use Rattle.et_listing.specs.declared.line.Parsed.{Parsed}
 use Rattle.et_listing.specs.Words.{unescaped}
 use Rattle.et_listing.proofs.Sane.{is_number, fits32, fits64, IsSane, AllSane}
 use Rattle.et_asm.specs.Along.{along_from}
-use Rattle.et_asm.specs.Order.{opens, body_of, stage_of, is_inside}
-use Rattle.et_asm.specs.Pool.{pool, index_behind, index_of}
-use Rattle.et_asm.specs.Spelled.{item_of, slots}
-use Rattle.et_asm.specs.Listings.{is_short_text, is_interface, is_field, is_method, count, counts_fit, number_behind, class_bytes}
+use Rattle.et_asm.specs.Order.{opens, lines_of_body, stage_of, is_inside}
+use Rattle.et_asm.specs.Pool.{pool, index_behind, entry_index}
+use Rattle.et_asm.specs.Spelled.{pool_item_of, entry_slots}
+use Rattle.et_asm.specs.Listings.{is_short_text, is_interface_line, is_field_line, is_method_line, count, counts_fit, number_behind, listed_class_bytes}
 use Rattle.et_asm.proofs.Slots.{and_left, and_right, slots_length}
 use Rattle.et_asm.proofs.Within.{pool_within, pool_short, pool_numbers, index_within}
 use Rattle.et_asm.proofs.Used.{uses_fit, uses_numbers}
@@ -46,10 +46,10 @@ unsigned64 (pos n) f = omega (arith, f.sfits)
 unsigned64 (negsuc n) f = omega arith
 
 module _ (entries : List Entry) (low : index_behind entries ≤ 65535) where
-  pub index_fits : (e : Entry) → index_of entries e < 2 ^ 16
+  pub index_fits : (e : Entry) → entry_index entries e < 2 ^ 16
   index_fits e = omega (arith, low, index_within entries e)
 
-  item_fits : (e : Entry) → is_short_text e ≡ true → is_number e ≡ true → Fits (item_of entries e)
+  item_fits : (e : Entry) → is_short_text e ≡ true → is_number e ≡ true → Fits (pool_item_of entries e)
   item_fits (entry.Utf8 text) short fit = let le : length (unescaped text) ≤ 65535 = leb-true _ _ short in omega arith
   item_fits (entry.Integer value) short fit = (refl, unsigned32 value (fits32 value fit))
   item_fits (entry.Long value) short fit = (refl, unsigned64 value (fits64 value fit))
@@ -60,10 +60,10 @@ module _ (entries : List Entry) (low : index_behind entries ≤ 65535) where
   item_fits (entry.Method c name descriptor) short fit = (refl, index_fits (entry.Class c), index_fits (entry.NameAndType name descriptor))
   item_fits (entry.InterfaceMethod c name descriptor) short fit = (refl, index_fits (entry.Class c), index_fits (entry.NameAndType name descriptor))
 
-  items_fit : (es : List Entry) → list_all is_short_text es ≡ true → list_all is_number es ≡ true → All Fits (map (item_of entries) es)
+  items_fit : (es : List Entry) → list_all is_short_text es ≡ true → list_all is_number es ≡ true → All Fits (map (pool_item_of entries) es)
   items_fit [] short fit = All-nil Fits
   items_fit (e ∷ es) short fit =
-      All-cons Fits (item_of entries e) (map (item_of entries) es) (item_fits e (and_left (is_short_text e) (list_all is_short_text es) short) (and_left (is_number e) (list_all is_number es) fit))
+      All-cons Fits (pool_item_of entries e) (map (pool_item_of entries) es) (item_fits e (and_left (is_short_text e) (list_all is_short_text es) short) (and_left (is_number e) (list_all is_number es) fit))
       (items_fit es (and_right (is_short_text e) (list_all is_short_text es) short) (and_right (is_number e) (list_all is_number es) fit))
 
   -- MEMBERS
@@ -79,7 +79,7 @@ module _ (entries : List Entry) (low : index_behind entries ≤ 65535) where
   single a h = record { few = omega arith; each = All-cons IsAttribute a [] h (All-nil IsAttribute) }
 
   interface_valid : (l : Line) → IsSane l → All IsIndex (made_interface entries l)
-  interface_valid (line.Interface name) h = All-cons IsIndex (index_of entries (entry.Class name)) [] (record { fits = index_fits (entry.Class name) }) (All-nil IsIndex)
+  interface_valid (line.Interface name) h = All-cons IsIndex (entry_index entries (entry.Class name)) [] (record { fits = index_fits (entry.Class name) }) (All-nil IsIndex)
   interface_valid l h = All-nil IsIndex
 
   constant_valid : (constant : Option Entry) → IsCounted IsAttribute (made_constant entries constant)
@@ -95,8 +95,8 @@ module _ (entries : List Entry) (low : index_behind entries ≤ 65535) where
   code_valid body None h = none
   code_valid body (Some limits) h = let w = h limits refl in single _ (record { name = index_fits _; body = omega (arith, body_size entries body limits, w.code, w.handlers) })
 
-  pub opened : (before : List Parsed) (p : Parsed) (behind : List Parsed) → LineHolds entries before p behind → is_inside (stage_of before) ≡ false → (name descriptor : List ℕ) (flags : ℕ) (x : ℕ × ℕ) → p.line ≡ line.Method name descriptor flags (Some x) → IsWithin entries (body_of behind)
-  opened before p behind h out name descriptor flags x e = body_within entries (number_behind before + 1) (body_of behind) (h.body out (ap opens e))
+  pub opened : (before : List Parsed) (p : Parsed) (behind : List Parsed) → LineHolds entries before p behind → is_inside (stage_of before) ≡ false → (name descriptor : List ℕ) (flags : ℕ) (x : ℕ × ℕ) → p.line ≡ line.Method name descriptor flags (Some x) → IsWithin entries (lines_of_body behind)
+  opened before p behind h out name descriptor flags x e = body_within entries (number_behind before + 1) (lines_of_body behind) (h.body out (ap opens e))
 
   method_valid : (before : List Parsed) (p : Parsed) (behind : List Parsed) → LineHolds entries before p behind → is_inside (stage_of before) ≡ false → (l : Line) → p.line ≡ l → IsSane l → All IsMember (made_method entries l behind)
   method_valid before p behind h out (line.Method name descriptor flags limits) e s =
@@ -104,7 +104,7 @@ module _ (entries : List Entry) (low : index_behind entries ≤ 65535) where
         flags = s.0;
         name = index_fits (entry.Utf8 name);
         descriptor = index_fits (entry.Utf8 descriptor);
-        attributes = code_valid (body_of behind) limits (λ x is. opened before p behind h out name descriptor flags x (e ∙ ap (line.Method name descriptor flags) is));
+        attributes = code_valid (lines_of_body behind) limits (λ x is. opened before p behind h out name descriptor flags x (e ∙ ap (line.Method name descriptor flags) is));
       }) (All-nil IsMember)
   method_valid before p behind h out l e s = All-nil IsMember
 
@@ -125,18 +125,18 @@ counts_from entries before [] h k = ap counts_fit (append-nil before) ∙ k
 counts_from entries before (p ∷ more) h k = ap counts_fit (sym (append_assoc before (p ∷ []) more)) ∙ counts_from entries (before ++ p ∷ []) more h.1 h.0.few
 
 record Counts (lines : List Parsed) : Type 0 where
-  interfaces : count is_interface lines ≤ 65535
-  fields : count is_field lines ≤ 65535
-  methods : count is_method lines ≤ 65535
+  interfaces : count is_interface_line lines ≤ 65535
+  fields : count is_field_line lines ≤ 65535
+  methods : count is_method_line lines ≤ 65535
 
 counts : (entries : List Entry) (lines : List Parsed) → LinesHold entries [] lines → Counts lines
 counts entries lines h =
     let all = counts_from entries [] lines h refl in
-    let two = and_left (nat_le (count is_interface lines) 65535 && nat_le (count is_field lines) 65535) (nat_le (count is_method lines) 65535) all in
+    let two = and_left (nat_le (count is_interface_line lines) 65535 && nat_le (count is_field_line lines) 65535) (nat_le (count is_method_line lines) 65535) all in
     record {
-      interfaces = leb-true _ _ (and_left (nat_le (count is_interface lines) 65535) (nat_le (count is_field lines) 65535) two);
-      fields = leb-true _ _ (and_right (nat_le (count is_interface lines) 65535) (nat_le (count is_field lines) 65535) two);
-      methods = leb-true _ _ (and_right (nat_le (count is_interface lines) 65535 && nat_le (count is_field lines) 65535) (nat_le (count is_method lines) 65535) all);
+      interfaces = leb-true _ _ (and_left (nat_le (count is_interface_line lines) 65535) (nat_le (count is_field_line lines) 65535) two);
+      fields = leb-true _ _ (and_right (nat_le (count is_interface_line lines) 65535) (nat_le (count is_field_line lines) 65535) two);
+      methods = leb-true _ _ (and_right (nat_le (count is_interface_line lines) 65535 && nat_le (count is_field_line lines) 65535) (nat_le (count is_method_line lines) 65535) all);
     }
 
 -- THE CLASS
@@ -145,10 +145,10 @@ pub low_pool : (lines : List Parsed) → LinesHold (pool lines) [] lines → ind
 low_pool lines h = pool_within lines (uses_fit (pool lines) lines h)
 
 abbrev items : List Parsed → List Item
-items lines = map (item_of (pool lines)) (pool lines)
+items lines = map (pool_item_of (pool lines)) (pool lines)
 
-slots_made : (lines : List Parsed) → slots (pool lines) ≡ slots_of (items lines)
-unfolding slots
+slots_made : (lines : List Parsed) → entry_slots (pool lines) ≡ slots_of (items lines)
+unfolding entry_slots
 slots_made lines = refl
 
 few_slots : (lines : List Parsed) → LinesHold (pool lines) [] lines → length (slots_of (items lines)) < 2 ^ 16
@@ -171,19 +171,19 @@ module _ (lines : List Parsed) (held : LinesHold (pool lines) [] lines) (sane : 
         flags = small;
         this = index_fits entries low (entry.Class h.name);
         super = index_fits entries low (entry.Class h.super);
-        interfaces = record { few = omega (arith, count_same (made_interface entries) is_interface (one_interface entries) lines, few.interfaces); each = flat_all entries low IsIndex (made_interface entries) (interface_valid entries low) lines sane };
-        fields = record { few = omega (arith, count_same (made_field entries) is_field (one_field entries) lines, few.fields); each = flat_all entries low IsMember (made_field entries) (field_valid entries low) lines sane };
+        interfaces = record { few = omega (arith, count_same (made_interface entries) is_interface_line (one_interface entries) lines, few.interfaces); each = flat_all entries low IsIndex (made_interface entries) (interface_valid entries low) lines sane };
+        fields = record { few = omega (arith, count_same (made_field entries) is_field_line (one_field entries) lines, few.fields); each = flat_all entries low IsMember (made_field entries) (field_valid entries low) lines sane };
         methods = record { few = omega (arith, methods_count entries lines held, few.methods); each = methods_valid entries low [] lines held sane };
         attributes = none entries low;
       }
 
   -- a class that is read from the bytes is the class of the listing
-  pub read_is : (c : ClassOf) → IsRead (class_bytes (pool lines) lines) c → c ≡ the_class
+  pub read_is : (c : ClassOf) → IsRead (listed_class_bytes (pool lines) lines) c → c ≡ the_class
   read_is c r =
       let entries = pool lines in
-      let bytes = class_bytes entries lines in
+      let bytes = listed_class_bytes entries lines in
       let is : bytes ≡ class.class_bytes the_class = class_same lines held h in
       let fit = items_fit entries (low_pool lines held) entries (pool_short lines (uses_fit entries lines held)) (pool_numbers lines (uses_numbers lines sane)) in
       let reads = pool_reads bytes the_class is (items lines) (slots_made lines) in
-      let all = pool_stands bytes 8 c.slots r.header (items lines) (8 + length (class.counted slot_bytes (slots entries))) r.pool_is fit (few_slots lines held) reads in
+      let all = pool_stands bytes 8 c.slots r.header (items lines) (8 + length (class.counted_bytes slot_bytes (entry_slots entries))) r.pool_is fit (few_slots lines held) reads in
       one_read bytes c the_class r (spelled_class bytes the_class (record { can_be = can_be_spelled all; bytes_are = is }))

@@ -11,7 +11,7 @@ use Rattle.et_listing.specs.declared.line.Line.TheVariants as line
 use Rattle.et_listing.specs.declared.line.Parsed.{Parsed}
 use Rattle.et_listing.proofs.Sane.{is_number, IsConstant, IsLoad, IsSane, AllSane}
 use Rattle.et_asm.specs.Along.{along_from}
-use Rattle.et_asm.specs.Order.{opens, is_end, body_of, stage_of, is_inside}
+use Rattle.et_asm.specs.Order.{opens, is_end_line, lines_of_body, stage_of, is_inside}
 use Rattle.et_asm.specs.Pool.{operand_entries, constant_entries, attribute_entries, header_entries, code_entries, catch_entries, body_uses, outside_uses, line_uses, uses}
 use Rattle.et_asm.specs.Listings.{entry_fits, line_entries, line_fits}
 use Rattle.et_asm.proofs.Slots.{and_left, and_right}
@@ -33,14 +33,14 @@ module _ (t : Entry → Bool) where
   rest : (xs ys : List Entry) → Fit (xs ++ ys) → Fit ys
   rest xs ys h = and_right (list_all t xs) (list_all t ys) (sym (list_all-append t xs ys) ∙ h)
 
-  body_fits : (more : List Parsed) → AllFit more → AllFit (body_of more)
+  body_fits : (more : List Parsed) → AllFit more → AllFit (lines_of_body more)
   body_fits [] h = refl
   body_fits (p ∷ more) h =
-      by (is_end p.line)
-      (ap (λ b. b && list_all (λ q. list_all t (line_entries q.line)) (body_of more)) (and_left (list_all t (line_entries p.line)) (list_all (λ q. list_all t (line_entries q.line)) more) h)
+      by (is_end_line p.line)
+      (ap (λ b. b && list_all (λ q. list_all t (line_entries q.line)) (lines_of_body more)) (and_left (list_all t (line_entries p.line)) (list_all (λ q. list_all t (line_entries q.line)) more) h)
       ∙ body_fits more (and_right (list_all t (line_entries p.line)) (list_all (λ q. list_all t (line_entries q.line)) more) h))
     where
-      by : (b : Bool) → AllFit (p ∷ body_of more) → AllFit (cond b [] (p ∷ body_of more))
+      by : (b : Bool) → AllFit (p ∷ lines_of_body more) → AllFit (cond b [] (p ∷ lines_of_body more))
       by true k = refl
       by false k = k
 
@@ -77,7 +77,7 @@ module _ (t : Entry → Bool) where
       let here = and_left (list_all t (line_entries p.line)) (list_all (λ q. list_all t (line_entries q.line)) more) h in
       let behind = and_right (list_all t (line_entries p.line)) (list_all (λ q. list_all t (line_entries q.line)) more) h in
       both (line_uses before p more) (along_from line_uses (before ++ p ∷ []) more)
-      (outside (is_inside (stage_of before)) (outside_uses p.line more) (both (header_entries p.line) (cond (opens p.line) (body_uses (body_of more)) []) (in_header p.line here) (maybe (opens p.line) (body_uses (body_of more)) (of_body (body_of more) (body_fits more behind)))))
+      (outside (is_inside (stage_of before)) (outside_uses p.line more) (both (header_entries p.line) (cond (opens p.line) (body_uses (lines_of_body more)) []) (in_header p.line here) (maybe (opens p.line) (body_uses (lines_of_body more)) (of_body (lines_of_body more) (body_fits more behind)))))
       (uses_from (before ++ p ∷ []) more behind)
 
 -- THE LIMITS

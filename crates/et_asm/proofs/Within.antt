@@ -12,11 +12,11 @@ use Rattle.indexmap.specs.IndexSet.{insert_key, insert_all}
 use Rattle.et_listing.specs.declared.entry.Entry.{Entry}
 use Rattle.et_listing.specs.declared.entry.Entry.TheVariants.{Utf8, Integer, Long, Class, Text, NameAndType, Field, Method, InterfaceMethod}
 use Rattle.et_listing.specs.declared.line.Parsed.{Parsed}
-use Rattle.et_listing.specs.Words.{same}
+use Rattle.et_listing.specs.Words.{same_word}
 use Rattle.et_listing.proofs.Sane.{is_number}
-use Rattle.et_asm.specs.Pool.{same_entry, member_parts, parts, each_once, uses, pool, width, index_behind, index_of}
+use Rattle.et_asm.specs.Pool.{same_entry, member_parts, parts, each_once, uses, pool, width, index_behind, entry_index}
 use Rattle.et_asm.specs.Listings.{is_short_text, entry_fits}
-use Rattle.et_asm.specs.Symbols.{added}
+use Rattle.et_asm.specs.Symbols.{entry_added}
 use Rattle.et_asm.proofs.Once.{laws, lacks, gather, pool_once}
 use Rattle.et_asm.proofs.Sets.{named}
 use Rattle.et_asm.proofs.Slots.{and_left, and_right, one_entry, class_parts, text_parts, any_append}
@@ -40,14 +40,14 @@ pub or_last : (b c : Bool) → c ≡ true → (b || c) ≡ true
 or_last true c h = refl
 or_last false c h = h
 
-same_self : (a : List ℕ) → same a a ≡ true
+same_self : (a : List ℕ) → same_word a a ≡ true
 same_self a = laws.refl (Utf8 a)
 
-name_among : (c d e : List ℕ) → (same d c || (same d d || (same d e || false))) ≡ true
-name_among c d e = or_last (same d c) _ (ap (λ b. b || (same d e || false)) (same_self d))
+name_among : (c d e : List ℕ) → (same_word d c || (same_word d d || (same_word d e || false))) ≡ true
+name_among c d e = or_last (same_word d c) _ (ap (λ b. b || (same_word d e || false)) (same_self d))
 
-type_among : (c d e : List ℕ) → (same e c || (same e d || (same e e || false))) ≡ true
-type_among c d e = or_last (same e c) _ (or_last (same e d) _ (ap (λ b. b || false) (same_self e)))
+type_among : (c d e : List ℕ) → (same_word e c || (same_word e d || (same_word e e || false))) ≡ true
+type_among c d e = or_last (same_word e c) _ (or_last (same_word e d) _ (ap (λ b. b || false) (same_self e)))
 
 names_are : (a b c d : List ℕ) → NameAndType a b ≡ NameAndType c d → a ≡ c
 names_are a b c d e = cc
@@ -56,17 +56,17 @@ types_are : (a b c d : List ℕ) → NameAndType a b ≡ NameAndType c d → b �
 types_are a b c d e = cc
 
 name_parts : (a b : List ℕ) (e : Entry) → Has (parts e) (NameAndType a b) → Has (parts e) (Utf8 a)
-name_parts a b (NameAndType c d) h = subst (λ (x : List ℕ). (same x c || (same x d || false)) ≡ true) (sym (names_are a b c d (only_one (NameAndType a b) (NameAndType c d) h))) (ap (λ t. t || (same c d || false)) (same_self c))
-name_parts a b (Field c d e) h = subst (λ (x : List ℕ). (same x c || (same x d || (same x e || false))) ≡ true) (sym (names_are a b d e (only_one (NameAndType a b) (NameAndType d e) h))) (name_among c d e)
-name_parts a b (Method c d e) h = subst (λ (x : List ℕ). (same x c || (same x d || (same x e || false))) ≡ true) (sym (names_are a b d e (only_one (NameAndType a b) (NameAndType d e) h))) (name_among c d e)
-name_parts a b (InterfaceMethod c d e) h = subst (λ (x : List ℕ). (same x c || (same x d || (same x e || false))) ≡ true) (sym (names_are a b d e (only_one (NameAndType a b) (NameAndType d e) h))) (name_among c d e)
+name_parts a b (NameAndType c d) h = subst (λ (x : List ℕ). (same_word x c || (same_word x d || false)) ≡ true) (sym (names_are a b c d (only_one (NameAndType a b) (NameAndType c d) h))) (ap (λ t. t || (same_word c d || false)) (same_self c))
+name_parts a b (Field c d e) h = subst (λ (x : List ℕ). (same_word x c || (same_word x d || (same_word x e || false))) ≡ true) (sym (names_are a b d e (only_one (NameAndType a b) (NameAndType d e) h))) (name_among c d e)
+name_parts a b (Method c d e) h = subst (λ (x : List ℕ). (same_word x c || (same_word x d || (same_word x e || false))) ≡ true) (sym (names_are a b d e (only_one (NameAndType a b) (NameAndType d e) h))) (name_among c d e)
+name_parts a b (InterfaceMethod c d e) h = subst (λ (x : List ℕ). (same_word x c || (same_word x d || (same_word x e || false))) ≡ true) (sym (names_are a b d e (only_one (NameAndType a b) (NameAndType d e) h))) (name_among c d e)
 name_parts a b e h = absurd (true≢false (sym h))
 
 type_parts : (a b : List ℕ) (e : Entry) → Has (parts e) (NameAndType a b) → Has (parts e) (Utf8 b)
-type_parts a b (NameAndType c d) h = subst (λ (x : List ℕ). (same x c || (same x d || false)) ≡ true) (sym (types_are a b c d (only_one (NameAndType a b) (NameAndType c d) h))) (or_last (same d c) _ (ap (λ t. t || false) (same_self d)))
-type_parts a b (Field c d e) h = subst (λ (x : List ℕ). (same x c || (same x d || (same x e || false))) ≡ true) (sym (types_are a b d e (only_one (NameAndType a b) (NameAndType d e) h))) (type_among c d e)
-type_parts a b (Method c d e) h = subst (λ (x : List ℕ). (same x c || (same x d || (same x e || false))) ≡ true) (sym (types_are a b d e (only_one (NameAndType a b) (NameAndType d e) h))) (type_among c d e)
-type_parts a b (InterfaceMethod c d e) h = subst (λ (x : List ℕ). (same x c || (same x d || (same x e || false))) ≡ true) (sym (types_are a b d e (only_one (NameAndType a b) (NameAndType d e) h))) (type_among c d e)
+type_parts a b (NameAndType c d) h = subst (λ (x : List ℕ). (same_word x c || (same_word x d || false)) ≡ true) (sym (types_are a b c d (only_one (NameAndType a b) (NameAndType c d) h))) (or_last (same_word d c) _ (ap (λ t. t || false) (same_self d)))
+type_parts a b (Field c d e) h = subst (λ (x : List ℕ). (same_word x c || (same_word x d || (same_word x e || false))) ≡ true) (sym (types_are a b d e (only_one (NameAndType a b) (NameAndType d e) h))) (type_among c d e)
+type_parts a b (Method c d e) h = subst (λ (x : List ℕ). (same_word x c || (same_word x d || (same_word x e || false))) ≡ true) (sym (types_are a b d e (only_one (NameAndType a b) (NameAndType d e) h))) (type_among c d e)
+type_parts a b (InterfaceMethod c d e) h = subst (λ (x : List ℕ). (same_word x c || (same_word x d || (same_word x e || false))) ≡ true) (sym (types_are a b d e (only_one (NameAndType a b) (NameAndType d e) h))) (type_among c d e)
 type_parts a b e h = absurd (true≢false (sym h))
 
 member_is : (make : List ℕ → List ℕ → List ℕ → Entry) → (a b c : List ℕ) (e : Entry) → same_entry (make a b c) e ≡ true → make a b c ≡ e
@@ -225,11 +225,11 @@ comes ks e closed = elim (cases_Bool (list_any (same_entry e) ks)) [
 behind_push : (before : List Entry) (e : Entry) → index_behind (before ++ e ∷ []) ≡ index_behind before + width e
 behind_push before e = omega (arith, sum_by-append width before (e ∷ []))
 
-index_last : (lines : List Parsed) (before more : List Entry) (e : Entry) → pool lines ≡ before ++ e ∷ more → index_of (pool lines) e ≡ index_behind before
+index_last : (lines : List Parsed) (before more : List Entry) (e : Entry) → pool lines ≡ before ++ e ∷ more → entry_index (pool lines) e ≡ index_behind before
 index_last lines before more e is =
     let size = length-append before (e ∷ more) in
     let at : get_or (pool lines) (length before) e ≡ e = ap (λ es. get_or es (length before) e) is ∙ get_or-append_seam before e more e in
-    ap (index_of (pool lines)) (sym at) ∙ (named lines (length before) e (omega (arith, ap length is, size)) ∙ ap index_behind (ap (take (length before)) is ∙ take_at before (e ∷ more) (length before) refl))
+    ap (entry_index (pool lines)) (sym at) ∙ (named lines (length before) e (omega (arith, ap length is, size)) ∙ ap index_behind (ap (take (length before)) is ∙ take_at before (e ∷ more) (length before) refl))
 
 within : (lines : List Parsed) (us ks : List Entry) → Closed ks → pool lines ≡ insert_all same_entry ks (flat_map parts us) → list_all (entry_fits (pool lines)) us ≡ true → index_behind ks ≤ 65535 → index_behind (pool lines) ≤ 65535
 within lines [] ks closed is fit le = omega (arith, ap index_behind is)
@@ -238,9 +238,9 @@ within lines (u ∷ us) ks closed is fit le =
     let then : pool lines ≡ insert_all same_entry now (flat_map parts us) = is ∙ fold-append (insert_key same_entry) ks (parts u) (flat_map parts us) in
     let rest = and_right (entry_fits (pool lines) u) (list_all (entry_fits (pool lines)) us) fit in
     let here = and_left (entry_fits (pool lines) u) (list_all (entry_fits (pool lines)) us) fit in
-    let low : index_of (pool lines) u + width u ≤ 65535 = leb-true _ _ (and_right (list_all is_short_text (parts u)) (nat_le (index_of (pool lines) u + width u) 65535) here) in
+    let low : entry_index (pool lines) u + width u ≤ 65535 = leb-true _ _ (and_right (list_all is_short_text (parts u)) (nat_le (entry_index (pool lines) u + width u) 65535) here) in
     within lines us now (closed_more ks u closed) then rest (elim (comes ks u closed) [
-      | inl same ↦ omega (arith, ap index_behind same)
+      | inl same_word ↦ omega (arith, ap index_behind same_word)
       | inr last ↦
           let more = filter (lacks now) (each_once (flat_map parts us)) in
           let split : pool lines ≡ last.0 ++ u ∷ more = then ∙ (gather now (flat_map parts us) ∙ (ap (λ es. es ++ more) last.1 ∙ append_assoc last.0 (u ∷ []) more)) in
@@ -248,7 +248,7 @@ within lines (u ∷ us) ks closed is fit le =
     ])
 
 pool_inserted : (lines : List Parsed) → pool lines ≡ insert_all same_entry [] (flat_map parts (uses lines))
-unfolding added
+unfolding entry_added
 pool_inserted lines = sym (pool_once lines)
 
 -- the pool of a listing takes at most 65,535 indices
@@ -276,7 +276,7 @@ all_once p (x ∷ xs) h =
 all_parts : (entries us : List Entry) → list_all (entry_fits entries) us ≡ true → list_all is_short_text (flat_map parts us) ≡ true
 all_parts entries [] h = refl
 all_parts entries (u ∷ us) h =
-    let here = and_left (list_all is_short_text (parts u)) (nat_le (index_of entries u + width u) 65535) (and_left (entry_fits entries u) (list_all (entry_fits entries) us) h) in
+    let here = and_left (list_all is_short_text (parts u)) (nat_le (entry_index entries u + width u) 65535) (and_left (entry_fits entries u) (list_all (entry_fits entries) us) h) in
     list_all-append is_short_text (parts u) (flat_map parts us) ∙ (ap (λ b. b && list_all is_short_text (flat_map parts us)) here ∙ all_parts entries us (and_right (entry_fits entries u) (list_all (entry_fits entries) us) h))
 
 -- the texts of the pool are not too long
@@ -285,8 +285,8 @@ unfolding pool
 pool_short lines fit = all_once is_short_text (flat_map parts (uses lines)) (all_parts (pool lines) (uses lines) fit)
 
 -- any index is that of an entry, or 0
-pub index_within : (entries : List Entry) (e : Entry) → index_of entries e ≤ index_behind entries
-unfolding index_of
+pub index_within : (entries : List Entry) (e : Entry) → entry_index entries e ≤ index_behind entries
+unfolding entry_index
 index_within entries e = by (position (same_entry e) entries)
   where
     sum_take : (i : ℕ) → sum_by width (take i entries) ≤ sum_by width entries

@@ -5,5 +5,5 @@ unfoldable pub along_from : {X Y : Type 0} → (List X → X → List X → List
 along_from give before [] = []
 along_from give before (x ∷ behind) = give before x behind ++ along_from give (before ++ x ∷ []) behind
 
-abbrev pub along : {X Y : Type 0} → (List X → X → List X → List Y) → List X → List Y
-along give xs = along_from give [] xs
+abbrev pub along_lines : {X Y : Type 0} → (List X → X → List X → List Y) → List X → List Y
+along_lines give xs = along_from give [] xs

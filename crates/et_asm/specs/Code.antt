@@ -12,10 +12,11 @@ use Rattle.et_listing.specs.declared.instruction.Instruction.TheVariants as inst
 use Rattle.et_listing.specs.declared.line.Line.{Line}
 use Rattle.et_listing.specs.declared.line.Line.TheVariants as line
 use Rattle.et_listing.specs.declared.line.Parsed.{Parsed}
-use Rattle.et_listing.specs.Words.{same, unescaped, value, is_int32}
+use Rattle.et_listing.specs.Words.{same_word, unescaped, value, is_int32}
 use Rattle.et_listing.specs.Lines.{pairs}
-use Rattle.et_asm.specs.Along.{along}
-use Rattle.et_asm.specs.Pool.{index_of, u2, u4}
+use Rattle.et_asm.specs.Along.{along_lines}
+use Rattle.et_asm.specs.Pool.{entry_index}
+use Rattle.et_class.specs.Layout.{u4, u2}
 
 -- LENGTHS. `wide` is put where a local variable is above 255 or a constant of iinc doesn't fit 8 bits, and `ldc`
 -- becomes `ldc_w` above index 255.
@@ -36,7 +37,7 @@ instruction_size entries at (instruction.Byte opcode operand) = 2
 instruction_size entries at (instruction.Short opcode operand) = 3
 instruction_size entries at (instruction.Local opcode local) = if is_short local then 2 else 4
 instruction_size entries at (instruction.Increment local constant) = if is_short_increment local constant then 3 else 6
-instruction_size entries at (instruction.Load e) = if is_short (index_of entries e) then 2 else 3
+instruction_size entries at (instruction.Load e) = if is_short (entry_index entries e) then 2 else 3
 instruction_size entries at (instruction.Pool opcode e) = 3
 instruction_size entries at (instruction.Interface class name descriptor) = 5
 instruction_size entries at (instruction.Array class dimensions) = 4
@@ -60,7 +61,7 @@ Labels = List ℕ → Option ℕ
 
 -- whether a line defines this label
 abbrev pub defines : List ℕ → Line → Bool
-defines name (line.Label label) = same label name
+defines name (line.Label label) = same_word label name
 defines name other = false
 
 unfoldable pub labels_of : List Entry → List Parsed → Labels
@@ -69,14 +70,14 @@ labels_of entries body name = option_map (λ i. place_behind entries (take i bod
 abbrev pub is_defined : Labels → List ℕ → Bool
 is_defined labels name = is_some (labels name)
 
-abbrev pub place_of : Labels → List ℕ → ℕ
-place_of labels name = unwrap_or (labels name) 0
+abbrev pub label_place : Labels → List ℕ → ℕ
+label_place labels name = unwrap_or (labels name) 0
 
 -- THE BYTES of an instruction at a place of the code
 
 -- the offset of a label from a place, in two's complement
 abbrev pub offset_bits : Labels → ℕ → List ℕ → ℕ
-offset_bits labels at name = (place_of labels name + (2 ^ 64 - at)) % 2 ^ 64
+offset_bits labels at name = (label_place labels name + (2 ^ 64 - at)) % 2 ^ 64
 
 abbrev pub offset2 : Labels → ℕ → List ℕ → List ℕ
 offset2 labels at name = u2 (offset_bits labels at name)
@@ -131,11 +132,11 @@ instruction_bytes entries labels at (instruction.Byte opcode operand) = opcode �
 instruction_bytes entries labels at (instruction.Short opcode operand) = opcode ∷ u2 operand
 instruction_bytes entries labels at (instruction.Local opcode local) = local_bytes opcode local
 instruction_bytes entries labels at (instruction.Increment local constant) = increment_bytes local constant
-instruction_bytes entries labels at (instruction.Load e) = load_bytes (index_of entries e)
-instruction_bytes entries labels at (instruction.Pool opcode e) = opcode ∷ u2 (index_of entries e)
+instruction_bytes entries labels at (instruction.Load e) = load_bytes (entry_index entries e)
+instruction_bytes entries labels at (instruction.Pool opcode e) = opcode ∷ u2 (entry_index entries e)
 instruction_bytes entries labels at (instruction.Interface class name descriptor) =
-    INVOKEINTERFACE ∷ u2 (index_of entries (entry.InterfaceMethod class name descriptor)) ++ argument_count descriptor ∷ 0 ∷ []
-instruction_bytes entries labels at (instruction.Array class dimensions) = MULTIANEWARRAY ∷ u2 (index_of entries (entry.Class class)) ++ dimensions ∷ []
+    INVOKEINTERFACE ∷ u2 (entry_index entries (entry.InterfaceMethod class name descriptor)) ++ argument_count descriptor ∷ 0 ∷ []
+instruction_bytes entries labels at (instruction.Array class dimensions) = MULTIANEWARRAY ∷ u2 (entry_index entries (entry.Class class)) ++ dimensions ∷ []
 instruction_bytes entries labels at (instruction.Branch opcode target) = branch_bytes labels at opcode target
 instruction_bytes entries labels at (instruction.Table low names default) = switch_bytes TABLESWITCH at ++ table_bytes labels at low names default
 instruction_bytes entries labels at (instruction.Lookup words default) = switch_bytes LOOKUPSWITCH at ++ lookup_bytes labels at words default
@@ -145,11 +146,11 @@ line_bytes entries labels at (line.Instruction i) = instruction_bytes entries la
 line_bytes entries labels at other = []
 
 -- the bytes of a line behind others, and of all lines of a body
-abbrev pub bytes_at : List Entry → Labels → List Parsed → Parsed → List Parsed → List ℕ
-bytes_at entries labels before p behind = line_bytes entries labels (place_behind entries before) p.line
+abbrev pub encoded_at : List Entry → Labels → List Parsed → Parsed → List Parsed → List ℕ
+encoded_at entries labels before p behind = line_bytes entries labels (place_behind entries before) p.line
 
 abbrev pub code_bytes : List Entry → Labels → List Parsed → List ℕ
-code_bytes entries labels body = along (bytes_at entries labels) body
+code_bytes entries labels body = along_lines (encoded_at entries labels) body
 
 -- HANDLERS
 
@@ -162,11 +163,11 @@ catch_count body = count_by (λ p. is_catch p.line) body
 
 abbrev pub caught_index : List Entry → Option (List ℕ) → ℕ
 caught_index entries None = 0
-caught_index entries (Some class) = index_of entries (entry.Class class)
+caught_index entries (Some class) = entry_index entries (entry.Class class)
 
 abbrev pub row_bytes : List Entry → Labels → Line → List ℕ
 row_bytes entries labels (line.Catch from to handler class) =
-    u2 (place_of labels from) ++ (u2 (place_of labels to) ++ (u2 (place_of labels handler) ++ u2 (caught_index entries class)))
+    u2 (label_place labels from) ++ (u2 (label_place labels to) ++ (u2 (label_place labels handler) ++ u2 (caught_index entries class)))
 row_bytes entries labels other = []
 
 -- A Code attribute behind its name (JVMS 4.7.3): its length, the two numbers and the length of the code

@@ -11,14 +11,14 @@ abbrev pub opens : Line → Bool
 opens (line.Method name descriptor flags (Some limits)) = true
 opens other = false
 
-abbrev pub is_end : Line → Bool
-is_end line.End = true
-is_end other = false
+abbrev pub is_end_line : Line → Bool
+is_end_line line.End = true
+is_end_line other = false
 
 -- the lines of a body, of the lines behind the one that opens it
-abbrev pub body_of : List Parsed → List Parsed
-body_of [] = []
-body_of (p ∷ more) = if is_end p.line then [] else p ∷ body_of more
+abbrev pub lines_of_body : List Parsed → List Parsed
+lines_of_body [] = []
+lines_of_body (p ∷ more) = if is_end_line p.line then [] else p ∷ lines_of_body more
 
 -- what stood last, behind a line outside of bodies
 abbrev pub stage_behind : Stage → Line → Stage
@@ -30,7 +30,7 @@ stage_behind at (line.Method name descriptor flags (Some limits)) = stage.Body
 stage_behind at other = at
 
 abbrev pub step : Stage → Line → Stage
-step stage.Body l = if is_end l then stage.Methods else stage.Body
+step stage.Body l = if is_end_line l then stage.Methods else stage.Body
 step at l = stage_behind at l
 
 -- what stood last in lines

@@ -5,6 +5,7 @@ use Rattle.std.specs.Option.{option_map_or}
 use Rattle.std.specs.List.{flat_map}
 use Rattle.std.specs.Ordering.{int_eq}
 use Rattle.std.specs.Int.{w16, w32, w64, to_be_bytes, cast_unsigned}
+use Rattle.et_class.specs.Layout.{u2, u4}
 use Rattle.et_listing.specs.declared.entry.Entry.{Entry}
 use Rattle.et_listing.specs.declared.entry.Entry.TheVariants as entry
 use Rattle.et_listing.specs.declared.instruction.Instruction.{Instruction}
@@ -12,20 +13,20 @@ use Rattle.et_listing.specs.declared.instruction.Instruction.TheVariants as inst
 use Rattle.et_listing.specs.declared.line.Line.{Line}
 use Rattle.et_listing.specs.declared.line.Line.TheVariants as line
 use Rattle.et_listing.specs.declared.line.Parsed.{Parsed}
-use Rattle.et_listing.specs.Words.{same, unescaped}
-use Rattle.et_asm.specs.Along.{along}
-use Rattle.et_asm.specs.Order.{opens, body_of, stage_of, is_inside}
+use Rattle.et_listing.specs.Words.{same_word, unescaped}
+use Rattle.et_asm.specs.Along.{along_lines}
+use Rattle.et_asm.specs.Order.{opens, lines_of_body, stage_of, is_inside}
 
 abbrev pub same_entry : Entry → Entry → Bool
-same_entry (entry.Utf8 a) (entry.Utf8 b) = same a b
+same_entry (entry.Utf8 a) (entry.Utf8 b) = same_word a b
 same_entry (entry.Integer a) (entry.Integer b) = int_eq a b
 same_entry (entry.Long a) (entry.Long b) = int_eq a b
-same_entry (entry.Class a) (entry.Class b) = same a b
-same_entry (entry.Text a) (entry.Text b) = same a b
-same_entry (entry.NameAndType a b) (entry.NameAndType c d) = same a c && same b d
-same_entry (entry.Field a b c) (entry.Field d e f) = same a d && (same b e && same c f)
-same_entry (entry.Method a b c) (entry.Method d e f) = same a d && (same b e && same c f)
-same_entry (entry.InterfaceMethod a b c) (entry.InterfaceMethod d e f) = same a d && (same b e && same c f)
+same_entry (entry.Class a) (entry.Class b) = same_word a b
+same_entry (entry.Text a) (entry.Text b) = same_word a b
+same_entry (entry.NameAndType a b) (entry.NameAndType c d) = same_word a c && same_word b d
+same_entry (entry.Field a b c) (entry.Field d e f) = same_word a d && (same_word b e && same_word c f)
+same_entry (entry.Method a b c) (entry.Method d e f) = same_word a d && (same_word b e && same_word c f)
+same_entry (entry.InterfaceMethod a b c) (entry.InterfaceMethod d e f) = same_word a d && (same_word b e && same_word c f)
 same_entry a b = false
 
 abbrev pub member_parts : List ℕ → List ℕ → List ℕ → List Entry
@@ -84,14 +85,14 @@ body_uses body = flat_map (λ p. code_entries p.line) body ++ flat_map (λ p. ca
 
 -- what a line outside of bodies uses, with the body that it opens
 abbrev pub outside_uses : Line → List Parsed → List Entry
-outside_uses l behind = header_entries l ++ (if opens l then body_uses (body_of behind) else [])
+outside_uses l behind = header_entries l ++ (if opens l then body_uses (lines_of_body behind) else [])
 
 -- what a line uses, by the lines before and behind it: a body is used by the line that opens it
 abbrev pub line_uses : List Parsed → Parsed → List Parsed → List Entry
 line_uses before p behind = if is_inside (stage_of before) then [] else outside_uses p.line behind
 
 abbrev pub uses : List Parsed → List Entry
-uses lines = along line_uses lines
+uses lines = along_lines line_uses lines
 
 -- THE POOL
 
@@ -114,31 +115,25 @@ abbrev pub index_behind : List Entry → ℕ
 index_behind entries = 1 + sum_by width entries
 
 -- the index of an entry, or 0 where the pool lacks it
-unfoldable pub index_of : List Entry → Entry → ℕ
-index_of entries e = option_map_or (λ i. index_behind (take i entries)) (position (same_entry e) entries) 0
+unfoldable pub entry_index : List Entry → Entry → ℕ
+entry_index entries e = option_map_or (λ i. index_behind (take i entries)) (position (same_entry e) entries) 0
 
 -- THE BYTES of an entry (JVMS 4.4): its tag, and what that asks for
 
-abbrev pub u2 : ℕ → List ℕ
-u2 n = to_be_bytes w16 n
-
-abbrev pub u4 : ℕ → List ℕ
-u4 n = to_be_bytes w32 n
-
-abbrev pub member_bytes : List Entry → ℕ → List ℕ → List ℕ → List ℕ → List ℕ
-member_bytes entries tag class name descriptor =
-    tag ∷ u2 (index_of entries (entry.Class class)) ++ u2 (index_of entries (entry.NameAndType name descriptor))
+abbrev pub reference_bytes : List Entry → ℕ → List ℕ → List ℕ → List ℕ → List ℕ
+reference_bytes entries tag class name descriptor =
+    tag ∷ u2 (entry_index entries (entry.Class class)) ++ u2 (entry_index entries (entry.NameAndType name descriptor))
 
 unfoldable pub entry_bytes : List Entry → Entry → List ℕ
 entry_bytes entries (entry.Utf8 text) = 1 ∷ u2 (length (unescaped text)) ++ unescaped text
 entry_bytes entries (entry.Integer value) = 3 ∷ u4 (cast_unsigned w32 value)
 entry_bytes entries (entry.Long value) = 5 ∷ to_be_bytes w64 (cast_unsigned w64 value)
-entry_bytes entries (entry.Class name) = 7 ∷ u2 (index_of entries (entry.Utf8 name))
-entry_bytes entries (entry.Text text) = 8 ∷ u2 (index_of entries (entry.Utf8 text))
-entry_bytes entries (entry.Field class name descriptor) = member_bytes entries 9 class name descriptor
-entry_bytes entries (entry.Method class name descriptor) = member_bytes entries 10 class name descriptor
-entry_bytes entries (entry.InterfaceMethod class name descriptor) = member_bytes entries 11 class name descriptor
-entry_bytes entries (entry.NameAndType name descriptor) = 12 ∷ u2 (index_of entries (entry.Utf8 name)) ++ u2 (index_of entries (entry.Utf8 descriptor))
+entry_bytes entries (entry.Class name) = 7 ∷ u2 (entry_index entries (entry.Utf8 name))
+entry_bytes entries (entry.Text text) = 8 ∷ u2 (entry_index entries (entry.Utf8 text))
+entry_bytes entries (entry.Field class name descriptor) = reference_bytes entries 9 class name descriptor
+entry_bytes entries (entry.Method class name descriptor) = reference_bytes entries 10 class name descriptor
+entry_bytes entries (entry.InterfaceMethod class name descriptor) = reference_bytes entries 11 class name descriptor
+entry_bytes entries (entry.NameAndType name descriptor) = 12 ∷ u2 (entry_index entries (entry.Utf8 name)) ++ u2 (entry_index entries (entry.Utf8 descriptor))
 
-abbrev pub pool_bytes : List Entry → List ℕ
-pool_bytes entries = u2 (index_behind entries) ++ flat_map (entry_bytes entries) entries
+abbrev pub entry_pool_bytes : List Entry → List ℕ
+entry_pool_bytes entries = u2 (index_behind entries) ++ flat_map (entry_bytes entries) entries

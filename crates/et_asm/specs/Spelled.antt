@@ -9,33 +9,34 @@ use Rattle.et_listing.specs.declared.entry.Entry.{Entry}
 use Rattle.et_listing.specs.declared.entry.Entry.TheVariants as entry
 use Rattle.et_listing.specs.declared.line.Parsed.{Parsed}
 use Rattle.et_listing.specs.Words.{unescaped}
-use Rattle.et_asm.specs.Pool.{same_entry, index_of, pool, pool_bytes, u2}
+use Rattle.et_asm.specs.Pool.{same_entry, entry_index, pool, entry_pool_bytes}
+use Rattle.et_class.specs.Layout.{u2}
 
-abbrev pub item_of : List Entry → Entry → Item
-item_of entries (entry.Utf8 text) = Text (unescaped text)
-item_of entries (entry.Integer value) = Word INTEGER (cast_unsigned w32 value)
-item_of entries (entry.Long value) = Wide LONG (cast_unsigned w64 value)
-item_of entries (entry.Class name) = Name CLASS (index_of entries (entry.Utf8 name))
-item_of entries (entry.Text text) = Name STRING (index_of entries (entry.Utf8 text))
-item_of entries (entry.NameAndType name descriptor) = Pair NAME_AND_TYPE (index_of entries (entry.Utf8 name)) (index_of entries (entry.Utf8 descriptor))
-item_of entries (entry.Field class name descriptor) = Pair FIELDREF (index_of entries (entry.Class class)) (index_of entries (entry.NameAndType name descriptor))
-item_of entries (entry.Method class name descriptor) = Pair METHODREF (index_of entries (entry.Class class)) (index_of entries (entry.NameAndType name descriptor))
-item_of entries (entry.InterfaceMethod class name descriptor) = Pair INTERFACE_METHODREF (index_of entries (entry.Class class)) (index_of entries (entry.NameAndType name descriptor))
+abbrev pub pool_item_of : List Entry → Entry → Item
+pool_item_of entries (entry.Utf8 text) = Text (unescaped text)
+pool_item_of entries (entry.Integer value) = Word INTEGER (cast_unsigned w32 value)
+pool_item_of entries (entry.Long value) = Wide LONG (cast_unsigned w64 value)
+pool_item_of entries (entry.Class name) = Name CLASS (entry_index entries (entry.Utf8 name))
+pool_item_of entries (entry.Text text) = Name STRING (entry_index entries (entry.Utf8 text))
+pool_item_of entries (entry.NameAndType name descriptor) = Pair NAME_AND_TYPE (entry_index entries (entry.Utf8 name)) (entry_index entries (entry.Utf8 descriptor))
+pool_item_of entries (entry.Field class name descriptor) = Pair FIELDREF (entry_index entries (entry.Class class)) (entry_index entries (entry.NameAndType name descriptor))
+pool_item_of entries (entry.Method class name descriptor) = Pair METHODREF (entry_index entries (entry.Class class)) (entry_index entries (entry.NameAndType name descriptor))
+pool_item_of entries (entry.InterfaceMethod class name descriptor) = Pair INTERFACE_METHODREF (entry_index entries (entry.Class class)) (entry_index entries (entry.NameAndType name descriptor))
 
 -- what stands at each index
-unfoldable pub slots : List Entry → List (Option Item)
-slots entries = slots_of (map (item_of entries) entries)
+unfoldable pub entry_slots : List Entry → List (Option Item)
+entry_slots entries = slots_of (map (pool_item_of entries) entries)
 
 -- the bytes of a pool are those of its slots, behind their number
 abbrev pub PoolsAreSpelled : Type 0
-PoolsAreSpelled = (lines : List Parsed) → pool_bytes (pool lines) ≡ u2 (length (slots (pool lines))) ++ flat_map slot_bytes (slots (pool lines))
+PoolsAreSpelled = (lines : List Parsed) → entry_pool_bytes (pool lines) ≡ u2 (length (entry_slots (pool lines))) ++ flat_map slot_bytes (entry_slots (pool lines))
 
 -- at the index of an entry that a pool has stands that entry, and the names behind it are found
 pub record FindsEntries (entries : List Entry) : Type 0 where
-  pub items : (e : Entry) → list_any (same_entry e) entries ≡ true → slot_at (slots entries) (index_of entries e) ≡ Some (item_of entries e)
-  pub texts : (text : List ℕ) → list_any (same_entry (entry.Utf8 text)) entries ≡ true → utf8_at (slots entries) (index_of entries (entry.Utf8 text)) ≡ Some (unescaped text)
-  pub classes : (name : List ℕ) → list_any (same_entry (entry.Class name)) entries ≡ true → class_name_at (slots entries) (index_of entries (entry.Class name)) ≡ Some (unescaped name)
-  pub strings : (text : List ℕ) → list_any (same_entry (entry.Text text)) entries ≡ true → string_at (slots entries) (index_of entries (entry.Text text)) ≡ Some (unescaped text)
+  pub items : (e : Entry) → list_any (same_entry e) entries ≡ true → slot_at (entry_slots entries) (entry_index entries e) ≡ Some (pool_item_of entries e)
+  pub texts : (text : List ℕ) → list_any (same_entry (entry.Utf8 text)) entries ≡ true → utf8_at (entry_slots entries) (entry_index entries (entry.Utf8 text)) ≡ Some (unescaped text)
+  pub classes : (name : List ℕ) → list_any (same_entry (entry.Class name)) entries ≡ true → class_name_at (entry_slots entries) (entry_index entries (entry.Class name)) ≡ Some (unescaped name)
+  pub strings : (text : List ℕ) → list_any (same_entry (entry.Text text)) entries ≡ true → string_at (entry_slots entries) (entry_index entries (entry.Text text)) ≡ Some (unescaped text)
 
 abbrev pub PoolsFind : Type 0
 PoolsFind = (lines : List Parsed) → FindsEntries (pool lines)

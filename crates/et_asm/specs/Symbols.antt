@@ -8,7 +8,7 @@ use Rattle.et_listing.specs.declared.entry.Entry.{Entry}
 use Rattle.et_listing.specs.declared.line.Line.{Line}
 use Rattle.et_listing.specs.declared.line.Line.TheVariants as line
 use Rattle.et_listing.specs.declared.line.Parsed.{Parsed}
-use Rattle.et_listing.specs.Words.{same}
+use Rattle.et_listing.specs.Words.{same_word}
 use Rattle.et_asm.specs.declared.symbols.Symbols.{Symbols}
 use Rattle.et_asm.specs.declared.order.Stage.{Stage}
 use Rattle.et_asm.specs.Order.{is_inside}
@@ -17,8 +17,8 @@ use Rattle.et_asm.specs.Code.{Labels}
 use Rattle.et_asm.specs.Listings.{method_bytes, own_marks, outside_marks}
 
 -- a pool behind uses of entries: each that it lacks is added, behind its parts
-unfoldable pub added : List Entry → List Entry → List Entry
-added entries used = insert_all same_entry entries (flat_map parts used)
+unfoldable pub entry_added : List Entry → List Entry → List Entry
+entry_added entries used = insert_all same_entry entries (flat_map parts used)
 
 -- what a line uses at a stage
 abbrev pub stage_uses : Stage → Line → List Parsed → List Entry
@@ -34,7 +34,7 @@ stage_marks entries number stage few p behind =
     own_marks entries number stage few p ++ (if is_inside stage then [] else outside_marks entries number p behind)
 
 -- these are its entries, with the index of each and the one behind them
-pub record IsIndexed (s : Symbols) (entries : List Entry) : Type 0 where
+pub record HasIndexOf (s : Symbols) (entries : List Entry) : Type 0 where
   pub keys : s.entries.keys ≡ entries
   pub counted : length s.indices.items ≡ length entries
   pub indices : (i : ℕ) → i < length entries → slice_index s.indices.items i ≡ index_behind (take i entries)
@@ -42,9 +42,9 @@ pub record IsIndexed (s : Symbols) (entries : List Entry) : Type 0 where
 
 -- the labels of a map
 abbrev pub places : List (List ℕ × ℕ) → Labels
-places entries name = lookup (same name) entries
+places entries name = lookup (same_word name) entries
 
 -- labels behind a line at a place: a label line defines its label, unless it is defined
 abbrev pub define : ℕ → Line → Labels → List ℕ → Option ℕ
-define at (line.Label name) labels q = if is_some (labels name) then labels q else (if same name q then Some at else labels q)
+define at (line.Label name) labels q = if is_some (labels name) then labels q else (if same_word name q then Some at else labels q)
 define at other labels q = labels q

@@ -4,11 +4,11 @@ ghost use Rattle.std.specs.Prelude.{◌≡◌, ◌++◌, ◌+◌, ◌<◌, ◌^�
 ghost use Rattle.std.specs.List.{list_all};
 ghost use Rattle.et_base.specs.Marks.{first_from};
 ghost use Rattle.et_listing.specs.Lines.{pairs};
-ghost use Rattle.et_asm.specs.Order.{body_of};
+ghost use Rattle.et_asm.specs.Order.{lines_of_body};
 ghost use Rattle.et_asm.specs.Pool.{parts, constant_entries};
-ghost use Rattle.et_asm.specs.Symbols.{IsIndexed, places, stage_marks};
+ghost use Rattle.et_asm.specs.Symbols.{HasIndexOf, places, stage_marks};
 ghost use Rattle.et_asm.specs.Code.{is_defined, labels_of};
-ghost use Rattle.et_asm.specs.Listings.{is_short_text, entry_fits, line_fits, fault_marks, own_marks, uses_defined, no_labels, defines_new, branch_reaches, reaches, body_line_marks, body_marks, outside_marks, listing_marks};
+ghost use Rattle.et_asm.specs.Listings.{is_short_text, entry_fits, line_fits, fault_marks, own_marks, uses_defined, no_labels, defines_new, branch_reaches, reaches, body_line_marks, listed_body_marks, outside_marks, listing_marks};
 
 use crate::code::is_catch;
 use crate::counts::{Counts, NONE};
@@ -51,7 +51,7 @@ fn texts_fit(e: &Entry) -> bool
 
 /// Whether an entry keeps the limits.
 fn entry_fits<'a>(symbols: &Symbols<'a>, e: &Entry<'a>) -> bool
-    requires { IsIndexed symbols.now symbols.now.entries.keys }
+    requires { HasIndexOf symbols.now symbols.now.entries.keys }
     ensures { result ≡ entry_fits symbols.now.entries.keys e.now }
 {
     let index = index_of(symbols, e);
@@ -60,7 +60,7 @@ fn entry_fits<'a>(symbols: &Symbols<'a>, e: &Entry<'a>) -> bool
 }
 
 fn pair_fits<'a>(symbols: &Symbols<'a>, name: &Word<'a>, descriptor: &Word<'a>) -> bool
-    requires { IsIndexed symbols.now symbols.now.entries.keys }
+    requires { HasIndexOf symbols.now symbols.now.entries.keys }
     ensures { result ≡ list_all (entry_fits symbols.now.entries.keys)
         (Entry.Utf8 name.now ∷ Entry.Utf8 descriptor.now ∷ []) }
 {
@@ -70,7 +70,7 @@ fn pair_fits<'a>(symbols: &Symbols<'a>, name: &Word<'a>, descriptor: &Word<'a>) 
 }
 
 fn class_fits<'a>(symbols: &Symbols<'a>, name: &Word<'a>) -> bool
-    requires { IsIndexed symbols.now symbols.now.entries.keys }
+    requires { HasIndexOf symbols.now symbols.now.entries.keys }
     ensures { result ≡ entry_fits symbols.now.entries.keys (Entry.Class name.now) }
 {
     entry_fits(symbols, &Entry::Class(name.copy()))
@@ -78,7 +78,7 @@ fn class_fits<'a>(symbols: &Symbols<'a>, name: &Word<'a>) -> bool
 
 /// Whether the entries of an instruction keep the limits.
 fn operands_fit<'a>(symbols: &Symbols<'a>, instruction: &Instruction<'a>) -> bool
-    requires { IsIndexed symbols.now symbols.now.entries.keys }
+    requires { HasIndexOf symbols.now symbols.now.entries.keys }
     ensures { result ≡ line_fits symbols.now.entries.keys (Line.Instruction instruction.now) }
 {
     match instruction {
@@ -95,7 +95,7 @@ fn operands_fit<'a>(symbols: &Symbols<'a>, instruction: &Instruction<'a>) -> boo
 
 /// Whether the entries of a line keep the limits.
 fn line_fits<'a>(symbols: &Symbols<'a>, line: &Line<'a>) -> bool
-    requires { IsIndexed symbols.now symbols.now.entries.keys }
+    requires { HasIndexOf symbols.now symbols.now.entries.keys }
     ensures { result ≡ line_fits symbols.now.entries.keys line.now }
 {
     match line {
@@ -123,7 +123,7 @@ fn line_fits<'a>(symbols: &Symbols<'a>, line: &Line<'a>) -> bool
 
 /// Whether the entries of a field's constant keep the limits.
 fn constant_fits<'a>(symbols: &Symbols<'a>, constant: &Option<Entry<'a>>) -> bool
-    requires { IsIndexed symbols.now symbols.now.entries.keys }
+    requires { HasIndexOf symbols.now symbols.now.entries.keys }
     ensures { result
         ≡ list_all (entry_fits symbols.now.entries.keys) (constant_entries constant.now) }
 {
@@ -139,7 +139,7 @@ fn constant_fits<'a>(symbols: &Symbols<'a>, constant: &Option<Entry<'a>>) -> boo
 
 /// Whether the name of a method's attribute keeps the limits, where it has one.
 fn body_fits(symbols: &Symbols, has_body: bool) -> bool
-    requires { IsIndexed symbols.now symbols.now.entries.keys }
+    requires { HasIndexOf symbols.now symbols.now.entries.keys }
     ensures { result ≡ (if has_body then entry_fits symbols.now.entries.keys
         (Entry.Utf8 (codes "Code")) else true) }
 {
@@ -173,7 +173,7 @@ fn check_own<'a>(
     few: bool,
     p: &Parsed<'a>,
 ) -> First
-    requires { IsIndexed symbols.now symbols.now.entries.keys }
+    requires { HasIndexOf symbols.now symbols.now.entries.keys }
     ensures { result
         ≡ first_from first (own_marks symbols.now.entries.keys number stage few p.now) }
 {
@@ -324,10 +324,11 @@ fn check_body<'a>(
     number: usize,
     body: &[Parsed<'a>],
 ) -> Result<First, AllocError>
-    requires pool { IsIndexed symbols.now symbols.now.entries.keys }
+    requires pool { HasIndexOf symbols.now symbols.now.entries.keys }
     requires number { number < 2 ^ 62 }
     ensures { IfOk result
-        (λ found. found ≡ first_from first (body_marks symbols.now.entries.keys number body.now)) }
+        (λ found. found ≡ first_from first (listed_body_marks symbols.now.entries.keys number
+        body.now)) }
 {
     let labels = labels_of(alloc, symbols, body)?;
     let mut found = first;
@@ -360,7 +361,7 @@ fn check_outside<'a>(
     p: &Parsed<'a>,
     more: &[Parsed<'a>],
 ) -> Result<First, AllocError>
-    requires pool { IsIndexed symbols.now symbols.now.entries.keys }
+    requires pool { HasIndexOf symbols.now symbols.now.entries.keys }
     requires number { number < 2 ^ 61 }
     ensures { IfOk result (λ found.
         found ≡ first_from first (outside_marks symbols.now.entries.keys number p.now more.now)) }
@@ -391,7 +392,7 @@ fn check_line<'a>(
     p: &Parsed<'a>,
     more: &[Parsed<'a>],
 ) -> Result<First, AllocError>
-    requires pool { IsIndexed symbols.now symbols.now.entries.keys }
+    requires pool { HasIndexOf symbols.now symbols.now.entries.keys }
     requires number { number < 2 ^ 61 }
     ensures { IfOk result (λ found. found ≡ first_from first (stage_marks
         symbols.now.entries.keys number before.stage before.few p.now more.now)) }
@@ -409,7 +410,7 @@ pub(crate) fn check_lines<'a>(
     symbols: &Symbols<'a>,
     lines: &[Parsed<'a>],
 ) -> Result<First, AllocError>
-    requires { IsIndexed symbols.now symbols.now.entries.keys }
+    requires { HasIndexOf symbols.now symbols.now.entries.keys }
     ensures { IfOk result
         (λ found. found ≡ first_from None (listing_marks symbols.now.entries.keys lines.now)) }
 {

@@ -2,9 +2,9 @@
 
 ghost use Rattle.std.specs.Prelude.{◌≡◌, ◌++◌, OnOk, IfOk, Some};
 ghost use Rattle.std.specs.List.{flat_map};
-ghost use Rattle.et_asm.specs.Pool.{pool_bytes};
-ghost use Rattle.et_asm.specs.Symbols.{IsIndexed, stage_method};
-ghost use Rattle.et_asm.specs.Listings.{count, is_interface, is_field, is_method, header_bytes, interface_bytes, member_bytes, constant_bytes, field_bytes, body_bytes, method_bytes, methods_bytes, class_bytes};
+ghost use Rattle.et_asm.specs.Pool.{entry_pool_bytes};
+ghost use Rattle.et_asm.specs.Symbols.{HasIndexOf, stage_method};
+ghost use Rattle.et_asm.specs.Listings.{count, is_interface_line, is_field_line, is_method_line, header_bytes, interface_bytes, listed_member_bytes, constant_bytes, field_bytes, body_bytes, method_bytes, methods_bytes, listed_class_bytes};
 
 use crate::code::put_code_attribute;
 use crate::counts::{is_field, is_interface, is_method};
@@ -18,8 +18,9 @@ use std::alloc::{AllocError, Global};
 
 /// Appends the constant pool.
 fn put_pool<'a>(out: &mut Vec<u8>, symbols: &Symbols<'a>) -> Result<(), AllocError>
-    requires { IsIndexed symbols.now symbols.now.entries.keys }
-    ensures { OnOk result (out.new.items ≡ out.old.items ++ pool_bytes symbols.now.entries.keys) }
+    requires { HasIndexOf symbols.now symbols.now.entries.keys }
+    ensures { OnOk result (out.new.items ≡ out.old.items ++ entry_pool_bytes
+        symbols.now.entries.keys) }
 {
     put_u2(out, symbols.end)?;
     for e in symbols.entries.as_slice() {
@@ -34,7 +35,7 @@ fn put_header<'a>(
     symbols: &Symbols<'a>,
     line: &Line<'a>,
 ) -> Result<(), AllocError>
-    requires { IsIndexed symbols.now symbols.now.entries.keys }
+    requires { HasIndexOf symbols.now symbols.now.entries.keys }
     ensures { OnOk result
         (out.new.items ≡ out.old.items ++ header_bytes symbols.now.entries.keys line.now) }
 {
@@ -54,7 +55,7 @@ fn put_interface<'a>(
     symbols: &Symbols<'a>,
     line: &Line<'a>,
 ) -> Result<(), AllocError>
-    requires { IsIndexed symbols.now symbols.now.entries.keys }
+    requires { HasIndexOf symbols.now symbols.now.entries.keys }
     ensures { OnOk result
         (out.new.items ≡ out.old.items ++ interface_bytes symbols.now.entries.keys line.now) }
 {
@@ -70,7 +71,7 @@ fn put_value<'a>(
     symbols: &Symbols<'a>,
     value: &Entry<'a>,
 ) -> Result<(), AllocError>
-    requires { IsIndexed symbols.now symbols.now.entries.keys }
+    requires { HasIndexOf symbols.now symbols.now.entries.keys }
     ensures { OnOk result (out.new.items
         ≡ out.old.items ++ constant_bytes symbols.now.entries.keys (Some value.now)) }
 {
@@ -86,7 +87,7 @@ fn put_constant<'a>(
     symbols: &Symbols<'a>,
     constant: &Option<Entry<'a>>,
 ) -> Result<(), AllocError>
-    requires { IsIndexed symbols.now symbols.now.entries.keys }
+    requires { HasIndexOf symbols.now symbols.now.entries.keys }
     ensures { OnOk result
         (out.new.items ≡ out.old.items ++ constant_bytes symbols.now.entries.keys constant.now) }
 {
@@ -104,9 +105,10 @@ fn put_member<'a>(
     descriptor: &Word<'a>,
     flags: u16,
 ) -> Result<(), AllocError>
-    requires { IsIndexed symbols.now symbols.now.entries.keys }
+    requires { HasIndexOf symbols.now symbols.now.entries.keys }
     ensures { OnOk result (out.new.items
-        ≡ out.old.items ++ member_bytes symbols.now.entries.keys name.now descriptor.now flags) }
+        ≡ out.old.items ++ listed_member_bytes symbols.now.entries.keys name.now descriptor.now
+        flags) }
 {
     put_u2(out, flags as usize)?;
     put_index(out, symbols, Entry::Utf8(name.copy()))?;
@@ -119,7 +121,7 @@ fn put_field<'a>(
     symbols: &Symbols<'a>,
     line: &Line<'a>,
 ) -> Result<(), AllocError>
-    requires { IsIndexed symbols.now symbols.now.entries.keys }
+    requires { HasIndexOf symbols.now symbols.now.entries.keys }
     ensures { OnOk result
         (out.new.items ≡ out.old.items ++ field_bytes symbols.now.entries.keys line.now) }
 {
@@ -140,7 +142,7 @@ fn put_code_of<'a>(
     limits: (u16, u16),
     body: &[Parsed<'a>],
 ) -> Result<(), AllocError>
-    requires { IsIndexed symbols.now symbols.now.entries.keys }
+    requires { HasIndexOf symbols.now symbols.now.entries.keys }
     ensures { OnOk result (out.new.items
         ≡ out.old.items ++ body_bytes symbols.now.entries.keys (Some limits) body.now) }
 {
@@ -157,7 +159,7 @@ fn put_body<'a>(
     limits: Option<(u16, u16)>,
     body: &[Parsed<'a>],
 ) -> Result<(), AllocError>
-    requires { IsIndexed symbols.now symbols.now.entries.keys }
+    requires { HasIndexOf symbols.now symbols.now.entries.keys }
     ensures { OnOk result
         (out.new.items ≡ out.old.items ++ body_bytes symbols.now.entries.keys limits body.now) }
 {
@@ -175,7 +177,7 @@ fn put_method<'a>(
     line: &Line<'a>,
     more: &[Parsed<'a>],
 ) -> Result<(), AllocError>
-    requires { IsIndexed symbols.now symbols.now.entries.keys }
+    requires { HasIndexOf symbols.now symbols.now.entries.keys }
     ensures { OnOk result
         (out.new.items ≡ out.old.items ++ method_bytes symbols.now.entries.keys line.now more.now) }
 {
@@ -193,7 +195,7 @@ fn put_headers<'a>(
     symbols: &Symbols<'a>,
     lines: &[Parsed<'a>],
 ) -> Result<(), AllocError>
-    requires { IsIndexed symbols.now symbols.now.entries.keys }
+    requires { HasIndexOf symbols.now symbols.now.entries.keys }
     ensures { OnOk result (out.new.items
         ≡ out.old.items ++ flat_map (λ p. header_bytes symbols.now.entries.keys p.line) lines.now) }
 {
@@ -208,7 +210,7 @@ fn put_interfaces<'a>(
     symbols: &Symbols<'a>,
     lines: &[Parsed<'a>],
 ) -> Result<(), AllocError>
-    requires { IsIndexed symbols.now symbols.now.entries.keys }
+    requires { HasIndexOf symbols.now symbols.now.entries.keys }
     ensures { OnOk result (out.new.items ≡ out.old.items
         ++ flat_map (λ p. interface_bytes symbols.now.entries.keys p.line) lines.now) }
 {
@@ -223,7 +225,7 @@ fn put_fields<'a>(
     symbols: &Symbols<'a>,
     lines: &[Parsed<'a>],
 ) -> Result<(), AllocError>
-    requires { IsIndexed symbols.now symbols.now.entries.keys }
+    requires { HasIndexOf symbols.now symbols.now.entries.keys }
     ensures { OnOk result (out.new.items
         ≡ out.old.items ++ flat_map (λ p. field_bytes symbols.now.entries.keys p.line) lines.now) }
 {
@@ -242,7 +244,7 @@ fn put_method_at<'a>(
     line: &Line<'a>,
     more: &[Parsed<'a>],
 ) -> Result<(), AllocError>
-    requires { IsIndexed symbols.now symbols.now.entries.keys }
+    requires { HasIndexOf symbols.now symbols.now.entries.keys }
     ensures { OnOk result (out.new.items
         ≡ out.old.items ++ stage_method symbols.now.entries.keys stage line.now more.now) }
 {
@@ -258,7 +260,7 @@ fn put_methods<'a>(
     symbols: &Symbols<'a>,
     lines: &[Parsed<'a>],
 ) -> Result<(), AllocError>
-    requires { IsIndexed symbols.now symbols.now.entries.keys }
+    requires { HasIndexOf symbols.now symbols.now.entries.keys }
     ensures { OnOk result
         (out.new.items ≡ out.old.items ++ methods_bytes symbols.now.entries.keys lines.now) }
 {
@@ -272,19 +274,19 @@ fn put_methods<'a>(
 }
 
 fn interface_count(lines: &[Parsed]) -> usize
-    ensures { result ≡ count is_interface lines.now }
+    ensures { result ≡ count is_interface_line lines.now }
 {
     lines.iter().filter(|p| is_interface(&p.line)).count()
 }
 
 fn field_count(lines: &[Parsed]) -> usize
-    ensures { result ≡ count is_field lines.now }
+    ensures { result ≡ count is_field_line lines.now }
 {
     lines.iter().filter(|p| is_field(&p.line)).count()
 }
 
 fn method_count(lines: &[Parsed]) -> usize
-    ensures { result ≡ count is_method lines.now }
+    ensures { result ≡ count is_method_line lines.now }
 {
     lines.iter().filter(|p| is_method(&p.line)).count()
 }
@@ -295,8 +297,9 @@ pub(crate) fn class_bytes<'a>(
     symbols: &Symbols<'a>,
     lines: &[Parsed<'a>],
 ) -> Result<Vec<u8>, AllocError>
-    requires { IsIndexed symbols.now symbols.now.entries.keys }
-    ensures { IfOk result (λ bytes. bytes.items ≡ class_bytes symbols.now.entries.keys lines.now) }
+    requires { HasIndexOf symbols.now symbols.now.entries.keys }
+    ensures { IfOk result (λ bytes. bytes.items ≡ listed_class_bytes symbols.now.entries.keys
+        lines.now) }
 {
     let mut out = Vec::new(alloc);
     put_u4(&mut out, 0xcafe_babe)?;

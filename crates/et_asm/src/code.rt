@@ -2,7 +2,7 @@
 
 ghost use Rattle.std.specs.Prelude.{◌≡◌, ◌++◌, ◌<◌, ◌^◌, OnOk, IfOk};
 ghost use Rattle.std.specs.List.{flat_map};
-ghost use Rattle.et_asm.specs.Symbols.{IsIndexed, places};
+ghost use Rattle.et_asm.specs.Symbols.{HasIndexOf, places};
 ghost use Rattle.et_asm.specs.Code.{place_behind, labels_of, code_bytes, is_catch, catch_count, caught_index, row_bytes, code_head, code_tail, code_attribute};
 
 use crate::emit::{put_u2, put_u4};
@@ -16,7 +16,7 @@ use std::alloc::{AllocError, Global};
 
 /// The length of the code of a body.
 fn code_length<'a>(symbols: &Symbols<'a>, body: &[Parsed<'a>]) -> Result<usize, AllocError>
-    requires { IsIndexed symbols.now symbols.now.entries.keys }
+    requires { HasIndexOf symbols.now symbols.now.entries.keys }
     ensures { IfOk result (λ n. n ≡ place_behind symbols.now.entries.keys body.now) }
 {
     let mut at = 0;
@@ -34,7 +34,7 @@ fn put_code<'a>(
     labels: &Labels<'a>,
     body: &[Parsed<'a>],
 ) -> Result<(), AllocError>
-    requires { IsIndexed symbols.now symbols.now.entries.keys }
+    requires { HasIndexOf symbols.now symbols.now.entries.keys }
     ensures { OnOk result (out.new.items ≡ out.old.items
         ++ code_bytes symbols.now.entries.keys (places labels.now.entries) body.now) }
 {
@@ -65,7 +65,7 @@ fn catch_count(body: &[Parsed]) -> usize
 }
 
 fn caught_index<'a>(symbols: &Symbols<'a>, class: &Option<Word<'a>>) -> usize
-    requires { IsIndexed symbols.now symbols.now.entries.keys }
+    requires { HasIndexOf symbols.now symbols.now.entries.keys }
     ensures { result ≡ caught_index symbols.now.entries.keys class.now }
 {
     match class {
@@ -81,7 +81,7 @@ fn put_row<'a>(
     labels: &Labels<'a>,
     line: &Line<'a>,
 ) -> Result<(), AllocError>
-    requires { IsIndexed symbols.now symbols.now.entries.keys }
+    requires { HasIndexOf symbols.now symbols.now.entries.keys }
     ensures { OnOk result (out.new.items ≡ out.old.items
         ++ row_bytes symbols.now.entries.keys (places labels.now.entries) line.now) }
 {
@@ -102,7 +102,7 @@ fn put_rows<'a>(
     labels: &Labels<'a>,
     body: &[Parsed<'a>],
 ) -> Result<(), AllocError>
-    requires { IsIndexed symbols.now symbols.now.entries.keys }
+    requires { HasIndexOf symbols.now symbols.now.entries.keys }
     ensures { OnOk result (out.new.items ≡ out.old.items ++ flat_map
         (λ p. row_bytes symbols.now.entries.keys (places labels.now.entries) p.line) body.now) }
 {
@@ -137,7 +137,7 @@ fn put_code_tail<'a>(
     labels: &Labels<'a>,
     body: &[Parsed<'a>],
 ) -> Result<(), AllocError>
-    requires { IsIndexed symbols.now symbols.now.entries.keys }
+    requires { HasIndexOf symbols.now symbols.now.entries.keys }
     ensures { OnOk result (out.new.items ≡ out.old.items
         ++ code_tail symbols.now.entries.keys (places labels.now.entries) body.now) }
 {
@@ -154,7 +154,7 @@ pub(crate) fn put_code_attribute<'a>(
     limits: (u16, u16),
     body: &[Parsed<'a>],
 ) -> Result<(), AllocError>
-    requires { IsIndexed symbols.now symbols.now.entries.keys }
+    requires { HasIndexOf symbols.now symbols.now.entries.keys }
     ensures { OnOk result (out.new.items ≡ out.old.items ++ code_attribute symbols.now.entries.keys
         (labels_of symbols.now.entries.keys body.now) limits body.now) }
 {

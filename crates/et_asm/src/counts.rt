@@ -1,7 +1,7 @@
 //! How many interfaces, fields and methods stand in lines.
 
 ghost use Rattle.std.specs.Prelude.{◌≡◌, ◌+◌, ◌<◌, ◌^◌, ◌&&◌, nat_le, if◌then◌else◌};
-ghost use Rattle.et_asm.specs.Listings.{is_interface, is_field, is_method};
+ghost use Rattle.et_asm.specs.Listings.{is_interface_line, is_field_line, is_method_line};
 
 use et_listing::line::Line;
 
@@ -22,7 +22,7 @@ pub(crate) const NONE: Counts = Counts {
 
 /// Whether a line is an interface.
 pub(crate) fn is_interface(line: &Line) -> bool
-    ensures { result ≡ is_interface line.now }
+    ensures { result ≡ is_interface_line line.now }
 {
     match line {
         Line::Interface(_) => true,
@@ -32,7 +32,7 @@ pub(crate) fn is_interface(line: &Line) -> bool
 
 /// Whether a line is a field.
 pub(crate) fn is_field(line: &Line) -> bool
-    ensures { result ≡ is_field line.now }
+    ensures { result ≡ is_field_line line.now }
 {
     match line {
         Line::Field(..) => true,
@@ -42,7 +42,7 @@ pub(crate) fn is_field(line: &Line) -> bool
 
 /// Whether a line is a method.
 pub(crate) fn is_method(line: &Line) -> bool
-    ensures { result ≡ is_method line.now }
+    ensures { result ≡ is_method_line line.now }
 {
     match line {
         Line::Method(..) => true,
@@ -57,9 +57,10 @@ impl Counts {
         requires fields { self.fields < 2 ^ 63 }
         requires methods { self.methods < 2 ^ 63 }
         ensures interfaces { result.interfaces
-            ≡ self.interfaces + (if is_interface line.now then 1 else 0) }
-        ensures fields { result.fields ≡ self.fields + (if is_field line.now then 1 else 0) }
-        ensures methods { result.methods ≡ self.methods + (if is_method line.now then 1 else 0) }
+            ≡ self.interfaces + (if is_interface_line line.now then 1 else 0) }
+        ensures fields { result.fields ≡ self.fields + (if is_field_line line.now then 1 else 0) }
+        ensures methods { result.methods ≡ self.methods +
+            (if is_method_line line.now then 1 else 0) }
     {
         Counts {
             interfaces: self.interfaces + usize::from(is_interface(line)),

@@ -1,8 +1,9 @@
 //! Bytes, appended.
 
 ghost use Rattle.std.specs.Prelude.{◌≡◌, ◌++◌, [], ◌∷◌, OnOk};
-ghost use Rattle.et_asm.specs.Pool.{u2, u4, member_bytes, entry_bytes, index_of};
-ghost use Rattle.et_asm.specs.Symbols.{IsIndexed};
+ghost use Rattle.et_asm.specs.Pool.{reference_bytes, entry_bytes, entry_index};
+ghost use Rattle.et_class.specs.Layout.{u4, u2};
+ghost use Rattle.et_asm.specs.Symbols.{HasIndexOf};
 
 use crate::symbols::{Symbols, index_of};
 use et_listing::entry::Entry;
@@ -38,9 +39,9 @@ pub(crate) fn put_index<'a>(
     symbols: &Symbols<'a>,
     e: Entry<'a>,
 ) -> Result<(), AllocError>
-    requires { IsIndexed symbols.now symbols.now.entries.keys }
+    requires { HasIndexOf symbols.now symbols.now.entries.keys }
     ensures { OnOk result
-        (out.new.items ≡ out.old.items ++ u2 (index_of symbols.now.entries.keys e.entry)) }
+        (out.new.items ≡ out.old.items ++ u2 (entry_index symbols.now.entries.keys e.entry)) }
 {
     put_u2(out, index_of(symbols, &e))
 }
@@ -54,9 +55,9 @@ fn put_member<'a>(
     name: &Word<'a>,
     descriptor: &Word<'a>,
 ) -> Result<(), AllocError>
-    requires { IsIndexed symbols.now symbols.now.entries.keys }
+    requires { HasIndexOf symbols.now symbols.now.entries.keys }
     ensures { OnOk result (out.new.items ≡ out.old.items
-        ++ member_bytes symbols.now.entries.keys tag class.now name.now descriptor.now) }
+        ++ reference_bytes symbols.now.entries.keys tag class.now name.now descriptor.now) }
 {
     put_u1(out, tag)?;
     put_index(out, symbols, Entry::Class(class.copy()))?;
@@ -74,7 +75,7 @@ pub(crate) fn put_entry<'a>(
     symbols: &Symbols<'a>,
     e: &Entry<'a>,
 ) -> Result<(), AllocError>
-    requires { IsIndexed symbols.now symbols.now.entries.keys }
+    requires { HasIndexOf symbols.now symbols.now.entries.keys }
     ensures { OnOk result
         (out.new.items ≡ out.old.items ++ entry_bytes symbols.now.entries.keys e.now) }
 {

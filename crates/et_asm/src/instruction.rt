@@ -3,8 +3,9 @@
 ghost use Rattle.std.specs.Prelude.{◌≡◌, ◌++◌, ◌∷◌, [], ◌+◌, ◌-◌, ◌*◌, ◌<◌, ◌^◌, length, OnOk, IfOk, replicate};
 ghost use Rattle.std.specs.List.{flat_map};
 ghost use Rattle.et_listing.specs.Lines.{pairs};
-ghost use Rattle.et_asm.specs.Pool.{index_of, u2, u4};
-ghost use Rattle.et_asm.specs.Symbols.{IsIndexed, places};
+ghost use Rattle.et_asm.specs.Pool.{entry_index};
+ghost use Rattle.et_class.specs.Layout.{u4, u2};
+ghost use Rattle.et_asm.specs.Symbols.{HasIndexOf, places};
 ghost use Rattle.et_asm.specs.Code.{is_short_increment, padding, instruction_size, size, offset_bits, offset2, offset4, argument_count, key_bits, bounds_bytes, table_bytes, pair_bytes, lookup_bytes, branch_bytes, local_bytes, load_bytes, increment_bytes, switch_bytes, instruction_bytes, line_bytes};
 
 use crate::emit::{put_index, put_u1, put_u2, put_u4};
@@ -46,7 +47,7 @@ fn pair_count(words: &[Word]) -> usize
 
 /// How many bytes an instruction takes at a place of the code.
 fn instruction_size<'a>(symbols: &Symbols<'a>, at: usize, instruction: &Instruction<'a>) -> usize
-    requires { IsIndexed symbols.now symbols.now.entries.keys }
+    requires { HasIndexOf symbols.now symbols.now.entries.keys }
     ensures { result ≡ instruction_size symbols.now.entries.keys at instruction.now }
 {
     match instruction {
@@ -72,7 +73,7 @@ fn instruction_size<'a>(symbols: &Symbols<'a>, at: usize, instruction: &Instruct
 
 /// How many bytes a line takes at a place of the code.
 fn size<'a>(symbols: &Symbols<'a>, at: usize, line: &Line<'a>) -> usize
-    requires { IsIndexed symbols.now symbols.now.entries.keys }
+    requires { HasIndexOf symbols.now symbols.now.entries.keys }
     ensures { result ≡ size symbols.now.entries.keys at line.now }
 {
     match line {
@@ -87,7 +88,7 @@ pub(crate) fn behind<'a>(
     at: usize,
     line: &Line<'a>,
 ) -> Result<usize, AllocError>
-    requires { IsIndexed symbols.now symbols.now.entries.keys }
+    requires { HasIndexOf symbols.now symbols.now.entries.keys }
     ensures { IfOk result (λ place. place ≡ at + size symbols.now.entries.keys at line.now) }
 {
     sum(at, size(symbols, at, line))
@@ -289,9 +290,9 @@ fn put_interface<'a>(
     e: Entry<'a>,
     descriptor: &Word<'a>,
 ) -> Result<(), AllocError>
-    requires { IsIndexed symbols.now symbols.now.entries.keys }
+    requires { HasIndexOf symbols.now symbols.now.entries.keys }
     ensures { OnOk result (out.new.items ≡ out.old.items ++ (INVOKEINTERFACE ∷ u2
-        (index_of symbols.now.entries.keys e.entry) ++ argument_count descriptor.now ∷ 0 ∷ [])) }
+        (entry_index symbols.now.entries.keys e.entry) ++ argument_count descriptor.now ∷ 0 ∷ [])) }
 {
     let count = argument_count(alloc, descriptor)?;
     put_u1(out, INVOKEINTERFACE)?;
@@ -309,7 +310,7 @@ fn put_instruction<'a>(
     at: usize,
     instruction: &Instruction<'a>,
 ) -> Result<(), AllocError>
-    requires { IsIndexed symbols.now symbols.now.entries.keys }
+    requires { HasIndexOf symbols.now symbols.now.entries.keys }
     ensures { OnOk result (out.new.items ≡ out.old.items ++ instruction_bytes
         symbols.now.entries.keys (places labels.now.entries) at instruction.now) }
 {
@@ -359,7 +360,7 @@ pub(crate) fn put_line<'a>(
     at: usize,
     line: &Line<'a>,
 ) -> Result<(), AllocError>
-    requires { IsIndexed symbols.now symbols.now.entries.keys }
+    requires { HasIndexOf symbols.now symbols.now.entries.keys }
     ensures { OnOk result (out.new.items ≡ out.old.items
         ++ line_bytes symbols.now.entries.keys (places labels.now.entries) at line.now) }
 {

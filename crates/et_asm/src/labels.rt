@@ -1,8 +1,8 @@
 //! The labels of a body.
 
 ghost use Rattle.std.specs.Prelude.{◌≡◌, ◌+◌, ℕ, List, OnOk, IfOk};
-ghost use Rattle.et_asm.specs.Symbols.{IsIndexed, places, define};
-ghost use Rattle.et_asm.specs.Code.{size, labels_of, is_defined, place_of};
+ghost use Rattle.et_asm.specs.Symbols.{HasIndexOf, places, define};
+ghost use Rattle.et_asm.specs.Code.{size, labels_of, is_defined, label_place};
 
 use crate::instruction::behind;
 use crate::symbols::Symbols;
@@ -23,7 +23,7 @@ pub(crate) fn is_defined(labels: &Labels, name: &Word) -> bool
 
 /// The place of a label, or 0 where it isn't defined.
 pub(crate) fn place_of(labels: &Labels, name: &Word) -> usize
-    ensures { result ≡ place_of (places labels.now.entries) name.now }
+    ensures { result ≡ label_place (places labels.now.entries) name.now }
 {
     labels.get(name).copied().unwrap_or(0)
 }
@@ -61,7 +61,7 @@ pub(crate) fn labels_of<'a>(
     symbols: &Symbols<'a>,
     body: &[Parsed<'a>],
 ) -> Result<Labels<'a>, AllocError>
-    requires { IsIndexed symbols.now symbols.now.entries.keys }
+    requires { HasIndexOf symbols.now symbols.now.entries.keys }
     ensures { IfOk result
         (λ labels. places labels.entries ≡ labels_of symbols.now.entries.keys body.now) }
 {

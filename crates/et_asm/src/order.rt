@@ -1,7 +1,7 @@
 //! Where lines may stand.
 
 ghost use Rattle.std.specs.Prelude.{◌≡◌};
-ghost use Rattle.et_asm.specs.Order.{opens, is_end, body_of, step, is_inside, is_finished, may_stand};
+ghost use Rattle.et_asm.specs.Order.{opens, is_end_line, lines_of_body, step, is_inside, is_finished, may_stand};
 
 use et_listing::line::{Line, Parsed};
 
@@ -48,7 +48,7 @@ pub(crate) fn opens(line: &Line) -> bool
 
 /// Whether a line ends a body.
 pub(crate) fn is_end(line: &Line) -> bool
-    ensures { result ≡ is_end line.now }
+    ensures { result ≡ is_end_line line.now }
 {
     match line {
         Line::End => true,
@@ -98,7 +98,7 @@ pub(crate) fn step(stage: Stage, line: &Line) -> Stage
 
 /// The lines of a body, up to its `end`, of the lines behind the one that opens it.
 pub(crate) fn body_of<'b, 'a>(lines: &'b [Parsed<'a>]) -> &'b [Parsed<'a>]
-    ensures { result.now ≡ body_of lines.now }
+    ensures { result.now ≡ lines_of_body lines.now }
 {
     for i in 0..lines.len() {
         if is_end(&lines[i].line) {

@@ -1,8 +1,8 @@
 //! The constant pool of a listing, with its indices.
 
 ghost use Rattle.std.specs.Prelude.{◌≡◌, ◌≤◌, ◌<◌, ◌+◌, ℕ, IfOk, length, take, slice_index};
-ghost use Rattle.et_asm.specs.Symbols.{IsIndexed};
-ghost use Rattle.et_asm.specs.Pool.{pool, width, index_behind, index_of};
+ghost use Rattle.et_asm.specs.Symbols.{HasIndexOf};
+ghost use Rattle.et_asm.specs.Pool.{pool, width, index_behind, entry_index};
 
 use crate::uses::pool;
 use et_listing::entry::Entry;
@@ -55,7 +55,7 @@ pub(crate) struct Symbols<'a> {
 
 /// The constant pool of lines, with the index of each entry.
 pub(crate) fn symbols_of<'a>(alloc: Global, lines: &[Parsed<'a>]) -> Result<Symbols<'a>, AllocError>
-    ensures { IfOk result (λ s. IsIndexed s (pool lines.now)) }
+    ensures { IfOk result (λ s. HasIndexOf s (pool lines.now)) }
 {
     let entries = pool(alloc, lines)?;
     let (indices, end) = indices(alloc, entries.as_slice())?;
@@ -68,8 +68,8 @@ pub(crate) fn symbols_of<'a>(alloc: Global, lines: &[Parsed<'a>]) -> Result<Symb
 
 /// The index of an entry, or 0 where the pool lacks it.
 pub(crate) fn index_of<'a>(symbols: &Symbols<'a>, e: &Entry<'a>) -> usize
-    requires { IsIndexed symbols.now symbols.now.entries.keys }
-    ensures { result ≡ index_of symbols.now.entries.keys e.now }
+    requires { HasIndexOf symbols.now symbols.now.entries.keys }
+    ensures { result ≡ entry_index symbols.now.entries.keys e.now }
 {
     match symbols.entries.get_index_of(e) {
         Some(place) => symbols.indices[place],

@@ -4,7 +4,7 @@ ghost use Rattle.std.specs.Prelude.{◌≡◌, ◌++◌, [], ◌∷◌, OnOk, If
 ghost use Rattle.std.specs.List.{flat_map};
 ghost use Rattle.indexmap.specs.IndexSet.{insert_key, insert_all};
 ghost use Rattle.et_asm.specs.Order.{is_inside};
-ghost use Rattle.et_asm.specs.Symbols.{added, stage_uses};
+ghost use Rattle.et_asm.specs.Symbols.{entry_added, stage_uses};
 ghost use Rattle.et_asm.specs.Pool.{same_entry, member_parts, constant_entries, attribute_entries, header_entries, code_entries, catch_entries, body_uses, outside_uses, pool};
 
 use crate::order::{Stage, body_of, is_inside, opens, step};
@@ -40,9 +40,9 @@ fn insert_member_parts<'a>(
 }
 
 /// Adds an entry behind its parts.
-#[tactic(auto, unfolding(crate::specs::Symbols::added))]
+#[tactic(auto, unfolding(crate::specs::Symbols::entry_added))]
 fn add<'a>(pool: &mut IndexSet<Entry<'a>>, e: &Entry<'a>) -> Result<(), AllocError>
-    ensures { OnOk result (pool.new.keys ≡ added pool.old.keys (e.now ∷ [])) }
+    ensures { OnOk result (pool.new.keys ≡ entry_added pool.old.keys (e.now ∷ [])) }
 {
     match e {
         Entry::Utf8(text) => insert(pool, Entry::Utf8(text.copy())),
@@ -85,14 +85,14 @@ fn add<'a>(pool: &mut IndexSet<Entry<'a>>, e: &Entry<'a>) -> Result<(), AllocErr
 
 /// Adds a text.
 fn add_text<'a>(pool: &mut IndexSet<Entry<'a>>, text: &Word<'a>) -> Result<(), AllocError>
-    ensures { OnOk result (pool.new.keys ≡ added pool.old.keys (Entry.Utf8 text.now ∷ [])) }
+    ensures { OnOk result (pool.new.keys ≡ entry_added pool.old.keys (Entry.Utf8 text.now ∷ [])) }
 {
     add(pool, &Entry::Utf8(text.copy()))
 }
 
 /// Adds a class.
 fn add_class<'a>(pool: &mut IndexSet<Entry<'a>>, name: &Word<'a>) -> Result<(), AllocError>
-    ensures { OnOk result (pool.new.keys ≡ added pool.old.keys (Entry.Class name.now ∷ [])) }
+    ensures { OnOk result (pool.new.keys ≡ entry_added pool.old.keys (Entry.Class name.now ∷ [])) }
 {
     add(pool, &Entry::Class(name.copy()))
 }
@@ -100,7 +100,8 @@ fn add_class<'a>(pool: &mut IndexSet<Entry<'a>>, name: &Word<'a>) -> Result<(), 
 /// Adds the value of a field, behind the name of its attribute.
 fn add_value<'a>(pool: &mut IndexSet<Entry<'a>>, e: &Entry<'a>) -> Result<(), AllocError>
     ensures { OnOk result
-        (pool.new.keys ≡ added pool.old.keys (Entry.Utf8 (codes "ConstantValue") ∷ e.now ∷ [])) }
+        (pool.new.keys ≡ entry_added pool.old.keys (Entry.Utf8 (codes "ConstantValue") ∷ e.now ∷
+        [])) }
 {
     add_text(pool, &Word::new(b"ConstantValue"))?;
     add(pool, e)?;
@@ -113,7 +114,8 @@ fn add_constant<'a>(
     pool: &mut IndexSet<Entry<'a>>,
     constant: &Option<Entry<'a>>,
 ) -> Result<(), AllocError>
-    ensures { OnOk result (pool.new.keys ≡ added pool.old.keys (constant_entries constant.now)) }
+    ensures { OnOk result (pool.new.keys ≡ entry_added pool.old.keys
+        (constant_entries constant.now)) }
 {
     match constant {
         None => Ok(()),
@@ -127,7 +129,7 @@ fn add_attribute<'a>(
     pool: &mut IndexSet<Entry<'a>>,
     limits: Option<(u16, u16)>,
 ) -> Result<(), AllocError>
-    ensures { OnOk result (pool.new.keys ≡ added pool.old.keys (attribute_entries limits)) }
+    ensures { OnOk result (pool.new.keys ≡ entry_added pool.old.keys (attribute_entries limits)) }
 {
     match limits {
         None => Ok(()),
@@ -143,7 +145,7 @@ fn add_texts<'a>(
     descriptor: &Word<'a>,
 ) -> Result<(), AllocError>
     ensures { OnOk result (pool.new.keys
-        ≡ added pool.old.keys (Entry.Utf8 name.now ∷ Entry.Utf8 descriptor.now ∷ [])) }
+        ≡ entry_added pool.old.keys (Entry.Utf8 name.now ∷ Entry.Utf8 descriptor.now ∷ [])) }
 {
     add_text(pool, name)?;
     add_text(pool, descriptor)
@@ -152,7 +154,7 @@ fn add_texts<'a>(
 /// Adds what a line outside of bodies uses.
 #[tactic(auto, using(crate::proofs::Added::added_two, crate::proofs::Added::added_three, crate::proofs::Added::added_none))]
 fn add_header<'a>(pool: &mut IndexSet<Entry<'a>>, line: &Line<'a>) -> Result<(), AllocError>
-    ensures { OnOk result (pool.new.keys ≡ added pool.old.keys (header_entries line.now)) }
+    ensures { OnOk result (pool.new.keys ≡ entry_added pool.old.keys (header_entries line.now)) }
 {
     match line {
         Line::Class(name, super_name, _) => {
@@ -175,7 +177,7 @@ fn add_header<'a>(pool: &mut IndexSet<Entry<'a>>, line: &Line<'a>) -> Result<(),
 /// Adds what an instruction uses.
 #[tactic(auto, using(crate::proofs::Added::added_none))]
 fn add_operands<'a>(pool: &mut IndexSet<Entry<'a>>, line: &Line<'a>) -> Result<(), AllocError>
-    ensures { OnOk result (pool.new.keys ≡ added pool.old.keys (code_entries line.now)) }
+    ensures { OnOk result (pool.new.keys ≡ entry_added pool.old.keys (code_entries line.now)) }
 {
     match line {
         Line::Instruction(Instruction::Load(e)) => add(pool, e),
@@ -192,7 +194,7 @@ fn add_operands<'a>(pool: &mut IndexSet<Entry<'a>>, line: &Line<'a>) -> Result<(
 /// Adds the class that a handler catches.
 #[tactic(auto, using(crate::proofs::Added::added_none))]
 fn add_caught<'a>(pool: &mut IndexSet<Entry<'a>>, line: &Line<'a>) -> Result<(), AllocError>
-    ensures { OnOk result (pool.new.keys ≡ added pool.old.keys (catch_entries line.now)) }
+    ensures { OnOk result (pool.new.keys ≡ entry_added pool.old.keys (catch_entries line.now)) }
 {
     match line {
         Line::Catch(_, _, _, Some(class)) => add_class(pool, class),
@@ -206,7 +208,7 @@ fn add_all_operands<'a>(
     body: &[Parsed<'a>],
 ) -> Result<(), AllocError>
     ensures { OnOk result
-        (pool.new.keys ≡ added pool.old.keys (flat_map (λ p. code_entries p.line) body.now)) }
+        (pool.new.keys ≡ entry_added pool.old.keys (flat_map (λ p. code_entries p.line) body.now)) }
 {
     for p in body {
         add_operands(pool, &p.line)?;
@@ -217,7 +219,7 @@ fn add_all_operands<'a>(
 /// Adds the classes that the handlers of a body catch.
 fn add_all_caught<'a>(pool: &mut IndexSet<Entry<'a>>, body: &[Parsed<'a>]) -> Result<(), AllocError>
     ensures { OnOk result
-        (pool.new.keys ≡ added pool.old.keys (flat_map (λ p. catch_entries p.line) body.now)) }
+        (pool.new.keys ≡ entry_added pool.old.keys (flat_map (λ p. catch_entries p.line) body.now)) }
 {
     for p in body {
         add_caught(pool, &p.line)?;
@@ -228,7 +230,7 @@ fn add_all_caught<'a>(pool: &mut IndexSet<Entry<'a>>, body: &[Parsed<'a>]) -> Re
 /// Adds what a body uses: the operands in their order, and then the classes that handlers catch.
 #[tactic(auto, using(crate::proofs::Added::added_more))]
 fn add_body<'a>(pool: &mut IndexSet<Entry<'a>>, body: &[Parsed<'a>]) -> Result<(), AllocError>
-    ensures { OnOk result (pool.new.keys ≡ added pool.old.keys (body_uses body.now)) }
+    ensures { OnOk result (pool.new.keys ≡ entry_added pool.old.keys (body_uses body.now)) }
 {
     add_all_operands(pool, body)?;
     add_all_caught(pool, body)
@@ -241,7 +243,8 @@ fn add_outside<'a>(
     line: &Line<'a>,
     more: &[Parsed<'a>],
 ) -> Result<(), AllocError>
-    ensures { OnOk result (pool.new.keys ≡ added pool.old.keys (outside_uses line.now more.now)) }
+    ensures { OnOk result (pool.new.keys ≡ entry_added pool.old.keys
+        (outside_uses line.now more.now)) }
 {
     add_header(pool, line)?;
     if opens(line) {
@@ -259,7 +262,7 @@ fn add_line<'a>(
     more: &[Parsed<'a>],
 ) -> Result<(), AllocError>
     ensures { OnOk result
-        (pool.new.keys ≡ added pool.old.keys (stage_uses stage line.now more.now)) }
+        (pool.new.keys ≡ entry_added pool.old.keys (stage_uses stage line.now more.now)) }
 {
     if is_inside(stage) {
         return Ok(());

@@ -1,7 +1,7 @@
 -- The first broken rule is one, and the fold finds it.
 use Rattle.std.proofs.Common.{◌≡◌, ℕ, Bool, true, false, cond, List, [], ◌∷◌, ◌++◌, Option, Some, None, refl, sym, ap, subst, ◌∙◌, arith, ◌⊎◌, inl, inr}
 use Rattle.std.proofs.lemmas.Bool.{cases_lt, ltb-true, ltb-false}
-use Rattle.et_base.specs.Marks.{Mark, Breaks, IsUpTo, MarksAre, IsTheOne, is_before, marked, first_from}
+use Rattle.et_base.specs.Marks.{Mark, Breaks, IsUpTo, MarksAre, IsTheOne, is_mark_before, marked, first_from}
 
 -- what was found before, or is broken among these
 abbrev Known : Option (ℕ × ℕ) → List Mark → ℕ → ℕ → Type 0
@@ -20,7 +20,7 @@ up_to_trans a b c d e f (inr x) (inl y) = inl (omega (arith, x.0))
 up_to_trans a b c d e f (inr x) (inr y) = inr (x.0 ∙ y.0, omega (arith, x.1, y.1))
 
 -- of two, one is up to the other
-before_true : (a b c d : ℕ) → is_before (a, b) (c, d) ≡ true → IsUpTo a b c d
+before_true : (a b c d : ℕ) → is_mark_before (a, b) (c, d) ≡ true → IsUpTo a b c d
 before_true a b c d e =
     elim (cases_lt a c) [
       | inl lt ↦ inl lt
@@ -30,7 +30,7 @@ before_true a b c d e =
       ]
     ]
 
-before_false : (a b c d : ℕ) → is_before (a, b) (c, d) ≡ false → IsUpTo c d a b
+before_false : (a b c d : ℕ) → is_mark_before (a, b) (c, d) ≡ false → IsUpTo c d a b
 before_false a b c d e =
     elim (cases_lt c a) [
       | inl lt ↦ inl lt
@@ -56,7 +56,7 @@ true_false : true ≡ false → ⊥
 true_false e = cc
 
 -- the earlier of two is one of them, and up to both
-pick : (b : Bool) (x y : ℕ × ℕ) → is_before x y ≡ b → (q : ℕ × ℕ) × (cond b (Some x) (Some y) ≡ Some q) × UpTo q x × UpTo q y
+pick : (b : Bool) (x y : ℕ × ℕ) → is_mark_before x y ≡ b → (q : ℕ × ℕ) × (cond b (Some x) (Some y) ≡ Some q) × UpTo q x × UpTo q y
 pick true x y e = (x, refl, self x, before_true x.0 x.1 y.0 y.1 e)
 pick false x y e = (y, refl, before_false x.0 x.1 y.0 y.1 e, self y)
 
@@ -69,7 +69,7 @@ from_marked : (acc : Option (ℕ × ℕ)) (place kind : ℕ) (holds : Bool) (z :
 from_marked acc place kind true z e = inl e
 from_marked None place kind false z e = let same = some_is (place, kind) z e in inr (refl, ap (λ (x : ℕ × ℕ). x.0) same, ap (λ (x : ℕ × ℕ). x.1) same)
 from_marked (Some y) place kind false z e =
-    elim (either (is_before (place, kind) y) (place, kind) y z e) [
+    elim (either (is_mark_before (place, kind) y) (place, kind) y z e) [
       | inl same ↦ inr (refl, ap (λ (x : ℕ × ℕ). x.0) same, ap (λ (x : ℕ × ℕ). x.1) same)
       | inr same ↦ inl (ap (λ (x : ℕ × ℕ). Some x) same)
     ]
@@ -79,13 +79,13 @@ to_old : (acc : Option (ℕ × ℕ)) (place kind : ℕ) (holds : Bool) (z : ℕ 
 to_old acc place kind true z e = (z, e, self z)
 to_old None place kind false z e = absurd (none_some z e)
 to_old (Some y) place kind false z e =
-    let p = pick (is_before (place, kind) y) (place, kind) y refl in
+    let p = pick (is_mark_before (place, kind) y) (place, kind) y refl in
     (p.0, p.1, subst (λ w. UpTo p.0 w) (some_is y z e) p.3)
 
 to_mark : (acc : Option (ℕ × ℕ)) (place kind : ℕ) (holds : Bool) → holds ≡ false → (q : ℕ × ℕ) × (marked acc (record { place = place; kind = kind; holds = holds }) ≡ Some q) × UpTo q (place, kind)
 to_mark acc place kind true e = absurd (true_false e)
 to_mark None place kind false e = ((place, kind), refl, self (place, kind))
-to_mark (Some y) place kind false e = let p = pick (is_before (place, kind) y) (place, kind) y refl in (p.0, p.1, p.2)
+to_mark (Some y) place kind false e = let p = pick (is_mark_before (place, kind) y) (place, kind) y refl in (p.0, p.1, p.2)
 
 back : (acc : Option (ℕ × ℕ)) (m : Mark) (ms : List Mark) (p k : ℕ) → Known (marked acc m) ms p k → Known acc (m ∷ ms) p k
 back acc m ms p k (inl e) = elim (from_marked acc m.place m.kind m.holds (p, k) e) [ inl a ↦ inl a | inr b ↦ inr (inl b) ]

@@ -9,6 +9,9 @@ pub record Mark : Type 0 where
   pub kind : ℕ
   pub holds : Bool
 
+abbrev pub mark : ℕ → ℕ → Bool → Mark
+mark place kind holds = record { place = place; kind = kind; holds = holds }
+
 -- a rule of this kind is broken at this place
 abbrev pub Breaks : List Mark → ℕ → ℕ → Type 0
 Breaks [] place kind = ⊥
@@ -19,14 +22,14 @@ abbrev pub IsUpTo : ℕ → ℕ → ℕ → ℕ → Type 0
 IsUpTo place kind p k = (place < p) ⊎ ((place ≡ p) × (kind ≤ k))
 
 -- the first broken item
-pub record IsFirst (marks : List Mark) (place kind : ℕ) : Type 0 where
+pub record IsFirstBroken (marks : List Mark) (place kind : ℕ) : Type 0 where
   pub broken : Breaks marks place kind
   pub first : (p k : ℕ) → Breaks marks p k → IsUpTo place kind p k
 
 -- all rules hold, or this is the place and the kind of the first broken item
 abbrev pub MarksAre : List Mark → Option (ℕ × ℕ) → Type 0
 MarksAre marks None = (p k : ℕ) → Breaks marks p k → ⊥
-MarksAre marks (Some x) = IsFirst marks x.0 x.1
+MarksAre marks (Some x) = IsFirstBroken marks x.0 x.1
 
 -- exactly one of these answers applies
 pub record IsTheOne (marks : List Mark) : Type 0 where
@@ -36,12 +39,12 @@ pub record IsTheOne (marks : List Mark) : Type 0 where
 
 -- HOW IT IS FOUND: the first so far, and one mark more
 
-abbrev pub is_before : ℕ × ℕ → ℕ × ℕ → Bool
-is_before a b = nat_lt a.0 b.0 || ((a.0 == b.0) && nat_lt a.1 b.1)
+abbrev pub is_mark_before : ℕ × ℕ → ℕ × ℕ → Bool
+is_mark_before a b = nat_lt a.0 b.0 || ((a.0 == b.0) && nat_lt a.1 b.1)
 
 abbrev pub first_of_two : Option (ℕ × ℕ) → ℕ × ℕ → Option (ℕ × ℕ)
 first_of_two None x = Some x
-first_of_two (Some y) x = if is_before x y then Some x else Some y
+first_of_two (Some y) x = if is_mark_before x y then Some x else Some y
 
 abbrev pub marked : Option (ℕ × ℕ) → Mark → Option (ℕ × ℕ)
 marked first m = if m.holds then first else first_of_two first (m.place, m.kind)

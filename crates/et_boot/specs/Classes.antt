@@ -94,8 +94,8 @@ throwable name above = record { name = name; super_name = Some above; flags = pu
 
 -- CLASSES WITH MORE THAN THAT
 
-abbrev pub object : BootClassOf
-object = record {
+abbrev pub object_class_file : BootClassOf
+object_class_file = record {
   name = codes "java/lang/Object";
   super_name = None;
   flags = public;
@@ -203,7 +203,7 @@ weak_reference = record {
 
 abbrev pub boot_classes : List BootClassOf
 boot_classes =
-    object
+    object_class_file
     ∷ interface (codes "java/lang/Runnable") (without_body (codes "run") (codes "()V") ∷ [])
     ∷ interface (codes "java/lang/Cloneable") []
     ∷ interface (codes "java/lang/AutoCloseable") (without_body (codes "close") (codes "()V") ∷ [])

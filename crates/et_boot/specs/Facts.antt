@@ -4,18 +4,18 @@ use Rattle.std.specs.List.{list_any, list_all}
 use Rattle.std.specs.Str.{bytes_eq}
 use Rattle.et_boot.specs.Classes.{BootClassOf, public_interface}
 
-abbrev pub is_named : List ℕ → BootClassOf → Bool
-is_named name c = bytes_eq name c.name
+abbrev pub is_class_named : List ℕ → BootClassOf → Bool
+is_class_named name c = bytes_eq name c.name
 
 -- no class has the name of an earlier one
 abbrev pub are_distinct : List BootClassOf → Bool
 are_distinct [] = true
-are_distinct (c ∷ cs) = not (list_any (is_named c.name) cs) && are_distinct cs
+are_distinct (c ∷ cs) = not (list_any (is_class_named c.name) cs) && are_distinct cs
 
 -- the name is that of a class of the list that is an interface, or that is none
 abbrev pub has_kind : List BootClassOf → Bool → List ℕ → Bool
-has_kind cs true name = list_any (λ c. is_named name c && (c.flags == public_interface)) cs
-has_kind cs false name = list_any (λ c. is_named name c && not (c.flags == public_interface)) cs
+has_kind cs true name = list_any (λ c. is_class_named name c && (c.flags == public_interface)) cs
+has_kind cs false name = list_any (λ c. is_class_named name c && not (c.flags == public_interface)) cs
 
 abbrev pub has_super : List BootClassOf → Option (List ℕ) → Bool
 has_super before None = true
@@ -28,12 +28,12 @@ are_in_order before (c ∷ cs) = (has_super before c.super_name && list_all (has
 
 -- Thread, Reference or WeakReference
 abbrev pub is_deferring : BootClassOf → Bool
-is_deferring c = list_any (λ name. is_named name c) (codes "java/lang/Thread" ∷ codes "java/lang/ref/Reference" ∷ codes "java/lang/ref/WeakReference" ∷ [])
+is_deferring c = list_any (λ name. is_class_named name c) (codes "java/lang/Thread" ∷ codes "java/lang/ref/Reference" ∷ codes "java/lang/ref/WeakReference" ∷ [])
 
-abbrev pub same : Bool → Bool → Bool
-same true b = b
-same false b = not b
+abbrev pub same_flag : Bool → Bool → Bool
+same_flag true b = b
+same_flag false b = not b
 
 -- deferred is exactly a method without code of one of those three
 abbrev pub defers_exactly : BootClassOf → Bool
-defers_exactly c = list_all (λ m. same m.deferred (is_deferring c && not (is_some m.code))) c.methods
+defers_exactly c = list_all (λ m. same_flag m.deferred (is_deferring c && not (is_some m.code))) c.methods

@@ -9,7 +9,7 @@ use Rattle.et_base.proofs.Lists.{Contains-none}
 use Rattle.et_heap.specs.Objects.{ObjectState, Objects, IsHeld, at, found, object_at, slot_of, with_slot, with_object_at, with_referent, referent_of}
 use Rattle.et_heap.specs.Refs.{refs_of_value, refs_of}
 use Rattle.et_heap.proofs.HeapLists.{held_set, held_within}
-use Rattle.et_state.specs.Threads.{FrameState, ThreadState, no_thread, new_thread, at_pc, popped, pushed, thread_with, is_object_of, with_top_of}
+use Rattle.et_state.specs.Threads.{FrameState, ThreadState, no_thread, new_thread, at_pc, popped, pushed, thread_with, is_thread_object, with_top_of}
 use Rattle.et_state.specs.ThreadRoots.{frame_roots}
 use Rattle.et_state.specs.State.{Kept, MachineState, kept_of}
 use Rattle.et_state.specs.Words.{thread_at, top, with_top, with_guest, with_new_thread, HasFrame, ticked, begun, steps_top, steps_object, with_object}
@@ -227,10 +227,10 @@ referent_set p t n pc o v m b b₁ at out sound has le same held value e e₁ =
 
 -- A THREAD IS STARTED
 
-position_set : (o i t : ℕ) (xs : List ThreadState) (y : ThreadState) → is_object_of o y ≡ is_object_of o (get_or xs t no_thread) → position_from (is_object_of o) i (set xs t y) ≡ position_from (is_object_of o) i xs
+position_set : (o i t : ℕ) (xs : List ThreadState) (y : ThreadState) → is_thread_object o y ≡ is_thread_object o (get_or xs t no_thread) → position_from (is_thread_object o) i (set xs t y) ≡ position_from (is_thread_object o) i xs
 position_set o i t [] y e = refl
-position_set o i zero (x ∷ xs) y e = ap (λ (b : Bool). if b then Some i else position_from (is_object_of o) (i + 1) xs) e
-position_set o i (suc t) (x ∷ xs) y e = ap (λ (r : Option ℕ). if is_object_of o x then Some i else r) (position_set o (i + 1) t xs y e)
+position_set o i zero (x ∷ xs) y e = ap (λ (b : Bool). if b then Some i else position_from (is_thread_object o) (i + 1) xs) e
+position_set o i (suc t) (x ∷ xs) y e = ap (λ (r : Option ℕ). if is_thread_object o x then Some i else r) (position_set o (i + 1) t xs y e)
 
 pub fresh_still : (m : MachineState) (t n pc o : ℕ) (b : MachineState) → b ≡ passed_by m t n pc → thread_with m.guest.threads o ≡ None → thread_with b.guest.threads o ≡ None
 fresh_still m t n pc o b e h =

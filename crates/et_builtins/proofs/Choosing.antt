@@ -7,14 +7,14 @@ use Rattle.std.specs.Str.{bytes_eq}
 use Rattle.std.proofs.lemmas.Bool.{and_parts}
 use Rattle.std.proofs.lemmas.Slice.Eq.{bytes_eq-Decides}
 use Rattle.et_program.specs.Entries.{Linked, method_at, no_method, class_at, is_interface, is_private, is_abstract}
-use Rattle.et_program.specs.Members.{amount, first_in, is_method, is_open, is_overridden, is_subclass, kept, lineage, method_in, only, open_in, resolved_above, specific_in, specific_methods}
+use Rattle.et_program.specs.Members.{amount, first_in, is_method, is_open_method, is_overridden, is_subclass, kept, lineage, method_in, only, open_in, resolved_above, specific_in, specific_methods}
 use Rattle.et_program.specs.Resolution.{is_selectable, resolve_method, select, select_from, select_special, selectable_in, selected, selected_above, special_start}
 use Rattle.et_program.specs.declared.info.MethodInfo.{MethodInfo}
 use Rattle.et_program.specs.declared.errors.LinkError.{LinkError}
 use Rattle.et_program.specs.declared.errors.LinkError.TheVariants.{NoSuchMethod, IncompatibleClassChange, AbstractMethod}
-use Rattle.et_event.specs.Moments.{Moment, frame_of}
+use Rattle.et_event.specs.Moments.{Moment, current_frame}
 use Rattle.et_event.specs.Kinds.{returned_width}
-use Rattle.et_builtins.specs.Plans.{HasRoom}
+use Rattle.et_builtins.specs.Plans.{HasCallRoom}
 use Rattle.et_builtins.specs.Types.{returned_in}
 
 -- the method has this descriptor
@@ -68,7 +68,7 @@ first_has p d f [] h = tt
 first_has p d f (c ∷ cs) h = either_has p d (f c) (first_in f cs) (h c) (first_has p d f cs h)
 
 open_has : (p : Linked) (name d : List ℕ) (c : ℕ) → IfSome (open_in p name d c) (λ m. Has p d m)
-open_has p name d c = kept_has p d (is_open p) (method_in p name d c) (in_class p name d c)
+open_has p name d c = kept_has p d (is_open_method p) (method_in p name d c) (in_class p name d c)
 
 specific_has : (p : Linked) (name d all : List ℕ) (i : ℕ) → IfSome (specific_in p name d all i) (λ m. Has p d m)
 specific_has p name d all i = by_test (is_overridden p name d all i)
@@ -167,17 +167,17 @@ special_same p current named m = by_name (bytes_eq (method_at p m).name (codes "
 
 -- WHAT THE METHOD RETURNS has room then
 
-room_of : (e : Moment) (m count : ℕ) (r : Result ℕ LinkError) → HasRoom e m count → IfOk r (λ n. (method_at e.program n).descriptor ≡ (method_at e.program m).descriptor) → IfOk r (λ n. HasRoom e n count)
+room_of : (e : Moment) (m count : ℕ) (r : Result ℕ LinkError) → HasCallRoom e m count → IfOk r (λ n. (method_at e.program n).descriptor ≡ (method_at e.program m).descriptor) → IfOk r (λ n. HasCallRoom e n count)
 room_of e m count (Err error) room h = tt
-room_of e m count (Ok n) room h = subst (λ (d : List ℕ). length (drop count (frame_of e).operands) + returned_width (returned_in d) ≤ (frame_of e).room) (sym h) room
+room_of e m count (Ok n) room h = subst (λ (d : List ℕ). length (drop count (current_frame e).operands) + returned_width (returned_in d) ≤ (current_frame e).room) (sym h) room
 
-pub select_room : (e : Moment) (c m count : ℕ) (by_interface : Bool) (r : Result ℕ LinkError) → r ≡ select e.program c m by_interface → HasRoom e m count → IfOk r (λ n. HasRoom e n count)
+pub select_room : (e : Moment) (c m count : ℕ) (by_interface : Bool) (r : Result ℕ LinkError) → r ≡ select e.program c m by_interface → HasCallRoom e m count → IfOk r (λ n. HasCallRoom e n count)
 select_room e c m count by_interface r is room =
     room_of e m count r room (subst (λ (q : Result ℕ LinkError). IfOk q (λ n. (method_at e.program n).descriptor ≡ (method_at e.program m).descriptor)) (sym is) (select_same e.program c m by_interface))
 
-pub special_room : (e : Moment) (current named m count : ℕ) (r : Result ℕ LinkError) → r ≡ select_special e.program current named m → HasRoom e m count → IfOk r (λ n. HasRoom e n count)
+pub special_room : (e : Moment) (current named m count : ℕ) (r : Result ℕ LinkError) → r ≡ select_special e.program current named m → HasCallRoom e m count → IfOk r (λ n. HasCallRoom e n count)
 special_room e current named m count r is room =
     room_of e m count r room (subst (λ (q : Result ℕ LinkError). IfOk q (λ n. (method_at e.program n).descriptor ≡ (method_at e.program m).descriptor)) (sym is) (special_same e.program current named m))
 
-pub resolved_room : (e : Moment) (m count : ℕ) (d : List ℕ) → (method_at e.program m).descriptor ≡ d → length (drop count (frame_of e).operands) + returned_width (returned_in d) ≤ (frame_of e).room → HasRoom e m count
-resolved_room e m count d same room = subst (λ (s : List ℕ). length (drop count (frame_of e).operands) + returned_width (returned_in s) ≤ (frame_of e).room) (sym same) room
+pub resolved_room : (e : Moment) (m count : ℕ) (d : List ℕ) → (method_at e.program m).descriptor ≡ d → length (drop count (current_frame e).operands) + returned_width (returned_in d) ≤ (current_frame e).room → HasCallRoom e m count
+resolved_room e m count d same room = subst (λ (s : List ℕ). length (drop count (current_frame e).operands) + returned_width (returned_in s) ≤ (current_frame e).room) (sym same) room

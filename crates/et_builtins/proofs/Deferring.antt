@@ -21,11 +21,11 @@ use Rattle.et_state.specs.Words.{thread_at, top}
 use Rattle.et_event.specs.declared.rows.Row.{Row}
 use Rattle.et_event.specs.Answered.{EventAnswers}
 use Rattle.et_event.specs.Families.{row_at}
-use Rattle.et_event.specs.Moments.{Moment, frame_of, moment}
+use Rattle.et_event.specs.Moments.{Moment, current_frame, moment}
 use Rattle.et_event.specs.Sites.{Site, decoded_at, site_of}
 use Rattle.et_parts.specs.Places.{IsPlace, site_at}
 use Rattle.et_parts.specs.declared.places.Place.{Place}
-use Rattle.et_builtins.specs.Deferred.{DefersOrAnswers, deferred_at, deferred_by, deferred_call, deferred_in, is_deferred, is_deferring}
+use Rattle.et_builtins.specs.Deferred.{DefersOrAnswers, deferred_at, deferred_by, deferred_call, deferred_in, is_deferred, is_deferring_class}
 
 -- WHICH TURN IT IS
 
@@ -39,12 +39,12 @@ at_place p m t place turn is =
     let e : Moment = moment p m t in
     at_turn p (kept_of m) t Instruction turn
     ∙ (ap (λ (d : Result (Instr × ℕ) CodeFault). deferred_by e d) is.decoded
-    ∙ (ap (λ (r : Option Row). option_and_then (deferred_at e (site_of p (frame_of e) (place.instr, place.next))) r) is.row
+    ∙ (ap (λ (r : Option Row). option_and_then (deferred_at e (site_of p (current_frame e) (place.instr, place.next))) r) is.row
     ∙ ap (λ (at : Site). deferred_at e at place.row) (sym is.site)))
 
 no_row : (e : Moment) (d : Result (Instr × ℕ) CodeFault) → row_at d ≡ None → deferred_by e d ≡ None
 no_row e (Err fault) none = refl
-no_row e (Ok x) none = ap (λ (r : Option Row). option_and_then (deferred_at e (site_of e.program (frame_of e) x)) r) none
+no_row e (Ok x) none = ap (λ (r : Option Row). option_and_then (deferred_at e (site_of e.program (current_frame e) x)) r) none
 
 pub at_no_place : (p : Linked) (m : MachineState) (t : ℕ) → turn_of (thread_at m.guest t) ≡ Instruction → row_at (decoded_at p (top m.guest t)) ≡ None → deferred_call p (kept_of m) t ≡ None
 at_no_place p m t turn none = at_turn p (kept_of m) t Instruction turn ∙ no_row (moment p m t) (decoded_at p (top m.guest t)) none
@@ -70,10 +70,10 @@ not_native true false true a d h = cc
 not_native false s true a d h = cc
 
 pub deferred_codeless : (p : Linked) (m : ℕ) → is_deferred p m ≡ true → (method_at p m).code ≡ None
-deferred_codeless p m h = codeless_tested (method_at p m).code (is_static p m) (has (method_at p m).flags NATIVE) (is_abstract p m) (is_deferring (class_at p (method_at p m).class).info.name) h
+deferred_codeless p m h = codeless_tested (method_at p m).code (is_static p m) (has (method_at p m).flags NATIVE) (is_abstract p m) (is_deferring_class (class_at p (method_at p m).class).info.name) h
 
 pub deferred_not_native : (p : Linked) (m : ℕ) → is_deferred p m ≡ true → has (method_at p m).flags NATIVE ≡ false
-deferred_not_native p m h = not_native (is_none (method_at p m).code) (is_static p m) (has (method_at p m).flags NATIVE) (is_abstract p m) (is_deferring (class_at p (method_at p m).class).info.name) h
+deferred_not_native p m h = not_native (is_none (method_at p m).code) (is_static p m) (has (method_at p m).flags NATIVE) (is_abstract p m) (is_deferring_class (class_at p (method_at p m).class).info.name) h
 
 kept_by : (b : Bool) (m : ℕ) → IsSome (if b then Some m else None) → b ≡ true
 kept_by true m h = refl

@@ -13,8 +13,8 @@ use Rattle.et_pool.specs.declared.descriptor.MethodShape.{MethodShape}
 use Rattle.et_event.specs.declared.rows.Operand.{Operand}
 use Rattle.et_event.specs.declared.rows.Operand.TheVariants as operand
 use Rattle.et_event.specs.Calls.{are_of, are_arguments, arguments_of, begin_with, call_fits, entry_count}
-use Rattle.et_event.specs.Kinds.{kind_of, kind_of_letter, returned_width}
-use Rattle.et_event.specs.Moments.{Moment, frame_of}
+use Rattle.et_event.specs.Kinds.{operand_kind, kind_of_letter, returned_width}
+use Rattle.et_event.specs.Moments.{Moment, current_frame}
 use Rattle.et_state.specs.Threads.{FrameState}
 use Rattle.et_builtins.specs.Arguments.{arguments_in}
 use Rattle.et_builtins.specs.Arguments.{are_of_types, are_passed, fitting, is_passing}
@@ -63,7 +63,7 @@ letter_width a rest operand.Int e = grind (arith, nat_tests)
 letter_width a rest operand.Long e = grind (arith, nat_tests)
 letter_width a rest operand.Reference e = grind (arith, nat_tests)
 
-type_width : (t : List ℕ) (kind : Operand) → kind_of t ≡ Some kind → width_of t ≡ operand_width kind
+type_width : (t : List ℕ) (kind : Operand) → operand_kind t ≡ Some kind → width_of t ≡ operand_width kind
 type_width [] kind e = cc
 type_width (a ∷ rest) kind e = letter_width a rest kind e
 
@@ -94,7 +94,7 @@ are_of_length : (types : List (List ℕ)) (vs : List Value) → are_of types vs 
 are_of_length [] [] e = refl
 are_of_length [] (v ∷ vs) e = cc
 are_of_length (t ∷ types) vs e =
-    let b : Begins (kind_of t) (are_of types) vs = begins (kind_of t) (are_of types) vs e in
+    let b : Begins (operand_kind t) (are_of types) vs = begins (operand_kind t) (are_of types) vs e in
     let one : width_of t ≡ operand_width b.operand = type_width t b.operand b.is in
     let more : length b.rest ≡ sum_by width_of types = are_of_length types b.rest b.passes in
     let split : sum_by width_of (t ∷ types) ≡ width_of t + sum_by width_of types = sum_by-cons width_of t types in
@@ -127,23 +127,23 @@ too_few static type ops true lt e =
     let same : length (reverse (take n ops)) ≡ length (take n ops) = length-reverse (take n ops) in
     let short : length (take n ops) ≤ length ops = taken_short ops n in absurd (omega arith)
 
-pub fitting_few : (e : Moment) (static : Bool) (type : MethodType) → length (frame_of e).operands < entry_count static type → fitting e static (Some type) ≡ None
+pub fitting_few : (e : Moment) (static : Bool) (type : MethodType) → length (current_frame e).operands < entry_count static type → fitting e static (Some type) ≡ None
 fitting_few e static type lt =
-    ap (λ (b : Bool). if b && nat_le (length (drop (entry_count static type) (frame_of e).operands) + returned_width type.returned) (frame_of e).room then Some (entry_count static type) else None)
-    (too_few static type (frame_of e).operands (are_arguments static type (arguments_of e (entry_count static type))) lt refl)
+    ap (λ (b : Bool). if b && nat_le (length (drop (entry_count static type) (current_frame e).operands) + returned_width type.returned) (current_frame e).room then Some (entry_count static type) else None)
+    (too_few static type (current_frame e).operands (are_arguments static type (arguments_of e (entry_count static type))) lt refl)
 
-passing_type : (e : Moment) (static : Bool) (d : List ℕ) (type : MethodType) (count : ℕ) → method_type d ≡ Some type → count ≡ entry_count static type → is_passing (frame_of e) static d count ≡ call_fits e static type
+passing_type : (e : Moment) (static : Bool) (d : List ℕ) (type : MethodType) (count : ℕ) → method_type d ≡ Some type → count ≡ entry_count static type → is_passing (current_frame e) static d count ≡ call_fits e static type
 passing_type e static [] type count m n = cc
 passing_type e static (a ∷ s) type count m n =
-    let ops : List Value = (frame_of e).operands in
+    let ops : List Value = (current_frame e).operands in
     let left : length ops - count ≡ length (drop count ops) = sym (length-drop count ops) in
-    ap (λ (b : Bool). b && nat_le (length ops - count + returned_width (returned_in (a ∷ s))) (frame_of e).room) (passed_is static a s type (arguments_in (frame_of e) count) m)
-    ∙ (ap (λ (k : ℕ). are_arguments static type (arguments_in (frame_of e) count) && nat_le (k + returned_width (returned_in (a ∷ s))) (frame_of e).room) left
-    ∙ (ap (λ (r : List ℕ). are_arguments static type (arguments_in (frame_of e) count) && nat_le (length (drop count ops) + returned_width r) (frame_of e).room) (returned_is (a ∷ s) type m)
-    ∙ ap (λ (k : ℕ). are_arguments static type (arguments_in (frame_of e) k) && nat_le (length (drop k ops) + returned_width type.returned) (frame_of e).room) n))
+    ap (λ (b : Bool). b && nat_le (length ops - count + returned_width (returned_in (a ∷ s))) (current_frame e).room) (passed_is static a s type (arguments_in (current_frame e) count) m)
+    ∙ (ap (λ (k : ℕ). are_arguments static type (arguments_in (current_frame e) count) && nat_le (k + returned_width (returned_in (a ∷ s))) (current_frame e).room) left
+    ∙ (ap (λ (r : List ℕ). are_arguments static type (arguments_in (current_frame e) count) && nat_le (length (drop count ops) + returned_width r) (current_frame e).room) (returned_is (a ∷ s) type m)
+    ∙ ap (λ (k : ℕ). are_arguments static type (arguments_in (current_frame e) k) && nat_le (length (drop k ops) + returned_width type.returned) (current_frame e).room) n))
 
 pub fitting_is : (e : Moment) (static : Bool) (d : List ℕ) (type : MethodType) (count : ℕ) → method_type d ≡ Some type → count ≡ entry_count static type
-    → (if is_passing (frame_of e) static d count then Some count else None) ≡ fitting e static (method_type d)
+    → (if is_passing (current_frame e) static d count then Some count else None) ≡ fitting e static (method_type d)
 fitting_is e static d type count m n =
     ap (λ (b : Bool). if b then Some count else None) (passing_type e static d type count m n)
     ∙ (ap (λ (k : ℕ). if call_fits e static type then Some k else None) n
@@ -177,7 +177,7 @@ some_counted : (b : Bool) (n count : ℕ) → Some count ≡ (if b then Some n e
 some_counted true n count e = cc
 some_counted false n count e = cc
 
-pub count_refused : (e : Moment) (static : Bool) (d : List ℕ) (shape : MethodShape) (depth : ℕ) → Some shape ≡ option_map shape_of_method (method_type d) → depth ≡ length (frame_of e).operands
+pub count_refused : (e : Moment) (static : Bool) (d : List ℕ) (shape : MethodShape) (depth : ℕ) → Some shape ≡ option_map shape_of_method (method_type d) → depth ≡ length (current_frame e).operands
     → None ≡ (if nat_le (counted shape static) depth then Some (counted shape static) else None) → fitting e static (method_type d) ≡ None
 count_refused e static d shape depth is deep none =
     let s : Shaped (method_type d) shape = shaped (method_type d) shape is in
@@ -186,7 +186,7 @@ count_refused e static d shape depth is deep none =
     ap (λ (o : Option MethodType). fitting e static o) s.is ∙ fitting_few e static s.type (omega arith)
 
 pub passes_by : (e : Moment) (static : Bool) (d : List ℕ) (shape : MethodShape) (depth count : ℕ) → Some shape ≡ option_map shape_of_method (method_type d)
-    → Some count ≡ (if nat_le (counted shape static) depth then Some (counted shape static) else None) → is_passing (frame_of e) static d count ≡ true → Some count ≡ fitting e static (method_type d)
+    → Some count ≡ (if nat_le (counted shape static) depth then Some (counted shape static) else None) → is_passing (current_frame e) static d count ≡ true → Some count ≡ fitting e static (method_type d)
 passes_by e static d shape depth count is some passes =
     let s : Shaped (method_type d) shape = shaped (method_type d) shape is in
     let n : count ≡ entry_count static s.type = some_counted (nat_le (counted shape static) depth) (counted shape static) count some ∙ counted_is d shape static s in

@@ -10,7 +10,7 @@ use Rattle.et_pool.proofs.Types.{with_types, types_front, types_end, types_none}
 use Rattle.et_event.specs.declared.rows.Operand.{Operand}
 use Rattle.et_event.specs.declared.rows.Operand.TheVariants as operand
 use Rattle.et_event.specs.Calls.{are_of, begin_with, is_empty}
-use Rattle.et_event.specs.Kinds.{kind_of}
+use Rattle.et_event.specs.Kinds.{operand_kind}
 use Rattle.et_builtins.specs.Arguments.{entries_in, are_of_types, are_passed}
 
 -- ONE ARGUMENT
@@ -94,15 +94,15 @@ passing_none s (a ∷ rest) vs from at b some e h =
 
 -- one type more
 
-kind_first : (a : ℕ) (rest after : List ℕ) → after_type (a ∷ rest) ≡ Some after → length after < length (a ∷ rest) → kind_of (take (length (a ∷ rest) - length after) (a ∷ rest)) ≡ kind_of (a ∷ rest)
+kind_first : (a : ℕ) (rest after : List ℕ) → after_type (a ∷ rest) ≡ Some after → length after < length (a ∷ rest) → operand_kind (take (length (a ∷ rest) - length after) (a ∷ rest)) ≡ operand_kind (a ∷ rest)
 kind_first a rest after h lt = taken_first (length (a ∷ rest) - length after) (omega arith)
   where
-    taken_first : (n : ℕ) → 0 < n → kind_of (take n (a ∷ rest)) ≡ kind_of (a ∷ rest)
+    taken_first : (n : ℕ) → 0 < n → operand_kind (take n (a ∷ rest)) ≡ operand_kind (a ∷ rest)
     taken_first zero le = absurd (omega arith)
     taken_first (suc n) le = refl
 
 typed : (s rest after : List ℕ) (vs : List Value) (from at : ℕ) (b : Passing s rest vs from at) → 0 < length rest → eqb (get_or rest 0 0) 41 ≡ false → after_type rest ≡ Some after → length after < length rest
-    → are_of_types s (drop from vs) ≡ option_map_or (λ n. option_map_or (λ (x : List (List ℕ) × List ℕ). are_of x.0 (drop (at + n) vs)) (types_of (b.most - 1) after) false) (entries_in (kind_of rest) (get_or vs at Unset) (get_or vs (at + 1) Unset)) false
+    → are_of_types s (drop from vs) ≡ option_map_or (λ n. option_map_or (λ (x : List (List ℕ) × List ℕ). are_of x.0 (drop (at + n) vs)) (types_of (b.most - 1) after) false) (entries_in (operand_kind rest) (get_or vs at Unset) (get_or vs (at + 1) Unset)) false
 typed s [] after vs from at b some e h lt = absurd (omega arith)
 typed s (a ∷ rest) after vs from at b some e h lt =
     let first : List ℕ = take (length (a ∷ rest) - length after) (a ∷ rest) in
@@ -112,7 +112,7 @@ typed s (a ∷ rest) after vs from at b some e h lt =
     ∙ (ap (λ (o : Option (List (List ℕ) × List ℕ)). option_map_or (λ (x : List (List ℕ) × List ℕ). are_of x.0 (drop at vs)) o false) here
     ∙ (one first (types_of (b.most - 1) after)
     ∙ (ap (λ (k : Option Operand). begin_with k (λ ws. option_map_or (λ (x : List (List ℕ) × List ℕ). are_of x.0 ws) (types_of (b.most - 1) after) false) (drop at vs)) (kind_first a rest after h lt)
-    ∙ begins_from (kind_of (a ∷ rest)) (λ ws. option_map_or (λ (x : List (List ℕ) × List ℕ). are_of x.0 ws) (types_of (b.most - 1) after) false) vs at)))
+    ∙ begins_from (operand_kind (a ∷ rest)) (λ ws. option_map_or (λ (x : List (List ℕ) × List ℕ). are_of x.0 ws) (types_of (b.most - 1) after) false) vs at)))
   where
     never : (k : Option Operand) (ws : List Value) → begin_with k (λ us. false) ws ≡ false
     never k ws = begins_here k (λ us. false) ws ∙ const (entries_in k (get_or ws 0 Unset) (get_or ws 1 Unset))
@@ -122,12 +122,12 @@ typed s (a ∷ rest) after vs from at b some e h lt =
         const (Some n) = refl
 
     one : (t : List ℕ) (o : Option (List (List ℕ) × List ℕ)) → option_map_or (λ (x : List (List ℕ) × List ℕ). are_of x.0 (drop at vs)) (option_map (λ (more : List (List ℕ) × List ℕ). (t ∷ more.0, more.1)) o) false
-        ≡ begin_with (kind_of t) (λ ws. option_map_or (λ (x : List (List ℕ) × List ℕ). are_of x.0 ws) o false) (drop at vs)
-    one t None = sym (never (kind_of t) (drop at vs))
+        ≡ begin_with (operand_kind t) (λ ws. option_map_or (λ (x : List (List ℕ) × List ℕ). are_of x.0 ws) o false) (drop at vs)
+    one t None = sym (never (operand_kind t) (drop at vs))
     one t (Some x) = refl
 
 pub passing_refused : (s rest after : List ℕ) (vs : List Value) (from at : ℕ) → Passing s rest vs from at → 0 < length rest → eqb (get_or rest 0 0) 41 ≡ false → after_type rest ≡ Some after → length after < length rest
-    → entries_in (kind_of rest) (get_or vs at Unset) (get_or vs (at + 1) Unset) ≡ None → are_of_types s (drop from vs) ≡ false
+    → entries_in (operand_kind rest) (get_or vs at Unset) (get_or vs (at + 1) Unset) ≡ None → are_of_types s (drop from vs) ≡ false
 passing_refused s rest after vs from at b some e h lt none =
     typed s rest after vs from at b some e h lt
     ∙ ap (λ (o : Option ℕ). option_map_or (λ n. option_map_or (λ (x : List (List ℕ) × List ℕ). are_of x.0 (drop (at + n) vs)) (types_of (b.most - 1) after) false) o false) none
@@ -169,12 +169,12 @@ entries_deep kind (v ∷ vs) (suc at) n le e =
     let h : at + n ≤ length vs = entries_deep kind vs at n (omega arith) (ap (λ (i : ℕ). entries_in kind (get_or vs at Unset) (get_or (v ∷ vs) i Unset)) (sym k) ∙ e) in omega arith
 
 pub passing_more : (s rest after : List ℕ) (vs : List Value) (from at n : ℕ) → Passing s rest vs from at → 0 < length rest → eqb (get_or rest 0 0) 41 ≡ false → after_type rest ≡ Some after → length after < length rest
-    → entries_in (kind_of rest) (get_or vs at Unset) (get_or vs (at + 1) Unset) ≡ Some n → Passing s after vs from (at + n)
+    → entries_in (operand_kind rest) (get_or vs at Unset) (get_or vs (at + 1) Unset) ≡ Some n → Passing s after vs from (at + n)
 passing_more s rest after vs from at n b some e h lt one = record {
   most = b.most - 1;
   enough = omega (arith, b.enough, lt);
   same = sym (typed s rest after vs from at b some e h lt ∙ ap (λ (o : Option ℕ). option_map_or (λ n. option_map_or (λ (x : List (List ℕ) × List ℕ). are_of x.0 (drop (at + n) vs)) (types_of (b.most - 1) after) false) o false) one);
-  within = entries_deep (kind_of rest) vs at n b.within one;
+  within = entries_deep (operand_kind rest) vs at n b.within one;
 }
 
 -- THE RECEIVER

@@ -17,10 +17,10 @@ use Rattle.et_builtins.specs.Arguments.{fitting}
 use Rattle.et_builtins.specs.Deferred.{is_deferred, selected_by, selected_from, selected_method, selected_on, with_resolved}
 use Rattle.et_pool.specs.Descriptors.{MethodType, method_type}
 use Rattle.et_state.specs.Outcome.{Outcome}
-use Rattle.et_event.specs.Checks.{ill_typed_unless, not_null, resolved, selected, throws_unless}
+use Rattle.et_event.specs.Checks.{ill_typed_unless, not_null, resolved, after_selection, throws_unless}
 use Rattle.et_event.specs.Frames.{first_reference}
-use Rattle.et_event.specs.Moments.{Moment, begins, class_of, ill_typed, throws}
-use Rattle.et_event.specs.Sites.{Member, Site, member_of, names_interface}
+use Rattle.et_event.specs.Moments.{Moment, begins, object_class, ill_typed, throws}
+use Rattle.et_event.specs.Sites.{Member, Site, site_member, names_interface}
 use Rattle.et_event.specs.Sound.{IsSoundFor}
 
 there_is : (x : Option ObjectState) → is_there x → x ≡ Some (found x)
@@ -34,42 +34,42 @@ class_within p m o sound held = (sound.objects o (found (at m.heap o)) (there_is
 
 pub virtual_null : (e : Moment) (at : Site) (args : List Value) (named m : ℕ) → first_reference args ≡ None → dispatched e at Virtual args named m ≡ throws e NullPointerException (begins e)
 virtual_null e at args named m h =
-    ap (λ (r : Option ℕ). not_null e (begins e) r (λ o. ill_typed_unless e (is_of_owner e (begins e) m o) (selected e (begins e) (select e.program (class_of (begins e) o) m false) (enters_method e at (begins e) args)))) h
+    ap (λ (r : Option ℕ). not_null e (begins e) r (λ o. ill_typed_unless e (is_of_owner e (begins e) m o) (after_selection e (begins e) (select e.program (object_class (begins e) o) m false) (enters_method e at (begins e) args)))) h
 
 pub virtual_refused : (e : Moment) (at : Site) (args : List Value) (named m o : ℕ) → first_reference args ≡ Some o → is_of_owner e (begins e) m o ≡ false → dispatched e at Virtual args named m ≡ ill_typed e
 virtual_refused e at args named m o h b =
-    ap (λ (r : Option ℕ). not_null e (begins e) r (λ o. ill_typed_unless e (is_of_owner e (begins e) m o) (selected e (begins e) (select e.program (class_of (begins e) o) m false) (enters_method e at (begins e) args)))) h
-    ∙ ap (λ (x : Bool). ill_typed_unless e x (selected e (begins e) (select e.program (class_of (begins e) o) m false) (enters_method e at (begins e) args))) b
+    ap (λ (r : Option ℕ). not_null e (begins e) r (λ o. ill_typed_unless e (is_of_owner e (begins e) m o) (after_selection e (begins e) (select e.program (object_class (begins e) o) m false) (enters_method e at (begins e) args)))) h
+    ∙ ap (λ (x : Bool). ill_typed_unless e x (after_selection e (begins e) (select e.program (object_class (begins e) o) m false) (enters_method e at (begins e) args))) b
 
 pub virtual_selected : (e : Moment) (at : Site) (args : List Value) (named m o : ℕ) → first_reference args ≡ Some o → is_of_owner e (begins e) m o ≡ true
-    → dispatched e at Virtual args named m ≡ selected e (begins e) (select e.program (class_of (begins e) o) m false) (enters_method e at (begins e) args)
+    → dispatched e at Virtual args named m ≡ after_selection e (begins e) (select e.program (object_class (begins e) o) m false) (enters_method e at (begins e) args)
 virtual_selected e at args named m o h b =
-    ap (λ (r : Option ℕ). not_null e (begins e) r (λ o. ill_typed_unless e (is_of_owner e (begins e) m o) (selected e (begins e) (select e.program (class_of (begins e) o) m false) (enters_method e at (begins e) args)))) h
-    ∙ ap (λ (x : Bool). ill_typed_unless e x (selected e (begins e) (select e.program (class_of (begins e) o) m false) (enters_method e at (begins e) args))) b
+    ap (λ (r : Option ℕ). not_null e (begins e) r (λ o. ill_typed_unless e (is_of_owner e (begins e) m o) (after_selection e (begins e) (select e.program (object_class (begins e) o) m false) (enters_method e at (begins e) args)))) h
+    ∙ ap (λ (x : Bool). ill_typed_unless e x (after_selection e (begins e) (select e.program (object_class (begins e) o) m false) (enters_method e at (begins e) args))) b
 
 pub interface_null : (e : Moment) (at : Site) (args : List Value) (named m : ℕ) → first_reference args ≡ None → dispatched e at Interface args named m ≡ throws e NullPointerException (begins e)
 interface_null e at args named m h =
-    ap (λ (r : Option ℕ). not_null e (begins e) r (λ o. selected e (begins e) (select e.program (class_of (begins e) o) m true) (enters_method e at (begins e) args))) h
+    ap (λ (r : Option ℕ). not_null e (begins e) r (λ o. after_selection e (begins e) (select e.program (object_class (begins e) o) m true) (enters_method e at (begins e) args))) h
 
 pub interface_selected : (e : Moment) (at : Site) (args : List Value) (named m o : ℕ) → first_reference args ≡ Some o
-    → dispatched e at Interface args named m ≡ selected e (begins e) (select e.program (class_of (begins e) o) m true) (enters_method e at (begins e) args)
+    → dispatched e at Interface args named m ≡ after_selection e (begins e) (select e.program (object_class (begins e) o) m true) (enters_method e at (begins e) args)
 interface_selected e at args named m o h =
-    ap (λ (r : Option ℕ). not_null e (begins e) r (λ o. selected e (begins e) (select e.program (class_of (begins e) o) m true) (enters_method e at (begins e) args))) h
+    ap (λ (r : Option ℕ). not_null e (begins e) r (λ o. after_selection e (begins e) (select e.program (object_class (begins e) o) m true) (enters_method e at (begins e) args))) h
 
 pub special_null : (e : Moment) (at : Site) (args : List Value) (named m : ℕ) → first_reference args ≡ None → dispatched e at Special args named m ≡ throws e NullPointerException (begins e)
 special_null e at args named m h =
-    ap (λ (r : Option ℕ). not_null e (begins e) r (λ o. ill_typed_unless e (is_of_owner e (begins e) m o) (selected e (begins e) (select_special e.program at.class (special_class e.program named) m) (enters_method e at (begins e) args)))) h
+    ap (λ (r : Option ℕ). not_null e (begins e) r (λ o. ill_typed_unless e (is_of_owner e (begins e) m o) (after_selection e (begins e) (select_special e.program at.class (special_class e.program named) m) (enters_method e at (begins e) args)))) h
 
 pub special_refused : (e : Moment) (at : Site) (args : List Value) (named m o : ℕ) → first_reference args ≡ Some o → is_of_owner e (begins e) m o ≡ false → dispatched e at Special args named m ≡ ill_typed e
 special_refused e at args named m o h b =
-    ap (λ (r : Option ℕ). not_null e (begins e) r (λ o. ill_typed_unless e (is_of_owner e (begins e) m o) (selected e (begins e) (select_special e.program at.class (special_class e.program named) m) (enters_method e at (begins e) args)))) h
-    ∙ ap (λ (x : Bool). ill_typed_unless e x (selected e (begins e) (select_special e.program at.class (special_class e.program named) m) (enters_method e at (begins e) args))) b
+    ap (λ (r : Option ℕ). not_null e (begins e) r (λ o. ill_typed_unless e (is_of_owner e (begins e) m o) (after_selection e (begins e) (select_special e.program at.class (special_class e.program named) m) (enters_method e at (begins e) args)))) h
+    ∙ ap (λ (x : Bool). ill_typed_unless e x (after_selection e (begins e) (select_special e.program at.class (special_class e.program named) m) (enters_method e at (begins e) args))) b
 
 pub special_selected : (e : Moment) (at : Site) (args : List Value) (named m o : ℕ) → first_reference args ≡ Some o → is_of_owner e (begins e) m o ≡ true
-    → dispatched e at Special args named m ≡ selected e (begins e) (select_special e.program at.class (special_class e.program named) m) (enters_method e at (begins e) args)
+    → dispatched e at Special args named m ≡ after_selection e (begins e) (select_special e.program at.class (special_class e.program named) m) (enters_method e at (begins e) args)
 special_selected e at args named m o h b =
-    ap (λ (r : Option ℕ). not_null e (begins e) r (λ o. ill_typed_unless e (is_of_owner e (begins e) m o) (selected e (begins e) (select_special e.program at.class (special_class e.program named) m) (enters_method e at (begins e) args)))) h
-    ∙ ap (λ (x : Bool). ill_typed_unless e x (selected e (begins e) (select_special e.program at.class (special_class e.program named) m) (enters_method e at (begins e) args))) b
+    ap (λ (r : Option ℕ). not_null e (begins e) r (λ o. ill_typed_unless e (is_of_owner e (begins e) m o) (after_selection e (begins e) (select_special e.program at.class (special_class e.program named) m) (enters_method e at (begins e) args)))) h
+    ∙ ap (λ (x : Bool). ill_typed_unless e x (after_selection e (begins e) (select_special e.program at.class (special_class e.program named) m) (enters_method e at (begins e) args))) b
 
 -- THE CHECKS BEFORE THE RECEIVER
 
@@ -96,7 +96,7 @@ by_type : (e : Moment) (at : Site) (kind : CallKind) (m : Member) (o : Option Me
 by_type e at kind m None = refl
 by_type e at kind m (Some type) = by_fit e at kind m type (call_fits e (is_static_call kind) type)
 
-pub invoke_is : (e : Moment) (at : Site) (kind : CallKind) (m : Member) → member_of at ≡ Some m → invoke e at kind ≡ fitted e at kind m (fitting e (is_static_call kind) (method_type m.descriptor))
+pub invoke_is : (e : Moment) (at : Site) (kind : CallKind) (m : Member) → site_member at ≡ Some m → invoke e at kind ≡ fitted e at kind m (fitting e (is_static_call kind) (method_type m.descriptor))
 invoke_is e at kind m h =
     ap (λ (o : Option Member). with_method e o (λ n type. ill_typed_unless e (call_fits e (is_static_call kind) type) (resolves e n (names_interface at) (checks e at kind (entry_count (is_static_call kind) type))))) h
     ∙ by_type e at kind m (method_type m.descriptor)
@@ -116,7 +116,7 @@ method_by_type : (e : Moment) (at : Site) (kind : CallKind) (m : Member) (o : Op
 method_by_type e at kind m None = refl
 method_by_type e at kind m (Some type) = method_by_fit e at kind m (entry_count (is_static_call kind) type) (call_fits e (is_static_call kind) type)
 
-pub selected_is : (e : Moment) (at : Site) (kind : CallKind) (m : Member) → member_of at ≡ Some m → selected_method e at kind ≡ fitted_method e at kind m (fitting e (is_static_call kind) (method_type m.descriptor))
+pub selected_is : (e : Moment) (at : Site) (kind : CallKind) (m : Member) → site_member at ≡ Some m → selected_method e at kind ≡ fitted_method e at kind m (fitting e (is_static_call kind) (method_type m.descriptor))
 selected_is e at kind m h =
     ap (λ (o : Option Member). option_and_then (λ (named : Member). option_and_then (selected_by e at kind named) (method_type named.descriptor)) o) h
     ∙ method_by_type e at kind m (method_type m.descriptor)

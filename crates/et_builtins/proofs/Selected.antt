@@ -13,18 +13,18 @@ use Rattle.et_program.specs.declared.info.MethodInfo.{MethodInfo}
 use Rattle.et_event.specs.declared.errors.GuestError.TheVariants.{AbstractMethodError, OutOfMemoryError}
 use Rattle.et_event.specs.declared.rows.BuiltIn.{BuiltIn}
 use Rattle.et_event.specs.Answered.{EventAnswers}
-use Rattle.et_event.specs.BuiltIns.{built_in_event, built_in_of, built_in_row, done_by, is_fit, row_done, starts}
+use Rattle.et_event.specs.BuiltIns.{built_in_event, built_in_of, built_in_row, done_by, is_fit_for, row_done, starts_thread}
 use Rattle.et_event.specs.Checks.{ill_typed_unless, throws_unless, waits_unless}
 use Rattle.et_event.specs.Frames.{first_reference}
 use Rattle.et_event.specs.Moments.{Moment, begins, ill_typed, throws, waits}
 use Rattle.et_event.specs.Sites.{Site}
 
-pub fit_answers : (e : Moment) (at : Site) (args : List Value) (o : ℕ) (b : BuiltIn) (end : EventEnd) (m m' : MachineState) (out out' : List Record) → is_fit e (begins e) o b ≡ true
+pub fit_answers : (e : Moment) (at : Site) (args : List Value) (o : ℕ) (b : BuiltIn) (end : EventEnd) (m m' : MachineState) (out out' : List Record) → is_fit_for e (begins e) o b ≡ true
     → EventAnswers (row_done e at (begins e) args o b) end m m' out out' → EventAnswers (built_in_row e at (begins e) args o b) end m m' out out'
 fit_answers e at args o b end m m' out out' fit a =
     subst (λ (x : Outcome Kept). EventAnswers x end m m' out out') (sym (ap (λ (c : Bool). ill_typed_unless e c (row_done e at (begins e) args o b)) fit)) a
 
-pub unfit_answers : (e : Moment) (at : Site) (args : List Value) (o : ℕ) (b : BuiltIn) (end : EventEnd) (m m' : MachineState) (out out' : List Record) → is_fit e (begins e) o b ≡ false
+pub unfit_answers : (e : Moment) (at : Site) (args : List Value) (o : ℕ) (b : BuiltIn) (end : EventEnd) (m m' : MachineState) (out out' : List Record) → is_fit_for e (begins e) o b ≡ false
     → EventAnswers (ill_typed e) end m m' out out' → EventAnswers (built_in_row e at (begins e) args o b) end m m' out out'
 unfit_answers e at args o b end m m' out out' unfit a =
     subst (λ (x : Outcome Kept). EventAnswers x end m m' out out') (sym (ap (λ (c : Bool). ill_typed_unless e c (row_done e at (begins e) args o b)) unfit)) a
@@ -63,10 +63,10 @@ none_of None h = refl
 none_of (Some k) h = cc
 
 pub started_answers : (e : Moment) (o : ℕ) (go : Outcome Kept) (r : Option ℕ) (end : EventEnd) (m m' : MachineState) (out out' : List Record) → r ≡ None → length e.before.guest.threads < most_threads
-    → EventAnswers go end m m' out out' → EventAnswers (starts e (begins e) o go r) end m m' out out'
+    → EventAnswers go end m m' out out' → EventAnswers (starts_thread e (begins e) o go r) end m m' out out'
 started_answers e o go r end m m' out out' none few a =
     subst (λ (x : Outcome Kept). EventAnswers x end m m' out out')
-    (sym (ap (λ (q : Option ℕ). starts e (begins e) o go q) none ∙ ap (λ (b : Bool). throws_unless e (begins e) OutOfMemoryError b go) (few_test (length e.before.guest.threads) few))) a
+    (sym (ap (λ (q : Option ℕ). starts_thread e (begins e) o go q) none ∙ ap (λ (b : Bool). throws_unless e (begins e) OutOfMemoryError b go) (few_test (length e.before.guest.threads) few))) a
 
 pub none_is : (r : Option ℕ) (b : Bool) → b ≡ is_some r → b ≡ false → r ≡ None
 none_is r b e h = none_of r (sym e ∙ h)

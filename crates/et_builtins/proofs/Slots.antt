@@ -7,7 +7,7 @@ use Rattle.et_base.specs.declared.value.Value.TheVariants.{Unset, Int, Long, Lon
 use Rattle.et_base.proofs.Lists.{Contains-none, Contains-cons}
 use Rattle.et_heap.specs.Objects.{ObjectState, IsHeld, at, found, is_there, object_at, slot_of, referent_of, referent_value}
 use Rattle.et_heap.specs.Refs.{refs_of_value}
-use Rattle.et_state.specs.Threads.{ThreadState, is_object_of as is_thread_of, thread_with}
+use Rattle.et_state.specs.Threads.{ThreadState, is_thread_object as is_thread_of, thread_with}
 use Rattle.et_state.specs.State.{MachineState, kept_of}
 use Rattle.et_state.specs.Sound.{IsSound}
 use Rattle.et_state.proofs.Steps.{slot_held}
@@ -16,8 +16,8 @@ use Rattle.et_program.specs.Members.{is_subclass}
 use Rattle.et_program.specs.declared.info.Element.{Element}
 use Rattle.et_program.specs.declared.info.Element.TheVariants.{NoArray}
 use Rattle.et_event.specs.declared.rows.Operand.TheVariants as operand
-use Rattle.et_event.specs.BuiltIns.{is_fit, is_object_of, reference_of, uses_thread, uses_throwable}
-use Rattle.et_event.specs.Checks.{value_of}
+use Rattle.et_event.specs.BuiltIns.{is_fit_for, is_object_of_class, reference_of, uses_thread, uses_throwable}
+use Rattle.et_event.specs.Checks.{reference_value}
 use Rattle.et_event.specs.Errors.{class_called}
 use Rattle.et_event.specs.Kinds.{or_zero}
 use Rattle.et_event.specs.Sound.{IsSoundFor, IsSoundObject, slots_by}
@@ -78,7 +78,7 @@ same_of (Some u) o c = elim (Contains-cons u [] o c) [ inl e ↦ ap (λ (k : ℕ
 pub referent_held : (m : MachineState) (u : ℕ) (v : Value) → IsSound (kept_of m) → v ≡ referent_value (object_at m.heap u).referent → (o : ℕ) → Contains (refs_of_value v) o → IsHeld m.heap o
 referent_held m u v sound e o c = sound.referents u o (same_of (object_at m.heap u).referent o (subst (λ (x : Value). Contains (refs_of_value x) o) e c))
 
-pub referent_is : (r : Option ℕ) → referent_value r ≡ value_of r
+pub referent_is : (r : Option ℕ) → referent_value r ≡ reference_value r
 referent_is None = refl
 referent_is (Some o) = refl
 
@@ -111,18 +111,18 @@ thread_within o xs k e = let h : k < 0 + length xs = subst (λ (r : Option ℕ).
 -- THE CLASS OF THE RECEIVER
 
 abbrev by_thread : Moment → Doing → ℕ → Bool → Bool
-by_thread e d o c = if c then is_object_of e d o (codes "java/lang/Thread") else true
+by_thread e d o c = if c then is_object_of_class e d o (codes "java/lang/Thread") else true
 
-pub throwable_fit : (e : Moment) (d : Doing) (o : ℕ) (b : BuiltIn) → uses_throwable b ≡ true → is_fit e d o b ≡ is_object_of e d o (codes "java/lang/Throwable")
-throwable_fit e d o b h = ap (λ (c : Bool). if c then is_object_of e d o (codes "java/lang/Throwable") else by_thread e d o (uses_thread b)) h
+pub throwable_fit : (e : Moment) (d : Doing) (o : ℕ) (b : BuiltIn) → uses_throwable b ≡ true → is_fit_for e d o b ≡ is_object_of_class e d o (codes "java/lang/Throwable")
+throwable_fit e d o b h = ap (λ (c : Bool). if c then is_object_of_class e d o (codes "java/lang/Throwable") else by_thread e d o (uses_thread b)) h
 
-not_throwable_fit : (e : Moment) (d : Doing) (o : ℕ) (b : BuiltIn) → uses_throwable b ≡ false → is_fit e d o b ≡ by_thread e d o (uses_thread b)
-not_throwable_fit e d o b h = ap (λ (c : Bool). if c then is_object_of e d o (codes "java/lang/Throwable") else by_thread e d o (uses_thread b)) h
+not_throwable_fit : (e : Moment) (d : Doing) (o : ℕ) (b : BuiltIn) → uses_throwable b ≡ false → is_fit_for e d o b ≡ by_thread e d o (uses_thread b)
+not_throwable_fit e d o b h = ap (λ (c : Bool). if c then is_object_of_class e d o (codes "java/lang/Throwable") else by_thread e d o (uses_thread b)) h
 
-pub thread_fit : (e : Moment) (d : Doing) (o : ℕ) (b : BuiltIn) → uses_throwable b ≡ false → uses_thread b ≡ true → is_fit e d o b ≡ is_object_of e d o (codes "java/lang/Thread")
+pub thread_fit : (e : Moment) (d : Doing) (o : ℕ) (b : BuiltIn) → uses_throwable b ≡ false → uses_thread b ≡ true → is_fit_for e d o b ≡ is_object_of_class e d o (codes "java/lang/Thread")
 thread_fit e d o b h k = not_throwable_fit e d o b h ∙ ap (λ (c : Bool). by_thread e d o c) k
 
-pub other_fit : (e : Moment) (d : Doing) (o : ℕ) (b : BuiltIn) → uses_throwable b ≡ false → uses_thread b ≡ false → is_fit e d o b ≡ true
+pub other_fit : (e : Moment) (d : Doing) (o : ℕ) (b : BuiltIn) → uses_throwable b ≡ false → uses_thread b ≡ false → is_fit_for e d o b ≡ true
 other_fit e d o b h k = not_throwable_fit e d o b h ∙ ap (λ (c : Bool). by_thread e d o c) k
 
 pub throwable_used : (b : BuiltIn) (n : ℕ) → uses_throwable b ≡ true → 2 ≤ n → slots_used b ≤ n

@@ -28,32 +28,32 @@ use Rattle.et_event.specs.declared.rows.Row.TheVariants.{Call}
 use Rattle.et_event.specs.Answered.{EventAnswers}
 use Rattle.et_event.specs.Calls.{arguments_of, call_fits, entry_count, is_as, is_of_owner, is_static_call, special_class}
 use Rattle.et_event.specs.Frames.{first_reference}
-use Rattle.et_event.specs.Moments.{Moment, begins, class_of, frame_of, thread_of}
-use Rattle.et_event.specs.Sites.{Member, Site, decoded_at, member_of, names_interface, site_of}
+use Rattle.et_event.specs.Moments.{Moment, begins, object_class, current_frame, thread_of}
+use Rattle.et_event.specs.Sites.{Member, Site, decoded_at, site_member, names_interface, site_of}
 use Rattle.et_event.specs.Table.{row_of}
 
 -- THE METHODS
 
 -- java.lang.Thread, and java.lang.ref.Reference and WeakReference
-abbrev pub is_deferring : List ℕ → Bool
-is_deferring name = bytes_eq name (codes "java/lang/Thread") || bytes_eq name (codes "java/lang/ref/Reference") || bytes_eq name (codes "java/lang/ref/WeakReference")
+abbrev pub is_deferring_class : List ℕ → Bool
+is_deferring_class name = bytes_eq name (codes "java/lang/Thread") || bytes_eq name (codes "java/lang/ref/Reference") || bytes_eq name (codes "java/lang/ref/WeakReference")
 
 -- a method of one of these classes that has no code and is built in: it is called on an object, and neither native nor abstract
 abbrev pub is_deferred : Linked → ℕ → Bool
 is_deferred p m =
     is_none (method_at p m).code
     && not (is_static p m || has (method_at p m).flags NATIVE || is_abstract p m)
-    && is_deferring (class_at p (method_at p m).class).info.name
+    && is_deferring_class (class_at p (method_at p m).class).info.name
 
 -- WHICH METHOD IS SELECTED (JVMS 5.4.3.3, 5.4.3.4, 5.4.6 and 6.5 invokevirtual, invokespecial, invokeinterface), where no check
 -- of the table of events refuses. An invokestatic selects none: it calls the method that was resolved.
 
 -- by the receiver o, from the method m that was resolved in the named class
 abbrev pub selected_on : Moment → Site → CallKind → ℕ → ℕ → ℕ → Option ℕ
-selected_on e at Virtual named m o = if is_of_owner e (begins e) m o then result_ok (select e.program (class_of (begins e) o) m false) else None
+selected_on e at Virtual named m o = if is_of_owner e (begins e) m o then result_ok (select e.program (object_class (begins e) o) m false) else None
 selected_on e at Special named m o = if is_of_owner e (begins e) m o then result_ok (select_special e.program at.class (special_class e.program named) m) else None
 selected_on e at Static named m o = None
-selected_on e at Interface named m o = result_ok (select e.program (class_of (begins e) o) m true)
+selected_on e at Interface named m o = result_ok (select e.program (object_class (begins e) o) m true)
 
 -- .. where m is static or not as the invoke wants it, and the receiver, the first argument, isn't null
 abbrev pub selected_from : Moment → Site → CallKind → List Value → ℕ → ℕ → Option ℕ
@@ -73,7 +73,7 @@ selected_by e at kind named type =
     else None
 
 abbrev pub selected_method : Moment → Site → CallKind → Option ℕ
-selected_method e at kind = option_and_then (λ named. option_and_then (selected_by e at kind named) (method_type named.descriptor)) (member_of at)
+selected_method e at kind = option_and_then (λ named. option_and_then (selected_by e at kind named) (method_type named.descriptor)) (site_member at)
 
 -- THE DEFERRED METHOD THAT A TURN CALLS, if it calls one
 
@@ -83,10 +83,10 @@ deferred_at e at other = None
 
 abbrev pub deferred_by : Moment → Result (Instr × ℕ) CodeFault → Option ℕ
 deferred_by e (Err fault) = None
-deferred_by e (Ok x) = option_and_then (deferred_at e (site_of e.program (frame_of e) x)) (row_of x.0.opcode)
+deferred_by e (Ok x) = option_and_then (deferred_at e (site_of e.program (current_frame e) x)) (row_of x.0.opcode)
 
 abbrev pub deferred_in : Moment → Turn → Option ℕ
-deferred_in e Instruction = deferred_by e (decoded_at e.program (frame_of e))
+deferred_in e Instruction = deferred_by e (decoded_at e.program (current_frame e))
 deferred_in e other = None
 
 -- the turn of thread t in state s

@@ -7,7 +7,7 @@ use Rattle.et_state.specs.Outcome.{Outcome}
 use Rattle.et_event.specs.declared.rows.CallKind.TheVariants.{Static}
 use Rattle.et_event.specs.declared.errors.GuestError.{GuestError}
 use Rattle.et_event.specs.Calls.{arguments_of, dispatched, enters_method}
-use Rattle.et_event.specs.Moments.{Moment, begins, frame_of, ill_typed, throws, waits}
+use Rattle.et_event.specs.Moments.{Moment, begins, current_frame, ill_typed, throws, waits}
 use Rattle.et_event.specs.Initialization.{state_of}
 use Rattle.et_event.specs.Kinds.{returned_width}
 use Rattle.et_event.specs.Sites.{Site}
@@ -16,23 +16,23 @@ use Rattle.et_builtins.specs.declared.plans.CallPlan.{CallPlan}
 use Rattle.et_builtins.specs.declared.plans.CallPlan.TheVariants.{IllTyped, Throws, Waits, Initializes, Enters}
 
 -- the event of a plan
-abbrev pub planned : Moment → Site → CallPlan → Outcome Kept
-planned e at IllTyped = ill_typed e
-planned e at (Throws error) = throws e error (begins e)
-planned e at Waits = waits e
-planned e at (Initializes method count) = dispatched e at Static (arguments_of e count) 0 method
-planned e at (Enters method count) = enters_method e at (begins e) (arguments_of e count) method
+abbrev pub call_planned : Moment → Site → CallPlan → Outcome Kept
+call_planned e at IllTyped = ill_typed e
+call_planned e at (Throws error) = throws e error (begins e)
+call_planned e at Waits = waits e
+call_planned e at (Initializes method count) = dispatched e at Static (arguments_of e count) 0 method
+call_planned e at (Enters method count) = enters_method e at (begins e) (arguments_of e count) method
 
 -- what the method returns will fit once its arguments are taken
-abbrev pub HasRoom : Moment → ℕ → ℕ → Type 0
-HasRoom e method count = length (drop count (frame_of e).operands) + returned_width (returned_of (method_at e.program method)) ≤ (frame_of e).room
+abbrev pub HasCallRoom : Moment → ℕ → ℕ → Type 0
+HasCallRoom e method count = length (drop count (current_frame e).operands) + returned_width (returned_of (method_at e.program method)) ≤ (current_frame e).room
 
 -- the method is one of the program, the arguments are there, and what it returns will fit; a class that is initialized first is
 -- untouched, and its method static
-abbrev pub IsPlan : Moment → CallPlan → Type 0
-IsPlan e (Initializes method count) = (method < length e.program.methods) × (count ≤ length (frame_of e).operands) × (state_of (begins e) (method_at e.program method).class ≡ Untouched) × (is_static e.program method ≡ true)
-IsPlan e (Enters method count) = (method < length e.program.methods) × (count ≤ length (frame_of e).operands) × HasRoom e method count
-IsPlan e plan = Unit {0}
+abbrev pub IsCallPlan : Moment → CallPlan → Type 0
+IsCallPlan e (Initializes method count) = (method < length e.program.methods) × (count ≤ length (current_frame e).operands) × (state_of (begins e) (method_at e.program method).class ≡ Untouched) × (is_static e.program method ≡ true)
+IsCallPlan e (Enters method count) = (method < length e.program.methods) × (count ≤ length (current_frame e).operands) × HasCallRoom e method count
+IsCallPlan e plan = Unit {0}
 
 -- what was resolved, or the error that is thrown
 abbrev pub resolving : Moment → Result (ℕ × ℕ) GuestError → (ℕ → ℕ → Outcome Kept) → Outcome Kept
@@ -40,6 +40,6 @@ resolving e (Ok x) go = go x.0 x.1
 resolving e (Err error) go = throws e error (begins e)
 
 -- the method that is entered
-abbrev pub entered_by : CallPlan → Option ℕ
-entered_by (Enters method count) = Some method
-entered_by other = None
+abbrev pub method_entered : CallPlan → Option ℕ
+method_entered (Enters method count) = Some method
+method_entered other = None

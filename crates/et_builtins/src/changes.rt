@@ -7,13 +7,13 @@ ghost use Rattle.et_state.specs.Threads.{lost_room, most_threads, thread_with};
 ghost use Rattle.et_state.specs.State.{Kept, kept_of};
 ghost use Rattle.et_state.specs.Words.{HasFrame, top, begun, steps_object, steps_top, with_object};
 ghost use Rattle.et_state.specs.Sound.{IsSound};
-ghost use Rattle.et_state.specs.Moves.{AreHeld};
+ghost use Rattle.et_state.specs.Moves.{AreInHeap};
 ghost use Rattle.et_program.specs.Entries.{Linked};
 ghost use Rattle.et_state.specs.declared.records.Record.{Record};
 ghost use Rattle.et_event.specs.Answered.{EventAnswers};
 ghost use Rattle.et_event.specs.BuiltIns.{answering, with_referent_of, with_thread_for};
 ghost use Rattle.et_event.specs.Calls.{arguments_of};
-ghost use Rattle.et_event.specs.Moments.{Moment, moment, begins, goes, number_of as number_in, slot_written, updated};
+ghost use Rattle.et_event.specs.Moments.{Moment, moment, begins, goes, number_of_value as number_in, slot_written, updated};
 ghost use Rattle.et_event.specs.Sites.{Site};
 ghost use Rattle.et_parts.specs.Tops.{IsIn};
 
@@ -74,7 +74,7 @@ pub(crate) fn give(machine: &mut Machine, call: &Called, value: Value) -> EventE
     requires small { call.now.count < 2 ^ 16 }
     requires room { length (drop call.now.count (top machine.old.guest call.now.thread).operands)
         < (top machine.old.guest call.now.thread).room }
-    requires held { AreHeld machine.old (refs_of_value value) }
+    requires held { AreInHeap machine.old (refs_of_value value) }
     ensures { (p : Linked) (at : Site) (out : List Record) → at.next ≡ call.now.next →
         EventAnswers (goes (answering (moment p machine.old call.now.thread) at
         (arguments_of (moment p machine.old call.now.thread) call.now.count) (value ∷ [])

@@ -10,7 +10,7 @@ ghost use Rattle.et_event.specs.Moments.{begins, moment};
 ghost use Rattle.et_event.specs.Sites.{Site};
 ghost use Rattle.et_event.specs.Sound.{IsSoundFor};
 ghost use Rattle.et_event.specs.Programs.{HasMachineSlots};
-ghost use Rattle.et_builtins.specs.Plans.{HasRoom};
+ghost use Rattle.et_builtins.specs.Plans.{HasCallRoom};
 
 use crate::arguments::{operands_are_few, receiver};
 use crate::changes::Called;
@@ -41,7 +41,7 @@ pub fn built_in_method_event<L: Ledger>(
     requires clock { machine.old.guest.clock < 2 ^ 40 }
     requires method { call.method < length program.now.methods }
     requires operands { call.count ≤ length (top machine.old.guest thread).operands }
-    requires room { HasRoom (moment program.now machine.old thread) call.method call.count }
+    requires room { HasCallRoom (moment program.now machine.old thread) call.method call.count }
     requires slots { HasMachineSlots program.now }
     ensures ok { IfOk result (λ end. (at : Site) → at.next ≡ call.next →
         EventAnswers (built_in_event (moment program.now machine.old thread) at

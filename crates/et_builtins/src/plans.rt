@@ -14,16 +14,16 @@ ghost use Rattle.et_program.specs.Resolution.{resolve_class, resolve_method};
 ghost use Rattle.et_state.specs.Outcome.{Outcome};
 ghost use Rattle.et_event.specs.declared.errors.GuestError.TheVariants as errors;
 ghost use Rattle.et_event.specs.Calls.{arguments_of, dispatched, enters_method, invoke, is_as, is_static_call as calls_static, special_class as class_of_special};
-ghost use Rattle.et_event.specs.Checks.{resolved, selected as selected_in, throws_unless};
+ghost use Rattle.et_event.specs.Checks.{resolved, after_selection as selected_in, throws_unless};
 ghost use Rattle.et_event.specs.Errors.{class_called};
 ghost use Rattle.et_event.specs.Frames.{first_reference};
-ghost use Rattle.et_event.specs.Moments.{Moment, begins, frame_of, moment};
-ghost use Rattle.et_event.specs.Sites.{Site, natural};
+ghost use Rattle.et_event.specs.Moments.{Moment, begins, current_frame, moment};
+ghost use Rattle.et_event.specs.Sites.{Site, natural_of};
 ghost use Rattle.et_event.specs.Initialization.{state_of};
 ghost use Rattle.et_event.specs.Sound.{IsSoundFor};
 ghost use Rattle.et_builtins.specs.Arguments.{arguments_in};
-ghost use Rattle.et_builtins.specs.Deferred.{is_deferred as is_deferred_in, is_deferring as is_deferring_class, selected_from, selected_method, selected_on, with_resolved};
-ghost use Rattle.et_builtins.specs.Plans.{entered_by, planned, HasRoom, IsPlan, resolving};
+ghost use Rattle.et_builtins.specs.Deferred.{is_deferred as is_deferred_in, is_deferring_class, selected_from, selected_method, selected_on, with_resolved};
+ghost use Rattle.et_builtins.specs.Plans.{method_entered, call_planned, HasCallRoom, IsCallPlan, resolving};
 
 use crate::arguments::{fitting_call, receiver};
 use et_base::{ClassId, MethodId, Steps, ThreadId};
@@ -74,10 +74,11 @@ struct Callee {
 /// The selected method is entered, or the error of the selection is thrown.
 fn selected(answer: Result<MethodId, LinkError>, count: u32) -> CallPlan
     ensures within { (e : Moment) → IfOk answer (λ m. m < length e.program.methods) → IfOk answer
-        (λ m. HasRoom e m count) → count ≤ length (frame_of e).operands → IsPlan e result }
+        (λ m. HasCallRoom e m count) → count ≤ length (current_frame e).operands → IsCallPlan e
+        result }
     ensures plan { (e : Moment) (at : Site) → selected_in e (begins e) answer
-        (enters_method e at (begins e) (arguments_of e count)) ≡ planned e at result }
-    ensures entered { entered_by result ≡ result_ok answer }
+        (enters_method e at (begins e) (arguments_of e count)) ≡ call_planned e at result }
+    ensures entered { method_entered result ≡ result_ok answer }
 {
     match answer {
         Ok(method) => CallPlan::Enters { method, count },
@@ -99,14 +100,14 @@ fn virtual_plan<L: Ledger>(
     requires sound { IsSoundFor program.now (kept_of machine.now) }
     requires operands { count ≤ length (top machine.now.guest thread).operands }
     requires method { method < length program.now.methods }
-    requires room { HasRoom (moment program.now machine.now thread) method count }
+    requires room { HasCallRoom (moment program.now machine.now thread) method count }
     ensures plan { (at : Site) (named : ℕ) → dispatched (moment program.now machine.now thread)
         at kinds.Virtual (arguments_of (moment program.now machine.now thread) count) named method
-        ≡ planned (moment program.now machine.now thread) at result }
-    ensures entered { (at : Site) (named : ℕ) → entered_by result ≡ option_and_then (selected_on
+        ≡ call_planned (moment program.now machine.now thread) at result }
+    ensures entered { (at : Site) (named : ℕ) → method_entered result ≡ option_and_then (selected_on
         (moment program.now machine.now thread) at kinds.Virtual named method) (first_reference
         (arguments_of (moment program.now machine.now thread) count)) }
-    ensures within { IsPlan (moment program.now machine.now thread) result }
+    ensures within { IsCallPlan (moment program.now machine.now thread) result }
     ensures visits { visits.new ≤ visits.old + 1 }
 {
     let Some(receiver) = receiver(machine, thread, count) else {
@@ -133,14 +134,14 @@ fn interface_plan<L: Ledger>(
     requires sound { IsSoundFor program.now (kept_of machine.now) }
     requires operands { count ≤ length (top machine.now.guest thread).operands }
     requires method { method < length program.now.methods }
-    requires room { HasRoom (moment program.now machine.now thread) method count }
+    requires room { HasCallRoom (moment program.now machine.now thread) method count }
     ensures plan { (at : Site) (named : ℕ) → dispatched (moment program.now machine.now thread)
         at kinds.Interface (arguments_of (moment program.now machine.now thread) count) named method
-        ≡ planned (moment program.now machine.now thread) at result }
-    ensures entered { (at : Site) (named : ℕ) → entered_by result ≡ option_and_then (selected_on
+        ≡ call_planned (moment program.now machine.now thread) at result }
+    ensures entered { (at : Site) (named : ℕ) → method_entered result ≡ option_and_then (selected_on
         (moment program.now machine.now thread) at kinds.Interface named method) (first_reference
         (arguments_of (moment program.now machine.now thread) count)) }
-    ensures within { IsPlan (moment program.now machine.now thread) result }
+    ensures within { IsCallPlan (moment program.now machine.now thread) result }
     ensures visits { visits.new ≤ visits.old + 1 }
 {
     let Some(receiver) = receiver(machine, thread, count) else {
@@ -189,16 +190,16 @@ fn special_plan<L: Ledger>(
     requires current { callee.current < length program.now.classes }
     requires named { callee.named < length program.now.classes }
     requires method { callee.method < length program.now.methods }
-    requires room { HasRoom (moment program.now machine.now thread) callee.method callee.count }
+    requires room { HasCallRoom (moment program.now machine.now thread) callee.method callee.count }
     ensures plan { (at : Site) → at.class ≡ callee.current →
         dispatched (moment program.now machine.now thread) at kinds.Special (arguments_of
         (moment program.now machine.now thread) callee.count) callee.named callee.method
-        ≡ planned (moment program.now machine.now thread) at result }
+        ≡ call_planned (moment program.now machine.now thread) at result }
     ensures entered { (at : Site) → at.class ≡ callee.current →
-        entered_by result ≡ option_and_then (selected_on (moment program.now machine.now thread)
+        method_entered result ≡ option_and_then (selected_on (moment program.now machine.now thread)
         at kinds.Special callee.named callee.method) (first_reference
         (arguments_of (moment program.now machine.now thread) callee.count)) }
-    ensures within { IsPlan (moment program.now machine.now thread) result }
+    ensures within { IsCallPlan (moment program.now machine.now thread) result }
     ensures visits { visits.new ≤ visits.old + 1 }
 {
     let Some(receiver) = receiver(machine, thread, callee.count) else {
@@ -226,13 +227,13 @@ fn static_plan(
     requires sound { IsSoundFor program.now (kept_of machine.now) }
     requires operands { count ≤ length (top machine.now.guest thread).operands }
     requires method { method < length program.now.methods }
-    requires room { HasRoom (moment program.now machine.now thread) method count }
+    requires room { HasCallRoom (moment program.now machine.now thread) method count }
     requires is_static { is_static program.now method ≡ true }
     ensures plan { (at : Site) (named : ℕ) → dispatched (moment program.now machine.now thread)
         at kinds.Static (arguments_of (moment program.now machine.now thread) count) named method
-        ≡ planned (moment program.now machine.now thread) at result }
-    ensures entered { (entered_by result ≡ None) ⊎ (entered_by result ≡ Some method) }
-    ensures within { IsPlan (moment program.now machine.now thread) result }
+        ≡ call_planned (moment program.now machine.now thread) at result }
+    ensures entered { (method_entered result ≡ None) ⊎ (method_entered result ≡ Some method) }
+    ensures within { IsCallPlan (moment program.now machine.now thread) result }
 {
     let class = program.method(method).class;
     state_plan(machine.class_state(class), thread, method, count)
@@ -242,12 +243,12 @@ fn static_plan(
 fn state_plan(state: ClassState, thread: ThreadId, method: MethodId, count: u32) -> CallPlan
     ensures plan { (e : Moment) (at : Site) (class named : ℕ) → e.thread ≡ thread →
         (method_at e.program method).class ≡ class → state_of (begins e) class ≡ state →
-        dispatched e at kinds.Static (arguments_of e count) named method ≡ planned e at result }
-    ensures entered { (entered_by result ≡ None) ⊎ (entered_by result ≡ Some method) }
+        dispatched e at kinds.Static (arguments_of e count) named method ≡ call_planned e at result }
+    ensures entered { (method_entered result ≡ None) ⊎ (method_entered result ≡ Some method) }
     ensures within { (e : Moment) → method < length e.program.methods →
-        HasRoom e method count → count ≤ length (frame_of e).operands →
+        HasCallRoom e method count → count ≤ length (current_frame e).operands →
         state_of (begins e) (method_at e.program method).class ≡ state →
-        is_static e.program method ≡ true → IsPlan e result }
+        is_static e.program method ≡ true → IsCallPlan e result }
 {
     match state {
         ClassState::Done => CallPlan::Enters { method, count },
@@ -276,18 +277,18 @@ fn dispatch_plan<L: Ledger>(
     requires current { callee.current < length program.now.classes }
     requires named { callee.named < length program.now.classes }
     requires method { callee.method < length program.now.methods }
-    requires room { HasRoom (moment program.now machine.now thread) callee.method callee.count }
+    requires room { HasCallRoom (moment program.now machine.now thread) callee.method callee.count }
     requires is_static { is_as (calls_static kind) (is_static program.now callee.method) ≡ true }
     ensures plan { (at : Site) → at.class ≡ callee.current →
         dispatched (moment program.now machine.now thread) at kind (arguments_of
         (moment program.now machine.now thread) callee.count) callee.named callee.method
-        ≡ planned (moment program.now machine.now thread) at result }
+        ≡ call_planned (moment program.now machine.now thread) at result }
     ensures deferred { (at : Site) → at.class ≡ callee.current →
-        kept (is_deferred_in program.now) (entered_by result)
+        kept (is_deferred_in program.now) (method_entered result)
         ≡ kept (is_deferred_in program.now) (option_and_then (selected_on
         (moment program.now machine.now thread) at kind callee.named callee.method)
         (first_reference (arguments_of (moment program.now machine.now thread) callee.count))) }
-    ensures within { IsPlan (moment program.now machine.now thread) result }
+    ensures within { IsCallPlan (moment program.now machine.now thread) result }
     ensures visits { visits.new ≤ visits.old + 1 }
 {
     match kind {
@@ -338,19 +339,20 @@ fn resolved_plan<L: Ledger>(
     requires current { callee.current < length program.now.classes }
     requires named { callee.named < length program.now.classes }
     requires method { callee.method < length program.now.methods }
-    requires room { HasRoom (moment program.now machine.now thread) callee.method callee.count }
+    requires room { HasCallRoom (moment program.now machine.now thread) callee.method callee.count }
     ensures plan { (at : Site) →
         at.class ≡ callee.current → throws_unless (moment program.now machine.now thread)
         (begins (moment program.now machine.now thread)) errors.IncompatibleClassChangeError
         (is_as (calls_static kind) (is_static program.now callee.method))
         (dispatched (moment program.now machine.now thread) at kind (arguments_of
         (moment program.now machine.now thread) callee.count) callee.named callee.method)
-        ≡ planned (moment program.now machine.now thread) at result }
+        ≡ call_planned (moment program.now machine.now thread) at result }
     ensures deferred { (at : Site) → at.class ≡ callee.current →
-        kept (is_deferred_in program.now) (entered_by result) ≡ kept (is_deferred_in program.now)
+        kept (is_deferred_in program.now) (method_entered result) ≡ kept
+        (is_deferred_in program.now)
         (selected_from (moment program.now machine.now thread) at kind (arguments_of
         (moment program.now machine.now thread) callee.count) callee.named callee.method) }
-    ensures within { IsPlan (moment program.now machine.now thread) result }
+    ensures within { IsCallPlan (moment program.now machine.now thread) result }
     ensures visits { visits.new ≤ visits.old + 1 }
 {
     let is_static = has(program.method(callee.method).flags, STATIC);
@@ -401,13 +403,13 @@ pub fn invoke_plan<L: Ledger>(
     requires frame { HasFrame machine.now.guest thread }
     requires sound { IsSoundFor program.now (kept_of machine.now) }
     requires class { place.now.class < length program.now.classes }
-    requires index { natural place.now.instr.first < 2 ^ 16 }
+    requires index { natural_of place.now.instr.first < 2 ^ 16 }
     ensures plan { invoke (moment program.now machine.now thread) (site_at place.now) kind
-        ≡ planned (moment program.now machine.now thread) (site_at place.now) result }
-    ensures deferred { kept (is_deferred_in program.now) (entered_by result)
+        ≡ call_planned (moment program.now machine.now thread) (site_at place.now) result }
+    ensures deferred { kept (is_deferred_in program.now) (method_entered result)
         ≡ kept (is_deferred_in program.now)
         (selected_method (moment program.now machine.now thread) (site_at place.now) kind) }
-    ensures within { IsPlan (moment program.now machine.now thread) result }
+    ensures within { IsCallPlan (moment program.now machine.now thread) result }
     ensures visits { visits.new ≤ visits.old + 1 }
 {
     let Some(member) = member_at(place) else {
@@ -452,8 +454,8 @@ fn is_deferred(program: &Program, method: MethodId) -> bool
 
 /// The method that a plan enters, where it is a built-in one without code of threads or of weak references.
 pub fn deferred_method(program: &Program, plan: CallPlan) -> Option<MethodId>
-    requires { IfSome (entered_by plan) (λ method. method < length program.now.methods) }
-    ensures { result ≡ kept (is_deferred_in program.now) (entered_by plan) }
+    requires { IfSome (method_entered plan) (λ method. method < length program.now.methods) }
+    ensures { result ≡ kept (is_deferred_in program.now) (method_entered plan) }
 {
     match plan {
         CallPlan::Enters { method, .. } => if is_deferred(program, method) {

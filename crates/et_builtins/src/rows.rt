@@ -9,9 +9,9 @@ ghost use Rattle.et_state.specs.Words.{HasFrame, top};
 ghost use Rattle.et_program.specs.Entries.{Linked};
 ghost use Rattle.et_state.specs.declared.records.Record.{Record};
 ghost use Rattle.et_event.specs.Answered.{EventAnswers};
-ghost use Rattle.et_event.specs.BuiltIns.{answering, built_in_row as row_of, has_ended as has_ended_in, is_fit as fits_row, is_object_of as is_of_class, reference_in, row_done, starts, uses_thread as is_on_thread, uses_throwable as is_on_throwable, with_thread_for};
+ghost use Rattle.et_event.specs.BuiltIns.{answering, built_in_row as row_of, has_thread_ended as has_ended_in, is_fit_for as fits_row, is_object_of_class as is_of_class, reference_in, row_done, starts_thread, uses_thread as is_on_thread, uses_throwable as is_on_throwable, with_thread_for};
 ghost use Rattle.et_event.specs.Calls.{arguments_of};
-ghost use Rattle.et_event.specs.Checks.{value_of, waits_unless};
+ghost use Rattle.et_event.specs.Checks.{reference_value, waits_unless};
 ghost use Rattle.et_event.specs.Kinds.{or_zero};
 ghost use Rattle.et_event.specs.Moments.{moment, begins, goes};
 ghost use Rattle.et_event.specs.declared.rows.Operand.TheVariants as operand;
@@ -152,7 +152,7 @@ fn give_referent<L: Ledger>(
     ensures ok { (p : Linked) (at : Site) (out : List Record) → at.next ≡ call.now.next →
         EventAnswers (goes (answering (moment p machine.old call.now.thread) at
         (arguments_of (moment p machine.old call.now.thread) call.now.count)
-        (value_of (object_at machine.old.heap object).referent ∷ [])
+        (reference_value (object_at machine.old.heap object).referent ∷ [])
         (begins (moment p machine.old call.now.thread)))) result machine.old machine.new out out }
     ensures visits { visits.new ≡ visits.old + 1 }
 {
@@ -175,7 +175,7 @@ fn start_event(
     requires small { call.now.count < 2 ^ 16 }
     requires held { IsHeld machine.old.heap object }
     ensures { IfOk result (λ end. (at : Site) → at.next ≡ call.now.next →
-        EventAnswers (starts (moment program.now machine.old call.now.thread)
+        EventAnswers (starts_thread (moment program.now machine.old call.now.thread)
         (begins (moment program.now machine.old call.now.thread)) object
         (goes (with_thread_for object (answering (moment program.now machine.old call.now.thread) at
         (arguments_of (moment program.now machine.old call.now.thread) call.now.count) []

@@ -19,10 +19,10 @@ use Rattle.et_event.specs.Calls.{arguments_of, enters_method}
 use Rattle.et_event.specs.Checks.{throws_unless}
 use Rattle.et_event.specs.Frames.{first_reference}
 use Rattle.et_event.specs.Initialization.{is_quiet, is_ready, is_ready_state, prepared, quietly_done, quietly_if_untouched, state_of}
-use Rattle.et_event.specs.Moments.{Moment, Doing, frame_of, throws}
+use Rattle.et_event.specs.Moments.{Moment, Doing, current_frame, throws}
 use Rattle.et_event.specs.Sites.{Site}
 use Rattle.et_builtins.proofs.ByCode.{codeless_called}
-use Rattle.et_event.specs.Programs.{HasMethods, is_initializing}
+use Rattle.et_event.specs.Programs.{HasBuiltInMethods, is_initializing}
 
 -- A METHOD NAMED <clinit> is no built-in one
 
@@ -44,11 +44,11 @@ abstract_done e at d vs (Some o) = refl
 abbrev pub error_by : Bool → GuestError
 error_by native = if native then UnsatisfiedLinkError else AbstractMethodError
 
-named_so : (p : Linked) (m : ℕ) (b : Bool) → HasMethods p → m < length p.methods → is_static p m ≡ true → (method_at p m).code ≡ None → has (method_at p m).flags NATIVE ≡ false → is_initializing p m ≡ b → b ≡ true
+named_so : (p : Linked) (m : ℕ) (b : Bool) → HasBuiltInMethods p → m < length p.methods → is_static p m ≡ true → (method_at p m).code ≡ None → has (method_at p m).flags NATIVE ≡ false → is_initializing p m ≡ b → b ≡ true
 named_so p m true methods lt static none native is = refl
 named_so p m false methods lt static none native is = let h : has (method_at p m).flags NATIVE ≡ true = methods.static m lt static is none in cc
 
-codeless : (e : Moment) (at : Site) (d : Doing) (vs : List Value) (m : ℕ) (b : Bool) → HasMethods e.program → m < length e.program.methods → is_static e.program m ≡ true → (method_at e.program m).code ≡ None → has (method_at e.program m).flags NATIVE ≡ b
+codeless : (e : Moment) (at : Site) (d : Doing) (vs : List Value) (m : ℕ) (b : Bool) → HasBuiltInMethods e.program → m < length e.program.methods → is_static e.program m ≡ true → (method_at e.program m).code ≡ None → has (method_at e.program m).flags NATIVE ≡ b
     → throws_unless e d UnsatisfiedLinkError (not b) (built_in_event e at d vs (method_at e.program m)) ≡ throws e (error_by b) d
 codeless e at d vs m true methods lt static none native = refl
 codeless e at d vs m false methods lt static none native =
@@ -57,7 +57,7 @@ codeless e at d vs m false methods lt static none native =
 
 -- CALLED BY A PLAN
 
-pub none_called : (e : Moment) (at : Site) (d : Doing) (count m : ℕ) → count ≤ length (frame_of e).operands → HasMethods e.program → m < length e.program.methods → is_static e.program m ≡ true → (method_at e.program m).code ≡ None
+pub none_called : (e : Moment) (at : Site) (d : Doing) (count m : ℕ) → count ≤ length (current_frame e).operands → HasBuiltInMethods e.program → m < length e.program.methods → is_static e.program m ≡ true → (method_at e.program m).code ≡ None
     → enters_method e at d (arguments_of e count) m ≡ throws e (error_by (has (method_at e.program m).flags NATIVE)) d
 none_called e at d count m le methods lt static none =
     codeless_called e at d count m le none

@@ -13,16 +13,16 @@ use Rattle.et_state.specs.declared.class_state.ClassState.TheVariants.{Done}
 use Rattle.et_state.specs.State.{Kept, MachineState, kept_of}
 use Rattle.et_state.specs.Words.{thread_at, with_thread, top, HasFrame, with_class_state, with_guest as guest_in, begun, steps_thread}
 use Rattle.et_state.specs.Sound.{IsSound}
-use Rattle.et_state.specs.Moves.{Moves, WasThere, IsOnWay, AreHeld, WereThere}
+use Rattle.et_state.specs.Moves.{Moves, WasThere, IsOnWay, AreInHeap, WereThere}
 use Rattle.et_state.proofs.Places.{moves_none, moves_left, moves_right, moves_more, guest_thread, top_root}
 use Rattle.et_state.proofs.UnderWay.{law_guest}
 use Rattle.et_state.proofs.Calls.{on_begin_event, on_set_class_state, on_drop_frame}
 use Rattle.et_state.proofs.Steps.{root_there, root_held}
 use Rattle.et_program.specs.Entries.{Linked}
-use Rattle.et_event.specs.Frames.{behind, resumed, frames_after_return}
+use Rattle.et_event.specs.Frames.{next_place_of, resumed, frames_after_return}
 use Rattle.et_event.specs.Calls.{class_done_by}
 use Rattle.et_event.specs.Initialization.{with_state}
-use Rattle.et_event.specs.Moments.{moment, Doing, begins, with_guest}
+use Rattle.et_event.specs.Moments.{moment, Doing, begins, doing_with_guest}
 use Rattle.et_calls.proofs.Returning.{then_thread, started_after}
 use Rattle.et_calls.specs.Ways.{Came}
 
@@ -58,7 +58,7 @@ frame_gives H R f pc vs held =
 resumed_moves : (H R : ℕ → Type 0) (p : Linked) (vs : List Value) (fs : List FrameState) → ((o : ℕ) → Contains (refs_of vs) o → H o)
     → Moves H R (flat_map frame_roots fs) (flat_map frame_roots (resumed p vs fs)) []
 resumed_moves H R p vs [] held = moves_none H R []
-resumed_moves H R p vs (f ∷ fs) held = moves_left H R (frame_roots f) (frame_roots (record f { pc = behind p f; operands = vs ++ f.operands })) [] (flat_map frame_roots fs) (frame_gives H R f (behind p f) vs held)
+resumed_moves H R p vs (f ∷ fs) held = moves_left H R (frame_roots f) (frame_roots (record f { pc = next_place_of p f; operands = vs ++ f.operands })) [] (flat_map frame_roots fs) (frame_gives H R f (next_place_of p f) vs held)
 
 after_return_moves : (H R : ℕ → Type 0) (p : Linked) (stage : Stage) (vs : List Value) (fs : List FrameState) → ((o : ℕ) → Contains (refs_of vs) o → H o)
     → Moves H R (flat_map frame_roots fs) (flat_map frame_roots (frames_after_return p stage vs fs)) []
@@ -74,7 +74,7 @@ after_return p vs x = record x { frames = frames_after_return p (top_of x).stage
 abbrev below_goes_on : Linked → Stage → List Value → ThreadState → ThreadState
 below_goes_on p stage vs x = record x { frames = frames_after_return p stage vs x.frames }
 
-going_on : (s : Kept) (m : MachineState) (p : Linked) (t : ℕ) (stage : Stage) (vs : List Value) → IsOnWay s m → t < length m.guest.threads → AreHeld m (refs_of vs)
+going_on : (s : Kept) (m : MachineState) (p : Linked) (t : ℕ) (stage : Stage) (vs : List Value) → IsOnWay s m → t < length m.guest.threads → AreInHeap m (refs_of vs)
     → IsOnWay s (steps_thread m t (below_goes_on p stage vs (thread_at m.guest t)) [])
 going_on s m p t stage vs w lt held =
     let x : ThreadState = thread_at m.guest t in
@@ -86,7 +86,7 @@ going_on s m p t stage vs w lt held =
 pub came_after_return : (s : Kept) (d : Doing) (p : Linked) (t : ℕ) (vs : List Value) (m m' : MachineState) → Came s d m → HasFrame s.guest t → m.guest.threads ≡ s.guest.threads
     → ((o : ℕ) → Contains (refs_of vs) o → Contains (frame_roots (top s.guest t)) o)
     → m' ≡ steps_thread m t (after_return p vs (thread_at m.guest t)) (frame_roots (top m.guest t))
-    → Came s (with_guest (with_thread d.state.guest t (after_return p vs (thread_at s.guest t))) d) m'
+    → Came s (doing_with_guest (with_thread d.state.guest t (after_return p vs (thread_at s.guest t))) d) m'
 came_after_return s d p t vs m m' came has same there e =
     let top_same : top m.guest t ≡ top s.guest t = ap (λ (xs : List ThreadState). top_of (get_or xs t no_thread)) same in
     let at_same : thread_at m.guest t ≡ thread_at s.guest t = ap (λ (xs : List ThreadState). get_or xs t no_thread) same in
@@ -100,7 +100,7 @@ came_after_return s d p t vs m m' came has same there e =
     let m₁ : MachineState = steps_thread m t x roots in
     let were : WereThere s m roots = λ o c. root_there s (kept_of m) o (top_root s.guest t o has (subst (λ (f : FrameState). Contains (frame_roots f) o) top_same c)) in
     let w₁ : IsOnWay s m₁ = on_drop_frame s m t came.way has' were in
-    let held : AreHeld m₁ (refs_of vs) = λ o c. root_held (kept_of m) o came.way.sound (top_root m.guest t o has' (subst (λ (f : FrameState). Contains (frame_roots f) o) (sym top_same) (there o c))) in
+    let held : AreInHeap m₁ (refs_of vs) = λ o c. root_held (kept_of m) o came.way.sound (top_root m.guest t o has' (subst (λ (f : FrameState). Contains (frame_roots f) o) (sym top_same) (there o c))) in
     let m₂ : MachineState = steps_thread m₁ t (below_goes_on p stage vs (thread_at m₁.guest t)) [] in
     let w₂ : IsOnWay s m₂ = going_on s m₁ p t stage vs w₁ (started_after m t x roots m₁ has'.thread refl) held in
     let is : m₂ ≡ m' = then_thread (below_goes_on p stage vs) m t x roots m₁ m₂ has'.thread refl refl ∙ sym e in

@@ -14,7 +14,7 @@ use Rattle.et_state.specs.ThreadRoots.{frame_roots}
 use Rattle.et_state.specs.Threads.{FrameState, ThreadState, no_thread, entered_by, most_frames, popped}
 use Rattle.et_state.specs.State.{Kept, MachineState, kept_of}
 use Rattle.et_state.specs.Words.{HasFrame, thread_at, top, with_top, steps_top}
-use Rattle.et_state.specs.Interned.{objects_of}
+use Rattle.et_state.specs.Interned.{interned_objects}
 use Rattle.et_state.specs.Moves.{IsOnWay, Led, WasThere}
 use Rattle.et_state.proofs.Calls.{on_enter_frame, on_set_entered}
 use Rattle.et_state.proofs.Places.{frame_pops, guest_top, string_root, top_root}
@@ -31,7 +31,7 @@ use Rattle.et_event.specs.declared.errors.GuestError.TheVariants.{StackOverflowE
 use Rattle.et_event.specs.Answered.{EventAnswers}
 use Rattle.et_event.specs.Checks.{frame_fits, throws_unless, waits_unless}
 use Rattle.et_event.specs.Frames.{frame_entered, method_frame, receiver_of}
-use Rattle.et_event.specs.Moments.{Moment, moment, Doing, begins, told, with_thread_state, fits, throws, waits, ends as ending}
+use Rattle.et_event.specs.Moments.{Moment, moment, Doing, begins, told, with_thread_state, fits_heap, throws, waits, ends_event as ending}
 use Rattle.et_event.specs.Monitors.{Lock, OfObject, OfClass, entered_some, is_open_to, lock_for, may_enter_some, monitor_of}
 use Rattle.et_event.specs.Sound.{IsSoundFor}
 use Rattle.et_parts.specs.Locks.{HasMonitor, HasSome, IsSomeFewTimes, entering_some, may_enter_some_at, monitor_at}
@@ -46,7 +46,7 @@ use Rattle.et_initialize.proofs.Stepping.{after, base, base_threads, has_frame_o
 use Rattle.et_calls.specs.declared.new_frames.Entered.{Entered}
 use Rattle.et_calls.specs.declared.new_frames.Passed.{Passed}
 use Rattle.et_calls.specs.declared.new_frames.Passed.TheVariants.{Operands, Object}
-use Rattle.et_calls.specs.Entering.{ArePassed, IsEntered, arguments_passed, entering_event, fitting_event, passed_by, passing, prepared_for, pushed_by, pushed_event}
+use Rattle.et_calls.specs.Entering.{ArePassedTo, IsEntered, arguments_passed, entering_event, fitting_event, passed_by, passing, prepared_for, pushed_by, pushed_event}
 use Rattle.et_calls.specs.Fresh.{IsFresh}
 use Rattle.et_calls.proofs.Fresh.{fresh_on}
 use Rattle.et_calls.proofs.Passed.{operand_rooted, passed_held, passed_on, passed_thread, receiver_held, refs_taken, slot_in, taken_started}
@@ -86,7 +86,7 @@ few_base p t ks m (Some (OfObject o)) has few = subst (λ (x : Monitor). x.count
 few_base p t ks m (Some (OfClass c)) has few = subst (λ (x : Monitor). x.count ≤ 2 ^ 40) (sym (monitor_after p t ks m (OfClass c) has)) few
 
 -- what the frame is put on
-pub base_passed : (p : Linked) (t : ℕ) (ks : List ℕ) (passed : Passed) (m n : MachineState) → n ≡ base p m t ks → ArePassed m.guest t passed → ArePassed n.guest t passed
+pub base_passed : (p : Linked) (t : ℕ) (ks : List ℕ) (passed : Passed) (m n : MachineState) → n ≡ base p m t ks → ArePassedTo m.guest t passed → ArePassedTo n.guest t passed
 base_passed p t ks passed m n e there = passed_on m.guest n.guest t passed (base_threads p t ks m n e) there
 
 pub base_few : (p : Linked) (t : ℕ) (ks : List ℕ) (m n : MachineState) → n ≡ base p m t ks → length (thread_at m.guest t).frames < most_frames → length (thread_at n.guest t).frames < most_frames
@@ -120,7 +120,7 @@ record Took (m : MachineState) (d d₁ : Doing) (n : MachineState) : Type 0 wher
   strings : n.guest.interned ≡ d.state.guest.interned
   clock : d₁.state.guest.clock ≡ d.state.guest.clock
 
-took : (p : Linked) (t : ℕ) (ks : List ℕ) (passed : Passed) (m : MachineState) → IsInOrder p → All (λ k. k < length p.classes) ks → IsSoundFor p (kept_of m) → ArePassed m.guest t passed
+took : (p : Linked) (t : ℕ) (ks : List ℕ) (passed : Passed) (m : MachineState) → IsInOrder p → All (λ k. k < length p.classes) ks → IsSoundFor p (kept_of m) → ArePassedTo m.guest t passed
     → Took m (after p m t ks) (passing (moment p m t) passed (after p m t ks)) (passed_by (base p m t ks) t passed)
 took p t ks (Operands count) m order all sound there =
     let s = kept_of m in
@@ -160,7 +160,7 @@ took p t ks (Object argument) m order all sound there =
     }
 
 -- WHAT THE NEW FRAME HOLDS
-frame_held : (p : Linked) (t method : ℕ) (ks : List ℕ) (body : Body) (passed : Passed) (m : MachineState) → IsSoundFor p (kept_of m) → ArePassed m.guest t passed
+frame_held : (p : Linked) (t method : ℕ) (ks : List ℕ) (body : Body) (passed : Passed) (m : MachineState) → IsSoundFor p (kept_of m) → ArePassedTo m.guest t passed
     → (o : ℕ) → Contains (frame_roots (method_frame p method body (arguments_passed (top m.guest t) passed))) o → IsHeld (after p m t ks).state.heap o
 frame_held p t method ks body passed m sound there =
     let vs : List Value = arguments_passed (top m.guest t) passed in
@@ -191,18 +191,18 @@ entered_by_lock e method body vs d lock =
     told (Enter (entered_some e lock d).state.guest.clock e.thread method (unwrap_or (receiver_of e.program method vs) 0))
     (with_thread_state e (entered_by (method_frame e.program method body vs) (thread_at (entered_some e lock d).state.guest e.thread)) (entered_some e lock d))
 
-room_taken : (p : Linked) (t : ℕ) (ks : List ℕ) (passed : Passed) (lock : Option Lock) (m : MachineState) (b : Bool) → IsInOrder p → All (λ k. k < length p.classes) ks → IsSoundFor p (kept_of m) → ArePassed m.guest t passed → HasSome m lock
-    → fits (after p m t ks).state.heap ≡ b → fits (entered_some (moment p m t) lock (passing (moment p m t) passed (after p m t ks))).state.heap ≡ b
+room_taken : (p : Linked) (t : ℕ) (ks : List ℕ) (passed : Passed) (lock : Option Lock) (m : MachineState) (b : Bool) → IsInOrder p → All (λ k. k < length p.classes) ks → IsSoundFor p (kept_of m) → ArePassedTo m.guest t passed → HasSome m lock
+    → fits_heap (after p m t ks).state.heap ≡ b → fits_heap (entered_some (moment p m t) lock (passing (moment p m t) passed (after p m t ks))).state.heap ≡ b
 room_taken p t ks passed lock m b order all sound there has room =
     let e = moment p m t in
     let n : MachineState = base p m t ks in
     let n₁ : MachineState = passed_by n t passed in
     let it = took p t ks passed m order all sound there in
     fits_locked e lock (passing e passed (after p m t ks)) n₁ it.kept (there_later n n₁ lock it.heap it.monitors (has_base p t ks m lock has))
-    ∙ (ap (λ (k : Kept). fits k.heap) (sym it.kept) ∙ (ap (λ (h : Objects). fits h) it.heap ∙ room))
+    ∙ (ap (λ (k : Kept). fits_heap k.heap) (sym it.kept) ∙ (ap (λ (h : Objects). fits_heap h) it.heap ∙ room))
 
 pub method_entered : (p : Linked) (t method : ℕ) (ks : List ℕ) (body : Body) (passed : Passed) (lock : Option Lock) (m m₂ m₃ : MachineState) (out out₂ out₃ : List Record) → IsInOrder p → All (λ k. k < length p.classes) ks
-    → IsSoundFor p (kept_of m) → ArePassed m.guest t passed → fits (after p m t ks).state.heap ≡ true
+    → IsSoundFor p (kept_of m) → ArePassedTo m.guest t passed → fits_heap (after p m t ks).state.heap ≡ true
     → lock ≡ lock_for (method_at p method) (receiver_of p method (arguments_passed (top m.guest t) passed)) → HasSome m lock → m₂ ≡ base p m t ks → out₂ ≡ out ++ (after p m t ks).records
     → m₃ ≡ entering_some t lock (pushed_by m₂ t passed (method_frame p method body (arguments_passed (top m.guest t) passed)))
     → out₃ ≡ out₂ ++ Enter m₂.guest.clock t method (unwrap_or (receiver_of p method (arguments_passed (top m.guest t) passed)) 0) ∷ []
@@ -230,7 +230,7 @@ method_entered p t method ks body passed lock m m₂ m₃ out out₂ out₃ orde
     let long : length z.heap ≡ length d.state.heap = locked_length t lock n₂ ∙ ap (λ (h : Objects). length h) it.heap in
     let led₁ : Led s (kept_of z) m₃ =
     strings_led s (kept_of z) m₃ (subst (λ (y : MachineState). IsOnWay s y) (sym is) (locked s t lock n₂ way₂ has₂)) (ap (λ (y : MachineState). kept_of y) is) (omega (arith, long, grown))
-    (λ o low high. string_root z.guest o (subst (λ (texts : List (List ℕ × ℕ)). Contains (objects_of texts) o) (sym (locked_strings t lock n₂ ∙ it.strings)) (made.made o low (omega (arith, long, high))))) in
+    (λ o low high. string_root z.guest o (subst (λ (texts : List (List ℕ × ℕ)). Contains (interned_objects texts) o) (sym (locked_strings t lock n₂ ∙ it.strings)) (made.made o low (omega (arith, long, high))))) in
     let x : Doing = entered_some e lock d₁ in
     let y : Doing = with_thread_state e (entered_by f (thread_at x.state.guest t)) x in
     let same : kept_of z ≡ y.state =
@@ -238,7 +238,7 @@ method_entered p t method ks body passed lock m m₂ m₃ out out₂ out₃ orde
     ∙ (ap (λ (k : Kept). (entered_some e lock (with_thread_state e (entered_by f (thread_at k.guest t)) (record { state = k; records = d₁.records }))).state) it.kept
     ∙ ap (λ (w : Doing). w.state) (commutes e lock f d₁)) in
     let all_done : Doing = told (Enter x.state.guest.clock t method number) y in
-    let fit : fits all_done.state.heap ≡ true = room_taken p t ks passed lock m true order all sound there has room in
+    let fit : fits_heap all_done.state.heap ≡ true = room_taken p t ks passed lock m true order all sound there has room in
     let last : ℕ → List Record = λ k. Enter k t method number ∷ [] in
     let records : out₃ ≡ out ++ all_done.records =
     r₃ ∙ (ap (λ (k : ℕ). out₂ ++ last k) (ap (λ (w : MachineState). w.guest.clock) e₂)
@@ -252,18 +252,18 @@ method_entered p t method ks body passed lock m m₂ m₃ out out₂ out₃ orde
 
 -- .. where it doesn't fit
 pub method_unfit : (p : Linked) (t method : ℕ) (ks : List ℕ) (body : Body) (passed : Passed) (lock : Option Lock) (m : MachineState) (out : List Record) → IsInOrder p → All (λ k. k < length p.classes) ks → IsSoundFor p (kept_of m)
-    → ArePassed m.guest t passed → fits (after p m t ks).state.heap ≡ false
+    → ArePassedTo m.guest t passed → fits_heap (after p m t ks).state.heap ≡ false
     → lock ≡ lock_for (method_at p method) (receiver_of p method (arguments_passed (top m.guest t) passed)) → HasSome m lock
     → EventAnswers (ending (frame_entered (moment p m t) method body (arguments_passed (top m.guest t) passed) (passing (moment p m t) passed (after p m t ks)))) ends.ObjectLimit m m out out
 method_unfit p t method ks body passed lock m out order all sound there room held has =
     let e : Moment = moment p m t in
     let vs : List Value = arguments_passed (top m.guest t) passed in
     let d₁ : Doing = passing e passed (after p m t ks) in
-    let fit : fits (entered_by_lock e method body vs d₁ lock).state.heap ≡ false = room_taken p t ks passed lock m false order all sound there has room in
+    let fit : fits_heap (entered_by_lock e method body vs d₁ lock).state.heap ≡ false = room_taken p t ks passed lock m false order all sound there has room in
     subst (λ (l : Option Lock). EventAnswers (ending (entered_by_lock e method body vs d₁ l)) ends.ObjectLimit m m out out) held
     (subst (λ (o : Outcome Kept). EventAnswers o ends.ObjectLimit m m out out) (sym (ends_full (entered_by_lock e method body vs d₁ lock) fit)) (refl, refl))
 
-pub unfit : (p : Linked) (t : ℕ) (x : Entered) (m : MachineState) (out : List Record) → IsInOrder p → IsSoundFor p (kept_of m) → IsEntered p m t x → fits (after p m t x.classes.now).state.heap ≡ false
+pub unfit : (p : Linked) (t : ℕ) (x : Entered) (m : MachineState) (out : List Record) → IsInOrder p → IsSoundFor p (kept_of m) → IsEntered p m t x → fits_heap (after p m t x.classes.now).state.heap ≡ false
     → EventAnswers (pushed_event (moment p m t) x) ends.ObjectLimit m m out out
 unfit p t x m out order sound is room =
     let vs : List Value = arguments_passed (top m.guest t) x.passed in

@@ -17,7 +17,7 @@ use Rattle.et_state.specs.Outcome.{Outcome}
 use Rattle.et_event.specs.declared.errors.GuestError.{GuestError}
 use Rattle.et_event.specs.declared.errors.GuestError.TheVariants.{AbstractMethodError, UnsatisfiedLinkError}
 use Rattle.et_event.specs.Answered.{EventAnswers}
-use Rattle.et_event.specs.Calls.{enters_first, entering}
+use Rattle.et_event.specs.Calls.{enters_first, entering_frame}
 use Rattle.et_event.specs.Checks.{throws_unless}
 use Rattle.et_event.specs.Frames.{by_code, enters_code}
 use Rattle.et_event.specs.Moments.{Moment, Doing, throws}
@@ -33,9 +33,9 @@ alike x y end m m' out out' e h = subst (λ (z : Outcome Kept). EventAnswers z e
 
 -- BY THE CODE
 
-pub code_is : (e : Moment) (d : Doing) (method : ℕ) (args : List Value) (x : MethodInfo) (body : Body) → x ≡ method_at e.program method → x.code ≡ Some body → enters_first e d args method ≡ enters_code e d (entering e) method args body
+pub code_is : (e : Moment) (d : Doing) (method : ℕ) (args : List Value) (x : MethodInfo) (body : Body) → x ≡ method_at e.program method → x.code ≡ Some body → enters_first e d args method ≡ enters_code e d (entering_frame e) method args body
 code_is e d method args x body named code =
-    ap (λ (c : Option Body). by_code e d (entering e) method args (throws e AbstractMethodError d) c) (ap (λ (i : MethodInfo). i.code) (sym named) ∙ code)
+    ap (λ (c : Option Body). by_code e d (entering_frame e) method args (throws e AbstractMethodError d) c) (ap (λ (i : MethodInfo). i.code) (sym named) ∙ code)
 
 by_error : (e : Moment) (d : Doing) (native : Bool) → throws_unless e d UnsatisfiedLinkError (not native) (throws e AbstractMethodError d) ≡ throws e (error_by native) d
 by_error e d true = refl
@@ -43,7 +43,7 @@ by_error e d false = refl
 
 pub codeless_is : (e : Moment) (d : Doing) (method : ℕ) (args : List Value) (x : MethodInfo) (error : GuestError) → x ≡ method_at e.program method → x.code ≡ None → error ≡ error_by (has x.flags NATIVE) → enters_first e d args method ≡ throws e error d
 codeless_is e d method args x error named code is =
-    ap (λ (c : Option Body). by_code e d (entering e) method args (throws e AbstractMethodError d) c) (ap (λ (i : MethodInfo). i.code) (sym named) ∙ code)
+    ap (λ (c : Option Body). by_code e d (entering_frame e) method args (throws e AbstractMethodError d) c) (ap (λ (i : MethodInfo). i.code) (sym named) ∙ code)
     ∙ (by_error e d (has (method_at e.program method).flags NATIVE)
     ∙ (ap (λ (i : MethodInfo). throws e (error_by (has i.flags NATIVE)) d) (sym named) ∙ ap (λ (r : GuestError). throws e r d) (sym is)))
 

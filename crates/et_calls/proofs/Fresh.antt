@@ -3,7 +3,7 @@ use Rattle.std.proofs.Common.{◌≡◌, ℕ, ◌<◌, Bool, true, false, List, 
 use Rattle.std.specs.Prelude.{if◌then◌else◌, is_some}
 use Rattle.et_state.specs.declared.stage.Turn.{Turn}
 use Rattle.et_state.specs.declared.stage.Turn.TheVariants.{Unwind, EndThread, Entry, Initialize, Instruction}
-use Rattle.et_state.specs.Threads.{FrameState, ThreadState, no_thread, has_frame, first_frame, is_before, turn_of}
+use Rattle.et_state.specs.Threads.{FrameState, ThreadState, no_thread, has_frame, first_frame, is_before_class, turn_of}
 use Rattle.et_state.specs.State.{GuestState, MachineState}
 use Rattle.et_state.specs.Words.{thread_at, begun, IsUnended}
 use Rattle.et_calls.specs.Fresh.{IsFresh}
@@ -13,7 +13,7 @@ use Rattle.et_calls.specs.Fresh.{IsFresh}
 abbrev turn_by : Option ℕ → List FrameState → Bool → Turn
 turn_by pending frames entered =
     if is_some pending then (if has_frame frames then Unwind else EndThread)
-    else (if has_frame frames then (if is_before (first_frame frames).stage then Initialize else Instruction)
+    else (if has_frame frames then (if is_before_class (first_frame frames).stage then Initialize else Instruction)
     else (if entered then EndThread else Entry))
 
 not_entry : (b : Bool) → (if b then Initialize else Instruction) ≡ Entry → ⊥
@@ -23,7 +23,7 @@ not_entry false e = cc
 no_frames : (pending : Option ℕ) (frames : List FrameState) (entered : Bool) → turn_by pending frames entered ≡ Entry → frames ≡ []
 no_frames pending [] entered e = refl
 no_frames (Some o) (f ∷ fs) entered e = cc
-no_frames None (f ∷ fs) entered e = absurd (not_entry (is_before f.stage) e)
+no_frames None (f ∷ fs) entered e = absurd (not_entry (is_before_class f.stage) e)
 
 pub fresh_thread : (g : GuestState) (t : ℕ) → IsUnended g t → turn_of (thread_at g t) ≡ Entry → IsFresh g t
 fresh_thread g t is e = record { unended = is; frames = no_frames (thread_at g t).pending (thread_at g t).frames (thread_at g t).entered e }

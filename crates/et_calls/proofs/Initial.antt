@@ -15,7 +15,7 @@ use Rattle.et_event.specs.Moments.{Doing, Moment, begins}
 use Rattle.et_event.specs.Sites.{Site}
 use Rattle.et_builtins.specs.declared.plans.CallPlan.{CallPlan}
 use Rattle.et_builtins.specs.declared.plans.CallPlan.TheVariants.{Initializes}
-use Rattle.et_builtins.specs.Plans.{planned}
+use Rattle.et_builtins.specs.Plans.{call_planned}
 use Rattle.et_initialize.specs.Needs.{need_by, need_of}
 use Rattle.et_initialize.specs.declared.needs.Need.{Need}
 use Rattle.et_initialize.specs.declared.needs.Need.TheVariants.{Quiet, Begins}
@@ -48,20 +48,20 @@ calls_by e at method count quiet =
     if quiet then enters_method e at (quietly_done e c (begins e)) (arguments_of e count) method else begins_class e c (begins e)
 
 planned_by : (e : Moment) (at : Site) (method count : ℕ) (quiet : Bool) → state_of (begins e) (method_at e.program method).class ≡ Untouched → is_quiet e (begins e) (method_at e.program method).class ≡ quiet
-    → planned e at (Initializes method count) ≡ calls_by e at method count quiet
+    → call_planned e at (Initializes method count) ≡ calls_by e at method count quiet
 planned_by e at method count quiet un is =
     ap (λ (x : ClassState). needed e (begins e) (method_at e.program method).class x (λ d. enters_method e at d (arguments_of e count) method)) un
     ∙ ap (λ (b : Bool). calls_by e at method count b) is
 
 pub begins_answers : (e : Moment) (at : Site) (method count class : ℕ) (end : EventEnd) (m m' : MachineState) (out out' : List Record) → class ≡ (method_at e.program method).class
     → state_of (begins e) (method_at e.program method).class ≡ Untouched → is_quiet e (begins e) (method_at e.program method).class ≡ false
-    → EventAnswers (begins_class e class (begins e)) end m m' out out' → EventAnswers (planned e at (Initializes method count)) end m m' out out'
+    → EventAnswers (begins_class e class (begins e)) end m m' out out' → EventAnswers (call_planned e at (Initializes method count)) end m m' out out'
 begins_answers e at method count class end m m' out out' name un loud a =
     subst (λ (o : Outcome Kept). EventAnswers o end m m' out out') (ap (λ (c : ℕ). begins_class e c (begins e)) name ∙ sym (planned_by e at method count false un loud)) a
 
 pub quiet_answers : (e : Moment) (at : Site) (method count class : ℕ) (end : EventEnd) (m m' : MachineState) (out out' : List Record) → class ≡ (method_at e.program method).class
     → state_of (begins e) (method_at e.program method).class ≡ Untouched → is_quiet e (begins e) (method_at e.program method).class ≡ true
-    → EventAnswers (enters_method e at (prepared e (class ∷ []) (begins e)) (arguments_of e count) method) end m m' out out' → EventAnswers (planned e at (Initializes method count)) end m m' out out'
+    → EventAnswers (enters_method e at (prepared e (class ∷ []) (begins e)) (arguments_of e count) method) end m m' out out' → EventAnswers (call_planned e at (Initializes method count)) end m m' out out'
 quiet_answers e at method count class end m m' out out' name un quiet a =
     let c : ℕ = (method_at e.program method).class in
     let is : enters_method e at (prepared e (class ∷ []) (begins e)) (arguments_of e count) method ≡ enters_method e at (quietly_done e c (begins e)) (arguments_of e count) method =
@@ -72,5 +72,5 @@ quiet_answers e at method count class end m m' out out' name un quiet a =
 -- BY THE PLAN
 
 pub plan_answers : (e : Moment) (at : Site) (plan same : CallPlan) (end : EventEnd) (m m' : MachineState) (out out' : List Record) → plan ≡ same
-    → EventAnswers (planned e at same) end m m' out out' → EventAnswers (planned e at plan) end m m' out out'
-plan_answers e at plan same end m m' out out' is a = subst (λ (q : CallPlan). EventAnswers (planned e at q) end m m' out out') (sym is) a
+    → EventAnswers (call_planned e at same) end m m' out out' → EventAnswers (call_planned e at plan) end m m' out out'
+plan_answers e at plan same end m m' out out' is a = subst (λ (q : CallPlan). EventAnswers (call_planned e at q) end m m' out out') (sym is) a

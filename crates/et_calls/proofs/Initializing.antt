@@ -6,7 +6,7 @@ use Rattle.et_state.specs.declared.stage.Stage.{Stage}
 use Rattle.et_state.specs.declared.stage.Stage.TheVariants.{Plain, Before, Clinit}
 use Rattle.et_state.specs.declared.stage.Turn.{Turn}
 use Rattle.et_state.specs.declared.stage.Turn.TheVariants.{Unwind, EndThread, Entry, Initialize, Instruction}
-use Rattle.et_state.specs.Threads.{FrameState, ThreadState, no_thread, has_frame, is_before, top_of, turn_of}
+use Rattle.et_state.specs.Threads.{FrameState, ThreadState, no_thread, has_frame, is_before_class, top_of, turn_of}
 use Rattle.et_state.specs.State.{Kept, GuestState}
 use Rattle.et_state.specs.Words.{HasFrame, thread_at, top}
 use Rattle.et_event.specs.Event.{initializes, does_turn, event}
@@ -16,7 +16,7 @@ use Rattle.et_event.specs.Moments.{Moment}
 -- an initializer is at the top
 pub record IsInitializing (x : ThreadState) : Type 0 where
   pub framed : has_frame x.frames ≡ true
-  pub before : is_before (top_of x).stage ≡ true
+  pub before : is_before_class (top_of x).stage ≡ true
 
 initializing : (pending has before entered : Bool) →
     (if pending then (if has then Unwind else EndThread) else (if has then (if before then Initialize else Instruction) else (if entered then EndThread else Entry))) ≡ Initialize → (has ≡ true) × (before ≡ true)
@@ -28,7 +28,7 @@ initializing false false before true e = cc
 initializing false false before false e = cc
 
 pub initializes_there : (x : ThreadState) → turn_of x ≡ Initialize → IsInitializing x
-initializes_there x e = let h = initializing (is_some x.pending) (has_frame x.frames) (is_before (top_of x).stage) x.entered e in record { framed = h.0; before = h.1 }
+initializes_there x e = let h = initializing (is_some x.pending) (has_frame x.frames) (is_before_class (top_of x).stage) x.entered e in record { framed = h.0; before = h.1 }
 
 some_frames : (fs : List FrameState) → has_frame fs ≡ true → 0 < length fs
 some_frames [] e = cc

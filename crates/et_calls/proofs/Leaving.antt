@@ -31,12 +31,12 @@ use Rattle.et_event.specs.Checks.{throws_unless}
 use Rattle.et_event.specs.Kinds.{returned_width}
 use Rattle.et_event.specs.Moments.{Moment, moment, Doing, begins, later, told, with_thread_state, goes, ill_typed, throws}
 use Rattle.et_event.specs.Monitors.{Lock, OfObject, OfClass, lock_in, left_once, left_some, owns_some}
-use Rattle.et_event.specs.Sites.{method_of}
+use Rattle.et_event.specs.Sites.{running_method}
 use Rattle.et_event.specs.Sound.{IsSoundFor, AreSoundFrames, IsAbove, IsStaged}
 use Rattle.et_event.specs.declared.rows.Operand.{Operand}
 use Rattle.et_calls.proofs.Coming.{after_return, came_after_return}
 use Rattle.et_calls.proofs.Values.{by_values, entries_are_in, return_is, width_returned}
-use Rattle.et_calls.specs.Returned.{FitsBelow, IsValueIn, entries_returned, returned_values, returning}
+use Rattle.et_calls.specs.Returned.{FitsBelow, IsValueIn, entries_returned, returned_values, returning_frame}
 use Rattle.et_builtins.specs.Types.{returned_in}
 use Rattle.et_calls.specs.Stages.{IsClassIn}
 use Rattle.et_calls.specs.Ways.{Came}
@@ -72,7 +72,7 @@ left_answers p t values m m' out out' x beside came e = (
 )
 
 pub frame_left : (p : Linked) (t : ℕ) (value : Option Value) (lock : Option Lock) (m m₂ m₃ : MachineState) (out out' : List Record) → HasFrame m.guest t → IsValueIn (top m.guest t) value
-    → lock_in (top m.guest t).stage (method_of p (top m.guest t)) (top m.guest t).lock ≡ lock
+    → lock_in (top m.guest t).stage (running_method p (top m.guest t)) (top m.guest t).lock ≡ lock
     → Came (kept_of m) (class_done_by (top m.guest t).stage (left_some lock (begins (moment p m t)))) m₂ → m₂.guest.threads ≡ m.guest.threads
     → m₃ ≡ steps_thread m₂ t (after_return p (entries_returned value) (thread_at m₂.guest t)) (frame_roots (top m₂.guest t))
     → out' ≡ out ++ Exit (m.guest.clock + 1) t (unwrap_or (top m.guest t).method 0) ∷ []
@@ -137,58 +137,58 @@ owned_is p t m (Some (OfClass c)) = refl
 abbrev returns_by : Moment → Option Value → Bool → Outcome Kept
 returns_by e value owned = throws_unless e (begins e) IllegalMonitorStateException owned (goes (frame_returned e (entries_returned value) (begins e)))
 
-returning_is : (p : Linked) (t : ℕ) (value : Option Value) (m : MachineState) (lock : Option Lock) (b : Bool) → lock ≡ lock_in (top m.guest t).stage (method_of p (top m.guest t)) (top m.guest t).lock
-    → owns_some_at t lock m ≡ b → returning (moment p m t) value ≡ returns_by (moment p m t) value b
+returning_is : (p : Linked) (t : ℕ) (value : Option Value) (m : MachineState) (lock : Option Lock) (b : Bool) → lock ≡ lock_in (top m.guest t).stage (running_method p (top m.guest t)) (top m.guest t).lock
+    → owns_some_at t lock m ≡ b → returning_frame (moment p m t) value ≡ returns_by (moment p m t) value b
 returning_is p t value m lock b held owned =
     ap (λ (l : Option Lock). returns_by (moment p m t) value (owns_some (moment p m t) (begins (moment p m t)) l)) (sym held)
     ∙ ap (λ (c : Bool). returns_by (moment p m t) value c) (owned_is p t m lock ∙ owned)
 
-pub owned_answers : (p : Linked) (t : ℕ) (value : Option Value) (m m' : MachineState) (out out' : List Record) (end : EventEnd) (lock : Option Lock) → lock ≡ lock_in (top m.guest t).stage (method_of p (top m.guest t)) (top m.guest t).lock
+pub owned_answers : (p : Linked) (t : ℕ) (value : Option Value) (m m' : MachineState) (out out' : List Record) (end : EventEnd) (lock : Option Lock) → lock ≡ lock_in (top m.guest t).stage (running_method p (top m.guest t)) (top m.guest t).lock
     → owns_some_at t lock m ≡ true → EventAnswers (goes (frame_returned (moment p m t) (entries_returned value) (begins (moment p m t)))) end m m' out out'
-    → EventAnswers (returning (moment p m t) value) end m m' out out'
+    → EventAnswers (returning_frame (moment p m t) value) end m m' out out'
 owned_answers p t value m m' out out' end lock held owned a =
     subst (λ (o : Outcome Kept). EventAnswers o end m m' out out') (sym (returning_is p t value m lock true held owned)) a
 
-pub unowned_answers : (p : Linked) (t : ℕ) (value : Option Value) (m m' : MachineState) (out out' : List Record) (end : EventEnd) (lock : Option Lock) → lock ≡ lock_in (top m.guest t).stage (method_of p (top m.guest t)) (top m.guest t).lock
+pub unowned_answers : (p : Linked) (t : ℕ) (value : Option Value) (m m' : MachineState) (out out' : List Record) (end : EventEnd) (lock : Option Lock) → lock ≡ lock_in (top m.guest t).stage (running_method p (top m.guest t)) (top m.guest t).lock
     → owns_some_at t lock m ≡ false → EventAnswers (throws (moment p m t) IllegalMonitorStateException (begins (moment p m t))) end m m' out out'
-    → EventAnswers (returning (moment p m t) value) end m m' out out'
+    → EventAnswers (returning_frame (moment p m t) value) end m m' out out'
 unowned_answers p t value m m' out out' end lock held owned a =
     subst (λ (o : Outcome Kept). EventAnswers o end m m' out out') (sym (returning_is p t value m lock false held owned)) a
 
 -- the values that are returned, and where they aren't there
 
 pub returned_answers : (p : Linked) (t : ℕ) (kind : Option Operand) (value : Option Value) (m m' : MachineState) (out out' : List Record) (end : EventEnd)
-    → returned_values kind (returned_by (moment p m t)) (top m.guest t).operands ≡ Some value → EventAnswers (returning (moment p m t) value) end m m' out out'
+    → returned_values kind (returned_by (moment p m t)) (top m.guest t).operands ≡ Some value → EventAnswers (returning_frame (moment p m t) value) end m m' out out'
     → EventAnswers (return (moment p m t) kind) end m m' out out'
 returned_answers p t kind value m m' out out' end e a =
-    subst (λ (o : Outcome Kept). EventAnswers o end m m' out out') (sym (return_is (moment p m t) kind ∙ ap (λ (v : Option (Option Value)). by_values (ill_typed (moment p m t)) (returning (moment p m t)) v) e)) a
+    subst (λ (o : Outcome Kept). EventAnswers o end m m' out out') (sym (return_is (moment p m t) kind ∙ ap (λ (v : Option (Option Value)). by_values (ill_typed (moment p m t)) (returning_frame (moment p m t)) v) e)) a
 
 pub refused_answers : (p : Linked) (t : ℕ) (kind : Option Operand) (m : MachineState) (out : List Record) (end : EventEnd)
     → returned_values kind (returned_by (moment p m t)) (top m.guest t).operands ≡ None → end ≡ ill_typed_end m t
     → EventAnswers (return (moment p m t) kind) end m m out out
 refused_answers p t kind m out end e is =
-    subst (λ (o : Outcome Kept). EventAnswers o end m m out out) (sym (return_is (moment p m t) kind ∙ ap (λ (v : Option (Option Value)). by_values (ill_typed (moment p m t)) (returning (moment p m t)) v) e))
+    subst (λ (o : Outcome Kept). EventAnswers o end m m out out) (sym (return_is (moment p m t) kind ∙ ap (λ (v : Option (Option Value)). by_values (ill_typed (moment p m t)) (returning_frame (moment p m t)) v) e))
     (ill_typed_answers p t m m out end refl is)
 
 -- WHAT SOUND STATES GIVE
 
-fits_staged : (p : Linked) (f : FrameState) (stage : Stage) (below : List FrameState) (vs : List Value) → IsAbove p f stage below → length vs ≡ returned_width (returned_in (method_of p f).descriptor) → FitsBelow stage vs below
+fits_staged : (p : Linked) (f : FrameState) (stage : Stage) (below : List FrameState) (vs : List Value) → IsAbove p f stage below → length vs ≡ returned_width (returned_in (running_method p f).descriptor) → FitsBelow stage vs below
 fits_staged p f Plain [] vs h e = tt
-fits_staged p f Plain (g ∷ below) vs h e = let fits : length g.operands + returned_width (returned_in (method_of p f).descriptor) ≤ g.room = h.fits in omega arith
+fits_staged p f Plain (g ∷ below) vs h e = let fits : length g.operands + returned_width (returned_in (running_method p f).descriptor) ≤ g.room = h.fits in omega arith
 fits_staged p f (Before c) below vs h e = tt
 fits_staged p f (Clinit c) below vs h e = tt
 
-fits_first : (p : Linked) (fs : List FrameState) (vs : List Value) → 0 < length fs → AreSoundFrames p fs → length vs ≡ returned_width (returned_in (method_of p (first_frame fs)).descriptor) → FitsBelow (first_frame fs).stage vs (rest_of fs)
+fits_first : (p : Linked) (fs : List FrameState) (vs : List Value) → 0 < length fs → AreSoundFrames p fs → length vs ≡ returned_width (returned_in (running_method p (first_frame fs)).descriptor) → FitsBelow (first_frame fs).stage vs (rest_of fs)
 fits_first p [] vs lt sound e = absurd (omega arith)
 fits_first p (f ∷ below) vs lt sound e = fits_staged p f f.stage below vs sound.1 e
 
 -- what a frame returns fits the frame below it
 pub fits_returned : (p : Linked) (s : Kept) (t : ℕ) (kind : Option Operand) (value : Option Value) → IsSoundFor p s → HasFrame s.guest t
-    → returned_values kind (returned_in (method_of p (top s.guest t)).descriptor) (top s.guest t).operands ≡ Some value
+    → returned_values kind (returned_in (running_method p (top s.guest t)).descriptor) (top s.guest t).operands ≡ Some value
     → FitsBelow (top s.guest t).stage (entries_returned value) (rest_of (thread_at s.guest t).frames)
 fits_returned p s t kind value sound has e =
     fits_first p (thread_at s.guest t).frames (entries_returned value) has.frame (sound.threads t has.thread).frames
-    (width_returned kind (returned_in (method_of p (top s.guest t)).descriptor) (top s.guest t).operands value e)
+    (width_returned kind (returned_in (running_method p (top s.guest t)).descriptor) (top s.guest t).operands value e)
 
 class_staged : (p : Linked) (f : FrameState) (stage : Stage) (method : Option ℕ) → IsStaged p f stage method → IsClassIn stage (length p.classes)
 class_staged p f Plain method h = tt

@@ -23,7 +23,7 @@ use Rattle.et_parts.proofs.There.{there_later, few_later}
 use Rattle.et_initialize.proofs.Stepping.{has_frame_on, top_on}
 use Rattle.et_calls.specs.declared.new_frames.Passed.{Passed}
 use Rattle.et_calls.specs.declared.new_frames.Passed.TheVariants.{Operands, Object}
-use Rattle.et_calls.specs.Entering.{ArePassed, arguments_passed, passed_by, pushed_by}
+use Rattle.et_calls.specs.Entering.{ArePassedTo, arguments_passed, passed_by, pushed_by}
 use Rattle.et_calls.specs.Fresh.{IsArgument, IsFresh}
 use Rattle.et_calls.proofs.Fresh.{fresh_on}
 
@@ -59,13 +59,13 @@ object_in (Some r) o c = elim (Contains-cons r [] o c) [ inl e ↦ ap (λ (k : �
 object_held : (t o : ℕ) (argument : Option ℕ) (m : MachineState) → IsSound (kept_of m) → IsFresh m.guest t → IsArgument m.guest t argument → argument ≡ Some o → IsHeld m.heap o
 object_held t o argument m sound fresh there e = sound.roots o (ended_root m.guest t o fresh.unended.thread fresh.unended.unended (there o e))
 
-pub passed_held : (t : ℕ) (passed : Passed) (m : MachineState) → IsSound (kept_of m) → ArePassed m.guest t passed → (o : ℕ) → Contains (refs_of (arguments_passed (top m.guest t) passed)) o → IsHeld m.heap o
+pub passed_held : (t : ℕ) (passed : Passed) (m : MachineState) → IsSound (kept_of m) → ArePassedTo m.guest t passed → (o : ℕ) → Contains (refs_of (arguments_passed (top m.guest t) passed)) o → IsHeld m.heap o
 passed_held t (Operands count) m sound there = λ o c.
     let f : FrameState = top m.guest t in
     sound.roots o (top_root m.guest t o there.0 (operand_rooted f o (refs_taken f.operands count o (refs_reversed (take count f.operands) o c))))
 passed_held t (Object argument) m sound there = λ o c. object_held t o argument m sound there.0 there.1 (object_in argument o c)
 
-pub argument_held : (t : ℕ) (argument : Option ℕ) (m : MachineState) → IsSound (kept_of m) → ArePassed m.guest t (Object argument) → IfSome argument (λ o. IsHeld m.heap o)
+pub argument_held : (t : ℕ) (argument : Option ℕ) (m : MachineState) → IsSound (kept_of m) → ArePassedTo m.guest t (Object argument) → IfSome argument (λ o. IsHeld m.heap o)
 argument_held t None m sound there = tt
 argument_held t (Some o) m sound there = object_held t o (Some o) m sound there.0 there.1 refl
 
@@ -93,18 +93,18 @@ some_in : (r : Option ℕ) (H : ℕ → Type 0) → ((o : ℕ) → Contains (opt
 some_in None H held = tt
 some_in (Some o) H held = held o (Contains-here o [])
 
-pub receiver_held : (t : ℕ) (passed : Passed) (m : MachineState) (static : Bool) → IsSound (kept_of m) → ArePassed m.guest t passed → IfSome (if static then None else first_reference (arguments_passed (top m.guest t) passed)) (λ o. IsHeld m.heap o)
+pub receiver_held : (t : ℕ) (passed : Passed) (m : MachineState) (static : Bool) → IsSound (kept_of m) → ArePassedTo m.guest t passed → IfSome (if static then None else first_reference (arguments_passed (top m.guest t) passed)) (λ o. IsHeld m.heap o)
 receiver_held t passed m static sound there =
     let vs : List Value = arguments_passed (top m.guest t) passed in
     some_in (if static then None else first_reference vs) (λ o. IsHeld m.heap o) (λ o c. passed_held t passed m sound there o (received_in static vs o c))
 
 -- IN A STATE WITH THE SAME THREADS
 
-pub passed_on : (g g' : GuestState) (t : ℕ) (passed : Passed) → g'.threads ≡ g.threads → ArePassed g t passed → ArePassed g' t passed
+pub passed_on : (g g' : GuestState) (t : ℕ) (passed : Passed) → g'.threads ≡ g.threads → ArePassedTo g t passed → ArePassedTo g' t passed
 passed_on g g' t (Operands count) e there = (has_frame_on g g' t e there.0, subst (λ (f : FrameState). count ≤ length f.operands) (sym (top_on g g' t e)) there.1)
 passed_on g g' t (Object argument) e there = (fresh_on g g' t e there.0, λ o is. subst (λ (ts : List ThreadState). Contains (ended_roots (get_or ts t no_thread)) o) (sym e) (there.1 o is))
 
-pub passed_thread : (g : GuestState) (t : ℕ) (passed : Passed) → ArePassed g t passed → t < length g.threads
+pub passed_thread : (g : GuestState) (t : ℕ) (passed : Passed) → ArePassedTo g t passed → t < length g.threads
 passed_thread g t (Operands count) there = there.0.thread
 passed_thread g t (Object argument) there = there.0.unended.thread
 
@@ -114,11 +114,11 @@ with_rest : (fs : List FrameState) (f : FrameState) → 0 < length fs → length
 with_rest [] f lt = absurd (omega arith)
 with_rest (g ∷ fs) f lt = omega arith
 
-pub taken_started : (m : MachineState) (t : ℕ) (passed : Passed) → ArePassed m.guest t passed → t < length (passed_by m t passed).guest.threads
+pub taken_started : (m : MachineState) (t : ℕ) (passed : Passed) → ArePassedTo m.guest t passed → t < length (passed_by m t passed).guest.threads
 taken_started m t (Operands count) there = subst (λ (n : ℕ). t < n) (sym (length-set m.guest.threads t (with_top_of (thread_at m.guest t) (popped count (top m.guest t))))) there.0.thread
 taken_started m t (Object argument) there = subst (λ (n : ℕ). t < n) (sym (length-set m.guest.threads t (as_entered (thread_at m.guest t)))) there.0.unended.thread
 
-pub taken_frames : (m : MachineState) (t : ℕ) (passed : Passed) → ArePassed m.guest t passed → length (thread_at (passed_by m t passed).guest t).frames ≡ length (thread_at m.guest t).frames
+pub taken_frames : (m : MachineState) (t : ℕ) (passed : Passed) → ArePassedTo m.guest t passed → length (thread_at (passed_by m t passed).guest t).frames ≡ length (thread_at m.guest t).frames
 taken_frames m t (Operands count) there =
     ap (λ (x : ThreadState). length x.frames) (get_or-set_same m.guest.threads t (with_top_of (thread_at m.guest t) (popped count (top m.guest t))) no_thread there.0.thread)
     ∙ with_rest (thread_at m.guest t).frames (popped count (top m.guest t)) there.0.frame

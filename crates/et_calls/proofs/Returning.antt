@@ -10,7 +10,7 @@ use Rattle.et_state.specs.State.{MachineState}
 use Rattle.et_state.specs.Words.{thread_at, top, HasFrame, steps_top, steps_thread}
 use Rattle.et_state.proofs.Steps.{then_top}
 use Rattle.et_program.specs.Entries.{Linked}
-use Rattle.et_event.specs.Frames.{behind, resumed, frames_after_return}
+use Rattle.et_event.specs.Frames.{next_place_of, resumed, frames_after_return}
 use Rattle.et_calls.specs.Returned.{FitsBelow}
 
 pub resumed_once : (m : MachineState) (t pc : ℕ) (vs : List Value) (m₁ m₂ : MachineState) → HasFrame m.guest t → m₁ ≡ steps_top m t (record (top m.guest t) { operands = vs ++ (top m.guest t).operands }) []
@@ -35,12 +35,12 @@ pub stays : (p : Linked) (vs : List Value) (m : MachineState) (t : ℕ) → leng
     → m ≡ steps_thread m t (record (thread_at m.guest t) { frames = resumed p vs (thread_at m.guest t).frames }) []
 stays p vs m t e = itself m t ∙ ap (λ (fs : List FrameState). steps_thread m t (record (thread_at m.guest t) { frames = fs }) []) (sym (resumed_none p vs (thread_at m.guest t).frames e))
 
-resumed_first : (p : Linked) (vs : List Value) (fs : List FrameState) → 0 < length fs → record (first_frame fs) { pc = behind p (first_frame fs); operands = vs ++ (first_frame fs).operands } ∷ rest_of fs ≡ resumed p vs fs
+resumed_first : (p : Linked) (vs : List Value) (fs : List FrameState) → 0 < length fs → record (first_frame fs) { pc = next_place_of p (first_frame fs); operands = vs ++ (first_frame fs).operands } ∷ rest_of fs ≡ resumed p vs fs
 resumed_first p vs [] lt = absurd (omega arith)
 resumed_first p vs (f ∷ fs) lt = refl
 
 pub resumes : (p : Linked) (vs : List Value) (m : MachineState) (t : ℕ) (m' : MachineState) → HasFrame m.guest t
-    → m' ≡ steps_top m t (record (top m.guest t) { pc = behind p (top m.guest t); operands = vs ++ (top m.guest t).operands }) []
+    → m' ≡ steps_top m t (record (top m.guest t) { pc = next_place_of p (top m.guest t); operands = vs ++ (top m.guest t).operands }) []
     → m' ≡ steps_thread m t (record (thread_at m.guest t) { frames = resumed p vs (thread_at m.guest t).frames }) []
 resumes p vs m t m' has e = e ∙ ap (λ (fs : List FrameState). steps_thread m t (record (thread_at m.guest t) { frames = fs }) []) (resumed_first p vs (thread_at m.guest t).frames has.frame)
 

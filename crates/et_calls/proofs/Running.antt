@@ -17,10 +17,10 @@ use Rattle.et_state.specs.declared.ends.EventEnd.TheVariants as ends
 use Rattle.et_state.specs.Outcome.{Outcome}
 use Rattle.et_event.specs.Answered.{EventAnswers}
 use Rattle.et_event.specs.Calls.{enters_first, enters_main, enters_run, entry_call, is_of_owner}
-use Rattle.et_event.specs.Checks.{ill_typed_unless, resolved, selected}
+use Rattle.et_event.specs.Checks.{ill_typed_unless, resolved, after_selection}
 use Rattle.et_event.specs.Errors.{class_called, error_of}
 use Rattle.et_event.specs.Event.{event, does_turn}
-use Rattle.et_event.specs.Moments.{Moment, moment, begins, class_of, ill_typed, thread_of, throws}
+use Rattle.et_event.specs.Moments.{Moment, moment, begins, object_class, ill_typed, thread_of, throws}
 use Rattle.et_event.specs.Sound.{IsSoundFor}
 use Rattle.et_calls.specs.Fresh.{IsFresh}
 use Rattle.et_calls.proofs.FirstMethods.{object_argument}
@@ -68,11 +68,11 @@ some_class p t o m sound fresh e = let h : (object_at m.heap o).class < length p
 
 -- from the selected method, or the error
 abbrev picked : Moment → ℕ → Result ℕ LinkError → Outcome Kept
-picked e o r = selected e (begins e) r (enters_first e (begins e) (Ref o ∷ []))
+picked e o r = after_selection e (begins e) r (enters_first e (begins e) (Ref o ∷ []))
 
 -- from the test of the class
 abbrev owned : Moment → ℕ → ℕ → Bool → Outcome Kept
-owned e o m b = ill_typed_unless e b (picked e o (select e.program (class_of (begins e) o) m false))
+owned e o m b = ill_typed_unless e b (picked e o (select e.program (object_class (begins e) o) m false))
 
 -- from the resolved method, or the error
 abbrev runs : Moment → ℕ → Result ℕ LinkError → Outcome Kept
@@ -99,7 +99,7 @@ pub run_refused : (e : Moment) (o c m : ℕ) (x : Option ℕ) (r : Result ℕ Li
 run_refused e o c m x r some class is ok other = owned_is e o c m x r some class is ok ∙ ap (λ (b : Bool). owned e o m b) other
 
 pub run_picked : (e : Moment) (o c m : ℕ) (x : Option ℕ) (r q : Result ℕ LinkError) → x ≡ Some o → c ≡ class_called e.program (codes "java/lang/Thread") → r ≡ resolve_method e.program c false (codes "run") (codes "()V")
-    → r ≡ Ok m → is_of_owner e (begins e) m o ≡ true → q ≡ select e.program (class_of (begins e) o) m false → enters_run e x ≡ selected e (begins e) q (enters_first e (begins e) (Ref o ∷ []))
+    → r ≡ Ok m → is_of_owner e (begins e) m o ≡ true → q ≡ select e.program (object_class (begins e) o) m false → enters_run e x ≡ after_selection e (begins e) q (enters_first e (begins e) (Ref o ∷ []))
 run_picked e o c m x r q some class is ok own pick =
     owned_is e o c m x r some class is ok ∙ (ap (λ (b : Bool). owned e o m b) own ∙ ap (λ (y : Result ℕ LinkError). picked e o y) (sym pick))
 

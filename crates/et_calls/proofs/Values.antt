@@ -17,14 +17,14 @@ use Rattle.et_state.specs.Outcome.{Outcome}
 use Rattle.et_event.specs.declared.errors.GuestError.TheVariants.{IllegalMonitorStateException}
 use Rattle.et_event.specs.Calls.{return, returned_by, with_returned, frame_returned}
 use Rattle.et_event.specs.Checks.{with_value, entries_of, ill_typed_unless, throws_unless}
-use Rattle.et_event.specs.Moments.{Moment, begins, frame_of, goes, ill_typed}
+use Rattle.et_event.specs.Moments.{Moment, begins, current_frame, goes, ill_typed}
 use Rattle.et_event.specs.Monitors.{lock_in, owns_some}
-use Rattle.et_event.specs.Sites.{method_of}
-use Rattle.et_event.specs.Kinds.{kind_of, kind_of_letter, is_kind, may_return, returned_width}
+use Rattle.et_event.specs.Sites.{running_method}
+use Rattle.et_event.specs.Kinds.{operand_kind, kind_of_letter, is_kind, may_return, returned_width}
 use Rattle.et_parts.specs.Tops.{IsIn}
-use Rattle.et_calls.specs.Returned.{IsValueIn, value_of, value_in, values_of, entries_returned, returned_values, returning}
+use Rattle.et_calls.specs.Returned.{IsValueIn, returned_value, value_in, values_of, entries_returned, returned_values, returning_frame}
 
-pub value_on_top : (kind : Operand) (ops : List Value) → value_in kind (get_or ops 0 Unset) (get_or ops 1 Unset) ≡ value_of kind ops
+pub value_on_top : (kind : Operand) (ops : List Value) → value_in kind (get_or ops 0 Unset) (get_or ops 1 Unset) ≡ returned_value kind ops
 value_on_top operand.Int [] = refl
 value_on_top operand.Int (Int n ∷ ops) = refl
 value_on_top operand.Int (v ∷ ops) = refl
@@ -60,7 +60,7 @@ entries_are_in f (Some (Ref r)) h o c = h o c
 
 -- WHAT THE TABLE MAKES OF IT
 
-taken : {A : Type 0} (kind : Operand) (refused : A) (ops : List Value) (go : Value → A) → with_value (Some kind) refused ops (λ v below. go v) ≡ option_map_or go (value_of kind ops) refused
+taken : {A : Type 0} (kind : Operand) (refused : A) (ops : List Value) (go : Value → A) → with_value (Some kind) refused ops (λ v below. go v) ≡ option_map_or go (returned_value kind ops) refused
 taken operand.Int refused [] go = refl
 taken operand.Int refused (Int n ∷ ops) go = refl
 taken operand.Int refused (v ∷ ops) go = refl
@@ -84,17 +84,17 @@ by_value refused go (Some v) = refl
 
 pub returned_as : (kind : Option Operand) (refused : Outcome Kept) (ops : List Value) (go : List Value → Outcome Kept) → with_returned kind refused ops go ≡ by_values refused (λ value. go (entries_returned value)) (values_of kind ops)
 returned_as None refused ops go = refl
-returned_as (Some kind) refused ops go = taken kind refused ops (λ v. go (entries_of v)) ∙ by_value refused go (value_of kind ops)
+returned_as (Some kind) refused ops go = taken kind refused ops (λ v. go (entries_of v)) ∙ by_value refused go (returned_value kind ops)
 
 checked : (e : Moment) (b : Bool) (kind : Option Operand) (ops : List Value) (go : List Value → Outcome Kept)
     → ill_typed_unless e b (with_returned kind (ill_typed e) ops go) ≡ by_values (ill_typed e) (λ value. go (entries_returned value)) (if b then values_of kind ops else None)
 checked e true kind ops go = returned_as kind (ill_typed e) ops go
 checked e false kind ops go = refl
 
-pub return_is : (e : Moment) (kind : Option Operand) → return e kind ≡ by_values (ill_typed e) (returning e) (returned_values kind (returned_by e) (frame_of e).operands)
+pub return_is : (e : Moment) (kind : Option Operand) → return e kind ≡ by_values (ill_typed e) (returning_frame e) (returned_values kind (returned_by e) (current_frame e).operands)
 return_is e kind =
-    checked e (may_return kind (returned_by e)) kind (frame_of e).operands
-    (λ values. throws_unless e (begins e) IllegalMonitorStateException (owns_some e (begins e) (lock_in (frame_of e).stage (method_of e.program (frame_of e)) (frame_of e).lock)) (goes (frame_returned e values (begins e))))
+    checked e (may_return kind (returned_by e)) kind (current_frame e).operands
+    (λ values. throws_unless e (begins e) IllegalMonitorStateException (owns_some e (begins e) (lock_in (current_frame e).stage (running_method e.program (current_frame e)) (current_frame e).lock)) (goes (frame_returned e values (begins e))))
 
 -- HOW MANY ENTRIES IT TAKES
 
@@ -108,7 +108,7 @@ kind_width a rest operand.Int e = grind (arith, nat_tests)
 kind_width a rest operand.Long e = grind (arith, nat_tests)
 kind_width a rest operand.Reference e = grind (arith, nat_tests)
 
-type_width : (returned : List ℕ) (kind : Operand) → is_kind kind (kind_of returned) ≡ true → returned_width returned ≡ operand_width kind
+type_width : (returned : List ℕ) (kind : Operand) → is_kind kind (operand_kind returned) ≡ true → returned_width returned ≡ operand_width kind
 type_width [] operand.Int e = cc
 type_width [] operand.Long e = cc
 type_width [] operand.Reference e = cc
@@ -138,7 +138,7 @@ width_returned None returned ops value e =
     let h = none_width (is_void returned) ops value e in
     ap (λ (w : Option Value). length (entries_returned w)) h.1 ∙ sym (ap (λ (b : Bool). if b then 0 else width_of returned) h.0)
 width_returned (Some kind) returned ops None e =
-    let h = some_width (is_kind kind (kind_of returned)) kind (value_of kind ops) None e in cc
+    let h = some_width (is_kind kind (operand_kind returned)) kind (returned_value kind ops) None e in cc
 width_returned (Some kind) returned ops (Some v) e =
-    let h = some_width (is_kind kind (kind_of returned)) kind (value_of kind ops) (Some v) e in
+    let h = some_width (is_kind kind (operand_kind returned)) kind (returned_value kind ops) (Some v) e in
     value_width kind (get_or ops 0 Unset) (get_or ops 1 Unset) v (value_on_top kind ops ∙ h.1) ∙ sym (type_width returned kind h.0)

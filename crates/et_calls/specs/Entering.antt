@@ -12,11 +12,11 @@ use Rattle.et_state.specs.Outcome.{Outcome}
 use Rattle.et_program.specs.Entries.{Linked, method_at}
 use Rattle.et_event.specs.declared.errors.GuestError.TheVariants.{UnsatisfiedLinkError}
 use Rattle.et_event.specs.BuiltIns.{built_in_event}
-use Rattle.et_event.specs.Calls.{arguments_of, entering, entry_arguments, taking}
+use Rattle.et_event.specs.Calls.{arguments_of, entering_frame, entry_arguments, taking}
 use Rattle.et_event.specs.Checks.{frame_fits, throws_unless}
 use Rattle.et_event.specs.Frames.{enters_code, frame_entered}
 use Rattle.et_event.specs.Initialization.{is_ready, prepared}
-use Rattle.et_event.specs.Moments.{Doing, Moment, begins, ends, frame_of, moment}
+use Rattle.et_event.specs.Moments.{Doing, Moment, begins, ends_event, current_frame, moment}
 use Rattle.et_event.specs.Sites.{Site}
 use Rattle.et_builtins.specs.Arguments.{arguments_in}
 use Rattle.et_calls.specs.declared.new_frames.Entered.{Entered}
@@ -30,14 +30,14 @@ arguments_passed f (Operands count) = arguments_in f count
 arguments_passed f (Object argument) = entry_arguments argument
 
 -- they are there: so many operands of the topmost frame, or an object of a thread that is to be entered
-abbrev pub ArePassed : GuestState → ℕ → Passed → Type 0
-ArePassed g t (Operands count) = HasFrame g t × (count ≤ length (top g t).operands)
-ArePassed g t (Object argument) = IsFresh g t × IsArgument g t argument
+abbrev pub ArePassedTo : GuestState → ℕ → Passed → Type 0
+ArePassedTo g t (Operands count) = HasFrame g t × (count ≤ length (top g t).operands)
+ArePassedTo g t (Object argument) = IsFresh g t × IsArgument g t argument
 
 -- they are taken from where they stand; a thread that is entered first counts as entered then, and its entry slot is empty
 abbrev pub passing : Moment → Passed → Doing → Doing
 passing e (Operands count) d = taking e count d
-passing e (Object argument) d = entering e d
+passing e (Object argument) d = entering_frame e d
 
 abbrev pub given_up : MachineState → ℕ → MachineState
 given_up m t = steps_thread m t (as_entered (thread_at m.guest t)) (option_to_list (thread_at m.guest t).entry)
@@ -55,7 +55,7 @@ pushed_by m t passed f = steps_thread (passed_by m t passed) t (entered_by f (th
 pub record IsEntered (p : Linked) (m : MachineState) (t : ℕ) (x : Entered) : Type 0 where
   pub info : x.info.now ≡ method_at p x.method
   pub class : x.info.now.class < length p.classes
-  pub passed : ArePassed m.guest t x.passed
+  pub passed : ArePassedTo m.guest t x.passed
   pub classes : All (λ c. c < length p.classes) x.classes.now
   pub ready : list_all (is_ready (moment p m t) (begins (moment p m t))) x.classes.now ≡ true
 
@@ -65,7 +65,7 @@ prepared_for e x = prepared e x.classes.now (begins e)
 
 -- the event in which its frame is put on top
 abbrev pub pushed_event : Moment → Entered → Outcome Kept
-pushed_event e x = ends (frame_entered e x.method x.code.now (arguments_passed (frame_of e) x.passed) (passing e x.passed (prepared_for e x)))
+pushed_event e x = ends_event (frame_entered e x.method x.code.now (arguments_passed (current_frame e) x.passed) (passing e x.passed (prepared_for e x)))
 
 -- .. if the thread has room for it
 abbrev pub fitting_event : Moment → Entered → Outcome Kept
@@ -73,7 +73,7 @@ fitting_event e x = frame_fits e (prepared_for e x) (pushed_event e x)
 
 -- .. and if the thread may enter the monitor of the method
 abbrev pub entering_event : Moment → Entered → Outcome Kept
-entering_event e x = enters_code e (prepared_for e x) (passing e x.passed) x.method (arguments_passed (frame_of e) x.passed) x.code.now
+entering_event e x = enters_code e (prepared_for e x) (passing e x.passed) x.method (arguments_passed (current_frame e) x.passed) x.code.now
 
 -- the event of a method without code: a native one throws, and another one is built in or abstract
 abbrev pub codeless_call : Moment → Site → ℕ → ℕ → Outcome Kept

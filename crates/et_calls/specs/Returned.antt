@@ -12,15 +12,15 @@ use Rattle.et_state.specs.Outcome.{Outcome}
 use Rattle.et_event.specs.declared.errors.GuestError.TheVariants.{IllegalMonitorStateException}
 use Rattle.et_event.specs.Calls.{frame_returned}
 use Rattle.et_event.specs.Checks.{with_value, entries_of, throws_unless}
-use Rattle.et_event.specs.Moments.{Moment, begins, frame_of, goes}
+use Rattle.et_event.specs.Moments.{Moment, begins, current_frame, goes}
 use Rattle.et_event.specs.Monitors.{lock_in, owns_some}
-use Rattle.et_event.specs.Sites.{method_of}
+use Rattle.et_event.specs.Sites.{running_method}
 use Rattle.et_event.specs.Kinds.{may_return}
 use Rattle.et_parts.specs.Tops.{IsIn}
 
 -- the value of a kind that stands on top
-abbrev pub value_of : Operand → List Value → Option Value
-value_of kind ops = with_value (Some kind) None ops (λ v below. Some v)
+abbrev pub returned_value : Operand → List Value → Option Value
+returned_value kind ops = with_value (Some kind) None ops (λ v below. Some v)
 
 -- .. by its upper entry and the one below
 abbrev pub value_in : Operand → Value → Value → Option Value
@@ -38,16 +38,16 @@ entries_returned (Some v) = entries_of v
 -- what is returned; none where it isn't there
 abbrev pub values_of : Option Operand → List Value → Option (Option Value)
 values_of None ops = Some None
-values_of (Some kind) ops = option_map (λ v. Some v) (value_of kind ops)
+values_of (Some kind) ops = option_map (λ v. Some v) (returned_value kind ops)
 
 -- .. or where the method doesn't return that
 abbrev pub returned_values : Option Operand → List ℕ → List Value → Option (Option Value)
 returned_values kind returned ops = if may_return kind returned then values_of kind ops else None
 
 -- the event in which this is returned
-abbrev pub returning : Moment → Option Value → Outcome Kept
-returning e value =
-    throws_unless e (begins e) IllegalMonitorStateException (owns_some e (begins e) (lock_in (frame_of e).stage (method_of e.program (frame_of e)) (frame_of e).lock))
+abbrev pub returning_frame : Moment → Option Value → Outcome Kept
+returning_frame e value =
+    throws_unless e (begins e) IllegalMonitorStateException (owns_some e (begins e) (lock_in (current_frame e).stage (running_method e.program (current_frame e)) (current_frame e).lock))
     (goes (frame_returned e (entries_returned value) (begins e)))
 
 -- what the value refers to stands in the frame

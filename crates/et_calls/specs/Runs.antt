@@ -8,13 +8,13 @@ use Rattle.et_calls.specs.declared.entry.runs.RunPlan.{RunPlan}
 use Rattle.et_calls.specs.declared.entry.runs.RunPlan.TheVariants.{IllTyped, Throws, Enters}
 
 -- the event of a plan
-abbrev pub planned : Moment → RunPlan → Outcome Kept
-planned e IllTyped = ill_typed e
-planned e (Throws error) = throws e error (begins e)
-planned e (Enters method) = enters_first e (begins e) (entry_arguments (thread_of e).object) method
+abbrev pub run_planned : Moment → RunPlan → Outcome Kept
+run_planned e IllTyped = ill_typed e
+run_planned e (Throws error) = throws e error (begins e)
+run_planned e (Enters method) = enters_first e (begins e) (entry_arguments (thread_of e).object) method
 
 -- the method is one of the program
-abbrev pub IsPlan : Moment → RunPlan → Type 0
-IsPlan e IllTyped = Unit {0}
-IsPlan e (Throws error) = Unit {0}
-IsPlan e (Enters method) = method < length e.program.methods
+abbrev pub IsRunPlan : Moment → RunPlan → Type 0
+IsRunPlan e IllTyped = Unit {0}
+IsRunPlan e (Throws error) = Unit {0}
+IsRunPlan e (Enters method) = method < length e.program.methods

@@ -12,10 +12,10 @@ ghost use Rattle.et_event.specs.Initialization.{is_quiet};
 ghost use Rattle.et_event.specs.Moments.{moment, begins};
 ghost use Rattle.et_event.specs.Sites.{Site};
 ghost use Rattle.et_event.specs.Sound.{IsSoundFor};
-ghost use Rattle.et_event.specs.Programs.{HasMachineSlots, HasMethods};
+ghost use Rattle.et_event.specs.Programs.{HasMachineSlots, HasBuiltInMethods};
 ghost use Rattle.et_event.specs.InitializationOrder.{IsInOrder};
 ghost use Rattle.et_calls.specs.Entering.{codeless_call};
-ghost use Rattle.et_builtins.specs.Plans.{HasRoom, IsPlan, planned};
+ghost use Rattle.et_builtins.specs.Plans.{HasCallRoom, IsCallPlan, call_planned};
 ghost use Rattle.et_builtins.specs.declared.plans.CallPlan.TheVariants as plans;
 
 use crate::entering::enter_code;
@@ -59,7 +59,7 @@ fn codeless_event<L: Ledger>(
     requires clock { machine.old.guest.clock < 2 ^ 40 }
     requires operands { call.count ≤ length (top machine.old.guest thread).operands }
     requires method { call.method < length program.now.methods }
-    requires room { HasRoom (moment program.now machine.old thread) call.method call.count }
+    requires room { HasCallRoom (moment program.now machine.old thread) call.method call.count }
     requires slots { HasMachineSlots program.now }
     ensures ok { IfOk result (λ end. (at : Site) →
         at.next ≡ call.next → EventAnswers (codeless_call (moment program.now machine.old thread)
@@ -90,7 +90,7 @@ pub(crate) fn enter_event<L: Ledger>(
     requires order { IsInOrder program.now }
     requires operands { call.count ≤ length (top machine.old.guest thread).operands }
     requires method { call.method < length program.now.methods }
-    requires room { HasRoom (moment program.now machine.old thread) call.method call.count }
+    requires room { HasCallRoom (moment program.now machine.old thread) call.method call.count }
     requires slots { HasMachineSlots program.now }
     ensures ok { IfOk result (λ end. (at : Site) → at.next ≡ call.next → EventAnswers (enters_method
         (moment program.now machine.old thread) at (begins (moment program.now machine.old thread))
@@ -128,14 +128,14 @@ pub(crate) fn enter_after<L: Ledger>(
     requires sound { IsSoundFor program.now (kept_of machine.old) }
     requires clock { machine.old.guest.clock < 2 ^ 40 }
     requires order { IsInOrder program.now }
-    requires methods { HasMethods program.now }
-    requires plan { IsPlan (moment program.now machine.old thread)
+    requires methods { HasBuiltInMethods program.now }
+    requires plan { IsCallPlan (moment program.now machine.old thread)
         (plans.Initializes call.method call.count) }
     requires quiet { is_quiet (moment program.now machine.old thread)
         (begins (moment program.now machine.old thread))
         (method_at program.now call.method).class ≡ true }
     ensures ok { IfOk result (λ end. (at : Site) →
-        EventAnswers (planned (moment program.now machine.old thread) at
+        EventAnswers (call_planned (moment program.now machine.old thread) at
         (plans.Initializes call.method call.count)) end machine.old machine.new out.old out.new) }
     ensures visits { visits.new ≤ visits.old + 3 }
 {

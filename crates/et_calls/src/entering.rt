@@ -5,11 +5,11 @@ ghost use Rattle.et_state.specs.Threads.{most_frames};
 ghost use Rattle.et_state.specs.State.{kept_of};
 ghost use Rattle.et_state.specs.Words.{thread_at};
 ghost use Rattle.et_event.specs.Answered.{EventAnswers};
-ghost use Rattle.et_event.specs.Moments.{fits, moment};
+ghost use Rattle.et_event.specs.Moments.{fits_heap, moment};
 ghost use Rattle.et_event.specs.Sound.{IsSoundFor};
 ghost use Rattle.et_parts.specs.Locks.{HasSome, IsSomeFewTimes, entering_some, locks_of};
 ghost use Rattle.et_event.specs.InitializationOrder.{IsInOrder};
-ghost use Rattle.et_calls.specs.Entering.{ArePassed, IsEntered, entering_event, fitting_event, passed_by, prepared_for, pushed_by, pushed_event};
+ghost use Rattle.et_calls.specs.Entering.{ArePassedTo, IsEntered, entering_event, fitting_event, passed_by, prepared_for, pushed_by, pushed_event};
 
 use crate::new_frames::{Entered, Passed, new_frame, number_of, passed_arguments, receiver_of};
 use et_base::{NoMemory, Steps, ThreadId};
@@ -24,7 +24,7 @@ use std::sync::ledger::Ledger;
 
 /// In the event under way, the arguments are taken from where they stand; a thread without a frame counts as entered then.
 fn take_passed(machine: &mut Machine, thread: ThreadId, passed: &Passed)
-    requires passed { ArePassed machine.old.guest thread passed.now }
+    requires passed { ArePassedTo machine.old.guest thread passed.now }
     requires lost { machine.old.lost ≡ [] }
     ensures { machine.new ≡ passed_by machine.old thread passed.now }
 {
@@ -47,7 +47,7 @@ fn push_frame<L: Ledger>(
     lock: &Option<Lock>,
     visits: &mut Steps<L>,
 ) -> Result<(), NoMemory>
-    requires passed { ArePassed machine.old.guest thread passed.now }
+    requires passed { ArePassedTo machine.old.guest thread passed.now }
     requires lost { machine.old.lost ≡ [] }
     requires few { length (thread_at machine.old.guest thread).frames < most_frames }
     requires arguments { length frame.arguments.items ≤ frame.max_locals }
@@ -79,7 +79,7 @@ fn push_event<L: Ledger>(
     requires clock { machine.old.guest.clock < 2 ^ 40 }
     requires entered { IsEntered program.now machine.old thread entered.now }
     requires few { length (thread_at machine.old.guest thread).frames < most_frames }
-    requires fits { fits (prepared_for
+    requires fits { fits_heap (prepared_for
         (moment program.now machine.old thread) entered.now).state.heap ≡ true }
     ensures ok { IfOk result (λ end. EventAnswers (pushed_event (moment
         program.now machine.old thread) entered.now) end machine.old machine.new out.old out.new) }

@@ -3,8 +3,8 @@ ghost use Rattle.std.specs.Prelude.{◌≡◌, ◌+◌, ◌<◌, ◌≤◌, ◌^
 ghost use Rattle.et_code.specs.Decoding.{instruction_at};
 ghost use Rattle.et_state.specs.Words.{HasFrame, top, steps_top};
 ghost use Rattle.et_program.specs.Entries.{method_at};
-ghost use Rattle.et_event.specs.Frames.{behind as behind_of, behind_or};
-ghost use Rattle.et_event.specs.Sites.{body_of};
+ghost use Rattle.et_event.specs.Frames.{next_place_of as behind_of, behind_or};
+ghost use Rattle.et_event.specs.Sites.{present_body};
 
 use et_base::{MethodId, ThreadId, Value};
 use et_code::decode;
@@ -14,7 +14,7 @@ use et_state::Machine;
 
 /// The code of the method of this number; it is empty where there is no such method, and where that has none.
 fn code_at(program: &Program, method: MethodId) -> &[u8]
-    ensures bytes { result.now ≡ (body_of (method_at program.now method).code).code }
+    ensures bytes { result.now ≡ (present_body (method_at program.now method).code).code }
     ensures few { length result.now < 2 ^ 16 }
 {
     if method.number() >= program.method_count() {

@@ -11,7 +11,7 @@ ghost use Rattle.et_program.specs.Entries.{Linked, method_at};
 ghost use Rattle.et_event.specs.Calls.{entry_arguments as arguments_first};
 ghost use Rattle.et_event.specs.Frames.{first_reference, method_frame, receiver_of as receiver_in};
 ghost use Rattle.et_builtins.specs.Arguments.{arguments_in};
-ghost use Rattle.et_calls.specs.Entering.{ArePassed, arguments_passed};
+ghost use Rattle.et_calls.specs.Entering.{ArePassedTo, arguments_passed};
 
 use et_base::{ClassId, MethodId, NoMemory, ObjectId, ThreadId, Value};
 use et_builtins::{argument_at, operands_are_few, receiver};
@@ -48,7 +48,7 @@ pub(crate) struct Entered<'a> {
 
 /// The first argument, if that is an object.
 fn first_object(machine: &Machine, thread: ThreadId, passed: &Passed) -> Option<ObjectId>
-    requires passed { ArePassed machine.now.guest thread passed.now }
+    requires passed { ArePassedTo machine.now.guest thread passed.now }
     requires sound { IsSound (kept_of machine.now) }
     ensures value { result
         ≡ first_reference (arguments_passed (top machine.now.guest thread) passed.now) }
@@ -66,7 +66,7 @@ pub(crate) fn receiver_of(
     thread: ThreadId,
     entered: &Entered<'_>,
 ) -> Option<ObjectId>
-    requires passed { ArePassed machine.now.guest thread entered.now.passed }
+    requires passed { ArePassedTo machine.now.guest thread entered.now.passed }
     requires sound { IsSound (kept_of machine.now) }
     ensures value { (p : Linked) → entered.now.info.now ≡ method_at p entered.now.method →
         result ≡ receiver_in p entered.now.method
@@ -118,7 +118,7 @@ pub(crate) fn passed_arguments(
     thread: ThreadId,
     passed: &Passed,
 ) -> Result<SmallVec<Value, 8>, NoMemory>
-    requires { ArePassed machine.now.guest thread passed.now }
+    requires { ArePassedTo machine.now.guest thread passed.now }
     ensures items { IfOk result
         (λ v. v.items ≡ arguments_passed (top machine.now.guest thread) passed.now) }
     ensures few { IfOk result (λ v. length v.items < 2 ^ 16) }

@@ -2,7 +2,7 @@
 ghost use Rattle.std.specs.Prelude.{◌≡◌};
 ghost use Rattle.et_state.specs.Words.{HasFrame, top};
 ghost use Rattle.et_event.specs.Kinds.{is_kind as kind_is, may_return as may};
-ghost use Rattle.et_calls.specs.Returned.{AreValuesIn, IsValueIn, value_in as value_among, value_of, values_of, returned_values as values};
+ghost use Rattle.et_calls.specs.Returned.{AreValuesIn, IsValueIn, value_in as value_among, returned_value, values_of, returned_values as values};
 ghost use Rattle.et_builtins.specs.Types.{returned_in};
 
 use et_base::{ThreadId, Value};
@@ -50,7 +50,7 @@ fn value_in(kind: Operand, top: Value, below: Value) -> Option<Value>
 #[tactic(auto, using(crate::proofs::Values::value_on_top, crate::proofs::Values::value_is_in))]
 fn value_on_top(machine: &Machine, thread: ThreadId, kind: Operand) -> Option<Value>
     requires { HasFrame machine.now.guest thread }
-    ensures value { result ≡ value_of kind (top machine.now.guest thread).operands }
+    ensures value { result ≡ returned_value kind (top machine.now.guest thread).operands }
     ensures there { IsValueIn (top machine.now.guest thread) result }
 {
     let first = operand_at(machine, thread, 0);

@@ -6,7 +6,7 @@ ghost use Rattle.et_state.specs.Threads.{lost_room, rest_of};
 ghost use Rattle.et_state.specs.State.{Kept, kept_of};
 ghost use Rattle.et_state.specs.Sound.{IsSound};
 ghost use Rattle.et_state.specs.Words.{HasFrame, thread_at, top, steps_thread, steps_top};
-ghost use Rattle.et_event.specs.Frames.{behind as behind_of, frames_after_return, resumed};
+ghost use Rattle.et_event.specs.Frames.{next_place_of as behind_of, frames_after_return, resumed};
 ghost use Rattle.et_event.specs.Answered.{EventAnswers};
 ghost use Rattle.et_event.specs.Calls.{class_done_by, frame_returned, return as return_in_table};
 ghost use Rattle.et_event.specs.Moments.{Doing, Moment, begins, goes, moment};
@@ -14,9 +14,9 @@ ghost use Rattle.et_event.specs.Monitors.{left_some, lock_in as lock_in_frame};
 ghost use Rattle.et_event.specs.Sound.{IsSoundFor};
 ghost use Rattle.et_parts.specs.Places.{Runs};
 ghost use Rattle.et_parts.specs.Locks.{HasSome, locks_of};
-ghost use Rattle.et_event.specs.Sites.{method_of as method_in};
+ghost use Rattle.et_event.specs.Sites.{running_method as method_in};
 ghost use Rattle.et_state.specs.declared.ends.EventEnd.TheVariants as ends;
-ghost use Rattle.et_calls.specs.Returned.{FitsBelow, IsValueIn, entries_returned, returning};
+ghost use Rattle.et_calls.specs.Returned.{FitsBelow, IsValueIn, entries_returned, returning_frame};
 ghost use Rattle.et_calls.specs.Stages.{IsClassIn};
 ghost use Rattle.et_calls.specs.Ways.{Came};
 
@@ -215,7 +215,8 @@ fn return_value<L: Ledger>(
     requires room { FitsBelow (top machine.old.guest thread).stage
         (entries_returned value) (rest_of (thread_at machine.old.guest thread).frames) }
     requires there { IsValueIn (top machine.old.guest thread) value }
-    ensures ok { IfOk result (λ end. EventAnswers (returning (moment program.now machine.old thread)
+    ensures ok { IfOk result (λ end. EventAnswers (returning_frame
+        (moment program.now machine.old thread)
         value) end machine.old machine.new out.old out.new) }
     ensures err { OnErr result (machine.new.guest ≡ machine.old.guest) }
     ensures visits { visits.new ≤ visits.old + 3 }

@@ -12,9 +12,9 @@ ghost use Rattle.et_event.specs.Families.{family_of_row};
 ghost use Rattle.et_event.specs.Moments.{moment};
 ghost use Rattle.et_event.specs.Sites.{Site};
 ghost use Rattle.et_event.specs.Sound.{IsSoundFor};
-ghost use Rattle.et_event.specs.Programs.{HasMachineSlots, HasMethods};
+ghost use Rattle.et_event.specs.Programs.{HasMachineSlots, HasBuiltInMethods};
 ghost use Rattle.et_builtins.specs.Deferred.{DefersOrAnswers, deferred_at};
-ghost use Rattle.et_builtins.specs.Plans.{IsPlan, planned as event_of};
+ghost use Rattle.et_builtins.specs.Plans.{IsCallPlan, call_planned as event_of};
 ghost use Rattle.et_builtins.specs.declared.plans.CallPlan.TheVariants as plans;
 ghost use Rattle.et_event.specs.InitializationOrder.{IsInOrder};
 
@@ -45,8 +45,8 @@ fn initialize_event<L: Ledger>(
     requires sound { IsSoundFor program.now (kept_of machine.old) }
     requires clock { machine.old.guest.clock < 2 ^ 40 }
     requires order { IsInOrder program.now }
-    requires methods { HasMethods program.now }
-    requires plan { IsPlan
+    requires methods { HasBuiltInMethods program.now }
+    requires plan { IsCallPlan
         (moment program.now machine.old thread) (plans.Initializes call.method call.count) }
     ensures ok { IfOk result
         (λ end. (at : Site) → EventAnswers (event_of (moment program.now machine.old thread) at
@@ -82,8 +82,8 @@ fn plan_event<L: Ledger>(
     requires clock { machine.old.guest.clock < 2 ^ 40 }
     requires slots { HasMachineSlots program.now }
     requires order { IsInOrder program.now }
-    requires methods { HasMethods program.now }
-    requires plan { IsPlan (moment program.now machine.old thread) planned.plan }
+    requires methods { HasBuiltInMethods program.now }
+    requires plan { IsCallPlan (moment program.now machine.old thread) planned.plan }
     ensures ok { IfOk result (λ end. (at : Site) →
         at.next ≡ planned.next → EventAnswers (event_of (moment program.now machine.old thread)
         at planned.plan) end machine.old machine.new out.old out.new) }
@@ -133,7 +133,7 @@ pub fn call_event<L: Ledger>(
     requires clock { machine.old.guest.clock < 2 ^ 40 }
     requires slots { HasMachineSlots program.now }
     requires order { IsInOrder program.now }
-    requires methods { HasMethods program.now }
+    requires methods { HasBuiltInMethods program.now }
     requires place { IsPlace program.now (top machine.old.guest thread) place.now }
     requires family { family_of_row (Some place.now.row) ≡ families.Calls }
     ensures ok { IfOk result (λ end. DefersOrAnswers

@@ -2,14 +2,14 @@
 use Rattle.std.proofs.Common.{◌≡◌, ℕ, zero, suc, ◌+◌, ◌*◌, ◌<◌, ◌≤◌, Bool, true, false, cond, ltb, List, [], ◌∷◌, ◌++◌, length, Result, Ok, Err, refl, arith, inl, inr}
 use Rattle.std.specs.List.{flat_map}
 use Rattle.std.proofs.lemmas.Bool.{ltb-true}
-use Rattle.et_base.specs.Marks.{Mark, Breaks, IsFirst}
+use Rattle.et_base.specs.Marks.{Mark, Breaks, IsFirstBroken}
 use Rattle.et_code.specs.declared.instr.Instr.{Instr}
 use Rattle.et_code.specs.declared.instr.CodeFault.{CodeFault}
 use Rattle.et_code.specs.declared.instr.CodeFault.TheVariants as fault
 use Rattle.et_code.specs.declared.body.TableRow.{TableRow}
 use Rattle.et_code.specs.Decoding.{instruction_at}
 use Rattle.et_code.specs.Bodies.{Body}
-use Rattle.et_code.specs.Starts.{starts, starts_from, behind, is_start}
+use Rattle.et_code.specs.Starts.{starts, starts_from, bytes_behind, is_start}
 use Rattle.et_code.specs.Rules.{decoded_marks, marks_at, rows_marks, code_marks}
 
 -- no mark stands beyond a place
@@ -38,7 +38,7 @@ module _ (b : Body) (tags : List ℕ) (test : ℕ → Bool) (bound : ℕ) where
   decoded_bound pc (Err fault.Short) le = at_place bound _ _ _ _ le (none_there bound)
   decoded_bound pc (Err fault.Unsupported) le = at_place bound _ _ _ _ le (none_there bound)
 
-  behind_bound : (f : ℕ → List ℕ) (r : Result (Instr × ℕ) CodeFault) → ((pc : ℕ) → UpTo bound (flat_map (marks_at b tags test) (f pc))) → UpTo bound (flat_map (marks_at b tags test) (behind f r))
+  behind_bound : (f : ℕ → List ℕ) (r : Result (Instr × ℕ) CodeFault) → ((pc : ℕ) → UpTo bound (flat_map (marks_at b tags test) (f pc))) → UpTo bound (flat_map (marks_at b tags test) (bytes_behind f r))
   behind_bound f (Ok x) h = h x.1
   behind_bound f (Err e) h = none_there bound
 
@@ -57,7 +57,7 @@ module _ (b : Body) (tags : List ℕ) (test : ℕ → Bool) (bound : ℕ) where
   rows_bound size place [] le = none_there bound
   rows_bound size place (r ∷ rows) le = at_place bound place _ _ _ (omega arith) (rows_bound size (place + 8) rows (omega arith))
 
-pub code_bound : (b : Body) (tags : List ℕ) (place kind : ℕ) → IsFirst (code_marks b tags) place kind → place ≤ 6 + length b.code + 8 * length b.table
+pub code_bound : (b : Body) (tags : List ℕ) (place kind : ℕ) → IsFirstBroken (code_marks b tags) place kind → place ≤ 6 + length b.code + 8 * length b.table
 code_bound b tags place kind first =
     let all : UpTo (6 + length b.code + 8 * length b.table) (code_marks b tags) =
     at_place (6 + length b.code + 8 * length b.table) 0 _ _ _ (omega arith)

@@ -9,9 +9,9 @@ use Rattle.et_base.proofs.Spelling.{Reads, Reads-first, Reads-second, reads_run,
 use Rattle.et_code.specs.declared.body.TableRow.{TableRow}
 use Rattle.et_code.specs.Bodies.{Body}
 use Rattle.et_class.specs.declared.fault.TheConstants.{ATTRIBUTE, SHORT}
-use Rattle.et_class.specs.Layout.{u2, u4, counted, attribute_bytes}
-use Rattle.et_class.specs.Reading.{number, counted_at, attribute_at}
-use Rattle.et_class.specs.Codes.{CodeOf, row_at, code_body_at, code_at}
+use Rattle.et_class.specs.Layout.{u2, u4, counted_bytes, attribute_bytes}
+use Rattle.et_class.specs.Reading.{number_read, counted_at, attribute_at}
+use Rattle.et_class.specs.Codes.{CodeOf, exception_row_at, code_body_at, code_at}
 use Rattle.et_class.specs.Spelling.{IsAttribute, IsCounted}
 use Rattle.et_class.proofs.Back.{read_u2, read_u4, counted_back, attribute_back}
 use Rattle.et_class.proofs.Coded.{row_bytes, code_bytes}
@@ -29,32 +29,32 @@ pub record IsBody (b : Body) : Type 0 where
   pub code : length b.code < 2 ^ 32
   pub table : IsCounted IsRow b.table
 
-row_back : (bytes : List ℕ) (at : ℕ) (r : TableRow) (next : ℕ) → IsRow r → Reads bytes at (row_bytes r) next → row_at bytes at ≡ Ok (r, next)
-unfolding row_at
+row_back : (bytes : List ℕ) (at : ℕ) (r : TableRow) (next : ℕ) → IsRow r → Reads bytes at (row_bytes r) next → exception_row_at bytes at ≡ Ok (r, next)
+unfolding exception_row_at
 row_back bytes at r next v all =
     let r1 = Reads-second bytes at (u2 r.start) (u2 r.end ++ (u2 r.handler ++ u2 r.catch)) next all in
     let r2 = Reads-second bytes (at + 2) (u2 r.end) (u2 r.handler ++ u2 r.catch) next r1 in
     let r3 = Reads-second bytes (at + 2 + 2) (u2 r.handler) (u2 r.catch) next r2 in
-    bind_ok (number w16 bytes at) _ (r.start, at + 2) _ (read_u2 bytes at r.start (at + 2) v.start (Reads-first bytes at (u2 r.start) (u2 r.end ++ (u2 r.handler ++ u2 r.catch)) next all))
-    (bind_ok (number w16 bytes (at + 2)) _ (r.end, at + 2 + 2) _ (read_u2 bytes (at + 2) r.end (at + 2 + 2) v.end (Reads-first bytes (at + 2) (u2 r.end) (u2 r.handler ++ u2 r.catch) next r1))
-    (bind_ok (number w16 bytes (at + 2 + 2)) _ (r.handler, at + 2 + 2 + 2) _ (read_u2 bytes (at + 2 + 2) r.handler (at + 2 + 2 + 2) v.handler (Reads-first bytes (at + 2 + 2) (u2 r.handler) (u2 r.catch) next r2))
-    (bind_ok (number w16 bytes (at + 2 + 2 + 2)) _ (r.catch, next) _ (read_u2 bytes (at + 2 + 2 + 2) r.catch next v.catch r3) refl)))
+    bind_ok (number_read w16 bytes at) _ (r.start, at + 2) _ (read_u2 bytes at r.start (at + 2) v.start (Reads-first bytes at (u2 r.start) (u2 r.end ++ (u2 r.handler ++ u2 r.catch)) next all))
+    (bind_ok (number_read w16 bytes (at + 2)) _ (r.end, at + 2 + 2) _ (read_u2 bytes (at + 2) r.end (at + 2 + 2) v.end (Reads-first bytes (at + 2) (u2 r.end) (u2 r.handler ++ u2 r.catch) next r1))
+    (bind_ok (number_read w16 bytes (at + 2 + 2)) _ (r.handler, at + 2 + 2 + 2) _ (read_u2 bytes (at + 2 + 2) r.handler (at + 2 + 2 + 2) v.handler (Reads-first bytes (at + 2 + 2) (u2 r.handler) (u2 r.catch) next r2))
+    (bind_ok (number_read w16 bytes (at + 2 + 2 + 2)) _ (r.catch, next) _ (read_u2 bytes (at + 2 + 2 + 2) r.catch next v.catch r3) refl)))
 
 body_back : (bytes : List ℕ) (b : Body) (next : ℕ) → IsBody b → Reads bytes 0 (code_bytes b) next → code_body_at bytes ≡ Ok (b, next)
 unfolding code_body_at
 body_back bytes b next v all =
-    let table = counted row_bytes b.table in
+    let table = counted_bytes row_bytes b.table in
     let r1 = Reads-second bytes 0 (u2 b.max_stack) (u2 b.max_locals ++ (u4 (length b.code) ++ (b.code ++ table))) next all in
     let r2 = Reads-second bytes 2 (u2 b.max_locals) (u4 (length b.code) ++ (b.code ++ table)) next r1 in
     let r3 = Reads-second bytes 4 (u4 (length b.code)) (b.code ++ table) next r2 in
     let r4 = Reads-second bytes 8 b.code table next r3 in
     let size = Reads-first bytes 4 (u4 (length b.code)) (b.code ++ table) next r2 in
     let run = reads_run bytes (length b.code) 8 b.code (8 + length b.code) (in_bytes bytes 4 (u4 (length b.code)) 8 (omega arith) size) refl (Reads-first bytes 8 b.code table next r3) in
-    bind_ok (number w16 bytes 0) _ (b.max_stack, 2) _ (read_u2 bytes 0 b.max_stack 2 v.stack (Reads-first bytes 0 (u2 b.max_stack) (u2 b.max_locals ++ (u4 (length b.code) ++ (b.code ++ table))) next all))
-    (bind_ok (number w16 bytes 2) _ (b.max_locals, 4) _ (read_u2 bytes 2 b.max_locals 4 v.locals (Reads-first bytes 2 (u2 b.max_locals) (u4 (length b.code) ++ (b.code ++ table)) next r1))
-    (bind_ok (number w32 bytes 4) _ (length b.code, 8) _ (read_u4 bytes 4 (length b.code) 8 v.code size)
+    bind_ok (number_read w16 bytes 0) _ (b.max_stack, 2) _ (read_u2 bytes 0 b.max_stack 2 v.stack (Reads-first bytes 0 (u2 b.max_stack) (u2 b.max_locals ++ (u4 (length b.code) ++ (b.code ++ table))) next all))
+    (bind_ok (number_read w16 bytes 2) _ (b.max_locals, 4) _ (read_u2 bytes 2 b.max_locals 4 v.locals (Reads-first bytes 2 (u2 b.max_locals) (u4 (length b.code) ++ (b.code ++ table)) next r1))
+    (bind_ok (number_read w32 bytes 4) _ (length b.code, 8) _ (read_u4 bytes 4 (length b.code) 8 v.code size)
     (bind_ok (ok_or (bytes_at bytes (length b.code) 8) (8, SHORT)) _ (b.code, 8 + length b.code) _ (some_ok _ _ _ run)
-    (bind_ok (counted_at bytes (row_at bytes) (8 + length b.code)) _ (b.table, next) _ (counted_back (row_at bytes) row_bytes IsRow bytes (row_back bytes) (8 + length b.code) b.table next v.table r4) refl))))
+    (bind_ok (counted_at bytes (exception_row_at bytes) (8 + length b.code)) _ (b.table, next) _ (counted_back (exception_row_at bytes) row_bytes IsRow bytes (row_back bytes) (8 + length b.code) b.table next v.table r4) refl))))
 
 -- a body and a count of no attributes
 pub code_back : (b : Body) → IsBody b → code_at (code_bytes b ++ u2 0) ≡ Ok (record { body = b; first = length (code_bytes b) + 2; attributes = [] })

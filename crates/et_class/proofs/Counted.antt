@@ -4,7 +4,7 @@ use Rattle.std.proofs.lemmas.List.{append-nil}
 use Rattle.et_class.specs.declared.fault.ClassFault.{ClassFault}
 use Rattle.et_class.specs.declared.fault.ClassFault.TheVariants as fault
 use Rattle.et_base.specs.Steps.{◌>>=◌}
-use Rattle.et_class.specs.Reading.{IsFault, many_at}
+use Rattle.et_class.specs.Reading.{IsClassFaultOf, many_at}
 
 module _ {X : Type 0} (one : ℕ → Result (X × ℕ) (ℕ × ℕ)) where
   -- what was read before, and what is still read
@@ -23,8 +23,8 @@ module _ {X : Type 0} (one : ℕ → Result (X × ℕ) (ℕ × ℕ)) where
       let step : with_front front (many_at one (count - i) at) ≡ with_front (front ++ n ∷ []) (many_at one (count - (i + 1)) after) = rw (k, h) (regroup front n (many_at one (count - (i + 1)) after)) in
       sym step ∙ so_far
 
-  pub ends : (e : ClassFault) (front : List X) (count i at : ℕ) (total : Result (List X × ℕ) (ℕ × ℕ)) → i < count → IsFault e (λ f. one at ≡ Err f)
-      → with_front front (many_at one (count - i) at) ≡ total → IsFault e (λ f. total ≡ Err f)
+  pub ends : (e : ClassFault) (front : List X) (count i at : ℕ) (total : Result (List X × ℕ) (ℕ × ℕ)) → i < count → IsClassFaultOf e (λ f. one at ≡ Err f)
+      → with_front front (many_at one (count - i) at) ≡ total → IsClassFaultOf e (λ f. total ≡ Err f)
   unfolding many_at
   ends fault.NoMemory front count i at total lt h so_far = tt
   ends (fault.At kind place) front count i at total lt h so_far =

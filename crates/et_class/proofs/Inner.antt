@@ -4,13 +4,13 @@ use Rattle.std.specs.Prelude.{is_some, option_and_then, ok_or}
 use Rattle.std.specs.Int.{w16, from_be_bytes}
 use Rattle.et_base.specs.Numbers.{AreBytes}
 use Rattle.et_base.specs.Steps.{◌>>=◌}
-use Rattle.et_base.specs.Marks.{marked, first_from}
+use Rattle.et_base.specs.Marks.{marked, first_from, mark}
 use Rattle.et_pool.specs.Entries.{Item}
 use Rattle.et_pool.specs.Looks.{utf8_at}
 use Rattle.et_class.specs.declared.fault.TheConstants.{ATTRIBUTE, SHORT}
 use Rattle.et_class.specs.Layout.{AttributeOf, attribute_bytes}
 use Rattle.et_class.specs.Reading.{many_at, counted_at, attribute_at}
-use Rattle.et_class.specs.Along.{mark, along}
+use Rattle.et_class.specs.Along.{along}
 use Rattle.et_class.specs.Fields.{attribute_marks}
 use Rattle.et_class.specs.Kept.{name_and_next, inner_of, inner_from, inner_at}
 use Rattle.et_class.proofs.Spelt.{attribute_reads}

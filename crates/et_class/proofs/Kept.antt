@@ -2,7 +2,7 @@
 use Rattle.std.proofs.Common.{◌≡◌, ℕ, ◌+◌, Bool, true, false, cond, ◌||◌, List, [], ◌∷◌, ◌++◌, length, map, Option, Some, None, Result, Ok, Err, refl, sym, ap, ◌∙◌}
 use Rattle.std.specs.Prelude.{option_map, option_and_then, find, is_none}
 use Rattle.std.specs.List.{list_any, flat_map}
-use Rattle.et_base.specs.Marks.{Mark, is_before, marked, first_from}
+use Rattle.et_base.specs.Marks.{Mark, is_mark_before, marked, first_from, mark}
 use Rattle.et_base.proofs.Firsts.{first_from-append}
 use Rattle.et_pool.specs.Entries.{Item}
 use Rattle.et_pool.specs.Looks.{tag_of_slot}
@@ -10,10 +10,10 @@ use Rattle.et_code.specs.Starts.{starts}
 use Rattle.et_code.specs.Rules.{code_marks}
 use Rattle.et_class.specs.declared.fault.TheConstants.{ATTRIBUTE}
 use Rattle.et_class.specs.Layout.{AttributeOf, MemberOf, attribute_bytes, member_bytes}
-use Rattle.et_class.specs.Along.{mark, along}
+use Rattle.et_class.specs.Along.{along}
 use Rattle.et_class.specs.Fields.{attribute_marks}
-use Rattle.et_class.specs.Codes.{CodeOf, code_at, moved, named_marks, body_marks}
-use Rattle.et_class.specs.Methods.{is_code, receiver_of, shape_at, code_attribute_marks, code_marks_if, method_attribute_marks, method_marks, body_in, code_of}
+use Rattle.et_class.specs.Codes.{CodeOf, code_at, mark_moved, named_marks, body_marks}
+use Rattle.et_class.specs.Methods.{is_code, receiver_words, shape_at, code_attribute_marks, code_marks_if, method_attribute_marks, method_marks, body_in, code_of}
 use Rattle.et_class.specs.Kept.{kept_attribute, kept_among, kept_code}
 use Rattle.et_class.proofs.Along.{list_any_push}
 use Rattle.et_class.proofs.Joined.{joined, shift, first_moved}
@@ -26,7 +26,7 @@ pick_some false x y = (y, refl)
 
 mark_some : (y : ℕ × ℕ) (place kind : ℕ) (holds : Bool) → (z : ℕ × ℕ) × (marked (Some y) (record { place = place; kind = kind; holds = holds }) ≡ Some z)
 mark_some y place kind true = (y, refl)
-mark_some y place kind false = pick_some (is_before (place, kind) y) (place, kind) y
+mark_some y place kind false = pick_some (is_mark_before (place, kind) y) (place, kind) y
 
 some_stays : (y : ℕ × ℕ) (ms : List Mark) → first_from (Some y) ms ≡ None → ⊥
 unfolding first_from
@@ -52,11 +52,11 @@ moved_none base (Some x) e = absurd cc
 
 -- THE CODE
 
-kept_well : (slots : List (Option Item)) (receiver : ℕ) (place : ℕ) (m : MemberOf) (code : Result CodeOf (ℕ × ℕ)) → first_from None (code_attribute_marks slots (receiver_of slots m) (shape_at slots m) place code) ≡ None → kept_attribute slots code ≡ body_in code
+kept_well : (slots : List (Option Item)) (receiver : ℕ) (place : ℕ) (m : MemberOf) (code : Result CodeOf (ℕ × ℕ)) → first_from None (code_attribute_marks slots (receiver_words slots m) (shape_at slots m) place code) ≡ None → kept_attribute slots code ≡ body_in code
 kept_well slots receiver place m (Err f) e = refl
 kept_well slots receiver place m (Ok c) e =
     let body = tail_none _ (body_marks slots (place + 10) c.body) (back_none (along attribute_bytes (attribute_marks slots) [] (place + 6 + c.first) c.attributes) _ e) in
-    let rules = back_none (flat_map (named_marks slots (place + 10 + 4) c.body.code) (starts c.body.code)) (map (moved (place + 10)) (code_marks c.body (map tag_of_slot slots))) body in
+    let rules = back_none (flat_map (named_marks slots (place + 10 + 4) c.body.code) (starts c.body.code)) (map (mark_moved (place + 10)) (code_marks c.body (map tag_of_slot slots))) body in
     let none = moved_none (place + 10) (first_from None (code_marks c.body (map tag_of_slot slots))) (sym (first_moved (place + 10) None (code_marks c.body (map tag_of_slot slots))) ∙ rules) in
     ap (λ o. cond (is_none o) (Some c.body) None) none
 
@@ -71,7 +71,7 @@ among slots m before place (a ∷ xs) n e =
         → option_and_then (λ a. kept_attribute slots (code_at a.body)) (cond (is_code slots a) (Some a) (find (is_code slots) xs)) ≡ option_and_then (λ a. body_in (code_at a.body)) (cond (is_code slots a) (Some a) (find (is_code slots) xs))
     case true i h rest =
         let marks = ap (λ ms. first_from None ms) (sym (ap (λ (b : Bool). cond b (code_marks_if slots m (list_any (is_code slots) before) place a) []) i)) ∙ tail_none _ _ h in
-        let first = ap (λ (b : Bool). first_from None (cond b (mark place ATTRIBUTE false ∷ []) (code_attribute_marks slots (receiver_of slots m) (shape_at slots m) place (code_at a.body)))) (sym n) ∙ marks in
+        let first = ap (λ (b : Bool). first_from None (cond b (mark place ATTRIBUTE false ∷ []) (code_attribute_marks slots (receiver_words slots m) (shape_at slots m) place (code_at a.body)))) (sym n) ∙ marks in
         ap (λ (b : Bool). option_and_then (λ a. kept_attribute slots (code_at a.body)) (cond b (Some a) (find (is_code slots) xs))) i
         ∙ (kept_well slots 0 place m (code_at a.body) first ∙ sym (ap (λ (b : Bool). option_and_then (λ a. body_in (code_at a.body)) (cond b (Some a) (find (is_code slots) xs))) i))
     case false i h rest =

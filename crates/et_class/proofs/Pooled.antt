@@ -3,13 +3,13 @@ use Rattle.std.proofs.Common.{◌≡◌, ℕ, zero, suc, ◌+◌, ◌<◌, ◌�
 use Rattle.std.specs.Prelude.{slice_index_or}
 use Rattle.std.specs.List.{flat_map}
 use Rattle.std.proofs.lemmas.Bool.{le-ltb}
-use Rattle.et_base.specs.Marks.{Mark, is_before, marked, first_from}
+use Rattle.et_base.specs.Marks.{Mark, is_mark_before, marked, first_from, mark}
 use Rattle.et_pool.specs.declared.fault.PoolFault.{PoolFault}
 use Rattle.et_pool.specs.declared.fault.PoolFault.TheVariants as pool
 use Rattle.et_pool.specs.Entries.{Item}
-use Rattle.et_pool.specs.Looks.{slot_bytes, is_fit_slot, AllFit, Checks}
+use Rattle.et_pool.specs.Looks.{slot_bytes, is_fit_slot, AllFit, ChecksPool}
 use Rattle.et_class.specs.declared.fault.TheConstants.{POOL}
-use Rattle.et_class.specs.Along.{mark, along}
+use Rattle.et_class.specs.Along.{along}
 use Rattle.et_class.specs.Rules.{pool_marks}
 use Rattle.et_class.specs.Lifted.{place_in}
 
@@ -31,7 +31,7 @@ module _ (slots : List (Option Item)) where
   and_false true = refl
   and_false false = refl
 
-  not_before : (p q : ℕ) → p ≤ q → is_before (q, POOL) (p, POOL) ≡ false
+  not_before : (p q : ℕ) → p ≤ q → is_mark_before (q, POOL) (p, POOL) ≡ false
   not_before p q le = rw (le-ltb q p le) (and_false (eqb q p))
 
   later : (p q : ℕ) (b : Bool) → p ≤ q → marked (Some (p, POOL)) (mark q POOL b) ≡ Some (p, POOL)
@@ -61,7 +61,7 @@ module _ (slots : List (Option Item)) where
 pub pool_fits : (slots : List (Option Item)) → AllFit slots (length slots) → None ≡ first_from None (pool_marks slots)
 pool_fits slots h = sym (all_fit slots slots [] 10 None h)
 
-pub pool_breaks : (A : Type 0) (slots : List (Option Item)) (f : PoolFault) → Checks {A = A} 8 slots (Err f) → Some (place_in f, POOL) ≡ first_from None (pool_marks slots)
+pub pool_breaks : (A : Type 0) (slots : List (Option Item)) (f : PoolFault) → ChecksPool {A = A} 8 slots (Err f) → Some (place_in f, POOL) ≡ first_from None (pool_marks slots)
 pool_breaks A slots (pool.Tag p) b = absurd b
 pool_breaks A slots (pool.Utf8 p) b = absurd b
 pool_breaks A slots (pool.Index p) b = ap (λ (k : ℕ). Some (k, POOL)) b.place_is ∙ sym (one_broken slots slots [] b.index 10 b.within b.first b.broken)

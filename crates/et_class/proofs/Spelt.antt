@@ -7,13 +7,13 @@ use Rattle.et_base.specs.Numbers.{bytes_at, AreBytes}
 use Rattle.et_base.proofs.Readings.{by_bind, ok_some}
 use Rattle.et_base.proofs.Spelling.{Reads, Reads-nothing, Reads-then, wide16, wide32, IsNumber, number_reads, run_reads}
 use Rattle.et_class.specs.declared.fault.TheConstants.{SHORT}
-use Rattle.et_class.specs.Layout.{AttributeOf, MemberOf, u2, u4, counted, attribute_bytes, member_bytes}
-use Rattle.et_class.specs.Reading.{number, many_at, counted_at, attribute_at, member_at}
+use Rattle.et_class.specs.Layout.{AttributeOf, MemberOf, u2, u4, counted_bytes, attribute_bytes, member_bytes}
+use Rattle.et_class.specs.Reading.{number_read, many_at, counted_at, attribute_at, member_read_at}
 
-pub number_u2 : (bytes : List ℕ) (at n next : ℕ) → AreBytes bytes → number w16 bytes at ≡ Ok (n, next) → IsNumber w16 bytes at n next
+pub number_u2 : (bytes : List ℕ) (at n next : ℕ) → AreBytes bytes → number_read w16 bytes at ≡ Ok (n, next) → IsNumber w16 bytes at n next
 number_u2 bytes at n next fits h = number_reads w16 wide16 bytes at n next fits (ok_some _ _ _ h)
 
-pub number_u4 : (bytes : List ℕ) (at n next : ℕ) → AreBytes bytes → number w32 bytes at ≡ Ok (n, next) → IsNumber w32 bytes at n next
+pub number_u4 : (bytes : List ℕ) (at n next : ℕ) → AreBytes bytes → number_read w32 bytes at ≡ Ok (n, next) → IsNumber w32 bytes at n next
 number_u4 bytes at n next fits h = number_reads w32 wide32 bytes at n next fits (ok_some _ _ _ h)
 
 -- what a reading gives stands at the place
@@ -46,27 +46,27 @@ module _ {X : Type 0} (one : ℕ → Result (X × ℕ) (ℕ × ℕ)) (spell : X 
   pub many_read : (n at : ℕ) (xs : List X) (next : ℕ) → many_at one n at ≡ Ok (xs, next) → AreMany n at xs next
   many_read n at xs next h = subst (Many n at) h (many_whole n at)
 
-  counted_whole : (at : ℕ) → AreBytes bytes → StandsThere (counted spell) bytes at (counted_at bytes one at)
+  counted_whole : (at : ℕ) → AreBytes bytes → StandsThere (counted_bytes spell) bytes at (counted_at bytes one at)
   counted_whole at fits =
-      by_bind (StandsThere (counted spell) bytes at) (number w16 bytes at) _ (λ f h. tt) (λ count h. many_there count h (many_at one count.0 count.1) refl)
+      by_bind (StandsThere (counted_bytes spell) bytes at) (number_read w16 bytes at) _ (λ f h. tt) (λ count h. many_there count h (many_at one count.0 count.1) refl)
     where
-      many_there : (count : ℕ × ℕ) → number w16 bytes at ≡ Ok count → (r : Result (List X × ℕ) (ℕ × ℕ)) → many_at one count.0 count.1 ≡ r → StandsThere (counted spell) bytes at r
+      many_there : (count : ℕ × ℕ) → number_read w16 bytes at ≡ Ok count → (r : Result (List X × ℕ) (ℕ × ℕ)) → many_at one count.0 count.1 ≡ r → StandsThere (counted_bytes spell) bytes at r
       many_there count h (Err f) i = tt
       many_there count h (Ok x) i =
           let m = many_read count.0 count.1 x.0 x.1 i in
           let k = number_u2 bytes at count.0 count.1 fits h in
           Reads-then bytes at (u2 (length x.0)) count.1 (flat_map spell x.0) x.1 (subst (λ (n : ℕ). Reads bytes at (u2 n) count.1) (sym m.many) k.reads) m.stand
 
-  pub counted_read : (at : ℕ) (xs : List X) (next : ℕ) → AreBytes bytes → counted_at bytes one at ≡ Ok (xs, next) → Reads bytes at (counted spell xs) next
-  counted_read at xs next fits h = subst (StandsThere (counted spell) bytes at) h (counted_whole at fits)
+  pub counted_read : (at : ℕ) (xs : List X) (next : ℕ) → AreBytes bytes → counted_at bytes one at ≡ Ok (xs, next) → Reads bytes at (counted_bytes spell xs) next
+  counted_read at xs next fits h = subst (StandsThere (counted_bytes spell) bytes at) h (counted_whole at fits)
 
 -- ATTRIBUTES AND MEMBERS
 
 attribute_whole : (bytes : List ℕ) (at : ℕ) → AreBytes bytes → StandsThere attribute_bytes bytes at (attribute_at bytes at)
 unfolding attribute_at
 attribute_whole bytes at fits =
-    by_bind (StandsThere attribute_bytes bytes at) (number w16 bytes at) _ (λ f h. tt) (λ name h.
-    by_bind (StandsThere attribute_bytes bytes at) (number w32 bytes name.1) _ (λ f i. tt) (λ size i.
+    by_bind (StandsThere attribute_bytes bytes at) (number_read w16 bytes at) _ (λ f h. tt) (λ name h.
+    by_bind (StandsThere attribute_bytes bytes at) (number_read w32 bytes name.1) _ (λ f i. tt) (λ size i.
     by_bind (StandsThere attribute_bytes bytes at) (ok_or (bytes_at bytes size.0 size.1) (size.1, SHORT)) _ (λ f j. tt) (λ body j.
     let n = number_u2 bytes at name.0 name.1 fits h in
     let s = number_u4 bytes name.1 size.0 size.1 fits i in
@@ -77,12 +77,12 @@ attribute_whole bytes at fits =
 pub attribute_reads : (bytes : List ℕ) → AreBytes bytes → (at : ℕ) (a : AttributeOf) (next : ℕ) → attribute_at bytes at ≡ Ok (a, next) → Reads bytes at (attribute_bytes a) next
 attribute_reads bytes fits at a next h = subst (StandsThere attribute_bytes bytes at) h (attribute_whole bytes at fits)
 
-member_whole : (bytes : List ℕ) (at : ℕ) → AreBytes bytes → StandsThere member_bytes bytes at (member_at bytes at)
-unfolding member_at
+member_whole : (bytes : List ℕ) (at : ℕ) → AreBytes bytes → StandsThere member_bytes bytes at (member_read_at bytes at)
+unfolding member_read_at
 member_whole bytes at fits =
-    by_bind (StandsThere member_bytes bytes at) (number w16 bytes at) _ (λ f h. tt) (λ flags h.
-    by_bind (StandsThere member_bytes bytes at) (number w16 bytes flags.1) _ (λ f i. tt) (λ name i.
-    by_bind (StandsThere member_bytes bytes at) (number w16 bytes name.1) _ (λ f j. tt) (λ descriptor j.
+    by_bind (StandsThere member_bytes bytes at) (number_read w16 bytes at) _ (λ f h. tt) (λ flags h.
+    by_bind (StandsThere member_bytes bytes at) (number_read w16 bytes flags.1) _ (λ f i. tt) (λ name i.
+    by_bind (StandsThere member_bytes bytes at) (number_read w16 bytes name.1) _ (λ f j. tt) (λ descriptor j.
     by_bind (StandsThere member_bytes bytes at) (counted_at bytes (attribute_at bytes) descriptor.1) _ (λ f k. tt) (λ attributes k.
     let f = number_u2 bytes at flags.0 flags.1 fits h in
     let n = number_u2 bytes flags.1 name.0 name.1 fits i in
@@ -90,7 +90,7 @@ member_whole bytes at fits =
     let a = counted_read (attribute_at bytes) attribute_bytes bytes (attribute_reads bytes fits) descriptor.1 attributes.0 attributes.1 fits k in
     Reads-then bytes at (u2 flags.0) flags.1 _ attributes.1 f.reads
     (Reads-then bytes flags.1 (u2 name.0) name.1 _ attributes.1 n.reads
-    (Reads-then bytes name.1 (u2 descriptor.0) descriptor.1 (counted attribute_bytes attributes.0) attributes.1 d.reads a))))))
+    (Reads-then bytes name.1 (u2 descriptor.0) descriptor.1 (counted_bytes attribute_bytes attributes.0) attributes.1 d.reads a))))))
 
-pub member_reads : (bytes : List ℕ) → AreBytes bytes → (at : ℕ) (m : MemberOf) (next : ℕ) → member_at bytes at ≡ Ok (m, next) → Reads bytes at (member_bytes m) next
+pub member_reads : (bytes : List ℕ) → AreBytes bytes → (at : ℕ) (m : MemberOf) (next : ℕ) → member_read_at bytes at ≡ Ok (m, next) → Reads bytes at (member_bytes m) next
 member_reads bytes fits at m next h = subst (StandsThere member_bytes bytes at) h (member_whole bytes at fits)

@@ -8,8 +8,8 @@ use Rattle.et_pool.specs.Entries.{Item}
 use Rattle.et_code.specs.declared.instr.Instr.{Instr}
 use Rattle.et_code.specs.declared.instr.CodeFault.{CodeFault}
 use Rattle.et_code.specs.Decoding.{instruction_at}
-use Rattle.et_code.specs.Starts.{starts, starts_from, behind}
-use Rattle.et_class.specs.Codes.{instruction_marks, decoded_marks, named_marks}
+use Rattle.et_code.specs.Starts.{starts, starts_from, bytes_behind}
+use Rattle.et_class.specs.Codes.{instruction_marks, decoding_marks, named_marks}
 
 module _ (slots : List (Option Item)) (place : ℕ) (code : List ℕ) where
   -- the rules on the instructions from pc on
@@ -26,7 +26,7 @@ module _ (slots : List (Option Item)) (place : ℕ) (code : List ℕ) where
   walked_start first = record { most = length code; enough = omega arith; found_is = refl }
 
   -- the starts from pc on, where one stands there
-  front : (most pc : ℕ) → pc < length code → length code ≤ pc + most → starts_from code most pc ≡ pc ∷ behind (starts_from code (most - 1)) (instruction_at code pc)
+  front : (most pc : ℕ) → pc < length code → length code ≤ pc + most → starts_from code most pc ≡ pc ∷ bytes_behind (starts_from code (most - 1)) (instruction_at code pc)
   unfolding starts_from
   front zero pc lt le = absurd (omega arith)
   front (suc most) pc lt le =
@@ -48,18 +48,18 @@ module _ (slots : List (Option Item)) (place : ℕ) (code : List ℕ) where
         most = w.most - 1;
         enough = omega (arith, w.enough, lt, up);
         found_is =
-            ap (λ acc. rules_from acc (starts_from code (w.most - 1) next)) (h ∙ ap (λ r. first_from found (decoded_marks slots (place + pc) r)) (sym e))
+            ap (λ acc. rules_from acc (starts_from code (w.most - 1) next)) (h ∙ ap (λ r. first_from found (decoding_marks slots (place + pc) r)) (sym e))
             ∙ (sym (split found pc (starts_from code (w.most - 1) next))
-            ∙ (ap (λ r. rules_from found (pc ∷ behind (starts_from code (w.most - 1)) r)) (sym e)
+            ∙ (ap (λ r. rules_from found (pc ∷ bytes_behind (starts_from code (w.most - 1)) r)) (sym e)
             ∙ (ap (rules_from found) (sym (front w.most pc lt w.enough)) ∙ w.found_is)));
       }
 
   pub walked_err : (first found : Option (ℕ × ℕ)) (pc : ℕ) (f : CodeFault) → Walked first found pc → pc < length code → instruction_at code pc ≡ Err f → found ≡ rules_from first (starts code)
   unfolding first_from
   walked_err first found pc f w lt e =
-      ap (λ r. first_from found (decoded_marks slots (place + pc) r)) (sym e)
+      ap (λ r. first_from found (decoding_marks slots (place + pc) r)) (sym e)
       ∙ (sym (split found pc [])
-      ∙ (ap (λ r. rules_from found (pc ∷ behind (starts_from code (w.most - 1)) r)) (sym e)
+      ∙ (ap (λ r. rules_from found (pc ∷ bytes_behind (starts_from code (w.most - 1)) r)) (sym e)
       ∙ (ap (rules_from found) (sym (front w.most pc lt w.enough)) ∙ w.found_is)))
 
   pub walked_end : (first found : Option (ℕ × ℕ)) (pc : ℕ) → Walked first found pc → length code ≤ pc → found ≡ rules_from first (starts code)

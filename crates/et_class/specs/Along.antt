@@ -2,9 +2,6 @@
 use Rattle.std.specs.Prelude.{ℕ, ◌+◌, List, [], ◌∷◌, ◌++◌, length, Bool}
 use Rattle.et_base.specs.Marks.{Mark}
 
-abbrev pub mark : ℕ → ℕ → Bool → Mark
-mark place kind holds = record { place = place; kind = kind; holds = holds }
-
 unfoldable pub along : {X : Type 0} → (X → List ℕ) → (List X → ℕ → X → List Mark) → List X → ℕ → List X → List Mark
 along bytes marks before place [] = []
 along bytes marks before place (x ∷ xs) = marks before place x ++ along bytes marks (before ++ x ∷ []) (place + length (bytes x)) xs

@@ -1,12 +1,12 @@
 -- A CLASS FILE, or its first fault.
 use Rattle.std.specs.Prelude.{◌≡◌, ℕ, List, map, Option, None, Result, Ok, Err}
-use Rattle.et_base.specs.Marks.{MarksAre, IsFirst}
+use Rattle.et_base.specs.Marks.{MarksAre, IsFirstBroken}
 use Rattle.et_pool.specs.Entries.{Item, Constants}
 use Rattle.et_class.specs.declared.fault.ClassFault.{ClassFault}
 use Rattle.et_class.specs.declared.member.Member.{Member}
 use Rattle.et_class.specs.declared.class.ClassFile.{ClassFile}
-use Rattle.et_class.specs.Layout.{ClassOf, members_of, attributes_of}
-use Rattle.et_class.specs.Reading.{IsFault, IsRead, BreaksRead}
+use Rattle.et_class.specs.Layout.{ClassOf, member_list, attributes_of}
+use Rattle.et_class.specs.Reading.{IsClassFaultOf, IsRead, BreaksRead}
 use Rattle.et_class.specs.Fields.{constant_of}
 use Rattle.et_class.specs.Methods.{code_of}
 use Rattle.et_class.specs.Rules.{class_marks}
@@ -18,14 +18,14 @@ pub record IsClassFile (bytes : List ℕ) (c : ClassOf) : Type 0 where
 
 -- The place and the kind of the first fault: the first broken item of the first pass; where there is none, the first
 -- item that breaks a rule of the second.
-pub data HasFault (bytes : List ℕ) (f : ℕ × ℕ) : Type 0 where
-  InFirstPass : BreaksRead bytes f → HasFault bytes f
-  InSecondPass : (c : ClassOf) → IsRead bytes c → IsFirst (class_marks c) f.0 f.1 → HasFault bytes f
+pub data ShowsFirstFault (bytes : List ℕ) (f : ℕ × ℕ) : Type 0 where
+  InFirstPass : BreaksRead bytes f → ShowsFirstFault bytes f
+  InSecondPass : (c : ClassOf) → IsRead bytes c → IsFirstBroken (class_marks c) f.0 f.1 → ShowsFirstFault bytes f
 
 -- one of the two
 abbrev pub ClassIs : List ℕ → Result ClassOf (ℕ × ℕ) → Type 0
 ClassIs bytes (Ok c) = IsClassFile bytes c
-ClassIs bytes (Err f) = HasFault bytes f
+ClassIs bytes (Err f) = ShowsFirstFault bytes f
 
 -- exactly one of the two
 pub record HasOneClass (bytes : List ℕ) : Type 0 where
@@ -45,16 +45,16 @@ class_of c = record {
   this = c.this_class;
   super = c.super_class;
   interfaces = c.interfaces.items;
-  fields = members_of c.fields.items;
-  methods = members_of c.methods.items;
+  fields = member_list c.fields.items;
+  methods = member_list c.methods.items;
   attributes = attributes_of c.attributes.items;
 }
 
 -- each field has the index of its constant and no code, and each method its code and no constant
 pub record HasParts (slots : List (Option Item)) (fields methods : List Member) : Type 0 where
-  pub constants : map (λ m. m.constant) fields ≡ map (constant_of slots) (members_of fields)
+  pub constants : map (λ m. m.constant) fields ≡ map (constant_of slots) (member_list fields)
   pub no_code : map (λ m. m.code) fields ≡ map (λ m. None) fields
-  pub codes : map (λ m. m.code) methods ≡ map (code_of slots) (members_of methods)
+  pub codes : map (λ m. m.code) methods ≡ map (code_of slots) (member_list methods)
   pub no_constants : map (λ m. m.constant) methods ≡ map (λ m. 0) methods
 
 -- the pool of a class: its count stands behind the magic number and the two versions
@@ -69,4 +69,4 @@ pub record HasItsParts (c : ClassFile) : Type 0 where
 -- a class file and its parts, or the first fault; want of memory says nothing
 abbrev pub ReadsClass : List ℕ → Result ClassFile ClassFault → Type 0
 ReadsClass bytes (Ok c) = IsClassFile bytes (class_of c) × HasItsParts c
-ReadsClass bytes (Err e) = IsFault e (HasFault bytes)
+ReadsClass bytes (Err e) = IsClassFaultOf e (ShowsFirstFault bytes)

@@ -4,7 +4,7 @@ use Rattle.std.specs.List.{flat_map}
 use Rattle.std.specs.Int.{w16, w32}
 use Rattle.et_base.specs.Numbers.{bytes_at}
 use Rattle.et_base.specs.Steps.{◌>>=◌}
-use Rattle.et_base.specs.Marks.{Mark}
+use Rattle.et_base.specs.Marks.{Mark, mark}
 use Rattle.et_pool.specs.Entries.{Item}
 use Rattle.et_pool.specs.Looks.{utf8_at, class_name_at, member_at as pair_at, name_and_type_at, tag_of_slot}
 use Rattle.et_pool.specs.Descriptors.{is_array, is_floating_array, dimensions}
@@ -20,8 +20,7 @@ use Rattle.et_code.specs.Rules.{is_class_instruction, code_marks}
 use Rattle.et_class.specs.declared.fault.TheConstants.{ATTRIBUTE, SHORT}
 use Rattle.et_class.specs.declared.names.TheConstants.{INIT, CLINIT}
 use Rattle.et_class.specs.Layout.{AttributeOf}
-use Rattle.et_class.specs.Reading.{number, counted_at, attribute_at}
-use Rattle.et_class.specs.Along.{mark}
+use Rattle.et_class.specs.Reading.{number_read, counted_at, attribute_at}
 use Rattle.et_class.specs.Names.{is_text}
 
 -- THE ITEMS of the body of a Code attribute
@@ -32,22 +31,22 @@ pub record CodeOf : Type 0 where
   pub first : ℕ
   pub attributes : List AttributeOf
 
-unfoldable pub row_at : List ℕ → ℕ → Result (TableRow × ℕ) (ℕ × ℕ)
-row_at bytes at = do
-  start ← number w16 bytes at
-  end ← number w16 bytes start.1
-  handler ← number w16 bytes end.1
-  catch ← number w16 bytes handler.1
+unfoldable pub exception_row_at : List ℕ → ℕ → Result (TableRow × ℕ) (ℕ × ℕ)
+exception_row_at bytes at = do
+  start ← number_read w16 bytes at
+  end ← number_read w16 bytes start.1
+  handler ← number_read w16 bytes end.1
+  catch ← number_read w16 bytes handler.1
   Ok (record { start = start.0; end = end.0; handler = handler.0; catch = catch.0 }, catch.1)
 
 -- max_stack, max_locals, the code, the exception table
 unfoldable pub code_body_at : List ℕ → Result (Body × ℕ) (ℕ × ℕ)
 code_body_at bytes = do
-  stack ← number w16 bytes 0
-  locals ← number w16 bytes stack.1
-  size ← number w32 bytes locals.1
+  stack ← number_read w16 bytes 0
+  locals ← number_read w16 bytes stack.1
+  size ← number_read w32 bytes locals.1
   code ← ok_or (bytes_at bytes size.0 size.1) (size.1, SHORT)
-  table ← counted_at bytes (row_at bytes) code.1
+  table ← counted_at bytes (exception_row_at bytes) code.1
   Ok (record { max_stack = stack.0; max_locals = locals.0; code = code.0; table = table.0 }, table.1)
 
 -- and attributes, which end where the body ends
@@ -100,19 +99,19 @@ instruction_marks slots place i =
     mark place CODE (is_class_well i (class_name_at slots (index_of i.first))) ∷
     mark place UNSUPPORTED (not (is_class_instruction i.opcode && is_floating_class (class_name_at slots (index_of i.first)))) ∷ []
 
-abbrev pub decoded_marks : List (Option Item) → ℕ → Result (Instr × ℕ) CodeFault → List Mark
-decoded_marks slots place (Ok x) = instruction_marks slots place x.0
-decoded_marks slots place (Err f) = []
+abbrev pub decoding_marks : List (Option Item) → ℕ → Result (Instr × ℕ) CodeFault → List Mark
+decoding_marks slots place (Ok x) = instruction_marks slots place x.0
+decoding_marks slots place (Err f) = []
 
 -- the instruction at pc of the code that begins at a place
 abbrev pub named_marks : List (Option Item) → ℕ → List ℕ → ℕ → List Mark
-named_marks slots place code pc = decoded_marks slots (place + pc) (instruction_at code pc)
+named_marks slots place code pc = decoding_marks slots (place + pc) (instruction_at code pc)
 
 -- ALL RULES on the body of a Code attribute whose code_length stands at a place
 
 -- a mark whose place counts from there
-abbrev pub moved : ℕ → Mark → Mark
-moved place m = mark (place + m.place) m.kind m.holds
+abbrev pub mark_moved : ℕ → Mark → Mark
+mark_moved place m = mark (place + m.place) m.kind m.holds
 
 abbrev pub body_marks : List (Option Item) → ℕ → Body → List Mark
-body_marks slots place b = flat_map (named_marks slots (place + 4) b.code) (starts b.code) ++ map (moved place) (code_marks b (map tag_of_slot slots))
+body_marks slots place b = flat_map (named_marks slots (place + 4) b.code) (starts b.code) ++ map (mark_moved place) (code_marks b (map tag_of_slot slots))

@@ -3,7 +3,7 @@ use Rattle.std.specs.Prelude.{ℕ, ◌+◌, List, [], ◌∷◌, length, Bool, f
 use Rattle.std.specs.List.{list_any, find}
 use Rattle.std.specs.Int.{w16, from_be_bytes}
 use Rattle.std.specs.Str.{bytes_eq}
-use Rattle.et_base.specs.Marks.{Mark}
+use Rattle.et_base.specs.Marks.{Mark, mark}
 use Rattle.et_pool.specs.declared.tags.TheConstants.{INTEGER, LONG, STRING}
 use Rattle.et_pool.specs.Entries.{Item}
 use Rattle.et_pool.specs.Looks.{utf8_at, tag_at}
@@ -13,8 +13,8 @@ use Rattle.et_class.specs.declared.fault.TheConstants.{FLAGS, DESCRIPTOR, MEMBER
 use Rattle.et_class.specs.declared.flags.TheConstants.{STATIC, FINAL, VOLATILE}
 use Rattle.et_class.specs.declared.names.TheConstants.{CONSTANT_VALUE, STRING_TYPE}
 use Rattle.et_class.specs.Layout.{AttributeOf, MemberOf, attribute_bytes}
-use Rattle.et_class.specs.Along.{mark, along}
-use Rattle.et_class.specs.Names.{has, is_named, has_name, is_new}
+use Rattle.et_class.specs.Along.{along}
+use Rattle.et_class.specs.Names.{has, is_attribute_named, has_member_name, is_member_new}
 
 -- ANY ATTRIBUTE: its name is a Utf8 entry
 abbrev pub attribute_marks : List (Option Item) → List AttributeOf → ℕ → AttributeOf → List Mark
@@ -56,7 +56,7 @@ abbrev pub is_constant : List (Option Item) → MemberOf → List ℕ → Bool
 is_constant slots m body = (length body == 2) && is_constant_for (utf8_at slots m.descriptor) (tag_at slots (from_be_bytes w16 body))
 
 abbrev pub is_constant_value : List (Option Item) → AttributeOf → Bool
-is_constant_value slots a = is_named slots CONSTANT_VALUE.now a
+is_constant_value slots a = is_attribute_named slots CONSTANT_VALUE.now a
 
 -- a field has at most one ConstantValue, and that of a static field fits its type
 abbrev pub is_value_well : List (Option Item) → MemberOf → Bool → AttributeOf → Bool
@@ -73,13 +73,13 @@ field_attribute_marks slots m before place a = mark place ATTRIBUTE (is_field_at
 abbrev pub field_marks_if : List (Option Item) → Bool → Bool → ℕ → MemberOf → List Mark
 field_marks_if slots interface new place m =
     mark place FLAGS (is_field_flags interface m.flags) ∷
-    mark place MEMBER (has_name slots m && new) ∷
+    mark place MEMBER (has_member_name slots m && new) ∷
     mark (place + 4) DESCRIPTOR (is_type (utf8_at slots m.descriptor)) ∷
     mark (place + 4) UNSUPPORTED (not (is_floating_type (utf8_at slots m.descriptor))) ∷
     along attribute_bytes (field_attribute_marks slots m) [] (place + 8) m.attributes
 
 abbrev pub field_marks : List (Option Item) → Bool → List MemberOf → ℕ → MemberOf → List Mark
-field_marks slots interface before place m = field_marks_if slots interface (is_new slots before m) place m
+field_marks slots interface before place m = field_marks_if slots interface (is_member_new slots before m) place m
 
 -- the index that an attribute's body of two bytes is
 abbrev pub index_in : Option AttributeOf → ℕ

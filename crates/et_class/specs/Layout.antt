@@ -41,23 +41,23 @@ abbrev pub u4 : ℕ → List ℕ
 u4 n = to_be_bytes w32 n
 
 -- a count, and so many items
-abbrev pub counted : {X : Type 0} → (X → List ℕ) → List X → List ℕ
-counted bytes xs = u2 (length xs) ++ flat_map bytes xs
+abbrev pub counted_bytes : {X : Type 0} → (X → List ℕ) → List X → List ℕ
+counted_bytes bytes xs = u2 (length xs) ++ flat_map bytes xs
 
 abbrev pub attribute_bytes : AttributeOf → List ℕ
 attribute_bytes a = u2 a.name ++ (u4 (length a.body) ++ a.body)
 
 abbrev pub member_bytes : MemberOf → List ℕ
-member_bytes m = u2 m.flags ++ (u2 m.name ++ (u2 m.descriptor ++ counted attribute_bytes m.attributes))
+member_bytes m = u2 m.flags ++ (u2 m.name ++ (u2 m.descriptor ++ counted_bytes attribute_bytes m.attributes))
 
 -- what stands behind the pool
 abbrev pub tail_bytes : ClassOf → List ℕ
 tail_bytes c =
-    u2 c.flags ++ (u2 c.this ++ (u2 c.super ++ (counted u2 c.interfaces ++ (counted member_bytes c.fields ++ (counted member_bytes c.methods ++ counted attribute_bytes c.attributes)))))
+    u2 c.flags ++ (u2 c.this ++ (u2 c.super ++ (counted_bytes u2 c.interfaces ++ (counted_bytes member_bytes c.fields ++ (counted_bytes member_bytes c.methods ++ counted_bytes attribute_bytes c.attributes)))))
 
 -- the magic number, the two versions, the pool, and what stands behind it
 abbrev pub class_bytes : ClassOf → List ℕ
-class_bytes c = u4 0xCAFEBABE ++ (u2 c.minor ++ (u2 c.major ++ (counted slot_bytes c.slots ++ tail_bytes c)))
+class_bytes c = u4 0xCAFEBABE ++ (u2 c.minor ++ (u2 c.major ++ (counted_bytes slot_bytes c.slots ++ tail_bytes c)))
 
 -- WHAT THE RECORDS OF THE CODE STAND FOR
 
@@ -70,5 +70,5 @@ attributes_of xs = map attribute_of xs
 abbrev pub member_of : Member → MemberOf
 member_of m = record { flags = m.access_flags; name = m.name_index; descriptor = m.descriptor_index; attributes = attributes_of m.attributes.items }
 
-abbrev pub members_of : List Member → List MemberOf
-members_of xs = map member_of xs
+abbrev pub member_list : List Member → List MemberOf
+member_list xs = map member_of xs

@@ -25,8 +25,8 @@ abbrev pub is_plain_class : List (Option Item) → ℕ → Bool
 is_plain_class slots index = is_plain_name (class_name_at slots index)
 
 -- the attribute has this name
-abbrev pub is_named : List (Option Item) → List ℕ → AttributeOf → Bool
-is_named slots name a = is_text (utf8_at slots a.name) name
+abbrev pub is_attribute_named : List (Option Item) → List ℕ → AttributeOf → Bool
+is_attribute_named slots name a = is_text (utf8_at slots a.name) name
 
 -- the member has this name
 abbrev pub is_member_named : List (Option Item) → List ℕ → MemberOf → Bool
@@ -37,8 +37,8 @@ is_nonempty None = false
 is_nonempty (Some bytes) = not (length bytes == 0)
 
 -- the name is a Utf8 entry and not empty
-abbrev pub has_name : List (Option Item) → MemberOf → Bool
-has_name slots m = is_nonempty (utf8_at slots m.name)
+abbrev pub has_member_name : List (Option Item) → MemberOf → Bool
+has_member_name slots m = is_nonempty (utf8_at slots m.name)
 
 -- two members share name and descriptor, where these are Utf8 entries
 
@@ -54,5 +54,5 @@ share (Some p) None = false
 share (Some p) (Some q) = same_key p q
 
 -- no earlier member shares name and descriptor with this one
-abbrev pub is_new : List (Option Item) → List MemberOf → MemberOf → Bool
-is_new slots before m = not (list_any (λ e. share (key_of slots m) (key_of slots e)) before)
+abbrev pub is_member_new : List (Option Item) → List MemberOf → MemberOf → Bool
+is_member_new slots before m = not (list_any (λ e. share (key_of slots m) (key_of slots e)) before)

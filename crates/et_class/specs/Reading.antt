@@ -14,18 +14,18 @@ use Rattle.et_class.specs.declared.fault.ClassFault.TheVariants as fault
 use Rattle.et_class.specs.Layout.{AttributeOf, MemberOf, ClassOf}
 
 -- the fault that a call answered is this broken item; want of memory says nothing
-abbrev pub IsFault : ClassFault → (ℕ × ℕ → Type 0) → Type 0
-IsFault (fault.At kind place) P = P (place, kind)
-IsFault fault.NoMemory P = Unit {0}
+abbrev pub IsClassFaultOf : ClassFault → (ℕ × ℕ → Type 0) → Type 0
+IsClassFaultOf (fault.At kind place) P = P (place, kind)
+IsClassFaultOf fault.NoMemory P = Unit {0}
 
 -- what a call returned, seen by `view`, is what is read
-abbrev pub Gives : {X Y : Type 0} → (X → Y) → Result X ClassFault → Result Y (ℕ × ℕ) → Type 0
-Gives view (Ok x) read = read ≡ Ok (view x)
-Gives view (Err e) read = IsFault e (λ f. read ≡ Err f)
+abbrev pub GivesOrBreaks : {X Y : Type 0} → (X → Y) → Result X ClassFault → Result Y (ℕ × ℕ) → Type 0
+GivesOrBreaks view (Ok x) read = read ≡ Ok (view x)
+GivesOrBreaks view (Err e) read = IsClassFaultOf e (λ f. read ≡ Err f)
 
 -- an item fits before the end of the bytes
-abbrev pub number : Width → List ℕ → ℕ → Result (ℕ × ℕ) (ℕ × ℕ)
-number w bytes at = ok_or (number_at w bytes at) (at, SHORT)
+abbrev pub number_read : Width → List ℕ → ℕ → Result (ℕ × ℕ) (ℕ × ℕ)
+number_read w bytes at = ok_or (number_at w bytes at) (at, SHORT)
 
 -- as many of one thing, one after the other
 unfoldable pub many_at : {X : Type 0} → (ℕ → Result (X × ℕ) (ℕ × ℕ)) → ℕ → ℕ → Result (List X × ℕ) (ℕ × ℕ)
@@ -38,37 +38,37 @@ many_at one (suc n) at = do
 -- a count, and as many of one thing
 abbrev pub counted_at : {X : Type 0} → List ℕ → (ℕ → Result (X × ℕ) (ℕ × ℕ)) → ℕ → Result (List X × ℕ) (ℕ × ℕ)
 counted_at bytes one at = do
-  count ← number w16 bytes at
+  count ← number_read w16 bytes at
   many_at one count.0 count.1
 
 -- an attribute: the index of its name, the length of its body, and the body, which is one item
 unfoldable pub attribute_at : List ℕ → ℕ → Result (AttributeOf × ℕ) (ℕ × ℕ)
 attribute_at bytes at = do
-  name ← number w16 bytes at
-  size ← number w32 bytes name.1
+  name ← number_read w16 bytes at
+  size ← number_read w32 bytes name.1
   body ← ok_or (bytes_at bytes size.0 size.1) (size.1, SHORT)
   Ok (record { name = name.0; body = body.0 }, body.1)
 
 -- a field or a method
-unfoldable pub member_at : List ℕ → ℕ → Result (MemberOf × ℕ) (ℕ × ℕ)
-member_at bytes at = do
-  flags ← number w16 bytes at
-  name ← number w16 bytes flags.1
-  descriptor ← number w16 bytes name.1
+unfoldable pub member_read_at : List ℕ → ℕ → Result (MemberOf × ℕ) (ℕ × ℕ)
+member_read_at bytes at = do
+  flags ← number_read w16 bytes at
+  name ← number_read w16 bytes flags.1
+  descriptor ← number_read w16 bytes name.1
   attributes ← counted_at bytes (attribute_at bytes) descriptor.1
   Ok (record { flags = flags.0; name = name.0; descriptor = descriptor.0; attributes = attributes.0 }, attributes.1)
 
 -- the versions: major_version is 45 to 52
 abbrev pub versions_at : List ℕ → ℕ → Result (ℕ × ℕ) (ℕ × ℕ)
 versions_at bytes at = do
-  minor ← number w16 bytes at
-  major ← number w16 bytes minor.1
+  minor ← number_read w16 bytes at
+  major ← number_read w16 bytes minor.1
   if nat_lt major.0 45 || nat_lt 52 major.0 then Err (minor.1, VERSION) else Ok (minor.0, major.0)
 
 -- what stands before the pool: the magic number and the versions
 unfoldable pub head_at : List ℕ → Result (ℕ × ℕ) (ℕ × ℕ)
 head_at bytes = do
-  magic ← number w32 bytes 0
+  magic ← number_read w32 bytes 0
   if magic.0 == 0xCAFEBABE then versions_at bytes magic.1 else Err (0, MAGIC)
 
 -- the access flags, and the indices of this class, its superclass and its interfaces
@@ -80,10 +80,10 @@ pub record HeaderOf : Type 0 where
 
 unfoldable pub header_at : List ℕ → ℕ → Result (HeaderOf × ℕ) (ℕ × ℕ)
 header_at bytes at = do
-  flags ← number w16 bytes at
-  this ← number w16 bytes flags.1
-  super ← number w16 bytes this.1
-  interfaces ← counted_at bytes (number w16 bytes) super.1
+  flags ← number_read w16 bytes at
+  this ← number_read w16 bytes flags.1
+  super ← number_read w16 bytes this.1
+  interfaces ← counted_at bytes (number_read w16 bytes) super.1
   Ok (record { flags = flags.0; this = this.0; super = super.0; interfaces = interfaces.0 }, interfaces.1)
 
 -- the fields, the methods and the attributes, and no byte behind the last of them
@@ -94,8 +94,8 @@ pub record MembersOf : Type 0 where
 
 unfoldable pub members_at : List ℕ → ℕ → Result MembersOf (ℕ × ℕ)
 members_at bytes at = do
-  fields ← counted_at bytes (member_at bytes) at
-  methods ← counted_at bytes (member_at bytes) fields.1
+  fields ← counted_at bytes (member_read_at bytes) at
+  methods ← counted_at bytes (member_read_at bytes) fields.1
   attributes ← counted_at bytes (attribute_at bytes) methods.1
   if nat_lt attributes.1 (length bytes) then Err (attributes.1, TRAILING) else Ok (record { fields = fields.0; methods = methods.0; attributes = attributes.0 })
 

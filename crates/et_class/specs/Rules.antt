@@ -1,14 +1,14 @@
 -- THE SECOND PASS: all rules of a class file that the first pass lets through, each marked at its item.
 use Rattle.std.specs.Prelude.{ℕ, ◌+◌, List, [], ◌∷◌, ◌++◌, length, Bool, not, ◌&&◌, ◌||◌, if◌then◌else◌, Option}
-use Rattle.et_base.specs.Marks.{Mark}
+use Rattle.et_base.specs.Marks.{Mark, mark}
 use Rattle.et_pool.specs.Entries.{Item}
 use Rattle.et_pool.specs.Looks.{class_name_at, is_fit_slot, slot_bytes, end_of}
 use Rattle.et_class.specs.declared.fault.TheConstants.{POOL, FLAGS, MEMBER}
 use Rattle.et_class.specs.declared.flags.TheConstants.{FINAL, INTERFACE, ABSTRACT}
 use Rattle.et_class.specs.declared.names.TheConstants.{OBJECT}
-use Rattle.et_class.specs.Layout.{ClassOf, u2, counted, member_bytes, attribute_bytes}
+use Rattle.et_class.specs.Layout.{ClassOf, u2, counted_bytes, member_bytes, attribute_bytes}
 use Rattle.et_class.specs.Reading.{HeaderOf, MembersOf}
-use Rattle.et_class.specs.Along.{mark, along}
+use Rattle.et_class.specs.Along.{along}
 use Rattle.et_class.specs.Names.{has, is_text, is_plain_class}
 use Rattle.et_class.specs.Fields.{field_marks, attribute_marks}
 use Rattle.et_class.specs.Methods.{method_marks}
@@ -38,8 +38,8 @@ header_marks slots place h =
 abbrev pub members_marks : List (Option Item) → Bool → ℕ → MembersOf → List Mark
 members_marks slots interface place m =
     along member_bytes (field_marks slots interface) [] (place + 2) m.fields
-    ++ (along member_bytes (method_marks slots) [] (place + length (counted member_bytes m.fields) + 2) m.methods
-    ++ along attribute_bytes (attribute_marks slots) [] (place + length (counted member_bytes m.fields) + length (counted member_bytes m.methods) + 2) m.attributes)
+    ++ (along member_bytes (method_marks slots) [] (place + length (counted_bytes member_bytes m.fields) + 2) m.methods
+    ++ along attribute_bytes (attribute_marks slots) [] (place + length (counted_bytes member_bytes m.fields) + length (counted_bytes member_bytes m.methods) + 2) m.attributes)
 
 abbrev pub header_of : ClassOf → HeaderOf
 header_of c = record { flags = c.flags; this = c.this; super = c.super; interfaces = c.interfaces }
@@ -52,4 +52,4 @@ abbrev pub class_marks : ClassOf → List Mark
 class_marks c =
     pool_marks c.slots
     ++ (header_marks c.slots (end_of 8 c.slots) (header_of c)
-    ++ members_marks c.slots (has c.flags INTERFACE) (end_of 8 c.slots + 6 + length (counted u2 c.interfaces)) (members_of c))
+    ++ members_marks c.slots (has c.flags INTERFACE) (end_of 8 c.slots + 6 + length (counted_bytes u2 c.interfaces)) (members_of c))

@@ -43,6 +43,6 @@ pub record CanBeSpelled (c : ClassOf) : Type 0 where
   pub attributes : IsCounted IsAttribute c.attributes
 
 -- the bytes are those of the class, in order, and nothing else
-pub record IsSpelled (bytes : List ℕ) (c : ClassOf) : Type 0 where
+pub record IsClassSpelled (bytes : List ℕ) (c : ClassOf) : Type 0 where
   pub can_be : CanBeSpelled c
   pub bytes_are : bytes ≡ class_bytes c

@@ -8,9 +8,9 @@ ghost use Rattle.et_pool.specs.Looks.{class_name_at, tag_of_slot};
 ghost use Rattle.et_code.specs.Bodies.{body_of};
 ghost use Rattle.et_code.specs.Starts.{starts};
 ghost use Rattle.et_code.specs.Rules.{is_class_instruction as is_class_opcode};
-ghost use Rattle.et_class.specs.Reading.{Gives, many_at, counted_at};
+ghost use Rattle.et_class.specs.Reading.{GivesOrBreaks, many_at, counted_at};
 ghost use Rattle.et_class.specs.Names.{is_text};
-ghost use Rattle.et_class.specs.Codes.{row_at, code_body_at, index_of, member_name, names_member, is_member_well, is_class_well, is_floating_class, instruction_marks, named_marks};
+ghost use Rattle.et_class.specs.Codes.{exception_row_at, code_body_at, index_of, member_name, names_member, is_member_well, is_class_well, is_floating_class, instruction_marks, named_marks};
 
 use crate::fault::ClassFault;
 use crate::items::{short, u16_item, u32_item};
@@ -26,9 +26,9 @@ use et_pool::Pool;
 use et_pool::descriptor::{dimensions, is_array_name, is_floating_array_name};
 use std::alloc::Global;
 
-#[tactic(auto, unfolding(crate::specs::Codes::row_at))]
+#[tactic(auto, unfolding(crate::specs::Codes::exception_row_at))]
 fn read_row(bytes: &[u8], at: usize) -> Result<(TableRow, usize), ClassFault>
-    ensures { Gives (λ x. x) result (row_at bytes.now at) }
+    ensures { GivesOrBreaks (λ x. x) result (exception_row_at bytes.now at) }
 {
     let (start, at) = u16_item(bytes, at)?;
     let (end, at) = u16_item(bytes, at)?;
@@ -49,7 +49,8 @@ fn rows_from(
     count: u16,
     start: usize,
 ) -> Result<(Vec<TableRow>, usize), ClassFault>
-    ensures { Gives (λ x. (x.0.items, x.1)) result (many_at (row_at bytes.now) count start) }
+    ensures { GivesOrBreaks (λ x. (x.0.items, x.1)) result
+        (many_at (exception_row_at bytes.now) count start) }
 {
     let mut rows = Vec::new(alloc);
     let mut at = start;
@@ -62,7 +63,8 @@ fn rows_from(
 }
 
 fn read_rows(alloc: Global, bytes: &[u8], at: usize) -> Result<(Vec<TableRow>, usize), ClassFault>
-    ensures { Gives (λ x. (x.0.items, x.1)) result (counted_at bytes.now (row_at bytes.now) at) }
+    ensures { GivesOrBreaks (λ x. (x.0.items, x.1)) result
+        (counted_at bytes.now (exception_row_at bytes.now) at) }
 {
     let (count, at) = u16_item(bytes, at)?;
     rows_from(alloc, bytes, count, at)
@@ -72,7 +74,7 @@ fn read_rows(alloc: Global, bytes: &[u8], at: usize) -> Result<(Vec<TableRow>, u
 /// after them in the body.
 #[tactic(auto, unfolding(crate::specs::Codes::code_body_at))]
 pub fn read_code(alloc: Global, bytes: &[u8]) -> Result<(RawCode, usize), ClassFault>
-    ensures { Gives (λ x. (body_of x.0, x.1)) result (code_body_at bytes.now) }
+    ensures { GivesOrBreaks (λ x. (body_of x.0, x.1)) result (code_body_at bytes.now) }
 {
     let (max_stack, at) = u16_item(bytes, 0)?;
     let (max_locals, at) = u16_item(bytes, at)?;

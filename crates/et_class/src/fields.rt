@@ -7,7 +7,7 @@ ghost use Rattle.et_base.specs.Marks.{first_from};
 ghost use Rattle.et_pool.specs.Looks.{utf8_at};
 ghost use Rattle.et_class.specs.Layout.{attribute_of, attributes_of, attribute_bytes, member_of, member_bytes};
 ghost use Rattle.et_class.specs.Along.{along};
-ghost use Rattle.et_class.specs.Names.{has_name, is_new};
+ghost use Rattle.et_class.specs.Names.{has_member_name, is_member_new};
 ghost use Rattle.et_class.specs.Fields.{attribute_marks, is_field_flags, is_type, is_floating_type as is_floating, is_int_type, is_long_type, is_constant_for, is_constant, is_constant_value, is_field_attribute, field_attribute_marks, field_marks_if, index_in, constant_of};
 
 use crate::fault::{ATTRIBUTE, DESCRIPTOR, FLAGS, MEMBER};

@@ -5,9 +5,9 @@ ghost use Rattle.std.specs.List.{flat_map};
 ghost use Rattle.std.specs.Int.{w16};
 ghost use Rattle.et_base.specs.Marks.{first_from};
 ghost use Rattle.et_class.specs.Layout.{u2};
-ghost use Rattle.et_class.specs.Reading.{Gives, number, many_at, counted_at, versions_at, head_at, header_at};
+ghost use Rattle.et_class.specs.Reading.{GivesOrBreaks, number_read, many_at, counted_at, versions_at, head_at, header_at};
 ghost use Rattle.et_class.specs.Along.{along};
-ghost use Rattle.et_class.specs.Headers.{header_of};
+ghost use Rattle.et_class.specs.Headers.{header_parts};
 ghost use Rattle.et_class.specs.Rules.{is_class_flags, interface_marks, header_marks};
 
 use crate::fault::{ClassFault, FLAGS, MAGIC, MEMBER, POOL, VERSION};
@@ -28,7 +28,7 @@ pub struct Header {
 }
 
 fn read_versions(bytes: &[u8], at: usize) -> Result<(u16, u16), ClassFault>
-    ensures { Gives (λ x. x) result (versions_at bytes.now at) }
+    ensures { GivesOrBreaks (λ x. x) result (versions_at bytes.now at) }
 {
     let (minor, at) = u16_item(bytes, at)?;
     let (major, _) = u16_item(bytes, at)?;
@@ -44,7 +44,7 @@ fn read_versions(bytes: &[u8], at: usize) -> Result<(u16, u16), ClassFault>
 /// The minor and the major version, behind the magic number.
 #[tactic(auto, unfolding(crate::specs::Reading::head_at))]
 pub fn read_head(bytes: &[u8]) -> Result<(u16, u16), ClassFault>
-    ensures { Gives (λ x. x) result (head_at bytes.now) }
+    ensures { GivesOrBreaks (λ x. x) result (head_at bytes.now) }
 {
     let (magic, at) = u32_item(bytes, 0)?;
     if magic != 0xCAFE_BABE {
@@ -62,7 +62,8 @@ fn indices_from(
     count: u16,
     start: usize,
 ) -> Result<(Vec<u16>, usize), ClassFault>
-    ensures { Gives (λ x. (x.0.items, x.1)) result (many_at (number w16 bytes.now) count start) }
+    ensures { GivesOrBreaks (λ x. (x.0.items, x.1)) result
+        (many_at (number_read w16 bytes.now) count start) }
 {
     let mut indices = Vec::new(alloc);
     let mut at = start;
@@ -75,8 +76,8 @@ fn indices_from(
 }
 
 fn read_indices(alloc: Global, bytes: &[u8], at: usize) -> Result<(Vec<u16>, usize), ClassFault>
-    ensures { Gives
-        (λ x. (x.0.items, x.1)) result (counted_at bytes.now (number w16 bytes.now) at) }
+    ensures { GivesOrBreaks
+        (λ x. (x.0.items, x.1)) result (counted_at bytes.now (number_read w16 bytes.now) at) }
 {
     let (count, at) = u16_item(bytes, at)?;
     indices_from(alloc, bytes, count, at)
@@ -85,7 +86,7 @@ fn read_indices(alloc: Global, bytes: &[u8], at: usize) -> Result<(Vec<u16>, usi
 /// The header at a place, and the place after it.
 #[tactic(auto, unfolding(crate::specs::Reading::header_at))]
 pub fn read_header(alloc: Global, bytes: &[u8], at: usize) -> Result<(Header, usize), ClassFault>
-    ensures { Gives (λ x. (header_of x.0, x.1)) result (header_at bytes.now at) }
+    ensures { GivesOrBreaks (λ x. (header_parts x.0, x.1)) result (header_at bytes.now at) }
 {
     let (access_flags, at) = u16_item(bytes, at)?;
     let (this_class, at) = u16_item(bytes, at)?;
@@ -129,7 +130,8 @@ fn check_interfaces(first: First, pool: &Pool, start: usize, interfaces: &[u16])
 #[tactic(auto, unfolding(et_base::specs::Marks::first_from))]
 pub fn check_header(first: First, pool: &Pool, place: usize, header: &Header) -> First
     requires { place + 8 + length (flat_map u2 header.now.interfaces.items) < 2 ^ 64 }
-    ensures { result ≡ first_from first (header_marks pool.now.slots place (header_of header.now)) }
+    ensures { result ≡ first_from first (header_marks pool.now.slots place
+        (header_parts header.now)) }
 {
     let flags = has_class_flags(header.access_flags);
     let this = names_plain_class(pool, header.this_class);

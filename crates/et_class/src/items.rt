@@ -3,7 +3,7 @@
 ghost use Rattle.std.specs.Prelude.{◌≡◌};
 ghost use Rattle.std.specs.Int.{w16, w32};
 ghost use Rattle.et_class.specs.declared.fault.ClassFault.TheVariants.{At};
-ghost use Rattle.et_class.specs.Reading.{Gives, number};
+ghost use Rattle.et_class.specs.Reading.{GivesOrBreaks, number_read};
 
 use crate::fault::{ClassFault, SHORT};
 use et_base::numbers;
@@ -19,13 +19,13 @@ pub fn short(offset: usize) -> ClassFault
 }
 
 pub fn u16_item(bytes: &[u8], at: usize) -> Result<(u16, usize), ClassFault>
-    ensures { Gives (λ x. x) result (number w16 bytes.now at) }
+    ensures { GivesOrBreaks (λ x. x) result (number_read w16 bytes.now at) }
 {
     numbers::u16_at(bytes, at).ok_or(short(at))
 }
 
 pub fn u32_item(bytes: &[u8], at: usize) -> Result<(u32, usize), ClassFault>
-    ensures { Gives (λ x. x) result (number w32 bytes.now at) }
+    ensures { GivesOrBreaks (λ x. x) result (number_read w32 bytes.now at) }
 {
     numbers::u32_at(bytes, at).ok_or(short(at))
 }

@@ -3,7 +3,7 @@
 ghost use Rattle.std.specs.Prelude.{◌≡◌, ℕ, List, Some, IfOk, not, ◌||◌};
 ghost use Rattle.et_class.specs.Layout.{member_of};
 ghost use Rattle.et_class.specs.Names.{key_of, share};
-ghost use Rattle.et_class.specs.Keys.{has_key, has_some_key};
+ghost use Rattle.et_class.specs.Keys.{has_member_key, has_some_key};
 
 use crate::member::Member;
 use et_pool::Pool;
@@ -18,9 +18,10 @@ fn add_key<'a>(
     name: &'a [u8],
     descriptor: &'a [u8],
 ) -> Result<bool, AllocError>
-    ensures added { IfOk result (λ new. new ≡ not (has_key keys.old (name.now, descriptor.now))) }
-    ensures keeps { IfOk result (λ new. (q : List ℕ × List ℕ) → has_key keys.new q
-        ≡ (share (Some (name.now, descriptor.now)) (Some q) || has_key keys.old q)) }
+    ensures added { IfOk result (λ new. new ≡ not (has_member_key keys.old
+        (name.now, descriptor.now))) }
+    ensures keeps { IfOk result (λ new. (q : List ℕ × List ℕ) → has_member_key keys.new q
+        ≡ (share (Some (name.now, descriptor.now)) (Some q) || has_member_key keys.old q)) }
 {
     Ok(keys.insert((name, descriptor))?)
 }
@@ -34,8 +35,9 @@ pub fn add_member<'a>(
 ) -> Result<bool, AllocError>
     ensures added { IfOk result
         (λ new. new ≡ not (has_some_key keys.old (key_of pool.now.slots (member_of member.now)))) }
-    ensures keeps { IfOk result (λ new. (q : List ℕ × List ℕ) → has_key keys.new q
-        ≡ (share (key_of pool.now.slots (member_of member.now)) (Some q) || has_key keys.old q)) }
+    ensures keeps { IfOk result (λ new. (q : List ℕ × List ℕ) → has_member_key keys.new q
+        ≡ (share (key_of pool.now.slots (member_of member.now)) (Some q) || has_member_key keys.old
+        q)) }
 {
     match pool.utf8(member.name_index) {
         None => Ok(true),

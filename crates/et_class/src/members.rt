@@ -2,7 +2,7 @@
 
 ghost use Rattle.std.specs.Prelude.{◌≡◌, map};
 ghost use Rattle.et_pool.specs.Looks.{tag_of_slot};
-ghost use Rattle.et_class.specs.Reading.{counted_at, member_at};
+ghost use Rattle.et_class.specs.Reading.{counted_at, member_read_at};
 ghost use Rattle.et_class.specs.Members.{ReadsFields, ReadsMethods, ReadsMembers};
 
 use crate::fault::{ClassFault, TRAILING};

@@ -2,15 +2,14 @@
 
 ghost use Rattle.std.specs.Prelude.{◌≡◌, ◌+◌, ◌<◌, ◌≤◌, ◌^◌, ◌*◌, ℕ, List, [], ◌∷◌, ◌||◌, if◌then◌else◌, length, map, is_some, IfOk, IfSome, option_map, option_and_then, Ok};
 ghost use Rattle.std.specs.List.{flat_map, list_any, find};
-ghost use Rattle.et_base.specs.Marks.{first_from};
+ghost use Rattle.et_base.specs.Marks.{first_from, mark as mark_of};
 ghost use Rattle.et_pool.specs.Looks.{utf8_at, tag_of_slot};
 ghost use Rattle.et_code.specs.Bodies.{body_of};
 ghost use Rattle.et_class.specs.Layout.{attribute_of, attributes_of, attribute_bytes, member_of, member_bytes};
 ghost use Rattle.et_class.specs.Reading.{many_at, attribute_at};
 ghost use Rattle.et_class.specs.Along.{along};
 ghost use Rattle.et_class.specs.Codes.{code_at, body_marks};
-ghost use Rattle.et_class.specs.Methods.{is_method_flags, is_clinit, is_init, shape_at, receiver_of, is_shape_well, is_floating_shape, fits_locals, is_code, is_code_well, code_attribute_marks, method_attribute_marks, method_attribute_marks_if, method_marks_if};
-ghost use Rattle.et_class.specs.Along.{mark as mark_of};
+ghost use Rattle.et_class.specs.Methods.{is_method_flags, is_clinit, is_init, shape_at, receiver_words, is_shape_well, is_floating_shape, arguments_fit_locals, is_code, is_code_well, code_attribute_marks, method_attribute_marks, method_attribute_marks_if, method_marks_if};
 ghost use Rattle.et_class.specs.Kept.{inner_from, inner_at, name_and_next, kept_body, kept_attribute, kept_in, kept_among, kept_code};
 
 use crate::code::{check_instructions, read_code};
@@ -62,7 +61,7 @@ fn shape(pool: &Pool, method: &Member) -> Option<MethodShape>
 
 /// How many entries the receiver takes.
 fn receiver_entries(pool: &Pool, method: &Member) -> usize
-    ensures { result ≡ receiver_of pool.now.slots (member_of method.now) }
+    ensures { result ≡ receiver_words pool.now.slots (member_of method.now) }
 {
     if has(method.access_flags, STATIC) || is_class_initializer(pool, method) {
         0
@@ -83,7 +82,7 @@ fn fits_descriptor(receiver: usize, init: bool, shape: Option<MethodShape>) -> b
 
 fn arguments_fit(receiver: usize, max_locals: u16, shape: Option<MethodShape>) -> bool
     requires { receiver ≤ 1 }
-    ensures { result ≡ fits_locals receiver max_locals shape }
+    ensures { result ≡ arguments_fit_locals receiver max_locals shape }
 {
     match shape {
         None => true,
@@ -196,7 +195,8 @@ fn check_body(
     requires one { receiver ≤ 1 }
     requires room { place + 6 + length raw.code.items + 8 * length raw.table.items < 2 ^ 64 }
     ensures { IfOk result (λ x.
-        (x.0 ≡ first_from first (mark_of place CODE (fits_locals receiver raw.max_locals shape)
+        (x.0 ≡ first_from first (mark_of place CODE (arguments_fit_locals receiver raw.max_locals
+        shape)
         ∷ body_marks constants.now.pool.now.slots place (body_of raw)))
         × (x.1 ≡ kept_body constants.now.pool.now.slots (body_of raw))) }
 {
@@ -304,7 +304,8 @@ fn check_method_attributes(
         < 2 ^ 64 }
     ensures { IfOk result
         (λ x. (x.0 ≡ first_from first (along attribute_bytes (method_attribute_marks
-        constants.now.pool.now.slots (member_of method.now)) [] start (attributes_of attributes.now)))
+        constants.now.pool.now.slots (member_of method.now)) [] start
+        (attributes_of attributes.now)))
         × (x.1 ≡ kept_among constants.now.pool.now.slots (attributes_of attributes.now))) }
 {
     let mut found = first;

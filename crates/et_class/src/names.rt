@@ -4,7 +4,7 @@ ghost use Rattle.std.specs.Prelude.{◌≡◌, find, map, option_map, is_some};
 ghost use Rattle.std.specs.List.{list_any};
 ghost use Rattle.et_pool.specs.Looks.{utf8_at, class_name_at};
 ghost use Rattle.et_class.specs.Layout.{attribute_of};
-ghost use Rattle.et_class.specs.Names.{is_text, is_plain_class, is_nonempty, is_named};
+ghost use Rattle.et_class.specs.Names.{is_text, is_plain_class, is_nonempty, is_attribute_named};
 
 use crate::member::Attribute;
 use et_pool::Pool;
@@ -79,7 +79,7 @@ pub fn first_named<'a>(
     name: &[u8],
 ) -> Option<&'a Attribute>
     ensures { option_map (λ a. attribute_of a.now) result
-        ≡ find (is_named pool.now.slots name.now) (map attribute_of attributes.now) }
+        ≡ find (is_attribute_named pool.now.slots name.now) (map attribute_of attributes.now) }
 {
     'attributes: for a in attributes {
         if names_text(pool, a.name_index, name) {

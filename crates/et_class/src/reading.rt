@@ -2,7 +2,7 @@
 
 ghost use Rattle.std.specs.Prelude.{◌≡◌, ◌<◌, ◌^◌, None, IfOk};
 ghost use Rattle.et_class.specs.Layout.{attribute_of, attributes_of, member_of};
-ghost use Rattle.et_class.specs.Reading.{Gives, many_at, counted_at, attribute_at, member_at};
+ghost use Rattle.et_class.specs.Reading.{GivesOrBreaks, many_at, counted_at, attribute_at, member_read_at};
 
 use crate::fault::ClassFault;
 use crate::items::{short, u16_item, u32_item};
@@ -12,7 +12,7 @@ use std::alloc::Global;
 
 #[tactic(auto, unfolding(crate::specs::Reading::attribute_at))]
 fn read_attribute(alloc: Global, bytes: &[u8], at: usize) -> Result<(Attribute, usize), ClassFault>
-    ensures { Gives (λ x. (attribute_of x.0, x.1)) result (attribute_at bytes.now at) }
+    ensures { GivesOrBreaks (λ x. (attribute_of x.0, x.1)) result (attribute_at bytes.now at) }
 {
     let (name_index, at) = u16_item(bytes, at)?;
     let (size, at) = u32_item(bytes, at)?;
@@ -28,7 +28,7 @@ fn attributes_from(
     count: u16,
     start: usize,
 ) -> Result<(Vec<Attribute>, usize), ClassFault>
-    ensures { Gives (λ x. (attributes_of x.0.items, x.1)) result
+    ensures { GivesOrBreaks (λ x. (attributes_of x.0.items, x.1)) result
         (many_at (attribute_at bytes.now) count start) }
 {
     let mut attributes = Vec::new(alloc);
@@ -47,7 +47,7 @@ pub fn read_attributes(
     bytes: &[u8],
     at: usize,
 ) -> Result<(Vec<Attribute>, usize), ClassFault>
-    ensures items { Gives (λ x. (attributes_of x.0.items, x.1)) result
+    ensures items { GivesOrBreaks (λ x. (attributes_of x.0.items, x.1)) result
         (counted_at bytes.now (attribute_at bytes.now) at) }
     ensures room { IfOk result (λ x. x.1 < 2 ^ 64) }
 {
@@ -56,9 +56,9 @@ pub fn read_attributes(
 }
 
 /// The field or method at a place, without constant and code, and the place after it.
-#[tactic(auto, unfolding(crate::specs::Reading::member_at))]
+#[tactic(auto, unfolding(crate::specs::Reading::member_read_at))]
 pub fn read_member(alloc: Global, bytes: &[u8], at: usize) -> Result<(Member, usize), ClassFault>
-    ensures items { Gives (λ x. (member_of x.0, x.1)) result (member_at bytes.now at) }
+    ensures items { GivesOrBreaks (λ x. (member_of x.0, x.1)) result (member_read_at bytes.now at) }
     ensures rest { IfOk result (λ x. (x.0.constant ≡ 0) × (x.0.code ≡ None)) }
     ensures room { IfOk result (λ x. x.1 < 2 ^ 64) }
 {

@@ -3,7 +3,7 @@ use Rattle.std.proofs.Common.{◌≡◌, ℕ, ◌+◌, ◌<◌, ◌≤◌, Bool,
 use Rattle.std.specs.List.{flat_map}
 use Rattle.std.proofs.lemmas.List.{at_drop_more, at_drop_all}
 use Rattle.std.proofs.Math.Path.{fun_ext}
-use Rattle.et_base.specs.Marks.{Mark, Breaks, IsUpTo, IsFirst, MarksAre, marked, first_from}
+use Rattle.et_base.specs.Marks.{Mark, Breaks, IsUpTo, IsFirstBroken, MarksAre, marked, first_from, mark}
 use Rattle.et_base.proofs.Firsts.{found_is_first, first_from-append}
 use Rattle.et_code.specs.declared.instr.CodeFault.{CodeFault}
 use Rattle.et_code.specs.declared.instr.CodeFault.TheVariants as fault
@@ -12,7 +12,7 @@ use Rattle.et_code.specs.declared.body.TableRow.{TableRow}
 use Rattle.et_code.specs.Decoding.{instruction_at}
 use Rattle.et_code.specs.Bodies.{Body}
 use Rattle.et_code.specs.Starts.{starts, is_start}
-use Rattle.et_code.specs.Rules.{mark, decoded_marks, marks_at, row_holds, rows_marks, is_code_length, code_marks}
+use Rattle.et_code.specs.Rules.{decoded_marks, marks_at, row_holds, rows_marks, is_code_length, code_marks}
 use Rattle.et_code.specs.declared.body.TheConstants.{CODE}
 use Rattle.et_code.proofs.Starting.{rest, rest_all, rest_next, rest_last, rest_none}
 
@@ -103,7 +103,7 @@ up_to : (ms : List Mark) (holds : Bool) (p k : ℕ) → Behind ms → Breaks (ma
 up_to ms holds p k h (inl e) = inr (e.1, omega (arith, e.2))
 up_to ms holds p k h (inr b) = inl (Behind-breaks ms p k h b)
 
-pub bad_length : (b : Body) (tags : List ℕ) → is_code_length (length b.code) ≡ false → IsFirst (code_marks b tags) 0 CODE
+pub bad_length : (b : Body) (tags : List ℕ) → is_code_length (length b.code) ≡ false → IsFirstBroken (code_marks b tags) 0 CODE
 bad_length b tags e = record {
   broken = inl (e, refl, refl);
   first = λ p k x. up_to (flat_map (marks_at b tags (is_start b.code)) (starts b.code) ++ rows_marks (length b.code) tags (is_start b.code) (length b.code + 6) b.table) (is_code_length (length b.code)) p k (Behind-append (flat_map (marks_at b tags (is_start b.code)) (starts b.code)) (rows_marks (length b.code) tags (is_start b.code) (length b.code + 6) b.table) (Behind-instructions b tags (is_start b.code) (starts b.code)) (Behind-rows (length b.code) tags (is_start b.code) (length b.code + 6) b.table (omega arith))) x;

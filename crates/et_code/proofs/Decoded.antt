@@ -10,7 +10,8 @@ use Rattle.et_code.specs.declared.instr.Instr.{Instr}
 use Rattle.et_code.specs.declared.form.Form.{Form}
 use Rattle.et_code.specs.declared.form.Form.TheVariants as form
 use Rattle.et_code.specs.Forms.{form_of, wide_form_of}
-use Rattle.et_code.specs.Decoding.{◌>>=◌, read, instr, table_place, bits_at, word_at, rows_at, row_count, table_rows, table_at, lookup_at, wide_at, behind_wide, operands_at, instruction_at, Fits}
+use Rattle.et_code.specs.Decoding.{read, instr, table_place, bits_at, code_word_at, rows_at, row_count, table_instruction, table_at, lookup_at, wide_at, behind_wide, operands_at, instruction_at, Fits}
+use Rattle.et_base.specs.Steps.{◌>>=◌}
 
 -- an outcome whose instruction, where there is one, fits
 abbrev Good : List ℕ → ℕ → Result (Instr × ℕ) CodeFault → Type 0
@@ -90,17 +91,17 @@ behind pc = omega arith
 Good-table : (code : List ℕ) (pc opcode : ℕ) → form_of opcode ≡ form.Table → Good code pc (table_at code pc opcode)
 unfolding table_at
 Good-table code pc opcode e =
-    let low = word_at code (table_place pc + 4) in
-    let high = word_at code (table_place pc + 4 + 4) in
-    Good-read code pc w32 (table_place pc) (λ d. read w32 code d.1 >>= λ l. read w32 code l.1 >>= λ h. table_rows code pc opcode h.1 (cast_signed w32 l.0) (cast_signed w32 h.0))
-    (λ a. Good-read code pc w32 (table_place pc + 4) (λ l. read w32 code l.1 >>= λ h. table_rows code pc opcode h.1 (cast_signed w32 l.0) (cast_signed w32 h.0))
-    (λ b. Good-read code pc w32 (table_place pc + 4 + 4) (λ h. table_rows code pc opcode h.1 low (cast_signed w32 h.0))
+    let low = code_word_at code (table_place pc + 4) in
+    let high = code_word_at code (table_place pc + 4 + 4) in
+    Good-read code pc w32 (table_place pc) (λ d. read w32 code d.1 >>= λ l. read w32 code l.1 >>= λ h. table_instruction code pc opcode h.1 (cast_signed w32 l.0) (cast_signed w32 h.0))
+    (λ a. Good-read code pc w32 (table_place pc + 4) (λ l. read w32 code l.1 >>= λ h. table_instruction code pc opcode h.1 (cast_signed w32 l.0) (cast_signed w32 h.0))
+    (λ b. Good-read code pc w32 (table_place pc + 4 + 4) (λ h. table_instruction code pc opcode h.1 low (cast_signed w32 h.0))
     (λ c. Good-if code pc (int_lt high low) _ _ (λ t. tt) (λ t. Good-rows code pc opcode (table_place pc + 4 + 4 + 4) (row_count low high * 4) (λ le. record {
       advances = omega (arith, behind pc);
       within = le;
       table = λ o. record {
-        ordered = subst (λ p. int_lt (word_at code p) low ≡ false) (plus_eight (table_place pc)) t;
-        within = subst (λ p. table_place pc + 12 + row_count low (word_at code p) * 4 ≤ length code) (plus_eight (table_place pc)) (omega (arith, le));
+        ordered = subst (λ p. int_lt (code_word_at code p) low ≡ false) (plus_eight (table_place pc)) t;
+        within = subst (λ p. table_place pc + 12 + row_count low (code_word_at code p) * 4 ≤ length code) (plus_eight (table_place pc)) (omega (arith, le));
       };
       lookup = λ o. absurd (table_lookup (sym e ∙ (ap form_of o ∙ lookup_form)));
     })))))

@@ -2,7 +2,7 @@
 use Rattle.std.proofs.Common.{◌≡◌, ℕ, ◌+◌, Bool, true, false, not, ◌||◌, List, [], ◌∷◌, ◌++◌, length, All, None, Result, Ok, Err, refl, sym, ap, subst, ◌∙◌, rules, inl, inr}
 use Rattle.std.specs.List.{flat_map}
 use Rattle.std.proofs.lemmas.Bool.{cases_eq, ne_eqb}
-use Rattle.et_base.specs.Marks.{Mark, Breaks, MarksAre}
+use Rattle.et_base.specs.Marks.{Mark, Breaks, MarksAre, mark}
 use Rattle.et_code.specs.declared.instr.CodeFault.{CodeFault}
 use Rattle.et_code.specs.declared.instr.CodeFault.TheVariants as fault
 use Rattle.et_code.specs.declared.instr.Instr.{Instr}
@@ -10,8 +10,8 @@ use Rattle.et_code.specs.declared.body.TableRow.{TableRow}
 use Rattle.et_code.specs.Decoding.{instruction_at}
 use Rattle.et_code.specs.Bodies.{Body}
 use Rattle.et_code.specs.Starts.{starts, is_start}
-use Rattle.et_code.specs.Rules.{mark, decoded_marks, marks_at, row_holds, rows_marks, code_marks}
-use Rattle.et_code.specs.Kept.{HasInstruction, IsKept}
+use Rattle.et_code.specs.Rules.{decoded_marks, marks_at, row_holds, rows_marks, code_marks}
+use Rattle.et_code.specs.Kept.{HasInstruction, IsKeptCode}
 use Rattle.et_code.proofs.Starting.{has, starts_are_all}
 
 abbrev AllHold : List Mark → Type 0
@@ -70,7 +70,7 @@ unfolding rows_marks
 rows_hold size tags test place [] h = search rules
 rows_hold size tags test place (row ∷ rows) h = let here = h.0 in let more = rows_hold size tags test (place + 8) rows h.1 in search rules
 
-pub kept_code : (b : Body) (tags : List ℕ) → MarksAre (code_marks b tags) None → IsKept b tags
+pub kept_code : (b : Body) (tags : List ℕ) → MarksAre (code_marks b tags) None → IsKeptCode b tags
 kept_code b tags h =
     let all = all_hold (code_marks b tags) h in
     let instructions = flat_map (marks_at b tags (is_start b.code)) (starts b.code) in

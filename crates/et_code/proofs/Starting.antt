@@ -6,11 +6,11 @@ use Rattle.std.proofs.lemmas.Bool.{ltb-true, ltb-false, cases_lt, cases_eq, eq-e
 use Rattle.et_code.specs.declared.instr.CodeFault.{CodeFault}
 use Rattle.et_code.specs.declared.instr.Instr.{Instr}
 use Rattle.et_code.specs.Decoding.{instruction_at}
-use Rattle.et_code.specs.Starts.{IsStart, Begins, Follows, behind, starts_from, starts, is_start}
+use Rattle.et_code.specs.Starts.{IsStart, Begins, Follows, bytes_behind, starts_from, starts, is_start}
 use Rattle.et_code.specs.Rules.{flag}
 use Rattle.et_code.proofs.Decoded.{decoded_fits}
 
-behind_same : (code : List ℕ) (p q : ℕ → List ℕ) (pc : ℕ) (r : Result (Instr × ℕ) CodeFault) → instruction_at code pc ≡ r → ((next : ℕ) → pc < next → p next ≡ q next) → behind p r ≡ behind q r
+behind_same : (code : List ℕ) (p q : ℕ → List ℕ) (pc : ℕ) (r : Result (Instr × ℕ) CodeFault) → instruction_at code pc ≡ r → ((next : ℕ) → pc < next → p next ≡ q next) → bytes_behind p r ≡ bytes_behind q r
 behind_same code p q pc (Ok x) e h = h x.1 (decoded_fits code pc x.0 x.1 e).advances
 behind_same code p q pc (Err f) e h = refl
 
@@ -32,7 +32,7 @@ unfolding starts_from
 past code zero pc le = refl
 past code (suc f) pc le = false_cond _ _ _ (le_false pc (length code) le)
 
-here : (code : List ℕ) (f pc : ℕ) → pc < length code → starts_from code (suc f) pc ≡ pc ∷ behind (starts_from code f) (instruction_at code pc)
+here : (code : List ℕ) (f pc : ℕ) → pc < length code → starts_from code (suc f) pc ≡ pc ∷ bytes_behind (starts_from code f) (instruction_at code pc)
 unfolding starts_from
 here code f pc lt = true_cond _ _ _ (lt_true pc (length code) lt)
 
@@ -56,17 +56,17 @@ rest_all code = enough code (length code - 0) (length code) 0 (omega arith) (ome
 pub rest_none : (code : List ℕ) (pc : ℕ) → length code ≤ pc → rest code pc ≡ []
 rest_none code pc le = past code (length code - pc) pc le
 
-rest_more : (code : List ℕ) (pc : ℕ) → pc < length code → rest code pc ≡ pc ∷ behind (rest code) (instruction_at code pc)
+rest_more : (code : List ℕ) (pc : ℕ) → pc < length code → rest code pc ≡ pc ∷ bytes_behind (rest code) (instruction_at code pc)
 rest_more code pc lt =
     let k : length code - pc ≡ suc (length code - (pc + 1)) = omega arith in
     let a : starts_from code (length code - pc) pc ≡ starts_from code (suc (length code - (pc + 1))) pc = ap (λ n. starts_from code n pc) k in
     a ∙ (here code (length code - (pc + 1)) pc lt ∙ ap (λ xs. pc ∷ xs) (behind_same code (starts_from code (length code - (pc + 1))) (rest code) pc (instruction_at code pc) refl (λ next after. enough code (length code - (pc + 1)) (length code - next) next (omega arith) (omega arith))))
 
 pub rest_next : (code : List ℕ) (pc : ℕ) (i : Instr) (next : ℕ) → pc < length code → instruction_at code pc ≡ Ok (i, next) → rest code pc ≡ pc ∷ rest code next
-rest_next code pc i next lt e = rest_more code pc lt ∙ ap (λ r. pc ∷ behind (rest code) r) e
+rest_next code pc i next lt e = rest_more code pc lt ∙ ap (λ r. pc ∷ bytes_behind (rest code) r) e
 
 pub rest_last : (code : List ℕ) (pc : ℕ) (f : CodeFault) → pc < length code → instruction_at code pc ≡ Err f → rest code pc ≡ pc ∷ []
-rest_last code pc f lt e = rest_more code pc lt ∙ ap (λ r. pc ∷ behind (rest code) r) e
+rest_last code pc f lt e = rest_more code pc lt ∙ ap (λ r. pc ∷ bytes_behind (rest code) r) e
 
 -- FLAGS OF THE STARTS
 
@@ -122,7 +122,7 @@ flags_end code flags pc le all place = sym (or_false (flag flags place)) ∙ (ap
 abbrev Members : List ℕ → (ℕ → Bool) → Type 0
 Members code p = (place : ℕ) → p place ≡ true → IsStart code place
 
-behind_members : (code : List ℕ) (f pc : ℕ) (r : Result (Instr × ℕ) CodeFault) → IsStart code pc → instruction_at code pc ≡ r → ((next : ℕ) → (next < length code → IsStart code next) → Members code (has (starts_from code f next))) → Members code (has (behind (starts_from code f) r))
+behind_members : (code : List ℕ) (f pc : ℕ) (r : Result (Instr × ℕ) CodeFault) → IsStart code pc → instruction_at code pc ≡ r → ((next : ℕ) → (next < length code → IsStart code next) → Members code (has (starts_from code f next))) → Members code (has (bytes_behind (starts_from code f) r))
 behind_members code f pc (Ok x) s e h place t = h x.1 (λ lt. Follows pc x.0 x.1 s e lt) place t
 behind_members code f pc (Err g) s e h place t = cc
 
@@ -138,7 +138,7 @@ unfolding starts_from
 members code zero pc s place e = cc
 members code (suc f) pc s place e =
     elim (cases_lt pc (length code)) [
-      | inl lt ↦ one_or code pc place (has (behind (starts_from code f) (instruction_at code pc)) place) (s lt) (λ t. behind_members code f pc (instruction_at code pc) (s lt) refl (λ next s' p t'. members code f next s' p t') place t) (ap (λ xs. has xs place) (sym (here code f pc lt)) ∙ e)
+      | inl lt ↦ one_or code pc place (has (bytes_behind (starts_from code f) (instruction_at code pc)) place) (s lt) (λ t. behind_members code f pc (instruction_at code pc) (s lt) refl (λ next s' p t'. members code f next s' p t') place t) (ap (λ xs. has xs place) (sym (here code f pc lt)) ∙ e)
       | inr le ↦ let none : has (starts_from code (suc f) pc) place ≡ false = ap (λ xs. has xs place) (past code (suc f) pc le) in cc
     ]
 
@@ -154,7 +154,7 @@ in_code code _ (Begins some) = some
 in_code code _ (Follows pc i next s e lt) = lt
 
 own : (code : List ℕ) (pc : ℕ) → pc < length code → has (rest code pc) pc ≡ true
-own code pc lt = ap (λ xs. has xs pc) (rest_more code pc lt) ∙ ap (λ b. b || has (behind (rest code) (instruction_at code pc)) pc) (eq-eqb pc pc refl)
+own code pc lt = ap (λ xs. has xs pc) (rest_more code pc lt) ∙ ap (λ b. b || has (bytes_behind (rest code) (instruction_at code pc)) pc) (eq-eqb pc pc refl)
 
 pub starts_are_all : (code : List ℕ) (pc : ℕ) → IsTrue (is_start code pc) ↔ IsStart code pc
 starts_are_all code pc = (λ t. members code (length code) 0 (λ some. Begins some) pc (search (rules, t)), λ s. search (rules, inward code pc s pc (own code pc (in_code code pc s))))

@@ -4,8 +4,8 @@ use Rattle.std.specs.Prelude.{ℤ}
 use Rattle.std.specs.Option.{option_map_or}
 use Rattle.std.proofs.lemmas.Bool.{eq-eqb, ne_eqb}
 use Rattle.et_code.specs.declared.instr.Instr.{Instr}
-use Rattle.et_code.specs.Decoding.{bits_at, word_at, Fits}
-use Rattle.et_code.specs.Switches.{IsSwitch, rows_from, pairs_from}
+use Rattle.et_code.specs.Decoding.{bits_at, code_word_at, Fits}
+use Rattle.et_code.specs.Switches.{IsSwitch, rows_from, switch_pairs_from}
 use Rattle.et_code.proofs.Decoded.{decoded_fits}
 
 pub switch_fits : (code : List ℕ) (i : Instr) → (s : IsSwitch code i) → Fits code s.pc i s.next
@@ -19,20 +19,20 @@ pub is_lookup : (code : List ℕ) (i : Instr) → IsSwitch code i → (i.opcode 
 is_lookup code i s h = by_kind i.opcode h s.kind
 
 -- one pair more, and none
-pub pairs_more : (code : List ℕ) (count i at : ℕ) → i < count → pairs_from code (count - i) at ≡ (bits_at code at, word_at code (at + 4)) ∷ pairs_from code (count - (i + 1)) (at + 8)
-unfolding pairs_from
+pub pairs_more : (code : List ℕ) (count i at : ℕ) → i < count → switch_pairs_from code (count - i) at ≡ (bits_at code at, code_word_at code (at + 4)) ∷ switch_pairs_from code (count - (i + 1)) (at + 8)
+unfolding switch_pairs_from
 pairs_more code count i at lt =
     let k : count - i ≡ suc (count - (i + 1)) = omega arith in
     rw k refl
 
-pub pairs_none : (code : List ℕ) (count i at : ℕ) → count ≤ i → pairs_from code (count - i) at ≡ []
-unfolding pairs_from
+pub pairs_none : (code : List ℕ) (count i at : ℕ) → count ≤ i → switch_pairs_from code (count - i) at ≡ []
+unfolding switch_pairs_from
 pairs_none code count i at le =
     let k : count - i ≡ 0 = omega arith in
     rw k refl
 
 -- one row more, and none
-pub rows_more : (code : List ℕ) (count i at : ℕ) → i < count → rows_from code (count - i) at ≡ word_at code at ∷ rows_from code (count - (i + 1)) (at + 4)
+pub rows_more : (code : List ℕ) (count i at : ℕ) → i < count → rows_from code (count - i) at ≡ code_word_at code at ∷ rows_from code (count - (i + 1)) (at + 4)
 unfolding rows_from
 rows_more code count i at lt =
     let k : count - i ≡ suc (count - (i + 1)) = omega arith in
@@ -46,23 +46,23 @@ rows_none code count i at le =
 
 -- the offset beside the first key that is this one, among the pairs behind the first i
 abbrev beside : List ℕ → ℕ → ℕ → ℕ → Option (ℕ × ℤ)
-beside code key n at = find (λ p. eqb p.0 key) (pairs_from code n at)
+beside code key n at = find (λ p. eqb p.0 key) (switch_pairs_from code n at)
 
-beside_more : (code : List ℕ) (key count i at : ℕ) → i < count → beside code key (count - i) at ≡ cond (eqb (bits_at code at) key) (Some (bits_at code at, word_at code (at + 4))) (beside code key (count - (i + 1)) (at + 8))
+beside_more : (code : List ℕ) (key count i at : ℕ) → i < count → beside code key (count - i) at ≡ cond (eqb (bits_at code at) key) (Some (bits_at code at, code_word_at code (at + 4))) (beside code key (count - (i + 1)) (at + 8))
 beside_more code key count i at lt = ap (find (λ p. eqb p.0 key)) (pairs_more code count i at lt)
 
-pub beside_this : (code : List ℕ) (key count i at start : ℕ) → i < count → beside code key (count - i) at ≡ beside code key count start → bits_at code at ≡ key → (d : ℤ) → word_at code (at + 4) ≡ option_map_or (λ p. p.1) (beside code key count start) d
+pub beside_this : (code : List ℕ) (key count i at start : ℕ) → i < count → beside code key (count - i) at ≡ beside code key count start → bits_at code at ≡ key → (d : ℤ) → code_word_at code (at + 4) ≡ option_map_or (λ p. p.1) (beside code key count start) d
 beside_this code key count i at start lt same is_key d =
     let here = beside_more code key count i at lt in
     let yes : eqb (bits_at code at) key ≡ true = eq-eqb _ _ is_key in
-    let found : beside code key count start ≡ Some (bits_at code at, word_at code (at + 4)) = sym same ∙ (here ∙ ap (λ b. cond b (Some (bits_at code at, word_at code (at + 4))) (beside code key (count - (i + 1)) (at + 8))) yes) in
+    let found : beside code key count start ≡ Some (bits_at code at, code_word_at code (at + 4)) = sym same ∙ (here ∙ ap (λ b. cond b (Some (bits_at code at, code_word_at code (at + 4))) (beside code key (count - (i + 1)) (at + 8))) yes) in
     rw found refl
 
 pub beside_next : (code : List ℕ) (key count i at start next : ℕ) → i < count → beside code key (count - i) at ≡ beside code key count start → (bits_at code at ≡ key → ⊥) → next ≡ at + 8 → beside code key (count - (i + 1)) next ≡ beside code key count start
 beside_next code key count i at start next lt same other e =
     let here = beside_more code key count i at lt in
     let no : eqb (bits_at code at) key ≡ false = ne_eqb _ _ other in
-    rw e (sym (sym same ∙ (here ∙ ap (λ b. cond b (Some (bits_at code at, word_at code (at + 4))) (beside code key (count - (i + 1)) (at + 8))) no)))
+    rw e (sym (sym same ∙ (here ∙ ap (λ b. cond b (Some (bits_at code at, code_word_at code (at + 4))) (beside code key (count - (i + 1)) (at + 8))) no)))
 
 pub beside_none : (code : List ℕ) (key count i at start : ℕ) → count ≤ i → beside code key (count - i) at ≡ beside code key count start → (d : ℤ) → d ≡ option_map_or (λ p. p.1) (beside code key count start) d
 beside_none code key count i at start le same d =

@@ -4,7 +4,7 @@ use Rattle.std.proofs.lemmas.Bool.{eqb-true}
 use Rattle.et_code.specs.declared.form.Form.{Form}
 use Rattle.et_code.specs.declared.form.Form.TheVariants.{Plain, U1, S1, U2, S2, S4, Increment, LongIncrement, Interface, Dimensions, Wide, Table, Lookup, Refused, Unknown}
 use Rattle.et_code.specs.declared.form.TheConstants.{FORMS}
-use Rattle.et_code.specs.Forms.{run_of, runs, form_of}
+use Rattle.et_code.specs.Forms.{run_of, form_runs, form_of}
 
 -- a number for each form, and the form of a number
 abbrev number : Form → ℕ
@@ -54,17 +54,17 @@ same_form f g e = sym (nth-number f) ∙ (ap (nth all_forms) (eqb-true (number f
 -- these are the forms of the opcodes from k on
 agrees : List Form → ℕ → Bool
 agrees [] k = true
-agrees (f ∷ fs) k = eqb (number f) (number (run_of runs k)) && agrees fs (suc k)
+agrees (f ∷ fs) k = eqb (number f) (number (run_of form_runs k)) && agrees fs (suc k)
 
 both : (x y : Bool) → (x && y) ≡ true → (x ≡ true) × (y ≡ true)
 both true true e = (refl, refl)
 both true false e = cc
 both false y e = cc
 
-agrees_at : (fs : List Form) (k n m : ℕ) → agrees fs k ≡ true → n < length fs → m ≡ n + k → get_or fs n Unknown ≡ run_of runs m
+agrees_at : (fs : List Form) (k n m : ℕ) → agrees fs k ≡ true → n < length fs → m ≡ n + k → get_or fs n Unknown ≡ run_of form_runs m
 unfolding agrees
 agrees_at [] k n m e lt s = absurd (omega arith)
-agrees_at (f ∷ fs) k zero m e lt s = let s' : m ≡ k = omega arith in rw s' (same_form f (run_of runs k) (both _ _ e).0)
+agrees_at (f ∷ fs) k zero m e lt s = let s' : m ≡ k = omega arith in rw s' (same_form f (run_of form_runs k) (both _ _ e).0)
 agrees_at (f ∷ fs) k (suc n) m e lt s = agrees_at fs (suc k) n m (both _ _ e).1 (omega arith) (omega arith)
 
 table_agrees : agrees FORMS 0 ≡ true

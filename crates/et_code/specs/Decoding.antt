@@ -2,6 +2,7 @@
 use Rattle.std.specs.Prelude.{◌≡◌, ℕ, ◌+◌, ◌-◌, ◌*◌, ◌%◌, ◌^◌, ◌<◌, ◌≤◌, ℤ, pos, List, length, drop, Bool, true, false, Result, Ok, Err, nat_lt, nat_le, int_lt, if◌then◌else◌}
 use Rattle.std.specs.Option.{ok_or}
 use Rattle.std.specs.Int.{Width, w8, w16, w32, from_be_bytes, cast_signed, int_gap}
+use Rattle.et_base.specs.Steps.{◌>>=◌}
 use Rattle.et_base.specs.Numbers.{number_at}
 use Rattle.et_code.specs.declared.instr.CodeFault.{CodeFault}
 use Rattle.et_code.specs.declared.instr.CodeFault.TheVariants as fault
@@ -9,11 +10,6 @@ use Rattle.et_code.specs.declared.instr.Instr.{Instr}
 use Rattle.et_code.specs.declared.form.Form.{Form}
 use Rattle.et_code.specs.declared.form.Form.TheVariants as form
 use Rattle.et_code.specs.Forms.{form_of, wide_form_of}
-
-infixl 10 ◌>>=◌
-abbrev pub ◌>>=◌ : {A B : Type 0} → Result A CodeFault → (A → Result B CodeFault) → Result B CodeFault
-(Ok x) >>= f = f x
-(Err e) >>= f = Err e
 
 -- the number at a place and the place behind it; the instruction is Short where the code ends before that
 abbrev pub read : Width → List ℕ → ℕ → Result (ℕ × ℕ) CodeFault
@@ -30,8 +26,8 @@ table_place pc = pc + 4 - pc % 4
 abbrev pub bits_at : List ℕ → ℕ → ℕ
 bits_at code at = from_be_bytes w32 (drop at code)
 
-abbrev pub word_at : List ℕ → ℕ → ℤ
-word_at code at = cast_signed w32 (bits_at code at)
+abbrev pub code_word_at : List ℕ → ℕ → ℤ
+code_word_at code at = cast_signed w32 (bits_at code at)
 
 -- a switch whose rows or pairs take that many bytes from a place on
 abbrev pub rows_at : List ℕ → ℕ → ℕ → ℕ → ℕ → Result (Instr × ℕ) CodeFault
@@ -41,8 +37,8 @@ rows_at code pc opcode at size = if nat_lt (length code) (at + size) then Err fa
 abbrev pub row_count : ℤ → ℤ → ℕ
 row_count low high = int_gap low high + 1
 
-abbrev pub table_rows : List ℕ → ℕ → ℕ → ℕ → ℤ → ℤ → Result (Instr × ℕ) CodeFault
-table_rows code pc opcode at low high = if int_lt high low then Err fault.Short else rows_at code pc opcode at (row_count low high * 4)
+abbrev pub table_instruction : List ℕ → ℕ → ℕ → ℕ → ℤ → ℤ → Result (Instr × ℕ) CodeFault
+table_instruction code pc opcode at low high = if int_lt high low then Err fault.Short else rows_at code pc opcode at (row_count low high * 4)
 
 -- tableswitch: the default offset, low, high, and an offset for each number from low to high
 unfoldable pub table_at : List ℕ → ℕ → ℕ → Result (Instr × ℕ) CodeFault
@@ -50,7 +46,7 @@ table_at code pc opcode = do
   default ← read w32 code (table_place pc)
   low ← read w32 code default.1
   high ← read w32 code low.1
-  table_rows code pc opcode high.1 (cast_signed w32 low.0) (cast_signed w32 high.0)
+  table_instruction code pc opcode high.1 (cast_signed w32 low.0) (cast_signed w32 high.0)
 
 -- lookupswitch: the default offset, a count that isn't negative, and so many pairs of a key and an offset
 unfoldable pub lookup_at : List ℕ → ℕ → ℕ → Result (Instr × ℕ) CodeFault
@@ -122,8 +118,8 @@ instruction_at code pc = do
 
 -- the rows of a table, and the pairs of a lookup, whose default offset stands at a place are in the code
 pub record TableFits (code : List ℕ) (table : ℕ) : Type 0 where
-  pub ordered : int_lt (word_at code (table + 8)) (word_at code (table + 4)) ≡ false
-  pub within : table + 12 + row_count (word_at code (table + 4)) (word_at code (table + 8)) * 4 ≤ length code
+  pub ordered : int_lt (code_word_at code (table + 8)) (code_word_at code (table + 4)) ≡ false
+  pub within : table + 12 + row_count (code_word_at code (table + 4)) (code_word_at code (table + 8)) * 4 ≤ length code
 
 abbrev pub LookupFits : List ℕ → ℕ → Type 0
 LookupFits code table = table + 8 + bits_at code (table + 4) * 8 ≤ length code

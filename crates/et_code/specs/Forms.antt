@@ -5,8 +5,8 @@ use Rattle.et_code.specs.declared.form.Form.{Form}
 use Rattle.et_code.specs.declared.form.Form.TheVariants.{Plain, U1, S1, U2, S2, S4, Increment, LongIncrement, Interface, Dimensions, Wide, Table, Lookup, Refused, Unknown}
 
 -- each run of opcodes of one form, by its last opcode
-abbrev pub runs : List (ℕ × Form)
-runs =
+abbrev pub form_runs : List (ℕ × Form)
+form_runs =
     -- nop, aconst_null, iconst_m1 to iconst_5, lconst_0, lconst_1; fconst_0 to dconst_1
     (0x0a, Plain) ∷ (0x0f, Refused) ∷
     -- bipush; sipush; ldc; ldc_w, ldc2_w
@@ -40,7 +40,7 @@ run_of [] opcode = Unknown
 run_of (run ∷ rest) opcode = if nat_le opcode run.0 then run.1 else run_of rest opcode
 
 unfoldable pub form_of : ℕ → Form
-form_of opcode = run_of runs opcode
+form_of opcode = run_of form_runs opcode
 
 -- the form of an opcode that stands behind a `wide` (JVMS 6.5, wide): iload, lload, aload, istore, lstore and astore;
 -- iinc; fload, dload, fstore, dstore and ret

@@ -3,7 +3,7 @@
 use Rattle.std.specs.Prelude.{◌≡◌, ℕ, ◌+◌, ◌-◌, ◌^◌, ℤ, pos, negsuc, ◌+ℤ◌, List, [], ◌∷◌, ◌++◌, length, map, slice_index, slice_index_or, Bool, true, false, not, None, Result, Ok, Err, nat_lt, nat_le, int_lt, int_le, ◌==◌, ◌&&◌, ◌||◌, if◌then◌else◌}
 use Rattle.std.specs.List.{list_all, flat_map}
 use Rattle.std.specs.Int.{w32, cast_signed}
-use Rattle.et_base.specs.Marks.{Mark, MarksAre, IsFirst}
+use Rattle.et_base.specs.Marks.{Mark, MarksAre, IsFirstBroken, mark}
 use Rattle.et_code.specs.declared.instr.Instr.{Instr}
 use Rattle.et_code.specs.declared.instr.CodeFault.{CodeFault}
 use Rattle.et_code.specs.declared.instr.CodeFault.TheVariants as fault
@@ -13,7 +13,7 @@ use Rattle.et_code.specs.declared.body.CheckFault.{CheckFault}
 use Rattle.et_code.specs.declared.body.CheckFault.TheVariants as check
 use Rattle.et_code.specs.declared.body.TheConstants.{CODE, UNSUPPORTED}
 use Rattle.et_code.specs.declared.opcode.TheConstants.{LDC, LDC_W, LDC2_W, ILOAD, LLOAD, ALOAD, ILOAD_0, LLOAD_0, ALOAD_0, ISTORE, LSTORE, ASTORE, ISTORE_0, LSTORE_0, ASTORE_0, IINC, IFEQ, GOTO, TABLESWITCH, LOOKUPSWITCH, GETSTATIC, PUTFIELD, INVOKEVIRTUAL, INVOKESPECIAL, INVOKESTATIC, INVOKEINTERFACE, NEW, NEWARRAY, ANEWARRAY, CHECKCAST, INSTANCEOF, MULTIANEWARRAY, IFNULL, GOTO_W}
-use Rattle.et_code.specs.Decoding.{instruction_at, word_at}
+use Rattle.et_code.specs.Decoding.{instruction_at, code_word_at}
 use Rattle.et_code.specs.Switches.{table_rows, lookup_pairs}
 use Rattle.et_code.specs.Bodies.{Body, body_of}
 use Rattle.et_code.specs.Starts.{starts, is_start}
@@ -46,9 +46,9 @@ fits_locals max_locals i = int_le (locals_needed i) (pos max_locals)
 -- THE CONSTANT POOL: an index names an entry of a tag that the instruction may name
 
 -- the tag of an entry, by its index; 0 where there is none
-abbrev pub tag_at : List ℕ → ℤ → ℕ
-tag_at tags (pos i) = slice_index tags i
-tag_at tags (negsuc i) = 0
+abbrev pub tag_in : List ℕ → ℤ → ℕ
+tag_in tags (pos i) = slice_index tags i
+tag_in tags (negsuc i) = 0
 
 -- Integer, Float, Class, String, MethodHandle or MethodType
 abbrev pub is_loadable : ℕ → Bool
@@ -95,9 +95,9 @@ makes_float_array i = (i.opcode == NEWARRAY) && (int_le (pos 6) i.first && int_l
 -- TARGETS: a branch, a switch and a handler lead to instruction starts
 
 -- whether a place passes a test; one in front of the code doesn't
-abbrev pub passes : (ℕ → Bool) → ℤ → Bool
-passes test (pos place) = test place
-passes test (negsuc n) = false
+abbrev pub passes_test : (ℕ → Bool) → ℤ → Bool
+passes_test test (pos place) = test place
+passes_test test (negsuc n) = false
 
 -- ifeq to goto, ifnull, ifnonnull and goto_w
 abbrev pub is_branch : ℕ → Bool
@@ -107,11 +107,11 @@ is_branch opcode = (nat_le IFEQ opcode && nat_le opcode GOTO) || (nat_le IFNULL 
 abbrev pub offsets : List ℕ → Instr → List ℤ
 offsets code i =
     if is_branch i.opcode then i.first ∷ []
-    else (if i.opcode == TABLESWITCH then word_at code i.table ∷ table_rows code i.table
-    else (if i.opcode == LOOKUPSWITCH then word_at code i.table ∷ map (λ p. p.1) (lookup_pairs code i.table) else []))
+    else (if i.opcode == TABLESWITCH then code_word_at code i.table ∷ table_rows code i.table
+    else (if i.opcode == LOOKUPSWITCH then code_word_at code i.table ∷ map (λ p. p.1) (lookup_pairs code i.table) else []))
 
 abbrev pub has_targets : List ℕ → (ℕ → Bool) → ℕ → Instr → Bool
-has_targets code test pc i = list_all (λ offset. passes test (pos pc +ℤ offset)) (offsets code i)
+has_targets code test pc i = list_all (λ offset. passes_test test (pos pc +ℤ offset)) (offsets code i)
 
 -- KEYS: those of a lookupswitch rise
 
@@ -123,16 +123,13 @@ rises (x ∷ y ∷ more) = int_lt x y && rises (y ∷ more)
 abbrev pub has_rising_keys : List ℕ → Instr → Bool
 has_rising_keys code i = not (i.opcode == LOOKUPSWITCH) || rises (map (λ p. cast_signed w32 p.0) (lookup_pairs code i.table))
 
-abbrev pub mark : ℕ → ℕ → Bool → Mark
-mark place kind holds = record { place = place; kind = kind; holds = holds }
-
 -- AN INSTRUCTION, or why there is none. The test tells instruction starts from other places.
 
 abbrev pub operand_marks : Body → List ℕ → ℕ → Instr → List Mark
 operand_marks b tags place i =
     mark place CODE (fits_locals b.max_locals i) ∷
-    mark place CODE (may_name i.opcode (tag_at tags i.first)) ∷
-    mark place UNSUPPORTED (not (is_left_out i.opcode (tag_at tags i.first))) ∷ []
+    mark place CODE (may_name i.opcode (tag_in tags i.first)) ∷
+    mark place UNSUPPORTED (not (is_left_out i.opcode (tag_in tags i.first))) ∷ []
 
 abbrev pub array_marks : ℕ → Instr → List Mark
 array_marks place i = mark place CODE (is_array_kind i) ∷ mark place UNSUPPORTED (not (makes_float_array i)) ∷ []
@@ -156,7 +153,7 @@ marks_at b tags test pc = decoded_marks b tags test pc (instruction_at b.code pc
 
 abbrev pub row_holds : ℕ → List ℕ → (ℕ → Bool) → TableRow → Bool
 row_holds code_length tags test row =
-    test row.start && nat_lt row.start row.end && (test row.end || (row.end == code_length)) && test row.handler && ((row.catch == 0) || (tag_at tags (pos row.catch) == 7))
+    test row.start && nat_lt row.start row.end && (test row.end || (row.end == code_length)) && test row.handler && ((row.catch == 0) || (tag_in tags (pos row.catch) == 7))
 
 -- rows of eight bytes each, the first of which stands at a place
 unfoldable pub rows_marks : ℕ → List ℕ → (ℕ → Bool) → ℕ → List TableRow → List Mark
@@ -179,10 +176,10 @@ pub record KeepsRules (b : Body) : Type 0 where
   pub kept : MarksAre (code_marks b tags) None
 
 -- the code keeps all rules, or this is the first item that breaks one, and the kind of that rule
-abbrev pub Checks : RawCode → List ℕ → Result Body CheckFault → Type 0
-Checks raw tags (Ok b) = (b ≡ body_of raw) × MarksAre (code_marks (body_of raw) tags) None
-Checks raw tags (Err (check.At kind place)) = IsFirst (code_marks (body_of raw) tags) place kind
-Checks raw tags (Err check.NoMemory) = Unit {0}
+abbrev pub ChecksCode : RawCode → List ℕ → Result Body CheckFault → Type 0
+ChecksCode raw tags (Ok b) = (b ≡ body_of raw) × MarksAre (code_marks (body_of raw) tags) None
+ChecksCode raw tags (Err (check.At kind place)) = IsFirstBroken (code_marks (body_of raw) tags) place kind
+ChecksCode raw tags (Err check.NoMemory) = Unit {0}
 
 -- HOW PLACES ARE TESTED: by a flag for each place
 

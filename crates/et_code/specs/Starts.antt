@@ -13,14 +13,14 @@ pub data IsStart (code : List ℕ) : ℕ → Type 0 where
   Follows : (pc : ℕ) (i : Instr) (next : ℕ) → IsStart code pc → instruction_at code pc ≡ Ok (i, next) → next < length code → IsStart code next
 
 -- the rest behind an instruction, and nothing where none was decoded
-abbrev pub behind : (ℕ → List ℕ) → Result (Instr × ℕ) CodeFault → List ℕ
-behind rest (Ok x) = rest x.1
-behind rest (Err f) = []
+abbrev pub bytes_behind : (ℕ → List ℕ) → Result (Instr × ℕ) CodeFault → List ℕ
+bytes_behind rest (Ok x) = rest x.1
+bytes_behind rest (Err f) = []
 
 -- the starts from one on, in their order; there are at most `most`
 unfoldable pub starts_from : List ℕ → ℕ → ℕ → List ℕ
 starts_from code zero pc = []
-starts_from code (suc most) pc = if nat_lt pc (length code) then pc ∷ behind (starts_from code most) (instruction_at code pc) else []
+starts_from code (suc most) pc = if nat_lt pc (length code) then pc ∷ bytes_behind (starts_from code most) (instruction_at code pc) else []
 
 -- all the places at which an instruction begins: those of `IsStart`, by the law `starts_are_all`
 abbrev pub starts : List ℕ → List ℕ

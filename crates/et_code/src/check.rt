@@ -6,7 +6,7 @@ ghost use Rattle.et_base.specs.Marks.{MarksAre, first_from};
 ghost use Rattle.et_code.specs.Decoding.{TableFits, LookupFits};
 ghost use Rattle.et_code.specs.Bodies.{body_of};
 ghost use Rattle.et_code.specs.Starts.{starts, is_start};
-ghost use Rattle.et_code.specs.Rules.{flag, operand_marks, array_marks, target_marks, decoded_marks, marks_at, row_holds, rows_marks, is_code_length, code_marks, tag_at, Checks};
+ghost use Rattle.et_code.specs.Rules.{flag, operand_marks, array_marks, target_marks, decoded_marks, marks_at, row_holds, rows_marks, is_code_length, code_marks, tag_in, ChecksCode};
 
 use crate::body::{CODE, CheckFault, Code, RawCode, TableRow, UNSUPPORTED};
 use crate::decoding::decode;
@@ -190,7 +190,7 @@ fn first_broken(body: &RawCode, tags: &[u8], flags: &[bool]) -> First
 /// bytes of a class file; code of a length that isn't allowed breaks the first one. The time is
 /// linear in the code and the exception table.
 pub fn check_code(alloc: Global, body: RawCode, tags: &[u8]) -> Result<Code, CheckFault>
-    ensures { Checks body tags.now result }
+    ensures { ChecksCode body tags.now result }
 {
     if !is_code_length(body.code.len()) {
         let (kind, place) = (CODE, 0);

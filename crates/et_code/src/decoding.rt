@@ -4,7 +4,7 @@
 
 ghost use Rattle.std.specs.Prelude.{◌≡◌, ◌<◌, ◌≤◌, pos, length, int_lt, false, true, IfOk};
 ghost use Rattle.std.specs.Int.{cast_signed, w8, w16, w32};
-ghost use Rattle.et_code.specs.Decoding.{Fits, read, instr, rows_at, row_count, table_rows, table_place, table_at, lookup_at, wide_at, behind_wide, operands_at, instruction_at};
+ghost use Rattle.et_code.specs.Decoding.{Fits, read, instr, rows_at, row_count, table_instruction, table_place, table_at, lookup_at, wide_at, behind_wide, operands_at, instruction_at};
 
 use crate::form::{Form, form_behind, form_behind_wide};
 use crate::instr::{CodeFault, Instr};
@@ -181,7 +181,7 @@ fn table_of(
     requires pc { pc < length code.now }
     requires at { at ≤ length code.now }
     ensures { result
-        ≡ table_rows code.now pc opcode at (cast_signed w32 low) (cast_signed w32 high) }
+        ≡ table_instruction code.now pc opcode at (cast_signed w32 low) (cast_signed w32 high) }
 {
     let low = low.cast_signed();
     let high = high.cast_signed();

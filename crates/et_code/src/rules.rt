@@ -3,9 +3,9 @@
 ghost use Rattle.std.specs.Prelude.{◌≡◌, ℕ, ℤ, pos, ◌+ℤ◌, ◌+◌, ◌*◌, ◌-◌, ◌<◌, ◌≤◌, ◌^◌, length, map, int_lt, int_le, false};
 ghost use Rattle.std.specs.List.{list_all};
 ghost use Rattle.std.specs.Int.{cast_signed, w32};
-ghost use Rattle.et_code.specs.Decoding.{word_at, TableFits, LookupFits, Fits};
+ghost use Rattle.et_code.specs.Decoding.{code_word_at, TableFits, LookupFits, Fits};
 ghost use Rattle.et_code.specs.Switches.{table_rows, lookup_pairs};
-ghost use Rattle.et_code.specs.Rules.{locals_needed, implicit_locals, is_one_of_four, fits_locals, tag_at, is_loadable, is_field_instruction, is_class_instruction, may_name, is_left_out, is_array_kind, makes_float_array, passes, flag, is_branch, offsets, has_targets, rises, has_rising_keys};
+ghost use Rattle.et_code.specs.Rules.{locals_needed, implicit_locals, is_one_of_four, fits_locals, tag_in, is_loadable, is_field_instruction, is_class_instruction, may_name, is_left_out, is_array_kind, makes_float_array, passes_test, flag, is_branch, offsets, has_targets, rises, has_rising_keys};
 
 use crate::instr::Instr;
 use crate::opcode::{
@@ -66,7 +66,7 @@ pub(crate) fn fits_locals(max_locals: u16, instr: &Instr) -> bool
 
 /// The tag of an entry of the constant pool, or 0 where there is none.
 pub(crate) fn tag_at(tags: &[u8], index: i32) -> u8
-    ensures { result ≡ tag_at tags.now index }
+    ensures { result ≡ tag_in tags.now index }
 {
     match usize::try_from(index) {
         Ok(index) if index < tags.len() => tags[index],
@@ -133,7 +133,7 @@ fn rows_have_targets(flags: &[bool], code: &[u8], pc: usize, table: usize) -> bo
     requires pc { pc < 2 ^ 62 }
     requires fits { TableFits code.now table }
     ensures { result ≡ list_all
-        (λ offset. passes (flag flags.now) (pos pc +ℤ offset)) (table_rows code.now table) }
+        (λ offset. passes_test (flag flags.now) (pos pc +ℤ offset)) (table_rows code.now table) }
 {
     for row in 0..row_count(code, table) {
         let offset = bits(code, table + 12 + row * 4).cast_signed();
@@ -148,7 +148,7 @@ fn rows_have_targets(flags: &[bool], code: &[u8], pc: usize, table: usize) -> bo
 fn pairs_have_targets(flags: &[bool], code: &[u8], pc: usize, table: usize) -> bool
     requires pc { pc < 2 ^ 62 }
     requires fits { LookupFits code.now table }
-    ensures { result ≡ list_all (λ offset. passes (flag flags.now) (pos pc +ℤ offset))
+    ensures { result ≡ list_all (λ offset. passes_test (flag flags.now) (pos pc +ℤ offset))
         (map (λ p. p.1) (lookup_pairs code.now table)) }
 {
     for pair in 0..bits(code, table + 4) {
@@ -164,7 +164,7 @@ fn pairs_have_targets(flags: &[bool], code: &[u8], pc: usize, table: usize) -> b
 fn default_has_target(flags: &[bool], code: &[u8], pc: usize, table: usize) -> bool
     requires pc { pc < 2 ^ 62 }
     requires fits { table + 4 ≤ length code.now }
-    ensures { result ≡ passes (flag flags.now) (pos pc +ℤ word_at code.now table) }
+    ensures { result ≡ passes_test (flag flags.now) (pos pc +ℤ code_word_at code.now table) }
 {
     is_flagged(flags, pc, bits(code, table).cast_signed())
 }

@@ -2,7 +2,7 @@
 
 ghost use Rattle.std.specs.Prelude.{◌≡◌, ℕ, ℤ, pos, ◌+ℤ◌, ◌<◌, ◌^◌, length, IfOk};
 ghost use Rattle.et_code.specs.Starts.{is_start};
-ghost use Rattle.et_code.specs.Rules.{flag, passes};
+ghost use Rattle.et_code.specs.Rules.{flag, passes_test};
 
 use crate::decoding::decode;
 use std::alloc::{AllocError, Global};
@@ -27,7 +27,7 @@ pub fn start_flags(alloc: Global, code: &[u8]) -> Result<Vec<bool>, AllocError>
 /// Whether the place that is so far from `pc` is flagged.
 pub(crate) fn is_flagged(flags: &[bool], pc: usize, offset: i32) -> bool
     requires { pc < 2 ^ 62 }
-    ensures { result ≡ passes (flag flags.now) (pos pc +ℤ offset) }
+    ensures { result ≡ passes_test (flag flags.now) (pos pc +ℤ offset) }
 {
     match usize::try_from(pc as i64 + offset as i64) {
         Ok(place) => place < flags.len() && flags[place],

@@ -5,8 +5,8 @@
 ghost use Rattle.std.specs.Prelude.{◌≡◌, ◌+◌, ◌*◌, ◌≤◌, length, drop, find, int_lt, false, true, ◌==◌};
 ghost use Rattle.std.specs.Option.{option_map_or};
 ghost use Rattle.std.specs.Int.{int_gap, cast_unsigned, w32};
-ghost use Rattle.et_code.specs.Decoding.{bits_at, word_at, row_count, TableFits, LookupFits};
-ghost use Rattle.et_code.specs.Switches.{IsSwitch, pairs_from, table_target, lookup_target, target_of};
+ghost use Rattle.et_code.specs.Decoding.{bits_at, code_word_at, row_count, TableFits, LookupFits};
+ghost use Rattle.et_code.specs.Switches.{IsSwitch, switch_pairs_from, table_target, lookup_target, target_of};
 
 use crate::decoding::rows_between;
 use crate::instr::Instr;
@@ -31,7 +31,8 @@ fn key_index(low: i32, key: i32) -> usize
 /// How many rows the table with its default at `table` has.
 pub(crate) fn row_count(code: &[u8], table: usize) -> usize
     requires { TableFits code.now table }
-    ensures { result ≡ row_count (word_at code.now (table + 4)) (word_at code.now (table + 8)) }
+    ensures { result ≡ row_count (code_word_at code.now (table + 4))
+        (code_word_at code.now (table + 8)) }
 {
     rows_between(
         bits(code, table + 4).cast_signed(),
@@ -56,8 +57,9 @@ fn in_table(code: &[u8], table: usize, key: i32) -> i32
 /// The place of the offset beside the key, or that of the default.
 fn place_of_offset(code: &[u8], table: usize, key: u32, count: u32) -> usize
     requires { table + 8 + count * 8 ≤ length code.now }
-    ensures chosen { word_at code.now result ≡ option_map_or (λ p. p.1)
-        (find (λ p. p.0 == key) (pairs_from code.now count (table + 8))) (word_at code.now table) }
+    ensures chosen { code_word_at code.now result ≡ option_map_or (λ p. p.1)
+        (find (λ p. p.0 == key) (switch_pairs_from code.now count (table + 8)))
+        (code_word_at code.now table) }
     ensures within { result + 4 ≤ length code.now }
 {
     for i in 0..count {

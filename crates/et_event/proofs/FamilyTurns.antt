@@ -14,7 +14,7 @@ use Rattle.et_event.specs.declared.rows.Row.TheVariants as row
 use Rattle.et_event.specs.Table.{row_of}
 use Rattle.et_event.specs.Families.{family_of, family_of_row, family_of_turn, row_at}
 use Rattle.et_event.specs.Event.{by_instruction, by_row, does_turn, event}
-use Rattle.et_event.specs.Moments.{Moment, frame_of}
+use Rattle.et_event.specs.Moments.{Moment, current_frame}
 use Rattle.et_event.specs.Sites.{Site, decoded_at, site_of}
 use Rattle.et_event.specs.Throw.{throw}
 
@@ -63,7 +63,7 @@ throw_row e at (Some (row.Monitor r)) h = cc
 
 throw_decoded : (e : Moment) (d : Result (Instr × ℕ) CodeFault) → family_of_row (row_at d) ≡ Throw → by_instruction e d ≡ throw e
 throw_decoded e (Err fault) h = cc
-throw_decoded e (Ok x) h = throw_row e (site_of e.program (frame_of e) x) (row_of x.0.opcode) h
+throw_decoded e (Ok x) h = throw_row e (site_of e.program (current_frame e) x) (row_of x.0.opcode) h
 
 pub throws_here : (p : Linked) (s : Kept) (t : ℕ) → turn_of (thread_at s.guest t) ≡ Instruction → family_of p s t ≡ Throw → event p s t ≡ throw (record { program = p; before = s; thread = t })
 unfolding event

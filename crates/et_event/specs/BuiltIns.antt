@@ -16,9 +16,9 @@ use Rattle.et_state.specs.Outcome.{Outcome}
 use Rattle.et_event.specs.declared.rows.BuiltIn.{BuiltIn}
 use Rattle.et_event.specs.declared.rows.BuiltIn.TheVariants.{Nothing, SetMessage, SetMessageAndCause, GetMessage, GetCause, SetTarget, Start, Join, SetReferent, GetReferent, ClearReferent}
 use Rattle.et_event.specs.declared.errors.GuestError.TheVariants.{AbstractMethodError, IllegalThreadStateException, OutOfMemoryError}
-use Rattle.et_event.specs.Moments.{Moment, Doing, frame_of, with_guest, with_frame, class_of, slot_written, goes, throws}
+use Rattle.et_event.specs.Moments.{Moment, Doing, current_frame, doing_with_guest, with_frame, object_class, slot_written, goes, throws}
 use Rattle.et_event.specs.Errors.{class_called}
-use Rattle.et_event.specs.Checks.{Reference, value_of, ill_typed_unless, throws_unless, waits_unless}
+use Rattle.et_event.specs.Checks.{Reference, reference_value, ill_typed_unless, throws_unless, waits_unless}
 use Rattle.et_event.specs.Kinds.{or_zero}
 use Rattle.et_event.specs.declared.rows.Operand.TheVariants as operand
 use Rattle.et_event.specs.Sites.{Site}
@@ -60,7 +60,7 @@ argument arguments i = slice_index_or arguments i Unset
 -- the arguments are taken, these entries are pushed, and the pc goes on
 abbrev pub answering : Moment → Site → List Value → List Value → Doing → Doing
 answering e at arguments values d =
-    with_frame e (record (frame_of e) { pc = at.next; operands = values ++ drop (length arguments) (frame_of e).operands }) d
+    with_frame e (record (current_frame e) { pc = at.next; operands = values ++ drop (length arguments) (current_frame e).operands }) d
 
 -- the reference in a slot
 abbrev pub reference_in : Doing → ℕ → ℕ → Value
@@ -77,17 +77,17 @@ reference_of (Ref o) = Some o
 reference_of other = None
 
 -- start: a thread more, which is entered by an event of its own
-abbrev pub starts : Moment → Doing → ℕ → Outcome Kept → Option ℕ → Outcome Kept
-starts e d o go (Some k) = throws e IllegalThreadStateException d
-starts e d o go None = throws_unless e d OutOfMemoryError (nat_lt (length d.state.guest.threads) most_threads) go
+abbrev pub starts_thread : Moment → Doing → ℕ → Outcome Kept → Option ℕ → Outcome Kept
+starts_thread e d o go (Some k) = throws e IllegalThreadStateException d
+starts_thread e d o go None = throws_unless e d OutOfMemoryError (nat_lt (length d.state.guest.threads) most_threads) go
 
 abbrev pub with_thread_for : ℕ → Doing → Doing
-with_thread_for o d = with_guest (with_new_thread d.state.guest (new_thread None (Some o))) d
+with_thread_for o d = doing_with_guest (with_new_thread d.state.guest (new_thread None (Some o))) d
 
 -- join: the thread of the object has ended, or there is none
-abbrev pub has_ended : Doing → Option ℕ → Bool
-has_ended d None = true
-has_ended d (Some k) = (thread_at d.state.guest k).ended
+abbrev pub has_thread_ended : Doing → Option ℕ → Bool
+has_thread_ended d None = true
+has_thread_ended d (Some k) = (thread_at d.state.guest k).ended
 
 -- it uses the slots of a Throwable, or those of a Thread or its thread
 abbrev pub uses_throwable : BuiltIn → Bool
@@ -103,14 +103,14 @@ uses_thread Start = true
 uses_thread other = false
 
 -- an object of a class or of one below it
-abbrev pub is_object_of : Moment → Doing → ℕ → List ℕ → Bool
-is_object_of e d o name = is_subclass e.program (class_of d o) (class_called e.program name)
+abbrev pub is_object_of_class : Moment → Doing → ℕ → List ℕ → Bool
+is_object_of_class e d o name = is_subclass e.program (object_class d o) (class_called e.program name)
 
 -- the receiver is of the class whose slots or thread the method uses; selection finds the method on no other
-abbrev pub is_fit : Moment → Doing → ℕ → BuiltIn → Bool
-is_fit e d o b =
-    if uses_throwable b then is_object_of e d o (codes "java/lang/Throwable")
-    else (if uses_thread b then is_object_of e d o (codes "java/lang/Thread") else true)
+abbrev pub is_fit_for : Moment → Doing → ℕ → BuiltIn → Bool
+is_fit_for e d o b =
+    if uses_throwable b then is_object_of_class e d o (codes "java/lang/Throwable")
+    else (if uses_thread b then is_object_of_class e d o (codes "java/lang/Thread") else true)
 
 -- what is done then
 abbrev pub row_done : Moment → Site → Doing → List Value → ℕ → BuiltIn → Outcome Kept
@@ -122,14 +122,14 @@ row_done e at d arguments o GetMessage = goes (answering e at arguments (referen
 row_done e at d arguments o GetCause = goes (answering e at arguments (reference_in d o 1 ∷ []) d)
 row_done e at d arguments o SetTarget = goes (slot_written e o 0 (argument arguments 1) (answering e at arguments [] d))
 row_done e at d arguments o Start =
-    starts e d o (goes (with_thread_for o (answering e at arguments [] d))) (thread_with d.state.guest.threads o)
-row_done e at d arguments o Join = waits_unless e (has_ended d (thread_with d.state.guest.threads o)) (goes (answering e at arguments [] d))
+    starts_thread e d o (goes (with_thread_for o (answering e at arguments [] d))) (thread_with d.state.guest.threads o)
+row_done e at d arguments o Join = waits_unless e (has_thread_ended d (thread_with d.state.guest.threads o)) (goes (answering e at arguments [] d))
 row_done e at d arguments o SetReferent = goes (with_referent_of o (reference_of (argument arguments 1)) (answering e at arguments [] d))
-row_done e at d arguments o GetReferent = goes (answering e at arguments (value_of (object_at d.state.heap o).referent ∷ []) d)
+row_done e at d arguments o GetReferent = goes (answering e at arguments (reference_value (object_at d.state.heap o).referent ∷ []) d)
 row_done e at d arguments o ClearReferent = goes (with_referent_of o None (answering e at arguments [] d))
 
 abbrev pub built_in_row : Moment → Site → Doing → List Value → ℕ → BuiltIn → Outcome Kept
-built_in_row e at d arguments o b = ill_typed_unless e (is_fit e d o b) (row_done e at d arguments o b)
+built_in_row e at d arguments o b = ill_typed_unless e (is_fit_for e d o b) (row_done e at d arguments o b)
 
 -- the event of a selected method without code; one that is no built-in is abstract
 abbrev pub done_by : Moment → Site → Doing → List Value → Option ℕ → Option BuiltIn → Outcome Kept

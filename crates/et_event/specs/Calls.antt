@@ -26,10 +26,10 @@ use Rattle.et_event.specs.declared.rows.CallRow.{CallRow}
 use Rattle.et_event.specs.declared.rows.CallRow.TheVariants as row
 use Rattle.et_event.specs.declared.errors.GuestError.TheVariants.{AbstractMethodError, IllegalMonitorStateException, IncompatibleClassChangeError}
 use Rattle.et_event.specs.Errors.{class_called}
-use Rattle.et_event.specs.Moments.{Moment, Doing, thread_of, frame_of, begins, told, with_thread_state, with_frame, class_of, ill_typed, goes, throws}
-use Rattle.et_event.specs.Checks.{with_value, entries_of, ill_typed_unless, resolved, selected, throws_unless, not_null}
-use Rattle.et_event.specs.Sites.{Site, Member, member_of, names_interface, method_of}
-use Rattle.et_event.specs.Kinds.{kind_of, may_return, returned_width}
+use Rattle.et_event.specs.Moments.{Moment, Doing, thread_of, current_frame, begins, told, with_thread_state, with_frame, object_class, ill_typed, goes, throws}
+use Rattle.et_event.specs.Checks.{with_value, entries_of, ill_typed_unless, resolved, after_selection, throws_unless, not_null}
+use Rattle.et_event.specs.Sites.{Site, Member, site_member, names_interface, running_method}
+use Rattle.et_event.specs.Kinds.{operand_kind, may_return, returned_width}
 use Rattle.et_event.specs.Initialization.{initialized, with_state}
 use Rattle.et_event.specs.Monitors.{lock_in, owns_some, left_some}
 use Rattle.et_event.specs.Frames.{first_reference, enters, frames_after_return}
@@ -52,7 +52,7 @@ is_empty (v ∷ vs) = false
 -- these are values of the types, and no others
 abbrev pub are_of : List (List ℕ) → List Value → Bool
 are_of [] vs = is_empty vs
-are_of (type ∷ types) vs = begin_with (kind_of type) (are_of types) vs
+are_of (type ∷ types) vs = begin_with (operand_kind type) (are_of types) vs
 
 -- .. behind a receiver, where the method isn't static
 abbrev pub are_arguments : Bool → MethodType → List Value → Bool
@@ -64,7 +64,7 @@ abbrev pub entry_count : Bool → MethodType → ℕ
 entry_count static type = sum_by width_of type.parameters + (if static then 0 else 1)
 
 abbrev pub arguments_of : Moment → ℕ → List Value
-arguments_of e count = reverse (take count (frame_of e).operands)
+arguments_of e count = reverse (take count (current_frame e).operands)
 
 abbrev pub is_static_call : CallKind → Bool
 is_static_call Static = true
@@ -74,7 +74,7 @@ is_static_call other = false
 abbrev pub call_fits : Moment → Bool → MethodType → Bool
 call_fits e static type =
     let count = entry_count static type in
-    are_arguments static type (arguments_of e count) && nat_le (length (drop count (frame_of e).operands) + returned_width type.returned) (frame_of e).room
+    are_arguments static type (arguments_of e count) && nat_le (length (drop count (current_frame e).operands) + returned_width type.returned) (current_frame e).room
 
 -- what is no method is met by no operands
 abbrev pub with_type : Moment → Option MethodType → (MethodType → Outcome Kept) → Outcome Kept
@@ -89,7 +89,7 @@ with_method e (Some m) go = with_type e (method_type m.descriptor) (go m)
 
 -- the arguments are taken from the caller, which stays at its call
 abbrev pub taking : Moment → ℕ → Doing → Doing
-taking e count d = with_frame e (popped count (frame_of e)) d
+taking e count d = with_frame e (popped count (current_frame e)) d
 
 -- 10 to 13
 abbrev pub enters_method : Moment → Site → Doing → List Value → ℕ → Outcome Kept
@@ -98,7 +98,7 @@ enters_method e at d arguments m =
 
 -- 7. the receiver is of the class that declares the resolved method
 abbrev pub is_of_owner : Moment → Doing → ℕ → ℕ → Bool
-is_of_owner e d m o = is_subclass e.program (class_of d o) (method_at e.program m).class
+is_of_owner e d m o = is_subclass e.program (object_class d o) (method_at e.program m).class
 
 -- an array that invokespecial names stands for Object
 abbrev pub class_or : ℕ → ℕ → Element → ℕ
@@ -116,14 +116,14 @@ dispatched e at Static arguments named m =
 dispatched e at Virtual arguments named m =
     not_null e (begins e) (first_reference arguments) (λ o.
     ill_typed_unless e (is_of_owner e (begins e) m o)
-    (selected e (begins e) (select e.program (class_of (begins e) o) m false) (enters_method e at (begins e) arguments)))
+    (after_selection e (begins e) (select e.program (object_class (begins e) o) m false) (enters_method e at (begins e) arguments)))
 dispatched e at Special arguments named m =
     not_null e (begins e) (first_reference arguments) (λ o.
     ill_typed_unless e (is_of_owner e (begins e) m o)
-    (selected e (begins e) (select_special e.program at.class (special_class e.program named) m) (enters_method e at (begins e) arguments)))
+    (after_selection e (begins e) (select_special e.program at.class (special_class e.program named) m) (enters_method e at (begins e) arguments)))
 dispatched e at Interface arguments named m =
     not_null e (begins e) (first_reference arguments) (λ o.
-    selected e (begins e) (select e.program (class_of (begins e) o) m true) (enters_method e at (begins e) arguments))
+    after_selection e (begins e) (select e.program (object_class (begins e) o) m true) (enters_method e at (begins e) arguments))
 
 abbrev pub is_as : Bool → Bool → Bool
 is_as true b = b
@@ -131,7 +131,7 @@ is_as false b = not b
 
 abbrev pub invoke : Moment → Site → CallKind → Outcome Kept
 invoke e at kind =
-    with_method e (member_of at) (λ m type.
+    with_method e (site_member at) (λ m type.
     ill_typed_unless e (call_fits e (is_static_call kind) type)
     (resolved e (begins e) (resolve_class e.program m.owner) (λ owner.
     resolved e (begins e) (resolve_method e.program owner (names_interface at) m.name m.descriptor) (λ method.
@@ -153,20 +153,20 @@ class_done_by (Clinit c) d = with_state c Done d
 -- the frame is dropped, its monitor left, and the class of an initializer is done
 abbrev pub frame_returned : Moment → List Value → Doing → Doing
 frame_returned e values d =
-    let f = frame_of e in
-    let x = class_done_by f.stage (left_some (lock_in f.stage (method_of e.program f) f.lock) d) in
+    let f = current_frame e in
+    let x = class_done_by f.stage (left_some (lock_in f.stage (running_method e.program f) f.lock) d) in
     told (Exit x.state.guest.clock e.thread (unwrap_or f.method 0))
     (with_thread_state e (record (thread_of e) { frames = frames_after_return e.program f.stage values (rest_of (thread_of e).frames) }) x)
 
 -- what the method of the frame returns, by its descriptor
 abbrev pub returned_by : Moment → List ℕ
-returned_by e = option_map_or (λ (type : MethodType). type.returned) (method_type (method_of e.program (frame_of e)).descriptor) []
+returned_by e = option_map_or (λ (type : MethodType). type.returned) (method_type (running_method e.program (current_frame e)).descriptor) []
 
 abbrev pub return : Moment → Option Operand → Outcome Kept
 return e kind =
     ill_typed_unless e (may_return kind (returned_by e))
-    (with_returned kind (ill_typed e) (frame_of e).operands (λ values.
-    throws_unless e (begins e) IllegalMonitorStateException (owns_some e (begins e) (lock_in (frame_of e).stage (method_of e.program (frame_of e)) (frame_of e).lock))
+    (with_returned kind (ill_typed e) (current_frame e).operands (λ values.
+    throws_unless e (begins e) IllegalMonitorStateException (owns_some e (begins e) (lock_in (current_frame e).stage (running_method e.program (current_frame e)) (current_frame e).lock))
     (goes (frame_returned e values (begins e)))))
 
 abbrev pub call_event : Moment → Site → CallRow → Outcome Kept
@@ -176,8 +176,8 @@ call_event e at (row.Return kind) = return e kind
 -- ENTRY: thread 0 enters `main`, whose class is initialized first; each other thread calls `run ()V` on its Thread object.
 -- The entry slot is emptied as the frame is entered or the call throws.
 
-abbrev pub entering : Moment → Doing → Doing
-entering e d = with_thread_state e (as_entered (thread_at d.state.guest e.thread)) d
+abbrev pub entering_frame : Moment → Doing → Doing
+entering_frame e d = with_thread_state e (as_entered (thread_at d.state.guest e.thread)) d
 
 abbrev pub entry_arguments : Option ℕ → List Value
 entry_arguments None = []
@@ -185,7 +185,7 @@ entry_arguments (Some o) = Ref o ∷ []
 
 -- a method that is entered has code; no built-in without code is selected here
 abbrev pub enters_first : Moment → Doing → List Value → ℕ → Outcome Kept
-enters_first e d arguments m = enters e d (entering e) m arguments (throws e AbstractMethodError d)
+enters_first e d arguments m = enters e d (entering_frame e) m arguments (throws e AbstractMethodError d)
 
 abbrev pub enters_main : Moment → Outcome Kept
 enters_main e =
@@ -197,7 +197,7 @@ enters_run e None = ill_typed e
 enters_run e (Some o) =
     resolved e (begins e) (resolve_method e.program (class_called e.program (codes "java/lang/Thread")) false (codes "run") (codes "()V")) (λ m.
     ill_typed_unless e (is_of_owner e (begins e) m o)
-    (selected e (begins e) (select e.program (class_of (begins e) o) m false) (enters_first e (begins e) (Ref o ∷ []))))
+    (after_selection e (begins e) (select e.program (object_class (begins e) o) m false) (enters_first e (begins e) (Ref o ∷ []))))
 
 abbrev pub entry_call : Moment → Outcome Kept
 entry_call e = if e.thread == 0 then enters_main e else enters_run e (thread_of e).object

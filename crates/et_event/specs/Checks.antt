@@ -12,7 +12,7 @@
 -- 10. a native method that isn't built in                                                         thrown
 -- 11. a monitor, a thread or an initializer that isn't ready                                      the thread waits
 -- 12. a frame too many                                                                            thrown
--- 13. objects and slots that don't fit                                                            `ends` of Moments.antt
+-- 13. objects and slots that don't fit                                                            `ends_event` of Moments.antt
 use Rattle.std.specs.Prelude.{ℕ, ℤ, nat_lt, Bool, true, false, List, [], ◌∷◌, length, Option, Some, None, Result, Ok, Err}
 use Rattle.et_base.specs.declared.value.Value.{Value}
 use Rattle.et_base.specs.declared.value.Value.TheVariants.{Unset, Int, Long, LongHigh, Null, Ref}
@@ -32,9 +32,9 @@ use Rattle.et_event.specs.Moments.{Moment, Doing, ill_typed, waits, throws}
 abbrev pub Reference : Type 0
 Reference = Option ℕ
 
-abbrev pub value_of : Reference → Value
-value_of None = Null
-value_of (Some o) = Ref o
+abbrev pub reference_value : Reference → Value
+reference_value None = Null
+reference_value (Some o) = Ref o
 
 -- OPERANDS, the topmost first: what a row takes, and what is below it
 
@@ -57,7 +57,7 @@ abbrev pub with_value : {A : Type 0} → Option Operand → A → List Value →
 with_value None refused ops go = refused
 with_value (Some operand.Int) refused ops go = with_int refused ops (λ n. go (Int n))
 with_value (Some operand.Long) refused ops go = with_long refused ops (λ n. go (Long n))
-with_value (Some operand.Reference) refused ops go = with_reference refused ops (λ r. go (value_of r))
+with_value (Some operand.Reference) refused ops go = with_reference refused ops (λ r. go (reference_value r))
 
 -- the entries that a value takes, the upper one first
 abbrev pub entries_of : Value → List Value
@@ -81,8 +81,8 @@ resolved e d (Ok member) go = go member
 resolved e d (Err error) go = throws e (error_of error) d
 
 -- 8
-abbrev pub selected : Moment → Doing → Result ℕ LinkError → (ℕ → Outcome Kept) → Outcome Kept
-selected e d answer go = resolved e d answer go
+abbrev pub after_selection : Moment → Doing → Result ℕ LinkError → (ℕ → Outcome Kept) → Outcome Kept
+after_selection e d answer go = resolved e d answer go
 
 -- 3, 4, 9 and 10
 abbrev pub throws_unless : Moment → Doing → GuestError → Bool → Outcome Kept → Outcome Kept

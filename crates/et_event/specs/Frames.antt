@@ -16,7 +16,7 @@ use Rattle.et_state.specs.Words.{thread_at}
 use Rattle.et_state.specs.declared.records.Record.TheVariants.{Enter}
 use Rattle.et_state.specs.Outcome.{Outcome}
 use Rattle.et_event.specs.declared.errors.GuestError.TheVariants.{UnsatisfiedLinkError}
-use Rattle.et_event.specs.Moments.{Moment, Doing, told, with_thread_state, ends}
+use Rattle.et_event.specs.Moments.{Moment, Doing, told, with_thread_state, ends_event}
 use Rattle.et_event.specs.Checks.{throws_unless, waits_unless, frame_fits}
 use Rattle.et_event.specs.Monitors.{lock_for, may_enter_some, entered_some}
 use Rattle.et_event.specs.Sites.{decoded_at}
@@ -56,7 +56,7 @@ frame_entered e m body arguments d =
 abbrev pub enters_code : Moment → Doing → (Doing → Doing) → ℕ → List Value → Body → Outcome Kept
 enters_code e d leave m arguments body =
     waits_unless e (may_enter_some e d (lock_for (method_at e.program m) (receiver_of e.program m arguments)))
-    (frame_fits e d (ends (frame_entered e m body arguments (leave d))))
+    (frame_fits e d (ends_event (frame_entered e m body arguments (leave d))))
 
 abbrev pub by_code : Moment → Doing → (Doing → Doing) → ℕ → List Value → Outcome Kept → Option Body → Outcome Kept
 by_code e d leave m arguments built_in (Some body) = enters_code e d leave m arguments body
@@ -73,13 +73,13 @@ abbrev pub behind_or : ℕ → Result (Instr × ℕ) CodeFault → ℕ
 behind_or pc (Ok x) = x.1
 behind_or pc (Err fault) = pc
 
-abbrev pub behind : Linked → FrameState → ℕ
-behind p f = behind_or f.pc (decoded_at p f)
+abbrev pub next_place_of : Linked → FrameState → ℕ
+next_place_of p f = behind_or f.pc (decoded_at p f)
 
 -- the caller gets what is returned, and goes on behind its call
 abbrev pub resumed : Linked → List Value → List FrameState → List FrameState
 resumed p values [] = []
-resumed p values (f ∷ below) = record f { pc = behind p f; operands = values ++ f.operands } ∷ below
+resumed p values (f ∷ below) = record f { pc = next_place_of p f; operands = values ++ f.operands } ∷ below
 
 -- a method returns: below an initializer the instruction is done again
 abbrev pub frames_after_return : Linked → Stage → List Value → List FrameState → List FrameState

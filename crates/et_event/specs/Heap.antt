@@ -20,20 +20,20 @@ use Rattle.et_event.specs.declared.rows.Elements.{Elements}
 use Rattle.et_event.specs.declared.rows.HeapRow.{HeapRow}
 use Rattle.et_event.specs.declared.rows.HeapRow.TheVariants as row
 use Rattle.et_event.specs.declared.errors.GuestError.TheVariants.{ArrayIndexOutOfBoundsException, ArrayStoreException, ClassCastException, IncompatibleClassChangeError, InstantiationError, NegativeArraySizeException}
-use Rattle.et_event.specs.Moments.{Moment, Doing, frame_of, begins, with_frame, class_of, next_object, instance_made, array_made, slot_written, static_written, ill_typed, goes, ends}
+use Rattle.et_event.specs.Moments.{Moment, Doing, current_frame, begins, with_frame, object_class, next_object, instance_made, array_made, slot_written, static_written, ill_typed, goes, ends_event}
 use Rattle.et_event.specs.Checks.{Reference, with_int, with_reference, with_value, entries_of, ill_typed_unless, resolved, throws_unless, not_null}
-use Rattle.et_event.specs.Sites.{Site, Member, member_of, class_operand, natural}
-use Rattle.et_event.specs.Kinds.{kind_of, kind_of_field, or_zero, narrowed, kind_of_elements, are_elements, is_array, kept_element, in_bounds}
+use Rattle.et_event.specs.Sites.{Site, Member, site_member, class_operand, natural_of}
+use Rattle.et_event.specs.Kinds.{operand_kind, kind_of_field, or_zero, narrowed, kind_of_elements, are_elements, is_array_element, kept_element, in_bounds}
 use Rattle.et_event.specs.Initialization.{initialized}
 
 -- the instruction is done, and its operands became these
-abbrev pub leaving : Moment → Site → List Value → Doing → Doing
-leaving e at operands d = with_frame e (record (frame_of e) { pc = at.next; operands = operands }) d
+abbrev pub leaving_values : Moment → Site → List Value → Doing → Doing
+leaving_values e at operands d = with_frame e (record (current_frame e) { pc = at.next; operands = operands }) d
 
 -- FIELDS
 
-abbrev pub is_static_field : Linked → ℕ → Bool
-is_static_field p f = has (field_at p f).flags STATIC
+abbrev pub is_static_at : Linked → ℕ → Bool
+is_static_at p f = has (field_at p f).flags STATIC
 
 abbrev pub resolved_class : Moment → Doing → List ℕ → (ℕ → Outcome Kept) → Outcome Kept
 resolved_class e d name go = resolved e d (resolve_class e.program name) go
@@ -53,56 +53,56 @@ with_class e (Some name) go = go name
 
 -- 1. so many operands and what a field of that type gives are at most max_stack
 abbrev pub field_fits : Moment → List Value → Member → Bool
-field_fits e below m = nat_le (width_of m.descriptor + length below) (frame_of e).room
+field_fits e below m = nat_le (width_of m.descriptor + length below) (current_frame e).room
 
 -- 6 and 7. the reference names an object of the class that declares the field
 abbrev pub with_holder : Moment → Doing → ℕ → Reference → (ℕ → Outcome Kept) → Outcome Kept
 with_holder e d f r go =
     not_null e d r (λ o.
-    ill_typed_unless e (is_subclass e.program (class_of d o) (field_at e.program f).class) (go o))
+    ill_typed_unless e (is_subclass e.program (object_class d o) (field_at e.program f).class) (go o))
 
 abbrev pub get_static : Moment → Site → Outcome Kept
 get_static e at =
-    with_field e (member_of at) (λ m.
-    ill_typed_unless e (field_fits e (frame_of e).operands m)
+    with_field e (site_member at) (λ m.
+    ill_typed_unless e (field_fits e (current_frame e).operands m)
     (resolved_field e (begins e) m (λ f.
-    throws_unless e (begins e) IncompatibleClassChangeError (is_static_field e.program f)
+    throws_unless e (begins e) IncompatibleClassChangeError (is_static_at e.program f)
     (initialized e (begins e) (field_at e.program f).class (λ d.
-    ends (leaving e at (entries_of (or_zero (kind_of m.descriptor) (static_at d.state.guest (field_at e.program f).slot)) ++ (frame_of e).operands) d))))))
+    ends_event (leaving_values e at (entries_of (or_zero (operand_kind m.descriptor) (static_at d.state.guest (field_at e.program f).slot)) ++ (current_frame e).operands) d))))))
 
 abbrev pub put_static : Moment → Site → Outcome Kept
 put_static e at =
-    with_field e (member_of at) (λ m.
-    with_value (kind_of_field m.descriptor) (ill_typed e) (frame_of e).operands (λ v below.
+    with_field e (site_member at) (λ m.
+    with_value (kind_of_field m.descriptor) (ill_typed e) (current_frame e).operands (λ v below.
     resolved_field e (begins e) m (λ f.
-    throws_unless e (begins e) IncompatibleClassChangeError (is_static_field e.program f)
+    throws_unless e (begins e) IncompatibleClassChangeError (is_static_at e.program f)
     (initialized e (begins e) (field_at e.program f).class (λ d.
-    ends (static_written e (field_at e.program f).slot (narrowed m.descriptor v) (leaving e at below d)))))))
+    ends_event (static_written e (field_at e.program f).slot (narrowed m.descriptor v) (leaving_values e at below d)))))))
 
 abbrev pub get_field : Moment → Site → Outcome Kept
 get_field e at =
-    with_field e (member_of at) (λ m.
-    with_reference (ill_typed e) (frame_of e).operands (λ r below.
+    with_field e (site_member at) (λ m.
+    with_reference (ill_typed e) (current_frame e).operands (λ r below.
     ill_typed_unless e (field_fits e below m)
     (resolved_field e (begins e) m (λ f.
-    throws_unless e (begins e) IncompatibleClassChangeError (not (is_static_field e.program f))
+    throws_unless e (begins e) IncompatibleClassChangeError (not (is_static_at e.program f))
     (with_holder e (begins e) f r (λ o.
-    goes (leaving e at (entries_of (or_zero (kind_of m.descriptor) (slot_of (object_at e.before.heap o) (field_at e.program f).slot)) ++ below) (begins e))))))))
+    goes (leaving_values e at (entries_of (or_zero (operand_kind m.descriptor) (slot_of (object_at e.before.heap o) (field_at e.program f).slot)) ++ below) (begins e))))))))
 
 abbrev pub put_field : Moment → Site → Outcome Kept
 put_field e at =
-    with_field e (member_of at) (λ m.
-    with_value (kind_of_field m.descriptor) (ill_typed e) (frame_of e).operands (λ v more.
+    with_field e (site_member at) (λ m.
+    with_value (kind_of_field m.descriptor) (ill_typed e) (current_frame e).operands (λ v more.
     with_reference (ill_typed e) more (λ r below.
     resolved_field e (begins e) m (λ f.
-    throws_unless e (begins e) IncompatibleClassChangeError (not (is_static_field e.program f))
+    throws_unless e (begins e) IncompatibleClassChangeError (not (is_static_at e.program f))
     (with_holder e (begins e) f r (λ o.
-    goes (slot_written e o (field_at e.program f).slot (narrowed m.descriptor v) (leaving e at below (begins e)))))))))
+    goes (slot_written e o (field_at e.program f).slot (narrowed m.descriptor v) (leaving_values e at below (begins e)))))))))
 
 -- ELEMENTS
 
-abbrev pub element_of : Moment → ℕ → Element
-element_of e o = (class_at e.program (object_at e.before.heap o).class).info.element
+abbrev pub element_of_array : Moment → ℕ → Element
+element_of_array e o = (class_at e.program (object_at e.before.heap o).class).info.element
 
 abbrev pub length_of : Moment → ℕ → ℕ
 length_of e o = (object_at e.before.heap o).length
@@ -111,16 +111,16 @@ length_of e o = (object_at e.before.heap o).length
 abbrev pub with_element : Moment → Elements → Reference → ℤ → (ℕ → Outcome Kept) → Outcome Kept
 with_element e kind r i go =
     not_null e (begins e) r (λ o.
-    ill_typed_unless e (are_elements kind (element_of e o))
+    ill_typed_unless e (are_elements kind (element_of_array e o))
     (throws_unless e (begins e) ArrayIndexOutOfBoundsException (in_bounds i (length_of e o)) (go o)))
 
 -- iaload and its kin; an element takes no more entries than the array and the index
 abbrev pub load_element : Moment → Site → Elements → Outcome Kept
 load_element e at kind =
-    with_int (ill_typed e) (frame_of e).operands (λ i more.
+    with_int (ill_typed e) (current_frame e).operands (λ i more.
     with_reference (ill_typed e) more (λ r below.
     with_element e kind r i (λ o.
-    goes (leaving e at (entries_of (or_zero (Some (kind_of_elements kind)) (slot_of (object_at e.before.heap o) (natural i))) ++ below) (begins e)))))
+    goes (leaving_values e at (entries_of (or_zero (Some (kind_of_elements kind)) (slot_of (object_at e.before.heap o) (natural_of i))) ++ below) (begins e)))))
 
 -- the element type of an array allows a value: null, an object that passes the type test, and what is no reference
 abbrev pub passes_element : Moment → Value → Element → Bool
@@ -130,19 +130,19 @@ passes_element e v element = true
 -- iastore and its kin
 abbrev pub store_element : Moment → Site → Elements → Outcome Kept
 store_element e at kind =
-    with_value (Some (kind_of_elements kind)) (ill_typed e) (frame_of e).operands (λ v most.
+    with_value (Some (kind_of_elements kind)) (ill_typed e) (current_frame e).operands (λ v most.
     with_int (ill_typed e) most (λ i more.
     with_reference (ill_typed e) more (λ r below.
     with_element e kind r i (λ o.
-    throws_unless e (begins e) ArrayStoreException (passes_element e v (element_of e o))
-    (goes (slot_written e o (natural i) (kept_element kind v) (leaving e at below (begins e))))))))
+    throws_unless e (begins e) ArrayStoreException (passes_element e v (element_of_array e o))
+    (goes (slot_written e o (natural_of i) (kept_element kind v) (leaving_values e at below (begins e))))))))
 
 abbrev pub array_length : Moment → Site → Outcome Kept
 array_length e at =
-    with_reference (ill_typed e) (frame_of e).operands (λ r below.
+    with_reference (ill_typed e) (current_frame e).operands (λ r below.
     not_null e (begins e) r (λ o.
-    ill_typed_unless e (is_array (element_of e o))
-    (goes (leaving e at (Int (pos (length_of e o)) ∷ below) (begins e)))))
+    ill_typed_unless e (is_array_element (element_of_array e o))
+    (goes (leaving_values e at (Int (pos (length_of e o)) ∷ below) (begins e)))))
 
 -- MAKING
 
@@ -152,29 +152,29 @@ may_be_made p c = not (has (class_at p c).info.flags INTERFACE || has (class_at 
 abbrev pub new_instance : Moment → Site → Outcome Kept
 new_instance e at =
     with_class e (class_operand at) (λ name.
-    ill_typed_unless e (nat_le (1 + length (frame_of e).operands) (frame_of e).room)
+    ill_typed_unless e (nat_le (1 + length (current_frame e).operands) (current_frame e).room)
     (resolved_class e (begins e) name (λ class.
     throws_unless e (begins e) InstantiationError (may_be_made e.program class)
     (initialized e (begins e) class (λ d.
-    ends (leaving e at (Ref (next_object d) ∷ (frame_of e).operands) (instance_made e class d)))))))
+    ends_event (leaving_values e at (Ref (next_object d) ∷ (current_frame e).operands) (instance_made e class d)))))))
 
 -- 9 and 13. an array of a class that has so many elements takes the place of their number
 abbrev pub new_array_of : Moment → Site → ℕ → ℤ → List Value → Outcome Kept
 new_array_of e at class elements below =
     throws_unless e (begins e) NegativeArraySizeException (int_le (pos 0) elements)
-    (ends (leaving e at (Ref (next_object (begins e)) ∷ below) (array_made e class (natural elements) (begins e))))
+    (ends_event (leaving_values e at (Ref (next_object (begins e)) ∷ below) (array_made e class (natural_of elements) (begins e))))
 
 -- newarray: the program has an array class for each base type over which an instruction makes arrays
 abbrev pub new_array : Moment → Site → Outcome Kept
 new_array e at =
-    with_int (ill_typed e) (frame_of e).operands (λ elements below.
-    new_array_of e at (unwrap_or (base_array e.program (natural at.instr.first)) 0) elements below)
+    with_int (ill_typed e) (current_frame e).operands (λ elements below.
+    new_array_of e at (unwrap_or (base_array e.program (natural_of at.instr.first)) 0) elements below)
 
 -- anewarray: .. and for each class
 abbrev pub new_reference_array : Moment → Site → Outcome Kept
 new_reference_array e at =
     with_class e (class_operand at) (λ name.
-    with_int (ill_typed e) (frame_of e).operands (λ elements below.
+    with_int (ill_typed e) (current_frame e).operands (λ elements below.
     resolved_class e (begins e) name (λ class.
     new_array_of e at (unwrap_or (class_at e.program class).array 0) elements below)))
 
@@ -204,44 +204,44 @@ arrays_made e class (n ∷ m ∷ more) d =
 
 abbrev pub naturals : List ℤ → List ℕ
 naturals [] = []
-naturals (n ∷ ns) = natural n ∷ naturals ns
+naturals (n ∷ ns) = natural_of n ∷ naturals ns
 
 abbrev pub new_multi_array : Moment → Site → Outcome Kept
 new_multi_array e at =
     with_class e (class_operand at) (λ name.
-    with_lengths (natural at.instr.second) [] (ill_typed e) (frame_of e).operands (λ lengths below.
+    with_lengths (natural_of at.instr.second) [] (ill_typed e) (current_frame e).operands (λ lengths below.
     resolved_class e (begins e) name (λ class.
     throws_unless e (begins e) NegativeArraySizeException (list_all (int_le (pos 0)) lengths)
-    (ends (leaving e at (Ref (next_object (begins e)) ∷ below) (arrays_made e class (naturals lengths) (begins e)))))))
+    (ends_event (leaving_values e at (Ref (next_object (begins e)) ∷ below) (arrays_made e class (naturals lengths) (begins e)))))))
 
 -- TYPE TESTS: null passes each, and then nothing is resolved
 
 abbrev pub cast : Moment → Site → List ℕ → List Value → Reference → Outcome Kept
-cast e at name below None = goes (leaving e at (Null ∷ below) (begins e))
+cast e at name below None = goes (leaving_values e at (Null ∷ below) (begins e))
 cast e at name below (Some o) =
     resolved_class e (begins e) name (λ class.
-    throws_unless e (begins e) ClassCastException (passes e.program (class_of (begins e) o) class)
-    (goes (leaving e at (Ref o ∷ below) (begins e))))
+    throws_unless e (begins e) ClassCastException (passes e.program (object_class (begins e) o) class)
+    (goes (leaving_values e at (Ref o ∷ below) (begins e))))
 
 abbrev pub check_cast : Moment → Site → Outcome Kept
 check_cast e at =
     with_class e (class_operand at) (λ name.
-    with_reference (ill_typed e) (frame_of e).operands (λ r below. cast e at name below r))
+    with_reference (ill_typed e) (current_frame e).operands (λ r below. cast e at name below r))
 
 abbrev pub truth : Bool → Value
 truth true = Int (pos 1)
 truth false = Int (pos 0)
 
-abbrev pub tested : Moment → Site → List ℕ → List Value → Reference → Outcome Kept
-tested e at name below None = goes (leaving e at (truth false ∷ below) (begins e))
-tested e at name below (Some o) =
+abbrev pub type_tested : Moment → Site → List ℕ → List Value → Reference → Outcome Kept
+type_tested e at name below None = goes (leaving_values e at (truth false ∷ below) (begins e))
+type_tested e at name below (Some o) =
     resolved_class e (begins e) name (λ class.
-    goes (leaving e at (truth (passes e.program (class_of (begins e) o) class) ∷ below) (begins e)))
+    goes (leaving_values e at (truth (passes e.program (object_class (begins e) o) class) ∷ below) (begins e)))
 
 abbrev pub instance_of : Moment → Site → Outcome Kept
 instance_of e at =
     with_class e (class_operand at) (λ name.
-    with_reference (ill_typed e) (frame_of e).operands (λ r below. tested e at name below r))
+    with_reference (ill_typed e) (current_frame e).operands (λ r below. type_tested e at name below r))
 
 -- THE SHAPES
 abbrev pub heap_event : Moment → Site → HeapRow → Outcome Kept

@@ -13,9 +13,9 @@ use Rattle.et_program.specs.declared.info.FieldInfo.{FieldInfo}
 use Rattle.et_state.specs.declared.records.Record.TheVariants.{Enter}
 use Rattle.et_state.specs.Outcome.{Outcome}
 use Rattle.et_event.specs.declared.errors.GuestError.TheVariants.{NoClassDefFoundError}
-use Rattle.et_event.specs.Moments.{Moment, Doing, frame_of, begins, told, with_guest, with_thread_state, with_frame, static_written, waits, ends, throws}
+use Rattle.et_event.specs.Moments.{Moment, Doing, current_frame, begins, told, doing_with_guest, with_thread_state, with_frame, static_written, waits, ends_event, throws}
 use Rattle.et_event.specs.Checks.{frame_fits}
-use Rattle.et_event.specs.Sites.{LoadedConstant, AnInt, ALong, AString, constant_at, pool_of, body_of}
+use Rattle.et_event.specs.Sites.{LoadedConstant, AnInt, ALong, AString, constant_at, pool_of_class, present_body}
 use Rattle.et_event.specs.Strings.{interned, string_object}
 use Rattle.et_event.specs.Kinds.{narrowed}
 
@@ -23,7 +23,7 @@ abbrev pub state_of : Doing → ℕ → ClassState
 state_of d c = class_state_at d.state.guest c
 
 abbrev pub with_state : ℕ → ClassState → Doing → Doing
-with_state c x d = with_guest (with_class_state d.state.guest c x) d
+with_state c x d = doing_with_guest (with_class_state d.state.guest c x) d
 
 -- CONSTANTS: a static field gets its ConstantValue as if it were written, a string as its interned object
 abbrev pub constant_set : Moment → FieldInfo → Option LoadedConstant → Doing → Doing
@@ -35,7 +35,7 @@ constant_set e f (Some (AString bytes)) d = let x = interned e bytes d in static
 abbrev pub field_set : Moment → Doing → ℕ → Doing
 field_set e d f =
     let field = field_at e.program f in
-    constant_set e field (constant_at (pool_of e.program field.class) field.constant) d
+    constant_set e field (constant_at (pool_of_class e.program field.class) field.constant) d
 
 -- the constants of a class are set, in the order of the file
 abbrev pub constants_set : Moment → ℕ → Doing → Doing
@@ -70,7 +70,7 @@ begun_by e c d =
     with_thread_state e (entered_by (initializer_frame c) (thread_at x.state.guest e.thread)) x
 
 abbrev pub begins_class : Moment → ℕ → Doing → Outcome Kept
-begins_class e c d = frame_fits e d (ends (begun_by e c d))
+begins_class e c d = frame_fits e d (ends_event (begun_by e c d))
 
 -- 5. A CLASS IS NEEDED: the event goes on where it is done, begun by this thread, or quiet
 abbrev pub needed : Moment → Doing → ℕ → ClassState → (Doing → Outcome Kept) → Outcome Kept
@@ -102,13 +102,13 @@ abbrev pub prepared : Moment → List ℕ → Doing → Doing
 prepared e classes d = fold (λ x k. quietly_if_untouched e k (state_of x k) x) d classes
 
 abbrev pub enters_clinit : Moment → ℕ → Option ℕ → Doing → Outcome Kept
-enters_clinit e c None d = ends (with_thread_state e (without_top (thread_at d.state.guest e.thread)) (with_state c Done d))
+enters_clinit e c None d = ends_event (with_thread_state e (without_top (thread_at d.state.guest e.thread)) (with_state c Done d))
 enters_clinit e c (Some m) d =
-    let body = body_of (method_at e.program m).code in
-    ends (told (Enter d.state.guest.clock e.thread m 0) (with_frame e (in_clinit m body.max_stack body.max_locals (frame_of e)) d))
+    let body = present_body (method_at e.program m).code in
+    ends_event (told (Enter d.state.guest.clock e.thread m 0) (with_frame e (in_clinit m body.max_stack body.max_locals (current_frame e)) d))
 
 abbrev pub step_by : Moment → ℕ → Doing → Option ℕ → Outcome Kept
-step_by e c d (Some blocker) = initialized e d blocker ends
+step_by e c d (Some blocker) = initialized e d blocker ends_event
 step_by e c d None = enters_clinit e c (class_at e.program c).info.clinit d
 
 abbrev pub initialization_step : Moment → ℕ → Outcome Kept

@@ -18,13 +18,13 @@ kind_of_letter a =
     else (if a == 74 then Some operand.Long
     else (if (a == 76) || (a == 91) then Some operand.Reference else None))
 
-abbrev pub kind_of : List ℕ → Option Operand
-kind_of [] = None
-kind_of (a ∷ rest) = kind_of_letter a
+abbrev pub operand_kind : List ℕ → Option Operand
+operand_kind [] = None
+operand_kind (a ∷ rest) = kind_of_letter a
 
 -- no operand is of what isn't a type
 abbrev pub kind_of_field : List ℕ → Option Operand
-kind_of_field descriptor = if is_field_descriptor descriptor then kind_of descriptor else None
+kind_of_field descriptor = if is_field_descriptor descriptor then operand_kind descriptor else None
 
 -- an instruction that returns this kind, or nothing, may return that type (JVMS 6.5)
 abbrev pub is_kind : Operand → Option Operand → Bool
@@ -35,7 +35,7 @@ is_kind kind other = false
 
 abbrev pub may_return : Option Operand → List ℕ → Bool
 may_return None returned = is_void returned
-may_return (Some kind) returned = is_kind kind (kind_of returned)
+may_return (Some kind) returned = is_kind kind (operand_kind returned)
 
 -- how many entries what is returned takes
 abbrev pub returned_width : List ℕ → ℕ
@@ -94,10 +94,10 @@ are_elements elements.Char (Base kind) = kind == 5
 are_elements elements.Short (Base kind) = kind == 9
 are_elements other element = false
 
-abbrev pub is_array : Element → Bool
-is_array NoArray = false
-is_array (Base kind) = true
-is_array (Class class) = true
+abbrev pub is_array_element : Element → Bool
+is_array_element NoArray = false
+is_array_element (Base kind) = true
+is_array_element (Class class) = true
 
 -- what an element keeps of a value
 abbrev pub kept_element : Elements → Value → Value

@@ -29,8 +29,8 @@ moment p m t = record { program = p; before = kept_of m; thread = t }
 abbrev pub thread_of : Moment → ThreadState
 thread_of e = thread_at e.before.guest e.thread
 
-abbrev pub frame_of : Moment → FrameState
-frame_of e = top_of (thread_of e)
+abbrev pub current_frame : Moment → FrameState
+current_frame e = top_of (thread_of e)
 
 -- WHAT AN EVENT HAS DONE SO FAR: the state to which it has come, and its records
 pub record Doing : Type 0 where
@@ -45,15 +45,15 @@ later s = record { heap = s.heap; guest = ticked s.guest }
 abbrev pub begins : Moment → Doing
 begins e = record { state = later e.before; records = [] }
 
-abbrev pub with_guest : GuestState → Doing → Doing
-with_guest g d = record { state = record { heap = d.state.heap; guest = g }; records = d.records }
+abbrev pub doing_with_guest : GuestState → Doing → Doing
+doing_with_guest g d = record { state = record { heap = d.state.heap; guest = g }; records = d.records }
 
 abbrev pub with_thread_state : Moment → ThreadState → Doing → Doing
-with_thread_state e x d = with_guest (with_thread d.state.guest e.thread x) d
+with_thread_state e x d = doing_with_guest (with_thread d.state.guest e.thread x) d
 
 -- the topmost frame became this one
 abbrev pub with_frame : Moment → FrameState → Doing → Doing
-with_frame e f d = with_guest (with_top d.state.guest e.thread f) d
+with_frame e f d = doing_with_guest (with_top d.state.guest e.thread f) d
 
 -- one record more
 abbrev pub told : Record → Doing → Doing
@@ -61,23 +61,23 @@ told r d = record { state = d.state; records = d.records ++ r ∷ [] }
 
 -- OBJECTS
 
-abbrev pub class_of : Doing → ℕ → ℕ
-class_of d o = (object_at d.state.heap o).class
+abbrev pub object_class : Doing → ℕ → ℕ
+object_class d o = (object_at d.state.heap o).class
 
 -- the number that an object gets which is made next
 abbrev pub next_object : Doing → ℕ
 next_object d = length d.state.heap
 
 -- an object is made, of so many bytes
-abbrev pub made : Moment → ObjectState → ℕ → Doing → Doing
-made e x size d = told (Alloc d.state.guest.clock e.thread (next_object d) x.class size x.length)
+abbrev pub object_added : Moment → ObjectState → ℕ → Doing → Doing
+object_added e x size d = told (Alloc d.state.guest.clock e.thread (next_object d) x.class size x.length)
     (record { state = record { heap = d.state.heap ++ Some x ∷ []; guest = d.state.guest }; records = d.records })
 
 -- an object of a class that is no array class takes 16 bytes, and 8 for each slot
 abbrev pub instance_made : Moment → ℕ → Doing → Doing
 instance_made e class d =
     let slots = (class_at e.program class).info.slots in
-    made e (new_object class 0 slots) (16 + 8 * slots) d
+    object_added e (new_object class 0 slots) (16 + 8 * slots) d
 
 -- how many bytes an element takes, by the code of its base type in newarray (JVMS 6.5): boolean and byte; char and short;
 -- float and int; double and long. A reference takes 8
@@ -97,22 +97,22 @@ abbrev pub array_size : ℕ → ℕ → ℕ
 array_size elements width = (24 + elements * width + 7) / 8 * 8
 
 abbrev pub array_made : Moment → ℕ → ℕ → Doing → Doing
-array_made e class elements d = made e (new_object class elements elements) (array_size elements (element_width (class_at e.program class).info.element)) d
+array_made e class elements d = object_added e (new_object class elements elements) (array_size elements (element_width (class_at e.program class).info.element)) d
 
 -- WRITING: a reference that is written is recorded, also where the old one is the same. A value that is no reference is not
 
 -- the number of a reference in a record; 0 is null
-abbrev pub number_of : Value → ℕ
-number_of Unset = 0
-number_of (Int n) = 0
-number_of (Long n) = 0
-number_of LongHigh = 0
-number_of Null = 0
-number_of (Ref o) = o
+abbrev pub number_of_value : Value → ℕ
+number_of_value Unset = 0
+number_of_value (Int n) = 0
+number_of_value (Long n) = 0
+number_of_value LongHigh = 0
+number_of_value Null = 0
+number_of_value (Ref o) = o
 
 abbrev pub updated : Moment → ℕ → ℕ → Value → Value → Doing → Doing
-updated e o i old Null d = told (Update d.state.guest.clock e.thread o i (number_of old) 0) d
-updated e o i old (Ref new) d = told (Update d.state.guest.clock e.thread o i (number_of old) new) d
+updated e o i old Null d = told (Update d.state.guest.clock e.thread o i (number_of_value old) 0) d
+updated e o i old (Ref new) d = told (Update d.state.guest.clock e.thread o i (number_of_value old) new) d
 updated e o i old other d = d
 
 abbrev pub slot_written : Moment → ℕ → ℕ → Value → Doing → Doing
@@ -122,13 +122,13 @@ slot_written e o i v d =
 
 -- the object of a static slot is 0
 abbrev pub static_written : Moment → ℕ → Value → Doing → Doing
-static_written e i v d = updated e 0 i (static_at d.state.guest i) v (with_guest (with_static d.state.guest i v) d)
+static_written e i v d = updated e 0 i (static_at d.state.guest i) v (doing_with_guest (with_static d.state.guest i v) d)
 
 -- HOW AN EVENT ENDS
 
 -- it has no meaning: the method and the pc are those of the topmost frame before it
 abbrev pub ill_typed : Moment → Outcome Kept
-ill_typed e = IllTyped (unwrap_or (frame_of e).method 0) (frame_of e).pc
+ill_typed e = IllTyped (unwrap_or (current_frame e).method 0) (current_frame e).pc
 
 -- the thread waits: only the clock goes on
 abbrev pub waits : Moment → Outcome Kept
@@ -139,11 +139,11 @@ abbrev pub goes : Doing → Outcome Kept
 goes d = Goes d.state d.records
 
 -- it is done, where all that it made fits
-abbrev pub fits : Objects → Bool
-fits heap = nat_le (made_count heap) most_objects && nat_le (slot_count heap) most_slots
+abbrev pub fits_heap : Objects → Bool
+fits_heap heap = nat_le (made_count heap) most_objects && nat_le (slot_count heap) most_slots
 
-abbrev pub ends : Doing → Outcome Kept
-ends d = if fits d.state.heap then Goes d.state d.records else ObjectLimit
+abbrev pub ends_event : Doing → Outcome Kept
+ends_event d = if fits_heap d.state.heap then Goes d.state d.records else ObjectLimit
 
 -- an exception is thrown (JVMS 2.10): it becomes pending, and the topmost frame stays as it is
 abbrev pub pending_now : Moment → ℕ → Doing → Doing
@@ -155,4 +155,4 @@ entry_given_up e d = if has_frame (thread_at d.state.guest e.thread).frames then
 
 -- the machine itself throws: the exception is a new object whose slots are null
 abbrev pub throws : Moment → GuestError → Doing → Outcome Kept
-throws e error d = ends (pending_now e (next_object d) (instance_made e (error_class e.program error) (entry_given_up e d)))
+throws e error d = ends_event (pending_now e (next_object d) (instance_made e (error_class e.program error) (entry_given_up e d)))

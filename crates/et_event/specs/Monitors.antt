@@ -8,7 +8,7 @@ use Rattle.et_heap.specs.Objects.{free_monitor, object_at, with_monitor, with_ob
 use Rattle.et_state.specs.declared.stage.Stage.{Stage}
 use Rattle.et_state.specs.declared.stage.Stage.TheVariants.{Plain, Before, Clinit}
 use Rattle.et_state.specs.Words.{class_monitor_at, with_class_monitor}
-use Rattle.et_event.specs.Moments.{Moment, Doing, with_guest}
+use Rattle.et_event.specs.Moments.{Moment, Doing, doing_with_guest}
 
 -- what has a monitor
 pub data Lock : Type 0 where
@@ -22,7 +22,7 @@ monitor_of d (OfClass c) = class_monitor_at d.state.guest c
 abbrev pub with_monitor_of : Lock → Monitor → Doing → Doing
 with_monitor_of (OfObject o) m d =
     record { state = record { heap = with_object_at d.state.heap o (with_monitor m (object_at d.state.heap o)); guest = d.state.guest }; records = d.records }
-with_monitor_of (OfClass c) m d = with_guest (with_class_monitor d.state.guest c m) d
+with_monitor_of (OfClass c) m d = doing_with_guest (with_class_monitor d.state.guest c m) d
 
 abbrev pub is_owner : ℕ → Option ℕ → Bool
 is_owner t None = false

@@ -31,7 +31,7 @@ use Rattle.et_event.specs.declared.rows.Condition.TheVariants as when
 use Rattle.et_event.specs.declared.rows.FrameRow.{FrameRow}
 use Rattle.et_event.specs.declared.rows.FrameRow.TheVariants as row
 use Rattle.et_event.specs.declared.errors.GuestError.TheVariants.{ArithmeticException}
-use Rattle.et_event.specs.Moments.{Moment, frame_of, begins, with_frame, ill_typed, goes, ends, throws}
+use Rattle.et_event.specs.Moments.{Moment, current_frame, begins, with_frame, ill_typed, goes, ends_event, throws}
 use Rattle.et_event.specs.Checks.{Reference, with_int, with_long, with_reference, ill_typed_unless}
 use Rattle.et_event.specs.Sites.{Site, local_index, target, LoadedConstant, AnInt, ALong, AString}
 use Rattle.et_event.specs.Strings.{interned, string_object}
@@ -98,19 +98,19 @@ is_single Null = true
 is_single (Ref o) = true
 
 -- the first two entries are a long, or two values
-abbrev pub is_pair : List Value → Bool
-is_pair (LongHigh ∷ Long n ∷ below) = true
-is_pair (v ∷ w ∷ below) = is_single v && is_single w
-is_pair other = false
+abbrev pub is_value_pair : List Value → Bool
+is_value_pair (LongHigh ∷ Long n ∷ below) = true
+is_value_pair (v ∷ w ∷ below) = is_single v && is_single w
+is_value_pair other = false
 
-abbrev pub is_one : List Value → Bool
-is_one [] = false
-is_one (v ∷ below) = is_single v
+abbrev pub is_one_value : List Value → Bool
+is_one_value [] = false
+is_one_value (v ∷ below) = is_single v
 
 -- groups of one entry and of two
 abbrev pub are_groups : List ℕ → List Value → Bool
 are_groups [] ops = true
-are_groups (size ∷ sizes) ops = (if size == 1 then is_one ops else is_pair ops) && are_groups sizes (drop size ops)
+are_groups (size ∷ sizes) ops = (if size == 1 then is_one_value ops else is_value_pair ops) && are_groups sizes (drop size ops)
 
 abbrev pub groups_of : Rearrangement → List ℕ
 groups_of stack.Nop = []
@@ -125,22 +125,22 @@ groups_of stack.Dup2X2 = 2 ∷ 2 ∷ []
 groups_of stack.Swap = 1 ∷ 1 ∷ []
 
 -- what is put back, the topmost first
-abbrev pub places_of : Rearrangement → List ℕ
-places_of stack.Nop = []
-places_of stack.Pop = []
-places_of stack.Pop2 = []
-places_of stack.Dup = 0 ∷ 0 ∷ []
-places_of stack.DupX1 = 0 ∷ 1 ∷ 0 ∷ []
-places_of stack.DupX2 = 0 ∷ 1 ∷ 2 ∷ 0 ∷ []
-places_of stack.Dup2 = 0 ∷ 1 ∷ 0 ∷ 1 ∷ []
-places_of stack.Dup2X1 = 0 ∷ 1 ∷ 2 ∷ 0 ∷ 1 ∷ []
-places_of stack.Dup2X2 = 0 ∷ 1 ∷ 2 ∷ 3 ∷ 0 ∷ 1 ∷ []
-places_of stack.Swap = 1 ∷ 0 ∷ []
+abbrev pub operand_places : Rearrangement → List ℕ
+operand_places stack.Nop = []
+operand_places stack.Pop = []
+operand_places stack.Pop2 = []
+operand_places stack.Dup = 0 ∷ 0 ∷ []
+operand_places stack.DupX1 = 0 ∷ 1 ∷ 0 ∷ []
+operand_places stack.DupX2 = 0 ∷ 1 ∷ 2 ∷ 0 ∷ []
+operand_places stack.Dup2 = 0 ∷ 1 ∷ 0 ∷ 1 ∷ []
+operand_places stack.Dup2X1 = 0 ∷ 1 ∷ 2 ∷ 0 ∷ 1 ∷ []
+operand_places stack.Dup2X2 = 0 ∷ 1 ∷ 2 ∷ 3 ∷ 0 ∷ 1 ∷ []
+operand_places stack.Swap = 1 ∷ 0 ∷ []
 
 abbrev pub rearranged : ℕ → Rearrangement → FrameState → Option FrameState
 rearranged pc r f =
     if are_groups (groups_of r) f.operands
-    then put pc (map (λ k. slice_index_or f.operands k Unset) (places_of r) ++ drop (sum (groups_of r)) f.operands) f
+    then put pc (map (λ k. slice_index_or f.operands k Unset) (operand_places r) ++ drop (sum (groups_of r)) f.operands) f
     else None
 
 -- Numbers
@@ -168,9 +168,9 @@ negated number.Int ops = with_int None ops (λ a below. Some (Int (negate w32 a)
 negated number.Long ops = with_long None ops (λ a below. Some (LongHigh ∷ Long (negate w64 a) ∷ below))
 
 -- .. after a shift: the count, an int, is on top
-abbrev pub moved : Number → Shift → List Value → Option (List Value)
-moved number.Int s ops = with_int None ops (λ count more. with_int None more (λ a below. Some (Int (shifted w32 s a count) ∷ below)))
-moved number.Long s ops = with_int None ops (λ count more. with_long None more (λ a below. Some (LongHigh ∷ Long (shifted w64 s a count) ∷ below)))
+abbrev pub values_moved : Number → Shift → List Value → Option (List Value)
+values_moved number.Int s ops = with_int None ops (λ count more. with_int None more (λ a below. Some (Int (shifted w32 s a count) ∷ below)))
+values_moved number.Long s ops = with_int None ops (λ count more. with_long None more (λ a below. Some (LongHigh ∷ Long (shifted w64 s a count) ∷ below)))
 
 abbrev pub converted : Conversion → List Value → Option (List Value)
 converted IntToLong ops = with_int None ops (λ a below. Some (LongHigh ∷ Long a ∷ below))
@@ -209,14 +209,14 @@ is_null None = true
 is_null (Some o) = false
 
 -- whether the condition holds, and the operands below those that it takes
-abbrev pub tested : Condition → List Value → Option (Bool × List Value)
-tested when.Always ops = Some (true, ops)
-tested (when.WithZero c) ops = with_int None ops (λ a below. Some (compares c a (pos 0), below))
-tested (when.OfInts c) ops = with_int None ops (λ b more. with_int None more (λ a below. Some (compares c a b, below)))
-tested when.SameReference ops = with_reference None ops (λ b more. with_reference None more (λ a below. Some (same_reference a b, below)))
-tested when.OtherReference ops = with_reference None ops (λ b more. with_reference None more (λ a below. Some (not (same_reference a b), below)))
-tested when.Null ops = with_reference None ops (λ a below. Some (is_null a, below))
-tested when.NotNull ops = with_reference None ops (λ a below. Some (not (is_null a), below))
+abbrev pub condition_tested : Condition → List Value → Option (Bool × List Value)
+condition_tested when.Always ops = Some (true, ops)
+condition_tested (when.WithZero c) ops = with_int None ops (λ a below. Some (compares c a (pos 0), below))
+condition_tested (when.OfInts c) ops = with_int None ops (λ b more. with_int None more (λ a below. Some (compares c a b, below)))
+condition_tested when.SameReference ops = with_reference None ops (λ b more. with_reference None more (λ a below. Some (same_reference a b, below)))
+condition_tested when.OtherReference ops = with_reference None ops (λ b more. with_reference None more (λ a below. Some (not (same_reference a b), below)))
+condition_tested when.Null ops = with_reference None ops (λ a below. Some (is_null a, below))
+condition_tested when.NotNull ops = with_reference None ops (λ a below. Some (not (is_null a), below))
 
 abbrev pub branched : Site → FrameState → Bool × List Value → FrameState
 branched at f test = record f { pc = if test.0 then target f.pc at.instr.first else at.next; operands = test.1 }
@@ -225,22 +225,22 @@ abbrev pub switched : Site → FrameState → Option FrameState
 switched at f = with_int None f.operands (λ key below. Some (record f { pc = target f.pc (target_of at.code at.instr key); operands = below }))
 
 -- THE SHAPES
-abbrev pub after : Site → FrameRow → FrameState → Option FrameState
-after at row.Null f = put at.next (Null ∷ f.operands) f
-after at (row.Int n) f = put at.next (Int n ∷ f.operands) f
-after at (row.Long n) f = put at.next (LongHigh ∷ Long n ∷ f.operands) f
-after at row.Immediate f = put at.next (Int at.instr.first ∷ f.operands) f
-after at (row.Load kind local) f = put_some at.next (option_map (λ vs. vs ++ f.operands) (loaded kind (local_index local at) f)) f
-after at (row.Store kind local) f = stored at.next kind (local_index local at) f
-after at row.Increment f = increased at.next (local_index Named at) at.instr.second f
-after at (row.Rearrange r) f = rearranged at.next r f
-after at (row.Arithmetic n o) f = put_some at.next (combined n o f.operands) f
-after at (row.Negate n) f = put_some at.next (negated n f.operands) f
-after at (row.Shift n s) f = put_some at.next (moved n s f.operands) f
-after at (row.Convert c) f = put_some at.next (converted c f.operands) f
-after at row.CompareLongs f = put_some at.next (compared f.operands) f
-after at (row.Branch c) f = option_map (branched at f) (tested c f.operands)
-after at row.Switch f = switched at f
+abbrev pub frame_after : Site → FrameRow → FrameState → Option FrameState
+frame_after at row.Null f = put at.next (Null ∷ f.operands) f
+frame_after at (row.Int n) f = put at.next (Int n ∷ f.operands) f
+frame_after at (row.Long n) f = put at.next (LongHigh ∷ Long n ∷ f.operands) f
+frame_after at row.Immediate f = put at.next (Int at.instr.first ∷ f.operands) f
+frame_after at (row.Load kind local) f = put_some at.next (option_map (λ vs. vs ++ f.operands) (loaded kind (local_index local at) f)) f
+frame_after at (row.Store kind local) f = stored at.next kind (local_index local at) f
+frame_after at row.Increment f = increased at.next (local_index Named at) at.instr.second f
+frame_after at (row.Rearrange r) f = rearranged at.next r f
+frame_after at (row.Arithmetic n o) f = put_some at.next (combined n o f.operands) f
+frame_after at (row.Negate n) f = put_some at.next (negated n f.operands) f
+frame_after at (row.Shift n s) f = put_some at.next (values_moved n s f.operands) f
+frame_after at (row.Convert c) f = put_some at.next (converted c f.operands) f
+frame_after at row.CompareLongs f = put_some at.next (compared f.operands) f
+frame_after at (row.Branch c) f = option_map (branched at f) (condition_tested c f.operands)
+frame_after at row.Switch f = switched at f
 
 -- an instruction that changes nothing but the topmost frame
 abbrev pub on_frame : Moment → Option FrameState → Outcome Kept
@@ -250,12 +250,12 @@ on_frame e (Some f) = goes (with_frame e f (begins e))
 -- ldc, ldc_w, ldc2_w: a number, or the interned object of a string, which is made where there is none yet
 abbrev pub constant : Moment → Site → Option LoadedConstant → Outcome Kept
 constant e at None = ill_typed e
-constant e at (Some (AnInt n)) = on_frame e (put at.next (Int n ∷ (frame_of e).operands) (frame_of e))
-constant e at (Some (ALong n)) = on_frame e (put at.next (LongHigh ∷ Long n ∷ (frame_of e).operands) (frame_of e))
+constant e at (Some (AnInt n)) = on_frame e (put at.next (Int n ∷ (current_frame e).operands) (current_frame e))
+constant e at (Some (ALong n)) = on_frame e (put at.next (LongHigh ∷ Long n ∷ (current_frame e).operands) (current_frame e))
 constant e at (Some (AString bytes)) =
-    ill_typed_unless e (nat_lt (length (frame_of e).operands) (frame_of e).room)
+    ill_typed_unless e (nat_lt (length (current_frame e).operands) (current_frame e).room)
     (let d = interned e bytes (begins e) in
-    ends (with_frame e (record (frame_of e) { pc = at.next; operands = Ref (string_object bytes d) ∷ (frame_of e).operands }) d))
+    ends_event (with_frame e (record (current_frame e) { pc = at.next; operands = Ref (string_object bytes d) ∷ (current_frame e).operands }) d))
 
 -- idiv, irem, ldiv, lrem: a zero divisor throws
 abbrev pub divided : Width → Division → ℤ → ℤ → Option ℤ
@@ -264,12 +264,12 @@ divided w Remainder a b = remainder w a b
 
 abbrev pub quotient : Moment → Site → Option ℤ → (ℤ → List Value) → Outcome Kept
 quotient e at None operands = throws e ArithmeticException (begins e)
-quotient e at (Some n) operands = on_frame e (put at.next (operands n) (frame_of e))
+quotient e at (Some n) operands = on_frame e (put at.next (operands n) (current_frame e))
 
 abbrev pub divides : Moment → Site → Number → Division → Outcome Kept
 divides e at number.Int o =
-    with_int (ill_typed e) (frame_of e).operands (λ b more. with_int (ill_typed e) more (λ a below.
+    with_int (ill_typed e) (current_frame e).operands (λ b more. with_int (ill_typed e) more (λ a below.
     quotient e at (divided w32 o a b) (λ n. Int n ∷ below)))
 divides e at number.Long o =
-    with_long (ill_typed e) (frame_of e).operands (λ b more. with_long (ill_typed e) more (λ a below.
+    with_long (ill_typed e) (current_frame e).operands (λ b more. with_long (ill_typed e) more (λ a below.
     quotient e at (divided w64 o a b) (λ n. LongHigh ∷ Long n ∷ below)))

@@ -25,10 +25,10 @@ use Rattle.et_event.specs.declared.rows.CallRow.TheVariants.{Invoke}
 use Rattle.et_event.specs.declared.rows.Row.TheVariants.{Heap, Call}
 use Rattle.et_event.specs.Table.{row_of}
 use Rattle.et_event.specs.Calls.{entry_count}
-use Rattle.et_event.specs.Errors.{name_of, class_called}
+use Rattle.et_event.specs.Errors.{error_name, class_called}
 use Rattle.et_event.specs.Heap.{may_be_made}
-use Rattle.et_event.specs.Kinds.{is_array, kind_of}
-use Rattle.et_event.specs.Sites.{Site, Member, LoadedConstant, AnInt, ALong, AString, constant_at, member_of, pool_of, natural}
+use Rattle.et_event.specs.Kinds.{is_array_element, operand_kind}
+use Rattle.et_event.specs.Sites.{Site, Member, LoadedConstant, AnInt, ALong, AString, constant_at, site_member, pool_of_class, natural_of}
 use Rattle.et_event.specs.Sound.{is_of_kind, kind_of_element, returned_of, IsSoundObject}
 
 -- an object of the built-in class of this name, as it is made
@@ -38,7 +38,7 @@ new_of p name = new_object (class_called p name) 0 (class_at p (class_called p n
 -- a string and each exception of the machine are sound as they are made: they have a slot for each of their fields
 pub record MakesSound (p : Linked) : Type 0 where
   pub string : IsSoundObject p (new_of p (codes "java/lang/String"))
-  pub error : (error : GuestError) → IsSoundObject p (new_of p (name_of error))
+  pub error : (error : GuestError) → IsSoundObject p (new_of p (error_name error))
 
 -- an object of class c has the field f
 pub record HasInstanceField (p : Linked) (c f : ℕ) : Type 0 where
@@ -49,13 +49,13 @@ pub record HasInstanceField (p : Linked) (c f : ℕ) : Type 0 where
 -- a class of arrays
 pub record IsArrayClass (p : Linked) (c : ℕ) : Type 0 where
   pub within : c < length p.classes
-  pub array : is_array (class_at p c).info.element ≡ true
+  pub array : is_array_element (class_at p c).info.element ≡ true
 
 -- the slots of fields (JVMS 2.4, 2.5.3)
 pub record HasSlots (p : Linked) : Type 0 where
   -- an instance and an array of each class are sound as they are made
   pub instances : (c : ℕ) → c < length p.classes → (class_at p c).info.element ≡ NoArray → IsSoundObject p (new_object c 0 (class_at p c).info.slots)
-  pub arrays : (c elements : ℕ) → c < length p.classes → is_array (class_at p c).info.element ≡ true → IsSoundObject p (new_object c elements elements)
+  pub arrays : (c elements : ℕ) → c < length p.classes → is_array_element (class_at p c).info.element ≡ true → IsSoundObject p (new_object c elements elements)
   -- no two fields of an object have one slot, and no array has a field
   pub own : (c f g : ℕ) → HasInstanceField p c f → HasInstanceField p c g → (field_at p f).slot ≡ (field_at p g).slot → f ≡ g
   pub bare : (c f : ℕ) → HasInstanceField p c f → (class_at p c).info.element ≡ NoArray
@@ -76,7 +76,7 @@ pub record HasConstant (p : Linked) (c f : ℕ) : Type 0 where
   pub class : (field_at p f).class ≡ c
   pub slot : (field_at p f).slot < length p.statics
   pub place : slice_index_or p.statics (field_at p f).slot 0 ≡ f
-  pub typed : (k : LoadedConstant) → constant_at (pool_of p (field_at p f).class) (field_at p f).constant ≡ Some k → is_of_kind (kind_of (field_at p f).descriptor) (value_like k) ≡ true
+  pub typed : (k : LoadedConstant) → constant_at (pool_of_class p (field_at p f).class) (field_at p f).constant ≡ Some k → is_of_kind (operand_kind (field_at p f).descriptor) (value_like k) ≡ true
 
 -- a method that initializes a class has code and returns nothing (JVMS 2.9)
 pub record IsInitializer (p : Linked) (m : ℕ) : Type 0 where
@@ -137,11 +137,11 @@ pub record IsInstruction (p : Linked) (m : ℕ) (x : Instr × ℕ) : Type 0 wher
 abbrev pub is_initializing : Linked → ℕ → Bool
 is_initializing p m = bytes_eq (method_at p m).name (codes "<clinit>")
 
-pub record HasMethods (p : Linked) : Type 0 where
+pub record HasBuiltInMethods (p : Linked) : Type 0 where
   pub arguments : (m : ℕ) (body : Body) (type : MethodType) → m < length p.methods → (method_at p m).code ≡ Some body → method_type (method_at p m).descriptor ≡ Some type → entry_count (is_static p m || is_initializing p m) type ≤ body.max_locals
   pub static : (m : ℕ) → m < length p.methods → is_static p m ≡ true → is_initializing p m ≡ false → (method_at p m).code ≡ None → has (method_at p m).flags NATIVE ≡ true
   -- no instruction calls a method of that name
-  pub calls : (m : ℕ) (at : Site) (kind : CallKind) (named : Member) → IsInstruction p m (at.instr, at.next) → at.pool ≡ pool_of p (method_at p m).class → row_of at.instr.opcode ≡ Some (Call (Invoke kind)) → member_of at ≡ Some named → bytes_eq named.name (codes "<clinit>") ≡ false
+  pub calls : (m : ℕ) (at : Site) (kind : CallKind) (named : Member) → IsInstruction p m (at.instr, at.next) → at.pool ≡ pool_of_class p (method_at p m).class → row_of at.instr.opcode ≡ Some (Call (Invoke kind)) → site_member at ≡ Some named → bytes_eq named.name (codes "<clinit>") ≡ false
   pub main : p.main < length p.methods
   pub main_static : is_static p p.main ≡ true
   pub main_name : (method_at p p.main).name ≡ codes "main"
@@ -153,7 +153,7 @@ pub record HasMethods (p : Linked) : Type 0 where
 -- it names this class in the pool of its own
 pub record NamesClass (p : Linked) (m : ℕ) (x : Instr × ℕ) (class : ℕ) : Type 0 where
   pub name : List ℕ
-  pub operand : class_name_at (pool_of p (method_at p m).class) (natural x.0.first) ≡ Some name
+  pub operand : class_name_at (pool_of_class p (method_at p m).class) (natural_of x.0.first) ≡ Some name
   pub resolves : resolve_class p name ≡ Ok class
 
 -- a class of arrays whose elements are arrays, and so on, so many times
@@ -163,9 +163,9 @@ HasDimensions p (suc zero) c = IsArrayClass p c
 HasDimensions p (suc (suc n)) c = IsArrayClass p c × ((k : ℕ) × ((class_at p c).info.element ≡ Class k) × HasDimensions p (suc n) k)
 
 pub record HasArrays (p : Linked) : Type 0 where
-  pub base : (m : ℕ) (x : Instr × ℕ) → IsInstruction p m x → row_of x.0.opcode ≡ Some (Heap NewArray) → IsSome (base_array p (natural x.0.first))
+  pub base : (m : ℕ) (x : Instr × ℕ) → IsInstruction p m x → row_of x.0.opcode ≡ Some (Heap NewArray) → IsSome (base_array p (natural_of x.0.first))
   pub single : (m : ℕ) (x : Instr × ℕ) (class : ℕ) → IsInstruction p m x → row_of x.0.opcode ≡ Some (Heap NewReferenceArray) → NamesClass p m x class → IsArrayClass p (unwrap_or (class_at p class).array 0)
-  pub multi : (m : ℕ) (x : Instr × ℕ) (class : ℕ) → IsInstruction p m x → row_of x.0.opcode ≡ Some (Heap NewMultiArray) → NamesClass p m x class → (0 < natural x.0.second) × HasDimensions p (natural x.0.second) class
+  pub multi : (m : ℕ) (x : Instr × ℕ) (class : ℕ) → IsInstruction p m x → row_of x.0.opcode ≡ Some (Heap NewMultiArray) → NamesClass p m x class → (0 < natural_of x.0.second) × HasDimensions p (natural_of x.0.second) class
 
 -- THE ELEMENTS OF ARRAYS
 
@@ -182,6 +182,6 @@ AreElementsWithin p = (c : ℕ) → c < length p.classes → IsElementWithin (le
 -- an object of a class may hold a value in a slot
 pub record MayHold (p : Linked) (class i : ℕ) (v : Value) : Type 0 where
   -- where a field of its class, or of one above, stands there, the value is of its type
-  pub fields : (f : ℕ) → f < length p.fields → has (field_at p f).flags STATIC ≡ false → is_subclass p class (field_at p f).class ≡ true → (field_at p f).slot ≡ i → is_of_kind (kind_of (field_at p f).descriptor) v ≡ true
+  pub fields : (f : ℕ) → f < length p.fields → has (field_at p f).flags STATIC ≡ false → is_subclass p class (field_at p f).class ≡ true → (field_at p f).slot ≡ i → is_of_kind (operand_kind (field_at p f).descriptor) v ≡ true
   -- an array has elements of its type
   pub elements : (is_of_kind (kind_of_element (class_at p class).info.element) v ≡ true) ⊎ ((class_at p class).info.element ≡ NoArray)

@@ -9,14 +9,14 @@ use Rattle.et_event.specs.declared.errors.GuestError.{GuestError}
 use Rattle.et_event.specs.Errors.{class_called, error_class}
 use Rattle.et_event.specs.InitializationOrder.{IsInOrder}
 use Rattle.et_event.specs.Interfaces.{KnowsInterfaces}
-use Rattle.et_event.specs.Programs.{MakesSound, HasSlots, HasInitializers, HasMachineSlots, HasMethods, HasArrays, AreElementsWithin, MayHold}
+use Rattle.et_event.specs.Programs.{MakesSound, HasSlots, HasInitializers, HasMachineSlots, HasBuiltInMethods, HasArrays, AreElementsWithin, MayHold}
 
 pub record IsRunnable (p : Linked) : Type 0 where
   pub makes : MakesSound p
   pub slots : HasSlots p
   pub initializers : HasInitializers p
   pub machine_slots : HasMachineSlots p
-  pub methods : HasMethods p
+  pub methods : HasBuiltInMethods p
   pub arrays : HasArrays p
   -- no superclass is an interface, and each superinterface is one (JVMS 5.3.5)
   pub interfaces : KnowsInterfaces p

@@ -29,50 +29,50 @@ abbrev pub no_constants : Constants
 no_constants = record { at = 0; slots = [] }
 
 -- the method of a frame
-abbrev pub method_of : Linked → FrameState → MethodInfo
-method_of p f = method_at p (unwrap_or f.method 0)
+abbrev pub running_method : Linked → FrameState → MethodInfo
+running_method p f = method_at p (unwrap_or f.method 0)
 
-abbrev pub body_of : Option Body → Body
-body_of code = unwrap_or code no_body
+abbrev pub present_body : Option Body → Body
+present_body code = unwrap_or code no_body
 
 -- the code of a frame's method
-abbrev pub code_of : Linked → FrameState → Body
-code_of p f = body_of (method_of p f).code
+abbrev pub code_of_frame : Linked → FrameState → Body
+code_of_frame p f = present_body (running_method p f).code
 
 -- the pool of a class
-abbrev pub pool_of : Linked → ℕ → List (Option Item)
-pool_of p class = (slice_index_or p.pools class no_constants).slots
+abbrev pub pool_of_class : Linked → ℕ → List (Option Item)
+pool_of_class p class = (slice_index_or p.pools class no_constants).slots
 
 -- what stands at the pc of a frame
 abbrev pub decoded_at : Linked → FrameState → Result (Instr × ℕ) CodeFault
-decoded_at p f = instruction_at (code_of p f).code f.pc
+decoded_at p f = instruction_at (code_of_frame p f).code f.pc
 
 abbrev pub site_of : Linked → FrameState → Instr × ℕ → Site
 site_of p f decoded = record {
   instr = decoded.0;
   next = decoded.1;
-  code = (code_of p f).code;
-  pool = pool_of p (method_of p f).class;
-  class = (method_of p f).class;
+  code = (code_of_frame p f).code;
+  pool = pool_of_class p (running_method p f).class;
+  class = (running_method p f).class;
 }
 
 -- a number that isn't negative
-abbrev pub natural : ℤ → ℕ
-natural (pos n) = n
-natural (negsuc n) = 0
+abbrev pub natural_of : ℤ → ℕ
+natural_of (pos n) = n
+natural_of (negsuc n) = 0
 
 -- the local variable that an instruction names
 abbrev pub local_index : Local → Site → ℕ
-local_index Named at = natural at.instr.first
+local_index Named at = natural_of at.instr.first
 local_index (At n) at = n
 
 -- the index into the pool that an instruction has
 abbrev pub pool_index : Site → ℕ
-pool_index at = natural at.instr.first
+pool_index at = natural_of at.instr.first
 
 -- the place so far from pc to which an instruction goes
 abbrev pub target : ℕ → ℤ → ℕ
-target pc offset = natural (pos pc +ℤ offset)
+target pc offset = natural_of (pos pc +ℤ offset)
 
 -- CONSTANTS (JVMS 4.4.3 to 4.4.5)
 pub data LoadedConstant : Type 0 where
@@ -98,8 +98,8 @@ abbrev described : List (Option Item) → ℕ × ℕ → Option Member
 described pool indices =
     option_and_then (λ owner. option_and_then (named pool owner) (name_and_type_at pool indices.1)) (class_name_at pool indices.0)
 
-abbrev pub member_of : Site → Option Member
-member_of at = option_and_then (described at.pool) (member_at at.pool (pool_index at))
+abbrev pub site_member : Site → Option Member
+site_member at = option_and_then (described at.pool) (member_at at.pool (pool_index at))
 
 -- the entry is one of a method of an interface
 abbrev pub names_interface : Site → Bool

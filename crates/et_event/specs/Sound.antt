@@ -32,9 +32,9 @@ use Rattle.et_event.specs.declared.rows.CallRow.TheVariants.{Invoke}
 use Rattle.et_event.specs.declared.rows.Row.TheVariants.{Call}
 use Rattle.et_event.specs.Table.{row_of}
 use Rattle.et_event.specs.Errors.{class_called}
-use Rattle.et_event.specs.Moments.{fits}
-use Rattle.et_event.specs.Sites.{Member, member_of, site_of, method_of, decoded_at}
-use Rattle.et_event.specs.Kinds.{kind_of, returned_width}
+use Rattle.et_event.specs.Moments.{fits_heap}
+use Rattle.et_event.specs.Sites.{Member, site_member, site_of, running_method, decoded_at}
+use Rattle.et_event.specs.Kinds.{operand_kind, returned_width}
 
 -- VALUES IN SLOTS: nothing was written to it, or a value of its type
 
@@ -66,7 +66,7 @@ slots_by (Class class) slots elements = elements
 -- the field stands in a slot of the object, which holds what it may
 pub record HasField (p : Linked) (x : ObjectState) (f : ℕ) : Type 0 where
   pub slot : (field_at p f).slot < length x.slots
-  pub value : is_of_kind (kind_of (field_at p f).descriptor) (slot_of x (field_at p f).slot) ≡ true
+  pub value : is_of_kind (operand_kind (field_at p f).descriptor) (slot_of x (field_at p f).slot) ≡ true
 
 pub record IsSoundObject (p : Linked) (x : ObjectState) : Type 0 where
   pub class : x.class < length p.classes
@@ -105,13 +105,13 @@ pub record IsEmpty (f : FrameState) : Type 0 where
 
 -- the lock slot holds an object exactly where the method is synchronized and not static
 abbrev pub IsLocked : Linked → FrameState → Type 0
-IsLocked p f = IsSome f.lock ↔ ((has (method_of p f).flags SYNCHRONIZED ≡ true) × (has (method_of p f).flags STATIC ≡ false))
+IsLocked p f = IsSome f.lock ↔ ((has (running_method p f).flags SYNCHRONIZED ≡ true) × (has (running_method p f).flags STATIC ≡ false))
 
 abbrev pub returned_of : MethodInfo → List ℕ
 returned_of m = option_map_or (λ (type : MethodType). type.returned) (method_type m.descriptor) []
 
 abbrev pub IsVoid : Linked → FrameState → Type 0
-IsVoid p f = is_void (returned_of (method_of p f)) ≡ true
+IsVoid p f = is_void (returned_of (running_method p f)) ≡ true
 
 -- a frame by its stage: that of an initializer has a method, <clinit>, only once it was entered
 abbrev pub IsStaged : Linked → FrameState → Stage → Option ℕ → Type 0
@@ -130,9 +130,9 @@ pub record IsCaller (p : Linked) (f above : FrameState) : Type 0 where
   pub kind : CallKind
   pub call : row_of decoded.0.opcode ≡ Some (Call (Invoke kind))
   pub member : Member
-  pub names : member_of (site_of p f decoded) ≡ Some member
-  pub descriptor : member.descriptor ≡ (method_of p above).descriptor
-  pub fits : length f.operands + returned_width (returned_of (method_of p above)) ≤ f.room
+  pub names : site_member (site_of p f decoded) ≡ Some member
+  pub descriptor : member.descriptor ≡ (running_method p above).descriptor
+  pub fits : length f.operands + returned_width (returned_of (running_method p above)) ≤ f.room
 
 -- what a frame asks of those below it: a method was called there; the lowest one of a thread returns nothing
 abbrev pub IsAbove : Linked → FrameState → Stage → List FrameState → Type 0
@@ -165,14 +165,14 @@ IsSoundClassState g other = Unit {0}
 
 -- a static slot of a class holds what it may, and 0 or null as long as the class is untouched
 pub record IsSoundStatic (p : Linked) (g : GuestState) (i : ℕ) : Type 0 where
-  pub value : is_of_kind (kind_of (field_at p (slice_index_or p.statics i 0)).descriptor) (static_at g i) ≡ true
+  pub value : is_of_kind (operand_kind (field_at p (slice_index_or p.statics i 0)).descriptor) (static_at g i) ≡ true
   pub untouched : class_state_at g (field_at p (slice_index_or p.statics i 0)).class ≡ Untouched → static_at g i ≡ Unset
 
 -- THE STATE
 pub record IsSoundFor (p : Linked) (s : Kept) : Type 0 where
   pub held : IsSound s
   pub clock : s.guest.clock ≤ 2 ^ 40
-  pub fits : fits s.heap ≡ true
+  pub fits : fits_heap s.heap ≡ true
   pub objects : (o : ℕ) (x : ObjectState) → at s.heap o ≡ Some x → IsSoundObject p x × IsSoundMonitor s.guest x.monitor
   pub threads : (t : ℕ) → t < length s.guest.threads → IsSoundThread p s t
   pub few_threads : length s.guest.threads ≤ most_threads

@@ -17,19 +17,19 @@ use Rattle.et_state.specs.declared.records.Record.TheVariants.{Unwind}
 use Rattle.et_state.specs.Outcome.{Outcome}
 use Rattle.et_event.specs.declared.errors.GuestError.TheVariants.{ExceptionInInitializerError}
 use Rattle.et_event.specs.Errors.{class_called, error_class}
-use Rattle.et_event.specs.Moments.{Moment, Doing, thread_of, frame_of, begins, told, with_thread_state, class_of, next_object, instance_made, slot_written, pending_now, ill_typed, goes, ends}
+use Rattle.et_event.specs.Moments.{Moment, Doing, thread_of, current_frame, begins, told, with_thread_state, object_class, next_object, instance_made, slot_written, pending_now, ill_typed, goes, ends_event}
 use Rattle.et_event.specs.Checks.{with_reference, ill_typed_unless, not_null}
-use Rattle.et_event.specs.Sites.{method_of, code_of, pool_of}
+use Rattle.et_event.specs.Sites.{running_method, code_of_frame, pool_of_class}
 use Rattle.et_event.specs.Initialization.{with_state}
 use Rattle.et_event.specs.Monitors.{Lock, lock_in, owns, left}
 
 -- athrow
 abbrev pub is_throwable : Moment → ℕ → Bool
-is_throwable e o = is_subclass e.program (class_of (begins e) o) (class_called e.program (codes "java/lang/Throwable"))
+is_throwable e o = is_subclass e.program (object_class (begins e) o) (class_called e.program (codes "java/lang/Throwable"))
 
 abbrev pub throw : Moment → Outcome Kept
 throw e =
-    with_reference (ill_typed e) (frame_of e).operands (λ r below.
+    with_reference (ill_typed e) (current_frame e).operands (λ r below.
     not_null e (begins e) r (λ o.
     ill_typed_unless e (is_throwable e o) (goes (pending_now e o (begins e)))))
 
@@ -49,7 +49,7 @@ catches p pool pc class row =
     nat_le row.start pc && nat_lt pc row.end && ((row.catch == 0) || catches_name p class (class_name_at pool row.catch))
 
 abbrev pub handler_of : Linked → FrameState → ℕ → Option TableRow
-handler_of p f class = find (catches p (pool_of p (method_of p f).class) f.pc class) (code_of p f).table
+handler_of p f class = find (catches p (pool_of_class p (running_method p f).class) f.pc class) (code_of_frame p f).table
 
 -- AN UNWINDING STEP: a handler is entered, or one frame is dropped
 
@@ -58,8 +58,8 @@ handled f pc o = record f { pc = pc; operands = Ref o ∷ [] }
 
 abbrev pub caught : Moment → ℕ → ℕ → Outcome Kept
 caught e o handler =
-    ill_typed_unless e (nat_lt 0 (frame_of e).room)
-    (goes (with_thread_state e (with_pending None (with_top_of (thread_of e) (handled (frame_of e) handler o))) (begins e)))
+    ill_typed_unless e (nat_lt 0 (current_frame e).room)
+    (goes (with_thread_state e (with_pending None (with_top_of (thread_of e) (handled (current_frame e) handler o))) (begins e)))
 
 -- the frame's monitor is left once, where this thread owns it
 abbrev pub left_if_owned : Moment → Option Lock → Doing → Doing
@@ -71,7 +71,7 @@ dropped e d = with_thread_state e (without_top (thread_at d.state.guest e.thread
 
 -- an initializer failed: an exception that is no Error is replaced by a new ExceptionInInitializerError with it as cause
 abbrev pub is_error : Moment → ℕ → Bool
-is_error e o = is_subclass e.program (class_of (begins e) o) (class_called e.program (codes "java/lang/Error"))
+is_error e o = is_subclass e.program (object_class (begins e) o) (class_called e.program (codes "java/lang/Error"))
 
 abbrev pub replaced : Moment → ℕ → Doing → Doing
 replaced e o d =
@@ -86,23 +86,23 @@ failed e c o d =
 -- the frame is dropped; one whose <clinit> was not entered gives no record
 abbrev pub unwound : Moment → ℕ → Outcome Kept
 unwound e o =
-    let f = frame_of e in
+    let f = current_frame e in
     goes (told (Unwind (begins e).state.guest.clock e.thread (unwrap_or f.method 0) o)
-    (dropped e (left_if_owned e (lock_in f.stage (method_of e.program f) f.lock) (begins e))))
+    (dropped e (left_if_owned e (lock_in f.stage (running_method e.program f) f.lock) (begins e))))
 
 abbrev pub unwound_clinit : Moment → ℕ → ℕ → Outcome Kept
 unwound_clinit e c o =
-    ends (failed e c o (told (Unwind (begins e).state.guest.clock e.thread (unwrap_or (frame_of e).method 0) o) (dropped e (begins e))))
+    ends_event (failed e c o (told (Unwind (begins e).state.guest.clock e.thread (unwrap_or (current_frame e).method 0) o) (dropped e (begins e))))
 
 abbrev pub by_handler : Moment → ℕ → Outcome Kept → Option TableRow → Outcome Kept
 by_handler e o unwinds (Some row) = caught e o row.handler
 by_handler e o unwinds None = unwinds
 
 abbrev pub unwinds : Moment → ℕ → Stage → Outcome Kept
-unwinds e o Plain = by_handler e o (unwound e o) (handler_of e.program (frame_of e) (class_of (begins e) o))
-unwinds e o (Before c) = ends (failed e c o (dropped e (begins e)))
-unwinds e o (Clinit c) = by_handler e o (unwound_clinit e c o) (handler_of e.program (frame_of e) (class_of (begins e) o))
+unwinds e o Plain = by_handler e o (unwound e o) (handler_of e.program (current_frame e) (object_class (begins e) o))
+unwinds e o (Before c) = ends_event (failed e c o (dropped e (begins e)))
+unwinds e o (Clinit c) = by_handler e o (unwound_clinit e c o) (handler_of e.program (current_frame e) (object_class (begins e) o))
 
 abbrev pub unwinding_step : Moment → Option ℕ → Outcome Kept
 unwinding_step e None = ill_typed e
-unwinding_step e (Some o) = unwinds e o (frame_of e).stage
+unwinding_step e (Some o) = unwinds e o (current_frame e).stage

@@ -1,7 +1,7 @@
 //! What the machine itself throws.
 
 ghost use Rattle.std.specs.Prelude.{◌≡◌};
-ghost use Rattle.et_event.specs.Errors.{error_of, name_of};
+ghost use Rattle.et_event.specs.Errors.{error_of, error_name};
 
 use et_program::LinkError;
 
@@ -44,7 +44,7 @@ impl GuestError {
 
     /// The name of the class, as a class file spells it.
     pub fn class_name(self) -> &'static [u8]
-        ensures { result.now ≡ name_of self }
+        ensures { result.now ≡ error_name self }
     {
         match self {
             GuestError::AbstractMethodError => b"java/lang/AbstractMethodError",

@@ -8,7 +8,7 @@ use Rattle.std.proofs.lemmas.List.Elements.{Contains-append_left, Contains-push,
 use Rattle.et_base.proofs.Lists.{Contains-none}
 use Rattle.et_heap.specs.Objects.{Objects}
 use Rattle.et_flush.specs.declared.times.TheConstants.{NOW}
-use Rattle.et_flush.specs.Searches.{AreAllHeld, AreBelow}
+use Rattle.et_flush.specs.Searches.{AreAllHeld, AreDyingIn}
 use Rattle.et_flush.proofs.Holding.{rising_push, below_push}
 use Rattle.et_flush.proofs.Listings.{each_at}
 
@@ -81,7 +81,7 @@ module _ (held times : List ℕ) (i : ℕ) (ds ds' : List (ℕ × ℕ)) (o t : �
         (cases_lt k i);
   }
 
-pub below_are : (heap : Objects) (held times : List ℕ) (i : ℕ) (ds : List (ℕ × ℕ)) → AreListedTo held times i ds → length held ≤ i → AreAllHeld heap held → AreBelow heap times ds
+pub below_are : (heap : Objects) (held times : List ℕ) (i : ℕ) (ds : List (ℕ × ℕ)) → AreListedTo held times i ds → length held ≤ i → AreAllHeld heap held → AreDyingIn heap times ds
 below_are heap held times i ds are le all = record {
   rising = are.rising;
   exact = λ o t. (

@@ -13,7 +13,7 @@ use Rattle.et_heap.specs.Remaining.{kept_referent, left_place, remaining}
 use Rattle.et_heap.proofs.HeapLists.{pair_at, pair_held, held_within, gone_at, at_gone}
 use Rattle.et_graph.specs.Listed.{IsGreatest, AreListed}
 use Rattle.et_flush.specs.declared.times.TheConstants.{NOW}
-use Rattle.et_flush.specs.Searches.{AreSeenHeld, AreBelow}
+use Rattle.et_flush.specs.Searches.{AreSeenHeld, AreDyingIn}
 use Rattle.et_flush.specs.Sweeps.{is_now, clears, visits_of, visits_from}
 use Rattle.et_flush.specs.Works.{IsSettled}
 use Rattle.et_flush.specs.Flushes.{heap_graph, is_cleared, cleared_in, cleared_from}
@@ -85,7 +85,7 @@ module _ (heap : Objects) (roots stamps times : List ℕ) (none : IsHeld heap 0 
   held_dead o held unreached = let last : o < length heap = held_within heap o held in ((held_above heap o none held, omega arith), unreached, λ c. (gone_at heap o c).2 held)
 
   -- what is below NOW is dead, with the greatest stamp that leads to it
-  pub below_listed : (deaths : List (ℕ × ℕ)) → AreBelow heap times deaths → AreListed (heap_graph heap roots) (λ u. get_or stamps u 0) deaths
+  pub below_listed : (deaths : List (ℕ × ℕ)) → AreDyingIn heap times deaths → AreListed (heap_graph heap roots) (λ u. get_or stamps u 0) deaths
   below_listed deaths are = record {
     rising = are.rising;
     exact = λ o t. (

@@ -10,7 +10,7 @@ use Rattle.et_heap.proofs.HeapLists.{held_within}
 use Rattle.et_flush.specs.declared.times.TheConstants.{NOW}
 use Rattle.et_flush.specs.Searches.{AreTimes}
 use Rattle.et_flush.specs.declared.work.Work.{Work}
-use Rattle.et_flush.specs.Works.{IsSettled, HasPlaces}
+use Rattle.et_flush.specs.Works.{IsSettled, HasWorkPlaces}
 use Rattle.et_flush.proofs.Targets.{held_above}
 
 -- with NOW at the roots, the time of each object that is held is NOW at most
@@ -37,7 +37,7 @@ pub settled_long : (heap : Objects) (roots stamps times : List ℕ) → IsSettle
 settled_long heap roots stamps times settled = omega (arith, settled.carries.kept_length, length-set_each roots NOW settled.first, settled.begins.long)
 
 -- there are places for the more of two numbers
-pub places_max : (n m k : ℕ) (w : Work) → k ≡ max n m → HasPlaces n w → HasPlaces m w → HasPlaces k w
+pub places_max : (n m k : ℕ) (w : Work) → k ≡ max n m → HasWorkPlaces n w → HasWorkPlaces m w → HasWorkPlaces k w
 places_max n m k w is a b = record {
   times = omega (arith, a.times, b.times);
   seen = a.seen;
@@ -47,7 +47,7 @@ places_max n m k w is a b = record {
   deaths = omega (arith, a.deaths, b.deaths);
 }
 
-pub places_least : (n m : ℕ) (w : Work) → n ≤ m → HasPlaces m w → HasPlaces n w
+pub places_least : (n m : ℕ) (w : Work) → n ≤ m → HasWorkPlaces m w → HasWorkPlaces n w
 places_least n m w le h = record {
   times = omega (arith, h.times);
   seen = h.seen;

@@ -34,6 +34,6 @@ pub record AreSources (heap : Objects) (times : List ℕ) (order : List Source) 
   pub all : (o : ℕ) → IsHeld heap o → (s : Source) × Contains order s × (s.object ≡ o)
 
 -- the objects that are held and whose times are below NOW, in rising order, each with its time
-pub record AreBelow (heap : Objects) (times : List ℕ) (deaths : List (ℕ × ℕ)) : Type 0 where
+pub record AreDyingIn (heap : Objects) (times : List ℕ) (deaths : List (ℕ × ℕ)) : Type 0 where
   pub rising : IsStrictlyIncreasing (map (λ d. d.0) deaths)
   pub exact : (o t : ℕ) → Contains deaths (o, t) ↔ (IsHeld heap o × (slice_index times (o - 1) ≡ t) × (t < NOW))

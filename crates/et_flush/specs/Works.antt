@@ -9,7 +9,7 @@ use Rattle.et_flush.specs.declared.work.Work.{Work}
 use Rattle.et_flush.specs.Searches.{AreAllHeld, AreTimes}
 
 -- there are places for n objects
-pub record HasPlaces (n : ℕ) (w : Work) : Type 0 where
+pub record HasWorkPlaces (n : ℕ) (w : Work) : Type 0 where
   pub times : n ≤ length w.times.items
   pub seen : length w.seen.items ≡ length w.times.items
   pub waiting : length w.times.items ≤ vec_capacity w.waiting
@@ -19,7 +19,7 @@ pub record HasPlaces (n : ℕ) (w : Work) : Type 0 where
 
 -- A search can begin: the objects that are held are listed and ordered, none of them was seen, and their times are the
 -- stamps, with NOW at each root.
-pub record IsPrepared (heap : Objects) (roots stamps : List ℕ) (w : Work) : Type 0 where
+pub record IsWorkPrepared (heap : Objects) (roots stamps : List ℕ) (w : Work) : Type 0 where
   pub held : AreAllHeld heap w.held.items
   pub first : List ℕ
   pub begins : AreTimes heap stamps first

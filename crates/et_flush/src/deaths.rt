@@ -4,7 +4,7 @@ ghost use Rattle.std.specs.List.Sorted.{IsStrictlyIncreasing};
 ghost use Rattle.et_graph.specs.Listing.{death_pairs};
 ghost use Rattle.et_graph.specs.Times.{AreWithin};
 ghost use Rattle.et_heap.specs.Objects.{Objects};
-ghost use Rattle.et_flush.specs.Searches.{AreAllHeld, AreBelow};
+ghost use Rattle.et_flush.specs.Searches.{AreAllHeld, AreDyingIn};
 
 use crate::times::NOW;
 use et_base::{ObjectId, within};
@@ -16,7 +16,7 @@ pub(crate) fn list_deaths(held: &[ObjectId], times: &[u64], deaths: &mut Vec<Dea
     requires rising { IsStrictlyIncreasing held.now }
     requires room { length held.now ≤ vec_capacity deaths.old }
     ensures deaths { (heap : Objects) → AreAllHeld heap held.now →
-        AreBelow heap times.now (death_pairs deaths.new.items) }
+        AreDyingIn heap times.now (death_pairs deaths.new.items) }
     ensures room { vec_capacity deaths.old ≤ vec_capacity deaths.new }
 {
     deaths.clear();

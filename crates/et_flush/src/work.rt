@@ -2,8 +2,8 @@
 ghost use Rattle.std.specs.Prelude.{◌≡◌, ℕ, ◌+◌, ◌<◌, ◌≤◌, [], length, max, vec_capacity, All, Contains, OnOk};
 ghost use Rattle.et_graph.specs.Listing.{death_pairs};
 ghost use Rattle.et_heap.specs.Objects.{IsHeld, made_count, held_count};
-ghost use Rattle.et_flush.specs.Searches.{ArePairsHeld, AreAllHeld, AreBelow};
-ghost use Rattle.et_flush.specs.Works.{HasPlaces, IsPrepared, IsSettled};
+ghost use Rattle.et_flush.specs.Searches.{ArePairsHeld, AreAllHeld, AreDyingIn};
+ghost use Rattle.et_flush.specs.Works.{HasWorkPlaces, IsWorkPrepared, IsSettled};
 
 use crate::deaths::list_deaths;
 use crate::held::list_held;
@@ -29,7 +29,7 @@ pub(crate) struct Work {
 
 /// No places yet.
 pub(crate) fn no_work(alloc: Global) -> Work
-    ensures places { HasPlaces 0 result }
+    ensures places { HasWorkPlaces 0 result }
     ensures deaths { result.deaths.items ≡ [] }
 {
     Work {
@@ -55,9 +55,9 @@ fn lengthen<T: Copy + Drop>(v: &mut Vec<T>, count: usize, value: T)
 
 /// Makes places for so many objects.
 pub(crate) fn reserve(work: &mut Work, count: usize) -> Result<(), AllocError>
-    requires { HasPlaces 0 work.old }
-    ensures ok { OnOk result (HasPlaces count work.new) }
-    ensures kept { (n : ℕ) → HasPlaces n work.old → HasPlaces n work.new }
+    requires { HasWorkPlaces 0 work.old }
+    ensures ok { OnOk result (HasWorkPlaces count work.new) }
+    ensures kept { (n : ℕ) → HasWorkPlaces n work.old → HasWorkPlaces n work.new }
     ensures deaths { work.new.deaths.items ≡ work.old.deaths.items }
 {
     within::reserve(&mut work.times, count)?;
@@ -77,9 +77,9 @@ fn prepare(heap: &Heap, roots: &[ObjectId], stamps: &[u64], work: &mut Work)
     requires roots { (o : ℕ) → Contains roots.now o → IsHeld heap.now o }
     requires long { length heap.now ≤ length stamps.now }
     requires below { All (λ t. t < NOW) stamps.now }
-    requires places { HasPlaces (made_count heap.now) work.old }
-    ensures prepared { IsPrepared heap.now roots.now stamps.now work.new }
-    ensures places { (n : ℕ) → HasPlaces n work.old → HasPlaces n work.new }
+    requires places { HasWorkPlaces (made_count heap.now) work.old }
+    ensures prepared { IsWorkPrepared heap.now roots.now stamps.now work.new }
+    ensures places { (n : ℕ) → HasWorkPlaces n work.old → HasWorkPlaces n work.new }
 {
     list_held(heap, &mut work.held);
     write_times(&work.held, stamps, &mut work.times, &mut work.seen);
@@ -101,10 +101,10 @@ pub(crate) fn settle<L: Ledger>(
     requires pairs { ArePairsHeld heap.now }
     requires long { length heap.now ≤ length stamps.now }
     requires below { All (λ t. t < NOW) stamps.now }
-    requires places { HasPlaces (made_count heap.now) work.old }
+    requires places { HasWorkPlaces (made_count heap.now) work.old }
     ensures settled { IsSettled heap.now roots.now stamps.now work.new.times.items }
     ensures held { AreAllHeld heap.now work.new.held.items }
-    ensures places { (n : ℕ) → HasPlaces n work.old → HasPlaces n work.new }
+    ensures places { (n : ℕ) → HasWorkPlaces n work.old → HasWorkPlaces n work.new }
     ensures visits { visits.new ≤ visits.old + held_count heap.now }
 {
     prepare(heap, roots, stamps, work);
@@ -132,11 +132,11 @@ pub(crate) fn find_deaths<L: Ledger>(
     requires pairs { ArePairsHeld heap.now }
     requires long { length heap.now ≤ length stamps.now }
     requires below { All (λ t. t < NOW) stamps.now }
-    requires places { HasPlaces (made_count heap.now) work.old }
+    requires places { HasWorkPlaces (made_count heap.now) work.old }
     ensures settled { IsSettled heap.now roots.now stamps.now work.new.times.items }
     ensures held { AreAllHeld heap.now work.new.held.items }
-    ensures deaths { AreBelow heap.now work.new.times.items (death_pairs work.new.deaths.items) }
-    ensures places { (n : ℕ) → HasPlaces n work.old → HasPlaces n work.new }
+    ensures deaths { AreDyingIn heap.now work.new.times.items (death_pairs work.new.deaths.items) }
+    ensures places { (n : ℕ) → HasWorkPlaces n work.old → HasWorkPlaces n work.new }
     ensures visits { visits.new ≤ visits.old + held_count heap.now }
 {
     settle(heap, roots, stamps, work, visits);

@@ -5,7 +5,7 @@ use Rattle.std.proofs.lemmas.List.{get_or_append_left, get_or-append-add, get_or
 use Rattle.et_graph.specs.Graph.{Graph, IsMade, LeadsTo, IsReached, AreDead, IsSoundGraph}
 use Rattle.et_graph.specs.Steps.{Step, IsLegalStep, IsFlush}
 use Rattle.et_graph.specs.Edit.{Edit, step_of}
-use Rattle.et_graph.specs.History.{Turn, graph_after, IsHistory, steps, IsLast, stamp, IsGreatestStamp, StampsTell, AreDeaths}
+use Rattle.et_graph.specs.History.{Turn, graph_after, IsHistory, steps, IsLastStep, stamp, IsGreatestStamp, StampsTell, AreDeaths}
 use Rattle.et_graph.specs.History.Turn.{Took}
 use Rattle.et_graph.specs.Times.{set_each, ArePositive, Carries, AreSettled, AreWithin}
 use Rattle.et_graph.specs.Listing.{listed, flagged}
@@ -116,7 +116,7 @@ module _ (turns : List Turn) (history : IsHistory turns) (stamps times : List �
             omega (arith, start, carried_greatest (graph_after turns).pairs (set_each (graph_after turns).roots (steps turns) stamps) times carries settled u o l);
       }
 
-  pub time_last : (o : ℕ) → IsMade (graph_after turns) o → ¬ IsReached (graph_after turns) o → IsLast turns o (get_or times (o - 1) 0)
+  pub time_last : (o : ℕ) → IsMade (graph_after turns) o → ¬ IsReached (graph_after turns) o → IsLastStep turns o (get_or times (o - 1) 0)
   time_last o made out =
       let tell : StampsTell turns = stamps_told turns (history_told turns history) in
       let last = tell.last o made in
@@ -124,7 +124,7 @@ module _ (turns : List Turn) (history : IsHistory turns) (stamps times : List �
       let b = time_greatest o made out in
       let same : last.0 ≡ get_or times (o - 1) 0 =
       omega (arith, a.source.3, b.source.3, a.greatest b.source.0 tt b.source.2, b.greatest a.source.0 tt a.source.2) in
-      subst (λ (e : ℕ). IsLast turns o e) same last.1
+      subst (λ (e : ℕ). IsLastStep turns o e) same last.1
 
   pub time_unreached : (o : ℕ) → IsMade (graph_after turns) o → ¬ IsReached (graph_after turns) o → get_or times (o - 1) 0 < steps turns
   time_unreached o made out = was_before turns (get_or times (o - 1) 0) o (time_last o made out).reached
@@ -161,7 +161,7 @@ module _ (turns : List Turn) (history : IsHistory turns) (stamps times : List �
             let place : o - 1 ≡ r.place = omega (arith, r.object) in
             let out : ¬ IsReached (graph_after turns) o = λ reached. absurd (omega (arith, time_reached o reached, r.below, ap (λ (j : ℕ). get_or times j 0) place)) in
             let time : get_or times (o - 1) 0 ≡ e = ap (λ (j : ℕ). get_or times j 0) place ∙ sym r.time in
-            ((made, out, flag_held o r.place r.object r.held), subst (λ (t : ℕ). IsLast turns o t) time (time_last o made out))),
+            ((made, out, flag_held o r.place r.object r.held), subst (λ (t : ℕ). IsLastStep turns o t) time (time_last o made out))),
         (λ h.
             let made = h.0.0 in
             let last = time_last o made h.0.1 in

@@ -2,7 +2,7 @@
 use Rattle.std.proofs.Common.{◌≡◌, ℕ, suc, ◌+◌, ◌<◌, ◌↔◌, List, [], ◌∷◌, get_or, map, Contains, refl, sym, ap, ◌∙◌, subst, inl, inr, arith}
 use Rattle.std.specs.List.Sorted.{IsStrictlyIncreasing}
 use Rattle.et_graph.specs.Graph.{IsDead, AreDead}
-use Rattle.et_graph.specs.History.{Turn, graph_after, IsHistory, IsLast, IsGreatestStamp, StampsTell, WasReported, AreDeaths, AreStamped}
+use Rattle.et_graph.specs.History.{Turn, graph_after, IsHistory, IsLastStep, IsGreatestStamp, StampsTell, WasReported, AreDeaths, AreStamped}
 use Rattle.et_graph.specs.History.Turn.{Took, Flushed}
 use Rattle.et_base.proofs.Lists.{Contains-none, Contains-here, Contains-there, Contains-cons}
 use Rattle.et_graph.proofs.StampLemmas.{history_told, stamps_told}
@@ -88,14 +88,14 @@ deaths_one turns a b da db =
     rising_one a b da.rising db.rising (λ p. ((λ c. (db.exact p.0 p.1).1 ((da.exact p.0 p.1).0 c)), (λ c. (da.exact p.0 p.1).1 ((db.exact p.0 p.1).0 c))))
 
 -- the greatest stamp of a dead object is its last step
-stamped_last : (turns : List Turn) (o e : ℕ) → IsHistory turns → IsDead (graph_after turns) o → IsGreatestStamp turns (λ u. ¬ Contains (graph_after turns).gone u) o e → IsLast turns o e
+stamped_last : (turns : List Turn) (o e : ℕ) → IsHistory turns → IsDead (graph_after turns) o → IsGreatestStamp turns (λ u. ¬ Contains (graph_after turns).gone u) o e → IsLastStep turns o e
 stamped_last turns o e history dead greatest =
     let tell : StampsTell turns = stamps_told turns (history_told turns history) in
     let last = tell.last o dead.0 in
     let g = tell.held o last.0 dead last.1 in
     let same : last.0 ≡ e =
     omega (arith, g.source.3, greatest.source.3, g.greatest greatest.source.0 greatest.source.1 greatest.source.2, greatest.greatest g.source.0 g.source.1 g.source.2) in
-    subst (λ (t : ℕ). IsLast turns o t) same last.1
+    subst (λ (t : ℕ). IsLastStep turns o t) same last.1
 
 pub stamped_deaths : (turns : List Turn) (deaths : List (ℕ × ℕ)) → IsHistory turns → AreStamped turns deaths → AreDeaths turns deaths
 stamped_deaths turns deaths history are = record {

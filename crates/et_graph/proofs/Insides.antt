@@ -10,7 +10,7 @@ use Rattle.et_graph.specs.History.{Turn, graph_after, AreDeaths}
 use Rattle.et_graph.specs.History.Turn.{Flushed}
 use Rattle.et_graph.specs.Times.{set_each, ArePositive, AreWithin, ArePairsWithin, Carries, AreSettled}
 use Rattle.et_graph.specs.Listing.{flagged, death_pairs}
-use Rattle.et_graph.specs.Objects.{HasPlaces, IsKept, TakesStep, FindsDeaths}
+use Rattle.et_graph.specs.Objects.{HasPlaces, ArePlacesKept, TakesStep, FindsDeaths}
 use Rattle.et_graph.specs.Book.{StandsFor}
 use Rattle.et_graph.specs.Inside.{book_of, IsBook}
 use Rattle.et_graph.specs.declared.book.StampBook.TheInside.{Inside}
@@ -29,7 +29,7 @@ flags_more k [] n = flags_none k n
 flags_more k (flag ∷ flags) n = ap (λ (os : List ℕ). cond flag (k ∷ os) os) (flags_more (k + 1) flags n)
 
 -- The second keeps what the first keeps, with more room.
-module _ (a b : Inside) (steps : b.steps ≡ a.steps) (roots : b.roots.items ≡ a.roots.items) (pairs : b.pairs.items ≡ a.pairs.items) (kept : IsKept a.objects b.objects) where
+module _ (a b : Inside) (steps : b.steps ≡ a.steps) (roots : b.roots.items ≡ a.roots.items) (pairs : b.pairs.items ≡ a.pairs.items) (kept : ArePlacesKept a.objects b.objects) where
   kept_graph : (book_of b).graph ≡ (book_of a).graph
   kept_graph =
       let of : List ℕ → List ℕ → List (ℕ × ℕ) → List Bool → Graph = λ ss rs ps fs. record { made = length ss; roots = rs; pairs = ps; gone = flagged 1 fs } in

@@ -4,7 +4,7 @@ use Rattle.std.specs.List.{list_any}
 use Rattle.std.proofs.lemmas.Bool.{cases_Bool, cond-true, cond-false}
 use Rattle.et_graph.specs.Graph.{Graph, IsMade, IsWalk, LeadsTo, IsReached, IsSoundGraph}
 use Rattle.et_graph.specs.Steps.{Step, IsLegalStep, IsFlush}
-use Rattle.et_graph.specs.History.{Turn, graph_after, IsHistory, steps, WasReached, IsLast, stamp, StampsTell}
+use Rattle.et_graph.specs.History.{Turn, graph_after, IsHistory, steps, WasReached, IsLastStep, stamp, StampsTell}
 use Rattle.et_graph.specs.History.Turn.{Took, Flushed}
 use Rattle.et_base.proofs.Lists.{Contains-none, cases_number, cases_pair, has_contains, contains_has}
 use Rattle.et_graph.proofs.Walks.{leads_first, along, reached_on, cases_reached, walk_more}
@@ -210,7 +210,7 @@ module _ (turns : List Turn) (told : IsTold turns) where
       (λ v x c f. let g = told.later v x c f.0 f.2 in (g.0, omega (arith, f.1, g.1), g.2))
       u l.0 o l.1 (e, omega arith, w)
 
-  last_told : (o : ℕ) → IsMade (graph_after turns) o → (e : ℕ) × IsLast turns o e × (stamp turns o ≤ e)
+  last_told : (o : ℕ) → IsMade (graph_after turns) o → (e : ℕ) × IsLastStep turns o e × (stamp turns o ≤ e)
   last_told o made =
       elim (cases_reached (graph_after turns) o) [
         | inl r ↦
@@ -225,12 +225,12 @@ module _ (turns : List Turn) (told : IsTold turns) where
             (f.0, record { reached = f.2; latest = latest }, latest (stamp turns o) (told.stamped o made))
       ]
 
-  greatest_told : (o e u : ℕ) → IsMade (graph_after turns) o → IsLast turns o e → LeadsTo (graph_after turns) u o → stamp turns u ≤ e
+  greatest_told : (o e u : ℕ) → IsMade (graph_after turns) o → IsLastStep turns o e → LeadsTo (graph_after turns) u o → stamp turns u ≤ e
   greatest_told o e u made last l =
       let f = leads_later u o (stamp turns u) l (told.stamped u (leads_made (graph_after turns) told.sound u o l made)) in
       omega (arith, f.1, last.latest f.0 f.2)
 
-  source_told : (o e : ℕ) → IsMade (graph_after turns) o → ¬ IsReached (graph_after turns) o → IsLast turns o e → (u : ℕ) × IsSource turns o u × (stamp turns u ≡ e)
+  source_told : (o e : ℕ) → IsMade (graph_after turns) o → ¬ IsReached (graph_after turns) o → IsLastStep turns o e → (u : ℕ) × IsSource turns o u × (stamp turns u ≡ e)
   source_told o e made out last =
       let source = told.source o made out in
       (source.0, source.1, omega (arith, source.1.covers e last.reached, greatest_told o e source.0 made last source.1.leads))

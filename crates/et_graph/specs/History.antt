@@ -41,7 +41,7 @@ WasReached (Took s ∷ turns) e o = ((e ≡ steps turns) × IsReached s.after o)
 WasReached (Flushed h reports ∷ turns) e o = WasReached turns e o
 
 -- e is the last step after which o is reached
-pub record IsLast (turns : List Turn) (o e : ℕ) : Type 0 where
+pub record IsLastStep (turns : List Turn) (o e : ℕ) : Type 0 where
   pub reached : WasReached turns e o
   pub latest : (other : ℕ) → WasReached turns other o → other ≤ e
 
@@ -75,18 +75,18 @@ pub record IsGreatestStamp (turns : List Turn) (P : ℕ → Type 0) (o t : ℕ) 
 -- The stamp law.
 pub record StampsTell (turns : List Turn) : Type 0 where
   -- each object made has a last step after which it was reached, and its stamp is no greater
-  pub last : (o : ℕ) → IsMade (graph_after turns) o → (e : ℕ) × IsLast turns o e × (stamp turns o ≤ e)
+  pub last : (o : ℕ) → IsMade (graph_after turns) o → (e : ℕ) × IsLastStep turns o e × (stamp turns o ≤ e)
   -- for one that isn't reached now it is the greatest stamp among those that lead to it
-  pub unreached : (o e : ℕ) → IsMade (graph_after turns) o → ¬ IsReached (graph_after turns) o → IsLast turns o e
+  pub unreached : (o e : ℕ) → IsMade (graph_after turns) o → ¬ IsReached (graph_after turns) o → IsLastStep turns o e
       → IsGreatestStamp turns (λ u. ⊤) o e
   -- and where it isn't gone, also among those of them that aren't gone
-  pub held : (o e : ℕ) → IsDead (graph_after turns) o → IsLast turns o e
+  pub held : (o e : ℕ) → IsDead (graph_after turns) o → IsLastStep turns o e
       → IsGreatestStamp turns (λ u. ¬ Contains (graph_after turns).gone u) o e
 
 -- The deaths of a flush now: each dead object with the last step after which it was reached, in rising order of the objects.
 pub record AreDeaths (turns : List Turn) (deaths : List (ℕ × ℕ)) : Type 0 where
   pub rising : IsStrictlyIncreasing (map (λ d. d.0) deaths)
-  pub exact : (o e : ℕ) → Contains deaths (o, e) ↔ (IsDead (graph_after turns) o × IsLast turns o e)
+  pub exact : (o e : ℕ) → Contains deaths (o, e) ↔ (IsDead (graph_after turns) o × IsLastStep turns o e)
 
 -- The same list as the stamps show it: each dead object with the greatest stamp of the objects that lead to it now and
 -- weren't reported.

@@ -2,7 +2,7 @@
 use Rattle.std.specs.Prelude.{◌≡◌, ℕ, ◌-◌, ◌<◌, ◌≤◌, ◌||◌, ◌++◌, false, nat_lt, List, length, replicate, vec_capacity, slice_index, slice_index_or}
 use Rattle.et_graph.specs.declared.objects.Objects.{Objects}
 use Rattle.et_graph.specs.Times.{set_each, Carries, AreSettled}
-use Rattle.et_graph.specs.Order.{HasRoom}
+use Rattle.et_graph.specs.Order.{HasSearchRoom}
 use Rattle.et_graph.specs.Listing.{listed, death_pairs}
 
 -- there is room for n objects
@@ -11,10 +11,10 @@ pub record HasPlaces (n : ℕ) (a : Objects) : Type 0 where
   pub gone : n ≤ vec_capacity a.gone
   pub times : n ≤ vec_capacity a.times
   pub deaths : n ≤ vec_capacity a.deaths
-  pub room : HasRoom n a.room
+  pub room : HasSearchRoom n a.room
 
 -- the stamps, the flags and the deaths are as they were, and the room is no less
-pub record IsKept (a b : Objects) : Type 0 where
+pub record ArePlacesKept (a b : Objects) : Type 0 where
   pub stamps : b.stamps.items ≡ a.stamps.items
   pub gone : b.gone.items ≡ a.gone.items
   pub deaths : b.deaths.items ≡ a.deaths.items

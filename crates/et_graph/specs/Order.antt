@@ -22,7 +22,7 @@ pub record IsOrder (P : ℕ → Type 0) (times : List ℕ) (order : List Source)
       ≤ slice_index times ((slice_index_or order i d).object - 1)
 
 -- there is room for n objects
-pub record HasRoom (n : ℕ) (room : Room) : Type 0 where
+pub record HasSearchRoom (n : ℕ) (room : Room) : Type 0 where
   pub seen : n ≤ vec_capacity room.seen
   pub work : n ≤ vec_capacity room.work
   pub order : n ≤ vec_capacity room.order

@@ -3,7 +3,7 @@
 ghost use Rattle.std.specs.Prelude.{◌≡◌, ℕ, ◌+◌, ◌-◌, ◌^◌, ◌<◌, ◌≤◌, ◌||◌, [], nat_lt, false, length, slice_index, slice_index_or, EachIndex, All, OnOk, vec_len, vec_capacity, Contains};
 ghost use Rattle.std.specs.List.Sorted.{IsNonDecreasingBy};
 ghost use Rattle.et_graph.specs.Times.{set_each, AreWithin, ArePairsWithin, ArePositive, Carries, AreSettled};
-ghost use Rattle.et_graph.specs.Order.{HasRoom};
+ghost use Rattle.et_graph.specs.Order.{HasSearchRoom};
 ghost use Rattle.et_graph.specs.Listing.{listed, death_pairs};
 
 use crate::places::place_of;
@@ -44,8 +44,8 @@ fn carry(
     requires roots { AreWithin (length times.old) roots.now }
     requires below { All (λ t. t ≤ top) times.old }
     requires small { length times.old < 2 ^ 32 }
-    requires room { HasRoom (length times.old) room.old }
-    ensures room { HasRoom (length times.old) room.new }
+    requires room { HasSearchRoom (length times.old) room.old }
+    ensures room { HasSearchRoom (length times.old) room.new }
     ensures carries { Carries pairs.now (set_each roots.now top times.old) times.new }
     ensures settled { AreSettled pairs.now times.new }
 {
@@ -97,7 +97,7 @@ pub struct Objects {
 }
 
 impl Objects {
-    ghost use Rattle.et_graph.specs.Objects.{HasPlaces, IsKept, TakesStep, FindsDeaths};
+    ghost use Rattle.et_graph.specs.Objects.{HasPlaces, ArePlacesKept, TakesStep, FindsDeaths};
 
     /// No objects.
     pub fn new(alloc: Global) -> Self
@@ -121,7 +121,7 @@ impl Objects {
     /// Reserves room for `count` objects.
     pub fn reserve(&mut self, count: usize) -> Result<(), AllocError>
         ensures ok { OnOk result (HasPlaces count self.new) }
-        ensures kept { IsKept self.old self.new }
+        ensures kept { ArePlacesKept self.old self.new }
     {
         within::reserve(&mut self.stamps, count)?;
         within::reserve(&mut self.gone, count)?;

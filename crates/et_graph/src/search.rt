@@ -3,7 +3,7 @@
 ghost use Rattle.std.specs.Prelude.{◌≡◌, ℕ, ◌+◌, ◌-◌, ◌^◌, ◌<◌, ◌≤◌, ◌++◌, [], ◌∷◌, true, length, slice_index, slice_set, All, OnOk, vec_capacity};
 ghost use Rattle.std.specs.List.Sorted.{IsNonDecreasingBy};
 ghost use Rattle.et_graph.specs.Times.{ArePairsWithin, Carries, AreSettled, IsSet, IsReady, Visits, Spreads};
-ghost use Rattle.et_graph.specs.Order.{sources, IsOneOf, IsOrder, HasRoom};
+ghost use Rattle.et_graph.specs.Order.{sources, IsOneOf, IsOrder, HasSearchRoom};
 
 use crate::pairs::pairs_of;
 use crate::places::place_of;
@@ -27,8 +27,8 @@ pub struct Room {
 
 /// Reserves room for a search among `count` objects.
 pub fn reserve(room: &mut Room, count: usize) -> Result<(), AllocError>
-    ensures ok { OnOk result (HasRoom count room.new) }
-    ensures grows { (n : ℕ) → HasRoom n room.old → HasRoom n room.new }
+    ensures ok { OnOk result (HasSearchRoom count room.new) }
+    ensures grows { (n : ℕ) → HasSearchRoom n room.old → HasSearchRoom n room.new }
 {
     within::reserve(&mut room.seen, count)?;
     within::reserve(&mut room.work, count)?;
@@ -174,8 +174,8 @@ pub fn settle(pairs: &[(ObjectId, ObjectId)], top: u64, times: &mut [u64], room:
     requires within { ArePairsWithin (length times.old) pairs.now }
     requires below { All (λ t. t ≤ top) times.old }
     requires small { length times.old < 2 ^ 32 }
-    requires room { HasRoom (length times.old) room.old }
-    ensures room { HasRoom (length times.old) room.new }
+    requires room { HasSearchRoom (length times.old) room.old }
+    ensures room { HasSearchRoom (length times.old) room.new }
     ensures carries { Carries pairs.now times.old times.new }
     ensures settled { AreSettled pairs.now times.new }
 {

@@ -42,11 +42,11 @@ impl Model for Heap {
     ghost Value = { Objects };
 
     ghost use Rattle.et_heap.specs.Pages.{all_places};
-    ghost use Rattle.et_heap.specs.Inside.{IsHeap};
+    ghost use Rattle.et_heap.specs.Inside.{IsHeapInside};
 
     ghost view = { λ h. None ∷ all_places h.pages.items };
 
-    ghost invariant = { IsHeap };
+    ghost invariant = { IsHeapInside };
 }
 
 /// In which page an object stands.

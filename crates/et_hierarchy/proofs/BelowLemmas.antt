@@ -5,19 +5,19 @@ use Rattle.std.specs.List.{list_any, flat_map}
 use Rattle.std.specs.Option.{option_to_list}
 use Rattle.std.proofs.lemmas.List.Elements.{All-nil, All-cons, All-append, All-push}
 use Rattle.et_hierarchy.specs.Links.{LinkEntry, parents_of}
-use Rattle.et_hierarchy.specs.Ancestry.{Ancestry, ancestry_at, added, added_all, ancestry_of, IsBelow}
+use Rattle.et_hierarchy.specs.Ancestry.{Ancestry, ancestry_at, class_added, added_all, ancestry_of, IsBelow}
 
 module _ (n : ℕ) where
   pick : (b : Bool) (a c : List ℕ) → All (λ k. k < n) a → All (λ k. k < n) c → All (λ k. k < n) (cond b a c)
   pick true a c h g = h
   pick false a c h g = g
 
-  below_added : (seen : List ℕ) (x : ℕ) → All (λ k. k < n) seen → x < n → All (λ k. k < n) (added seen x)
+  below_added : (seen : List ℕ) (x : ℕ) → All (λ k. k < n) seen → x < n → All (λ k. k < n) (class_added seen x)
   below_added seen x h lt = pick (list_any (λ y. x == y) seen) seen (seen ++ x ∷ []) h (All-push (λ k. k < n) seen x h lt)
 
   pub below_added_all : (seen xs : List ℕ) → All (λ k. k < n) seen → All (λ k. k < n) xs → All (λ k. k < n) (added_all seen xs)
   below_added_all seen [] h g = h
-  below_added_all seen (x ∷ xs) h g = below_added_all (added seen x) xs (below_added seen x h (g 0 x (omega arith))) (λ k d lt. g (suc k) d (omega arith))
+  below_added_all seen (x ∷ xs) h g = below_added_all (class_added seen x) xs (below_added seen x h (g 0 x (omega arith))) (λ k d lt. g (suc k) d (omega arith))
 
   pub below_flat : (f : ℕ → List ℕ) (xs : List ℕ) → All (λ i. All (λ k. k < n) (f i)) xs → All (λ k. k < n) (flat_map f xs)
   below_flat f [] h = All-nil (λ k. k < n)

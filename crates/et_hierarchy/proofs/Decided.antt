@@ -10,11 +10,11 @@ use Rattle.std.proofs.lemmas.Slice.Eq.{bytes_eq-Decides}
 use Rattle.std.proofs.lemmas.List.{length-map, length-set, length-replicate, length-append}
 use Rattle.std.proofs.lemmas.List.Elements.{All-head, All-tail, All-contains}
 use Rattle.et_hierarchy.specs.Outline.{Outline, outline_at}
-use Rattle.et_hierarchy.specs.Links.{LinkEntry, no_links, parents, links, links_of, IsAncestor, IsAcyclic, AreWithin}
-use Rattle.et_hierarchy.specs.Search.{Visits, IsMarked, unmarked}
+use Rattle.et_hierarchy.specs.Links.{LinkEntry, no_links, parents, links, links_of, IsAncestor, IsAcyclic, HasLinksWithin}
+use Rattle.et_hierarchy.specs.Search.{VisitsLinks, IsMarkedIn, unmarked}
 use Rattle.et_hierarchy.specs.Sorting.{is_done}
 use Rattle.et_hierarchy.specs.Ancestry.{Ancestry, no_ancestry, ancestry_of, IsAncestry}
-use Rattle.et_hierarchy.specs.Faults.{IsRepeated, has_supers, has_final_super, Shows, IsFree, IsFirst, IsLinkFault, IsFaultless}
+use Rattle.et_hierarchy.specs.Faults.{IsRepeated, has_supers, has_final_super, Shows, IsFree, IsFirstToShow, IsLinkFault, IsFaultless}
 use Rattle.et_hierarchy.specs.declared.fault.FaultKind.{FaultKind}
 use Rattle.et_hierarchy.specs.declared.fault.FaultKind.TheVariants.{Duplicate, NoSuper, Cycle, FinalSuper}
 use Rattle.et_hierarchy.proofs.LinkLemmas.{are_within}
@@ -41,7 +41,7 @@ first_of P (suc n) decide =
 
 -- THE ANCESTORS OF A CLASS
 
-visit_all : (os : List ℕ) (marks : List Bool) (work : List ℕ) → All (λ o. o < length marks) os → (ms : List Bool) × (ws : List ℕ) × Visits os marks work ms ws
+visit_all : (os : List ℕ) (marks : List Bool) (work : List ℕ) → All (λ o. o < length marks) os → (ms : List Bool) × (ws : List ℕ) × VisitsLinks os marks work ms ws
 visit_all [] marks work h = (marks, work, visits_none marks work)
 visit_all (o ∷ os) marks work h =
     let lt : o < length marks = All-head (λ u. u < length marks) o os h in
@@ -57,7 +57,7 @@ split_last : (x : ℕ) (xs : List ℕ) → (before : List ℕ) × (u : ℕ) × (
 split_last x [] = ([], x, refl)
 split_last x (y ∷ ys) = let r = split_last y ys in (x ∷ r.0, r.1, ap (λ l. x ∷ l) r.2)
 
-module _ (table : List LinkEntry) (within : AreWithin (length table) table) where
+module _ (table : List LinkEntry) (within : HasLinksWithin (length table) table) where
   search : (fuel k : ℕ) (marks : List Bool) (work : List ℕ) → Searching table k marks work → unmarked marks + length work ≤ fuel → (ms : List Bool) × Searching table k ms []
   search fuel k marks [] s few = (marks, s)
   search zero k marks (x ∷ xs) s few = absurd (omega arith)
@@ -94,26 +94,26 @@ module _ (table : List LinkEntry) (within : AreWithin (length table) table) wher
       (cases_Bool (is_done done k))
 
   module _ (acyclic : IsAcyclic table) where
-    make : (fuel : ℕ) (rows : List Ancestry) (done : List Bool) → length done ≡ length table → IsMaking table rows (IsMarked done) → unmarked done ≤ fuel → (rs : List Ancestry) × IsAncestry table rs
+    make : (fuel : ℕ) (rows : List Ancestry) (done : List Bool) → length done ≡ length table → IsMaking table rows (IsMarkedIn done) → unmarked done ≤ fuel → (rs : List Ancestry) × IsAncestry table rs
     make zero rows done len making few =
-        (rows, making_end table rows (IsMarked done) making (λ k lt. ⊎_elim (λ y. y) (λ n. let w = unmarked-set done k (subst (λ m. k < m) (sym len) lt) n in absurd (omega arith)) (cases_Bool (is_done done k))))
+        (rows, making_end table rows (IsMarkedIn done) making (λ k lt. ⊎_elim (λ y. y) (λ n. let w = unmarked-set done k (subst (λ m. k < m) (sym len) lt) n in absurd (omega arith)) (cases_Bool (is_done done k))))
     make (suc fuel) rows done len making few =
         ⊎_elim
-        (λ none. (rows, making_end table rows (IsMarked done) making (all_done table done within (λ k lt. ⊎_elim (λ y. inl y) (λ n. ⊎_elim (λ a. absurd (none k lt (n, a))) (λ b. inr (not_all done (parents table k) b)) (cases_Bool (are_done done k))) (cases_Bool (is_done done k))) acyclic)))
+        (λ none. (rows, making_end table rows (IsMarkedIn done) making (all_done table done within (λ k lt. ⊎_elim (λ y. inl y) (λ n. ⊎_elim (λ a. absurd (none k lt (n, a))) (λ b. inr (not_all done (parents table k) b)) (cases_Bool (are_done done k))) (cases_Bool (is_done done k))) acyclic)))
         (λ (k, lt, h, first).
         let row : Ancestry = ancestry_of (slice_index_or table k no_links) rows k in
         let inside : k < length done = subst (λ m. k < m) (sym len) lt in
         let w = unmarked-set done k inside h.0 in
         make fuel (set rows k row) (set done k true) (length-set done k true ∙ len)
-        (making_step table rows (IsMarked done) (IsMarked (set done k true)) k row within lt making (λ c m. marked_before done k c inside m) (λ c m. marked_after done k c inside m) (get_or-set_same done k true false inside)
-        (λ p here. All-contains (λ q. IsMarked done q) (parents table k) p (all_of done (parents table k) h.1) here) refl)
+        (making_step table rows (IsMarkedIn done) (IsMarkedIn (set done k true)) k row within lt making (λ c m. marked_before done k c inside m) (λ c m. marked_after done k c inside m) (get_or-set_same done k true false inside)
+        (λ p here. All-contains (λ q. IsMarkedIn done q) (parents table k) p (all_of done (parents table k) h.1) here) refl)
         (omega arith))
         (first_of (IsNext done) (length table) (λ k lt. is_next done k))
 
     pub rows_exist : (rs : List Ancestry) × IsAncestry table rs
     rows_exist =
         let n = length table in
-        make (unmarked (replicate n false)) (replicate n no_ancestry) (replicate n false) (length-replicate n false) (making_start table (replicate n no_ancestry) (IsMarked (replicate n false)) (length-replicate n no_ancestry) (λ k m. no_marks n k m)) (omega arith)
+        make (unmarked (replicate n false)) (replicate n no_ancestry) (replicate n false) (length-replicate n false) (making_start table (replicate n no_ancestry) (IsMarkedIn (replicate n false)) (length-replicate n no_ancestry) (λ k m. no_marks n k m)) (omega arith)
 
 -- THE FAULT OF A SET
 
@@ -136,10 +136,10 @@ module _ (set : List Outline) where
   shows NoSuper k lt = is_false (has_supers set (outline_at set k))
   shows Cycle k lt =
       let size : length (links set) ≡ length set = length-map set (links_of set) in
-      is_ancestor (links set) (subst (λ n. AreWithin n (links set)) (sym size) (are_within set)) k (omega arith)
+      is_ancestor (links set) (subst (λ n. HasLinksWithin n (links set)) (sym size) (are_within set)) k (omega arith)
   shows FinalSuper k lt = is_true (has_final_super set (outline_at set k))
 
-  first_shown : (kind : FaultKind) → IsFree set kind ⊎ ((k : ℕ) × IsFirst set kind k)
+  first_shown : (kind : FaultKind) → IsFree set kind ⊎ ((k : ℕ) × IsFirstToShow set kind k)
   first_shown kind =
       ⊎_elim (λ none. inl none) (λ (k, lt, h, first). inr (k, record { inside = lt; shows = h; first = first })) (first_of (Shows set kind) (length set) (shows kind))
 

@@ -5,10 +5,10 @@ use Rattle.std.proofs.lemmas.List.{reverse-append}
 use Rattle.std.proofs.lemmas.List.Concat.{flat_map-append}
 use Rattle.et_hierarchy.specs.Links.{LinkEntry, no_links}
 use Rattle.et_hierarchy.specs.Ancestry.{Ancestry, ancestry_at, once, added_all, IsAncestry, supers_over}
-use Rattle.et_hierarchy.specs.Initialization.{with_interfaces, downward, class_order, GoesOn}
+use Rattle.et_hierarchy.specs.Initialization.{with_interfaces, downward, class_order, OrderGoesOn}
 use Rattle.et_hierarchy.proofs.AddLemmas.{added_all-append}
 
-pub goes_on : (needs : ℕ → Bool) (table : List LinkEntry) (rows : List Ancestry) (k s : ℕ) → IsAncestry table rows → k < length table → (slice_index_or table k no_links).above ≡ Some s → GoesOn needs table rows k s
+pub goes_on : (needs : ℕ → Bool) (table : List LinkEntry) (rows : List Ancestry) (k s : ℕ) → IsAncestry table rows → k < length table → (slice_index_or table k no_links).above ≡ Some s → OrderGoesOn needs table rows k s
 goes_on needs table rows k s a lt e =
     let F : ℕ → List ℕ = with_interfaces needs table rows in
     let supers : (ancestry_at rows k).supers ≡ s ∷ (ancestry_at rows s).supers = ap (λ (r : Ancestry). r.supers) (a.row k lt) ∙ ap (supers_over rows) e in

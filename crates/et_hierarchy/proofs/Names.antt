@@ -7,8 +7,8 @@ use Rattle.std.specs.Str.{bytes_eq}
 use Rattle.std.proofs.lemmas.Bool.{cases_Bool, cond-true, cond-false}
 use Rattle.std.proofs.lemmas.List.{get_or-take, take_more, length-take-le}
 use Rattle.std.proofs.lemmas.Slice.Eq.{bytes_eq-Decides}
-use Rattle.et_hierarchy.specs.Outline.{Outline, outline_at, place_of, no_outline}
-use Rattle.et_hierarchy.specs.Faults.{IsRepeated, IsFirst}
+use Rattle.et_hierarchy.specs.Outline.{Outline, outline_at, class_place, no_outline}
+use Rattle.et_hierarchy.specs.Faults.{IsRepeated, IsFirstToShow}
 use Rattle.et_hierarchy.specs.declared.fault.FaultKind.TheVariants.{Duplicate}
 
 abbrev pub has_name : List ℕ → Outline → Bool
@@ -63,13 +63,13 @@ place_push (x ∷ xs) y i name =
     by false h = h
 
 -- the place among one more class
-pub place_more : (set : List Outline) (i : ℕ) (name : List ℕ) → i < length set → place_of (take (i + 1) set) name ≡ option_or (place_of (take i set) name) (cond (has_name name (outline_at set i)) (Some i) None)
+pub place_more : (set : List Outline) (i : ℕ) (name : List ℕ) → i < length set → class_place (take (i + 1) set) name ≡ option_or (class_place (take i set) name) (cond (has_name name (outline_at set i)) (Some i) None)
 place_more set i name lt =
     let n : length (take i set) ≡ i = length-take-le i set (omega arith) in
-    ap (λ xs. place_of xs name) (take_more set i no_outline lt) ∙ (place_push (take i set) (outline_at set i) 0 name ∙ ap (λ k. option_or (place_of (take i set) name) (cond (has_name name (outline_at set i)) (Some k) None)) (let e : 0 + length (take i set) ≡ i = omega arith in e))
+    ap (λ xs. class_place xs name) (take_more set i no_outline lt) ∙ (place_push (take i set) (outline_at set i) 0 name ∙ ap (λ k. option_or (class_place (take i set) name) (cond (has_name name (outline_at set i)) (Some k) None)) (let e : 0 + length (take i set) ≡ i = omega arith in e))
 
 -- a name that an earlier class has
-pub repeats : (set : List Outline) (i : ℕ) (name : List ℕ) (j : ℕ) → i < length set → name ≡ (outline_at set i).name → place_of (take i set) name ≡ Some j → IsRepeated set i
+pub repeats : (set : List Outline) (i : ℕ) (name : List ℕ) (j : ℕ) → i < length set → name ≡ (outline_at set i).name → class_place (take i set) name ≡ Some j → IsRepeated set i
 repeats set i name j lt e h =
     let n : length (take i set) ≡ i = length-take-le i set (omega arith) in
     let r = found_at (take i set) 0 name j h in
@@ -78,7 +78,7 @@ repeats set i name j lt e h =
     (r.from, below, sym (same_name name (outline_at set r.from).name (subst (λ (c : Outline). bytes_eq name c.name ≡ true) (get_or-take i set r.from no_outline below) r.named)) ∙ e)
 
 -- a name that no earlier class has
-pub repeats_not : (set : List Outline) (i : ℕ) (name : List ℕ) → i < length set → name ≡ (outline_at set i).name → place_of (take i set) name ≡ None → IsRepeated set i → ⊥
+pub repeats_not : (set : List Outline) (i : ℕ) (name : List ℕ) → i < length set → name ≡ (outline_at set i).name → class_place (take i set) name ≡ None → IsRepeated set i → ⊥
 repeats_not set i name lt e h r =
     let n : length (take i set) ≡ i = length-take-le i set (omega arith) in
     let below : r.0 < i = r.1 in
@@ -95,14 +95,14 @@ none_of None h = refl
 none_of (Some j) h = absurd (cc)
 
 -- the first class whose name an earlier one has
-pub first_repeat : (set : List Outline) (i : ℕ) (name : List ℕ) → i < length set → name ≡ (outline_at set i).name → is_some (place_of (take i set) name) ≡ true → ((k : ℕ) → k < i → IsRepeated set k → ⊥) → IsFirst set Duplicate i
+pub first_repeat : (set : List Outline) (i : ℕ) (name : List ℕ) → i < length set → name ≡ (outline_at set i).name → is_some (class_place (take i set) name) ≡ true → ((k : ℕ) → k < i → IsRepeated set k → ⊥) → IsFirstToShow set Duplicate i
 first_repeat set i name lt e h apart =
-    let j = some_of (place_of (take i set) name) h in
+    let j = some_of (class_place (take i set) name) h in
     record { inside = lt; shows = repeats set i name j.0 lt e j.1; first = apart }
 
-place_below : (set : List Outline) (name : List ℕ) (o : Option ℕ) → place_of set name ≡ o → IfSome o (λ k. k < length set)
+place_below : (set : List Outline) (name : List ℕ) (o : Option ℕ) → class_place set name ≡ o → IfSome o (λ k. k < length set)
 place_below set name None h = tt
 place_below set name (Some k) h = let r = found_at set 0 name k h in let w : r.from < length set = r.within in let p : k ≡ 0 + r.from = r.place in omega arith
 
-pub place_within : (set : List Outline) (name : List ℕ) (o : Option ℕ) → o ≡ place_of set name → IfSome o (λ k. k < length set)
+pub place_within : (set : List Outline) (name : List ℕ) (o : Option ℕ) → o ≡ class_place set name → IfSome o (λ k. k < length set)
 place_within set name o h = place_below set name o (sym h)

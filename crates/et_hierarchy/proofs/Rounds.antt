@@ -6,8 +6,8 @@ use Rattle.std.specs.List.{list_all, flat_map, slice_index_or}
 use Rattle.std.specs.Option.{option_to_list}
 use Rattle.std.proofs.lemmas.Bool.{cases_Bool, cases_eq, and_parts}
 use Rattle.std.proofs.lemmas.List.{length-set, length-replicate}
-use Rattle.et_hierarchy.specs.Links.{LinkEntry, no_links, parents_of, parents, IsAncestor, IsAcyclic, AreWithin}
-use Rattle.et_hierarchy.specs.Search.{IsMarked, unmarked}
+use Rattle.et_hierarchy.specs.Links.{LinkEntry, no_links, parents_of, parents, IsAncestor, IsAcyclic, HasLinksWithin}
+use Rattle.et_hierarchy.specs.Search.{IsMarkedIn, unmarked}
 use Rattle.et_hierarchy.proofs.Marks.{unmarked-set, marked_before, no_marks}
 use Rattle.et_hierarchy.specs.Ancestry.{Ancestry, no_ancestry, ancestry_at, once, ancestry_of, IsAncestry, IsBelow}
 use Rattle.std.proofs.lemmas.List.Elements.{All-contains, Contains-get_or}
@@ -31,7 +31,7 @@ not_all done (x ∷ xs) h =
     (cases_Bool (is_done done x))
 
 -- each member of the list is done
-pub all_of : (done : List Bool) (xs : List ℕ) → list_all (is_done done) xs ≡ true → All (λ x. IsMarked done x) xs
+pub all_of : (done : List Bool) (xs : List ℕ) → list_all (is_done done) xs ≡ true → All (λ x. IsMarkedIn done x) xs
 all_of done [] h k d lt = absurd (omega arith)
 all_of done (x ∷ xs) h zero d lt = (and_parts (is_done done x) (list_all (is_done done) xs) h).0
 all_of done (x ∷ xs) h (suc k) d lt = all_of done xs ((and_parts (is_done done x) (list_all (is_done done) xs) h).1) k d (omega arith)
@@ -51,14 +51,14 @@ interfaces_below : (n : ℕ) (o : Option ℕ) (ys : List ℕ) → All (λ k. k <
 interfaces_below n None ys h = h
 interfaces_below n (Some s) ys h = λ k d lt. h (suc k) d (omega arith)
 
-pub links_at : (table : List LinkEntry) (k n : ℕ) (x : LinkEntry) → AreWithin (length table) table → k < length table → x ≡ get_or table k x → n ≡ length table → All (λ j. j < n) (parents_of x)
+pub links_at : (table : List LinkEntry) (k n : ℕ) (x : LinkEntry) → HasLinksWithin (length table) table → k < length table → x ≡ get_or table k x → n ≡ length table → All (λ j. j < n) (parents_of x)
 links_at table k n x within lt e f =
     subst (λ m. All (λ j. j < m) (parents_of x)) (sym f) (subst (λ (l : LinkEntry). All (λ j. j < length table) (parents_of l)) (sym e) (within k x lt))
 
-pub next_above : (table : List LinkEntry) (k n : ℕ) (x : LinkEntry) → AreWithin (length table) table → k < length table → x ≡ get_or table k x → n ≡ length table → IfSome x.above (λ s. s < n)
+pub next_above : (table : List LinkEntry) (k n : ℕ) (x : LinkEntry) → HasLinksWithin (length table) table → k < length table → x ≡ get_or table k x → n ≡ length table → IfSome x.above (λ s. s < n)
 next_above table k n x within lt e f = above_below n x.above x.interfaces (links_at table k n x within lt e f)
 
-pub next_interfaces : (table : List LinkEntry) (k n : ℕ) (x : LinkEntry) → AreWithin (length table) table → k < length table → x ≡ get_or table k x → n ≡ length table → All (λ i. i < n) x.interfaces
+pub next_interfaces : (table : List LinkEntry) (k n : ℕ) (x : LinkEntry) → HasLinksWithin (length table) table → k < length table → x ≡ get_or table k x → n ≡ length table → All (λ i. i < n) x.interfaces
 next_interfaces table k n x within lt e f = interfaces_below n x.above x.interfaces (links_at table k n x within lt e f)
 
 abbrev pub linked : Option ℕ → List ℕ → LinkEntry
@@ -99,7 +99,7 @@ making_start table rows IsDone e none = record {
 -- the row of class k is written, when those right above it are done; it may have been done before, and then it stays
 -- the same
 module _ (table : List LinkEntry) (rows : List Ancestry) (IsDone IsDone' : ℕ → Type 0) (k : ℕ) (row : Ancestry) where
-  pub making_step : AreWithin (length table) table → k < length table → IsMaking table rows IsDone → ((c : ℕ) → IsDone' c → (c ≡ k) ⊎ IsDone c) → ((c : ℕ) → IsDone c → IsDone' c) → IsDone' k → ((p : ℕ) → Contains (parents table k) p → IsDone p)
+  pub making_step : HasLinksWithin (length table) table → k < length table → IsMaking table rows IsDone → ((c : ℕ) → IsDone' c → (c ≡ k) ⊎ IsDone c) → ((c : ℕ) → IsDone c → IsDone' c) → IsDone' k → ((p : ℕ) → Contains (parents table k) p → IsDone p)
       → row ≡ ancestry_of (slice_index_or table k no_links) rows k → IsMaking table (set rows k row) IsDone'
   making_step within lt making grow keep now parents_done is =
       let lt_rows : k < length rows = subst (λ n. k < n) (sym making.rows_length) lt in
@@ -135,12 +135,12 @@ making_end table rows IsDone making all = record {
 
 -- each class is done, or one right above it isn't
 abbrev pub IsFull : List LinkEntry → List Bool → Type 0
-IsFull table done = (c : ℕ) → c < length table → IsMarked done c ⊎ ((p : ℕ) × Contains (parents table c) p × (is_done done p ≡ false))
+IsFull table done = (c : ℕ) → c < length table → IsMarkedIn done c ⊎ ((p : ℕ) × Contains (parents table c) p × (is_done done p ≡ false))
 
 -- from a class that isn't done one climbs without end
-module _ (table : List LinkEntry) (done : List Bool) (within : AreWithin (length table) table) (full : IsFull table done) (acyclic : IsAcyclic table) where
+module _ (table : List LinkEntry) (done : List Bool) (within : HasLinksWithin (length table) table) (full : IsFull table done) (acyclic : IsAcyclic table) where
   -- each class from which one has come up to class u is marked as seen
-  climb : (fuel : ℕ) (seen : List Bool) (u : ℕ) → u < length table → length seen ≡ length table → is_done done u ≡ false → ((v : ℕ) → IsMarked seen v → IsAncestor table v u) → unmarked seen ≤ fuel → ⊥
+  climb : (fuel : ℕ) (seen : List Bool) (u : ℕ) → u < length table → length seen ≡ length table → is_done done u ≡ false → ((v : ℕ) → IsMarkedIn seen v → IsAncestor table v u) → unmarked seen ≤ fuel → ⊥
   climb zero seen u lt len undone below few =
       ⊎_elim (λ y. acyclic u lt (below u y)) (λ n. let w = unmarked-set seen u (subst (λ m. u < m) (sym len) lt) n in omega arith) (cases_Bool (is_done seen u))
   climb (suc fuel) seen u lt len undone below few =
@@ -156,7 +156,7 @@ module _ (table : List LinkEntry) (done : List Bool) (within : AreWithin (length
       (full u lt))
       (cases_Bool (is_done seen u))
 
-  pub all_done : (k : ℕ) → k < length table → IsMarked done k
+  pub all_done : (k : ℕ) → k < length table → IsMarkedIn done k
   all_done k lt =
       ⊎_elim (λ y. y)
       (λ n. absurd (climb (unmarked (replicate (length table) false)) (replicate (length table) false) k lt (length-replicate (length table) false) n (λ v m. absurd (no_marks (length table) v m)) (omega arith)))

@@ -7,9 +7,9 @@ use Rattle.std.specs.Option.{option_to_list}
 use Rattle.std.proofs.lemmas.Bool.{cases_Bool, cases_eq, cases_lt}
 use Rattle.std.proofs.lemmas.List.{length-set, length-append, length-replicate, get_or-replicate, get_or_append_left, get_or_push, get_or_default, get_or_past, get_or_read, drop_more, drop_all}
 use Rattle.std.proofs.lemmas.List.Elements.{All-head, All-tail, Contains-get_or, Contains-append_left, Contains-push, Contains-push_cases}
-use Rattle.et_hierarchy.specs.Links.{LinkEntry, parents_of, parents, IsAncestorIn, IsAncestor, AreWithin}
-use Rattle.et_hierarchy.specs.Search.{IsMarked}
-use Rattle.et_hierarchy.specs.Sorting.{is_done, IsAmong, IsTopological, ArePassed, Waits, IsGrowing, waiting_count, IsSorted}
+use Rattle.et_hierarchy.specs.Links.{LinkEntry, parents_of, parents, IsAncestorIn, IsAncestor, HasLinksWithin}
+use Rattle.et_hierarchy.specs.Search.{IsMarkedIn}
+use Rattle.et_hierarchy.specs.Sorting.{is_done, IsAmong, IsTopological, AreSortedBefore, Waits, IsGrowing, waiting_count, IsSorted}
 use Rattle.et_hierarchy.proofs.Marks.{contains_none, marked_after, marked_before, no_marks, read_links}
 use Rattle.et_hierarchy.proofs.Rounds.{links_at}
 
@@ -87,7 +87,7 @@ topological_push table order c lt here t = record {
       (cases_lt i (length order));
 }
 
-marks_push : (order : List ℕ) (done : List Bool) (c : ℕ) → c < length done → ((x : ℕ) → IsMarked done x ↔ IsAmong order (length order) x) → (x : ℕ) → IsMarked (set done c true) x ↔ IsAmong (order ++ c ∷ []) (length (order ++ c ∷ [])) x
+marks_push : (order : List ℕ) (done : List Bool) (c : ℕ) → c < length done → ((x : ℕ) → IsMarkedIn done x ↔ IsAmong order (length order) x) → (x : ℕ) → IsMarkedIn (set done c true) x ↔ IsAmong (order ++ c ∷ []) (length (order ++ c ∷ [])) x
 marks_push order done c lt m x = (
   λ h.
       ⊎_elim
@@ -99,20 +99,20 @@ marks_push order done c lt m x = (
       (λ b. marked_after done c x lt ((m x).1 (i, b, sym (get_or_append_left order (c ∷ []) 0 i b) ∙ e)))
       (λ g.
       let same : length order ≡ i = omega (arith, length-append order (c ∷ [])) in
-      subst (λ v. IsMarked (set done c true) v) (sym (get_or_push order c 0 i same) ∙ e) (get_or-set_same done c true false lt))
+      subst (λ v. IsMarkedIn (set done c true) v) (sym (get_or_push order c 0 i same) ∙ e) (get_or-set_same done c true false lt))
       (cases_lt i (length order)),
 )
 
 -- A CLASS IS PLACED
 
-passed_grow : (done : List Bool) (ps : List ℕ) (n c : ℕ) → c < length done → ArePassed done ps n → ArePassed (set done c true) ps n
+passed_grow : (done : List Bool) (ps : List ℕ) (n c : ℕ) → c < length done → AreSortedBefore done ps n → AreSortedBefore (set done c true) ps n
 passed_grow done ps n c lt h i l inside = marked_after done c (slice_index_or ps i 0) lt (h i l inside)
 
-passed_set : (table : List LinkEntry) (done : List Bool) (passed : List ℕ) (c n : ℕ) → c < length passed → ((x : ℕ) → ArePassed done (parents table x) (slice_index_or passed x 0)) → ArePassed done (parents table c) n → (x : ℕ) → ArePassed done (parents table x) (slice_index_or (set passed c n) x 0)
+passed_set : (table : List LinkEntry) (done : List Bool) (passed : List ℕ) (c n : ℕ) → c < length passed → ((x : ℕ) → AreSortedBefore done (parents table x) (slice_index_or passed x 0)) → AreSortedBefore done (parents table c) n → (x : ℕ) → AreSortedBefore done (parents table x) (slice_index_or (set passed c n) x 0)
 passed_set table done passed c n lt h new x =
     ⊎_elim
-    (λ e. subst (λ y. ArePassed done (parents table y) (slice_index_or (set passed c n) y 0)) (sym e) (subst (λ m. ArePassed done (parents table c) m) (sym (get_or-set_same passed c n 0 lt)) new))
-    (λ ne. subst (λ m. ArePassed done (parents table x) m) (sym (get_or-set_other passed c x n 0 ne)) (h x))
+    (λ e. subst (λ y. AreSortedBefore done (parents table y) (slice_index_or (set passed c n) y 0)) (sym e) (subst (λ m. AreSortedBefore done (parents table c) m) (sym (get_or-set_same passed c n 0 lt)) new))
+    (λ ne. subst (λ m. AreSortedBefore done (parents table x) m) (sym (get_or-set_other passed c x n 0 ne)) (h x))
     (cases_eq x c)
 
 hand_at : (c : ℕ) (rest : List ℕ) (x k : ℕ) → k < length (c ∷ rest) → slice_index_or (c ∷ rest) k x ≡ x → (c ≡ x) ⊎ Contains rest x
@@ -132,7 +132,7 @@ waits_more table waiting p w x lt keep (q, above, here) =
 
 -- the class waits for one right above it that isn't done
 pub growing_wait : (table : List LinkEntry) (rest order : List ℕ) (done : List Bool) (passed : List ℕ) (waiting : List (List ℕ)) (next c n : ℕ) (w w' : List ℕ) (p : ℕ) → IsGrowing table (c ∷ rest) order done passed waiting next → n < length (parents table c) → slice_index_or (parents table c) n 0 ≡ p → is_done done p ≡ false
-    → ArePassed done (parents table c) n → p < length waiting → w ≡ get_or waiting p w → w' ≡ w ++ c ∷ [] → IsGrowing table rest order done (set passed c n) (set waiting p w') next
+    → AreSortedBefore done (parents table c) n → p < length waiting → w ≡ get_or waiting p w → w' ≡ w ++ c ∷ [] → IsGrowing table rest order done (set passed c n) (set waiting p w') next
 growing_wait table rest order done passed waiting next c n w w' p g lt is undone new inside read push =
     let lt_c : c < length table = All-head (λ k. k < length table) c rest g.in_hand in
     let old : w ≡ get_or waiting p [] = get_or_read waiting p w inside read [] in
@@ -162,7 +162,7 @@ growing_wait table rest order done passed waiting next c n w w' p g lt is undone
           (λ e.
           let here : Contains w' x = subst (λ (v : List ℕ). Contains v x) (get_or-set_same waiting p w' [] inside) (subst (λ r. Contains (slice_index_or (set waiting p w') r []) x) e h) in
           ⊎_elim
-          (λ b. let a = g.awaited p x b in (a.0, λ m. let r = a.1 (subst (λ v. IsMarked done v) e m) in (r.0, r.1, r.2, r.3 ∙ sym e)))
+          (λ b. let a = g.awaited p x b in (a.0, λ m. let r = a.1 (subst (λ v. IsMarkedIn done v) e m) in (r.0, r.1, r.2, r.3 ∙ sym e)))
           (λ s. (subst (λ v. v < length table) s lt_c, λ m. absurd (true≢false (sym m ∙ (ap (λ v. is_done done v) e ∙ undone)))))
           (Contains-push_cases (get_or waiting p []) c x (subst (λ (v : List ℕ). Contains v x) pushed here)))
           (λ ne. g.awaited q x (subst (λ (v : List ℕ). Contains v x) (get_or-set_other waiting p q w' [] ne) h))
@@ -170,13 +170,13 @@ growing_wait table rest order done passed waiting next c n w w' p g lt is undone
     }
 
 -- all of those right above the class are done, and it is put behind the order
-pub growing_done : (table : List LinkEntry) (rest order : List ℕ) (done : List Bool) (passed : List ℕ) (waiting : List (List ℕ)) (next c n : ℕ) → IsGrowing table (c ∷ rest) order done passed waiting next → length (parents table c) ≤ n → ArePassed done (parents table c) n
+pub growing_done : (table : List LinkEntry) (rest order : List ℕ) (done : List Bool) (passed : List ℕ) (waiting : List (List ℕ)) (next c n : ℕ) → IsGrowing table (c ∷ rest) order done passed waiting next → length (parents table c) ≤ n → AreSortedBefore done (parents table c) n
     → IsGrowing table rest (order ++ c ∷ []) (set done c true) (set passed c n) waiting next
 growing_done table rest order done passed waiting next c n g full new =
     let lt_c : c < length table = All-head (λ k. k < length table) c rest g.in_hand in
     let lt_d : c < length done = omega arith in
     let size : length (order ++ c ∷ []) ≡ length order + 1 = length-append order (c ∷ []) in
-    let above : (p : ℕ) → Contains (parents table c) p → IsAmong order (length order) p = λ p h. let l : h.0 < length (parents table c) = h.1 in (g.marks p).0 (subst (λ v. IsMarked done v) (get_or_default (parents table c) h.0 0 p l ∙ h.2) (new h.0 (omega arith) l)) in
+    let above : (p : ℕ) → Contains (parents table c) p → IsAmong order (length order) p = λ p h. let l : h.0 < length (parents table c) = h.1 in (g.marks p).0 (subst (λ v. IsMarkedIn done v) (get_or_default (parents table c) h.0 0 p l ∙ h.2) (new h.0 (omega arith) l)) in
     record {
       done_length = length-set done c true ∙ g.done_length;
       passed_length = length-set passed c n ∙ g.passed_length;
@@ -190,7 +190,7 @@ growing_done table rest order done passed waiting next c n g full new =
           ⊎_elim (λ y. inl (marked_after done c x lt_d y))
           (λ s.
           ⊎_elim
-          (λ h. ⊎_elim (λ e. inl (subst (λ v. IsMarked (set done c true) v) e (get_or-set_same done c true false lt_d))) (λ r. inr (inl r)) (hand_cases c rest x h))
+          (λ h. ⊎_elim (λ e. inl (subst (λ v. IsMarkedIn (set done c true) v) e (get_or-set_same done c true false lt_d))) (λ r. inr (inl r)) (hand_cases c rest x h))
           (λ h. inr (inr h))
           s)
           (g.seated x l);
@@ -206,21 +206,21 @@ growing_done table rest order done passed waiting next c n g full new =
 
 -- what was counted holds of the classes right above class c
 counted : (table : List LinkEntry) (done done' : List Bool) (passed : List ℕ) (c from n : ℕ) (x : LinkEntry) → c < length table → c < length passed → x ≡ get_or table c x → done' ≡ done → from ≡ get_or passed c from
-    → (ArePassed done' (parents_of x) from → ArePassed done' (parents_of x) n) → ArePassed done (parents table c) (slice_index_or passed c 0) → ArePassed done (parents table c) n
+    → (AreSortedBefore done' (parents_of x) from → AreSortedBefore done' (parents_of x) n) → AreSortedBefore done (parents table c) (slice_index_or passed c 0) → AreSortedBefore done (parents table c) n
 counted table done done' passed c from n x lt lt_p is ed read step h =
     let P : parents table c ≡ parents_of x = read_links table c x lt is in
     let known : slice_index_or passed c 0 ≡ from = sym (read ∙ get_or_default passed c from 0 lt_p) in
-    let before : ArePassed done (parents_of x) from = subst (λ (ps : List ℕ). ArePassed done ps from) P (subst (λ m. ArePassed done (parents table c) m) known h) in
-    subst (λ (ps : List ℕ). ArePassed done ps n) (sym P) (subst (λ (d : List Bool). ArePassed d (parents_of x) n) ed (step (subst (λ (d : List Bool). ArePassed d (parents_of x) from) (sym ed) before)))
+    let before : AreSortedBefore done (parents_of x) from = subst (λ (ps : List ℕ). AreSortedBefore done ps from) P (subst (λ m. AreSortedBefore done (parents table c) m) known h) in
+    subst (λ (ps : List ℕ). AreSortedBefore done ps n) (sym P) (subst (λ (d : List Bool). AreSortedBefore d (parents_of x) n) ed (step (subst (λ (d : List Bool). AreSortedBefore d (parents_of x) from) (sym ed) before)))
 
 -- the class for which another one waits
-pub parent_within : (table : List LinkEntry) (c n size count p : ℕ) (x : LinkEntry) → AreWithin (length table) table → c < length table → x ≡ get_or table c x → size ≡ length table → count ≡ length (parents_of x) → n < count → p ≡ slice_index_or (parents_of x) n 0 → p < size
+pub parent_within : (table : List LinkEntry) (c n size count p : ℕ) (x : LinkEntry) → HasLinksWithin (length table) table → c < length table → x ≡ get_or table c x → size ≡ length table → count ≡ length (parents_of x) → n < count → p ≡ slice_index_or (parents_of x) n 0 → p < size
 parent_within table c n size count p x within lt is same ec few ep =
     let l : n < length (parents_of x) = omega arith in
     subst (λ v. v < size) (sym ep) (links_at table c size x within lt is same n 0 l)
 
-pub place_waits : (table : List LinkEntry) (rest order : List ℕ) (done done' : List Bool) (passed : List ℕ) (waiting : List (List ℕ)) (next c from n count p : ℕ) (x : LinkEntry) (w w' : List ℕ) → AreWithin (length table) table → c < length table → x ≡ get_or table c x → done' ≡ done → from ≡ get_or passed c from
-    → (ArePassed done' (parents_of x) from → ArePassed done' (parents_of x) n) → (n < length (parents_of x) → is_done done' (slice_index_or (parents_of x) n 0) ≡ false) → count ≡ length (parents_of x) → n < count → p ≡ slice_index_or (parents_of x) n 0 → w ≡ get_or waiting p w → w' ≡ w ++ c ∷ []
+pub place_waits : (table : List LinkEntry) (rest order : List ℕ) (done done' : List Bool) (passed : List ℕ) (waiting : List (List ℕ)) (next c from n count p : ℕ) (x : LinkEntry) (w w' : List ℕ) → HasLinksWithin (length table) table → c < length table → x ≡ get_or table c x → done' ≡ done → from ≡ get_or passed c from
+    → (AreSortedBefore done' (parents_of x) from → AreSortedBefore done' (parents_of x) n) → (n < length (parents_of x) → is_done done' (slice_index_or (parents_of x) n 0) ≡ false) → count ≡ length (parents_of x) → n < count → p ≡ slice_index_or (parents_of x) n 0 → w ≡ get_or waiting p w → w' ≡ w ++ c ∷ []
     → IsGrowing table (c ∷ rest) order done passed waiting next → IsGrowing table rest order done (set passed c n) (set waiting p w') next
 place_waits table rest order done done' passed waiting next c from n count p x w w' within lt is ed read step open_yet ec few ep old push g =
     let P : parents table c ≡ parents_of x = read_links table c x lt is in
@@ -230,7 +230,7 @@ place_waits table rest order done done' passed waiting next c from n count p x w
     (counted table done done' passed c from n x lt (omega arith) is ed read step (g.passes c)) (parent_within table c n (length waiting) count p x within lt is g.waiting_length ec few ep) old push
 
 pub place_done : (table : List LinkEntry) (rest order order' : List ℕ) (done done' : List Bool) (passed : List ℕ) (waiting : List (List ℕ)) (next c from n count : ℕ) (x : LinkEntry) → c < length table → x ≡ get_or table c x → done' ≡ done → from ≡ get_or passed c from
-    → (ArePassed done' (parents_of x) from → ArePassed done' (parents_of x) n) → count ≡ length (parents_of x) → count ≤ n → order' ≡ order ++ c ∷ [] → IsGrowing table (c ∷ rest) order done passed waiting next → IsGrowing table rest order' (set done c true) (set passed c n) waiting next
+    → (AreSortedBefore done' (parents_of x) from → AreSortedBefore done' (parents_of x) n) → count ≡ length (parents_of x) → count ≤ n → order' ≡ order ++ c ∷ [] → IsGrowing table (c ∷ rest) order done passed waiting next → IsGrowing table rest order' (set done c true) (set passed c n) waiting next
 place_done table rest order order' done done' passed waiting next c from n count x lt is ed read step ec all push g =
     let P : parents table c ≡ parents_of x = read_links table c x lt is in
     let l : length (parents_of x) ≤ n = omega arith in
@@ -306,7 +306,7 @@ started table hand order done passed waiting next n size within all eo ed ep lw 
       turn = omega arith;
       in_hand = subst (λ m. All (λ c. c < m) hand) size within;
       sorted = record { inside = λ i l. absurd (omega arith); above = λ i p l h. absurd (omega arith) };
-      marks = λ c. (λ m. absurd (no_marks n c (subst (λ (ms : List Bool). IsMarked ms c) ed m)), λ (i, l, e). absurd (omega arith));
+      marks = λ c. (λ m. absurd (no_marks n c (subst (λ (ms : List Bool). IsMarkedIn ms c) ed m)), λ (i, l, e). absurd (omega arith));
       passes = λ c i l inside. let few : i < slice_index_or (replicate n zero) c zero = subst (λ (ps : List ℕ). i < slice_index_or ps c 0) ep l in absurd (omega (arith, get_zero n c));
       seated = λ c l. inr (inl (all c (subst (λ m. c < m) (sym size) l)));
       awaited = λ p c h. absurd (contains_none c (subst (λ (v : List ℕ). Contains v c) (lists p) h));

@@ -7,16 +7,16 @@ use Rattle.std.specs.List.{slice_index_or}
 use Rattle.std.proofs.lemmas.Bool.{cases_Bool}
 use Rattle.std.proofs.lemmas.List.{length-set, length-replicate}
 use Rattle.std.proofs.lemmas.List.Elements.{Contains-get_or}
-use Rattle.et_hierarchy.specs.Links.{LinkEntry, no_links, parents, IsAncestor, IsAcyclic, AreWithin}
-use Rattle.et_hierarchy.specs.Search.{IsMarked, unmarked}
+use Rattle.et_hierarchy.specs.Links.{LinkEntry, no_links, parents, IsAncestor, IsAcyclic, HasLinksWithin}
+use Rattle.et_hierarchy.specs.Search.{IsMarkedIn, unmarked}
 use Rattle.et_hierarchy.specs.Sorting.{is_done}
 use Rattle.et_hierarchy.specs.Ancestry.{Ancestry, no_ancestry, ancestry_at, IsAncestry}
 use Rattle.et_hierarchy.proofs.Marks.{unmarked-set, marked_before, no_marks}
 use Rattle.et_hierarchy.proofs.Rounds.{ancestry_same}
 
-module _ (table : List LinkEntry) (rows others : List Ancestry) (within : AreWithin (length table) table) (acyclic : IsAcyclic table) (one : IsAncestry table rows) (two : IsAncestry table others) where
+module _ (table : List LinkEntry) (rows others : List Ancestry) (within : HasLinksWithin (length table) table) (acyclic : IsAcyclic table) (one : IsAncestry table rows) (two : IsAncestry table others) where
   -- each class from which one has come up to class u is marked as seen
-  same_at : (fuel : ℕ) (seen : List Bool) (u : ℕ) → u < length table → length seen ≡ length table → ((v : ℕ) → IsMarked seen v → IsAncestor table v u) → unmarked seen ≤ fuel → ancestry_at others u ≡ ancestry_at rows u
+  same_at : (fuel : ℕ) (seen : List Bool) (u : ℕ) → u < length table → length seen ≡ length table → ((v : ℕ) → IsMarkedIn seen v → IsAncestor table v u) → unmarked seen ≤ fuel → ancestry_at others u ≡ ancestry_at rows u
   same_at zero seen u lt len below few =
       ⊎_elim (λ y. absurd (acyclic u lt (below u y))) (λ n. let w = unmarked-set seen u (subst (λ m. u < m) (sym len) lt) n in absurd (omega arith)) (cases_Bool (is_done seen u))
   same_at (suc fuel) seen u lt len below few =

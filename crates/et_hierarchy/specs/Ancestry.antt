@@ -16,12 +16,12 @@ abbrev pub ancestry_at : List Ancestry → ℕ → Ancestry
 ancestry_at rows k = slice_index_or rows k no_ancestry
 
 -- a class is put behind a list that doesn't have it
-abbrev pub added : List ℕ → ℕ → List ℕ
-added seen x = if list_any (λ y. x == y) seen then seen else seen ++ x ∷ []
+abbrev pub class_added : List ℕ → ℕ → List ℕ
+class_added seen x = if list_any (λ y. x == y) seen then seen else seen ++ x ∷ []
 
 abbrev pub added_all : List ℕ → List ℕ → List ℕ
 added_all seen [] = seen
-added_all seen (x ∷ xs) = added_all (added seen x) xs
+added_all seen (x ∷ xs) = added_all (class_added seen x) xs
 
 -- each class of a list once, at its first place
 abbrev pub once : List ℕ → List ℕ

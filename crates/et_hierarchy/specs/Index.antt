@@ -6,8 +6,8 @@ use Rattle.std.specs.declared.hash.FoldHasher.{FoldHasher}
 use Rattle.std.specs.declared.hash.BuildHasherDefault.{BuildHasherDefault}
 use Rattle.std.specs.declared.vec.Vec.{Vec}
 use Rattle.std.specs.declared.alloc.Global.{Global}
-use Rattle.et_hierarchy.specs.Outline.{Outline, place_of}
-use Rattle.et_hierarchy.specs.Faults.{IsFree, IsFirst}
+use Rattle.et_hierarchy.specs.Outline.{Outline, class_place}
+use Rattle.et_hierarchy.specs.Faults.{IsFree, IsFirstToShow}
 use Rattle.et_hierarchy.specs.declared.fault.FaultKind.TheVariants.{Duplicate}
 use Rattle.et_hierarchy.specs.declared.index.Indexed.{Indexed}
 use Rattle.et_hierarchy.specs.declared.index.Indexed.TheVariants.{Places, Repeated}
@@ -17,8 +17,8 @@ NameMap = HashMap (Vec ℕ Global) ℕ (BuildHasherDefault FoldHasher)
 
 -- the map has the place of each name
 abbrev pub IsIndexOf : List Outline → NameMap → Type 0
-IsIndexOf set places = (name : List ℕ) → get_by (λ k. bytes_eq name k.items) places ≡ place_of set name
+IsIndexOf set places = (name : List ℕ) → get_by (λ k. bytes_eq name k.items) places ≡ class_place set name
 
-abbrev pub IsIndexed : List Outline → Indexed → Type 0
-IsIndexed set (Places places) = IsIndexOf set places × IsFree set Duplicate
-IsIndexed set (Repeated k) = IsFirst set Duplicate k
+abbrev pub IsSetIndexed : List Outline → Indexed → Type 0
+IsSetIndexed set (Places places) = IsIndexOf set places × IsFree set Duplicate
+IsSetIndexed set (Repeated k) = IsFirstToShow set Duplicate k

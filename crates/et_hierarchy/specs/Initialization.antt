@@ -27,5 +27,5 @@ init_order true needs table rows k = k ∷ []
 init_order false needs table rows k = class_order needs table rows k
 
 -- the order of a class is that of its superclass, and then its interfaces and itself
-abbrev pub GoesOn : (ℕ → Bool) → List LinkEntry → List Ancestry → ℕ → ℕ → Type 0
-GoesOn needs table rows k s = init_order false needs table rows k ≡ added_all (init_order false needs table rows s) (with_interfaces needs table rows k)
+abbrev pub OrderGoesOn : (ℕ → Bool) → List LinkEntry → List Ancestry → ℕ → ℕ → Type 0
+OrderGoesOn needs table rows k s = init_order false needs table rows k ≡ added_all (init_order false needs table rows s) (with_interfaces needs table rows k)

@@ -2,7 +2,7 @@
 use Rattle.std.specs.Prelude.{ℕ, ◌<◌, zero, suc, List, [], ◌++◌, Option, None, Some, Contains, All, map, length}
 use Rattle.std.specs.List.{slice_index_or, filter_map}
 use Rattle.std.specs.Option.{option_and_then, option_to_list}
-use Rattle.et_hierarchy.specs.Outline.{Outline, place_of}
+use Rattle.et_hierarchy.specs.Outline.{Outline, class_place}
 
 -- the direct superclass and the listed interfaces of a class
 pub record LinkEntry : Type 0 where
@@ -10,7 +10,7 @@ pub record LinkEntry : Type 0 where
   pub interfaces : List ℕ
 
 abbrev pub links_of : List Outline → Outline → LinkEntry
-links_of set c = record { above = option_and_then (place_of set) c.super_name; interfaces = filter_map (place_of set) c.interfaces }
+links_of set c = record { above = option_and_then (class_place set) c.super_name; interfaces = filter_map (class_place set) c.interfaces }
 
 abbrev pub links : List Outline → List LinkEntry
 links set = map (links_of set) set
@@ -34,8 +34,8 @@ abbrev pub IsAncestor : List LinkEntry → ℕ → ℕ → Type 0
 IsAncestor table k a = (n : ℕ) × IsAncestorIn table k n a
 
 -- each link leads to a class of the set
-abbrev pub AreWithin : ℕ → List LinkEntry → Type 0
-AreWithin n table = All (λ l. All (λ k. k < n) (parents_of l)) table
+abbrev pub HasLinksWithin : ℕ → List LinkEntry → Type 0
+HasLinksWithin n table = All (λ l. All (λ k. k < n) (parents_of l)) table
 
 -- no class is its own ancestor
 abbrev pub IsAcyclic : List LinkEntry → Type 0

@@ -17,5 +17,5 @@ abbrev pub outline_at : List Outline → ℕ → Outline
 outline_at set k = slice_index_or set k no_outline
 
 -- the place of the class of this name
-abbrev pub place_of : List Outline → List ℕ → Option ℕ
-place_of set name = position_from (λ (c : Outline). bytes_eq name c.name) 0 set
+abbrev pub class_place : List Outline → List ℕ → Option ℕ
+class_place set name = position_from (λ (c : Outline). bytes_eq name c.name) 0 set

@@ -2,7 +2,7 @@
 use Rattle.std.specs.Prelude.{◌≡◌, ℕ, ◌+◌, ◌<◌, ◌≤◌, ◌↔◌, ◌⊎◌, Bool, false, List, [], ◌∷◌, length, All, Contains}
 use Rattle.std.specs.List.{slice_index_or}
 use Rattle.et_hierarchy.specs.Links.{LinkEntry, parents}
-use Rattle.et_hierarchy.specs.Search.{IsMarked}
+use Rattle.et_hierarchy.specs.Search.{IsMarkedIn}
 use Rattle.et_hierarchy.specs.declared.sorting.Sorting.{Sorting}
 
 abbrev pub is_done : List Bool → ℕ → Bool
@@ -18,8 +18,8 @@ pub record IsTopological (table : List LinkEntry) (order : List ℕ) : Type 0 wh
   pub above : (i p : ℕ) → i < length order → Contains (parents table (slice_index_or order i 0)) p → IsAmong order i p
 
 -- the first n of these classes are done
-abbrev pub ArePassed : List Bool → List ℕ → ℕ → Type 0
-ArePassed done ps n = (i : ℕ) → i < n → i < length ps → IsMarked done (slice_index_or ps i 0)
+abbrev pub AreSortedBefore : List Bool → List ℕ → ℕ → Type 0
+AreSortedBefore done ps n = (i : ℕ) → i < n → i < length ps → IsMarkedIn done (slice_index_or ps i 0)
 
 -- class c waits for one right above it
 abbrev pub Waits : List LinkEntry → List (List ℕ) → ℕ → Type 0
@@ -34,13 +34,13 @@ pub record IsGrowing (table : List LinkEntry) (hand order : List ℕ) (done : Li
   pub turn : next ≤ length order
   pub in_hand : All (λ c. c < length table) hand
   pub sorted : IsTopological table order
-  pub marks : (c : ℕ) → IsMarked done c ↔ IsAmong order (length order) c
-  pub passes : (c : ℕ) → ArePassed done (parents table c) (slice_index_or passed c 0)
-  pub seated : (c : ℕ) → c < length table → IsMarked done c ⊎ (Contains hand c ⊎ Waits table waiting c)
-  pub awaited : (p c : ℕ) → Contains (slice_index_or waiting p []) c → (c < length table) × (IsMarked done p → ((i : ℕ) × (next ≤ i) × (i < length order) × (slice_index_or order i 0 ≡ p)))
+  pub marks : (c : ℕ) → IsMarkedIn done c ↔ IsAmong order (length order) c
+  pub passes : (c : ℕ) → AreSortedBefore done (parents table c) (slice_index_or passed c 0)
+  pub seated : (c : ℕ) → c < length table → IsMarkedIn done c ⊎ (Contains hand c ⊎ Waits table waiting c)
+  pub awaited : (p c : ℕ) → Contains (slice_index_or waiting p []) c → (c < length table) × (IsMarkedIn done p → ((i : ℕ) × (next ≤ i) × (i < length order) × (slice_index_or order i 0 ≡ p)))
 
-abbrev pub Grows : List LinkEntry → List ℕ → Sorting → Type 0
-Grows table hand s = IsGrowing table hand s.order.items s.done.items s.passed.items s.waiting.items s.next
+abbrev pub GrowsSorted : List LinkEntry → List ℕ → Sorting → Type 0
+GrowsSorted table hand s = IsGrowing table hand s.order.items s.done.items s.passed.items s.waiting.items s.next
 
 -- how many wait
 abbrev pub waiting_count : List (List ℕ) → ℕ
@@ -55,5 +55,5 @@ placed_count s = waiting_count s.waiting.items + length s.order.items
 pub record IsSorted (table : List LinkEntry) (order : List ℕ) (done : List Bool) : Type 0 where
   pub done_length : length done ≡ length table
   pub sorted : IsTopological table order
-  pub marks : (c : ℕ) → IsMarked done c ↔ IsAmong order (length order) c
-  pub full : (c : ℕ) → c < length table → IsMarked done c ⊎ ((p : ℕ) × Contains (parents table c) p × (is_done done p ≡ false))
+  pub marks : (c : ℕ) → IsMarkedIn done c ↔ IsAmong order (length order) c
+  pub full : (c : ℕ) → c < length table → IsMarkedIn done c ⊎ ((p : ℕ) × Contains (parents table c) p × (is_done done p ≡ false))

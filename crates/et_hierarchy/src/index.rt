@@ -3,10 +3,10 @@
 ghost use Rattle.std.specs.Prelude.{◌≡◌, ℕ, ◌<◌, ◌^◌, List, length, IfOk, IfSome};
 ghost use Rattle.std.specs.Str.{bytes_eq};
 ghost use Rattle.std.specs.HashMap.{get_by};
-ghost use Rattle.et_hierarchy.specs.Outline.{place_of, outline_at};
-ghost use Rattle.et_hierarchy.specs.Faults.{IsFree, IsFirst};
+ghost use Rattle.et_hierarchy.specs.Outline.{class_place, outline_at};
+ghost use Rattle.et_hierarchy.specs.Faults.{IsFree, IsFirstToShow};
 ghost use Rattle.et_hierarchy.specs.declared.fault.FaultKind.TheVariants.{Duplicate};
-ghost use Rattle.et_hierarchy.specs.Index.{IsIndexed};
+ghost use Rattle.et_hierarchy.specs.Index.{IsSetIndexed};
 
 use crate::ClassOutline;
 use std::alloc::{AllocError, Global};
@@ -23,7 +23,7 @@ pub(crate) enum Indexed {
 /// Finds the places of the classes.
 pub(crate) fn index(alloc: Global, set: &[ClassOutline]) -> Result<Indexed, AllocError>
     requires { length set.now < 2 ^ 32 }
-    ensures { IfOk result (IsIndexed set.now) }
+    ensures { IfOk result (IsSetIndexed set.now) }
 {
     let mut places = HashMap::new(alloc);
     for (i, class) in set.iter().enumerate() {

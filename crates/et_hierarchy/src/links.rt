@@ -2,8 +2,8 @@
 
 ghost use Rattle.std.specs.Prelude.{◌≡◌, ℕ, ◌<◌, ◌^◌, List, length, IfOk, IfSome, MatchOption, Option, All};
 ghost use Rattle.std.specs.List.{slice_index_or};
-ghost use Rattle.et_hierarchy.specs.Outline.{place_of, outline_at};
-ghost use Rattle.et_hierarchy.specs.Faults.{IsFree, IsFirst, names_class, names_interface, has_supers, has_final_super};
+ghost use Rattle.et_hierarchy.specs.Outline.{class_place, outline_at};
+ghost use Rattle.et_hierarchy.specs.Faults.{IsFree, IsFirstToShow, names_class, is_interface_named, has_supers, has_final_super};
 ghost use Rattle.et_hierarchy.specs.declared.fault.FaultKind.TheVariants.{NoSuper, FinalSuper};
 ghost use Rattle.et_hierarchy.specs.Index.{IsIndexOf};
 
@@ -77,7 +77,7 @@ impl Links {
 /// The place of the class of a name.
 pub(crate) fn find(set: &[ClassOutline], places: &Places, name: &[u8]) -> Option<u32>
     requires { IsIndexOf set.now places.now }
-    ensures value { result ≡ place_of set.now name.now }
+    ensures value { result ≡ class_place set.now name.now }
     ensures within { IfSome result (λ k. k < length set.now) }
 {
     places.get(name).copied()
@@ -97,7 +97,7 @@ fn names_class(set: &[ClassOutline], places: &Places, name: &[u8]) -> bool
 /// Whether a name is that of an interface.
 fn names_interface(set: &[ClassOutline], places: &Places, name: &[u8]) -> bool
     requires { IsIndexOf set.now places.now }
-    ensures { result ≡ names_interface set.now name.now }
+    ensures { result ≡ is_interface_named set.now name.now }
 {
     match find(set, places, name) {
         Some(k) => set[k as usize].is_interface(),
@@ -141,7 +141,7 @@ fn has_final_super(set: &[ClassOutline], places: &Places, class: &ClassOutline) 
 pub(crate) fn first_without(set: &[ClassOutline], places: &Places) -> Option<u32>
     requires index { IsIndexOf set.now places.now }
     requires few { length set.now < 2 ^ 32 }
-    ensures { MatchOption result (IsFree set.now NoSuper) (IsFirst set.now NoSuper) }
+    ensures { MatchOption result (IsFree set.now NoSuper) (IsFirstToShow set.now NoSuper) }
 {
     for (i, class) in set.iter().enumerate() {
         if !has_supers(set, places, class) {
@@ -155,7 +155,7 @@ pub(crate) fn first_without(set: &[ClassOutline], places: &Places) -> Option<u32
 pub(crate) fn first_final(set: &[ClassOutline], places: &Places) -> Option<u32>
     requires index { IsIndexOf set.now places.now }
     requires few { length set.now < 2 ^ 32 }
-    ensures { MatchOption result (IsFree set.now FinalSuper) (IsFirst set.now FinalSuper) }
+    ensures { MatchOption result (IsFree set.now FinalSuper) (IsFirstToShow set.now FinalSuper) }
 {
     for (i, class) in set.iter().enumerate() {
         if has_final_super(set, places, class) {
@@ -167,7 +167,7 @@ pub(crate) fn first_final(set: &[ClassOutline], places: &Places) -> Option<u32>
 
 ghost use Rattle.std.specs.Prelude.{map};
 ghost use Rattle.std.specs.List.{filter_map};
-ghost use Rattle.et_hierarchy.specs.Links.{links_of, links, AreWithin};
+ghost use Rattle.et_hierarchy.specs.Links.{links_of, links, HasLinksWithin};
 
 /// The places of the interfaces of these names.
 fn find_all(
@@ -177,7 +177,7 @@ fn find_all(
     names: &[Name],
 ) -> Result<Vec<u32>, AllocError>
     requires { IsIndexOf set.now places.now }
-    ensures { IfOk result (λ found. found.items ≡ filter_map (place_of set.now) names.now) }
+    ensures { IfOk result (λ found. found.items ≡ filter_map (class_place set.now) names.now) }
 {
     let mut found = Vec::new(alloc);
     for name in names {
@@ -216,7 +216,7 @@ pub(crate) fn link_all(
     requires { IsIndexOf set.now places.now }
     ensures table { IfOk result (λ table. table.items ≡ links set.now) }
     ensures length { IfOk result (λ table. length table.items ≡ length set.now) }
-    ensures within { IfOk result (λ table. AreWithin (length table.items) table.items) }
+    ensures within { IfOk result (λ table. HasLinksWithin (length table.items) table.items) }
 {
     let mut table = Vec::new(alloc);
     for class in set {

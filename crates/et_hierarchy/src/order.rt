@@ -2,7 +2,7 @@
 
 ghost use Rattle.std.specs.Prelude.{◌≡◌, ℕ, ◌<◌, false, List, [], length, take, reverse, All, OnOk, IfOk};
 ghost use Rattle.std.specs.List.{slice_index_or, flat_map};
-ghost use Rattle.et_hierarchy.specs.Links.{AreWithin};
+ghost use Rattle.et_hierarchy.specs.Links.{HasLinksWithin};
 ghost use Rattle.et_hierarchy.specs.Ancestry.{ancestry_at, added_all, IsBelow};
 ghost use Rattle.et_hierarchy.specs.Initialization.{interfaces_to_run, with_interfaces, init_order};
 
@@ -67,7 +67,7 @@ fn add_with_interfaces(
 ) -> Result<(), AllocError>
     requires class { class < length table.now }
     requires same { length rows.now ≡ length table.now }
-    requires within { AreWithin (length table.now) table.now }
+    requires within { HasLinksWithin (length table.now) table.now }
     ensures { OnOk result (list.new.keys ≡ added_all list.old.keys
         (with_interfaces (λ k. slice_index_or needs.now k false) table.now rows.now class)) }
 {
@@ -89,7 +89,7 @@ fn add_downward(
 ) -> Result<(), AllocError>
     requires supers { All (λ k. k < length table.now) supers.now }
     requires same { length rows.now ≡ length table.now }
-    requires within { AreWithin (length table.now) table.now }
+    requires within { HasLinksWithin (length table.now) table.now }
     ensures { OnOk result (list.new.keys ≡ added_all list.old.keys (flat_map (with_interfaces
         (λ k. slice_index_or needs.now k false) table.now rows.now) (reverse supers.now))) }
 {
@@ -113,7 +113,7 @@ pub fn init_order(
 ) -> Result<Vec<u32>, AllocError>
     requires class { class < length table.now }
     requires same { length rows.now ≡ length table.now }
-    requires within { AreWithin (length table.now) table.now }
+    requires within { HasLinksWithin (length table.now) table.now }
     requires below { (k : ℕ) →
         k < length table.now → IsBelow (length table.now) (ancestry_at rows.now k) }
     ensures { IfOk result (λ list. list.items ≡ init_order is_interface

@@ -2,8 +2,8 @@
 
 ghost use Rattle.std.specs.Prelude.{◌≡◌, ℕ, ◌<◌, ◌^◌, ◌↔◌, [], ◌∷◌, length, All, OnOk, IfOk, IsTrue, Option, MatchOption};
 ghost use Rattle.std.specs.Option.{option_to_list};
-ghost use Rattle.et_hierarchy.specs.Search.{Visits, IsMarked};
-ghost use Rattle.et_hierarchy.specs.Links.{parents_of, IsAncestor, AreWithin, AnswersCycle};
+ghost use Rattle.et_hierarchy.specs.Search.{VisitsLinks, IsMarkedIn};
+ghost use Rattle.et_hierarchy.specs.Links.{parents_of, IsAncestor, HasLinksWithin, AnswersCycle};
 
 use crate::links::Links;
 use crate::sorting::sort;
@@ -13,7 +13,7 @@ use std::alloc::{AllocError, Global};
 fn visit(marks: &mut Vec<bool>, work: &mut Vec<u32>, o: u32) -> Result<(), AllocError>
     requires { o < length marks.old.items }
     ensures { OnOk result
-        (Visits (o ∷ []) marks.old.items work.old.items marks.new.items work.new.items) }
+        (VisitsLinks (o ∷ []) marks.old.items work.old.items marks.new.items work.new.items) }
 {
     if !marks[o as usize] {
         marks[o as usize] = true;
@@ -26,7 +26,7 @@ fn visit(marks: &mut Vec<bool>, work: &mut Vec<u32>, o: u32) -> Result<(), Alloc
 fn visit_all(marks: &mut Vec<bool>, work: &mut Vec<u32>, classes: &[u32]) -> Result<(), AllocError>
     requires { All (λ o. o < length marks.old.items) classes.now }
     ensures { OnOk result
-        (Visits classes.now marks.old.items work.old.items marks.new.items work.new.items) }
+        (VisitsLinks classes.now marks.old.items work.old.items marks.new.items work.new.items) }
 {
     for o in classes {
         visit(marks, work, *o)?;
@@ -41,7 +41,7 @@ fn visit_above(
     above: Option<u32>,
 ) -> Result<(), AllocError>
     requires { All (λ o. o < length marks.old.items) (option_to_list above) }
-    ensures { OnOk result (Visits
+    ensures { OnOk result (VisitsLinks
         (option_to_list above) marks.old.items work.old.items marks.new.items work.new.items) }
 {
     match above {
@@ -57,7 +57,7 @@ fn visit_parents(
     links: &Links,
 ) -> Result<(), AllocError>
     requires { All (λ o. o < length marks.old.items) (parents_of links.now) }
-    ensures { OnOk result (Visits
+    ensures { OnOk result (VisitsLinks
         (parents_of links.now) marks.old.items work.old.items marks.new.items work.new.items) }
 {
     visit_above(marks, work, links.above())?;
@@ -68,10 +68,10 @@ fn visit_parents(
 /// Marks the ancestors of a class.
 pub(crate) fn ancestors(alloc: Global, table: &[Links], class: u32) -> Result<Vec<bool>, AllocError>
     requires class { class < length table.now }
-    requires within { AreWithin (length table.now) table.now }
+    requires within { HasLinksWithin (length table.now) table.now }
     ensures length { IfOk result (λ marks. length marks.items ≡ length table.now) }
     ensures marks { IfOk result
-        (λ marks. (o : ℕ) → IsMarked marks.items o ↔ IsAncestor table.now class o) }
+        (λ marks. (o : ℕ) → IsMarkedIn marks.items o ↔ IsAncestor table.now class o) }
 {
     let mut marks = vec![in alloc; false; table.len()]?;
     let mut work = Vec::new(alloc);
@@ -88,7 +88,7 @@ pub(crate) fn ancestors(alloc: Global, table: &[Links], class: u32) -> Result<Ve
 /// there is no such class the time is linear in the number of classes and links.
 pub(crate) fn first_on_cycle(alloc: Global, table: &[Links]) -> Result<Option<u32>, AllocError>
     requires few { length table.now < 2 ^ 32 }
-    requires within { AreWithin (length table.now) table.now }
+    requires within { HasLinksWithin (length table.now) table.now }
     ensures { IfOk result (AnswersCycle table.now) }
 {
     let sorting = sort(alloc, table)?;

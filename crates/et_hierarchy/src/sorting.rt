@@ -2,8 +2,8 @@
 
 ghost use Rattle.std.specs.Prelude.{◌≡◌, ℕ, ◌+◌, ◌<◌, ◌^◌, List, [], ◌∷◌, ◌++◌, length, replicate, false, All, Contains, OnOk, IfOk};
 ghost use Rattle.std.specs.List.{slice_index_or};
-ghost use Rattle.et_hierarchy.specs.Links.{AreWithin, parents_of};
-ghost use Rattle.et_hierarchy.specs.Sorting.{is_done, ArePassed, Grows, IsSorted, placed_count};
+ghost use Rattle.et_hierarchy.specs.Links.{HasLinksWithin, parents_of};
+ghost use Rattle.et_hierarchy.specs.Sorting.{is_done, AreSortedBefore, GrowsSorted, IsSorted, placed_count};
 
 use crate::links::Links;
 use std::alloc::{AllocError, Global};
@@ -69,8 +69,8 @@ pub(crate) struct Sorting {
 /// How many of the classes right above, the first ones, are done. The first `from` of them are known to be.
 fn count_passed(done: &[bool], links: &Links, from: usize) -> usize
     requires { All (λ p. p < length done.now) (parents_of links.now) }
-    ensures passed { ArePassed done.now (parents_of links.now) from →
-        ArePassed done.now (parents_of links.now) result }
+    ensures passed { AreSortedBefore done.now (parents_of links.now) from →
+        AreSortedBefore done.now (parents_of links.now) result }
     ensures open { result < length (parents_of links.now) →
         is_done done.now (slice_index_or (parents_of links.now) result 0) ≡ false }
 {
@@ -133,13 +133,14 @@ impl Sorting {
 
     /// Puts a class behind the order, if those right above it are in it; otherwise it waits for the first that isn't.
     fn place(&mut self, table: &[Links], class: u32) -> Result<(), AllocError>
-        requires within { AreWithin (length table.now) table.now }
+        requires within { HasLinksWithin (length table.now) table.now }
         requires class { class < length table.now }
         requires done { length self.old.done.items ≡ length table.now }
         requires passed { length self.old.passed.items ≡ length table.now }
         requires waiting { length self.old.waiting.items ≡ length table.now }
         ensures grows { (rest : List ℕ) →
-            Grows table.now (class ∷ rest) self.old → OnOk result (Grows table.now rest self.new) }
+            GrowsSorted table.now (class ∷ rest) self.old → OnOk result
+            (GrowsSorted table.now rest self.new) }
         ensures count { OnOk result (placed_count self.new ≡ placed_count self.old + 1) }
         ensures next { OnOk result (self.new.next ≡ self.old.next) }
     {
@@ -161,9 +162,9 @@ impl Sorting {
 
     /// Places each of these classes.
     fn place_all(&mut self, table: &[Links], classes: &[u32]) -> Result<(), AllocError>
-        requires within { AreWithin (length table.now) table.now }
-        requires grows { Grows table.now classes.now self.old }
-        ensures grows { OnOk result (Grows table.now [] self.new) }
+        requires within { HasLinksWithin (length table.now) table.now }
+        requires grows { GrowsSorted table.now classes.now self.old }
+        ensures grows { OnOk result (GrowsSorted table.now [] self.new) }
         ensures count { OnOk result
             (placed_count self.new ≡ placed_count self.old + length classes.now) }
         ensures next { OnOk result (self.new.next ≡ self.old.next) }
@@ -176,10 +177,10 @@ impl Sorting {
 
     /// The next class of the order has its turn: those that wait for it are placed.
     fn turn(&mut self, alloc: Global, table: &[Links]) -> Result<(), AllocError>
-        requires within { AreWithin (length table.now) table.now }
-        requires grows { Grows table.now [] self.old }
+        requires within { HasLinksWithin (length table.now) table.now }
+        requires grows { GrowsSorted table.now [] self.old }
         requires more { self.old.next < length self.old.order.items }
-        ensures grows { OnOk result (Grows table.now [] self.new) }
+        ensures grows { OnOk result (GrowsSorted table.now [] self.new) }
         ensures count { OnOk result (placed_count self.new ≡ placed_count self.old) }
         ensures next { OnOk result (self.new.next ≡ self.old.next + 1) }
     {
@@ -211,7 +212,7 @@ impl Sorting {
 /// has one above it that is, has no place in it. The time is linear in the number of classes and links.
 pub(crate) fn sort(alloc: Global, table: &[Links]) -> Result<Sorting, AllocError>
     requires few { length table.now < 2 ^ 32 }
-    requires within { AreWithin (length table.now) table.now }
+    requires within { HasLinksWithin (length table.now) table.now }
     ensures { IfOk result (λ s. IsSorted table.now s.order.items s.done.items) }
 {
     let mut sorting = Sorting::begin(alloc, table.len())?;

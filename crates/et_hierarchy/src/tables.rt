@@ -2,8 +2,8 @@
 
 ghost use Rattle.std.specs.Prelude.{◌≡◌, ℕ, ◌<◌, ◌^◌, List, [], ◌∷◌, ◌++◌, length, All, OnOk, IfOk, IfSome, Option};
 ghost use Rattle.std.specs.List.{slice_index_or, flat_map};
-ghost use Rattle.et_hierarchy.specs.Links.{LinkEntry, parents_of, parents, no_links, IsAcyclic, AreWithin};
-ghost use Rattle.et_hierarchy.specs.Ancestry.{ancestry_at, added, added_all, once, supers_over, superinterfaces_over, field_order_over, ancestry_of, IsAncestry, IsBelow};
+ghost use Rattle.et_hierarchy.specs.Links.{LinkEntry, parents_of, parents, no_links, IsAcyclic, HasLinksWithin};
+ghost use Rattle.et_hierarchy.specs.Ancestry.{ancestry_at, class_added, added_all, once, supers_over, superinterfaces_over, field_order_over, ancestry_of, IsAncestry, IsBelow};
 
 use crate::links::Links;
 use crate::rows::Row;
@@ -13,7 +13,7 @@ use std::alloc::{AllocError, Global};
 
 /// Puts a class behind a list that doesn't have it.
 pub(crate) fn add(list: &mut IndexSet<u32>, class: u32) -> Result<(), AllocError>
-    ensures { OnOk result (list.new.keys ≡ added list.old.keys class) }
+    ensures { OnOk result (list.new.keys ≡ class_added list.old.keys class) }
 {
     list.insert(class)?;
     Ok(())
@@ -147,7 +147,7 @@ fn row_of(alloc: Global, links: &Links, rows: &[Row], class: u32) -> Result<Row,
 /// links that [`check_set`](crate::check_set) answers. The only error is want of memory.
 pub fn ancestries(alloc: Global, table: &[Links]) -> Result<Vec<Row>, AllocError>
     requires few { length table.now < 2 ^ 32 }
-    requires within { AreWithin (length table.now) table.now }
+    requires within { HasLinksWithin (length table.now) table.now }
     requires acyclic { IsAcyclic table.now }
     ensures rows { IfOk result (λ rows. IsAncestry table.now rows.items) }
     ensures below { IfOk result (λ rows. (k : ℕ) →

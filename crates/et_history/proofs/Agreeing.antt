@@ -12,7 +12,7 @@ use Rattle.et_state.specs.Outcome as outcome
 use Rattle.et_event.specs.Moments.{Moment, begins, later}
 use Rattle.et_event.specs.Monitors.{Lock, OfObject, OfClass, is_owner, is_open_to, left_once, may_enter}
 use Rattle.et_sound.specs.WellFormed.{IsThere}
-use Rattle.et_history.specs.Holding.{is_one, entry_of, exit_of, monitor_in, times_after}
+use Rattle.et_history.specs.Holding.{is_held_lock, entry_of, exit_of, monitor_in, times_after}
 use Rattle.et_history.specs.Changing.{entered_once, left_by_owner, Changes, MovesMonitors, KeepsMonitors}
 use Rattle.et_history.proofs.Monitors.{is_same, first_monitor}
 
@@ -153,7 +153,7 @@ there_or s (OfObject o) = by (at s.heap o)
     by (Some x) = inl tt
 there_or s (OfClass c) = inl tt
 
-one_there : (s : Kept) (locks : Option Lock) (lock : Lock) → IfSome locks (λ l. IsThere s l) → is_one locks lock ≡ true → IsThere s lock
+one_there : (s : Kept) (locks : Option Lock) (lock : Lock) → IfSome locks (λ l. IsThere s l) → is_held_lock locks lock ≡ true → IsThere s lock
 one_there s None lock h e = absurd (false≢true e)
 one_there s (Some l) lock h e = subst (λ (k : Lock). IsThere s k) (is_same l lock e) h
 
@@ -161,14 +161,14 @@ entries_there : (e : Moment) (entry : Option Lock) → IfSome entry (λ lock. Is
 entries_there e None h = tt
 entries_there e (Some l) h = h.0
 
-not_one : (s : Kept) (locks : Option Lock) (lock : Lock) → IfSome locks (λ l. IsThere s l) → (IsThere s lock → ⊥) → is_one locks lock ≡ false
-not_one s locks lock h not = by (is_one locks lock) refl
+not_one : (s : Kept) (locks : Option Lock) (lock : Lock) → IfSome locks (λ l. IsThere s l) → (IsThere s lock → ⊥) → is_held_lock locks lock ≡ false
+not_one s locks lock h not = by (is_held_lock locks lock) refl
   where
-    by : (b : Bool) → is_one locks lock ≡ b → b ≡ false
+    by : (b : Bool) → is_held_lock locks lock ≡ b → b ≡ false
     by true e = absurd (not (one_there s locks lock h e))
     by false e = refl
 
-entry_open : (e : Moment) (entry : Option Lock) (lock : Lock) → IfSome entry (λ l. IsThere e.before l × (may_enter e (begins e) l ≡ true)) → is_one entry lock ≡ true → is_open_to e.thread (monitor_in e.before lock).owner ≡ true
+entry_open : (e : Moment) (entry : Option Lock) (lock : Lock) → IfSome entry (λ l. IsThere e.before l × (may_enter e (begins e) l ≡ true)) → is_held_lock entry lock ≡ true → is_open_to e.thread (monitor_in e.before lock).owner ≡ true
 entry_open e None lock h q = absurd (false≢true q)
 entry_open e (Some l) lock h q =
     let may : may_enter e (begins e) lock ≡ true = subst (λ (k : Lock). may_enter e (begins e) k ≡ true) (is_same l lock q) h.1 in
@@ -177,9 +177,9 @@ entry_open e (Some l) lock h q =
 -- AN EVENT THAT IS DONE
 
 agrees_after : (e : Moment) (entry exit : Option Lock) (after : Kept) (lock : Lock) (n : ℕ → ℕ) → MovesMonitors e entry exit after → IsThere e.before lock → IsOwned (monitor_in e.before lock) → Agrees (monitor_in e.before lock) n
-    → Agrees (monitor_in after lock) (recounted e.thread (is_one entry lock) (is_one exit lock) n)
+    → Agrees (monitor_in after lock) (recounted e.thread (is_held_lock entry lock) (is_held_lock exit lock) n)
 agrees_after e entry exit after lock n h there owned agrees =
-    subst (λ (x : Monitor). Agrees x (recounted e.thread (is_one entry lock) (is_one exit lock) n)) (sym (h.changes.monitor lock there)) (by (is_one entry lock) refl)
+    subst (λ (x : Monitor). Agrees x (recounted e.thread (is_held_lock entry lock) (is_held_lock exit lock) n)) (sym (h.changes.monitor lock there)) (by (is_held_lock entry lock) refl)
   where
     m : Monitor
     m = monitor_in e.before lock
@@ -188,14 +188,14 @@ agrees_after e entry exit after lock n h there owned agrees =
     leaves true = left_agrees m n e.thread agrees
     leaves false = agrees_same m n (recounted e.thread false false n) agrees (λ t. neither e.thread n t)
 
-    by : (b : Bool) → is_one entry lock ≡ b → Agrees (if b then entered_once e.thread m else (if is_one exit lock then left_by_owner e.thread m else m)) (recounted e.thread b (is_one exit lock) n)
-    by true q = entered_agrees m n e.thread (is_one exit lock) agrees owned (entry_open e entry lock h.entered q)
-    by false q = leaves (is_one exit lock)
+    by : (b : Bool) → is_held_lock entry lock ≡ b → Agrees (if b then entered_once e.thread m else (if is_held_lock exit lock then left_by_owner e.thread m else m)) (recounted e.thread b (is_held_lock exit lock) n)
+    by true q = entered_agrees m n e.thread (is_held_lock exit lock) agrees owned (entry_open e entry lock h.entered q)
+    by false q = leaves (is_held_lock exit lock)
 
 -- what is not there before the event is neither entered nor left
-untouched : (e : Moment) (entry exit : Option Lock) (after : Kept) (lock : Lock) (n : ℕ → ℕ) (t : ℕ) → MovesMonitors e entry exit after → (IsThere e.before lock → ⊥) → recounted e.thread (is_one entry lock) (is_one exit lock) n t ≡ n t
+untouched : (e : Moment) (entry exit : Option Lock) (after : Kept) (lock : Lock) (n : ℕ → ℕ) (t : ℕ) → MovesMonitors e entry exit after → (IsThere e.before lock → ⊥) → recounted e.thread (is_held_lock entry lock) (is_held_lock exit lock) n t ≡ n t
 untouched e entry exit after lock n t h not =
-    ap (λ (b : Bool). recounted e.thread b (is_one exit lock) n t) (not_one e.before entry lock (entries_there e entry h.entered) not)
+    ap (λ (b : Bool). recounted e.thread b (is_held_lock exit lock) n t) (not_one e.before entry lock (entries_there e entry h.entered) not)
     ∙ (ap (λ (b : Bool). recounted e.thread false b n t) (not_one e.before exit lock h.left not) ∙ neither e.thread n t)
 
 new_absent : (s : Kept) (lock : Lock) → IsNew s lock → IsThere s lock → ⊥
@@ -215,11 +215,11 @@ still_new e entry exit after (OfObject o) h new = let le : length after.heap ≤
 still_new e entry exit after (OfClass c) h new = new
 
 excludes_after : (e : Moment) (entry exit : Option Lock) (after : Kept) (lock : Lock) (n : ℕ → ℕ) → MovesMonitors e entry exit after → (IsThere e.before lock → IsOwned (monitor_in e.before lock)) → Excludes e.before lock n
-    → Excludes after lock (recounted e.thread (is_one entry lock) (is_one exit lock) n)
+    → Excludes after lock (recounted e.thread (is_held_lock entry lock) (is_held_lock exit lock) n)
 excludes_after e entry exit after lock n h owned was = by (there_or e.before lock)
   where
     k : ℕ → ℕ
-    k = recounted e.thread (is_one entry lock) (is_one exit lock) n
+    k = recounted e.thread (is_held_lock entry lock) (is_held_lock exit lock) n
 
     by : IsThere e.before lock ⊎ (IsThere e.before lock → ⊥) → Excludes after lock k
     by (inl there) =

@@ -15,7 +15,7 @@ use Rattle.et_state.specs.Outcome.{Outcome, state_after, records_of, end_by}
 use Rattle.et_io.specs.Sink.{with_more}
 use Rattle.et_text.specs.Spelling.{text}
 use Rattle.et_loop.specs.Visits.{visits_at, visits_below, allowed_visits, visits_to, visits_of_turn, turn_visits, due_visits, made_after, IsCut}
-use Rattle.et_state.specs.History.{Rule, Setting, is_flush_point, is_gone, deaths_to, flush_lines, turn_of, step_of, ending, settled, left_by, records_at, IsLast, last_reached, deaths, mentions_to, lines_to, trace_of, how_of}
+use Rattle.et_state.specs.History.{Rule, Setting, is_flush_point, is_gone, deaths_to, flush_lines, picked_turn, outcome_step, ending, settled, left_by, records_at, IsLastEvent, last_reached, deaths, mentions_to, lines_to, trace_of, how_of}
 
 -- two graphs of which a history tells the same
 pub record LooksAlike (reached : Graph → ℕ → Bool) (g h : Graph) : Type 0 where
@@ -85,7 +85,7 @@ module _ {S T : Type 0} (reached : Graph → ℕ → Bool) (given : Setting S) (
   pub record IsTurn (e : ℕ) (s : S) (thread : ℕ) : Type 0 where
     pub some : (length (given.rule.unended s) == 0) ≡ false
     pub within : (e == given.limit) ≡ false
-    pub thread_is : thread ≡ turn_of given (suc e) s
+    pub thread_is : thread ≡ picked_turn given (suc e) s
 
   -- what is asked: matching states look alike, and flushes and events lead from matching states to matching states
   pub record Mirrors : Type 0 where
@@ -103,26 +103,26 @@ module _ {S T : Type 0} (reached : Graph → ℕ → Bool) (given : Setting S) (
     pub settled_alike : (e : ℕ) (s : S) (t : T) → M e s t → M e (settled reached given e s) (settled reached other e t)
     settled_alike e s t m = if_both e (is_flush_point given.interval e) _ _ _ _ (mirrors.flush e s t m) m
 
-    same_turn : (e : ℕ) (s : S) (t : T) → M e s t → turn_of given (suc e) s ≡ turn_of other (suc e) t
+    same_turn : (e : ℕ) (s : S) (t : T) → M e s t → picked_turn given (suc e) s ≡ picked_turn other (suc e) t
     same_turn e s t m = ap (λ (us : List ℕ). slice_index us (given.pick (suc e) % length us)) (mirrors.unended e s t m)
 
     -- the next event, by the threads that have the turn
     step_alike : (e : ℕ) (s : S) (t : T) → M e s t → (length (given.rule.unended s) == 0) ≡ false → (e == given.limit) ≡ false
-        → LeadsAlike (λ x y. M (suc e) x y) (turn_of given (suc e) s) s t (step_of given (suc e) s) (step_of other (suc e) t)
+        → LeadsAlike (λ x y. M (suc e) x y) (picked_turn given (suc e) s) s t (outcome_step given (suc e) s) (outcome_step other (suc e) t)
     step_alike e s t m some within =
-        subst (λ (k : ℕ). LeadsAlike (λ x y. M (suc e) x y) (turn_of given (suc e) s) s t (step_of given (suc e) s) (rule.event t k)) (same_turn e s t m)
-        (mirrors.event e s t (turn_of given (suc e) s) m (record { some = some; within = within; thread_is = refl }))
+        subst (λ (k : ℕ). LeadsAlike (λ x y. M (suc e) x y) (picked_turn given (suc e) s) s t (outcome_step given (suc e) s) (rule.event t k)) (same_turn e s t m)
+        (mirrors.event e s t (picked_turn given (suc e) s) m (record { some = some; within = within; thread_is = refl }))
 
     ending_alike : (e : ℕ) (s : S) (t : T) → M e s t → ending given e s ≡ ending other e t
     ending_alike e s t m =
         end_alike (length (given.rule.unended s) == 0) (length (rule.unended t) == 0) (e == given.limit) Finished EventLimit _ _
         (ap (λ (us : List ℕ). length us == 0) (mirrors.unended e s t m))
-        (λ some within. (step_alike e s t m some within).ends ∙ ap (λ (k : ℕ). end_by k (step_of other (suc e) t)) (same_turn e s t m))
+        (λ some within. (step_alike e s t m some within).ends ∙ ap (λ (k : ℕ). end_by k (outcome_step other (suc e) t)) (same_turn e s t m))
 
     -- the event after event e is done
     record Goes (e : ℕ) (s : S) (t : T) : Type 0 where
-      next : M (suc e) (state_after s (step_of given (suc e) s)) (state_after t (step_of other (suc e) t))
-      records : records_of (step_of given (suc e) s) ≡ records_of (step_of other (suc e) t)
+      next : M (suc e) (state_after s (outcome_step given (suc e) s)) (state_after t (outcome_step other (suc e) t))
+      records : records_of (outcome_step given (suc e) s) ≡ records_of (outcome_step other (suc e) t)
 
     goes_alike : (e : ℕ) (s : S) (t : T) → M e s t → ending given e s ≡ None → Goes e s t
     goes_alike e s t m goes =
@@ -203,10 +203,10 @@ module _ {S T : Type 0} (reached : Graph → ℕ → Bool) (given : Setting S) (
       pub trace_alike : (e : ℕ) (end : End) → GoesTo e → trace_of reached given start made e end ≡ trace_of reached other start' made e end
       trace_alike e end goes = same_ending e end (lines_alike e goes) (deaths_alike e goes)
 
-      pub last_there : (e : ℕ) (end : End) → IsLast reached given start made e end → IsLast reached other start' made e end
+      pub last_there : (e : ℕ) (end : End) → IsLastEvent reached given start made e end → IsLastEvent reached other start' made e end
       last_there e end last = record { ends = sym (ends_alike e last.first) ∙ last.ends; first = goes_there e last.first }
 
-      pub last_back : (e : ℕ) (end : End) → IsLast reached other start' made e end → IsLast reached given start made e end
+      pub last_back : (e : ℕ) (end : End) → IsLastEvent reached other start' made e end → IsLastEvent reached given start made e end
       last_back e end last =
           let goes : GoesTo e = goes_back e last.first in
           record { ends = ends_alike e goes ∙ last.ends; first = goes }

@@ -11,7 +11,7 @@ use Rattle.et_heap.specs.Remaining.{left_place, remaining}
 use Rattle.et_heap.proofs.HeapLists.{held_within}
 use Rattle.et_state.specs.History.{ending, is_flush_point, flush_lines, left_by, lines_to, mentions_to, deaths}
 use Rattle.et_state.specs.History as history
-use Rattle.et_state.specs.Naming.{Names, Mentions, nothing_mentioned, with_mentions, class_line, method_line, classes_of, methods_of, number_in, line_of, record_lines, lines_of}
+use Rattle.et_state.specs.Naming.{Names, Mentions, nothing_mentioned, with_mentions, class_line, method_line, classes_named_by, methods_named_by, number_in, line_of, record_lines, lines_of}
 use Rattle.et_state.specs.Options.{AreOptions}
 use Rattle.et_state.specs.Outcome.{Outcome, state_after, records_of}
 use Rattle.et_state.specs.Outcome as outcome
@@ -27,14 +27,14 @@ use Rattle.et_program.specs.Entries.{Linked, class_at}
 use Rattle.et_program.specs.declared.info.Element.{Element}
 use Rattle.et_program.specs.declared.info.Element.TheVariants.{NoArray, Base, Class}
 use Rattle.et_event.specs.Event.{event}
-use Rattle.et_event.specs.Kinds.{is_array}
+use Rattle.et_event.specs.Kinds.{is_array_element}
 use Rattle.et_event.specs.Moments.{array_size, element_width}
 use Rattle.et_event.specs.Start.{start_records}
 use Rattle.et_history.specs.Allocations.{object_in, next_number, IsMadeAt, TellsOf, next_behind, AreAllocations, HasArguments}
-use Rattle.et_history.specs.Histories.{picked, GoesOn, WholeGoesOn, whole_picked, whole_at, whole_settled_at}
+use Rattle.et_history.specs.Histories.{picked, HistoryGoesOn, WholeGoesOn, whole_picked, whole_at, whole_settled_at}
 use Rattle.et_history.specs.Records.{size_by, size_of, IsAlike, next_after, IsAllocationOf, AreRecordsOf, HasPlainStrings, TellsObjects}
 use Rattle.et_history.specs.Same.{IsHere}
-use Rattle.et_history.specs.Settings.{IsSoundRun, names_of, unended_of}
+use Rattle.et_history.specs.Settings.{IsSoundRun, names_of_program, unended_threads}
 use Rattle.et_history.specs.Whole.{beside, cleared, whole_flushed, whole_start}
 use Rattle.et_history.proofs.Alike.{is_open}
 use Rattle.et_history.proofs.Wholes.{all_match, settled_match, go_on, flushed_here, picked_unended}
@@ -96,12 +96,12 @@ module _ (P : (event object size elements : ℕ) → Type 0) where
     lines_tell names m next last [] le are = are
     lines_tell names m next last (r ∷ rs) le are =
         let now : Mentions = with_mentions names m r in
-        let cs : List TraceLine = flat_map (class_line names m.classes) (classes_of names r) in
-        let ms : List TraceLine = flat_map (method_line names now.classes m.methods) (methods_of r) in
+        let cs : List TraceLine = flat_map (class_line names m.classes) (classes_named_by names r) in
+        let ms : List TraceLine = flat_map (method_line names now.classes m.methods) (methods_named_by r) in
         let up : next ≤ next_after next r = rises next r in
         both_tell next (next_after next r) last (record_lines names m r) (lines_of names now rs)
         (both_tell next next (next_after next r) (cs ++ ms) (line_of now r ∷ [])
-        (both_tell next next next cs ms (class_tells names m.classes (classes_of names r) next) (method_tells names now.classes m.methods (methods_of r) next))
+        (both_tell next next next cs ms (class_tells names m.classes (classes_named_by names r) next) (method_tells names now.classes m.methods (methods_named_by r) next))
         (line_tells now next r rs last le are))
         (lines_tell names now (next_after next r) last rs (omega arith) are.1)
 
@@ -208,7 +208,7 @@ event_lines P p t k outcome.ObjectLimit names m tells told = refl
 none_times : (n : ℕ) → 0 ≡ 0 * n
 none_times n = omega arith
 
-argument_size : (x : Element) → is_array x ≡ true → array_size 0 8 ≡ size_by x 0 0
+argument_size : (x : Element) → is_array_element x ≡ true → array_size 0 8 ≡ size_by x 0 0
 argument_size NoArray is = cc
 argument_size (Base kind) is = ap (λ (n : ℕ). (24 + n + 7) / 8 * 8) (none_times (element_width (Base kind)))
 argument_size (Class class) is = refl
@@ -216,7 +216,7 @@ argument_size (Class class) is = refl
 -- THE HISTORY
 module _ (reached : Graph → ℕ → Bool) (p : Linked) (options : Options) (pick : ℕ → ℕ) (decides : Decides reached) (run : IsSoundRun p (start p)) (plain : HasPlainStrings p) (arguments : HasArguments p) (are : AreOptions options) where
   abbrev Before : ℕ → Type 0
-  Before e = (k : ℕ) → k < e → GoesOn reached p options pick k
+  Before e = (k : ℕ) → k < e → HistoryGoesOn reached p options pick k
 
   abbrev now : ℕ → State
   now e = whole_at reached p options pick e
@@ -225,7 +225,7 @@ module _ (reached : Graph → ℕ → Bool) (p : Linked) (options : Options) (pi
   settled e = whole_settled_at reached p options pick e
 
   abbrev turn : ℕ → ℕ
-  turn e = history.turn_of (picked p options pick) (suc e) (settled e).kept
+  turn e = history.picked_turn (picked p options pick) (suc e) (settled e).kept
 
   abbrev step : ℕ → Outcome Kept
   step e = event p (settled e).kept (turn e)
@@ -256,7 +256,7 @@ module _ (reached : Graph → ℕ → Bool) (p : Linked) (options : Options) (pi
   tells_at e goes =
       let m = settled_match reached p options pick decides run are e (fewer e goes) in
       let t : State = settled e in
-      let on = is_open (length (unended_of t.kept) == 0) (e == options.limit) _ _ _ (subst (λ (x : Kept). ending (picked p options pick) e x ≡ None) (sym m.0) (goes e (omega arith))) in
+      let on = is_open (length (unended_threads t.kept) == 0) (e == options.limit) _ _ _ (subst (λ (x : Kept). ending (picked p options pick) e x ≡ None) (sym m.0) (goes e (omega arith))) in
       event_tells p t.kept (turn e) m.1.state (picked_unended t.kept (pick (suc e)) on.some) run.runnable plain
 
   next_is : (e : ℕ) → now (suc e) ≡ after (settled e) (step e)
@@ -331,16 +331,16 @@ module _ (reached : Graph → ℕ → Bool) (p : Linked) (options : Options) (pi
               length_is = is.length_is ∙ ap (λ (y : ObjectState). y.length) (sym (held_in (whole_start p) o is.held));
               size_is = is.size_is ∙ ap (λ (y : ObjectState). size_of p y) (sym (held_in (whole_start p) o is.held));
             })
-            (names_of p) nothing_mentioned 1 2 (start_records p) (omega arith) ((refl, refl, allocation), refl),
+            (names_of_program p) nothing_mentioned 1 2 (start_records p) (omega arith) ((refl, refl, allocation), refl),
       )
 
-  next_told : (e : ℕ) → Before (suc e) → AreAllocations (Made (suc e)) (next_number (settled e)) (lines_of (names_of p) (history.mentions_to reached (whole_picked p options pick) (whole_start p) (start_records p) e) (records_of (beside (settled e).reported (step e)))) (next_number (now (suc e)))
+  next_told : (e : ℕ) → Before (suc e) → AreAllocations (Made (suc e)) (next_number (settled e)) (lines_of (names_of_program p) (history.mentions_to reached (whole_picked p options pick) (whole_start p) (start_records p) e) (records_of (beside (settled e).reported (step e)))) (next_number (now (suc e)))
   next_told e goes =
       let t : State = settled e in
       let m = settled_match reached p options pick decides run are e (fewer e goes) in
       let clock : t.kept.guest.clock + 1 ≡ suc e = (let c = m.1.clock in omega arith) in
-      subst (λ (n : ℕ). AreAllocations (Made (suc e)) (next_number t) (lines_of (names_of p) (history.mentions_to reached (whole_picked p options pick) (whole_start p) (start_records p) e) (records_of (beside t.reported (step e)))) n) (ap (λ (s : State). next_number s) (sym (next_is e)))
-      (event_lines (Made (suc e)) p t (turn e) (step e) (names_of p) (history.mentions_to reached (whole_picked p options pick) (whole_start p) (start_records p) e) (tells_at e goes)
+      subst (λ (n : ℕ). AreAllocations (Made (suc e)) (next_number t) (lines_of (names_of_program p) (history.mentions_to reached (whole_picked p options pick) (whole_start p) (start_records p) e) (records_of (beside t.reported (step e)))) n) (ap (λ (s : State). next_number s) (sym (next_is e)))
+      (event_lines (Made (suc e)) p t (turn e) (step e) (names_of_program p) (history.mentions_to reached (whole_picked p options pick) (whole_start p) (start_records p) e) (tells_at e goes)
       (λ object size elements le held length_is size_is.
       let held_now : IsHeld (now (suc e)).kept.heap object = subst (λ (s : State). IsHeld s.kept.heap object) (sym (next_is e)) held in
       subst (λ (n : ℕ). Made (suc e) n object size elements) (sym clock) (record {
@@ -363,9 +363,9 @@ module _ (reached : Graph → ℕ → Bool) (p : Linked) (options : Options) (pi
       all_so (Made e) (Made (suc e)) (λ event object size elements h. made_on e event object size elements goes h) 1 n old (all_told e (fewer e goes)) in
       let none : AreAllocations (Made (suc e)) n (if is_flush_point options.interval e then flush else []) n =
       if_case (λ (ls : List TraceLine). AreAllocations (Made (suc e)) n ls n) (is_flush_point options.interval e) flush [] (flush_tells (Made (suc e)) e (deaths reached (whole_picked p options pick) (whole_start p) (start_records p) e) n) refl in
-      let new = subst (λ (k : ℕ). AreAllocations (Made (suc e)) k (lines_of (names_of p) (history.mentions_to reached (whole_picked p options pick) (whole_start p) (start_records p) e) (records_of (beside (settled e).reported (step e)))) (next_number (now (suc e)))) (settled_next e) (next_told e goes) in
+      let new = subst (λ (k : ℕ). AreAllocations (Made (suc e)) k (lines_of (names_of_program p) (history.mentions_to reached (whole_picked p options pick) (whole_start p) (start_records p) e) (records_of (beside (settled e).reported (step e)))) (next_number (now (suc e)))) (settled_next e) (next_told e goes) in
       both_tell (Made (suc e)) 1 n (next_number (now (suc e))) (old ++ (if is_flush_point options.interval e then flush else []))
-      (lines_of (names_of p) (history.mentions_to reached (whole_picked p options pick) (whole_start p) (start_records p) e) (records_of (beside (settled e).reported (step e))))
+      (lines_of (names_of_program p) (history.mentions_to reached (whole_picked p options pick) (whole_start p) (start_records p) e) (records_of (beside (settled e).reported (step e))))
       (both_tell (Made (suc e)) 1 n n old (if is_flush_point options.interval e then flush else []) told none) new
 
   -- THE LAW

@@ -29,16 +29,16 @@ use Rattle.et_event.specs.declared.rows.CallKind.TheVariants.{Virtual, Special, 
 use Rattle.et_event.specs.declared.rows.Operand.{Operand}
 use Rattle.et_event.specs.declared.rows.Operand.TheVariants as operand
 use Rattle.et_event.specs.declared.errors.GuestError.TheVariants as errors
-use Rattle.et_event.specs.BuiltIns.{built_in_of, argument, answering, reference_in, reference_of, starts, with_thread_for, has_ended, built_in_row, done_by, built_in_event}
-use Rattle.et_event.specs.Calls.{is_static_call, call_fits, with_type, with_method, taking, enters_method, is_of_owner, special_class, dispatched, is_as, arguments_of, entry_count, invoke, entering, entry_arguments, enters_first, enters_run, entry_call, with_returned, class_done_by, frame_returned, returned_by, return}
-use Rattle.et_event.specs.Checks.{selected, ill_typed_unless, value_of, entries_of}
+use Rattle.et_event.specs.BuiltIns.{built_in_of, argument, answering, reference_in, reference_of, starts_thread, with_thread_for, has_thread_ended, built_in_row, done_by, built_in_event}
+use Rattle.et_event.specs.Calls.{is_static_call, call_fits, with_type, with_method, taking, enters_method, is_of_owner, special_class, dispatched, is_as, arguments_of, entry_count, invoke, entering_frame, entry_arguments, enters_first, enters_run, entry_call, with_returned, class_done_by, frame_returned, returned_by, return}
+use Rattle.et_event.specs.Checks.{after_selection, ill_typed_unless, reference_value, entries_of}
 use Rattle.et_event.specs.Errors.{class_called, error_class}
 use Rattle.et_event.specs.Frames.{first_reference, receiver_of, frame_entered, method_frame, by_code, enters, frames_after_return}
 use Rattle.et_event.specs.Initialization.{with_state, prepared, is_ready, enters_clinit, step_by, initialization_step}
 use Rattle.et_event.specs.Kinds.{may_return}
-use Rattle.et_event.specs.Moments.{Moment, Doing, class_of, frame_of, thread_of, begins, told, with_frame, with_thread_state, next_object, instance_made, slot_written, ill_typed, ends, goes, throws}
+use Rattle.et_event.specs.Moments.{Moment, Doing, object_class, current_frame, thread_of, begins, told, with_frame, with_thread_state, next_object, instance_made, slot_written, ill_typed, ends_event, goes, throws}
 use Rattle.et_event.specs.Monitors.{Lock, OfObject, OfClass, monitor_of, lock_for, left_once, may_enter_some, entered, entered_some, owns, owns_some, left, left_some}
-use Rattle.et_event.specs.Sites.{Site, Member, member_of, names_interface, body_of}
+use Rattle.et_event.specs.Sites.{Site, Member, site_member, names_interface, present_body}
 use Rattle.et_event.specs.Throw.{caught, handled, handler_of, left_if_owned, dropped, is_error, replaced, failed, unwound, unwound_clinit, by_handler, unwinds, unwinding_step}
 use Rattle.et_history.proofs.Values.{Fine, Fines, FineSome, FineFrame, FineThread, Grows, some_grows, fine_grows, frame_grows, fine_at, fines_append, fines_drop, fines_take, fines_reverse, fines_unset, rest_fine}
 use Rattle.et_history.proofs.Heaps.{slots_fine, referent_fine, new_held}
@@ -123,15 +123,15 @@ module _ (e : Moment) (ready : Ready e) where
 
   answering_told : (at : Site) (arguments values : List Value) (d : Doing) → Told e d → Fines d.state.heap values → Told e (answering e at arguments values d)
   answering_told at arguments values d h f =
-      on_top e ready at.next (values ++ drop (length arguments) (frame_of e).operands) d h
-      (fines_append d.state.heap values (drop (length arguments) (frame_of e).operands) f (fines_drop d.state.heap (length arguments) (frame_of e).operands (later_fine e ready d (frame_of e).operands h (operands_fine e ready))))
+      on_top e ready at.next (values ++ drop (length arguments) (current_frame e).operands) d h
+      (fines_append d.state.heap values (drop (length arguments) (current_frame e).operands) f (fines_drop d.state.heap (length arguments) (current_frame e).operands (later_fine e ready d (current_frame e).operands h (operands_fine e ready))))
 
-  starts_says : (d : Doing) (o : ℕ) (go : Outcome Kept) (k : Option ℕ) → Told e d → Says e go → Says e (starts e d o go k)
+  starts_says : (d : Doing) (o : ℕ) (go : Outcome Kept) (k : Option ℕ) → Told e d → Says e go → Says e (starts_thread e d o go k)
   starts_says d o go (Some k) h g = throws_says e ready errors.IllegalThreadStateException d h
   starts_says d o go None h g = unless_thrown e ready d errors.OutOfMemoryError (nat_lt (length d.state.guest.threads) most_threads) go h (λ few. g)
 
-  on_says : (d : Doing) (name : List ℕ) (o : ℕ) (go : Outcome Kept) → Says e go → Says e (ill_typed_unless e (is_subclass e.program (class_of d o) (class_called e.program name)) go)
-  on_says d name o go g = unless_ill_typed e ready (is_subclass e.program (class_of d o) (class_called e.program name)) go g
+  on_says : (d : Doing) (name : List ℕ) (o : ℕ) (go : Outcome Kept) → Says e go → Says e (ill_typed_unless e (is_subclass e.program (object_class d o) (class_called e.program name)) go)
+  on_says d name o go g = unless_ill_typed e ready (is_subclass e.program (object_class d o) (class_called e.program name)) go g
 
   read_reference : (d : Doing) (o i : ℕ) → Told e d → Fine d.state.heap (reference_in d o i)
   read_reference d o i h =
@@ -159,11 +159,11 @@ module _ (e : Moment) (ready : Ready e) where
       on_says d (codes "java/lang/Thread") o _
       (starts_says d o (goes (with_thread_for o x)) (thread_with d.state.guest.threads o) h (started_told e o x (answering_told at arguments [] d h tt) held))
   built_in_says at d arguments o built.Join h f held =
-      unless_waiting e ready (has_ended d (thread_with d.state.guest.threads o)) _ (answering_told at arguments [] d h tt)
+      unless_waiting e ready (has_thread_ended d (thread_with d.state.guest.threads o)) _ (answering_told at arguments [] d h tt)
   built_in_says at d arguments o built.SetReferent h f held =
       referent_told e o (reference_of (argument arguments 1)) (answering e at arguments [] d) (answering_told at arguments [] d h tt) held (reference_fine d.state.heap (argument arguments 1) (fine_at d.state.heap arguments 1 f))
   built_in_says at d arguments o built.GetReferent h f held =
-      answering_told at arguments (value_of (object_at d.state.heap o).referent ∷ []) d h (fine_value d.state.heap (object_at d.state.heap o).referent (referent_fine d.state o h.sound), tt)
+      answering_told at arguments (reference_value (object_at d.state.heap o).referent ∷ []) d h (fine_value d.state.heap (object_at d.state.heap o).referent (referent_fine d.state o h.sound), tt)
   built_in_says at d arguments o built.ClearReferent h f held =
       referent_told e o None (answering e at arguments [] d) (answering_told at arguments [] d h tt) held tt
 
@@ -175,7 +175,7 @@ module _ (e : Moment) (ready : Ready e) where
 
   taking_told : (count : ℕ) → Leaves (taking e count)
   taking_told count d h =
-      on_top e ready (frame_of e).pc (drop count (frame_of e).operands) d h (fines_drop d.state.heap count (frame_of e).operands (later_fine e ready d (frame_of e).operands h (operands_fine e ready)))
+      on_top e ready (current_frame e).pc (drop count (current_frame e).operands) d h (fines_drop d.state.heap count (current_frame e).operands (later_fine e ready d (current_frame e).operands h (operands_fine e ready)))
 
   method_says : (at : Site) (d : Doing) (arguments : List Value) (m : ℕ) → Fines e.before.heap arguments → Told e d → Says e (enters_method e at d arguments m)
   method_says at d arguments m f h =
@@ -186,7 +186,7 @@ module _ (e : Moment) (ready : Ready e) where
 
   -- INVOKES
 
-  selected_says : (at : Site) (arguments : List Value) (answer : Result ℕ LinkError) → Fines e.before.heap arguments → Says e (selected e (begins e) answer (enters_method e at (begins e) arguments))
+  selected_says : (at : Site) (arguments : List Value) (answer : Result ℕ LinkError) → Fines e.before.heap arguments → Says e (after_selection e (begins e) answer (enters_method e at (begins e) arguments))
   selected_says at arguments answer f = where_resolved e ready (begins e) answer _ (first e ready) (λ k is. method_says at (begins e) arguments k f (first e ready))
 
   dispatched_says : (at : Site) (kind : CallKind) (arguments : List Value) (named m : ℕ) → Fines e.before.heap arguments → Says e (dispatched e at kind arguments named m)
@@ -194,13 +194,13 @@ module _ (e : Moment) (ready : Ready e) where
       initialized_says e ready (begins e) (method_at e.program m).class _ (first e ready) (λ d h. method_says at d arguments m f h)
   dispatched_says at Virtual arguments named m f =
       where_not_null e ready (begins e) (first_reference arguments) _ (first e ready) (first_fine e.before.heap arguments f) (λ o held.
-      unless_ill_typed e ready (is_of_owner e (begins e) m o) _ (selected_says at arguments (select e.program (class_of (begins e) o) m false) f))
+      unless_ill_typed e ready (is_of_owner e (begins e) m o) _ (selected_says at arguments (select e.program (object_class (begins e) o) m false) f))
   dispatched_says at Special arguments named m f =
       where_not_null e ready (begins e) (first_reference arguments) _ (first e ready) (first_fine e.before.heap arguments f) (λ o held.
       unless_ill_typed e ready (is_of_owner e (begins e) m o) _ (selected_says at arguments (select_special e.program at.class (special_class e.program named) m) f))
   dispatched_says at Interface arguments named m f =
       where_not_null e ready (begins e) (first_reference arguments) _ (first e ready) (first_fine e.before.heap arguments f) (λ o held.
-      selected_says at arguments (select e.program (class_of (begins e) o) m true) f)
+      selected_says at arguments (select e.program (object_class (begins e) o) m true) f)
 
   type_says : (t : Option MethodType) (go : MethodType → Outcome Kept) → ((x : MethodType) → Says e (go x)) → Says e (with_type e t go)
   type_says None go h = tt
@@ -211,11 +211,11 @@ module _ (e : Moment) (ready : Ready e) where
   named_says (Some m) go h = type_says (method_type m.descriptor) (go m) (h m)
 
   arguments_fine : (count : ℕ) → Fines e.before.heap (arguments_of e count)
-  arguments_fine count = fines_reverse e.before.heap (take count (frame_of e).operands) (fines_take e.before.heap count (frame_of e).operands (operands_fine e ready))
+  arguments_fine count = fines_reverse e.before.heap (take count (current_frame e).operands) (fines_take e.before.heap count (current_frame e).operands (operands_fine e ready))
 
   pub invoke_says : (at : Site) (kind : CallKind) → Says e (invoke e at kind)
   invoke_says at kind =
-      named_says (member_of at) _ (λ m type.
+      named_says (site_member at) _ (λ m type.
       unless_ill_typed e ready (call_fits e (is_static_call kind) type) _ (
       where_resolved e ready (begins e) (resolve_class e.program m.owner) _ (first e ready) (λ owner is.
       where_resolved e ready (begins e) (resolve_method e.program owner (names_interface at) m.name m.descriptor) _ (first e ready) (λ method found.
@@ -226,7 +226,7 @@ module _ (e : Moment) (ready : Ready e) where
 
   first_says : (d : Doing) (arguments : List Value) (m : ℕ) → Fines e.before.heap arguments → Told e d → Says e (enters_first e d arguments m)
   first_says d arguments m f h =
-      enters_says d (entering e) m arguments (throws e errors.AbstractMethodError d) f h (λ x g. as_entered_told e x g) (throws_says e ready errors.AbstractMethodError d h)
+      enters_says d (entering_frame e) m arguments (throws e errors.AbstractMethodError d) f h (λ x g. as_entered_told e x g) (throws_says e ready errors.AbstractMethodError d h)
 
   run_says : (o : Option ℕ) → FineSome e.before.heap o → Says e (enters_run e o)
   run_says None held = tt
@@ -234,7 +234,7 @@ module _ (e : Moment) (ready : Ready e) where
       let thread : ℕ = class_called e.program (codes "java/lang/Thread") in
       where_resolved e ready (begins e) (resolve_method e.program thread false (codes "run") (codes "()V")) _ (first e ready) (λ m is.
       unless_ill_typed e ready (is_of_owner e (begins e) m o) _ (
-      where_resolved e ready (begins e) (select e.program (class_of (begins e) o) m false) _ (first e ready) (λ k found. first_says (begins e) (Ref o ∷ []) k (held, tt) (first e ready))))
+      where_resolved e ready (begins e) (select e.program (object_class (begins e) o) m false) _ (first e ready) (λ k found. first_says (begins e) (Ref o ∷ []) k (held, tt) (first e ready))))
 
   pub entry_says : Says e (entry_call e)
   entry_says =
@@ -253,7 +253,7 @@ module _ (e : Moment) (ready : Ready e) where
 
   returned_says : (values : List Value) → Fines e.before.heap values → Says e (goes (frame_returned e values (begins e)))
   returned_says values f =
-      let stage : Stage = (frame_of e).stage in
+      let stage : Stage = (current_frame e).stage in
       let lock : Option Lock = own_lock e in
       let x : Doing = class_done_by stage (left_some lock (begins e)) in
       let hx : Told e x = done_told stage (left_some lock (begins e)) (left_some_told e lock (begins e) (first e ready) (own_there e ready.knows)) in
@@ -268,7 +268,7 @@ module _ (e : Moment) (ready : Ready e) where
         entry = λ u. some_grows e.before.heap x.state.heap (thread_of e).entry grown (was.entry u);
         object = λ u. some_grows e.before.heap x.state.heap (thread_of e).object grown (was.object u);
       } in
-      record_told e (Exit x.state.guest.clock e.thread (unwrap_or (frame_of e).method 0)) (with_thread_state e t x) (thread_told e t x hx now) refl (hx.clock, refl)
+      record_told e (Exit x.state.guest.clock e.thread (unwrap_or (current_frame e).method 0)) (with_thread_state e t x) (thread_told e t x hx now) refl (hx.clock, refl)
 
   with_returned_says : (kind : Option Operand) (ops : List Value) (go : List Value → Outcome Kept) → Fines e.before.heap ops → ((vs : List Value) → Fines e.before.heap vs → Says e (go vs)) → Says e (with_returned kind (ill_typed e) ops go)
   with_returned_says None ops go f h = h [] tt
@@ -277,7 +277,7 @@ module _ (e : Moment) (ready : Ready e) where
   pub return_says : (kind : Option Operand) → Says e (return e kind)
   return_says kind =
       unless_ill_typed e ready (may_return kind (returned_by e)) _ (
-      with_returned_says kind (frame_of e).operands _ (operands_fine e ready) (λ values f.
+      with_returned_says kind (current_frame e).operands _ (operands_fine e ready) (λ values f.
       unless_thrown e ready (begins e) errors.IllegalMonitorStateException (owns_some e (begins e) (own_lock e)) _ (first e ready) (λ owned. returned_says values f)))
 
   -- UNWINDING
@@ -290,11 +290,11 @@ module _ (e : Moment) (ready : Ready e) where
 
   caught_says : (o handler : ℕ) → IsHeld e.before.heap o → Says e (caught e o handler)
   caught_says o handler held =
-      let f : FrameState = handled (frame_of e) handler o in
+      let f : FrameState = handled (current_frame e) handler o in
       let t : ThreadState = with_pending None (with_top_of (thread_of e) f) in
       let was : FineThread e.before.heap (thread_of e) = thread_fine e ready.knows in
-      let top : FineFrame e.before.heap (frame_of e) = frame_fine e ready.knows in
-      unless_ill_typed e ready (nat_lt 0 (frame_of e).room) _
+      let top : FineFrame e.before.heap (current_frame e) = frame_fine e ready.knows in
+      unless_ill_typed e ready (nat_lt 0 (current_frame e).room) _
       (thread_told e t (begins e) (first e ready) (record {
         frames = (record { locals = top.locals; operands = (held, tt); lock = top.lock }, rest_fine e.before.heap (thread_of e).frames was.frames);
         pending = tt;
@@ -307,11 +307,11 @@ module _ (e : Moment) (ready : Ready e) where
   handler_says o other None held h = h
 
   -- a frame that is dropped by an exception is told
-  unwind_told : (o : ℕ) (d : Doing) → IsHeld e.before.heap o → Told e d → Told e (told (Unwind (begins e).state.guest.clock e.thread (unwrap_or (frame_of e).method 0) o) (dropped e d))
+  unwind_told : (o : ℕ) (d : Doing) → IsHeld e.before.heap o → Told e d → Told e (told (Unwind (begins e).state.guest.clock e.thread (unwrap_or (current_frame e).method 0) o) (dropped e d))
   unwind_told o d held h =
       let y : Doing = dropped e d in
       let hy : Told e y = dropped_told d h in
-      record_told e (Unwind (begins e).state.guest.clock e.thread (unwrap_or (frame_of e).method 0) o) y hy refl (refl, refl, there y o (hy.steady.stays o held))
+      record_told e (Unwind (begins e).state.guest.clock e.thread (unwrap_or (current_frame e).method 0) o) y hy refl (refl, refl, there y o (hy.steady.stays o held))
 
   unwound_says : (o : ℕ) → IsHeld e.before.heap o → Says e (unwound e o)
   unwound_says o held = unwind_told o (left_if_owned e (own_lock e) (begins e)) held (left_if_told e (own_lock e) (begins e) (first e ready) (own_there e ready.knows))
@@ -326,40 +326,40 @@ module _ (e : Moment) (ready : Ready e) where
       let old : IsHeld x.state.heap o = (steady_push d.state.heap (new_object class 0 (class_at e.program class).info.slots)).stays o held in
       pending_told e error y (slot_told e error 1 (Ref o) x (error_told e ready errors.ExceptionInInitializerError d h) new (inl second_own) old) (written_held e error 1 (Ref o) x error new new)
 
-  failed_says : (c o : ℕ) (d : Doing) → IsHeld e.before.heap o → Told e d → Says e (ends (failed e c o d))
+  failed_says : (c o : ℕ) (d : Doing) → IsHeld e.before.heap o → Told e d → Says e (ends_event (failed e c o d))
   failed_says c o d held h =
       let x : Doing = with_state c Failed d in
       let hx : Told e x = state_told e c Failed d h in
       ends_says e ready (failed e c o d) (if_case (λ (y : Doing). Told e y) (is_error e o) x (replaced e o x) hx (replaced_told o x hx (h.steady.stays o held)))
 
   unwinds_says : (o : ℕ) (stage : Stage) → IsHeld e.before.heap o → Says e (unwinds e o stage)
-  unwinds_says o Plain held = handler_says o (unwound e o) (handler_of e.program (frame_of e) (class_of (begins e) o)) held (unwound_says o held)
+  unwinds_says o Plain held = handler_says o (unwound e o) (handler_of e.program (current_frame e) (object_class (begins e) o)) held (unwound_says o held)
   unwinds_says o (Before c) held = failed_says c o (dropped e (begins e)) held (dropped_told (begins e) (first e ready))
   unwinds_says o (Clinit c) held =
-      handler_says o (unwound_clinit e c o) (handler_of e.program (frame_of e) (class_of (begins e) o)) held
-      (failed_says c o (told (Unwind (begins e).state.guest.clock e.thread (unwrap_or (frame_of e).method 0) o) (dropped e (begins e))) held (unwind_told o (begins e) held (first e ready)))
+      handler_says o (unwound_clinit e c o) (handler_of e.program (current_frame e) (object_class (begins e) o)) held
+      (failed_says c o (told (Unwind (begins e).state.guest.clock e.thread (unwrap_or (current_frame e).method 0) o) (dropped e (begins e))) held (unwind_told o (begins e) held (first e ready)))
 
   pub unwinding_says : (o : Option ℕ) → FineSome e.before.heap o → Says e (unwinding_step e o)
   unwinding_says None held = tt
-  unwinding_says (Some o) held = unwinds_says o (frame_of e).stage held
+  unwinding_says (Some o) held = unwinds_says o (current_frame e).stage held
 
   -- A STEP OF AN INITIALIZER
 
   clinit_says : (c : ℕ) (m : Option ℕ) (d : Doing) → Told e d → Says e (enters_clinit e c m d)
   clinit_says c None d h = ends_says e ready (dropped e (with_state c Done d)) (dropped_told (with_state c Done d) (state_told e c Done d h))
   clinit_says c (Some m) d h =
-      let body : Body = body_of (method_at e.program m).code in
-      let f : FrameState = in_clinit m body.max_stack body.max_locals (frame_of e) in
+      let body : Body = present_body (method_at e.program m).code in
+      let f : FrameState = in_clinit m body.max_stack body.max_locals (current_frame e) in
       let fine : FineFrame d.state.heap f = record {
         locals = fines_unset d.state.heap (body.max_locals - 0);
         operands = tt;
-        lock = some_grows e.before.heap d.state.heap (frame_of e).lock h.steady.stays (frame_fine e ready.knows).lock;
+        lock = some_grows e.before.heap d.state.heap (current_frame e).lock h.steady.stays (frame_fine e ready.knows).lock;
       } in
       let x : Doing = with_frame e f d in
       ends_says e ready (told (Enter d.state.guest.clock e.thread m 0) x) (record_told e (Enter d.state.guest.clock e.thread m 0) x (top_told e f d h fine) refl (h.clock, refl, some_there x None tt))
 
   by_blocker_says : (c : ℕ) (d : Doing) (blocker : Option ℕ) → Told e d → Says e (step_by e c d blocker)
-  by_blocker_says c d (Some k) h = initialized_says e ready d k ends h (λ x g. ends_says e ready x g)
+  by_blocker_says c d (Some k) h = initialized_says e ready d k ends_event h (λ x g. ends_says e ready x g)
   by_blocker_says c d None h = clinit_says c (class_at e.program c).info.clinit d h
 
   pub step_says : (c : ℕ) → Says e (initialization_step e c)

@@ -24,15 +24,15 @@ use Rattle.et_event.specs.declared.rows.BuiltIn.TheVariants as built
 use Rattle.et_event.specs.declared.rows.CallKind.{CallKind}
 use Rattle.et_event.specs.declared.rows.CallKind.TheVariants.{Virtual, Special, Static, Interface}
 use Rattle.et_event.specs.declared.errors.GuestError.TheVariants as errors
-use Rattle.et_event.specs.BuiltIns.{built_in_of, argument, answering, reference_in, with_referent_of, reference_of, starts, with_thread_for, has_ended, built_in_row, done_by, built_in_event}
-use Rattle.et_event.specs.Calls.{is_static_call, call_fits, with_type, with_method, taking, enters_method, is_of_owner, special_class, dispatched, is_as, arguments_of, entry_count, invoke, entering, entry_arguments, enters_first, enters_run, entry_call}
-use Rattle.et_event.specs.Checks.{selected, ill_typed_unless, value_of}
+use Rattle.et_event.specs.BuiltIns.{built_in_of, argument, answering, reference_in, with_referent_of, reference_of, starts_thread, with_thread_for, has_thread_ended, built_in_row, done_by, built_in_event}
+use Rattle.et_event.specs.Calls.{is_static_call, call_fits, with_type, with_method, taking, enters_method, is_of_owner, special_class, dispatched, is_as, arguments_of, entry_count, invoke, entering_frame, entry_arguments, enters_first, enters_run, entry_call}
+use Rattle.et_event.specs.Checks.{after_selection, ill_typed_unless, reference_value}
 use Rattle.et_event.specs.Errors.{class_called}
 use Rattle.et_event.specs.Frames.{first_reference, receiver_of, lock_slot, frame_entered, method_frame, by_code, enters}
 use Rattle.et_event.specs.declared.rows.Operand.TheVariants as operand
-use Rattle.et_event.specs.Moments.{Moment, Doing, class_of, frame_of, thread_of, begins, with_thread_state, slot_written, goes, throws}
+use Rattle.et_event.specs.Moments.{Moment, Doing, object_class, current_frame, thread_of, begins, with_thread_state, slot_written, goes, throws}
 use Rattle.et_event.specs.Monitors.{Lock, OfObject, OfClass, monitor_of, lock_for, lock_in, is_open_to, may_enter, may_enter_some, entered_some}
-use Rattle.et_event.specs.Sites.{Site, Member, member_of, names_interface, method_of}
+use Rattle.et_event.specs.Sites.{Site, Member, site_member, names_interface, running_method}
 use Rattle.et_sound.specs.WellFormed.{IsThere}
 use Rattle.et_history.proofs.Values.{Fine, Fines, FineSome, FineFrame, FineThread, fine_grows, fines_grow, frame_grows, fine_at, fines_append, fines_drop, fines_take, fines_reverse, fines_unset}
 use Rattle.et_history.proofs.Heaps.{slots_fine, referent_fine}
@@ -118,7 +118,7 @@ entered_some_still : (e : Moment) (n : ℕ) (lock : Option Lock) (d : Doing) →
 entered_some_still e n None d h has = h
 entered_some_still e n (Some lock) d h has = entered_still e n lock d h has
 
-entered_frame : (e : Moment) (f : FrameState) (lock : Option Lock) (d : Doing) → Still e (level e) d.state → FineFrame e.before.heap f → AllThere e lock → MayGo e lock → lock_in f.stage (method_of e.program f) f.lock ≡ lock
+entered_frame : (e : Moment) (f : FrameState) (lock : Option Lock) (d : Doing) → Still e (level e) d.state → FineFrame e.before.heap f → AllThere e lock → MayGo e lock → lock_in f.stage (running_method e.program f) f.lock ≡ lock
     → Fits e (with_thread_state e (entered_by f (thread_at (entered_some e lock d).state.guest e.thread)) (entered_some e lock d)).state
 entered_frame e f lock d h fine has may same =
     let x : Doing = entered_some e lock d in
@@ -162,18 +162,18 @@ enters_does e d leave m arguments built_in knows f h step other = code_does e d 
 
 answering_still : (e : Moment) (at : Site) (arguments values : List Value) (d : Doing) → Stands e → Still e (level e) d.state → Fines d.state.heap values → Still e (level e) (answering e at arguments values d).state
 answering_still e at arguments values d here h f =
-    on_top e at.next (values ++ drop (length arguments) (frame_of e).operands) d here h
-    (fines_append d.state.heap values (drop (length arguments) (frame_of e).operands) f (fines_drop d.state.heap (length arguments) (frame_of e).operands (fines_grow e.before.heap d.state.heap (frame_of e).operands h.changes.stays (operands_fine e here))))
+    on_top e at.next (values ++ drop (length arguments) (current_frame e).operands) d here h
+    (fines_append d.state.heap values (drop (length arguments) (current_frame e).operands) f (fines_drop d.state.heap (length arguments) (current_frame e).operands (fines_grow e.before.heap d.state.heap (current_frame e).operands h.changes.stays (operands_fine e here))))
 
 answered_does : (e : Moment) (at : Site) (arguments values : List Value) (d : Doing) → Stands e → Still e (level e) d.state → Fines d.state.heap values → Does e (goes (answering e at arguments values d))
 answered_does e at arguments values d here h f = goes_does e (answering e at arguments values d) (answering_still e at arguments values d here h f)
 
-starts_does : (e : Moment) (d : Doing) (o : ℕ) (go : Outcome Kept) (k : Option ℕ) → Still e (level e) d.state → Does e go → Does e (starts e d o go k)
+starts_does : (e : Moment) (d : Doing) (o : ℕ) (go : Outcome Kept) (k : Option ℕ) → Still e (level e) d.state → Does e go → Does e (starts_thread e d o go k)
 starts_does e d o go (Some k) h g = throws_does e errors.IllegalThreadStateException d h
 starts_does e d o go None h g = unless_thrown e d errors.OutOfMemoryError (nat_lt (length d.state.guest.threads) most_threads) go h (λ few. g)
 
-on_does : (e : Moment) (d : Doing) (name : List ℕ) (o : ℕ) (go : Outcome Kept) → Does e go → Does e (ill_typed_unless e (is_subclass e.program (class_of d o) (class_called e.program name)) go)
-on_does e d name o go g = unless_ill_typed e (is_subclass e.program (class_of d o) (class_called e.program name)) go g
+on_does : (e : Moment) (d : Doing) (name : List ℕ) (o : ℕ) (go : Outcome Kept) → Does e go → Does e (ill_typed_unless e (is_subclass e.program (object_class d o) (class_called e.program name)) go)
+on_does e d name o go g = unless_ill_typed e (is_subclass e.program (object_class d o) (class_called e.program name)) go g
 
 pub reference_fine : (h : Objects) (v : Value) → Fine h v → FineSome h (reference_of v)
 reference_fine h Unset f = tt
@@ -213,13 +213,13 @@ built_in_does e at d arguments o built.Start here h f held =
     (starts_does e d o (goes (with_thread_for o x)) (thread_with d.state.guest.threads o) h
     (goes_does e (with_thread_for o x) (started_still e o x (answering_still e at arguments [] d here h tt) held)))
 built_in_does e at d arguments o built.Join here h f held =
-    unless_waiting e (has_ended d (thread_with d.state.guest.threads o)) _ (λ ended. answered_does e at arguments [] d here h tt)
+    unless_waiting e (has_thread_ended d (thread_with d.state.guest.threads o)) _ (λ ended. answered_does e at arguments [] d here h tt)
 built_in_does e at d arguments o built.SetReferent here h f held =
     let x : Doing = answering e at arguments [] d in
     goes_does e (with_referent_of o (reference_of (argument arguments 1)) x)
     (referent_still e o (reference_of (argument arguments 1)) x (answering_still e at arguments [] d here h tt) held (reference_fine d.state.heap (argument arguments 1) (fine_at d.state.heap arguments 1 f)))
 built_in_does e at d arguments o built.GetReferent here h f held =
-    answered_does e at arguments (value_of (object_at d.state.heap o).referent ∷ []) d here h (fine_value d.state.heap (object_at d.state.heap o).referent (referent_fine d.state o h.changes.sound), tt)
+    answered_does e at arguments (reference_value (object_at d.state.heap o).referent ∷ []) d here h (fine_value d.state.heap (object_at d.state.heap o).referent (referent_fine d.state o h.changes.sound), tt)
 built_in_does e at d arguments o built.ClearReferent here h f held =
     let x : Doing = answering e at arguments [] d in
     goes_does e (with_referent_of o None x) (referent_still e o None x (answering_still e at arguments [] d here h tt) held tt)
@@ -232,7 +232,7 @@ done_does e at d arguments None None here h f held = throws_does e errors.Abstra
 
 taking_still : (e : Moment) (count : ℕ) → Stands e → Leaves e (taking e count)
 taking_still e count here d h =
-    on_top e (frame_of e).pc (drop count (frame_of e).operands) d here h (fines_drop d.state.heap count (frame_of e).operands (fines_grow e.before.heap d.state.heap (frame_of e).operands h.changes.stays (operands_fine e here)))
+    on_top e (current_frame e).pc (drop count (current_frame e).operands) d here h (fines_drop d.state.heap count (current_frame e).operands (fines_grow e.before.heap d.state.heap (current_frame e).operands h.changes.stays (operands_fine e here)))
 
 method_does : (e : Moment) (at : Site) (d : Doing) (arguments : List Value) (m : ℕ) → Stands e → Fines e.before.heap arguments → Still e (level e) d.state → Does e (enters_method e at d arguments m)
 method_does e at d arguments m here f h =
@@ -243,7 +243,7 @@ method_does e at d arguments m here f h =
 
 -- INVOKES
 
-selected_does : (e : Moment) (at : Site) (arguments : List Value) (answer : Result ℕ LinkError) → Stands e → Fines e.before.heap arguments → Does e (selected e (begins e) answer (enters_method e at (begins e) arguments))
+selected_does : (e : Moment) (at : Site) (arguments : List Value) (answer : Result ℕ LinkError) → Stands e → Fines e.before.heap arguments → Does e (after_selection e (begins e) answer (enters_method e at (begins e) arguments))
 selected_does e at arguments answer here f = where_resolved e (begins e) answer _ (first e here) (λ k. method_does e at (begins e) arguments k here f (first e here))
 
 dispatched_does : (e : Moment) (at : Site) (kind : CallKind) (arguments : List Value) (named m : ℕ) → Stands e → Fines e.before.heap arguments → Does e (dispatched e at kind arguments named m)
@@ -251,13 +251,13 @@ dispatched_does e at Static arguments named m here f =
     initialized_does e (begins e) (method_at e.program m).class _ (first e here) (λ d h. method_does e at d arguments m here f h)
 dispatched_does e at Virtual arguments named m here f =
     where_not_null e (begins e) (first_reference arguments) _ (first e here) (first_fine e.before.heap arguments f) (λ o held.
-    unless_ill_typed e (is_of_owner e (begins e) m o) _ (selected_does e at arguments (select e.program (class_of (begins e) o) m false) here f))
+    unless_ill_typed e (is_of_owner e (begins e) m o) _ (selected_does e at arguments (select e.program (object_class (begins e) o) m false) here f))
 dispatched_does e at Special arguments named m here f =
     where_not_null e (begins e) (first_reference arguments) _ (first e here) (first_fine e.before.heap arguments f) (λ o held.
     unless_ill_typed e (is_of_owner e (begins e) m o) _ (selected_does e at arguments (select_special e.program at.class (special_class e.program named) m) here f))
 dispatched_does e at Interface arguments named m here f =
     where_not_null e (begins e) (first_reference arguments) _ (first e here) (first_fine e.before.heap arguments f) (λ o held.
-    selected_does e at arguments (select e.program (class_of (begins e) o) m true) here f)
+    selected_does e at arguments (select e.program (object_class (begins e) o) m true) here f)
 
 type_does : (e : Moment) (t : Option MethodType) (go : MethodType → Outcome Kept) → ((x : MethodType) → Does e (go x)) → Does e (with_type e t go)
 type_does e None go h = tt
@@ -268,11 +268,11 @@ named_does e None go h = tt
 named_does e (Some m) go h = type_does e (method_type m.descriptor) (go m) (h m)
 
 arguments_fine : (e : Moment) (count : ℕ) → Stands e → Fines e.before.heap (arguments_of e count)
-arguments_fine e count here = fines_reverse e.before.heap (take count (frame_of e).operands) (fines_take e.before.heap count (frame_of e).operands (operands_fine e here))
+arguments_fine e count here = fines_reverse e.before.heap (take count (current_frame e).operands) (fines_take e.before.heap count (current_frame e).operands (operands_fine e here))
 
 pub invoke_does : (e : Moment) (at : Site) (kind : CallKind) → Stands e → Does e (invoke e at kind)
 invoke_does e at kind here =
-    named_does e (member_of at) _ (λ m type.
+    named_does e (site_member at) _ (λ m type.
     unless_ill_typed e (call_fits e (is_static_call kind) type) _ (
     where_resolved e (begins e) (resolve_class e.program m.owner) _ (first e here) (λ owner.
     where_resolved e (begins e) (resolve_method e.program owner (names_interface at) m.name m.descriptor) _ (first e here) (λ method.
@@ -283,7 +283,7 @@ invoke_does e at kind here =
 
 first_does : (e : Moment) (d : Doing) (arguments : List Value) (m : ℕ) → Knows e → Fines e.before.heap arguments → Still e (level e) d.state → Does e (enters_first e d arguments m)
 first_does e d arguments m knows f h =
-    enters_does e d (entering e) m arguments (throws e errors.AbstractMethodError d) knows f h (λ x g. as_entered_still e x g) (throws_does e errors.AbstractMethodError d h)
+    enters_does e d (entering_frame e) m arguments (throws e errors.AbstractMethodError d) knows f h (λ x g. as_entered_still e x g) (throws_does e errors.AbstractMethodError d h)
 
 run_does : (e : Moment) (o : Option ℕ) → Knows e → FineSome e.before.heap o → Does e (enters_run e o)
 run_does e None knows held = tt
@@ -291,7 +291,7 @@ run_does e (Some o) knows held =
     let thread : ℕ = class_called e.program (codes "java/lang/Thread") in
     where_resolved e (begins e) (resolve_method e.program thread false (codes "run") (codes "()V")) _ (ground e knows) (λ m.
     unless_ill_typed e (is_of_owner e (begins e) m o) _ (
-    where_resolved e (begins e) (select e.program (class_of (begins e) o) m false) _ (ground e knows) (λ k. first_does e (begins e) (Ref o ∷ []) k knows (held, tt) (ground e knows))))
+    where_resolved e (begins e) (select e.program (object_class (begins e) o) m false) _ (ground e knows) (λ k. first_does e (begins e) (Ref o ∷ []) k knows (held, tt) (ground e knows))))
 
 pub entry_fine : (h : Objects) (o : Option ℕ) → FineSome h o → Fines h (entry_arguments o)
 entry_fine h None held = tt

@@ -6,7 +6,7 @@ use Rattle.et_base.specs.declared.value.End.{End}
 use Rattle.et_base.specs.declared.value.End.TheVariants.{Finished, EventLimit}
 use Rattle.et_graph.specs.Graph.{Graph}
 use Rattle.et_state.specs.declared.records.Record.{Record}
-use Rattle.et_state.specs.History.{Setting, IsLast, ending, settled, left_by}
+use Rattle.et_state.specs.History.{Setting, IsLastEvent, ending, settled, left_by}
 use Rattle.et_history.specs.Ends.{HasOneEnd}
 
 comes : (empty full : Bool) (by : Option End) → full ≡ true → (if empty then Some Finished else (if full then Some EventLimit else by)) ≡ None → ⊥
@@ -31,7 +31,7 @@ module _ {S : Type 0} (reached : Graph → ℕ → Bool) (given : Setting S) (st
     event : ℕ
     end : End
     before : event < n
-    last : IsLast reached given start made event end
+    last : IsLastEvent reached given start made event end
 
   goes_on : (n : ℕ) → GoesOnTo n → ends_at n ≡ None → GoesOnTo (suc n)
   goes_on n goes none k lt = elim (cases_lt k n) [
@@ -56,7 +56,7 @@ module _ {S : Type 0} (reached : Graph → ℕ → Bool) (given : Setting S) (st
     | inr r ↦ r
   ]
 
-  only : (e f : ℕ) (end other : End) → IsLast reached given start made e end → IsLast reached given start made f other → (f ≡ e) × (other ≡ end)
+  only : (e f : ℕ) (end other : End) → IsLastEvent reached given start made e end → IsLastEvent reached given start made f other → (f ≡ e) × (other ≡ end)
   only e f end other a b = elim (cases_lt e f) [
     | inl below ↦ absurd (not_both (ends_at e) end (b.first e below) a.ends)
     | inr le ↦ elim (cases_lt f e) [

@@ -28,13 +28,13 @@ use Rattle.et_event.specs.declared.rows.Row.TheVariants as row
 use Rattle.et_event.specs.declared.errors.GuestError.TheVariants as errors
 use Rattle.et_event.specs.Calls.{call_event}
 use Rattle.et_event.specs.Event.{by_row, by_instruction, initializes, does_turn, event}
-use Rattle.et_event.specs.Heap.{leaving}
-use Rattle.et_event.specs.Kinds.{is_array}
-use Rattle.et_event.specs.Moments.{Moment, thread_of, frame_of, begins, ill_typed}
+use Rattle.et_event.specs.Heap.{leaving_values}
+use Rattle.et_event.specs.Kinds.{is_array_element}
+use Rattle.et_event.specs.Moments.{Moment, thread_of, current_frame, begins, ill_typed}
 use Rattle.et_event.specs.Monitors.{OfObject, may_enter, owns}
-use Rattle.et_event.specs.Plain.{after}
+use Rattle.et_event.specs.Plain.{frame_after}
 use Rattle.et_event.specs.Runnable.{IsRunnable}
-use Rattle.et_event.specs.Sites.{Site, site_of, decoded_at, pool_index, constant_at, natural}
+use Rattle.et_event.specs.Sites.{Site, site_of, decoded_at, pool_index, constant_at, natural_of}
 use Rattle.et_event.specs.Sound.{AreSoundFrames, IsSoundFor}
 use Rattle.et_event.specs.Sync.{monitor_event}
 use Rattle.et_event.specs.Table.{row_of}
@@ -52,19 +52,19 @@ use Rattle.et_history.proofs.CallRecords.{entered_told, left_told, invoke_says, 
 
 -- the classes of the arrays that the thread makes
 abbrev MakesAll : Moment → Type 0
-MakesAll e = (x : Instr × ℕ) → decoded_at e.program (frame_of e) ≡ Ok x → (r : HeapRow) → row_of x.0.opcode ≡ Some (row.Heap r) → MakesArrays e.program (site_of e.program (frame_of e) x) r
+MakesAll e = (x : Instr × ℕ) → decoded_at e.program (current_frame e) ≡ Ok x → (r : HeapRow) → row_of x.0.opcode ≡ Some (row.Heap r) → MakesArrays e.program (site_of e.program (current_frame e) x) r
 
 module _ (e : Moment) (ready : Ready e) where
   monitor_says : (at : Site) (r : MonitorRow) → Says e (monitor_event e at r)
   monitor_says at monitor.Enter =
-      any_reference (Says e) (ill_typed e) tt e.before.heap (frame_of e).operands _ (operands_fine e ready) (λ r below held f.
+      any_reference (Says e) (ill_typed e) tt e.before.heap (current_frame e).operands _ (operands_fine e ready) (λ r below held f.
       where_not_null e ready (begins e) r _ (first e ready) held (λ o there.
-      unless_waiting e ready (may_enter e (begins e) (OfObject o)) _ (entered_told e (OfObject o) (leaving e at below (begins e)) (leaving_told e ready at below (begins e) (first e ready) f) there)))
+      unless_waiting e ready (may_enter e (begins e) (OfObject o)) _ (entered_told e (OfObject o) (leaving_values e at below (begins e)) (leaving_told e ready at below (begins e) (first e ready) f) there)))
   monitor_says at monitor.Exit =
-      any_reference (Says e) (ill_typed e) tt e.before.heap (frame_of e).operands _ (operands_fine e ready) (λ r below held f.
+      any_reference (Says e) (ill_typed e) tt e.before.heap (current_frame e).operands _ (operands_fine e ready) (λ r below held f.
       where_not_null e ready (begins e) r _ (first e ready) held (λ o there.
       unless_thrown e ready (begins e) errors.IllegalMonitorStateException (owns e (begins e) (OfObject o)) _ (first e ready)
-      (λ owned. left_told e (OfObject o) (leaving e at below (begins e)) (leaving_told e ready at below (begins e) (first e ready) f) there)))
+      (λ owned. left_told e (OfObject o) (leaving_values e at below (begins e)) (leaving_told e ready at below (begins e) (first e ready) f) there)))
 
   call_says : (at : Site) (r : CallRow) → Says e (call_event e at r)
   call_says at (calls.Invoke kind) = invoke_says e ready at kind
@@ -72,7 +72,7 @@ module _ (e : Moment) (ready : Ready e) where
 
   row_says : (at : Site) (r : Option Row) → ((x : HeapRow) → r ≡ Some (row.Heap x) → MakesArrays e.program at x) → Says e (by_row e at r)
   row_says at None makes = tt
-  row_says at (Some (row.Frame r)) makes = on_frame_says e ready (after at r (frame_of e)) (after_fine e.before.heap at r (frame_of e) (frame_fine e ready.knows))
+  row_says at (Some (row.Frame r)) makes = on_frame_says e ready (frame_after at r (current_frame e)) (after_fine e.before.heap at r (current_frame e) (frame_fine e ready.knows))
   row_says at (Some row.PoolConstant) makes = constant_says e ready at (constant_at at.pool (pool_index at))
   row_says at (Some (row.Divide n o)) makes = divides_says e ready at n o
   row_says at (Some (row.Heap r)) makes = heap_says e ready at r (makes r refl)
@@ -80,9 +80,9 @@ module _ (e : Moment) (ready : Ready e) where
   row_says at (Some row.Throw) makes = throw_says e ready
   row_says at (Some (row.Monitor r)) makes = monitor_says at r
 
-  instruction_says : (x : Result (Instr × ℕ) CodeFault) → decoded_at e.program (frame_of e) ≡ x → MakesAll e → Says e (by_instruction e x)
+  instruction_says : (x : Result (Instr × ℕ) CodeFault) → decoded_at e.program (current_frame e) ≡ x → MakesAll e → Says e (by_instruction e x)
   instruction_says (Err fault) is makes = tt
-  instruction_says (Ok x) is makes = row_says (site_of e.program (frame_of e) x) (row_of x.0.opcode) (λ r same. makes x is r same)
+  instruction_says (Ok x) is makes = row_says (site_of e.program (current_frame e) x) (row_of x.0.opcode) (λ r same. makes x is r same)
 
   initializes_says : (stage : Stage) → Says e (initializes e stage)
   initializes_says Plain = tt
@@ -93,17 +93,17 @@ module _ (e : Moment) (ready : Ready e) where
   turn_says Unwind makes = unwinding_says e ready (thread_of e).pending (thread_fine e ready.knows).pending
   turn_says EndThread makes = end_says e ready
   turn_says Entry makes = entry_says e ready
-  turn_says Initialize makes = initializes_says (frame_of e).stage
-  turn_says Instruction makes = instruction_says (decoded_at e.program (frame_of e)) refl (makes refl)
+  turn_says Initialize makes = initializes_says (current_frame e).stage
+  turn_says Instruction makes = instruction_says (decoded_at e.program (current_frame e)) refl (makes refl)
 
 -- THE ARRAYS that the code makes
 
-base_is_array : (kind : ℕ) (x : Element) → is_base_array kind x ≡ true → is_array x ≡ true
+base_is_array : (kind : ℕ) (x : Element) → is_base_array kind x ≡ true → is_array_element x ≡ true
 base_is_array kind NoArray h = h
 base_is_array kind (Base k) h = refl
 base_is_array kind (Class c) h = refl
 
-base_array_is : (p : Linked) (kind : ℕ) (o : Option ℕ) → IfSome o (Passes (λ (x : ClassEntry). is_base_array kind x.info.element) no_class 0 p.classes) → IsSome o → is_array (class_at p (unwrap_or o 0)).info.element ≡ true
+base_array_is : (p : Linked) (kind : ℕ) (o : Option ℕ) → IfSome o (Passes (λ (x : ClassEntry). is_base_array kind x.info.element) no_class 0 p.classes) → IsSome o → is_array_element (class_at p (unwrap_or o 0)).info.element ≡ true
 base_array_is p kind None h some = absurd (nothing None refl some)
   where
     nothing : (o : Option ℕ) → o ≡ None → IsSome o → ⊥
@@ -118,14 +118,14 @@ heap_row r x o same is = subst (λ (y : HeapRow). o ≡ Some (row.Heap y)) same 
 makes_all : (e : Moment) → Ready e → turn_of (thread_of e) ≡ Instruction → MakesAll e
 makes_all e ready turn x decoded r is =
     let p : Linked = e.program in
-    let f : FrameState = frame_of e in
+    let f : FrameState = current_frame e in
     let below : List FrameState = rest_of (thread_of e).frames in
     let says = (parts (thread_of e)).instruction turn in
     let has : 0 < length (thread_of e).frames = some_frame (thread_of e).frames says.0 in
     let frames : AreSoundFrames p (f ∷ below) = subst (λ (fs : List FrameState). AreSoundFrames p fs) (sym (with_first (thread_of e).frames has)) (ready.knows.sound.threads e.thread ready.knows.thread.thread).frames in
     let some : RunsSome p f = runs_some p f below (runs_by p f f.stage f.method frames.0 says.1) frames in
     let s : StandsIn e x = stands_in e x some decoded in
-    let kind : ℕ = natural x.0.first in
+    let kind : ℕ = natural_of x.0.first in
     record {
       base = λ same. base_array_is p kind (base_array p kind) (position_passes (λ (c : ClassEntry). is_base_array kind c.info.element) no_class 0 p.classes)
           (ready.may.arrays.base s.method x s.is (heap_row r heap.NewArray (row_of x.0.opcode) same is));

@@ -6,7 +6,7 @@ use Rattle.et_state.specs.Threads.{FrameState, rest_of, turn_of}
 use Rattle.et_state.specs.State.{Kept}
 use Rattle.et_state.specs.Words.{IsUnended}
 use Rattle.et_event.specs.Event.{event}
-use Rattle.et_event.specs.Moments.{Moment, thread_of, frame_of}
+use Rattle.et_event.specs.Moments.{Moment, thread_of, current_frame}
 use Rattle.et_event.specs.Sound.{AreSoundFrames, IsSoundFor}
 use Rattle.et_sound.proofs.Frames.{RunsSome, runs_some, with_first}
 use Rattle.et_event.specs.Runnable.{IsRunnable}
@@ -21,7 +21,7 @@ use Rattle.et_history.proofs.Ways.{Knows}
 dimensions : (e : Moment) → Knows e → IsRunnable e.program → turn_of (thread_of e) ≡ Instruction → HasDimensions e
 dimensions e knows may turn x decoded row name class named resolves =
     let p : Linked = e.program in
-    let f : FrameState = frame_of e in
+    let f : FrameState = current_frame e in
     let below : List FrameState = rest_of (thread_of e).frames in
     let says = (parts (thread_of e)).instruction turn in
     let has : 0 < length (thread_of e).frames = some_frame (thread_of e).frames says.0 in

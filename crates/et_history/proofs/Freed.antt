@@ -18,9 +18,9 @@ use Rattle.et_state.specs.declared.options.Options.{Options}
 use Rattle.et_program.specs.Entries.{Linked}
 use Rattle.et_event.specs.Event.{event}
 use Rattle.et_history.specs.Changing.{KeepsMonitors}
-use Rattle.et_history.specs.Histories.{picked, GoesOn, WholeGoesOn, whole_at, whole_settled_at}
+use Rattle.et_history.specs.Histories.{picked, HistoryGoesOn, WholeGoesOn, whole_at, whole_settled_at}
 use Rattle.et_history.specs.Same.{IsHere, IsReportedAs}
-use Rattle.et_history.specs.Settings.{IsSoundRun, unended_of}
+use Rattle.et_history.specs.Settings.{IsSoundRun, unended_threads}
 use Rattle.et_history.specs.Whole.{beside, cleared, whole_flushed}
 use Rattle.et_history.proofs.Alike.{is_open}
 use Rattle.et_history.proofs.Wholes.{all_match, settled_match, go_on, keeps_at, flushed_here, reported_gone}
@@ -102,7 +102,7 @@ not_held s o full is = elim (full o is.0 is.1) [ inl held ↦ absurd (is.2 held)
 -- THE HISTORY
 module _ (reached : Graph → ℕ → Bool) (p : Linked) (options : Options) (pick : ℕ → ℕ) (decides : Decides reached) (run : IsSoundRun p (start p)) (are : AreOptions options) where
   abbrev Before : ℕ → Type 0
-  Before e = (k : ℕ) → k < e → GoesOn reached p options pick k
+  Before e = (k : ℕ) → k < e → HistoryGoesOn reached p options pick k
 
   abbrev now : ℕ → State
   now e = whole_at reached p options pick e
@@ -129,15 +129,15 @@ module _ (reached : Graph → ℕ → Bool) (p : Linked) (options : Options) (pi
       let before : Before e = λ k lt. goes k (omega (arith, lt)) in
       let m = settled_match reached p options pick decides run are e before in
       let t : State = settled e in
-      let on = is_open (length (unended_of t.kept) == 0) (e == options.limit) _ _ _ (subst (λ (x : Kept). ending (picked p options pick) e x ≡ None) (sym m.0) (goes e (omega arith))) in
-      let k : ℕ = history.turn_of (picked p options pick) (suc e) t.kept in
+      let on = is_open (length (unended_threads t.kept) == 0) (e == options.limit) _ _ _ (subst (λ (x : Kept). ending (picked p options pick) e x ≡ None) (sym m.0) (goes e (omega arith))) in
+      let k : ℕ = history.picked_turn (picked p options pick) (suc e) t.kept in
       after_here p t k (event p t.kept k) (keeps_at reached p options pick decides run are e t k m.1 (record { some = on.some; within = on.within; thread_is = refl })) o (settled_here e o before h)
 
   next_as : (e o : ℕ) (x : ObjectState) → Before (suc e) → IsReportedAs (now e) o x → IsReportedAs (now (suc e)) o x
   unfolding left_by
   next_as e o x goes h =
       let t : State = settled e in
-      after_as t (event p t.kept (history.turn_of (picked p options pick) (suc e) t.kept)) o x (settled_as e o x (λ k lt. goes k (omega (arith, lt))) h)
+      after_as t (event p t.kept (history.picked_turn (picked p options pick) (suc e) t.kept)) o x (settled_as e o x (λ k lt. goes k (omega (arith, lt))) h)
 
   stays_here : (e n o : ℕ) → Before (e + n) → IsHere (now e) o → IsHere (now (e + n)) o
   stays_here e zero o goes h = subst (λ (k : ℕ). IsHere (now k) o) (none_more e) h

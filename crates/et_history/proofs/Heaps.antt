@@ -10,7 +10,7 @@ use Rattle.et_heap.specs.Refs.{refs_of, targets_of}
 use Rattle.et_heap.proofs.HeapLists.{pair_at, at_pair, held_within, held_set, set_held, held_push, pairs_push}
 use Rattle.et_state.specs.ThreadRoots.{thread_roots}
 use Rattle.et_state.specs.Threads.{ThreadState}
-use Rattle.et_state.specs.Interned.{objects_of}
+use Rattle.et_state.specs.Interned.{interned_objects}
 use Rattle.et_state.specs.Moves.{Moves}
 use Rattle.et_state.specs.Roots.{roots_of}
 use Rattle.et_state.specs.Sound.{IsSound}
@@ -96,13 +96,13 @@ string_sound s text o sound held = moved s (with_string s.guest text o) [] sound
 
 pub statics_fine : (s : Kept) → IsSound s → Fines s.heap s.guest.statics
 statics_fine s sound =
-    in_values s.heap s.guest.statics (λ o c. sound.roots o (Contains-append_right (flat_map thread_roots s.guest.threads) (refs_of s.guest.statics ++ objects_of s.guest.interned) o
-    (Contains-append_left (refs_of s.guest.statics) (objects_of s.guest.interned) o c)))
+    in_values s.heap s.guest.statics (λ o c. sound.roots o (Contains-append_right (flat_map thread_roots s.guest.threads) (refs_of s.guest.statics ++ interned_objects s.guest.interned) o
+    (Contains-append_left (refs_of s.guest.statics) (interned_objects s.guest.interned) o c)))
 
 pub static_sound : (s : Kept) (i : ℕ) (v : Value) → IsSound s → Fine s.heap v → IsSound (record { heap = s.heap; guest = with_static s.guest i v })
 static_sound s i v sound fine =
     let threads : List ℕ = flat_map thread_roots s.guest.threads in
-    let strings : List ℕ = objects_of s.guest.interned in
+    let strings : List ℕ = interned_objects s.guest.interned in
     let old : List ℕ = refs_of s.guest.statics in
     let new : List Value = set s.guest.statics i v in
     let fines : Fines s.heap new = fines_set s.heap s.guest.statics i v fine (statics_fine s sound) in

@@ -22,7 +22,7 @@ use Rattle.et_sound.specs.WellFormed.{IsThere}
 use Rattle.et_sound.proofs.Growing.{free_is_sound}
 use Rattle.et_history.specs.Settings.{IsSoundRun, flushed_of}
 use Rattle.et_history.specs.Holding.{monitor_in}
-use Rattle.et_history.specs.Histories.{state_at, settled_at, GoesOn, moment_at, times_held}
+use Rattle.et_history.specs.Histories.{state_at, settled_at, HistoryGoesOn, moment_at, times_held}
 use Rattle.et_history.proofs.Agreeing.{Agrees, IsNew, Excludes, holder, excludes_same, excludes_event}
 use Rattle.et_history.proofs.Wholes.{Next, next, state_sound}
 use Rattle.et_history.proofs.Words.{if_case}
@@ -114,15 +114,15 @@ module _ (reached : Graph → ℕ → Bool) (p : Linked) (options : Options) (pi
       let m : Moment = moment_at reached p options pick e in
       excludes_event m (event p (settled_at reached p options pick e) m.thread) lock (times lock e) m.thread n.keeps (λ there. (monitor_sound (settled_at reached p options pick e) p lock n.sound there).owned.1) n.done (settled_excludes e lock h)
 
-  pub all_exclude : (e : ℕ) (lock : Lock) → ((k : ℕ) → k < e → GoesOn reached p options pick k) → Excludes (state_at reached p options pick e) lock (times lock e)
+  pub all_exclude : (e : ℕ) (lock : Lock) → ((k : ℕ) → k < e → HistoryGoesOn reached p options pick k) → Excludes (state_at reached p options pick e) lock (times lock e)
   all_exclude zero lock goes = first_excludes lock
   all_exclude (suc e) lock goes =
-      let before : (k : ℕ) → k < e → GoesOn reached p options pick k = λ k lt. goes k (omega arith) in
+      let before : (k : ℕ) → k < e → HistoryGoesOn reached p options pick k = λ k lt. goes k (omega arith) in
       next_excludes e lock (next reached p options pick decides run are e goes) (all_exclude e lock before)
 
   -- THE LAWS
 
-  owned : (e : ℕ) (lock : Lock) (t : ℕ) → ((k : ℕ) → k < e → GoesOn reached p options pick k) → IsThere (state_at reached p options pick e) lock → (monitor_in (state_at reached p options pick e) lock).owner ≡ Some t → 0 < times lock e t
+  owned : (e : ℕ) (lock : Lock) (t : ℕ) → ((k : ℕ) → k < e → HistoryGoesOn reached p options pick k) → IsThere (state_at reached p options pick e) lock → (monitor_in (state_at reached p options pick e) lock).owner ≡ Some t → 0 < times lock e t
   owned e lock t goes there own =
       let s : Kept = state_at reached p options pick e in
       let sound = monitor_sound s p lock (state_sound reached p options pick decides run are e goes) there in
@@ -130,17 +130,17 @@ module _ (reached : Graph → ℕ → Bool) (p : Linked) (options : Options) (pi
       let same : times lock e t ≡ (monitor_in s lock).count = ((all_exclude e lock goes).there there).owner t own in
       omega arith
 
-pub one : (reached : Graph → ℕ → Bool) (p : Linked) (options : Options) (pick : ℕ → ℕ) (e : ℕ) (lock : Lock) (t u : ℕ) → Decides reached → IsSoundRun p (start p) → AreOptions options → ((k : ℕ) → k < e → GoesOn reached p options pick k)
+pub one : (reached : Graph → ℕ → Bool) (p : Linked) (options : Options) (pick : ℕ → ℕ) (e : ℕ) (lock : Lock) (t u : ℕ) → Decides reached → IsSoundRun p (start p) → AreOptions options → ((k : ℕ) → k < e → HistoryGoesOn reached p options pick k)
     → 0 < times_held reached p options pick t lock e → 0 < times_held reached p options pick u lock e → t ≡ u
 one reached p options pick e lock t u decides run are goes a b = (all_exclude reached p options pick decides run are e lock goes).one t u a b
 
-pub owner : (reached : Graph → ℕ → Bool) (p : Linked) (options : Options) (pick : ℕ → ℕ) (e : ℕ) (lock : Lock) (t : ℕ) → Decides reached → IsSoundRun p (start p) → AreOptions options → ((k : ℕ) → k < e → GoesOn reached p options pick k)
+pub owner : (reached : Graph → ℕ → Bool) (p : Linked) (options : Options) (pick : ℕ → ℕ) (e : ℕ) (lock : Lock) (t : ℕ) → Decides reached → IsSoundRun p (start p) → AreOptions options → ((k : ℕ) → k < e → HistoryGoesOn reached p options pick k)
     → IsThere (state_at reached p options pick e) lock → ((monitor_in (state_at reached p options pick e) lock).owner ≡ Some t) ↔ (0 < times_held reached p options pick t lock e)
 owner reached p options pick e lock t decides run are goes there = (
   λ own. owned reached p options pick decides run are e lock t goes there own,
   λ holds. holder (monitor_in (state_at reached p options pick e) lock) (λ u. times_held reached p options pick u lock e) t ((all_exclude reached p options pick decides run are e lock goes).there there) holds,
 )
 
-pub count : (reached : Graph → ℕ → Bool) (p : Linked) (options : Options) (pick : ℕ → ℕ) (e : ℕ) (lock : Lock) (t : ℕ) → Decides reached → IsSoundRun p (start p) → AreOptions options → ((k : ℕ) → k < e → GoesOn reached p options pick k)
+pub count : (reached : Graph → ℕ → Bool) (p : Linked) (options : Options) (pick : ℕ → ℕ) (e : ℕ) (lock : Lock) (t : ℕ) → Decides reached → IsSoundRun p (start p) → AreOptions options → ((k : ℕ) → k < e → HistoryGoesOn reached p options pick k)
     → IsThere (state_at reached p options pick e) lock → (monitor_in (state_at reached p options pick e) lock).owner ≡ Some t → (monitor_in (state_at reached p options pick e) lock).count ≡ times_held reached p options pick t lock e
 count reached p options pick e lock t decides run are goes there own = sym (((all_exclude reached p options pick decides run are e lock goes).there there).owner t own)

@@ -9,7 +9,7 @@ use Rattle.et_program.specs.Loaded.{LoadedClass}
 use Rattle.et_program.specs.ProgramOf.{program_with, IsProgramOf}
 use Rattle.et_program.specs.declared.info.Element.TheVariants.{NoArray}
 use Rattle.et_program.specs.declared.kind.Leaf.TheVariants as leaf
-use Rattle.et_event.specs.Kinds.{is_array}
+use Rattle.et_event.specs.Kinds.{is_array_element}
 use Rattle.et_linked.specs.ClassNames.{HasClassName}
 use Rattle.et_linked.proofs.Arguments.{arguments_called, arguments_at}
 use Rattle.et_linked.proofs.BuiltIn.{IsFieldless, of_string, no_fields_within}
@@ -33,6 +33,6 @@ plain_strings files p is =
 pub arguments_are : (files : List LoadedClass) (p : Linked) → All HasClassName files → IsProgramOf files p → HasArguments p
 arguments_are files p named is =
     let q : Linked = program_with files is.rows p.pools in
-    let element = ap (λ (o : Option ℕ). is_array (leaf_element (option_map (λ (c : ℕ). leaf.Class c) o))) (place_in_set files string of_string.place of_string.found) in
+    let element = ap (λ (o : Option ℕ). is_array_element (leaf_element (option_map (λ (c : ℕ). leaf.Class c) o))) (place_in_set files string of_string.place of_string.found) in
     subst (λ (z : Linked). HasArguments z) (sym is.tables)
-    (subst (λ (c : ℕ). is_array (class_at q c).info.element ≡ true) (sym (arguments_called files is.rows p.pools named)) (ap (λ (c : ClassEntry). is_array c.info.element) (arguments_at files is.rows p.pools) ∙ element))
+    (subst (λ (c : ℕ). is_array_element (class_at q c).info.element ≡ true) (sym (arguments_called files is.rows p.pools named)) (ap (λ (c : ClassEntry). is_array_element c.info.element) (arguments_at files is.rows p.pools) ∙ element))

@@ -15,16 +15,16 @@ use Rattle.et_heap.specs.Objects.{ObjectState, new_object, object_at, slot_of, w
 use Rattle.et_state.specs.Threads.{FrameState, ThreadState, new_thread, with_top_of}
 use Rattle.et_state.specs.declared.class_state.ClassState.{ClassState}
 use Rattle.et_state.specs.declared.class_state.ClassState.TheVariants.{Untouched, Begun, Done, Failed}
-use Rattle.et_state.specs.Interned.{object_of, objects_of}
+use Rattle.et_state.specs.Interned.{object_of, interned_objects}
 use Rattle.et_state.specs.State.{Kept}
 use Rattle.et_state.specs.Words.{thread_at, static_at, with_static, with_string}
 use Rattle.et_event.specs.BuiltIns.{with_referent_of, with_thread_for}
 use Rattle.et_event.specs.Errors.{class_called}
 use Rattle.et_event.specs.Initialization.{with_state, constant_set, field_set, constants_set, class_done, quietly_done, quietly_if_untouched, prepared, state_of}
 use Rattle.et_event.specs.Kinds.{narrowed}
-use Rattle.et_event.specs.Moments.{Moment, Doing, begins, with_guest, with_thread_state, with_frame, next_object, instance_made, slot_written, static_written}
+use Rattle.et_event.specs.Moments.{Moment, Doing, begins, doing_with_guest, with_thread_state, with_frame, next_object, instance_made, slot_written, static_written}
 use Rattle.et_event.specs.Monitors.{Lock, OfObject, OfClass, with_monitor_of}
-use Rattle.et_event.specs.Sites.{LoadedConstant, AnInt, ALong, AString, constant_at, pool_of}
+use Rattle.et_event.specs.Sites.{LoadedConstant, AnInt, ALong, AString, constant_at, pool_of_class}
 use Rattle.et_event.specs.Strings.{interned, string_object}
 use Rattle.et_history.proofs.Heaps.{newest}
 use Rattle.et_history.proofs.Words.{if_case, updated_same}
@@ -32,7 +32,7 @@ use Rattle.et_history.proofs.Words.{if_case, updated_same}
 -- the thread was started, and each object that is new is that of a string
 pub record OfStrings (e : Moment) (s : Kept) : Type 0 where
   pub thread : e.thread < length s.guest.threads
-  pub strings : (o : ℕ) → length e.before.heap ≤ o → o < length s.heap → Contains (objects_of s.guest.interned) o
+  pub strings : (o : ℕ) → length e.before.heap ≤ o → o < length s.heap → Contains (interned_objects s.guest.interned) o
 
 pub first : (e : Moment) → e.thread < length e.before.guest.threads → OfStrings e (begins e).state
 first e lt = record { thread = lt; strings = λ o le new. absurd (omega (arith, le, new)) }
@@ -75,7 +75,7 @@ slot_strings e o i v d h =
 
 pub static_strings : (e : Moment) (i : ℕ) (v : Value) (d : Doing) → OfStrings e d.state → OfStrings e (static_written e i v d).state
 static_strings e i v d h =
-    let next : Doing = with_guest (with_static d.state.guest i v) d in
+    let next : Doing = doing_with_guest (with_static d.state.guest i v) d in
     let so : OfStrings e next.state = record { thread = h.thread; strings = h.strings } in
     subst (λ (s : Kept). OfStrings e s) (sym (updated_same e 0 i (static_at d.state.guest i) v next)) so
 
@@ -98,20 +98,20 @@ interned_strings e bytes d h = if_case (λ (u : Doing). OfStrings e u.state) (is
     n = next_object d
 
     x : Doing
-    x = with_guest (with_string y.state.guest bytes n) y
+    x = doing_with_guest (with_string y.state.guest bytes n) y
 
     object : ObjectState
     object = new_object (class_called e.program (codes "java/lang/String")) 0 (class_at e.program (class_called e.program (codes "java/lang/String"))).info.slots
 
-    objects : objects_of (d.state.guest.interned ++ (bytes, n) ∷ []) ≡ objects_of d.state.guest.interned ++ n ∷ []
+    objects : interned_objects (d.state.guest.interned ++ (bytes, n) ∷ []) ≡ interned_objects d.state.guest.interned ++ n ∷ []
     objects = map-append (λ p. p.1) d.state.guest.interned ((bytes, n) ∷ [])
 
-    all : (o : ℕ) → length e.before.heap ≤ o → o < length (d.state.heap ++ Some object ∷ []) → Contains (objects_of d.state.guest.interned ++ n ∷ []) o
+    all : (o : ℕ) → length e.before.heap ≤ o → o < length (d.state.heap ++ Some object ∷ []) → Contains (interned_objects d.state.guest.interned ++ n ∷ []) o
     all o le lt = elim (cases_lt o (length d.state.heap)) [
-      | inl old ↦ Contains-append_left (objects_of d.state.guest.interned) (n ∷ []) o (h.strings o le old)
+      | inl old ↦ Contains-append_left (interned_objects d.state.guest.interned) (n ∷ []) o (h.strings o le old)
       | inr new ↦
-          subst (λ (k : ℕ). Contains (objects_of d.state.guest.interned ++ n ∷ []) k) (newest (length_push d.state.heap (Some object)) new lt)
-          (Contains-append_right (objects_of d.state.guest.interned) (n ∷ []) n (Contains-here n []))
+          subst (λ (k : ℕ). Contains (interned_objects d.state.guest.interned ++ n ∷ []) k) (newest (length_push d.state.heap (Some object)) new lt)
+          (Contains-append_right (interned_objects d.state.guest.interned) (n ∷ []) n (Contains-here n []))
     ]
 
     made : OfStrings e x.state
@@ -133,7 +133,7 @@ constant_strings e f (Some (AString bytes)) d h =
 
 pub constants_strings : (e : Moment) (c : ℕ) (d : Doing) → OfStrings e d.state → OfStrings e (constants_set e c d).state
 constants_strings e c d h =
-    fold_strings e (field_set e) (λ x f g. constant_strings e (field_at e.program f) (constant_at (pool_of e.program (field_at e.program f).class) (field_at e.program f).constant) x g) (class_at e.program c).info.constants d h
+    fold_strings e (field_set e) (λ x f g. constant_strings e (field_at e.program f) (constant_at (pool_of_class e.program (field_at e.program f).class) (field_at e.program f).constant) x g) (class_at e.program c).info.constants d h
 
 class_done_strings : (e : Moment) (c : ℕ) (x : ClassState) (d : Doing) → OfStrings e d.state → OfStrings e (class_done e c x d).state
 class_done_strings e c Untouched d h = constants_strings e c (with_state c Done d) (state_strings e c Done d h)

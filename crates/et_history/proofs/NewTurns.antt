@@ -34,18 +34,18 @@ use Rattle.et_event.specs.declared.rows.Operand.{Operand}
 use Rattle.et_event.specs.declared.rows.Row.{Row}
 use Rattle.et_event.specs.declared.rows.Row.TheVariants as row
 use Rattle.et_event.specs.declared.errors.GuestError.TheVariants as errors
-use Rattle.et_event.specs.BuiltIns.{built_in_of, argument, answering, reference_in, with_referent_of, reference_of, starts, with_thread_for, has_ended, is_fit, row_done, done_by, built_in_event}
-use Rattle.et_event.specs.Calls.{is_static_call, call_fits, with_type, with_method, taking, enters_method, is_of_owner, special_class, dispatched, is_as, arguments_of, entry_count, invoke, entering, entry_arguments, enters_first, enters_run, entry_call, with_returned, class_done_by, frame_returned, returned_by, return}
-use Rattle.et_event.specs.Checks.{entries_of, value_of}
+use Rattle.et_event.specs.BuiltIns.{built_in_of, argument, answering, reference_in, with_referent_of, reference_of, starts_thread, with_thread_for, has_thread_ended, is_fit_for, row_done, done_by, built_in_event}
+use Rattle.et_event.specs.Calls.{is_static_call, call_fits, with_type, with_method, taking, enters_method, is_of_owner, special_class, dispatched, is_as, arguments_of, entry_count, invoke, entering_frame, entry_arguments, enters_first, enters_run, entry_call, with_returned, class_done_by, frame_returned, returned_by, return}
+use Rattle.et_event.specs.Checks.{entries_of, reference_value}
 use Rattle.et_event.specs.Errors.{class_called, error_class}
 use Rattle.et_event.specs.Event.{by_row, by_instruction, initializes, does_turn, event}
 use Rattle.et_event.specs.Frames.{first_reference, receiver_of, frame_entered, method_frame, by_code, enters, frames_after_return}
 use Rattle.et_event.specs.Initialization.{with_state, prepared, is_ready, enters_clinit, step_by, initialization_step}
 use Rattle.et_event.specs.Kinds.{may_return}
-use Rattle.et_event.specs.Moments.{Moment, Doing, class_of, frame_of, thread_of, begins, told, with_frame, with_thread_state, next_object, instance_made, slot_written, pending_now, ill_typed, ends, goes, throws}
+use Rattle.et_event.specs.Moments.{Moment, Doing, object_class, current_frame, thread_of, begins, told, with_frame, with_thread_state, next_object, instance_made, slot_written, pending_now, ill_typed, ends_event, goes, throws}
 use Rattle.et_event.specs.Monitors.{Lock, monitor_of, lock_for, lock_in, may_enter_some, entered_some, owns, owns_some, left, left_some, left_once}
-use Rattle.et_event.specs.Plain.{after}
-use Rattle.et_event.specs.Sites.{Site, Member, member_of, names_interface, site_of, decoded_at, pool_index, constant_at, method_of, body_of}
+use Rattle.et_event.specs.Plain.{frame_after}
+use Rattle.et_event.specs.Sites.{Site, Member, site_member, names_interface, site_of, decoded_at, pool_index, constant_at, running_method, present_body}
 use Rattle.et_event.specs.Table.{row_of}
 use Rattle.et_event.specs.Throw.{caught, handled, handler_of, left_if_owned, dropped, is_error, replaced, failed, unwound, unwound_clinit, by_handler, unwinds, unwinding_step}
 use Rattle.et_history.specs.Reaching.{AreReachedFrom, ReachesNew}
@@ -79,12 +79,12 @@ enters_new e d leave m arguments built_in h step other = code_new e d leave m ar
 -- BUILT-IN METHODS
 
 answering_strings : (e : Moment) (at : Site) (arguments values : List Value) (d : Doing) → OfStrings e d.state → OfStrings e (answering e at arguments values d).state
-answering_strings e at arguments values d h = on_top e at.next (values ++ drop (length arguments) (frame_of e).operands) d h
+answering_strings e at arguments values d h = on_top e at.next (values ++ drop (length arguments) (current_frame e).operands) d h
 
 answered_new : (e : Moment) (at : Site) (arguments values : List Value) (d : Doing) → OfStrings e d.state → New e (goes (answering e at arguments values d))
 answered_new e at arguments values d h = goes_new e (answering e at arguments values d) (answering_strings e at arguments values d h)
 
-starts_new : (e : Moment) (d : Doing) (o : ℕ) (go : Outcome Kept) (k : Option ℕ) → OfStrings e d.state → New e go → New e (starts e d o go k)
+starts_new : (e : Moment) (d : Doing) (o : ℕ) (go : Outcome Kept) (k : Option ℕ) → OfStrings e d.state → New e go → New e (starts_thread e d o go k)
 starts_new e d o go (Some k) h g = throws_new e errors.IllegalThreadStateException d h
 starts_new e d o go None h g = unless_thrown e d errors.OutOfMemoryError (nat_lt (length d.state.guest.threads) most_threads) go h g
 
@@ -105,17 +105,17 @@ row_new e at d arguments o built.SetTarget h =
 row_new e at d arguments o built.Start h =
     let x : Doing = answering e at arguments [] d in
     starts_new e d o (goes (with_thread_for o x)) (thread_with d.state.guest.threads o) h (goes_new e (with_thread_for o x) (started_strings e o x (answering_strings e at arguments [] d h)))
-row_new e at d arguments o built.Join h = unless_waiting e (has_ended d (thread_with d.state.guest.threads o)) _ (answered_new e at arguments [] d h)
+row_new e at d arguments o built.Join h = unless_waiting e (has_thread_ended d (thread_with d.state.guest.threads o)) _ (answered_new e at arguments [] d h)
 row_new e at d arguments o built.SetReferent h =
     let x : Doing = answering e at arguments [] d in
     goes_new e (with_referent_of o (reference_of (argument arguments 1)) x) (referent_strings e o (reference_of (argument arguments 1)) x (answering_strings e at arguments [] d h))
-row_new e at d arguments o built.GetReferent h = answered_new e at arguments (value_of (object_at d.state.heap o).referent ∷ []) d h
+row_new e at d arguments o built.GetReferent h = answered_new e at arguments (reference_value (object_at d.state.heap o).referent ∷ []) d h
 row_new e at d arguments o built.ClearReferent h =
     let x : Doing = answering e at arguments [] d in
     goes_new e (with_referent_of o None x) (referent_strings e o None x (answering_strings e at arguments [] d h))
 
 done_new : (e : Moment) (at : Site) (d : Doing) (arguments : List Value) (r : Option ℕ) (b : Option BuiltIn) → OfStrings e d.state → New e (done_by e at d arguments r b)
-done_new e at d arguments (Some o) (Some b) h = unless_ill_typed e (is_fit e d o b) (row_done e at d arguments o b) (row_new e at d arguments o b h)
+done_new e at d arguments (Some o) (Some b) h = unless_ill_typed e (is_fit_for e d o b) (row_done e at d arguments o b) (row_new e at d arguments o b h)
 done_new e at d arguments (Some o) None h = throws_new e errors.AbstractMethodError d h
 done_new e at d arguments None (Some b) h = throws_new e errors.AbstractMethodError d h
 done_new e at d arguments None None h = throws_new e errors.AbstractMethodError d h
@@ -125,7 +125,7 @@ done_new e at d arguments None None h = throws_new e errors.AbstractMethodError 
 method_new : (e : Moment) (at : Site) (d : Doing) (arguments : List Value) (m : ℕ) → OfStrings e d.state → New e (enters_method e at d arguments m)
 method_new e at d arguments m h =
     let x : MethodInfo = method_at e.program m in
-    enters_new e d (taking e (length arguments)) m arguments (built_in_event e at d arguments x) h (λ u g. on_top e (frame_of e).pc (drop (length arguments) (frame_of e).operands) u g)
+    enters_new e d (taking e (length arguments)) m arguments (built_in_event e at d arguments x) h (λ u g. on_top e (current_frame e).pc (drop (length arguments) (current_frame e).operands) u g)
     (done_new e at d arguments (first_reference arguments) (built_in_of x) h)
 
 dispatched_new : (e : Moment) (at : Site) (kind : CallKind) (arguments : List Value) (named m : ℕ) → Starts e → New e (dispatched e at kind arguments named m)
@@ -133,14 +133,14 @@ dispatched_new e at Static arguments named m here = initialized_new e (begins e)
 dispatched_new e at Virtual arguments named m here =
     where_not_null e (begins e) (first_reference arguments) _ (first e here) (λ o.
     unless_ill_typed e (is_of_owner e (begins e) m o) _
-    (where_resolved e (begins e) (select e.program (class_of (begins e) o) m false) _ (first e here) (λ k. method_new e at (begins e) arguments k (first e here))))
+    (where_resolved e (begins e) (select e.program (object_class (begins e) o) m false) _ (first e here) (λ k. method_new e at (begins e) arguments k (first e here))))
 dispatched_new e at Special arguments named m here =
     where_not_null e (begins e) (first_reference arguments) _ (first e here) (λ o.
     unless_ill_typed e (is_of_owner e (begins e) m o) _
     (where_resolved e (begins e) (select_special e.program at.class (special_class e.program named) m) _ (first e here) (λ k. method_new e at (begins e) arguments k (first e here))))
 dispatched_new e at Interface arguments named m here =
     where_not_null e (begins e) (first_reference arguments) _ (first e here) (λ o.
-    where_resolved e (begins e) (select e.program (class_of (begins e) o) m true) _ (first e here) (λ k. method_new e at (begins e) arguments k (first e here)))
+    where_resolved e (begins e) (select e.program (object_class (begins e) o) m true) _ (first e here) (λ k. method_new e at (begins e) arguments k (first e here)))
 
 type_new : (e : Moment) (t : Option MethodType) (go : MethodType → Outcome Kept) → ((x : MethodType) → New e (go x)) → New e (with_type e t go)
 type_new e None go h = tt
@@ -152,7 +152,7 @@ named_new e (Some m) go h = type_new e (method_type m.descriptor) (go m) (h m)
 
 invoke_new : (e : Moment) (at : Site) (kind : CallKind) → Starts e → New e (invoke e at kind)
 invoke_new e at kind here =
-    named_new e (member_of at) _ (λ m type.
+    named_new e (site_member at) _ (λ m type.
     unless_ill_typed e (call_fits e (is_static_call kind) type) _ (
     where_resolved e (begins e) (resolve_class e.program m.owner) _ (first e here) (λ owner.
     where_resolved e (begins e) (resolve_method e.program owner (names_interface at) m.name m.descriptor) _ (first e here) (λ method.
@@ -163,7 +163,7 @@ invoke_new e at kind here =
 
 first_new : (e : Moment) (d : Doing) (arguments : List Value) (m : ℕ) → OfStrings e d.state → New e (enters_first e d arguments m)
 first_new e d arguments m h =
-    enters_new e d (entering e) m arguments (throws e errors.AbstractMethodError d) h (λ u g. thread_strings e (as_entered (thread_at u.state.guest e.thread)) u g) (throws_new e errors.AbstractMethodError d h)
+    enters_new e d (entering_frame e) m arguments (throws e errors.AbstractMethodError d) h (λ u g. thread_strings e (as_entered (thread_at u.state.guest e.thread)) u g) (throws_new e errors.AbstractMethodError d h)
 
 run_new : (e : Moment) (o : Option ℕ) → Starts e → New e (enters_run e o)
 run_new e None here = tt
@@ -171,7 +171,7 @@ run_new e (Some o) here =
     let thread : ℕ = class_called e.program (codes "java/lang/Thread") in
     where_resolved e (begins e) (resolve_method e.program thread false (codes "run") (codes "()V")) _ (first e here) (λ m.
     unless_ill_typed e (is_of_owner e (begins e) m o) _
-    (where_resolved e (begins e) (select e.program (class_of (begins e) o) m false) _ (first e here) (λ k. first_new e (begins e) (Ref o ∷ []) k (first e here))))
+    (where_resolved e (begins e) (select e.program (object_class (begins e) o) m false) _ (first e here) (λ k. first_new e (begins e) (Ref o ∷ []) k (first e here))))
 
 entry_new : (e : Moment) → Starts e → New e (entry_call e)
 entry_new e here =
@@ -191,11 +191,11 @@ stage_strings e (Before c) d h = h
 stage_strings e (Clinit c) d h = state_strings e c Done d h
 
 abbrev own_lock : Moment → Option Lock
-own_lock e = lock_in (frame_of e).stage (method_of e.program (frame_of e)) (frame_of e).lock
+own_lock e = lock_in (current_frame e).stage (running_method e.program (current_frame e)) (current_frame e).lock
 
 returned_new : (e : Moment) (values : List Value) → Starts e → New e (goes (frame_returned e values (begins e)))
 returned_new e values here =
-    let stage : Stage = (frame_of e).stage in
+    let stage : Stage = (current_frame e).stage in
     let x : Doing = class_done_by stage (left_some (own_lock e) (begins e)) in
     let t : ThreadState = record (thread_of e) { frames = frames_after_return e.program stage values (rest_of (thread_of e).frames) } in
     goes_new e (frame_returned e values (begins e))
@@ -208,7 +208,7 @@ with_returned_new e (Some kind) ops go h = each_value e (ill_typed e) tt (Some k
 return_new : (e : Moment) (kind : Option Operand) → Starts e → New e (return e kind)
 return_new e kind here =
     unless_ill_typed e (may_return kind (returned_by e)) _ (
-    with_returned_new e kind (frame_of e).operands _ (λ values.
+    with_returned_new e kind (current_frame e).operands _ (λ values.
     unless_thrown e (begins e) errors.IllegalMonitorStateException (owns_some e (begins e) (own_lock e)) _ (first e here) (returned_new e values here)))
 
 -- UNWINDING
@@ -222,8 +222,8 @@ owned_strings e (Some lock) d h = if_case (λ (x : Doing). OfStrings e x.state) 
 
 caught_new : (e : Moment) (o handler : ℕ) → Starts e → New e (caught e o handler)
 caught_new e o handler here =
-    let t : ThreadState = with_pending None (with_top_of (thread_of e) (handled (frame_of e) handler o)) in
-    unless_ill_typed e (nat_lt 0 (frame_of e).room) _ (goes_new e (with_thread_state e t (begins e)) (thread_strings e t (begins e) (first e here)))
+    let t : ThreadState = with_pending None (with_top_of (thread_of e) (handled (current_frame e) handler o)) in
+    unless_ill_typed e (nat_lt 0 (current_frame e).room) _ (goes_new e (with_thread_state e t (begins e)) (thread_strings e t (begins e) (first e here)))
 
 handler_new : (e : Moment) (o : ℕ) (other : Outcome Kept) (r : Option TableRow) → Starts e → New e other → New e (by_handler e o other r)
 handler_new e o other (Some r) here h = caught_new e o r.handler here
@@ -232,7 +232,7 @@ handler_new e o other None here h = h
 unwound_new : (e : Moment) (o : ℕ) → Starts e → New e (unwound e o)
 unwound_new e o here =
     let x : Doing = left_if_owned e (own_lock e) (begins e) in
-    let f : FrameState = frame_of e in
+    let f : FrameState = current_frame e in
     goes_new e (told (records.Unwind (begins e).state.guest.clock e.thread (unwrap_or f.method 0) o) (dropped e x)) (dropped_strings e x (owned_strings e (own_lock e) (begins e) (first e here)))
 
 -- the exception that takes the place of another is pending
@@ -248,34 +248,34 @@ replaced_reached e o d h =
     length-set x.state.heap error (Some (with_slot 1 (Ref o) (object_at x.state.heap error))) ∙ length_push d.state.heap (Some object) in
     reached_beyond e d.state z.state h refl (one_reached error z.state len (pending_reached e error y h.thread))
 
-failed_new : (e : Moment) (c o : ℕ) (d : Doing) → OfStrings e d.state → New e (ends (failed e c o d))
+failed_new : (e : Moment) (c o : ℕ) (d : Doing) → OfStrings e d.state → New e (ends_event (failed e c o d))
 failed_new e c o d h =
     let x : Doing = with_state c Failed d in
     let there : OfStrings e x.state = state_strings e c Failed d h in
-    if_case (λ (y : Doing). New e (ends y)) (is_error e o) x (replaced e o x) (ends_new e x there) (ends_reached e (replaced e o x) (replaced_reached e o x there))
+    if_case (λ (y : Doing). New e (ends_event y)) (is_error e o) x (replaced e o x) (ends_new e x there) (ends_reached e (replaced e o x) (replaced_reached e o x there))
 
 unwinds_new : (e : Moment) (o : ℕ) (stage : Stage) → Starts e → New e (unwinds e o stage)
-unwinds_new e o Plain here = handler_new e o (unwound e o) (handler_of e.program (frame_of e) (class_of (begins e) o)) here (unwound_new e o here)
+unwinds_new e o Plain here = handler_new e o (unwound e o) (handler_of e.program (current_frame e) (object_class (begins e) o)) here (unwound_new e o here)
 unwinds_new e o (Before c) here = failed_new e c o (dropped e (begins e)) (dropped_strings e (begins e) (first e here))
 unwinds_new e o (Clinit c) here =
-    handler_new e o (unwound_clinit e c o) (handler_of e.program (frame_of e) (class_of (begins e) o)) here
-    (failed_new e c o (told (records.Unwind (begins e).state.guest.clock e.thread (unwrap_or (frame_of e).method 0) o) (dropped e (begins e))) (dropped_strings e (begins e) (first e here)))
+    handler_new e o (unwound_clinit e c o) (handler_of e.program (current_frame e) (object_class (begins e) o)) here
+    (failed_new e c o (told (records.Unwind (begins e).state.guest.clock e.thread (unwrap_or (current_frame e).method 0) o) (dropped e (begins e))) (dropped_strings e (begins e) (first e here)))
 
 unwinding_new : (e : Moment) (o : Option ℕ) → Starts e → New e (unwinding_step e o)
 unwinding_new e None here = tt
-unwinding_new e (Some o) here = unwinds_new e o (frame_of e).stage here
+unwinding_new e (Some o) here = unwinds_new e o (current_frame e).stage here
 
 -- A STEP OF AN INITIALIZER
 
 clinit_new : (e : Moment) (c : ℕ) (m : Option ℕ) (d : Doing) → OfStrings e d.state → New e (enters_clinit e c m d)
 clinit_new e c None d h = let x : Doing = with_state c Done d in ends_new e (dropped e x) (dropped_strings e x (state_strings e c Done d h))
 clinit_new e c (Some m) d h =
-    let body : Body = body_of (method_at e.program m).code in
-    let f : FrameState = in_clinit m body.max_stack body.max_locals (frame_of e) in
+    let body : Body = present_body (method_at e.program m).code in
+    let f : FrameState = in_clinit m body.max_stack body.max_locals (current_frame e) in
     ends_new e (told (records.Enter d.state.guest.clock e.thread m 0) (with_frame e f d)) (top_strings e f d h)
 
 blocker_new : (e : Moment) (c : ℕ) (d : Doing) (blocker : Option ℕ) → OfStrings e d.state → New e (step_by e c d blocker)
-blocker_new e c d (Some k) h = initialized_new e d k ends h (λ x g. ends_new e x g)
+blocker_new e c d (Some k) h = initialized_new e d k ends_event h (λ x g. ends_new e x g)
 blocker_new e c d None h = clinit_new e c (class_at e.program c).info.clinit d h
 
 step_new : (e : Moment) (c : ℕ) → Starts e → New e (initialization_step e c)
@@ -288,7 +288,7 @@ step_new e c here =
 
 by_row_new : (e : Moment) (at : Site) (r : Option Row) → Starts e → New e (by_row e at r)
 by_row_new e at None here = tt
-by_row_new e at (Some (row.Frame r)) here = on_frame_new e (after at r (frame_of e)) here
+by_row_new e at (Some (row.Frame r)) here = on_frame_new e (frame_after at r (current_frame e)) here
 by_row_new e at (Some row.PoolConstant) here = constant_new e at (constant_at at.pool (pool_index at)) here
 by_row_new e at (Some (row.Divide n o)) here = divides_new e at n o here
 by_row_new e at (Some (row.Heap r)) here = heap_new e at r here
@@ -299,7 +299,7 @@ by_row_new e at (Some (row.Monitor r)) here = monitor_new e at r here
 
 instruction_new : (e : Moment) (x : Result (Instr × ℕ) CodeFault) → Starts e → New e (by_instruction e x)
 instruction_new e (Err fault) here = tt
-instruction_new e (Ok x) here = by_row_new e (site_of e.program (frame_of e) x) (row_of x.0.opcode) here
+instruction_new e (Ok x) here = by_row_new e (site_of e.program (current_frame e) x) (row_of x.0.opcode) here
 
 initializes_new : (e : Moment) (stage : Stage) → Starts e → New e (initializes e stage)
 initializes_new e Plain here = tt
@@ -310,8 +310,8 @@ turn_new : (e : Moment) (turn : Turn) → Starts e → New e (does_turn e turn)
 turn_new e Unwind here = unwinding_new e (thread_of e).pending here
 turn_new e EndThread here = end_new e here
 turn_new e Entry here = entry_new e here
-turn_new e Initialize here = initializes_new e (frame_of e).stage here
-turn_new e Instruction here = instruction_new e (decoded_at e.program (frame_of e)) here
+turn_new e Initialize here = initializes_new e (current_frame e).stage here
+turn_new e Instruction here = instruction_new e (decoded_at e.program (current_frame e)) here
 
 pub event_reaches : (p : Linked) (s : Kept) (t : ℕ) → t < length s.guest.threads → ReachesNew s (event p s t)
 unfolding event

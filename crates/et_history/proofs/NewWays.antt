@@ -13,7 +13,7 @@ use Rattle.et_heap.specs.Objects.{ObjectState, new_object}
 use Rattle.et_state.specs.Threads.{ThreadState, most_frames, has_frame, as_entered, entered_by, with_pending}
 use Rattle.et_state.specs.declared.class_state.ClassState.{ClassState}
 use Rattle.et_state.specs.declared.class_state.ClassState.TheVariants.{Untouched, Begun, Done, Failed}
-use Rattle.et_state.specs.Interned.{objects_of}
+use Rattle.et_state.specs.Interned.{interned_objects}
 use Rattle.et_state.specs.Roots.{graph_of}
 use Rattle.et_state.specs.State.{Kept}
 use Rattle.et_state.specs.Words.{thread_at}
@@ -25,10 +25,10 @@ use Rattle.et_event.specs.declared.errors.GuestError.{GuestError}
 use Rattle.et_event.specs.declared.errors.GuestError.TheVariants.{NullPointerException, StackOverflowError, NoClassDefFoundError}
 use Rattle.et_event.specs.declared.rows.Operand.{Operand}
 use Rattle.et_event.specs.declared.rows.Operand.TheVariants as operand
-use Rattle.et_event.specs.Checks.{Reference, value_of, with_int, with_long, with_reference, with_value, ill_typed_unless, resolved, throws_unless, not_null, waits_unless, frame_fits}
+use Rattle.et_event.specs.Checks.{Reference, reference_value, with_int, with_long, with_reference, with_value, ill_typed_unless, resolved, throws_unless, not_null, waits_unless, frame_fits}
 use Rattle.et_event.specs.Errors.{error_class, error_of}
 use Rattle.et_event.specs.Initialization.{state_of, with_state, constants_set, initializer_frame, is_quiet, quietly_done, begun_by, begins_class, needed, initialized}
-use Rattle.et_event.specs.Moments.{Moment, Doing, next_object, instance_made, with_thread_state, pending_now, fits, goes, ends, throws, waits}
+use Rattle.et_event.specs.Moments.{Moment, Doing, next_object, instance_made, with_thread_state, pending_now, fits_heap, goes, ends_event, throws, waits}
 use Rattle.et_history.specs.Reaching.{AreReachedFrom, ReachesNew}
 use Rattle.et_history.proofs.Heaps.{newest}
 use Rattle.et_history.proofs.Words.{if_case, thread_now}
@@ -43,7 +43,7 @@ New e x = ReachesNew e.before x
 pub reached_beyond : (e : Moment) (s x : Kept) → OfStrings e s → x.guest.interned ≡ s.guest.interned → AreReachedFrom (length s.heap) x → AreReachedFrom (length e.before.heap) x
 reached_beyond e s x h same new o le lt =
     elim (cases_lt o (length s.heap)) [
-      | inl old ↦ root_is_reached x o (string_root x.guest o (subst (λ (ss : List (List ℕ × ℕ)). Contains (objects_of ss) o) (sym same) (h.strings o le old)))
+      | inl old ↦ root_is_reached x o (string_root x.guest o (subst (λ (ss : List (List ℕ × ℕ)). Contains (interned_objects ss) o) (sym same) (h.strings o le old)))
       | inr beyond ↦ new o beyond lt
     ]
 
@@ -70,13 +70,13 @@ pending_reached e o d lt =
 pub goes_new : (e : Moment) (d : Doing) → OfStrings e d.state → New e (goes d)
 goes_new e d h = strings_reached e d.state h
 
-pub ends_reached : (e : Moment) (d : Doing) → AreReachedFrom (length e.before.heap) d.state → New e (ends d)
-ends_reached e d h = if_case (New e) (fits d.state.heap) (outcome.Goes d.state d.records) outcome.ObjectLimit h tt
+pub ends_reached : (e : Moment) (d : Doing) → AreReachedFrom (length e.before.heap) d.state → New e (ends_event d)
+ends_reached e d h = if_case (New e) (fits_heap d.state.heap) (outcome.Goes d.state d.records) outcome.ObjectLimit h tt
 
-pub ends_new : (e : Moment) (d : Doing) → OfStrings e d.state → New e (ends d)
+pub ends_new : (e : Moment) (d : Doing) → OfStrings e d.state → New e (ends_event d)
 ends_new e d h = ends_reached e d (strings_reached e d.state h)
 
-thrown_new : (e : Moment) (class : ℕ) (d : Doing) → OfStrings e d.state → New e (ends (pending_now e (next_object d) (instance_made e class d)))
+thrown_new : (e : Moment) (class : ℕ) (d : Doing) → OfStrings e d.state → New e (ends_event (pending_now e (next_object d) (instance_made e class d)))
 thrown_new e class d h =
     let object : ObjectState = new_object class 0 (class_at e.program class).info.slots in
     let y : Doing = instance_made e class d in
@@ -88,7 +88,7 @@ pub throws_new : (e : Moment) (error : GuestError) (d : Doing) → OfStrings e d
 throws_new e error d h =
     let class : ℕ = error_class e.program error in
     let x : ThreadState = as_entered (thread_at d.state.guest e.thread) in
-    if_case (λ (u : Doing). New e (ends (pending_now e (next_object d) (instance_made e class u)))) (has_frame (thread_at d.state.guest e.thread).frames) d (with_thread_state e x d)
+    if_case (λ (u : Doing). New e (ends_event (pending_now e (next_object d) (instance_made e class u)))) (has_frame (thread_at d.state.guest e.thread).frames) d (with_thread_state e x d)
     (thrown_new e class d h) (thrown_new e class (with_thread_state e x d) (thread_strings e x d h))
 
 -- WHAT REFUSES
@@ -123,7 +123,7 @@ begins_class_new e c d h =
     let x : Doing = constants_set e c (with_state c (Begun e.thread) d) in
     let there : OfStrings e x.state = constants_strings e c (with_state c (Begun e.thread) d) (state_strings e c (Begun e.thread) d h) in
     let t : ThreadState = entered_by (initializer_frame c) (thread_at x.state.guest e.thread) in
-    where_frame_fits e d (ends (begun_by e c d)) h (ends_new e (begun_by e c d) (thread_strings e t x there))
+    where_frame_fits e d (ends_event (begun_by e c d)) h (ends_new e (begun_by e c d) (thread_strings e t x there))
 
 needed_new : (e : Moment) (d : Doing) (c : ℕ) (x : ClassState) (go : Doing → Outcome Kept) → OfStrings e d.state → ((y : Doing) → OfStrings e y.state → New e (go y)) → New e (needed e d c x go)
 needed_new e d c Done go h g = g d h
@@ -178,4 +178,4 @@ module _ (e : Moment) (refused : Outcome Kept) (ill : New e refused) where
   each_value None ops go h = ill
   each_value (Some operand.Int) ops go h = each_int ops (λ n. go (Int n)) (λ n below. h (Int n) below)
   each_value (Some operand.Long) ops go h = each_long ops (λ n. go (Long n)) (λ n below. h (Long n) below)
-  each_value (Some operand.Reference) ops go h = each_reference ops (λ r. go (value_of r)) (λ r below. h (value_of r) below)
+  each_value (Some operand.Reference) ops go h = each_reference ops (λ r. go (reference_value r)) (λ r below. h (reference_value r) below)

@@ -19,7 +19,7 @@ use Rattle.et_event.specs.declared.rows.Condition.{Condition}
 use Rattle.et_event.specs.declared.rows.Condition.TheVariants as when
 use Rattle.et_event.specs.declared.rows.FrameRow.{FrameRow}
 use Rattle.et_event.specs.declared.rows.FrameRow.TheVariants as row
-use Rattle.et_event.specs.Plain.{put, put_some, with_locals, other_half_unset, freed, one_stored, long_stored, stored, increased, loaded, loaded_long, are_groups, groups_of, places_of, rearranged, combined, negated, moved, converted, compared, tested, branched, switched, after}
+use Rattle.et_event.specs.Plain.{put, put_some, with_locals, other_half_unset, freed, one_stored, long_stored, stored, increased, loaded, loaded_long, are_groups, groups_of, operand_places, rearranged, combined, negated, values_moved, converted, compared, condition_tested, branched, switched, frame_after}
 use Rattle.et_event.specs.Sites.{Site, local_index}
 use Rattle.et_history.proofs.Values.{Fine, Fines, FineFrame, fine_at, fines_set, fines_append, fines_drop}
 use Rattle.et_history.proofs.Taken.{any_int, any_long, any_reference}
@@ -112,9 +112,9 @@ if_fine h false o g = tt
 
 rearranged_fine : (h : Objects) (pc : ℕ) (r : Rearrangement) (f : FrameState) → FineFrame h f → FineFrameSome h (rearranged pc r f)
 rearranged_fine h pc r f fine =
-    if_fine h (are_groups (groups_of r) f.operands) (put pc (map (λ k. get_or f.operands k Unset) (places_of r) ++ drop (sum (groups_of r)) f.operands) f)
-    (put_fine h pc (map (λ k. get_or f.operands k Unset) (places_of r) ++ drop (sum (groups_of r)) f.operands) f fine
-    (fines_append h (map (λ k. get_or f.operands k Unset) (places_of r)) (drop (sum (groups_of r)) f.operands) (places_fine h f.operands (places_of r) fine.operands) (fines_drop h (sum (groups_of r)) f.operands fine.operands)))
+    if_fine h (are_groups (groups_of r) f.operands) (put pc (map (λ k. get_or f.operands k Unset) (operand_places r) ++ drop (sum (groups_of r)) f.operands) f)
+    (put_fine h pc (map (λ k. get_or f.operands k Unset) (operand_places r) ++ drop (sum (groups_of r)) f.operands) f fine
+    (fines_append h (map (λ k. get_or f.operands k Unset) (operand_places r)) (drop (sum (groups_of r)) f.operands) (places_fine h f.operands (operand_places r) fine.operands) (fines_drop h (sum (groups_of r)) f.operands fine.operands)))
 
 -- NUMBERS
 
@@ -126,7 +126,7 @@ negated_fine : (h : Objects) (n : Number) (ops : List Value) → Fines h ops →
 negated_fine h number.Int ops g = any_int (FinesSome h) None tt h ops _ g (λ a below j. (tt, j))
 negated_fine h number.Long ops g = any_long (FinesSome h) None tt h ops _ g (λ a below j. (tt, (tt, j)))
 
-moved_fine : (h : Objects) (n : Number) (s : Shift) (ops : List Value) → Fines h ops → FinesSome h (moved n s ops)
+moved_fine : (h : Objects) (n : Number) (s : Shift) (ops : List Value) → Fines h ops → FinesSome h (values_moved n s ops)
 moved_fine h number.Int s ops g = any_int (FinesSome h) None tt h ops _ g (λ b more i. any_int (FinesSome h) None tt h more _ i (λ a below j. (tt, j)))
 moved_fine h number.Long s ops g = any_int (FinesSome h) None tt h ops _ g (λ b more i. any_long (FinesSome h) None tt h more _ i (λ a below j. (tt, (tt, j))))
 
@@ -145,7 +145,7 @@ compared_fine h ops g = any_long (FinesSome h) None tt h ops _ g (λ b more i. a
 abbrev FineTest : Objects → Option (Bool × List Value) → Type 0
 FineTest h o = IfSome o (λ x. Fines h x.1)
 
-tested_fine : (h : Objects) (c : Condition) (ops : List Value) → Fines h ops → FineTest h (tested c ops)
+tested_fine : (h : Objects) (c : Condition) (ops : List Value) → Fines h ops → FineTest h (condition_tested c ops)
 tested_fine h when.Always ops g = g
 tested_fine h (when.WithZero c) ops g = any_int (FineTest h) None tt h ops _ g (λ a below j. j)
 tested_fine h (when.OfInts c) ops g = any_int (FineTest h) None tt h ops _ g (λ b more i. any_int (FineTest h) None tt h more _ i (λ a below j. j))
@@ -161,7 +161,7 @@ branched_fine h at f (Some x) fine g = record { locals = fine.locals; operands =
 switched_fine : (h : Objects) (at : Site) (f : FrameState) → FineFrame h f → FineFrameSome h (switched at f)
 switched_fine h at f fine = any_int (FineFrameSome h) None tt h f.operands _ fine.operands (λ key below g. record { locals = fine.locals; operands = g; lock = fine.lock })
 
-pub after_fine : (h : Objects) (at : Site) (r : FrameRow) (f : FrameState) → FineFrame h f → FineFrameSome h (after at r f)
+pub after_fine : (h : Objects) (at : Site) (r : FrameRow) (f : FrameState) → FineFrame h f → FineFrameSome h (frame_after at r f)
 after_fine h at row.Null f fine = put_fine h at.next (Null ∷ f.operands) f fine (tt, fine.operands)
 after_fine h at (row.Int n) f fine = put_fine h at.next (Int n ∷ f.operands) f fine (tt, fine.operands)
 after_fine h at (row.Long n) f fine = put_fine h at.next (LongHigh ∷ Long n ∷ f.operands) f fine (tt, (tt, fine.operands))
@@ -173,8 +173,8 @@ after_fine h at row.Increment f fine = increased_fine h at.next (local_index Nam
 after_fine h at (row.Rearrange r) f fine = rearranged_fine h at.next r f fine
 after_fine h at (row.Arithmetic n o) f fine = put_some_fine h at.next (combined n o f.operands) f fine (combined_fine h n o f.operands fine.operands)
 after_fine h at (row.Negate n) f fine = put_some_fine h at.next (negated n f.operands) f fine (negated_fine h n f.operands fine.operands)
-after_fine h at (row.Shift n s) f fine = put_some_fine h at.next (moved n s f.operands) f fine (moved_fine h n s f.operands fine.operands)
+after_fine h at (row.Shift n s) f fine = put_some_fine h at.next (values_moved n s f.operands) f fine (moved_fine h n s f.operands fine.operands)
 after_fine h at (row.Convert c) f fine = put_some_fine h at.next (converted c f.operands) f fine (converted_fine h c f.operands fine.operands)
 after_fine h at row.CompareLongs f fine = put_some_fine h at.next (compared f.operands) f fine (compared_fine h f.operands fine.operands)
-after_fine h at (row.Branch c) f fine = branched_fine h at f (tested c f.operands) fine (tested_fine h c f.operands fine.operands)
+after_fine h at (row.Branch c) f fine = branched_fine h at f (condition_tested c f.operands) fine (tested_fine h c f.operands fine.operands)
 after_fine h at row.Switch f fine = switched_fine h at f fine

@@ -23,7 +23,7 @@ use Rattle.et_event.specs.Start.{start_records}
 use Rattle.et_loop.proofs.Dates.{deaths_in}
 use Rattle.et_history.specs.Histories.{whole_picked, whole_at, whole_settled_at, WholeGoesOn}
 use Rattle.et_history.specs.Reaching.{ReachesNew}
-use Rattle.et_history.specs.Settings.{unended_of}
+use Rattle.et_history.specs.Settings.{unended_threads}
 use Rattle.et_history.specs.Whole.{beside, whole_flushed, whole_start}
 use Rattle.et_history.proofs.Alike.{is_open}
 use Rattle.et_history.proofs.Wholes.{reached_all, is_now, picked_unended}
@@ -68,8 +68,8 @@ module _ (reached : Graph → ℕ → Bool) (p : Linked) (options : Options) (pi
   unfolding left_by
   made_reached decides e o goes above within =
       let t : State = whole_settled_at reached p options pick e in
-      let on = is_open (length (unended_of t.kept) == 0) (e == options.limit) _ _ _ goes in
-      let k : ℕ = history.turn_of (whole_picked p options pick) (suc e) t in
+      let on = is_open (length (unended_threads t.kept) == 0) (e == options.limit) _ _ _ goes in
+      let k : ℕ = history.picked_turn (whole_picked p options pick) (suc e) t in
       let unended : IsUnended t.kept.guest k = picked_unended t.kept (pick (suc e)) on.some in
       let after : State = state_after t (beside t.reported (event p t.kept k)) in
       let len : length t.kept.heap ≡ length (now e).kept.heap = settled_length e in

@@ -26,11 +26,11 @@ use Rattle.et_state.proofs.Places.{string_root}
 use Rattle.et_event.specs.BuiltIns.{with_referent_of, with_thread_for}
 use Rattle.et_event.specs.Errors.{class_called}
 use Rattle.et_event.specs.Initialization.{with_state, constant_set, field_set, constants_set, class_done, quietly_done, quietly_if_untouched, prepared, state_of}
-use Rattle.et_event.specs.Kinds.{is_array, narrowed}
-use Rattle.et_event.specs.Moments.{Moment, Doing, begins, told, with_guest, with_thread_state, with_frame, next_object, made, instance_made, array_made, array_size, element_width, number_of, updated, slot_written, static_written, pending_now, entry_given_up}
+use Rattle.et_event.specs.Kinds.{is_array_element, narrowed}
+use Rattle.et_event.specs.Moments.{Moment, Doing, begins, told, doing_with_guest, with_thread_state, with_frame, next_object, object_added, instance_made, array_made, array_size, element_width, number_of_value, updated, slot_written, static_written, pending_now, entry_given_up}
 use Rattle.et_event.specs.Monitors.{Lock, OfObject, OfClass, with_monitor_of}
 use Rattle.et_event.specs.Programs.{HasConstant, HasInitializers}
-use Rattle.et_event.specs.Sites.{LoadedConstant, AnInt, ALong, AString, constant_at, pool_of}
+use Rattle.et_event.specs.Sites.{LoadedConstant, AnInt, ALong, AString, constant_at, pool_of_class}
 use Rattle.et_event.specs.Strings.{interned, string_object}
 use Rattle.et_history.specs.Records.{size_by, size_of, IsAlike, IsMadeBefore, IsMadeBeforeOrNone, IsUpdated, next_after, IsAllocationOf, IsRecordOf, AreRecordsOf, HasPlainStrings}
 use Rattle.et_history.proofs.Values.{Fine, Fines, FineSome, FineFrame, FineThread, Grows, fine_grows, fine_at, fines_set, rest_fine}
@@ -60,7 +60,7 @@ begun e sound lt = record {
 
 -- WHAT TELLS NOTHING
 
-guest_told : (e : Moment) (g : GuestState) (d : Doing) → Told e d → IsSound (record { heap = d.state.heap; guest = g }) → g.clock ≡ d.state.guest.clock → e.thread < length g.threads → Told e (with_guest g d)
+guest_told : (e : Moment) (g : GuestState) (d : Doing) → Told e d → IsSound (record { heap = d.state.heap; guest = g }) → g.clock ≡ d.state.guest.clock → e.thread < length g.threads → Told e (doing_with_guest g d)
 guest_told e g d h sound clock lt = record { sound = sound; clock = clock ∙ h.clock; thread = lt; steady = h.steady; records = h.records }
 
 pub thread_told : (e : Moment) (x : ThreadState) (d : Doing) → Told e d → FineThread d.state.heap x → Told e (with_thread_state e x d)
@@ -77,16 +77,16 @@ top_told e f d h fine =
     let was : FineThread d.state.heap x = told_thread e d h in
     thread_told e (with_top_of x f) d h (record { frames = (fine, rest_fine d.state.heap x.frames was.frames); pending = was.pending; entry = was.entry; object = was.object })
 
-static_told : (e : Moment) (i : ℕ) (v : Value) (d : Doing) → Told e d → Fine d.state.heap v → Told e (with_guest (with_static d.state.guest i v) d)
+static_told : (e : Moment) (i : ℕ) (v : Value) (d : Doing) → Told e d → Fine d.state.heap v → Told e (doing_with_guest (with_static d.state.guest i v) d)
 static_told e i v d h fine = guest_told e (with_static d.state.guest i v) d h (static_sound d.state i v h.sound fine) refl h.thread
 
-string_told : (e : Moment) (text : List ℕ) (o : ℕ) (d : Doing) → Told e d → IsHeld d.state.heap o → Told e (with_guest (with_string d.state.guest text o) d)
+string_told : (e : Moment) (text : List ℕ) (o : ℕ) (d : Doing) → Told e d → IsHeld d.state.heap o → Told e (doing_with_guest (with_string d.state.guest text o) d)
 string_told e text o d h held = guest_told e (with_string d.state.guest text o) d h (string_sound d.state text o h.sound held) refl h.thread
 
 pub state_told : (e : Moment) (c : ℕ) (x : ClassState) (d : Doing) → Told e d → Told e (with_state c x d)
 state_told e c x d h = guest_told e (with_class_state d.state.guest c x) d h (sound_guest d.state (with_class_state d.state.guest c x) h.sound h.sound.roots) refl h.thread
 
-class_monitor_told : (e : Moment) (c : ℕ) (m : Monitor) (d : Doing) → Told e d → Told e (with_guest (with_class_monitor d.state.guest c m) d)
+class_monitor_told : (e : Moment) (c : ℕ) (m : Monitor) (d : Doing) → Told e d → Told e (doing_with_guest (with_class_monitor d.state.guest c m) d)
 class_monitor_told e c m d h = guest_told e (with_class_monitor d.state.guest c m) d h (sound_guest d.state (with_class_monitor d.state.guest c m) h.sound h.sound.roots) refl h.thread
 
 abbrev started : ℕ → ThreadState
@@ -150,7 +150,7 @@ pub some_there : (d : Doing) (o : Option ℕ) → FineSome d.state.heap o → Is
 some_there d None fine = inl refl
 some_there d (Some o) fine = inr (there d o fine)
 
-number_there : (d : Doing) (v : Value) → Fine d.state.heap v → IsMadeBeforeOrNone d.state.heap (length d.state.heap) (number_of v)
+number_there : (d : Doing) (v : Value) → Fine d.state.heap v → IsMadeBeforeOrNone d.state.heap (length d.state.heap) (number_of_value v)
 number_there d Unset fine = inl refl
 number_there d (Int n) fine = inl refl
 number_there d (Long n) fine = inl refl
@@ -163,8 +163,8 @@ updated_told e o i old Unset d h object was fine = h
 updated_told e o i old (Int n) d h object was fine = h
 updated_told e o i old (Long n) d h object was fine = h
 updated_told e o i old LongHigh d h object was fine = h
-updated_told e o i old Null d h object was fine = record_told e (Update d.state.guest.clock e.thread o i (number_of old) 0) d h refl (h.clock, refl, object, number_there d old was, inl refl)
-updated_told e o i old (Ref new) d h object was fine = record_told e (Update d.state.guest.clock e.thread o i (number_of old) new) d h refl (h.clock, refl, object, number_there d old was, inr (there d new fine))
+updated_told e o i old Null d h object was fine = record_told e (Update d.state.guest.clock e.thread o i (number_of_value old) 0) d h refl (h.clock, refl, object, number_there d old was, inl refl)
+updated_told e o i old (Ref new) d h object was fine = record_told e (Update d.state.guest.clock e.thread o i (number_of_value old) new) d h refl (h.clock, refl, object, number_there d old was, inr (there d new fine))
 
 -- a slot that the machine itself uses, or one of the object
 abbrev pub HasSlot : Objects → (o i : ℕ) → Type 0
@@ -198,11 +198,11 @@ slot_told e o i v d h held has fine =
 
 pub written_static_told : (e : Moment) (i : ℕ) (v : Value) (d : Doing) → Told e d → i < length e.program.statics → Fine d.state.heap v → Told e (static_written e i v d)
 written_static_told e i v d h within fine =
-    updated_told e 0 i (static_at d.state.guest i) v (with_guest (with_static d.state.guest i v) d) (static_told e i v d h fine) (inl (refl, within)) (fine_at d.state.heap d.state.guest.statics i (statics_fine d.state h.sound)) fine
+    updated_told e 0 i (static_at d.state.guest i) v (doing_with_guest (with_static d.state.guest i v) d) (static_told e i v d h fine) (inl (refl, within)) (fine_at d.state.heap d.state.guest.statics i (statics_fine d.state h.sound)) fine
 
 -- OBJECTS
 
-made_told : (e : Moment) (class elements slots size : ℕ) (d : Doing) → Told e d → size ≡ size_of e.program (new_object class elements slots) → ((class_at e.program class).info.element ≡ NoArray → elements ≡ 0) → Told e (made e (new_object class elements slots) size d)
+made_told : (e : Moment) (class elements slots size : ℕ) (d : Doing) → Told e d → size ≡ size_of e.program (new_object class elements slots) → ((class_at e.program class).info.element ≡ NoArray → elements ≡ 0) → Told e (object_added e (new_object class elements slots) size d)
 made_told e class elements slots size d h is bare =
     let y : ObjectState = new_object class elements slots in
     let heap : Objects = d.state.heap in
@@ -236,15 +236,15 @@ instance_told e class d h plain =
     made_told e class 0 slots (16 + 8 * slots) d h
     (ap (λ (n : ℕ). 16 + 8 * n) (sym (length-replicate slots Unset)) ∙ ap (λ (x : Element). size_by x 0 (length (new_object class 0 slots).slots)) (sym plain)) (λ none. refl)
 
-array_size_is : (x : Element) (n slots : ℕ) → is_array x ≡ true → array_size n (element_width x) ≡ size_by x n slots
+array_size_is : (x : Element) (n slots : ℕ) → is_array_element x ≡ true → array_size n (element_width x) ≡ size_by x n slots
 array_size_is NoArray n slots is = cc
 array_size_is (Base kind) n slots is = refl
 array_size_is (Class class) n slots is = refl
 
-no_array : (x : Element) → x ≡ NoArray → is_array x ≡ true → ⊥
-no_array x none is = false≢true (sym (ap (λ (y : Element). is_array y) none) ∙ is)
+no_array : (x : Element) → x ≡ NoArray → is_array_element x ≡ true → ⊥
+no_array x none is = false≢true (sym (ap (λ (y : Element). is_array_element y) none) ∙ is)
 
-pub array_told : (e : Moment) (class n : ℕ) (d : Doing) → Told e d → is_array (class_at e.program class).info.element ≡ true → Told e (array_made e class n d)
+pub array_told : (e : Moment) (class n : ℕ) (d : Doing) → Told e d → is_array_element (class_at e.program class).info.element ≡ true → Told e (array_made e class n d)
 array_told e class n d h array =
     let x : Element = (class_at e.program class).info.element in
     made_told e class n n (array_size n (element_width x)) d h (array_size_is x n (length (new_object class n n).slots) array) (λ none. absurd (no_array x none array))
@@ -269,7 +269,7 @@ interned_told e bytes d plain h = by (object_of d.state.guest.interned bytes) re
     n = next_object d
 
     x : Doing
-    x = with_guest (with_string y.state.guest bytes n) y
+    x = doing_with_guest (with_string y.state.guest bytes n) y
 
     object : ObjectState
     object = new_object class 0 (class_at e.program class).info.slots
@@ -339,7 +339,7 @@ module _ (e : Moment) (plain : HasPlainStrings e.program) (initializers : HasIni
   pub constants_told : (c : ℕ) (d : Doing) → Told e d → Told e (constants_set e c d)
   constants_told c d h =
       fold_all_told e (HasConstant e.program c) (field_set e)
-      (λ x f has g. constant_told (field_at e.program f) (constant_at (pool_of e.program (field_at e.program f).class) (field_at e.program f).constant) x has.slot g)
+      (λ x f has g. constant_told (field_at e.program f) (constant_at (pool_of_class e.program (field_at e.program f).class) (field_at e.program f).constant) x has.slot g)
       (class_at e.program c).info.constants (constants_are e.program c initializers) d h
 
   class_done_told : (c : ℕ) (x : ClassState) (d : Doing) → Told e d → Told e (class_done e c x d)

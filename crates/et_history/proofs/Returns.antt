@@ -23,9 +23,9 @@ use Rattle.et_event.specs.Errors.{error_class}
 use Rattle.et_event.specs.Frames.{resumed, frames_after_return}
 use Rattle.et_event.specs.Initialization.{with_state, prepared, is_ready, enters_clinit, step_by, initialization_step}
 use Rattle.et_event.specs.Kinds.{may_return}
-use Rattle.et_event.specs.Moments.{Moment, Doing, class_of, frame_of, thread_of, begins, told, with_frame, with_thread_state, next_object, instance_made, slot_written, ill_typed, ends, goes}
+use Rattle.et_event.specs.Moments.{Moment, Doing, object_class, current_frame, thread_of, begins, told, with_frame, with_thread_state, next_object, instance_made, slot_written, ill_typed, ends_event, goes}
 use Rattle.et_event.specs.Monitors.{Lock, lock_in, owns, owns_some, left, left_some}
-use Rattle.et_event.specs.Sites.{method_of, body_of}
+use Rattle.et_event.specs.Sites.{running_method, present_body}
 use Rattle.et_event.specs.Throw.{caught, handled, handler_of, left_if_owned, dropped, is_error, replaced, failed, unwound, unwound_clinit, by_handler, unwinds, unwinding_step}
 use Rattle.et_sound.specs.WellFormed.{IsThere}
 use Rattle.et_history.specs.Holding.{lock_beyond}
@@ -50,17 +50,17 @@ rest_shorter [] lt = absurd (omega arith)
 rest_shorter (f ∷ fs) lt = refl
 
 dropped_fits : (e : Moment) (lock : Option Lock) (s : Kept) → 0 < length (thread_of e).frames → length (thread_at s.guest e.thread).frames ≡ length (rest_of (thread_of e).frames)
-    → lock_in (frame_of e).stage (method_of e.program (frame_of e)) (frame_of e).lock ≡ lock → MovesMonitors e None lock s → Fits e s
+    → lock_in (current_frame e).stage (running_method e.program (current_frame e)) (current_frame e).lock ≡ lock → MovesMonitors e None lock s → Fits e s
 dropped_fits e lock s some shorter same h =
     let fs : List FrameState = (thread_at s.guest e.thread).frames in
     let more = rest_shorter (thread_of e).frames some in
     fits_by e None lock s (beyond_none e.program fs (thread_of e).frames (λ x. omega arith))
-    (ap (λ (gs : List FrameState). lock_beyond e.program gs fs) (frames_are (thread_of e).frames some) ∙ (beyond_one e.program (frame_of e) (rest_of (thread_of e).frames) fs (sym shorter) ∙ same)) h
+    (ap (λ (gs : List FrameState). lock_beyond e.program gs fs) (frames_are (thread_of e).frames some) ∙ (beyond_one e.program (current_frame e) (rest_of (thread_of e).frames) fs (sym shorter) ∙ same)) h
 
 -- THE LOCK of the topmost frame
 
 abbrev pub own_lock : Moment → Option Lock
-own_lock e = lock_in (frame_of e).stage (method_of e.program (frame_of e)) (frame_of e).lock
+own_lock e = lock_in (current_frame e).stage (running_method e.program (current_frame e)) (current_frame e).lock
 
 staged_there : (e : Moment) (stage : Stage) (m : ℕ) (r : Option ℕ) → Knows e → FineSome e.before.heap r → AllThere e (lock_in stage (method_at e.program m) r)
 staged_there e Plain m r knows fine = lock_there e m r knows fine
@@ -68,7 +68,7 @@ staged_there e (Before c) m r knows fine = tt
 staged_there e (Clinit c) m r knows fine = tt
 
 pub own_there : (e : Moment) → Knows e → AllThere e (own_lock e)
-own_there e knows = staged_there e (frame_of e).stage (unwrap_or (frame_of e).method 0) (frame_of e).lock knows (frame_fine e knows).lock
+own_there e knows = staged_there e (current_frame e).stage (unwrap_or (current_frame e).method 0) (current_frame e).lock knows (frame_fine e knows).lock
 
 all_there : (e : Moment) (lock : Option Lock) → AllThere e lock → IfSome lock (λ l. IsThere e.before l)
 all_there e None has = tt
@@ -118,7 +118,7 @@ frames_grow h h' (f ∷ below) g fine = (frame_grows h h' f g fine.0, frames_gro
 returned_does : (e : Moment) (values : List Value) → Stands e → Fines e.before.heap values → owns_some e (begins e) (own_lock e) ≡ true → Does e (goes (frame_returned e values (begins e)))
 returned_does e values here f owned =
     let p : Linked = e.program in
-    let stage : Stage = (frame_of e).stage in
+    let stage : Stage = (current_frame e).stage in
     let lock : Option Lock = own_lock e in
     let n : ℕ = length (thread_of e).frames in
     let has : AllThere e lock = own_there e here.knows in
@@ -146,7 +146,7 @@ with_returned_does e (Some kind) ops go f h = any_value (Does e) (ill_typed e) t
 pub return_does : (e : Moment) (kind : Option Operand) → Stands e → Does e (return e kind)
 return_does e kind here =
     unless_ill_typed e (may_return kind (returned_by e)) _ (
-    with_returned_does e kind (frame_of e).operands _ (operands_fine e here) (λ values f.
+    with_returned_does e kind (current_frame e).operands _ (operands_fine e here) (λ values f.
     unless_thrown e (begins e) errors.IllegalMonitorStateException (owns_some e (begins e) (own_lock e)) _ (first e here) (λ owned. returned_does e values here f owned)))
 
 -- UNWINDING
@@ -166,17 +166,17 @@ dropped_still e {w = w} d count h =
 
 caught_does : (e : Moment) (o handler : ℕ) → Stands e → IsHeld e.before.heap o → Does e (caught e o handler)
 caught_does e o handler here held =
-    let f : FrameState = handled (frame_of e) handler o in
+    let f : FrameState = handled (current_frame e) handler o in
     let t : ThreadState = with_pending None (with_top_of (thread_of e) f) in
     let was : FineThread e.before.heap (thread_of e) = thread_fine e here.knows in
-    let top : FineFrame e.before.heap (frame_of e) = frame_fine e here.knows in
+    let top : FineFrame e.before.heap (current_frame e) = frame_fine e here.knows in
     let now : FineThread e.before.heap t = record {
       frames = (record { locals = top.locals; operands = (held, tt); lock = top.lock }, rest_fine e.before.heap (thread_of e).frames was.frames);
       pending = tt;
       entry = was.entry;
       object = was.object;
     } in
-    unless_ill_typed e (nat_lt 0 (frame_of e).room) _
+    unless_ill_typed e (nat_lt 0 (current_frame e).room) _
     (goes_does e (with_thread_state e t (begins e)) (counted e (length (thread_of e).frames) _ (sym (rest_shorter (thread_of e).frames here.some)) (thread_still e t (begins e).state (first e here) now)))
 
 handler_does : (e : Moment) (o : ℕ) (other : Outcome Kept) (r : Option TableRow) → Stands e → IsHeld e.before.heap o → Does e other → Does e (by_handler e o other r)
@@ -209,26 +209,26 @@ failed_still e {w = w} c o d h held =
     if_case (λ (y : Doing). Still e w y.state) (is_error e o) x (replaced e o x) there (replaced_still e o x there held)
 
 -- an initializer has no lock
-initializer_lock : (e : Moment) (stage : Stage) → (frame_of e).stage ≡ stage → lock_in stage (method_of e.program (frame_of e)) (frame_of e).lock ≡ None → own_lock e ≡ None
-initializer_lock e stage same none = ap (λ (s : Stage). lock_in s (method_of e.program (frame_of e)) (frame_of e).lock) same ∙ none
+initializer_lock : (e : Moment) (stage : Stage) → (current_frame e).stage ≡ stage → lock_in stage (running_method e.program (current_frame e)) (current_frame e).lock ≡ None → own_lock e ≡ None
+initializer_lock e stage same none = ap (λ (s : Stage). lock_in s (running_method e.program (current_frame e)) (current_frame e).lock) same ∙ none
 
-failed_does : (e : Moment) (c o : ℕ) (d : Doing) → Stands e → IsHeld e.before.heap o → d.state ≡ (dropped e (begins e)).state → own_lock e ≡ None → Does e (ends (failed e c o d))
+failed_does : (e : Moment) (c o : ℕ) (d : Doing) → Stands e → IsHeld e.before.heap o → d.state ≡ (dropped e (begins e)).state → own_lock e ≡ None → Does e (ends_event (failed e c o d))
 failed_does e c o d here held same none =
     let n : ℕ = length (rest_of (thread_of e).frames) in
     let so : Still e (with_frames n (level e)) d.state = subst (λ (s : Kept). Still e (with_frames n (level e)) s) (sym same) (dropped_still e (begins e) refl (first e here)) in
     let after = failed_still e c o d so (so.changes.stays o held) in
     ends_fit e (failed e c o d) (dropped_fits e None (failed e c o d).state here.some after.frames none (record { changes = after.changes; entered = tt; left = tt }))
 
-unwinds_does : (e : Moment) (o : ℕ) (stage : Stage) → Stands e → IsHeld e.before.heap o → (frame_of e).stage ≡ stage → Does e (unwinds e o stage)
-unwinds_does e o Plain here held same = handler_does e o (unwound e o) (handler_of e.program (frame_of e) (class_of (begins e) o)) here held (unwound_does e o here)
+unwinds_does : (e : Moment) (o : ℕ) (stage : Stage) → Stands e → IsHeld e.before.heap o → (current_frame e).stage ≡ stage → Does e (unwinds e o stage)
+unwinds_does e o Plain here held same = handler_does e o (unwound e o) (handler_of e.program (current_frame e) (object_class (begins e) o)) here held (unwound_does e o here)
 unwinds_does e o (Before c) here held same = failed_does e c o (dropped e (begins e)) here held refl (initializer_lock e (Before c) same refl)
 unwinds_does e o (Clinit c) here held same =
-    handler_does e o (unwound_clinit e c o) (handler_of e.program (frame_of e) (class_of (begins e) o)) here held
-    (failed_does e c o (told (Unwind (begins e).state.guest.clock e.thread (unwrap_or (frame_of e).method 0) o) (dropped e (begins e))) here held refl (initializer_lock e (Clinit c) same refl))
+    handler_does e o (unwound_clinit e c o) (handler_of e.program (current_frame e) (object_class (begins e) o)) here held
+    (failed_does e c o (told (Unwind (begins e).state.guest.clock e.thread (unwrap_or (current_frame e).method 0) o) (dropped e (begins e))) here held refl (initializer_lock e (Clinit c) same refl))
 
 pub unwinding_does : (e : Moment) (o : Option ℕ) → Stands e → FineSome e.before.heap o → Does e (unwinding_step e o)
 unwinding_does e None here held = tt
-unwinding_does e (Some o) here held = unwinds_does e o (frame_of e).stage here held refl
+unwinding_does e (Some o) here held = unwinds_does e o (current_frame e).stage here held refl
 
 -- A STEP OF AN INITIALIZER
 
@@ -238,21 +238,21 @@ clinit_does e c None d here h none =
     let after = dropped_still e x refl (state_still e c Done d.state h) in
     ends_fit e (dropped e x) (dropped_fits e None (dropped e x).state here.some after.frames none (record { changes = after.changes; entered = tt; left = tt }))
 clinit_does e c (Some m) d here h none =
-    let body : Body = body_of (method_at e.program m).code in
-    let f : FrameState = in_clinit m body.max_stack body.max_locals (frame_of e) in
+    let body : Body = present_body (method_at e.program m).code in
+    let f : FrameState = in_clinit m body.max_stack body.max_locals (current_frame e) in
     let fine : FineFrame d.state.heap f = record {
       locals = fines_unset d.state.heap (body.max_locals - 0);
       operands = tt;
-      lock = some_grows e.before.heap d.state.heap (frame_of e).lock h.changes.stays (frame_fine e here.knows).lock;
+      lock = some_grows e.before.heap d.state.heap (current_frame e).lock h.changes.stays (frame_fine e here.knows).lock;
     } in
     let x : Doing = with_frame e f d in
     ends_does e (told (Enter d.state.guest.clock e.thread m 0) x) (top_still e f d.state here.some h fine)
 
 by_blocker_does : (e : Moment) (c : ℕ) (d : Doing) (blocker : Option ℕ) → Stands e → Still e (level e) d.state → own_lock e ≡ None → Does e (step_by e c d blocker)
-by_blocker_does e c d (Some k) here h none = initialized_does e d k ends h (λ x g. ends_does e x g)
+by_blocker_does e c d (Some k) here h none = initialized_does e d k ends_event h (λ x g. ends_does e x g)
 by_blocker_does e c d None here h none = clinit_does e c (class_at e.program c).info.clinit d here h none
 
-pub step_does : (e : Moment) (c : ℕ) → Stands e → (frame_of e).stage ≡ Before c → Does e (initialization_step e c)
+pub step_does : (e : Moment) (c : ℕ) → Stands e → (current_frame e).stage ≡ Before c → Does e (initialization_step e c)
 step_does e c here same =
     let classes : List ℕ = (class_at e.program c).info.prerequisites in
     let ready : List ℕ = take_while (is_ready e (begins e)) classes in

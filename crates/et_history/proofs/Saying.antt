@@ -20,7 +20,7 @@ use Rattle.et_event.specs.declared.rows.Operand.TheVariants as operand
 use Rattle.et_event.specs.Checks.{Reference, ill_typed_unless, resolved, throws_unless, not_null, waits_unless, frame_fits}
 use Rattle.et_event.specs.Errors.{error_class, error_of}
 use Rattle.et_event.specs.Initialization.{state_of, with_state, constants_set, initializer_frame, is_quiet, quietly_done, begun_by, begins_class, needed, initialized}
-use Rattle.et_event.specs.Moments.{Moment, Doing, begins, next_object, instance_made, with_thread_state, entry_given_up, pending_now, fits, ends, throws, waits}
+use Rattle.et_event.specs.Moments.{Moment, Doing, begins, next_object, instance_made, with_thread_state, entry_given_up, pending_now, fits_heap, ends_event, throws, waits}
 use Rattle.et_event.specs.Programs.{MayHold}
 use Rattle.et_event.specs.Runnable.{IsRunnable}
 use Rattle.et_event.specs.Sound.{is_of_kind, kind_of_element}
@@ -65,8 +65,8 @@ module _ (e : Moment) (ready : Ready e) where
 
   -- ENDS
 
-  pub ends_says : (d : Doing) → Told e d → Says e (ends d)
-  ends_says d h = if_case (Says e) (fits d.state.heap) (outcome.Goes d.state d.records) outcome.ObjectLimit h tt
+  pub ends_says : (d : Doing) → Told e d → Says e (ends_event d)
+  ends_says d h = if_case (Says e) (fits_heap d.state.heap) (outcome.Goes d.state d.records) outcome.ObjectLimit h tt
 
   pub throws_says : (error : GuestError) (d : Doing) → Told e d → Says e (throws e error d)
   throws_says error d h =
@@ -110,7 +110,7 @@ module _ (e : Moment) (ready : Ready e) where
 
   -- A CLASS IS NEEDED
 
-  begun_says : (c : ℕ) (d : Doing) → Told e d → Says e (ends (begun_by e c d))
+  begun_says : (c : ℕ) (d : Doing) → Told e d → Says e (ends_event (begun_by e c d))
   begun_says c d h =
       let x : Doing = constants_set e c (with_state c (Begun e.thread) d) in
       let there : Told e x = constants_told e ready.plain ready.may.initializers c (with_state c (Begun e.thread) d) (state_told e c (Begun e.thread) d h) in
@@ -121,7 +121,7 @@ module _ (e : Moment) (ready : Ready e) where
       (thread_told e (entered_by f t) x there (record { frames = (record { locals = tt; operands = tt; lock = tt }, was.frames); pending = was.pending; entry = was.entry; object = was.object }))
 
   begins_class_says : (c : ℕ) (d : Doing) → Told e d → Says e (begins_class e c d)
-  begins_class_says c d h = where_frame_fits d (ends (begun_by e c d)) h (begun_says c d h)
+  begins_class_says c d h = where_frame_fits d (ends_event (begun_by e c d)) h (begun_says c d h)
 
   needed_says : (d : Doing) (c : ℕ) (x : ClassState) (go : Doing → Outcome Kept) → Told e d → ((y : Doing) → Told e y → Says e (go y)) → Says e (needed e d c x go)
   needed_says d c Done go h g = g d h

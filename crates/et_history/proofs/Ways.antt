@@ -17,9 +17,9 @@ use Rattle.et_event.specs.declared.errors.GuestError.TheVariants.{NullPointerExc
 use Rattle.et_event.specs.Checks.{Reference, ill_typed_unless, resolved, throws_unless, not_null, waits_unless, frame_fits}
 use Rattle.et_event.specs.Errors.{error_class, error_of}
 use Rattle.et_event.specs.Initialization.{state_of, with_state, constants_set, initializer_frame, is_quiet, quietly_done, begun_by, begins_class, needed, initialized}
-use Rattle.et_event.specs.Moments.{Moment, Doing, later, begins, thread_of, frame_of, next_object, instance_made, with_thread_state, entry_given_up, pending_now, fits, goes, ends, throws, waits}
+use Rattle.et_event.specs.Moments.{Moment, Doing, later, begins, thread_of, current_frame, next_object, instance_made, with_thread_state, entry_given_up, pending_now, fits_heap, goes, ends_event, throws, waits}
 use Rattle.et_event.specs.Monitors.{Lock, lock_in}
-use Rattle.et_event.specs.Sites.{method_of}
+use Rattle.et_event.specs.Sites.{running_method}
 use Rattle.et_event.specs.Sound.{IsSoundFor}
 use Rattle.et_history.specs.Holding.{lock_beyond}
 use Rattle.et_history.specs.Changing.{MovesMonitors}
@@ -39,7 +39,7 @@ ground e knows = begun e knows.sound.held knows.thread.thread
 pub thread_fine : (e : Moment) → Knows e → FineThread e.before.heap (thread_of e)
 thread_fine e knows = fine_thread e.before e.thread knows.sound.held knows.thread.thread
 
-pub frame_fine : (e : Moment) → Knows e → FineFrame e.before.heap (frame_of e)
+pub frame_fine : (e : Moment) → Knows e → FineFrame e.before.heap (current_frame e)
 frame_fine e knows = first_fine e.before.heap (thread_of e).frames (thread_fine e knows).frames
 
 -- WHAT THE FRAMES SAY was entered and left
@@ -79,12 +79,12 @@ pub beyond_none : (p : Linked) (fs gs : List FrameState) → (length fs ≡ suc 
 beyond_none p [] gs ne = refl
 beyond_none p (f ∷ below) gs ne = by (length below == length gs) refl
   where
-    by : (b : Bool) → (length below == length gs) ≡ b → (if b then lock_in f.stage (method_of p f) f.lock else None) ≡ None
+    by : (b : Bool) → (length below == length gs) ≡ b → (if b then lock_in f.stage (running_method p f) f.lock else None) ≡ None
     by true e = let same : length below ≡ length gs = eqb-true (length below) (length gs) e in absurd (ne (omega arith))
     by false e = refl
 
-pub beyond_one : (p : Linked) (f : FrameState) (below gs : List FrameState) → length below ≡ length gs → lock_beyond p (f ∷ below) gs ≡ lock_in f.stage (method_of p f) f.lock
-beyond_one p f below gs same = ap (λ (b : Bool). if b then lock_in f.stage (method_of p f) f.lock else None) (eq-eqb (length below) (length gs) same)
+pub beyond_one : (p : Linked) (f : FrameState) (below gs : List FrameState) → length below ≡ length gs → lock_beyond p (f ∷ below) gs ≡ lock_in f.stage (running_method p f) f.lock
+beyond_one p f below gs same = ap (λ (b : Bool). if b then lock_in f.stage (running_method p f) f.lock else None) (eq-eqb (length below) (length gs) same)
 
 pub fits_by : (e : Moment) (a b : Option Lock) (after : Kept) → pushed_lock e after ≡ a → dropped_lock e after ≡ b → MovesMonitors e a b after → Fits e after
 fits_by e a b after pushed dropped h =
@@ -103,10 +103,10 @@ level_fits e s h =
 pub goes_does : (e : Moment) (d : Doing) → Still e (level e) d.state → Does e (goes d)
 goes_does e d h = level_fits e d.state h
 
-pub ends_fit : (e : Moment) (d : Doing) → Fits e d.state → Does e (ends d)
-ends_fit e d h = if_case (Does e) (fits d.state.heap) (outcome.Goes d.state d.records) outcome.ObjectLimit h tt
+pub ends_fit : (e : Moment) (d : Doing) → Fits e d.state → Does e (ends_event d)
+ends_fit e d h = if_case (Does e) (fits_heap d.state.heap) (outcome.Goes d.state d.records) outcome.ObjectLimit h tt
 
-pub ends_does : (e : Moment) (d : Doing) → Still e (level e) d.state → Does e (ends d)
+pub ends_does : (e : Moment) (d : Doing) → Still e (level e) d.state → Does e (ends_event d)
 ends_does e d h = ends_fit e d (level_fits e d.state h)
 
 pub waits_does : (e : Moment) → Does e (waits e)
@@ -125,7 +125,7 @@ throws_pends e error d h =
     (new_held d.state.heap made) (new_held d.state.heap made) in
     let pends : (thread_at z.state.guest e.thread).pending ≡ Some (next_object d) =
     ap (λ (t : ThreadState). t.pending) (thread_now y.state e.thread (with_pending (Some (next_object d)) (thread_at y.state.guest e.thread)) there.thread) in
-    if_case (Throws e) (fits z.state.heap) (outcome.Goes z.state z.records) outcome.ObjectLimit (level_fits e z.state (pending_still e (next_object d) y there held), (next_object d, pends)) tt
+    if_case (Throws e) (fits_heap z.state.heap) (outcome.Goes z.state z.records) outcome.ObjectLimit (level_fits e z.state (pending_still e (next_object d) y there held), (next_object d, pends)) tt
 
 pub throws_does : (e : Moment) (error : GuestError) (d : Doing) → Still e (level e) d.state → Does e (throws e error d)
 throws_does e error d h = thrown_does e (throws e error d) (throws_pends e error d h)
@@ -158,7 +158,7 @@ where_frame_fits e d go h g = unless_thrown e d StackOverflowError (ltb (length 
 -- A FRAME IS PUSHED: its lock is entered, if it has one
 
 pub pushed_fits : (e : Moment) (f : FrameState) (fs : List FrameState) (lock : Option Lock) (s : Kept) → (thread_at s.guest e.thread).frames ≡ f ∷ fs → length fs ≡ length (thread_of e).frames
-    → lock_in f.stage (method_of e.program f) f.lock ≡ lock → MovesMonitors e lock None s → Fits e s
+    → lock_in f.stage (running_method e.program f) f.lock ≡ lock → MovesMonitors e lock None s → Fits e s
 pushed_fits e f fs lock s is same has h =
     fits_by e lock None s
     (ap (λ (gs : List FrameState). lock_beyond e.program gs (thread_of e).frames) is ∙ (beyond_one e.program f fs (thread_of e).frames same ∙ has))
@@ -166,7 +166,7 @@ pushed_fits e f fs lock s is same has h =
 
 -- A CLASS IS NEEDED
 
-begun_does : (e : Moment) (c : ℕ) (d : Doing) → Still e (level e) d.state → Does e (ends (begun_by e c d))
+begun_does : (e : Moment) (c : ℕ) (d : Doing) → Still e (level e) d.state → Does e (ends_event (begun_by e c d))
 begun_does e c d h =
     let x : Doing = constants_set e c (with_state c (Begun e.thread) d) in
     let there : Still e (level e) x.state = constants_still e c (with_state c (Begun e.thread) d) (state_still e c (Begun e.thread) d.state h) in
@@ -180,7 +180,7 @@ begun_does e c d h =
     (record { changes = now.changes; entered = tt; left = tt }))
 
 pub begins_class_does : (e : Moment) (c : ℕ) (d : Doing) → Still e (level e) d.state → Does e (begins_class e c d)
-begins_class_does e c d h = where_frame_fits e d (ends (begun_by e c d)) h (begun_does e c d h)
+begins_class_does e c d h = where_frame_fits e d (ends_event (begun_by e c d)) h (begun_does e c d h)
 
 needed_does : (e : Moment) (d : Doing) (c : ℕ) (x : ClassState) (go : Doing → Outcome Kept) → Still e (level e) d.state → ((y : Doing) → Still e (level e) y.state → Does e (go y)) → Does e (needed e d c x go)
 needed_does e d c Done go h g = g d h

@@ -25,7 +25,7 @@ use Rattle.et_state.proofs.Wholes.{length-remaining}
 use Rattle.et_program.specs.Entries.{Linked}
 use Rattle.et_state.specs.declared.options.Options.{Options}
 use Rattle.et_state.specs.Options.{AreOptions, pick_of}
-use Rattle.et_state.specs.History.{Setting, Rule, IsLast, trace_of}
+use Rattle.et_state.specs.History.{Setting, Rule, IsLastEvent, trace_of}
 use Rattle.et_state.specs.Outcome.{Outcome, end_by}
 use Rattle.et_state.specs.Outcome as outcome
 use Rattle.et_event.specs.Event.{event}
@@ -38,11 +38,11 @@ use Rattle.et_io.specs.Sink.{with_more, TakesPrefix}
 use Rattle.et_loop.specs.declared.options.Ran.{Ran}
 use Rattle.et_loop.specs.Traced.{WritesTrace, WritesPrefix}
 use Rattle.et_text.specs.Spelling.{text}
-use Rattle.et_loop.specs.Kept.{IsKept}
+use Rattle.et_loop.specs.Kept.{IsKeptPart}
 use Rattle.et_loop.specs.Visits.{allowed_visits, IsCut}
-use Rattle.et_history.specs.Settings.{IsSoundRun, flush_visits_of, setting, unended_of, flushed_of}
+use Rattle.et_history.specs.Settings.{IsSoundRun, flush_visits_of, setting, unended_threads, flushed_of}
 use Rattle.et_history.specs.Changing.{KeepsMonitors}
-use Rattle.et_history.specs.Histories.{picked, state_at, settled_at, GoesOn, WholeGoesOn, moment_at, whole_picked, whole_at, whole_settled_at}
+use Rattle.et_history.specs.Histories.{picked, state_at, settled_at, HistoryGoesOn, WholeGoesOn, moment_at, whole_picked, whole_at, whole_settled_at}
 use Rattle.et_history.specs.Same.{TellsTheSame, IsHere}
 use Rattle.et_history.specs.Whole.{beside, cleared, whole_event, whole_flushed, whole_setting, whole_start, whole_visits_of}
 use Rattle.et_history.proofs.Alike.{is_open, settled_alike, LooksAlike, LeadsAlike, IsTurn, Mirrors, all_alike, looks_alike, last_alike, deaths_alike, lines_alike, trace_alike, last_there, last_back, goes_back, allowed_alike, cut_alike}
@@ -63,7 +63,7 @@ reported_gone s past none u there =
     at_gone s.kept.heap u some lt (λ held. past.apart u held there)
 
 -- what is kept has all pairs but those of reported objects
-graph_is_kept : (s : State) → IsPast s.kept.heap s.reported → ¬ IsHeld s.reported 0 → IsKept (graph_of s.kept) (graph s)
+graph_is_kept : (s : State) → IsPast s.kept.heap s.reported → ¬ IsHeld s.reported 0 → IsKeptPart (graph_of s.kept) (graph s)
 graph_is_kept s past none = record {
   made = refl;
   roots = refl;
@@ -117,11 +117,11 @@ tells : (g : Graph) (here : ℕ → Bool) → ((o : ℕ) → IsTrue (here o) ↔
 tells g here h o = (λ e. (h o).0 (now_is (here o) e), λ r. is_now (here o) ((h o).1 r))
 
 -- the thread that is picked was started and has not ended
-pub picked_unended : (s : Kept) (k : ℕ) → (length (unended_of s) == 0) ≡ false → IsUnended s.guest (slice_index (unended_of s) (k % length (unended_of s)))
-picked_unended s k some = by (length (unended_of s)) refl
+pub picked_unended : (s : Kept) (k : ℕ) → (length (unended_threads s) == 0) ≡ false → IsUnended s.guest (slice_index (unended_threads s) (k % length (unended_threads s)))
+picked_unended s k some = by (length (unended_threads s)) refl
   where
     us : List ℕ
-    us = unended_of s
+    us = unended_threads s
 
     by : (n : ℕ) → length us ≡ n → IsUnended s.guest (slice_index us (k % length us))
     by zero e = absurd (true≢false (sym (eq-eqb (length us) 0 e) ∙ some))
@@ -314,12 +314,12 @@ module _ (reached : Graph → ℕ → Bool) (p : Linked) (options : Options) (pi
       after_event p options e t thread (event p k thread) (event_keeps p k thread m.1.state unended run.runnable) (event_sound p k thread m.1.state few unended run.runnable) m.1 below)
 
   pub mirrors : Mirrors reached given whole M
-  mirrors = record { unended = λ e s t m. ap (λ (x : Kept). unended_of x) (sym m.0); looks = looks; flush = flush; event = turn }
+  mirrors = record { unended = λ e s t m. ap (λ (x : Kept). unended_threads x) (sym m.0); looks = looks; flush = flush; event = turn }
 
   pub first : M 0 (start p) (whole_start p)
   first = (refl, record { past = record { within = omega arith; apart = λ o held there. absurd there }; none = λ there. absurd there; full = first_full _; state = run.state; clock = refl; within = omega arith })
 
-  pub tells_same : (e : ℕ) → ((k : ℕ) → k < e → GoesOn reached p options pick k) → TellsTheSame reached p options pick e
+  pub tells_same : (e : ℕ) → ((k : ℕ) → k < e → HistoryGoesOn reached p options pick k) → TellsTheSame reached p options pick e
   tells_same e goes =
       let m = all_alike reached given whole M mirrors (start p) (whole_start p) (start_records p) first e goes in
       let like = looks_alike reached given whole M mirrors (start p) (whole_start p) (start_records p) first e goes in
@@ -336,19 +336,19 @@ module _ (reached : Graph → ℕ → Bool) (p : Linked) (options : Options) (pi
       }
 
   -- the history ends there in the same way, with the same trace
-  pub ends_there : (e : ℕ) (end : End) → IsLast reached given (start p) (start_records p) e end → IsLast reached (whole_picked p options pick) (whole_start p) (start_records p) e end
+  pub ends_there : (e : ℕ) (end : End) → IsLastEvent reached given (start p) (start_records p) e end → IsLastEvent reached (whole_picked p options pick) (whole_start p) (start_records p) e end
   ends_there e end last = last_there reached given whole M mirrors (start p) (whole_start p) (start_records p) first e end last
 
-  pub ends_back : (e : ℕ) (end : End) → IsLast reached (whole_picked p options pick) (whole_start p) (start_records p) e end → IsLast reached given (start p) (start_records p) e end
+  pub ends_back : (e : ℕ) (end : End) → IsLastEvent reached (whole_picked p options pick) (whole_start p) (start_records p) e end → IsLastEvent reached given (start p) (start_records p) e end
   ends_back e end last = last_back reached given whole M mirrors (start p) (whole_start p) (start_records p) first e end last
 
-  pub same_trace : (e : ℕ) (end : End) → IsLast reached given (start p) (start_records p) e end → trace_of reached given (start p) (start_records p) e end ≡ trace_of reached (whole_picked p options pick) (whole_start p) (start_records p) e end
+  pub same_trace : (e : ℕ) (end : End) → IsLastEvent reached given (start p) (start_records p) e end → trace_of reached given (start p) (start_records p) e end ≡ trace_of reached (whole_picked p options pick) (whole_start p) (start_records p) e end
   same_trace e end last = trace_alike reached given whole M mirrors (start p) (whole_start p) (start_records p) first e end last.first
 
   same_visits : (e : ℕ) (s : Kept) (t : State) → M e s t → flush_visits_of (reached (graph_of s)) s ≡ whole_visits_of (reached (graph t)) t
   same_visits e s t m = subst (λ (x : Kept). flush_visits_of (reached (graph_of x)) x ≡ whole_visits_of (reached (graph t)) t) m.0 (ap (λ (h : ℕ → Bool). flush_visits_of h t.kept) (same e t m.1))
 
-  pub same_allowed : (e : ℕ) (end : End) → IsLast reached given (start p) (start_records p) e end
+  pub same_allowed : (e : ℕ) (end : End) → IsLastEvent reached given (start p) (start_records p) e end
       → allowed_visits reached given flush_visits_of (start p) (start_records p) e ≡ allowed_visits reached (whole_picked p options pick) whole_visits_of (whole_start p) (start_records p) e
   same_allowed e end last = allowed_alike reached given whole M mirrors (start p) (whole_start p) (start_records p) first flush_visits_of whole_visits_of same_visits e last.first
 
@@ -356,16 +356,16 @@ module _ (reached : Graph → ℕ → Bool) (p : Linked) (options : Options) (pi
   same_cut before after old new c = cut_alike reached given whole M mirrors (start p) (whole_start p) (start_records p) first flush_visits_of whole_visits_of same_visits before after old new c
 
   -- the states that match, before and after the flush that may be due
-  pub all_match : (e : ℕ) → ((k : ℕ) → k < e → GoesOn reached p options pick k) → M e (state_at reached p options pick e) (whole_at reached p options pick e)
+  pub all_match : (e : ℕ) → ((k : ℕ) → k < e → HistoryGoesOn reached p options pick k) → M e (state_at reached p options pick e) (whole_at reached p options pick e)
   all_match e goes = all_alike reached given whole M mirrors (start p) (whole_start p) (start_records p) first e goes
 
-  pub settled_match : (e : ℕ) → ((k : ℕ) → k < e → GoesOn reached p options pick k) → M e (settled_at reached p options pick e) (whole_settled_at reached p options pick e)
+  pub settled_match : (e : ℕ) → ((k : ℕ) → k < e → HistoryGoesOn reached p options pick k) → M e (settled_at reached p options pick e) (whole_settled_at reached p options pick e)
   settled_match e goes = settled_alike reached given whole M mirrors e _ _ (all_match e goes)
 
-  pub go_on : (e : ℕ) → ((k : ℕ) → k < e → WholeGoesOn reached p options pick k) → (k : ℕ) → k < e → GoesOn reached p options pick k
+  pub go_on : (e : ℕ) → ((k : ℕ) → k < e → WholeGoesOn reached p options pick k) → (k : ℕ) → k < e → HistoryGoesOn reached p options pick k
   go_on e goes = goes_back reached given whole M mirrors (start p) (whole_start p) (start_records p) first e goes
 
-  pub state_sound : (e : ℕ) → ((k : ℕ) → k < e → GoesOn reached p options pick k) → IsSoundFor p (state_at reached p options pick e)
+  pub state_sound : (e : ℕ) → ((k : ℕ) → k < e → HistoryGoesOn reached p options pick k) → IsSoundFor p (state_at reached p options pick e)
   state_sound e goes = let m = all_match e goes in subst (λ (x : Kept). IsSoundFor p x) m.0 m.1.state
 
   -- what is known of event e + 1
@@ -374,13 +374,13 @@ module _ (reached : Graph → ℕ → Bool) (p : Linked) (options : Options) (pi
     pub keeps : KeepsMonitors (moment_at reached p options pick e) (event p (settled_at reached p options pick e) (moment_at reached p options pick e).thread)
     pub done : end_by (moment_at reached p options pick e).thread (event p (settled_at reached p options pick e) (moment_at reached p options pick e).thread) ≡ None
 
-  pub next : (e : ℕ) → ((k : ℕ) → k < suc e → GoesOn reached p options pick k) → Next e
+  pub next : (e : ℕ) → ((k : ℕ) → k < suc e → HistoryGoesOn reached p options pick k) → Next e
   next e goes =
       let s : Kept = settled_at reached p options pick e in
       let thread : ℕ = (moment_at reached p options pick e).thread in
       let m = settled_match e (λ k lt. goes k (omega (arith, lt))) in
       let sound : IsSoundFor p s = subst (λ (x : Kept). IsSoundFor p x) m.0 m.1.state in
-      let on = is_open (length (unended_of s) == 0) (e == options.limit) Finished EventLimit (end_by thread (event p s thread)) (goes e (omega arith)) in
+      let on = is_open (length (unended_threads s) == 0) (e == options.limit) Finished EventLimit (end_by thread (event p s thread)) (goes e (omega arith)) in
       record {
         sound = sound;
         keeps = event_keeps p s thread sound (picked_unended s (pick (suc e)) on.some) run.runnable;
@@ -389,7 +389,7 @@ module _ (reached : Graph → ℕ → Bool) (p : Linked) (options : Options) (pi
 
 -- THE LAWS
 
-pub tells_the_same : (reached : Graph → ℕ → Bool) (p : Linked) (options : Options) (pick : ℕ → ℕ) (e : ℕ) → Decides reached → IsSoundRun p (start p) → AreOptions options → ((k : ℕ) → k < e → GoesOn reached p options pick k) → TellsTheSame reached p options pick e
+pub tells_the_same : (reached : Graph → ℕ → Bool) (p : Linked) (options : Options) (pick : ℕ → ℕ) (e : ℕ) → Decides reached → IsSoundRun p (start p) → AreOptions options → ((k : ℕ) → k < e → HistoryGoesOn reached p options pick k) → TellsTheSame reached p options pick e
 tells_the_same reached p options pick e decides run are goes = tells_same reached p options pick decides run are e goes
 
 pub trace : (reached : Graph → ℕ → Bool) (p : Linked) (options : Options) (ran : Ran) (before after : Option (List ℕ)) → Decides reached → IsSoundRun p (start p) → AreOptions options
@@ -420,7 +420,7 @@ prefix reached p options before after decides run are =
     )
 
 pub visits : (reached : Graph → ℕ → Bool) (p : Linked) (options : Options) (e : ℕ) (end : End) → Decides reached → IsSoundRun p (start p) → AreOptions options
-    → IsLast reached (setting p options) (start p) (start_records p) e end
+    → IsLastEvent reached (setting p options) (start p) (start_records p) e end
     → allowed_visits reached (setting p options) flush_visits_of (start p) (start_records p) e ≡ allowed_visits reached (whole_setting p options) whole_visits_of (whole_start p) (start_records p) e
 visits reached p options e end decides run are last = same_allowed reached p options (pick_of options.schedule) decides run are e end last
 
@@ -429,5 +429,5 @@ pub cut : (reached : Graph → ℕ → Bool) (p : Linked) (options : Options) (b
 cut reached p options before after old new decides run are c = same_cut reached p options (pick_of options.schedule) decides run are before after old new c
 
 pub ends : (reached : Graph → ℕ → Bool) (p : Linked) (options : Options) (pick : ℕ → ℕ) (e : ℕ) (end : End) → Decides reached → IsSoundRun p (start p) → AreOptions options
-    → IsLast reached (picked p options pick) (start p) (start_records p) e end ↔ IsLast reached (whole_picked p options pick) (whole_start p) (start_records p) e end
+    → IsLastEvent reached (picked p options pick) (start p) (start_records p) e end ↔ IsLastEvent reached (whole_picked p options pick) (whole_start p) (start_records p) e end
 ends reached p options pick e end decides run are = (ends_there reached p options pick decides run are e end, ends_back reached p options pick decides run are e end)

@@ -15,7 +15,7 @@ use Rattle.et_heap.specs.Objects.{ObjectState, Objects, IsHeld, free_monitor, ne
 use Rattle.et_state.specs.Threads.{FrameState, ThreadState, no_thread, new_thread, has_frame, rest_of, with_top_of, as_entered, with_pending}
 use Rattle.et_state.specs.declared.class_state.ClassState.{ClassState}
 use Rattle.et_state.specs.declared.class_state.ClassState.TheVariants.{Untouched, Begun, Done, Failed}
-use Rattle.et_state.specs.Interned.{object_of, objects_of}
+use Rattle.et_state.specs.Interned.{object_of, interned_objects}
 use Rattle.et_state.specs.Sound.{IsSound}
 use Rattle.et_state.specs.State.{GuestState, Kept}
 use Rattle.et_state.specs.Words.{thread_at, with_thread, with_top, with_new_thread, static_at, with_static, with_string, with_class_state}
@@ -24,9 +24,9 @@ use Rattle.et_event.specs.BuiltIns.{with_referent_of, with_thread_for}
 use Rattle.et_event.specs.Errors.{class_called}
 use Rattle.et_event.specs.Initialization.{with_state, constant_set, field_set, constants_set, class_done, quietly_done, quietly_if_untouched, prepared, state_of}
 use Rattle.et_event.specs.Kinds.{narrowed}
-use Rattle.et_event.specs.Moments.{Moment, Doing, begins, thread_of, with_guest, with_thread_state, next_object, instance_made, array_made, updated, slot_written, static_written, pending_now, entry_given_up}
+use Rattle.et_event.specs.Moments.{Moment, Doing, begins, thread_of, doing_with_guest, with_thread_state, next_object, instance_made, array_made, updated, slot_written, static_written, pending_now, entry_given_up}
 use Rattle.et_event.specs.Monitors.{Lock, OfObject, OfClass}
-use Rattle.et_event.specs.Sites.{LoadedConstant, AnInt, ALong, AString, constant_at, pool_of}
+use Rattle.et_event.specs.Sites.{LoadedConstant, AnInt, ALong, AString, constant_at, pool_of_class}
 use Rattle.et_event.specs.Strings.{interned, string_object}
 use Rattle.et_sound.specs.WellFormed.{IsThere}
 use Rattle.et_history.specs.Holding.{monitor_in}
@@ -204,7 +204,7 @@ slot_still e o i v d h held fine =
     (object_still e o (with_slot i v x) s h held refl (fines_set s.heap x.slots i v fine (slots_fine s o h.changes.sound)) (referent_fine s o h.changes.sound))
 
 pub written_static_still : (e : Moment) {w : Way} (i : ℕ) (v : Value) (d : Doing) → Still e w d.state → Fine d.state.heap v → Still e w (static_written e i v d).state
-written_static_still e i v d h fine = updated_still e 0 i (static_at d.state.guest i) v (with_guest (with_static d.state.guest i v) d) (static_still e i v d.state h fine)
+written_static_still e i v d h fine = updated_still e 0 i (static_at d.state.guest i) v (doing_with_guest (with_static d.state.guest i v) d) (static_still e i v d.state h fine)
 
 pub referent_still : (e : Moment) {w : Way} (o : ℕ) (r : Option ℕ) (d : Doing) → Still e w d.state → IsHeld d.state.heap o → FineSome d.state.heap r → Still e w (with_referent_of o r d).state
 referent_still e o r d h held fine = object_still e o (with_referent r (object_at d.state.heap o)) d.state h held refl (slots_fine d.state o h.changes.sound) fine
@@ -240,9 +240,9 @@ object_step : (b : Bool) (v : ℕ) (vs : List ℕ) (r : Option ℕ) (o : ℕ) �
 object_step true v vs r o ih h = subst (λ (k : ℕ). Contains (v ∷ vs) k) (some_inj v o h) (Contains-here v vs)
 object_step false v vs r o ih h = Contains-there v vs o (ih h)
 
-pub object_in : (es : List (List ℕ × ℕ)) (bytes : List ℕ) (o : ℕ) → object_of es bytes ≡ Some o → Contains (objects_of es) o
+pub object_in : (es : List (List ℕ × ℕ)) (bytes : List ℕ) (o : ℕ) → object_of es bytes ≡ Some o → Contains (interned_objects es) o
 object_in [] bytes o h = absurd (none_some o h)
-object_in (e ∷ es) bytes o h = object_step (bytes_eq bytes e.0) e.1 (objects_of es) (object_of es bytes) o (object_in es bytes o) h
+object_in (e ∷ es) bytes o h = object_step (bytes_eq bytes e.0) e.1 (interned_objects es) (object_of es bytes) o (object_in es bytes o) h
 
 push_step : (b : Bool) (v n : ℕ) (r r' : Option ℕ) → (r ≡ None → r' ≡ Some n) → cond b (Some v) r ≡ None → cond b (Some v) r' ≡ Some n
 push_step true v n r r' ih h = absurd (none_some v (sym h))
@@ -267,7 +267,7 @@ interned_still e {w = w} bytes d h = by (object_of d.state.guest.interned bytes)
     n = next_object d
 
     x : Doing
-    x = with_guest (with_string y.state.guest bytes n) y
+    x = doing_with_guest (with_string y.state.guest bytes n) y
 
     object : ObjectState
     object = new_object (class_called e.program (codes "java/lang/String")) 0 (class_at e.program (class_called e.program (codes "java/lang/String"))).info.slots
@@ -329,7 +329,7 @@ constant_still e f (Some (AString bytes)) d h =
 
 pub constants_still : (e : Moment) {w : Way} (c : ℕ) (d : Doing) → Still e w d.state → Still e w (constants_set e c d).state
 constants_still e c d h =
-    fold_still e (field_set e) (λ x f g. constant_still e (field_at e.program f) (constant_at (pool_of e.program (field_at e.program f).class) (field_at e.program f).constant) x g) (class_at e.program c).info.constants d h
+    fold_still e (field_set e) (λ x f g. constant_still e (field_at e.program f) (constant_at (pool_of_class e.program (field_at e.program f).class) (field_at e.program f).constant) x g) (class_at e.program c).info.constants d h
 
 class_done_still : (e : Moment) {w : Way} (c : ℕ) (x : ClassState) (d : Doing) → Still e w d.state → Still e w (class_done e c x d).state
 class_done_still e c Untouched d h = constants_still e c (with_state c Done d) (state_still e c Done d.state h)

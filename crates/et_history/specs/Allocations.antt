@@ -7,7 +7,7 @@ use Rattle.et_program.specs.Entries.{Linked, class_at}
 use Rattle.et_state.specs.Past.{first_of}
 use Rattle.et_state.specs.Start.{argument_class}
 use Rattle.et_state.specs.State.{State}
-use Rattle.et_event.specs.Kinds.{is_array}
+use Rattle.et_event.specs.Kinds.{is_array_element}
 use Rattle.et_history.specs.Records.{size_of}
 use Rattle.et_history.specs.Same.{IsHere}
 
@@ -46,4 +46,4 @@ module _ (IsMade : (event object size elements : ℕ) → Type 0) where
 
 -- the class of the argument array is one of arrays
 abbrev pub HasArguments : Linked → Type 0
-HasArguments p = is_array (class_at p (argument_class p)).info.element ≡ true
+HasArguments p = is_array_element (class_at p (argument_class p)).info.element ≡ true

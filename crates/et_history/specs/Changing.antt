@@ -11,7 +11,7 @@ use Rattle.et_event.specs.Moments.{Moment, begins, later}
 use Rattle.et_event.specs.Sound.{IsSoundFor}
 use Rattle.et_event.specs.Monitors.{Lock, OfObject, is_owner, left_once, may_enter}
 use Rattle.et_sound.specs.WellFormed.{IsThere}
-use Rattle.et_history.specs.Holding.{entry_of, exit_of, is_one, monitor_in}
+use Rattle.et_history.specs.Holding.{entry_of, exit_of, is_held_lock, monitor_in}
 
 abbrev pub entered_once : ℕ → Monitor → Monitor
 entered_once t m = record { owner = Some t; count = m.count + 1 }
@@ -23,7 +23,7 @@ left_by_owner t m = if is_owner t m.owner then left_once m else m
 -- the monitor of a lock after an entry and an exit of a thread
 abbrev pub becomes : ℕ → Option Lock → Option Lock → Lock → Monitor → Monitor
 becomes t entry exit lock m =
-    if is_one entry lock then entered_once t m else (if is_one exit lock then left_by_owner t m else m)
+    if is_held_lock entry lock then entered_once t m else (if is_held_lock exit lock then left_by_owner t m else m)
 
 -- So far an event has come to a state, with these monitors entered and left.
 pub record Changes (e : Moment) (entry exit : Option Lock) (after : Kept) : Type 0 where

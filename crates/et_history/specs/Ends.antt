@@ -3,7 +3,7 @@ use Rattle.std.specs.Prelude.{◌≡◌, ℕ, ◌≤◌, Bool, List}
 use Rattle.et_base.specs.declared.value.End.{End}
 use Rattle.et_graph.specs.Graph.{Graph}
 use Rattle.et_state.specs.declared.records.Record.{Record}
-use Rattle.et_state.specs.History.{Setting, IsLast}
+use Rattle.et_state.specs.History.{Setting, IsLastEvent}
 
 module _ {S : Type 0} (reached : Graph → ℕ → Bool) (given : Setting S) (start : S) (made : List Record) where
   -- there is a last event, within the limit, after which the history ends so, and no other
@@ -11,5 +11,5 @@ module _ {S : Type 0} (reached : Graph → ℕ → Bool) (given : Setting S) (st
     pub event : ℕ
     pub end : End
     pub within : event ≤ given.limit
-    pub last : IsLast reached given start made event end
-    pub only : (other : ℕ) (how : End) → IsLast reached given start made other how → (other ≡ event) × (how ≡ end)
+    pub last : IsLastEvent reached given start made event end
+    pub only : (other : ℕ) (how : End) → IsLastEvent reached given start made other how → (other ≡ event) × (how ≡ end)

@@ -39,15 +39,15 @@ module _ (reached : Graph → ℕ → Bool) (p : Linked) (options : Options) (pi
   whole_settled_at e = settled reached (whole_picked p options pick) e (whole_at e)
 
   -- the history goes on after event e
-  abbrev pub GoesOn : ℕ → Type 0
-  GoesOn e = history.ending (picked p options pick) e (settled_at e) ≡ None
+  abbrev pub HistoryGoesOn : ℕ → Type 0
+  HistoryGoesOn e = history.ending (picked p options pick) e (settled_at e) ≡ None
 
   abbrev pub WholeGoesOn : ℕ → Type 0
   WholeGoesOn e = history.ending (whole_picked p options pick) e (whole_settled_at e) ≡ None
 
   -- what the next event is of
   abbrev pub moment_at : ℕ → Moment
-  moment_at e = record { program = p; before = settled_at e; thread = history.turn_of (picked p options pick) (suc e) (settled_at e) }
+  moment_at e = record { program = p; before = settled_at e; thread = history.picked_turn (picked p options pick) (suc e) (settled_at e) }
 
   -- how often thread t holds the monitor after event e
   unfoldable pub times_held : ℕ → Lock → ℕ → ℕ

@@ -11,7 +11,7 @@ use Rattle.et_state.specs.State.{State}
 use Rattle.et_state.specs.declared.options.Options.{Options}
 use Rattle.et_event.specs.Sound.{IsSoundFor}
 use Rattle.et_event.specs.Start.{start_records}
-use Rattle.et_loop.specs.Kept.{IsKept}
+use Rattle.et_loop.specs.Kept.{IsKeptPart}
 use Rattle.et_history.specs.Histories.{picked, state_at, whole_picked, whole_at}
 use Rattle.et_history.specs.Whole.{whole_start}
 
@@ -33,7 +33,7 @@ module _ (reached : Graph → ℕ → Bool) (p : Linked) (options : Options) (pi
     pub sound : IsSoundFor p (whole_at reached p options pick e).kept
     pub clock : (whole_at reached p options pick e).kept.guest.clock ≡ e
     -- its graph is the whole one without the pairs of gone objects
-    pub graphs : IsKept (graph_of (whole_at reached p options pick e).kept) (graph (whole_at reached p options pick e))
+    pub graphs : IsKeptPart (graph_of (whole_at reached p options pick e).kept) (graph (whole_at reached p options pick e))
     pub reached_same : (o : ℕ) →
         reached (graph (whole_at reached p options pick e)) o ≡ reached (graph_of (state_at reached p options pick e)) o
     pub last : (o : ℕ) →

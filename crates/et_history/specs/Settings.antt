@@ -18,8 +18,8 @@ use Rattle.et_event.specs.Sound.{IsSoundFor}
 use Rattle.et_loop.specs.Options.{setting_of}
 
 -- the names of the classes and methods of a program
-abbrev pub names_of : Linked → Names
-names_of p = record {
+abbrev pub names_of_program : Linked → Names
+names_of_program p = record {
   class_count = length p.classes;
   method_count = length p.methods;
   class_name = λ c. (class_at p c).info.name;
@@ -29,15 +29,15 @@ names_of p = record {
 }
 
 -- the threads that have not ended, in order of start
-abbrev pub unended_of : Kept → List ℕ
-unended_of s = threads.unended_of s.guest.threads
+abbrev pub unended_threads : Kept → List ℕ
+unended_threads s = threads.unended_of s.guest.threads
 
 -- a flush takes out what isn't here, and clears what refers to it weakly
 abbrev pub flushed_of : (ℕ → Bool) → Kept → Kept
 flushed_of here s = record { heap = remaining here 0 s.heap; guest = s.guest }
 
 abbrev pub setting : Linked → Options → Setting Kept
-setting p options = setting_of (event p) unended_of graph_of flushed_of (names_of p) options
+setting p options = setting_of (event p) unended_threads graph_of flushed_of (names_of_program p) options
 
 -- the program may be run, and the state is one of its sound ones
 pub record IsSoundRun (p : Linked) (s : Kept) : Type 0 where

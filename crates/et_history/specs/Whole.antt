@@ -13,7 +13,7 @@ use Rattle.et_state.specs.declared.options.Options.{Options}
 use Rattle.et_program.specs.Entries.{Linked}
 use Rattle.et_event.specs.Event.{event}
 use Rattle.et_loop.specs.Options.{setting_of}
-use Rattle.et_history.specs.Settings.{names_of, unended_of, flush_visits_of}
+use Rattle.et_history.specs.Settings.{names_of_program, unended_threads, flush_visits_of}
 
 -- what an event leads to where these objects were reported, which it leaves as they are
 abbrev pub beside : Objects → Outcome Kept → Outcome State
@@ -26,7 +26,7 @@ abbrev pub whole_event : Linked → State → ℕ → Outcome State
 whole_event p s t = beside s.reported (event p s.kept t)
 
 abbrev pub whole_unended : State → List ℕ
-whole_unended s = unended_of s.kept
+whole_unended s = unended_threads s.kept
 
 -- an object that refers weakly to what isn't here refers to nothing
 abbrev pub cleared : (ℕ → Bool) → Option ObjectState → Option ObjectState
@@ -39,7 +39,7 @@ abbrev pub whole_flushed : (ℕ → Bool) → State → State
 whole_flushed here s = record (flushed here s) { reported = map (cleared here) (flushed here s).reported }
 
 abbrev pub whole_setting : Linked → Options → Setting State
-whole_setting p options = setting_of (whole_event p) whole_unended graph whole_flushed (names_of p) options
+whole_setting p options = setting_of (whole_event p) whole_unended graph whole_flushed (names_of_program p) options
 
 -- the first state: nothing was reported
 abbrev pub whole_start : Linked → State

@@ -8,7 +8,7 @@ ghost use Rattle.et_program.specs.Entries.{Linked};
 ghost use Rattle.et_state.specs.State.{Kept};
 ghost use Rattle.et_state.specs.Words.{IsUnended};
 ghost use Rattle.et_state.specs.declared.options.Options.{Options};
-ghost use Rattle.et_state.specs.History.{IsLast};
+ghost use Rattle.et_state.specs.History.{IsLastEvent};
 ghost use Rattle.et_state.specs.Options.{AreOptions};
 ghost use Rattle.et_state.specs.Roots.{graph};
 ghost use Rattle.et_state.specs.Start.{start};
@@ -22,7 +22,7 @@ ghost use Rattle.et_loop.specs.Traced.{WritesTrace, WritesPrefix};
 ghost use Rattle.et_loop.specs.Visits.{allowed_visits, IsCut};
 ghost use Rattle.et_sound.specs.WellFormed.{IsThere};
 ghost use Rattle.et_history.specs.Changing.{KeepsMonitors, LeadsToSound};
-ghost use Rattle.et_history.specs.Histories.{picked, state_at, GoesOn, whole_picked, whole_at, WholeGoesOn, times_held};
+ghost use Rattle.et_history.specs.Histories.{picked, state_at, HistoryGoesOn, whole_picked, whole_at, WholeGoesOn, times_held};
 ghost use Rattle.et_history.specs.Holding.{monitor_in};
 ghost use Rattle.et_history.specs.Same.{IsHere, IsReportedAs, TellsTheSame};
 ghost use Rattle.et_history.specs.Settings.{IsSoundRun, flush_visits_of, setting};
@@ -51,18 +51,18 @@ pub fn events_lead_to_sound_states()
 pub fn monitors_exclude()
     ensures one { (reached : Graph → ℕ → Bool) (p : Linked) (options : Options)
         (pick : ℕ → ℕ) (e : ℕ) (lock : Lock) (t u : ℕ) → Decides reached → IsSoundRun p (start p) →
-        AreOptions options → ((k : ℕ) → k < e → GoesOn reached p options pick k) →
+        AreOptions options → ((k : ℕ) → k < e → HistoryGoesOn reached p options pick k) →
         0 < times_held reached p options pick t lock e →
         0 < times_held reached p options pick u lock e → t ≡ u }
     ensures owner { (reached : Graph → ℕ → Bool) (p : Linked) (options : Options)
         (pick : ℕ → ℕ) (e : ℕ) (lock : Lock) (t : ℕ) → Decides reached → IsSoundRun p (start p) →
-        AreOptions options → ((k : ℕ) → k < e → GoesOn reached p options pick k) →
+        AreOptions options → ((k : ℕ) → k < e → HistoryGoesOn reached p options pick k) →
         IsThere (state_at reached p options pick e) lock →
         ((monitor_in (state_at reached p options pick e) lock).owner ≡ Some t)
         ↔ (0 < times_held reached p options pick t lock e) }
     ensures count { (reached : Graph → ℕ → Bool) (p : Linked) (options : Options)
         (pick : ℕ → ℕ) (e : ℕ) (lock : Lock) (t : ℕ) → Decides reached → IsSoundRun p (start p) →
-        AreOptions options → ((k : ℕ) → k < e → GoesOn reached p options pick k) →
+        AreOptions options → ((k : ℕ) → k < e → HistoryGoesOn reached p options pick k) →
         IsThere (state_at reached p options pick e) lock →
         (monitor_in (state_at reached p options pick e) lock).owner ≡ Some t →
         (monitor_in (state_at reached p options pick e) lock).count
@@ -102,13 +102,13 @@ pub fn nothing_is_freed()
 pub fn histories_tell_the_same()
     ensures same { (reached : Graph → ℕ → Bool) (p : Linked) (options : Options)
         (pick : ℕ → ℕ) (e : ℕ) → Decides reached → IsSoundRun p (start p) → AreOptions options →
-        ((k : ℕ) → k < e → GoesOn reached p options pick k) →
+        ((k : ℕ) → k < e → HistoryGoesOn reached p options pick k) →
         TellsTheSame reached p options pick e }
     ensures ends { (reached : Graph → ℕ → Bool) (p : Linked) (options : Options)
         (pick : ℕ → ℕ) (e : ℕ) (end : End) → Decides reached → IsSoundRun p (start p) →
         AreOptions options →
-        IsLast reached (picked p options pick) (start p) (start_records p) e end
-        ↔ IsLast reached (whole_picked p options pick) (whole_start p) (start_records p) e end }
+        IsLastEvent reached (picked p options pick) (start p) (start_records p) e end
+        ↔ IsLastEvent reached (whole_picked p options pick) (whole_start p) (start_records p) e end }
 {}
 
 /// So a trace of one history is a trace of the other, and a prefix of it is too. A run may make as many visits of objects, up
@@ -128,7 +128,7 @@ pub fn traces_are_the_same()
         before after }
     ensures visits { (reached : Graph → ℕ → Bool) (p : Linked) (options : Options)
         (e : ℕ) (end : End) → Decides reached → IsSoundRun p (start p) → AreOptions options →
-        IsLast reached (setting p options) (start p) (start_records p) e end →
+        IsLastEvent reached (setting p options) (start p) (start_records p) e end →
         allowed_visits reached (setting p options) flush_visits_of (start p) (start_records p) e
         ≡ allowed_visits reached (whole_setting p options) whole_visits_of (whole_start p)
         (start_records p) e }

@@ -15,7 +15,7 @@ ghost use Rattle.et_event.specs.Monitors.{Lock};
 ghost use Rattle.et_event.specs.Start.{start_records};
 ghost use Rattle.et_sound.specs.WellFormed.{IsThere};
 ghost use Rattle.et_history.specs.Ends.{HasOneEnd};
-ghost use Rattle.et_history.specs.Histories.{state_at, GoesOn, whole_picked, whole_at, WholeGoesOn, times_held};
+ghost use Rattle.et_history.specs.Histories.{state_at, HistoryGoesOn, whole_picked, whole_at, WholeGoesOn, times_held};
 ghost use Rattle.et_history.specs.Holding.{monitor_in};
 ghost use Rattle.et_history.specs.Same.{IsHere, IsReportedAs};
 ghost use Rattle.et_history.specs.Settings.{IsSoundRun};
@@ -39,20 +39,20 @@ pub fn linked_monitors_exclude()
     ensures one { (reached : Graph → ℕ → Bool) (p : Linked) (options : Options)
         (pick : ℕ → ℕ) (e : ℕ) (lock : Lock) (t u : ℕ) →
         Decides reached → IsTabled p → IsLinked p →
-        AreOptions options → ((k : ℕ) → k < e → GoesOn reached p options pick k) →
+        AreOptions options → ((k : ℕ) → k < e → HistoryGoesOn reached p options pick k) →
         0 < times_held reached p options pick t lock e →
         0 < times_held reached p options pick u lock e → t ≡ u }
     ensures owner { (reached : Graph → ℕ → Bool) (p : Linked) (options : Options)
         (pick : ℕ → ℕ) (e : ℕ) (lock : Lock) (t : ℕ) →
         Decides reached → IsTabled p → IsLinked p →
-        AreOptions options → ((k : ℕ) → k < e → GoesOn reached p options pick k) →
+        AreOptions options → ((k : ℕ) → k < e → HistoryGoesOn reached p options pick k) →
         IsThere (state_at reached p options pick e) lock →
         ((monitor_in (state_at reached p options pick e) lock).owner ≡ Some t)
         ↔ (0 < times_held reached p options pick t lock e) }
     ensures count { (reached : Graph → ℕ → Bool) (p : Linked) (options : Options)
         (pick : ℕ → ℕ) (e : ℕ) (lock : Lock) (t : ℕ) →
         Decides reached → IsTabled p → IsLinked p →
-        AreOptions options → ((k : ℕ) → k < e → GoesOn reached p options pick k) →
+        AreOptions options → ((k : ℕ) → k < e → HistoryGoesOn reached p options pick k) →
         IsThere (state_at reached p options pick e) lock →
         (monitor_in (state_at reached p options pick e) lock).owner ≡ Some t →
         (monitor_in (state_at reached p options pick e) lock).count

@@ -18,13 +18,13 @@ use Rattle.et_state.specs.declared.ends.EventEnd.TheVariants as ends
 use Rattle.et_state.specs.Outcome.{Outcome, Goes, ObjectLimit}
 use Rattle.et_event.specs.declared.errors.GuestError.TheVariants.{StackOverflowError}
 use Rattle.et_event.specs.Checks.{throws_unless}
-use Rattle.et_event.specs.Moments.{Moment, moment, Doing, begins, fits, ends as ending, throws}
+use Rattle.et_event.specs.Moments.{Moment, moment, Doing, begins, fits_heap, ends_event as ending, throws}
 use Rattle.et_event.specs.Answered.{EventAnswers}
 use Rattle.et_event.specs.Sound.{IsSoundFor}
 use Rattle.et_event.specs.Initialization.{with_state, constants_set, begun_by, begins_class, initializer_frame}
 use Rattle.et_parts.proofs.Throwing.{ends_fit, ends_full}
 use Rattle.et_event.specs.InitializationOrder.{IsInOrder}
-use Rattle.et_initialize.specs.Under.{so_far, with_kept, ComesTo, IsReady, HasMadeStrings}
+use Rattle.et_initialize.specs.Under.{so_far, with_kept, InitializesTo, IsInitializing, HasMadeStrings}
 use Rattle.et_initialize.proofs.Setting.{follows_each}
 use Rattle.et_initialize.proofs.Running.{marked}
 use Rattle.et_initialize.proofs.Legal.{made_none, ready_first, made_constants}
@@ -50,24 +50,24 @@ strings_led s k m w e grown roots = led s k m w (λ o c.
 
 -- A CLASS BEGINS
 
-pub begin_ready : (p : Linked) (m m₁ : MachineState) → IsSoundFor p (kept_of m) → m₁ ≡ begun m → IsReady p (kept_of m₁)
-begin_ready p m m₁ sound e = subst (λ (n : MachineState). IsReady p (kept_of n)) (sym e) (ready_first p (kept_of m) sound)
+pub begin_ready : (p : Linked) (m m₁ : MachineState) → IsSoundFor p (kept_of m) → m₁ ≡ begun m → IsInitializing p (kept_of m₁)
+begin_ready p m m₁ sound e = subst (λ (n : MachineState). IsInitializing p (kept_of n)) (sym e) (ready_first p (kept_of m) sound)
 
 pub begin_lost : (m m₁ : MachineState) → m₁ ≡ begun m → length m₁.lost < lost_room
 begin_lost m m₁ e = subst (λ (n : MachineState). length n.lost < lost_room) (sym e) (lit< tt)
 
 -- what the constants come to, with the records that were there
-began : (p : Linked) (t c : ℕ) (m m₂ m₃ : MachineState) (out out' : List Record) → m₂ ≡ marked (begun m) c (Begun t) → ComesTo (constants_set (moment p m₂ t) c (so_far m₂ out)) m₂ m₃ out'
-    → ComesTo (behind out (constants_set (moment p m t) c (with_state c (Begun t) (begins (moment p m t))))) (begun m) m₃ out'
+began : (p : Linked) (t c : ℕ) (m m₂ m₃ : MachineState) (out out' : List Record) → m₂ ≡ marked (begun m) c (Begun t) → InitializesTo (constants_set (moment p m₂ t) c (so_far m₂ out)) m₂ m₃ out'
+    → InitializesTo (behind out (constants_set (moment p m t) c (with_state c (Begun t) (begins (moment p m t))))) (begun m) m₃ out'
 began p t c m m₂ m₃ out out' e h =
     let q = moment p m t in
     let y = with_state c (Begun t) (begins q) in
     let n = marked (begun m) c (Begun t) in
-    let a : ComesTo (constants_set (moment p n t) c (so_far n out)) n m₃ out' = subst (λ (x : MachineState). ComesTo (constants_set (moment p x t) c (so_far x out)) x m₃ out') e h in
-    let b : ComesTo (constants_set q c (behind out y)) n m₃ out' = subst (λ (r : List Record). ComesTo (constants_set q c (record { state = y.state; records = r })) n m₃ out') (sym (append-nil out)) a in
-    subst (λ (x : Doing). ComesTo x n m₃ out') (behind_constants out q c y) b
+    let a : InitializesTo (constants_set (moment p n t) c (so_far n out)) n m₃ out' = subst (λ (x : MachineState). InitializesTo (constants_set (moment p x t) c (so_far x out)) x m₃ out') e h in
+    let b : InitializesTo (constants_set q c (behind out y)) n m₃ out' = subst (λ (r : List Record). InitializesTo (constants_set q c (record { state = y.state; records = r })) n m₃ out') (sym (append-nil out)) a in
+    subst (λ (x : Doing). InitializesTo x n m₃ out') (behind_constants out q c y) b
 
-pub begin_few : (p : Linked) (t c : ℕ) (m m₂ m₃ : MachineState) (out out' : List Record) → m₂ ≡ marked (begun m) c (Begun t) → ComesTo (constants_set (moment p m₂ t) c (so_far m₂ out)) m₂ m₃ out'
+pub begin_few : (p : Linked) (t c : ℕ) (m m₂ m₃ : MachineState) (out out' : List Record) → m₂ ≡ marked (begun m) c (Begun t) → InitializesTo (constants_set (moment p m₂ t) c (so_far m₂ out)) m₂ m₃ out'
     → m₃.guest.threads ≡ m.guest.threads
 begin_few p t c m m₂ m₃ out out' e h =
     let q = moment p m t in
@@ -75,7 +75,7 @@ begin_few p t c m m₂ m₃ out out' e h =
     ap (λ (x : MachineState). x.guest.threads) (began p t c m m₂ m₃ out out' e h).0 ∙ (follows_each q (class_at p c).info.constants y).threads
 
 pub begin_led : (p : Linked) (t c : ℕ) (m m₂ m₃ m₄ : MachineState) (out out' : List Record) (f : FrameState) → IsInOrder p → c < length p.classes → IsSoundFor p (kept_of m) → t < length m.guest.threads → class_state_at m.guest c ≡ Untouched
-    → m₂ ≡ marked (begun m) c (Begun t) → ComesTo (constants_set (moment p m₂ t) c (so_far m₂ out)) m₂ m₃ out' → f ≡ initializer_frame c → m₄ ≡ steps_thread m₃ t (entered_by f (thread_at m₃.guest t)) []
+    → m₂ ≡ marked (begun m) c (Begun t) → InitializesTo (constants_set (moment p m₂ t) c (so_far m₂ out)) m₂ m₃ out' → f ≡ initializer_frame c → m₄ ≡ steps_thread m₃ t (entered_by f (thread_at m₃.guest t)) []
     → Led (kept_of m) (begun_by (moment p m t) c (begins (moment p m t))).state m₄
 begin_led p t c m m₂ m₃ m₄ out out' f has lt sound thread un e₂ h new e₄ =
     let q = moment p m t in
@@ -92,7 +92,7 @@ begin_led p t c m m₂ m₃ m₄ out out' f has lt sound thread un e₂ h new e�
     let k : Kept = (begun_by q c d).state in
     strings_led s k m₄ (subst (λ (z : MachineState). IsOnWay s z) (sym is) way) (ap (λ (z : MachineState). kept_of z) is) made.grown (λ o low high. string_root k.guest o (made.made o low high))
 
-pub begin_records : (p : Linked) (t c : ℕ) (m m₂ m₃ : MachineState) (out out' : List Record) → m₂ ≡ marked (begun m) c (Begun t) → ComesTo (constants_set (moment p m₂ t) c (so_far m₂ out)) m₂ m₃ out'
+pub begin_records : (p : Linked) (t c : ℕ) (m m₂ m₃ : MachineState) (out out' : List Record) → m₂ ≡ marked (begun m) c (Begun t) → InitializesTo (constants_set (moment p m₂ t) c (so_far m₂ out)) m₂ m₃ out'
     → out' ≡ out ++ (begun_by (moment p m t) c (begins (moment p m t))).records
 begin_records p t c m m₂ m₃ out out' e h = (began p t c m m₂ m₃ out out' e h).1
 
@@ -105,7 +105,7 @@ pub begin_overflows : (e : Moment) (c : ℕ) (d : Doing) → most_frames ≤ len
 begin_overflows e c d le = ap (λ (b : Bool). throws_unless e d StackOverflowError b (ending (begun_by e c d))) (le-ltb (length (thread_at d.state.guest e.thread).frames) most_frames le)
 
 pub begin_done : (p : Linked) (t c : ℕ) (m m' : MachineState) (out out' : List Record) → length (thread_at m.guest t).frames < most_frames
-    → fits (constants_set (moment p m t) c (with_state c (Begun t) (begins (moment p m t)))).state.heap ≡ true → Led (kept_of m) (begun_by (moment p m t) c (begins (moment p m t))).state m' → out' ≡ out ++ (begun_by (moment p m t) c (begins (moment p m t))).records
+    → fits_heap (constants_set (moment p m t) c (with_state c (Begun t) (begins (moment p m t)))).state.heap ≡ true → Led (kept_of m) (begun_by (moment p m t) c (begins (moment p m t))).state m' → out' ≡ out ++ (begun_by (moment p m t) c (begins (moment p m t))).records
     → EventAnswers (begins_class (moment p m t) c (begins (moment p m t))) ends.Done m m' out out'
 begin_done p t c m m' out out' lt fit led records =
     let e = moment p m t in
@@ -113,7 +113,7 @@ begin_done p t c m m' out out' lt fit led records =
     subst (λ (x : Outcome Kept). EventAnswers x ends.Done m m' out out') (sym is) (led, records)
 
 pub begin_full : (p : Linked) (t c : ℕ) (m : MachineState) (out : List Record) → length (thread_at m.guest t).frames < most_frames
-    → fits (constants_set (moment p m t) c (with_state c (Begun t) (begins (moment p m t)))).state.heap ≡ false
+    → fits_heap (constants_set (moment p m t) c (with_state c (Begun t) (begins (moment p m t)))).state.heap ≡ false
     → EventAnswers (begins_class (moment p m t) c (begins (moment p m t))) ends.ObjectLimit m m out out
 begin_full p t c m out lt fit =
     let e = moment p m t in
@@ -125,12 +125,12 @@ begin_full p t c m out lt fit =
 pub begin_marked : (c t : ℕ) (m m₁ m₂ : MachineState) → m₁ ≡ begun m → m₂ ≡ marked m₁ c (Begun t) → m₂ ≡ marked (begun m) c (Begun t)
 begin_marked c t m m₁ m₂ e₁ e₂ = e₂ ∙ ap (λ (n : MachineState). marked n c (Begun t)) e₁
 
-pub begin_fits : (p : Linked) (t c : ℕ) (m m₂ : MachineState) (out : List Record) → m₂ ≡ marked (begun m) c (Begun t) → fits (constants_set (moment p m t) c (with_state c (Begun t) (begins (moment p m t)))).state.heap ≡ true
-    → fits (constants_set (moment p m₂ t) c (so_far m₂ out)).state.heap ≡ true
+pub begin_fits : (p : Linked) (t c : ℕ) (m m₂ : MachineState) (out : List Record) → m₂ ≡ marked (begun m) c (Begun t) → fits_heap (constants_set (moment p m t) c (with_state c (Begun t) (begins (moment p m t)))).state.heap ≡ true
+    → fits_heap (constants_set (moment p m₂ t) c (so_far m₂ out)).state.heap ≡ true
 begin_fits p t c m m₂ out e fit =
     let q = moment p m t in
     let y = with_state c (Begun t) (begins q) in
     let n = marked (begun m) c (Begun t) in
-    let one : fits (constants_set q c (behind out y)).state.heap ≡ true = ap (λ (x : Doing). fits x.state.heap) (behind_constants out q c y) ∙ fit in
-    let two : fits (constants_set (moment p n t) c (so_far n out)).state.heap ≡ true = subst (λ (r : List Record). fits (constants_set q c (record { state = y.state; records = r })).state.heap ≡ true) (append-nil out) one in
-    ap (λ (x : MachineState). fits (constants_set (moment p x t) c (so_far x out)).state.heap) e ∙ two
+    let one : fits_heap (constants_set q c (behind out y)).state.heap ≡ true = ap (λ (x : Doing). fits_heap x.state.heap) (behind_constants out q c y) ∙ fit in
+    let two : fits_heap (constants_set (moment p n t) c (so_far n out)).state.heap ≡ true = subst (λ (r : List Record). fits_heap (constants_set q c (record { state = y.state; records = r })).state.heap ≡ true) (append-nil out) one in
+    ap (λ (x : MachineState). fits_heap (constants_set (moment p x t) c (so_far x out)).state.heap) e ∙ two

@@ -27,11 +27,11 @@ use Rattle.et_program.specs.Entries.{Linked, class_at, field_at}
 use Rattle.et_program.specs.declared.info.FieldInfo.{FieldInfo}
 use Rattle.et_event.specs.Errors.{class_called}
 use Rattle.et_event.specs.Kinds.{narrowed}
-use Rattle.et_event.specs.Moments.{Moment, moment, Doing, begins, fits, static_written}
-use Rattle.et_event.specs.Sites.{LoadedConstant, AnInt, ALong, AString, pool_of}
+use Rattle.et_event.specs.Moments.{Moment, moment, Doing, begins, fits_heap, static_written}
+use Rattle.et_event.specs.Sites.{LoadedConstant, AnInt, ALong, AString, pool_of_class}
 use Rattle.et_event.specs.Strings.{interned, string_object}
 use Rattle.et_event.specs.Initialization.{state_of, with_state, constant_set, field_set, constants_set, class_done}
-use Rattle.et_initialize.specs.Texts.{text_of, has_text, string_slots, has_room_for, is_known, Counted, AreKnown, BecameDone, CountedAll}
+use Rattle.et_initialize.specs.Texts.{constant_text, has_text, string_slots, has_room_for, is_text_known, Counted, AreKnown, BecameDone, CountedAll}
 use Rattle.et_initialize.proofs.Strings.{Strings, making, makes, has_made, by_interned}
 use Rattle.et_initialize.proofs.Setting.{written_state, follows_each, state_changed, state_set, done_step}
 
@@ -76,9 +76,9 @@ string_constant pool bytes (Some (Name tag index)) h = ap (λ (o : Option (List 
 string_constant pool bytes (Some (Pair tag first second)) h = absurd (none_some bytes h)
 string_constant pool bytes (Some (Handle kind index)) h = absurd (none_some bytes h)
 
-pub string_set : (e : Moment) (d : Doing) (f : ℕ) (bytes : List ℕ) → text_of e.program f ≡ Some bytes → field_set e d f ≡ constant_set e (field_at e.program f) (Some (AString bytes)) d
+pub string_set : (e : Moment) (d : Doing) (f : ℕ) (bytes : List ℕ) → constant_text e.program f ≡ Some bytes → field_set e d f ≡ constant_set e (field_at e.program f) (Some (AString bytes)) d
 string_set e d f bytes text =
-    let pool = pool_of e.program (field_at e.program f).class in
+    let pool = pool_of_class e.program (field_at e.program f).class in
     ap (λ (k : Option LoadedConstant). constant_set e (field_at e.program f) k d) (string_constant pool bytes (slot_at pool (field_at e.program f).constant) text)
 
 alike_int : (e : Moment) (f : FieldInfo) (d : Doing) (b : Bool) (n : ℤ) → Alike d (constant_set e f (option_or (option_map AnInt (if b then Some n else None)) None) d)
@@ -98,9 +98,9 @@ no_string e f d pool (Some (Name tag index)) h = subst (λ (o : Option (List ℕ
 no_string e f d pool (Some (Pair tag first second)) h = alike_none d
 no_string e f d pool (Some (Handle kind index)) h = alike_none d
 
-pub alike_number : (e : Moment) (d : Doing) (f : ℕ) → text_of e.program f ≡ None → Alike d (field_set e d f)
+pub alike_number : (e : Moment) (d : Doing) (f : ℕ) → constant_text e.program f ≡ None → Alike d (field_set e d f)
 alike_number e d f none =
-    let pool = pool_of e.program (field_at e.program f).class in
+    let pool = pool_of_class e.program (field_at e.program f).class in
     no_string e (field_at e.program f) d pool (slot_at pool (field_at e.program f).constant) none
 
 -- A STRING
@@ -130,21 +130,21 @@ is_some_of (Some x) e = (x, refl)
 is_some_of None e = cc
 
 -- a string that is known is not made
-pub alike_known : (e : Moment) (bytes : List ℕ) (d : Doing) → is_known d bytes ≡ true → Alike d (interned e bytes d)
+pub alike_known : (e : Moment) (bytes : List ℕ) (d : Doing) → is_text_known d bytes ≡ true → Alike d (interned e bytes d)
 alike_known e bytes d h =
     let o = is_some_of (object_of d.state.guest.interned bytes) h in
     subst (λ (x : Doing). Alike d x) (sym (has_made e bytes d o.0 o.1)) (alike_none d)
 
-pub alike_field : (e : Moment) (d : Doing) (f : ℕ) (bytes : List ℕ) → text_of e.program f ≡ Some bytes → Alike (interned e bytes d) (field_set e d f)
+pub alike_field : (e : Moment) (d : Doing) (f : ℕ) (bytes : List ℕ) → constant_text e.program f ≡ Some bytes → Alike (interned e bytes d) (field_set e d f)
 alike_field e d f bytes text =
     let x = interned e bytes d in
     subst (λ (y : Doing). Alike x y) (sym (string_set e d f bytes text)) (alike_written e (field_at e.program f).slot (Ref (string_object bytes x)) x)
 
 -- .. and one that isn't is one object more
-one_seen : (p : Linked) (t : List ℕ) (f : ℕ) (bytes : List ℕ) → text_of p f ≡ Some bytes → list_any (has_text p t) (f ∷ []) ≡ bytes_eq t bytes
+one_seen : (p : Linked) (t : List ℕ) (f : ℕ) (bytes : List ℕ) → constant_text p f ≡ Some bytes → list_any (has_text p t) (f ∷ []) ≡ bytes_eq t bytes
 one_seen p t f bytes text = or-false (has_text p t f) ∙ ap (λ (o : Option (List ℕ)). option_map_or (bytes_eq t) o false) text
 
-counted_making : (m : MachineState) (seen : List ℕ) (f : ℕ) (bytes : List ℕ) (e : Moment) (d : Doing) → text_of e.program f ≡ Some bytes → Counted e.program m seen d → Counted e.program m (seen ++ f ∷ []) (making e bytes d)
+counted_making : (m : MachineState) (seen : List ℕ) (f : ℕ) (bytes : List ℕ) (e : Moment) (d : Doing) → constant_text e.program f ≡ Some bytes → Counted e.program m seen d → Counted e.program m (seen ++ f ∷ []) (making e bytes d)
 counted_making m seen f bytes e d text c =
     let n : ℕ = string_slots e.program in
     let y : Option ObjectState = Some (new_object (class_called e.program (codes "java/lang/String")) 0 n) in
@@ -158,7 +158,7 @@ counted_making m seen f bytes e d text c =
     let product : (length seen + 1) * n ≡ length seen * n + n = ap (λ (k : ℕ). k * n) (add-one (length seen)) ∙ suc-mul (length seen) n in
     record {
       known = λ t. pushed_known d.state.guest.interned bytes t (length d.state.heap)
-          ∙ (or_more (is_known d t) (is_some (object_of m.guest.interned t)) (list_any (has_text e.program t) seen) (bytes_eq t bytes) (c.known t)
+          ∙ (or_more (is_text_known d t) (is_some (object_of m.guest.interned t)) (list_any (has_text e.program t) seen) (bytes_eq t bytes) (c.known t)
           ∙ ap (λ (b : Bool). is_some (object_of m.guest.interned t) || b) (sym (list_any-append (has_text e.program t) seen (f ∷ []) ∙ ap (λ (b : Bool). list_any (has_text e.program t) seen || b) (one_seen e.program t f bytes text))));
       objects = omega (arith, long, more, before);
       slots = sum ∙ (ap (λ (k : ℕ). slot_count d.state.heap + k) last ∙ (ap (λ (k : ℕ). k + n) had ∙ (add_assoc (slot_count m.heap) (length seen * n) n ∙ ap (λ (k : ℕ). slot_count m.heap + k) (sym product ∙ ap (λ (k : ℕ). k * n) (sym more)))));
@@ -166,15 +166,15 @@ counted_making m seen f bytes e d text c =
 
 -- A FIELD
 
-pub counted_number : (m : MachineState) (seen : List ℕ) (e : Moment) (d : Doing) (f : ℕ) → text_of e.program f ≡ None → Counted e.program m seen d → Counted e.program m seen (field_set e d f)
+pub counted_number : (m : MachineState) (seen : List ℕ) (e : Moment) (d : Doing) (f : ℕ) → constant_text e.program f ≡ None → Counted e.program m seen d → Counted e.program m seen (field_set e d f)
 counted_number m seen e d f none c = counted_alike e.program m seen d (field_set e d f) (alike_number e d f none) c
 
-pub counted_old : (m : MachineState) (seen : List ℕ) (e : Moment) (d : Doing) (f : ℕ) (bytes : List ℕ) → text_of e.program f ≡ Some bytes → (is_some (object_of m.guest.interned bytes) || list_any (has_text e.program bytes) seen) ≡ true
+pub counted_old : (m : MachineState) (seen : List ℕ) (e : Moment) (d : Doing) (f : ℕ) (bytes : List ℕ) → constant_text e.program f ≡ Some bytes → (is_some (object_of m.guest.interned bytes) || list_any (has_text e.program bytes) seen) ≡ true
     → Counted e.program m seen d → Counted e.program m seen (field_set e d f)
 counted_old m seen e d f bytes text old c =
     counted_alike e.program m seen d (field_set e d f) (alike_then d (interned e bytes d) (field_set e d f) (alike_known e bytes d (c.known bytes ∙ old)) (alike_field e d f bytes text)) c
 
-pub counted_new : (m : MachineState) (seen : List ℕ) (e : Moment) (d : Doing) (f : ℕ) (bytes : List ℕ) → text_of e.program f ≡ Some bytes → (is_some (object_of m.guest.interned bytes) || list_any (has_text e.program bytes) seen) ≡ false
+pub counted_new : (m : MachineState) (seen : List ℕ) (e : Moment) (d : Doing) (f : ℕ) (bytes : List ℕ) → constant_text e.program f ≡ Some bytes → (is_some (object_of m.guest.interned bytes) || list_any (has_text e.program bytes) seen) ≡ false
     → Counted e.program m seen d → Counted e.program m (seen ++ f ∷ []) (field_set e d f)
 counted_new m seen e d f bytes text new c =
     let made : interned e bytes d ≡ making e bytes d = makes e bytes d (is_none (object_of d.state.guest.interned bytes) (c.known bytes ∙ new)) in
@@ -183,15 +183,15 @@ counted_new m seen e d f bytes text new c =
 
 -- A CLASS
 
-known_alike : (t : List ℕ) (d d' : Doing) → Alike d d' → is_known d t ≡ true → is_known d' t ≡ true
+known_alike : (t : List ℕ) (d d' : Doing) → Alike d d' → is_text_known d t ≡ true → is_text_known d' t ≡ true
 known_alike t d d' a h = ap (λ (es : Strings). is_some (object_of es t)) a.strings ∙ h
 
 or_left : (a b : Bool) → a ≡ true → (a || b) ≡ true
 or_left a b e = ap (λ (x : Bool). x || b) e
 
-known_interned : (e : Moment) (bytes t : List ℕ) (d : Doing) → is_known d t ≡ true → is_known (interned e bytes d) t ≡ true
-known_interned e bytes t d h = by_interned (λ (x : Doing). is_known x t ≡ true) e bytes d
-    (λ none. pushed_known d.state.guest.interned bytes t (length d.state.heap) ∙ or_left (is_known d t) (bytes_eq t bytes) h) (λ o some. h)
+known_interned : (e : Moment) (bytes t : List ℕ) (d : Doing) → is_text_known d t ≡ true → is_text_known (interned e bytes d) t ≡ true
+known_interned e bytes t d h = by_interned (λ (x : Doing). is_text_known x t ≡ true) e bytes d
+    (λ none. pushed_known d.state.guest.interned bytes t (length d.state.heap) ∙ or_left (is_text_known d t) (bytes_eq t bytes) h) (λ o some. h)
 
 same_bytes : (bs : List ℕ) → bytes_eq bs bs ≡ true
 same_bytes bs = (bytes_eq-Decides bs bs).1 refl
@@ -200,24 +200,24 @@ or_right : (a : Bool) → (a || true) ≡ true
 or_right true = refl
 or_right false = refl
 
-now_known : (e : Moment) (bytes : List ℕ) (d : Doing) → is_known (interned e bytes d) bytes ≡ true
-now_known e bytes d = by_interned (λ (x : Doing). is_known x bytes ≡ true) e bytes d
-    (λ none. pushed_known d.state.guest.interned bytes bytes (length d.state.heap) ∙ (ap (λ (b : Bool). is_known d bytes || b) (same_bytes bytes) ∙ or_right (is_known d bytes)))
+now_known : (e : Moment) (bytes : List ℕ) (d : Doing) → is_text_known (interned e bytes d) bytes ≡ true
+now_known e bytes d = by_interned (λ (x : Doing). is_text_known x bytes ≡ true) e bytes d
+    (λ none. pushed_known d.state.guest.interned bytes bytes (length d.state.heap) ∙ (ap (λ (b : Bool). is_text_known d bytes || b) (same_bytes bytes) ∙ or_right (is_text_known d bytes)))
     (λ o some. ap (λ (r : Option ℕ). is_some r) some)
 
 -- by whether the constant is a string
-by_text : (P : Type 0) (p : Linked) (f : ℕ) → (text_of p f ≡ None → P) → ((bytes : List ℕ) → text_of p f ≡ Some bytes → P) → P
-by_text P p f none some = case (text_of p f) refl
+by_text : (P : Type 0) (p : Linked) (f : ℕ) → (constant_text p f ≡ None → P) → ((bytes : List ℕ) → constant_text p f ≡ Some bytes → P) → P
+by_text P p f none some = case (constant_text p f) refl
   where
-    case : (o : Option (List ℕ)) → text_of p f ≡ o → P
+    case : (o : Option (List ℕ)) → constant_text p f ≡ o → P
     case None h = none h
     case (Some bytes) h = some bytes h
 
-known_field : (e : Moment) (t : List ℕ) (d : Doing) (f : ℕ) → is_known d t ≡ true → is_known (field_set e d f) t ≡ true
-known_field e t d f h = by_text (is_known (field_set e d f) t ≡ true) e.program f (λ none. known_alike t d (field_set e d f) (alike_number e d f none) h)
+known_field : (e : Moment) (t : List ℕ) (d : Doing) (f : ℕ) → is_text_known d t ≡ true → is_text_known (field_set e d f) t ≡ true
+known_field e t d f h = by_text (is_text_known (field_set e d f) t ≡ true) e.program f (λ none. known_alike t d (field_set e d f) (alike_number e d f none) h)
     (λ bytes text. known_alike t (interned e bytes d) (field_set e d f) (alike_field e d f bytes text) (known_interned e bytes t d h))
 
-known_fields : (e : Moment) (t : List ℕ) (fs : List ℕ) (d : Doing) → is_known d t ≡ true → is_known (fold (field_set e) d fs) t ≡ true
+known_fields : (e : Moment) (t : List ℕ) (fs : List ℕ) (d : Doing) → is_text_known d t ≡ true → is_text_known (fold (field_set e) d fs) t ≡ true
 known_fields e t [] d h = h
 known_fields e t (f ∷ fs) d h = known_fields e t fs (field_set e d f) (known_field e t d f h)
 
@@ -323,7 +323,7 @@ on_ok (Ok a) f h = f h
 on_ok (Err e) f h = tt
 
 -- nothing besides
-pub room_fits : (heap : Objects) → has_room heap 0 0 ≡ fits heap
+pub room_fits : (heap : Objects) → has_room heap 0 0 ≡ fits_heap heap
 room_fits heap = ap (λ (n : ℕ). leb n most_objects && leb (slot_count heap + 0) most_slots) (add-zero (made_count heap)) ∙ ap (λ (n : ℕ). leb (made_count heap) most_objects && leb n most_slots) (add-zero (slot_count heap))
 
 -- .. of a class that is marked

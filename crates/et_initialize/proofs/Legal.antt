@@ -13,7 +13,7 @@ use Rattle.et_heap.proofs.HeapLists.{held_within}
 use Rattle.et_state.specs.declared.class_state.ClassState.{ClassState}
 use Rattle.et_state.specs.declared.class_state.ClassState.TheVariants.{Untouched, Begun, Done, Failed}
 use Rattle.et_state.specs.State.{GuestState, Kept}
-use Rattle.et_state.specs.Interned.{objects_of}
+use Rattle.et_state.specs.Interned.{interned_objects}
 use Rattle.et_state.specs.Words.{static_at, with_static, with_string, class_state_at}
 use Rattle.et_state.specs.Roots.{roots_of}
 use Rattle.et_state.specs.Moves.{WasThere, IsUnderWay}
@@ -25,12 +25,12 @@ use Rattle.et_program.specs.Entries.{Linked, class_at, field_at}
 use Rattle.et_program.specs.declared.info.FieldInfo.{FieldInfo}
 use Rattle.et_event.specs.Kinds.{narrowed}
 use Rattle.et_event.specs.Moments.{Moment, Doing, static_written, later}
-use Rattle.et_event.specs.Sites.{LoadedConstant, AnInt, ALong, AString, constant_at, pool_of}
+use Rattle.et_event.specs.Sites.{LoadedConstant, AnInt, ALong, AString, constant_at, pool_of_class}
 use Rattle.et_event.specs.Sound.{IsSoundFor}
 use Rattle.et_event.specs.Strings.{interned, string_object}
 use Rattle.et_event.specs.Initialization.{state_of, with_state, constant_set, field_set, constants_set, class_done, quietly_done}
 use Rattle.et_event.specs.InitializationOrder.{IsStaticOf, HasConstants, IsInOrder}
-use Rattle.et_initialize.specs.Under.{IsReady, HasMadeStrings}
+use Rattle.et_initialize.specs.Under.{IsInitializing, HasMadeStrings}
 use Rattle.et_initialize.proofs.Strings.{by_interned, object_listed}
 use Rattle.et_initialize.proofs.Setting.{written_state, follows_field, slot_class, apart_slots, unset_marked, done_step, ready_done, ready_order, threads_order, monitors_order}
 
@@ -41,7 +41,7 @@ nothing_more s k lost l e w = subst (λ (os : List ℕ). IsUnderWay s k os) (app
 pub made_none : (s : Kept) → IsSound s → HasMadeStrings s (later s) []
 made_none s sound = record { way = start s sound; roots = λ o c. inl c; made = λ o low high. absurd (omega arith); grown = omega arith }
 
-pub ready_first : (p : Linked) (s : Kept) → IsSoundFor p s → IsReady p (later s)
+pub ready_first : (p : Linked) (s : Kept) → IsSoundFor p s → IsInitializing p (later s)
 ready_first p s sound = record {
   classes = sound.classes.0;
   statics = sound.statics.0;
@@ -50,7 +50,7 @@ ready_first p s sound = record {
 }
 
 -- A STATIC FIELD that holds nothing gets a value, which refers to nothing but the string of a constant
-pub made_static : (s k : Kept) (lost : List ℕ) (i : ℕ) (v : Value) → i < length k.guest.statics → static_at k.guest i ≡ Unset → ((o : ℕ) → Contains (refs_of_value v) o → Contains (objects_of k.guest.interned) o)
+pub made_static : (s k : Kept) (lost : List ℕ) (i : ℕ) (v : Value) → i < length k.guest.statics → static_at k.guest i ≡ Unset → ((o : ℕ) → Contains (refs_of_value v) o → Contains (interned_objects k.guest.interned) o)
     → HasMadeStrings s k lost → HasMadeStrings s (record { heap = k.heap; guest = with_static k.guest i v }) lost
 made_static s k lost i v lt unset string h =
     let nothing : refs_of_value (static_at k.guest i) ≡ [] = ap refs_of_value unset in
@@ -78,13 +78,13 @@ made_string s k lost bytes class slots h =
     let stay = guest_interned (λ o. length s.heap ≤ o) (WasThere s x) k.guest bytes n h.grown in
     let long : length x.heap ≡ n + 1 = length_push k.heap (Some (new_object class 0 slots)) in
     let grown = h.grown in
-    let last : objects_of g.interned ≡ objects_of k.guest.interned ++ n ∷ [] = map-append (λ p. p.1) k.guest.interned ((bytes, n) ∷ []) in
+    let last : interned_objects g.interned ≡ interned_objects k.guest.interned ++ n ∷ [] = map-append (λ p. p.1) k.guest.interned ((bytes, n) ∷ []) in
     record {
       way = nothing_more s (record { heap = x.heap; guest = g }) lost [] refl (law_guest s x lost g [] w moves);
       roots = λ o c. elim (stay.on o c) [ inl y ↦ h.roots o y | inr y ↦ inr y ];
       made = λ o low high. subst (λ (os : List ℕ). Contains os o) (sym last) (elim (cases_eq o n) [
-        | inl e ↦ Contains-append_right (objects_of k.guest.interned) (n ∷ []) o (subst (λ (j : ℕ). Contains (n ∷ []) j) (sym e) (Contains-here n []))
-        | inr ne ↦ Contains-append_left (objects_of k.guest.interned) (n ∷ []) o (h.made o low (below o n (length x.heap) high long ne))
+        | inl e ↦ Contains-append_right (interned_objects k.guest.interned) (n ∷ []) o (subst (λ (j : ℕ). Contains (n ∷ []) j) (sym e) (Contains-here n []))
+        | inr ne ↦ Contains-append_left (interned_objects k.guest.interned) (n ∷ []) o (h.made o low (below o n (length x.heap) high long ne))
       ]);
       grown = omega (arith, long);
     }
@@ -97,7 +97,7 @@ made_interned e s lost bytes d h =
     by_interned (λ (x : Doing). HasMadeStrings s x.state lost) e bytes d (λ none. made_string s d.state lost bytes _ _ h) (λ o some. h)
 
 -- .. and stands in a static field
-made_written : (e : Moment) (s : Kept) (lost : List ℕ) (i : ℕ) (v : Value) (d : Doing) → i < length d.state.guest.statics → static_at d.state.guest i ≡ Unset → ((o : ℕ) → Contains (refs_of_value v) o → Contains (objects_of d.state.guest.interned) o)
+made_written : (e : Moment) (s : Kept) (lost : List ℕ) (i : ℕ) (v : Value) (d : Doing) → i < length d.state.guest.statics → static_at d.state.guest i ≡ Unset → ((o : ℕ) → Contains (refs_of_value v) o → Contains (interned_objects d.state.guest.interned) o)
     → HasMadeStrings s d.state lost → HasMadeStrings s (static_written e i v d).state lost
 made_written e s lost i v d lt unset string h =
     subst (λ (k : Kept). HasMadeStrings s k lost) (sym (written_state e i v d)) (made_static s d.state lost i v lt unset string h)
@@ -115,13 +115,13 @@ made_constant e s lost f (Some (AString bytes)) d lt unset h =
     let same = same_statics e bytes d in
     made_written e s lost f.slot (Ref (string_object bytes x)) x (subst (λ (vs : List Value). f.slot < length vs) (sym same) lt) (ap (λ (vs : List Value). get_or vs f.slot Unset) same ∙ unset)
     (λ o c. elim (Contains-cons (string_object bytes x) [] o c) [
-      | inl is ↦ subst (λ (j : ℕ). Contains (objects_of x.state.guest.interned) j) is (object_listed e bytes d)
+      | inl is ↦ subst (λ (j : ℕ). Contains (interned_objects x.state.guest.interned) j) is (object_listed e bytes d)
       | inr y ↦ absurd (Contains-none o y)
     ]) (made_interned e s lost bytes d h)
 
 pub made_field : (e : Moment) (s : Kept) (lost : List ℕ) (d : Doing) (f : ℕ) → (field_at e.program f).slot < length d.state.guest.statics → static_at d.state.guest (field_at e.program f).slot ≡ Unset
     → HasMadeStrings s d.state lost → HasMadeStrings s (field_set e d f).state lost
-made_field e s lost d f lt unset h = made_constant e s lost (field_at e.program f) (constant_at (pool_of e.program (field_at e.program f).class) (field_at e.program f).constant) d lt unset h
+made_field e s lost d f lt unset h = made_constant e s lost (field_at e.program f) (constant_at (pool_of_class e.program (field_at e.program f).class) (field_at e.program f).constant) d lt unset h
 
 abbrev Once : List ℕ → Type 0
 Once fs = (i j : ℕ) → i < j → j < length fs → get_or fs i 0 < get_or fs j 0
@@ -141,7 +141,7 @@ made_fields e c s lost (f ∷ fs) d all once long unset h =
     (made_field e s lost d f (subst (λ (n : ℕ). (field_at e.program f).slot < n) (sym long) here.slot) (unset 0 (omega arith)) h)
 
 -- the constants of a class
-pub made_constants : (e : Moment) (c : ℕ) (x : ClassState) (s : Kept) (lost : List ℕ) (d : Doing) → c < length e.program.classes → HasConstants e.program c → IsReady e.program d.state → class_state_at d.state.guest c ≡ Untouched
+pub made_constants : (e : Moment) (c : ℕ) (x : ClassState) (s : Kept) (lost : List ℕ) (d : Doing) → c < length e.program.classes → HasConstants e.program c → IsInitializing e.program d.state → class_state_at d.state.guest c ≡ Untouched
     → HasMadeStrings s d.state lost → HasMadeStrings s (constants_set e c (with_state c x d)).state lost
 made_constants e c x s lost d lt has ready un h =
     let fs = (class_at e.program c).info.constants in
@@ -149,14 +149,14 @@ made_constants e c x s lost d lt has ready un h =
     (λ j within. let here = has.fields j 0 within in unset_marked e.program c x d ready un (field_at e.program (get_or fs j 0)).slot here.slot (slot_class e.program c (get_or fs j 0) (field_at e.program (get_or fs j 0)).slot here refl))
     (record { way = record { first = h.way.first; draft = h.way.draft; sound = record { room = h.way.sound.room; none = h.way.sound.none; roots = h.way.sound.roots; slots = h.way.sound.slots; referents = h.way.sound.referents } }; roots = h.roots; made = h.made; grown = h.grown })
 
-pub made_done : (e : Moment) (c : ℕ) (x : ClassState) (s : Kept) (lost : List ℕ) (d : Doing) → c < length e.program.classes → HasConstants e.program c → IsReady e.program d.state → class_state_at d.state.guest c ≡ x
+pub made_done : (e : Moment) (c : ℕ) (x : ClassState) (s : Kept) (lost : List ℕ) (d : Doing) → c < length e.program.classes → HasConstants e.program c → IsInitializing e.program d.state → class_state_at d.state.guest c ≡ x
     → HasMadeStrings s d.state lost → HasMadeStrings s (class_done e c x d).state lost
 made_done e c Untouched s lost d lt has ready un h = made_constants e c Done s lost d lt has ready un h
 made_done e c (Begun t) s lost d lt has ready un h = h
 made_done e c Done s lost d lt has ready un h = h
 made_done e c Failed s lost d lt has ready un h = h
 
-pub made_order : (e : Moment) (s : Kept) (lost : List ℕ) (ks : List ℕ) (d : Doing) → IsInOrder e.program → All (λ k. k < length e.program.classes) ks → IsReady e.program d.state
+pub made_order : (e : Moment) (s : Kept) (lost : List ℕ) (ks : List ℕ) (d : Doing) → IsInOrder e.program → All (λ k. k < length e.program.classes) ks → IsInitializing e.program d.state
     → HasMadeStrings s d.state lost → HasMadeStrings s (fold (done_step e) d ks).state lost
 made_order e s lost [] d has all ready h = h
 made_order e s lost (k ∷ ks) d has all ready h =
@@ -165,10 +165,10 @@ made_order e s lost (k ∷ ks) d has all ready h =
     (made_done e k (state_of d k) s lost d lt (has.constants k lt) ready refl h)
 
 -- QUIET CLASSES
-pub quietly_made : (e : Moment) (c : ℕ) (d : Doing) (s : Kept) (lost : List ℕ) → IsInOrder e.program → c < length e.program.classes → IsReady e.program d.state → HasMadeStrings s d.state lost → HasMadeStrings s (quietly_done e c d).state lost
+pub quietly_made : (e : Moment) (c : ℕ) (d : Doing) (s : Kept) (lost : List ℕ) → IsInOrder e.program → c < length e.program.classes → IsInitializing e.program d.state → HasMadeStrings s d.state lost → HasMadeStrings s (quietly_done e c d).state lost
 quietly_made e c d s lost has lt ready h = made_order e s lost (class_at e.program c).init_order d has (has.within c lt) ready h
 
-pub quietly_ready : (e : Moment) (c : ℕ) (d : Doing) → IsInOrder e.program → c < length e.program.classes → IsReady e.program d.state → IsReady e.program (quietly_done e c d).state
+pub quietly_ready : (e : Moment) (c : ℕ) (d : Doing) → IsInOrder e.program → c < length e.program.classes → IsInitializing e.program d.state → IsInitializing e.program (quietly_done e c d).state
 quietly_ready e c d has lt ready = ready_order e (class_at e.program c).init_order d has (has.within c lt) ready
 
 pub quietly_threads : (e : Moment) (c : ℕ) (d : Doing) → (quietly_done e c d).state.guest.threads ≡ d.state.guest.threads

@@ -9,35 +9,35 @@ use Rattle.et_program.specs.Entries.{Linked}
 use Rattle.et_state.specs.declared.records.Record.{Record}
 use Rattle.et_state.specs.Outcome.{Outcome}
 use Rattle.et_event.specs.Initialization.{state_of, is_quiet, needed, quietly_done}
-use Rattle.et_event.specs.Moments.{Moment, moment, Doing, begins, fits}
+use Rattle.et_event.specs.Moments.{Moment, moment, Doing, begins, fits_heap}
 use Rattle.et_initialize.specs.declared.needs.Need.{Need}
 use Rattle.et_initialize.specs.declared.needs.Need.TheVariants.{Ready, Waits, Quiet, Begins}
 use Rattle.et_initialize.specs.Needs.{need_by, need_of, met}
-use Rattle.et_initialize.specs.Under.{so_far, ComesTo, base}
+use Rattle.et_initialize.specs.Under.{so_far, InitializesTo, base}
 use Rattle.et_initialize.proofs.Records.{behind, behind_quietly}
 
 -- what the classes come to, with the records that were there
 abbrev pub quiet : Linked → ℕ → MachineState → ℕ → Doing
 quiet p t m c = quietly_done (moment p m t) c (begins (moment p m t))
 
-pub quiet_came : (p : Linked) (t c : ℕ) (m m₁ m₂ : MachineState) (out out₂ : List Record) → m₁ ≡ begun m → ComesTo (quietly_done (moment p m₁ t) c (so_far m₁ out)) m₁ m₂ out₂
+pub quiet_came : (p : Linked) (t c : ℕ) (m m₁ m₂ : MachineState) (out out₂ : List Record) → m₁ ≡ begun m → InitializesTo (quietly_done (moment p m₁ t) c (so_far m₁ out)) m₁ m₂ out₂
     → (m₂ ≡ base m (quiet p t m c)) × (out₂ ≡ out ++ (quiet p t m c).records)
 quiet_came p t c m m₁ m₂ out out₂ e h =
     let q = moment p m t in
     let d = begins q in
     let n = begun m in
-    let a : ComesTo (quietly_done (moment p n t) c (so_far n out)) n m₂ out₂ = subst (λ (x : MachineState). ComesTo (quietly_done (moment p x t) c (so_far x out)) x m₂ out₂) e h in
-    let b : ComesTo (quietly_done q c (behind out d)) n m₂ out₂ = subst (λ (r : List Record). ComesTo (quietly_done q c (record { state = d.state; records = r })) n m₂ out₂) (sym (append-nil out)) a in
-    subst (λ (x : Doing). ComesTo x n m₂ out₂) (behind_quietly out q c d) b
+    let a : InitializesTo (quietly_done (moment p n t) c (so_far n out)) n m₂ out₂ = subst (λ (x : MachineState). InitializesTo (quietly_done (moment p x t) c (so_far x out)) x m₂ out₂) e h in
+    let b : InitializesTo (quietly_done q c (behind out d)) n m₂ out₂ = subst (λ (r : List Record). InitializesTo (quietly_done q c (record { state = d.state; records = r })) n m₂ out₂) (sym (append-nil out)) a in
+    subst (λ (x : Doing). InitializesTo x n m₂ out₂) (behind_quietly out q c d) b
 
-pub quiet_fit : (p : Linked) (t c : ℕ) (m m₁ : MachineState) (out : List Record) → m₁ ≡ begun m → fits (quiet p t m c).state.heap ≡ true → fits (quietly_done (moment p m₁ t) c (so_far m₁ out)).state.heap ≡ true
+pub quiet_fit : (p : Linked) (t c : ℕ) (m m₁ : MachineState) (out : List Record) → m₁ ≡ begun m → fits_heap (quiet p t m c).state.heap ≡ true → fits_heap (quietly_done (moment p m₁ t) c (so_far m₁ out)).state.heap ≡ true
 quiet_fit p t c m m₁ out e fit =
     let q = moment p m t in
     let d = begins q in
     let n = begun m in
-    let one : fits (quietly_done q c (behind out d)).state.heap ≡ true = ap (λ (x : Doing). fits x.state.heap) (behind_quietly out q c d) ∙ fit in
-    let two : fits (quietly_done (moment p n t) c (so_far n out)).state.heap ≡ true = subst (λ (r : List Record). fits (quietly_done q c (record { state = d.state; records = r })).state.heap ≡ true) (append-nil out) one in
-    ap (λ (x : MachineState). fits (quietly_done (moment p x t) c (so_far x out)).state.heap) e ∙ two
+    let one : fits_heap (quietly_done q c (behind out d)).state.heap ≡ true = ap (λ (x : Doing). fits_heap x.state.heap) (behind_quietly out q c d) ∙ fit in
+    let two : fits_heap (quietly_done (moment p n t) c (so_far n out)).state.heap ≡ true = subst (λ (r : List Record). fits_heap (quietly_done q c (record { state = d.state; records = r })).state.heap ≡ true) (append-nil out) one in
+    ap (λ (x : MachineState). fits_heap (quietly_done (moment p x t) c (so_far x out)).state.heap) e ∙ two
 
 -- WHAT IS NEEDED
 

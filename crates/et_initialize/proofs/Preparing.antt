@@ -14,14 +14,14 @@ use Rattle.et_state.specs.Words.{class_state_at}
 use Rattle.et_program.specs.Entries.{Linked, class_at}
 use Rattle.et_state.specs.declared.records.Record.{Record}
 use Rattle.et_state.specs.Outcome.{Outcome}
-use Rattle.et_event.specs.Moments.{Moment, moment, Doing, begins, fits}
+use Rattle.et_event.specs.Moments.{Moment, moment, Doing, begins, fits_heap}
 use Rattle.et_event.specs.Initialization.{state_of, with_state, class_done, quietly_done, quietly_if_untouched, prepared, is_quiet, is_quiet_state, is_ready, is_ready_state, needed, initialized}
 use Rattle.et_initialize.specs.declared.needs.Need.{Need}
 use Rattle.et_initialize.specs.declared.needs.Need.TheVariants.{Ready, Waits, Quiet, Begins}
 use Rattle.et_initialize.specs.Needs.{need_by, need_of, met}
 use Rattle.et_event.specs.InitializationOrder.{IsInOrder}
 use Rattle.et_initialize.specs.Texts.{CountedAll}
-use Rattle.et_initialize.specs.Under.{so_far, ComesTo, IsReady, HasMadeStrings}
+use Rattle.et_initialize.specs.Under.{so_far, InitializesTo, IsInitializing, HasMadeStrings}
 use Rattle.et_initialize.proofs.Running.{at, came, known}
 use Rattle.et_initialize.proofs.Setting.{Grown, grown_none, grown_then, fits_grown, fold_rest, grown_order, done_step, state_changed, state_set, follows_each}
 use Rattle.et_initialize.proofs.Legal.{quietly_made, quietly_ready, quietly_threads, quietly_monitors}
@@ -46,14 +46,14 @@ pub keeps : (P : Doing → Type 0) (f : Doing → ℕ → Doing) (n : ℕ) (ks :
 keeps P f n [] d step all h = h
 keeps P f n (k ∷ ks) d step all h = keeps P f n ks (f d k) step (λ i z lt. all (suc i) z (omega arith)) (step d k (all 0 0 (omega arith)) h)
 
-pub ready_prepared : (e : Moment) (ks : List ℕ) (d : Doing) → IsInOrder e.program → All (λ k. k < length e.program.classes) ks → IsReady e.program d.state → IsReady e.program (prepared e ks d).state
+pub ready_prepared : (e : Moment) (ks : List ℕ) (d : Doing) → IsInOrder e.program → All (λ k. k < length e.program.classes) ks → IsInitializing e.program d.state → IsInitializing e.program (prepared e ks d).state
 ready_prepared e ks d has all ready =
-    keeps (λ x. IsReady e.program x.state) (pre_step e) (length e.program.classes) ks d (λ x k lt h. by_state (λ y. IsReady e.program y.state) e x k (λ un. quietly_ready e k x has lt h) h) all ready
+    keeps (λ x. IsInitializing e.program x.state) (pre_step e) (length e.program.classes) ks d (λ x k lt h. by_state (λ y. IsInitializing e.program y.state) e x k (λ un. quietly_ready e k x has lt h) h) all ready
 
-pub made_prepared : (e : Moment) (ks : List ℕ) (d : Doing) (s : Kept) (lost : List ℕ) → IsInOrder e.program → All (λ k. k < length e.program.classes) ks → IsReady e.program d.state → HasMadeStrings s d.state lost → HasMadeStrings s (prepared e ks d).state lost
+pub made_prepared : (e : Moment) (ks : List ℕ) (d : Doing) (s : Kept) (lost : List ℕ) → IsInOrder e.program → All (λ k. k < length e.program.classes) ks → IsInitializing e.program d.state → HasMadeStrings s d.state lost → HasMadeStrings s (prepared e ks d).state lost
 made_prepared e ks d s lost has all ready made =
-    (keeps (λ x. IsReady e.program x.state × HasMadeStrings s x.state lost) (pre_step e) (length e.program.classes) ks d
-    (λ x k lt h. by_state (λ y. IsReady e.program y.state × HasMadeStrings s y.state lost) e x k (λ un. (quietly_ready e k x has lt h.0, quietly_made e k x s lost has lt h.0 h.1)) h) all (ready, made)).1
+    (keeps (λ x. IsInitializing e.program x.state × HasMadeStrings s x.state lost) (pre_step e) (length e.program.classes) ks d
+    (λ x k lt h. by_state (λ y. IsInitializing e.program y.state × HasMadeStrings s y.state lost) e x k (λ un. (quietly_ready e k x has lt h.0, quietly_made e k x s lost has lt h.0 h.1)) h) all (ready, made)).1
 
 pub threads_prepared : (e : Moment) (ks : List ℕ) (d : Doing) → (prepared e ks d).state.guest.threads ≡ d.state.guest.threads
 threads_prepared e [] d = refl
@@ -340,40 +340,40 @@ counted_pre m seen seen' e d₀ d c has un t count h = elim (t.each c) [
 abbrev pub pre_first : Moment → Doing → List ℕ → ℕ → Doing
 pre_first e d ks k = fold (pre_step e) d (take k ks)
 
-pre_fits : (e : Moment) (d : Doing) (ks : List ℕ) (k : ℕ) → k < length ks → fits (prepared e ks d).state.heap ≡ true → fits (pre_step e (pre_first e d ks k) (get_or ks k 0)).state.heap ≡ true
+pre_fits : (e : Moment) (d : Doing) (ks : List ℕ) (k : ℕ) → k < length ks → fits_heap (prepared e ks d).state.heap ≡ true → fits_heap (pre_step e (pre_first e d ks k) (get_or ks k 0)).state.heap ≡ true
 pre_fits e d ks k lt fit =
     let x = pre_first e d ks (k + 1) in
     let one : x ≡ pre_step e (pre_first e d ks k) (get_or ks k 0) = fold_more (pre_step e) d ks k 0 lt in
-    let whole = ap (λ (y : Doing). fits y.state.heap) (fold_rest (pre_step e) d ks (k + 1)) ∙ fit in
-    ap (λ (y : Doing). fits y.state.heap) (sym one) ∙ fits_grown x.state.heap (prepared e (drop (k + 1) ks) x).state.heap (grown_prepared e (drop (k + 1) ks) x) whole
+    let whole = ap (λ (y : Doing). fits_heap y.state.heap) (fold_rest (pre_step e) d ks (k + 1)) ∙ fit in
+    ap (λ (y : Doing). fits_heap y.state.heap) (sym one) ∙ fits_grown x.state.heap (prepared e (drop (k + 1) ks) x).state.heap (grown_prepared e (drop (k + 1) ks) x) whole
 
 pub pre_has_room : (p : Linked) (t : ℕ) (m₀ m : MachineState) (out₀ out : List Record) (ks : List ℕ) (k c : ℕ) → k < length ks → c ≡ get_or ks k c
-    → fits (prepared (moment p m₀ t) ks (so_far m₀ out₀)).state.heap ≡ true → ComesTo (pre_first (moment p m₀ t) (so_far m₀ out₀) ks k) m₀ m out
-    → fits (pre_step (moment p m t) (so_far m out) c).state.heap ≡ true
+    → fits_heap (prepared (moment p m₀ t) ks (so_far m₀ out₀)).state.heap ≡ true → InitializesTo (pre_first (moment p m₀ t) (so_far m₀ out₀) ks k) m₀ m out
+    → fits_heap (pre_step (moment p m t) (so_far m out) c).state.heap ≡ true
 pre_has_room p t m₀ m out₀ out ks k c within read fit before =
     let e = moment p m₀ t in
     let d = so_far m₀ out₀ in
     let one = pre_fits e d ks k within fit in
     let same : get_or ks k 0 ≡ c = sym (read ∙ get_or_default ks k c 0 within) in
-    known (λ b x. fits (pre_step (at p t b) x c).state.heap ≡ true) m₀ m out (pre_first e d ks k) before.0 before.1 (subst (λ (g : ℕ). fits (pre_step e (pre_first e d ks k) g).state.heap ≡ true) same one)
+    known (λ b x. fits_heap (pre_step (at p t b) x c).state.heap ≡ true) m₀ m out (pre_first e d ks k) before.0 before.1 (subst (λ (g : ℕ). fits_heap (pre_step e (pre_first e d ks k) g).state.heap ≡ true) same one)
 
 pub pre_came : (p : Linked) (t : ℕ) (m₀ m m' : MachineState) (out₀ out out' : List Record) (ks : List ℕ) (k c : ℕ) → k < length ks → c ≡ get_or ks k c
-    → ComesTo (pre_first (moment p m₀ t) (so_far m₀ out₀) ks k) m₀ m out → ComesTo (pre_step (moment p m t) (so_far m out) c) m m' out'
-    → ComesTo (pre_first (moment p m₀ t) (so_far m₀ out₀) ks (k + 1)) m₀ m' out'
+    → InitializesTo (pre_first (moment p m₀ t) (so_far m₀ out₀) ks k) m₀ m out → InitializesTo (pre_step (moment p m t) (so_far m out) c) m m' out'
+    → InitializesTo (pre_first (moment p m₀ t) (so_far m₀ out₀) ks (k + 1)) m₀ m' out'
 pre_came p t m₀ m m' out₀ out out' ks k c within read before h =
     let e = moment p m₀ t in
     let d = so_far m₀ out₀ in
     let same : get_or ks k 0 ≡ c = sym (read ∙ get_or_default ks k c 0 within) in
-    let now : ComesTo (pre_step e (pre_first e d ks k) c) m₀ m' out' = came (λ b x. pre_step (at p t b) x c) (λ b b' x. refl) m₀ m m' out out' (pre_first e d ks k) before.0 before.1 h in
+    let now : InitializesTo (pre_step e (pre_first e d ks k) c) m₀ m' out' = came (λ b x. pre_step (at p t b) x c) (λ b b' x. refl) m₀ m m' out out' (pre_first e d ks k) before.0 before.1 h in
     let more : pre_first e d ks (k + 1) ≡ pre_step e (pre_first e d ks k) c = fold_more (pre_step e) d ks k 0 within ∙ ap (λ (g : ℕ). pre_step e (pre_first e d ks k) g) same in
-    subst (λ (x : Doing). ComesTo x m₀ m' out') (sym more) now
+    subst (λ (x : Doing). InitializesTo x m₀ m' out') (sym more) now
 
-pub pre_ready : (p : Linked) (t : ℕ) (m₀ m : MachineState) (out₀ out : List Record) (ks : List ℕ) (k : ℕ) → IsInOrder p → All (λ c. c < length p.classes) ks → IsReady p (kept_of m₀)
-    → ComesTo (pre_first (moment p m₀ t) (so_far m₀ out₀) ks k) m₀ m out → IsReady p (kept_of m)
+pub pre_ready : (p : Linked) (t : ℕ) (m₀ m : MachineState) (out₀ out : List Record) (ks : List ℕ) (k : ℕ) → IsInOrder p → All (λ c. c < length p.classes) ks → IsInitializing p (kept_of m₀)
+    → InitializesTo (pre_first (moment p m₀ t) (so_far m₀ out₀) ks k) m₀ m out → IsInitializing p (kept_of m)
 pre_ready p t m₀ m out₀ out ks k has all ready before =
     let e = moment p m₀ t in
     let d = so_far m₀ out₀ in
-    known (λ b x. IsReady p b) m₀ m out (pre_first e d ks k) before.0 before.1 (ready_prepared e (take k ks) d has (All-take (λ c. c < length p.classes) k ks all) ready)
+    known (λ b x. IsInitializing p b) m₀ m out (pre_first e d ks k) before.0 before.1 (ready_prepared e (take k ks) d has (All-take (λ c. c < length p.classes) k ks all) ready)
 
 -- one prerequisite more is counted
 list_all_take : (p : ℕ → Bool) (xs : List ℕ) (n : ℕ) → list_all p xs ≡ true → list_all p (take n xs) ≡ true

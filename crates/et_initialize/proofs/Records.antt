@@ -12,7 +12,7 @@ use Rattle.et_program.specs.declared.info.FieldInfo.{FieldInfo}
 use Rattle.et_state.specs.declared.records.Record.{Record}
 use Rattle.et_event.specs.Kinds.{narrowed}
 use Rattle.et_event.specs.Moments.{Moment, Doing, static_written}
-use Rattle.et_event.specs.Sites.{LoadedConstant, AnInt, ALong, AString, constant_at, pool_of}
+use Rattle.et_event.specs.Sites.{LoadedConstant, AnInt, ALong, AString, constant_at, pool_of_class}
 use Rattle.et_event.specs.Strings.{interned, string_object}
 use Rattle.et_event.specs.Initialization.{state_of, with_state, constant_set, field_set, constants_set, class_done, quietly_done}
 use Rattle.et_initialize.proofs.Strings.{making}
@@ -51,7 +51,7 @@ behind_constant r e f (Some (AString bytes)) d =
 behind_fields : (r : List Record) (e : Moment) (fs : List ℕ) (d : Doing) → fold (field_set e) (behind r d) fs ≡ behind r (fold (field_set e) d fs)
 behind_fields r e [] d = refl
 behind_fields r e (f ∷ fs) d =
-    ap (λ (y : Doing). fold (field_set e) y fs) (behind_constant r e (field_at e.program f) (constant_at (pool_of e.program (field_at e.program f).class) (field_at e.program f).constant) d) ∙ behind_fields r e fs (field_set e d f)
+    ap (λ (y : Doing). fold (field_set e) y fs) (behind_constant r e (field_at e.program f) (constant_at (pool_of_class e.program (field_at e.program f).class) (field_at e.program f).constant) d) ∙ behind_fields r e fs (field_set e d f)
 
 pub behind_constants : (r : List Record) (e : Moment) (c : ℕ) (d : Doing) → constants_set e c (behind r d) ≡ behind r (constants_set e c d)
 behind_constants r e c d = behind_fields r e (class_at e.program c).info.constants d

@@ -14,17 +14,17 @@ use Rattle.et_heap.specs.Objects.{Objects, slots_in, most_objects, most_slots}
 use Rattle.et_state.specs.declared.class_state.ClassState.{ClassState}
 use Rattle.et_state.specs.declared.class_state.ClassState.TheVariants.{Untouched, Begun, Done, Failed}
 use Rattle.et_state.specs.State.{Kept}
-use Rattle.et_state.specs.Interned.{objects_of}
+use Rattle.et_state.specs.Interned.{interned_objects}
 use Rattle.et_state.specs.Words.{static_at, with_static, class_state_at}
 use Rattle.et_program.specs.Entries.{Linked, class_at, field_at}
 use Rattle.et_program.specs.declared.info.FieldInfo.{FieldInfo}
 use Rattle.et_event.specs.Kinds.{narrowed}
-use Rattle.et_event.specs.Moments.{Moment, Doing, fits, static_written, with_guest}
-use Rattle.et_event.specs.Sites.{LoadedConstant, AnInt, ALong, AString, constant_at, pool_of}
+use Rattle.et_event.specs.Moments.{Moment, Doing, fits_heap, static_written, doing_with_guest}
+use Rattle.et_event.specs.Sites.{LoadedConstant, AnInt, ALong, AString, constant_at, pool_of_class}
 use Rattle.et_event.specs.Strings.{interned, string_object}
 use Rattle.et_event.specs.Initialization.{state_of, with_state, constant_set, field_set, constants_set, class_done}
 use Rattle.et_event.specs.InitializationOrder.{IsStaticOf, HasConstants, IsInOrder}
-use Rattle.et_initialize.specs.Under.{IsReady, class_of_slot}
+use Rattle.et_initialize.specs.Under.{IsInitializing, class_of_slot}
 use Rattle.et_initialize.proofs.Strings.{making, by_interned}
 
 pub record Grown (a b : Objects) : Type 0 where
@@ -38,7 +38,7 @@ pub grown_then : (a b c : Objects) → Grown a b → Grown b c → Grown a c
 grown_then a b c g h = record { rest = g.rest ++ h.rest; is = h.is ∙ (ap (λ (x : Objects). x ++ h.rest) g.is ∙ append_assoc a g.rest h.rest) }
 
 -- what fits with more, fits
-pub fits_grown : (a b : Objects) → Grown a b → fits b ≡ true → fits a ≡ true
+pub fits_grown : (a b : Objects) → Grown a b → fits_heap b ≡ true → fits_heap a ≡ true
 fits_grown a b g h =
     let p = and_parts _ _ h in
     let objects : length b - 1 ≤ most_objects = leb-true _ _ p.0 in
@@ -57,7 +57,7 @@ pub record Follows (W : ℕ → Type 0) (d d' : Doing) : Type 0 where
   pub threads : d'.state.guest.threads ≡ d.state.guest.threads
   pub monitors : d'.state.guest.class_monitors ≡ d.state.guest.class_monitors
   pub heap : Grown d.state.heap d'.state.heap
-  pub strings : ((o : ℕ) → Contains (objects_of d.state.guest.interned) o → o < length d.state.heap) → (o : ℕ) → Contains (objects_of d'.state.guest.interned) o → o < length d'.state.heap
+  pub strings : ((o : ℕ) → Contains (interned_objects d.state.guest.interned) o → o < length d.state.heap) → (o : ℕ) → Contains (interned_objects d'.state.guest.interned) o → o < length d'.state.heap
 
 pub follows_none : (W : ℕ → Type 0) (d : Doing) → Follows W d d
 follows_none W d = record { statics = refl; others = λ j n. refl; classes = refl; threads = refl; monitors = refl; heap = grown_none d.state.heap; strings = λ h. h }
@@ -77,7 +77,7 @@ pub follows_less : (V W : ℕ → Type 0) (a b : Doing) → ((j : ℕ) → V j �
 follows_less V W a b sub f = record { statics = f.statics; others = λ j n. f.others j (λ v. n (sub j v)); classes = f.classes; threads = f.threads; monitors = f.monitors; heap = f.heap; strings = f.strings }
 
 -- a record changes no state
-pub written_state : (e : Moment) (i : ℕ) (v : Value) (d : Doing) → (static_written e i v d).state ≡ (with_guest (with_static d.state.guest i v) d).state
+pub written_state : (e : Moment) (i : ℕ) (v : Value) (d : Doing) → (static_written e i v d).state ≡ (doing_with_guest (with_static d.state.guest i v) d).state
 written_state e i Unset d = refl
 written_state e i (Int n) d = refl
 written_state e i (Long n) d = refl
@@ -92,7 +92,7 @@ follows_state : (W : ℕ → Type 0) (a b c : Doing) → b.state ≡ c.state →
 follows_state W a b c e f = subst (λ (k : Kept). Follows W a (record { state = k; records = b.records })) (sym e) (record { statics = f.statics; others = f.others; classes = f.classes; threads = f.threads; monitors = f.monitors; heap = f.heap; strings = f.strings })
 
 follows_written : (e : Moment) (i : ℕ) (v : Value) (d : Doing) → Follows (Slot i) d (static_written e i v d)
-follows_written e i v d = follows_state (Slot i) d (static_written e i v d) (with_guest (with_static d.state.guest i v) d) (written_state e i v d) (record {
+follows_written e i v d = follows_state (Slot i) d (static_written e i v d) (doing_with_guest (with_static d.state.guest i v) d) (written_state e i v d) (record {
   statics = length-set d.state.guest.statics i v;
   others = λ j n. get_or-set_other d.state.guest.statics i j v Unset n;
   classes = refl;
@@ -112,8 +112,8 @@ follows_making W e bytes d = record {
   heap = record { rest = _; is = refl };
   strings = λ h o c.
       let long : length (making e bytes d).state.heap ≡ length d.state.heap + 1 = length_push d.state.heap _ in
-      let last : objects_of (d.state.guest.interned ++ (bytes, length d.state.heap) ∷ []) ≡ objects_of d.state.guest.interned ++ length d.state.heap ∷ [] = map-append (λ p. p.1) d.state.guest.interned ((bytes, length d.state.heap) ∷ []) in
-      elim (Contains-append_cases (objects_of d.state.guest.interned) (length d.state.heap ∷ []) o (subst (λ (os : List ℕ). Contains os o) last c)) [
+      let last : interned_objects (d.state.guest.interned ++ (bytes, length d.state.heap) ∷ []) ≡ interned_objects d.state.guest.interned ++ length d.state.heap ∷ [] = map-append (λ p. p.1) d.state.guest.interned ((bytes, length d.state.heap) ∷ []) in
+      elim (Contains-append_cases (interned_objects d.state.guest.interned) (length d.state.heap ∷ []) o (subst (λ (os : List ℕ). Contains os o) last c)) [
         | inl x ↦ let lt = h o x in omega (arith, long)
         | inr x ↦ elim (Contains-cons (length d.state.heap) [] o x) [ inl is ↦ omega (arith, long) | inr y ↦ absurd (Contains-none o y) ]
       ];
@@ -131,7 +131,7 @@ follows_constant e f (Some (AString bytes)) d =
     follows_then (Slot f.slot) d x (constant_set e f (Some (AString bytes)) d) (follows_interned (Slot f.slot) e bytes d) (follows_written e f.slot (Ref (string_object bytes x)) x)
 
 pub follows_field : (e : Moment) (d : Doing) (f : ℕ) → Follows (Slot (field_at e.program f).slot) d (field_set e d f)
-follows_field e d f = follows_constant e (field_at e.program f) (constant_at (pool_of e.program (field_at e.program f).class) (field_at e.program f).constant) d
+follows_field e d f = follows_constant e (field_at e.program f) (constant_at (pool_of_class e.program (field_at e.program f).class) (field_at e.program f).constant) d
 
 -- OF A CLASS
 abbrev pub OfClass : Linked → ℕ → ℕ → Type 0
@@ -165,7 +165,7 @@ follows_fields e c fs d all =
 pub record CanSet (p : Linked) (f : ℕ) (d : Doing) : Type 0 where
   pub slot : (field_at p f).slot < length d.state.guest.statics
   pub unset : static_at d.state.guest (field_at p f).slot ≡ Unset
-  pub made : (o : ℕ) → Contains (objects_of d.state.guest.interned) o → o < length d.state.heap
+  pub made : (o : ℕ) → Contains (interned_objects d.state.guest.interned) o → o < length d.state.heap
 
 pub apart_slots : (p : Linked) (c : ℕ) (fs : List ℕ) (i k : ℕ) → All (IsStaticOf p c) fs → ((i j : ℕ) → i < j → j < length fs → get_or fs i 0 < get_or fs j 0) → i < k → k < length fs
     → (field_at p (get_or fs k 0)).slot ≡ (field_at p (get_or fs i 0)).slot → ⊥
@@ -180,7 +180,7 @@ apart_slots p c fs i k all once lt within same =
 abbrev pub after : Moment → Doing → List ℕ → ℕ → Doing
 after e d fs k = fold (field_set e) d (take k fs)
 
-pub can_set : (e : Moment) (c : ℕ) (d : Doing) (k : ℕ) → HasConstants e.program c → k < length (class_at e.program c).info.constants → IsReady e.program d.state
+pub can_set : (e : Moment) (c : ℕ) (d : Doing) (k : ℕ) → HasConstants e.program c → k < length (class_at e.program c).info.constants → IsInitializing e.program d.state
     → ((i : ℕ) → i < length e.program.statics → class_of_slot e.program i ≡ c → static_at d.state.guest i ≡ Unset)
     → CanSet e.program (get_or (class_at e.program c).info.constants k 0) (after e d (class_at e.program c).info.constants k)
 can_set e c d k has lt ready unset =
@@ -202,12 +202,12 @@ pub fold_rest : {A B : Type 0} (f : B → A → B) (d : B) (xs : List A) (k : �
 fold_rest f d xs k = sym (fold-append f d (take k xs) (drop k xs)) ∙ ap (λ l. fold f d l) (take-append-drop k xs)
 
 -- where all fit, one more fits
-pub field_fits : (e : Moment) (d : Doing) (fs : List ℕ) (k : ℕ) → k < length fs → fits (fold (field_set e) d fs).state.heap ≡ true → fits (field_set e (after e d fs k) (get_or fs k 0)).state.heap ≡ true
+pub field_fits : (e : Moment) (d : Doing) (fs : List ℕ) (k : ℕ) → k < length fs → fits_heap (fold (field_set e) d fs).state.heap ≡ true → fits_heap (field_set e (after e d fs k) (get_or fs k 0)).state.heap ≡ true
 field_fits e d fs k lt fit =
     let x = after e d fs (k + 1) in
     let one : x ≡ field_set e (after e d fs k) (get_or fs k 0) = fold_more (field_set e) d fs k 0 lt in
-    let whole = ap (λ (y : Doing). fits y.state.heap) (fold_rest (field_set e) d fs (k + 1)) ∙ fit in
-    ap (λ (y : Doing). fits y.state.heap) (sym one) ∙ fits_grown x.state.heap (fold (field_set e) x (drop (k + 1) fs)).state.heap (follows_each e (drop (k + 1) fs) x).heap whole
+    let whole = ap (λ (y : Doing). fits_heap y.state.heap) (fold_rest (field_set e) d fs (k + 1)) ∙ fit in
+    ap (λ (y : Doing). fits_heap y.state.heap) (sym one) ∙ fits_grown x.state.heap (fold (field_set e) x (drop (k + 1) fs)).state.heap (follows_each e (drop (k + 1) fs) x).heap whole
 
 -- THE STATE STAYS READY
 
@@ -224,7 +224,7 @@ pub begun_untouched : (t : ℕ) → Begun t ≡ Untouched → ⊥
 begun_untouched t e = cc
 
 -- a class is marked
-pub ready_marked : (p : Linked) (c : ℕ) (x : ClassState) (d : Doing) → c < length p.classes → (x ≡ Untouched → ⊥) → IsReady p d.state → IsReady p (with_state c x d).state
+pub ready_marked : (p : Linked) (c : ℕ) (x : ClassState) (d : Doing) → c < length p.classes → (x ≡ Untouched → ⊥) → IsInitializing p d.state → IsInitializing p (with_state c x d).state
 ready_marked p c x d lt apart r =
     let within : c < length d.state.guest.classes = omega (arith, r.classes) in
     record {
@@ -236,7 +236,7 @@ ready_marked p c x d lt apart r =
     }
 
 -- constants of a class that isn't untouched are set
-pub ready_follows : (p : Linked) (c : ℕ) (d d' : Doing) → (class_state_at d.state.guest c ≡ Untouched → ⊥) → Follows (OfClass p c) d d' → IsReady p d.state → IsReady p d'.state
+pub ready_follows : (p : Linked) (c : ℕ) (d d' : Doing) → (class_state_at d.state.guest c ≡ Untouched → ⊥) → Follows (OfClass p c) d d' → IsInitializing p d.state → IsInitializing p d'.state
 ready_follows p c d d' apart f r = record {
   classes = ap (λ (xs : List ClassState). length xs) f.classes ∙ r.classes;
   statics = f.statics ∙ r.statics;
@@ -249,20 +249,20 @@ ready_follows p c d d' apart f r = record {
 pub marked_apart : (d : Doing) (c : ℕ) (x : ClassState) → c < length d.state.guest.classes → (x ≡ Untouched → ⊥) → class_state_at (with_state c x d).state.guest c ≡ Untouched → ⊥
 marked_apart d c x lt apart e = apart (sym (state_set d c x lt) ∙ e)
 
-pub ready_constants : (e : Moment) (c : ℕ) (x : ClassState) (d : Doing) → c < length e.program.classes → HasConstants e.program c → (x ≡ Untouched → ⊥) → IsReady e.program d.state
-    → IsReady e.program (constants_set e c (with_state c x d)).state
+pub ready_constants : (e : Moment) (c : ℕ) (x : ClassState) (d : Doing) → c < length e.program.classes → HasConstants e.program c → (x ≡ Untouched → ⊥) → IsInitializing e.program d.state
+    → IsInitializing e.program (constants_set e c (with_state c x d)).state
 ready_constants e c x d lt has apart r =
     ready_follows e.program c (with_state c x d) (constants_set e c (with_state c x d)) (marked_apart d c x (omega (arith, r.classes)) apart)
     (follows_fields e c (class_at e.program c).info.constants (with_state c x d) has.fields) (ready_marked e.program c x d lt apart r)
 
-pub ready_done : (e : Moment) (c : ℕ) (x : ClassState) (d : Doing) → c < length e.program.classes → HasConstants e.program c → IsReady e.program d.state → IsReady e.program (class_done e c x d).state
+pub ready_done : (e : Moment) (c : ℕ) (x : ClassState) (d : Doing) → c < length e.program.classes → HasConstants e.program c → IsInitializing e.program d.state → IsInitializing e.program (class_done e c x d).state
 ready_done e c Untouched d lt has r = ready_constants e c Done d lt has done_untouched r
 ready_done e c (Begun t) d lt has r = r
 ready_done e c Done d lt has r = r
 ready_done e c Failed d lt has r = r
 
 -- the static fields of an untouched class hold nothing, also once it is marked
-pub unset_marked : (p : Linked) (c : ℕ) (x : ClassState) (d : Doing) → IsReady p d.state → class_state_at d.state.guest c ≡ Untouched → (i : ℕ) → i < length p.statics → class_of_slot p i ≡ c → static_at (with_state c x d).state.guest i ≡ Unset
+pub unset_marked : (p : Linked) (c : ℕ) (x : ClassState) (d : Doing) → IsInitializing p d.state → class_state_at d.state.guest c ≡ Untouched → (i : ℕ) → i < length p.statics → class_of_slot p i ≡ c → static_at (with_state c x d).state.guest i ≡ Unset
 unset_marked p c x d r un i lt same = r.untouched i lt (ap (λ (k : ℕ). class_state_at d.state.guest k) same ∙ un)
 
 -- WHAT IS MADE ONLY GROWS
@@ -284,14 +284,14 @@ grown_order e (k ∷ ks) d =
 abbrev pub done_first : Moment → Doing → List ℕ → ℕ → Doing
 done_first e d ks k = fold (done_step e) d (take k ks)
 
-pub class_fits : (e : Moment) (d : Doing) (ks : List ℕ) (k : ℕ) → k < length ks → fits (fold (done_step e) d ks).state.heap ≡ true → fits (done_step e (done_first e d ks k) (get_or ks k 0)).state.heap ≡ true
+pub class_fits : (e : Moment) (d : Doing) (ks : List ℕ) (k : ℕ) → k < length ks → fits_heap (fold (done_step e) d ks).state.heap ≡ true → fits_heap (done_step e (done_first e d ks k) (get_or ks k 0)).state.heap ≡ true
 class_fits e d ks k lt fit =
     let x = done_first e d ks (k + 1) in
     let one : x ≡ done_step e (done_first e d ks k) (get_or ks k 0) = fold_more (done_step e) d ks k 0 lt in
-    let whole = ap (λ (y : Doing). fits y.state.heap) (fold_rest (done_step e) d ks (k + 1)) ∙ fit in
-    ap (λ (y : Doing). fits y.state.heap) (sym one) ∙ fits_grown x.state.heap (fold (done_step e) x (drop (k + 1) ks)).state.heap (grown_order e (drop (k + 1) ks) x) whole
+    let whole = ap (λ (y : Doing). fits_heap y.state.heap) (fold_rest (done_step e) d ks (k + 1)) ∙ fit in
+    ap (λ (y : Doing). fits_heap y.state.heap) (sym one) ∙ fits_grown x.state.heap (fold (done_step e) x (drop (k + 1) ks)).state.heap (grown_order e (drop (k + 1) ks) x) whole
 
-pub ready_order : (e : Moment) (ks : List ℕ) (d : Doing) → IsInOrder e.program → All (λ k. k < length e.program.classes) ks → IsReady e.program d.state → IsReady e.program (fold (done_step e) d ks).state
+pub ready_order : (e : Moment) (ks : List ℕ) (d : Doing) → IsInOrder e.program → All (λ k. k < length e.program.classes) ks → IsInitializing e.program d.state → IsInitializing e.program (fold (done_step e) d ks).state
 ready_order e [] d has all r = r
 ready_order e (k ∷ ks) d has all r =
     let lt = all 0 0 (omega arith) in

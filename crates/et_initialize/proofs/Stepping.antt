@@ -30,14 +30,14 @@ use Rattle.et_state.specs.Outcome.{Outcome}
 use Rattle.et_event.specs.declared.errors.GuestError.{GuestError}
 use Rattle.et_event.specs.declared.errors.GuestError.TheVariants.{StackOverflowError}
 use Rattle.et_event.specs.Errors.{error_class}
-use Rattle.et_event.specs.Moments.{Moment, moment, Doing, frame_of, begins, fits, next_object, instance_made, pending_now, entry_given_up, with_thread_state, with_frame, told, ends as ending, throws}
+use Rattle.et_event.specs.Moments.{Moment, moment, Doing, current_frame, begins, fits_heap, next_object, instance_made, pending_now, entry_given_up, with_thread_state, with_frame, told, ends_event as ending, throws}
 use Rattle.et_event.specs.Answered.{EventAnswers}
 use Rattle.et_event.specs.Sound.{IsSoundFor, AreSoundFrames, IsStaged}
-use Rattle.et_event.specs.Sites.{body_of}
+use Rattle.et_event.specs.Sites.{present_body}
 use Rattle.et_event.specs.Initialization.{with_state, prepared, constants_set, begun_by, begins_class, initializer_frame, enters_clinit}
 use Rattle.et_parts.proofs.Throwing.{ends_fit, ends_full}
 use Rattle.et_event.specs.InitializationOrder.{IsInOrder}
-use Rattle.et_initialize.specs.Under.{so_far, with_kept, ComesTo, IsReady, HasMadeStrings}
+use Rattle.et_initialize.specs.Under.{so_far, with_kept, InitializesTo, IsInitializing, HasMadeStrings}
 use Rattle.et_initialize.proofs.Setting.{fits_grown, follows_each}
 use Rattle.et_initialize.proofs.Running.{marked}
 use Rattle.et_initialize.proofs.Legal.{made_none, ready_first, made_constants}
@@ -53,29 +53,29 @@ after p m t ks = prepared (moment p m t) ks (begins (moment p m t))
 abbrev pub base : Linked → MachineState → ℕ → List ℕ → MachineState
 base p m t ks = with_kept (begun m) (after p m t ks).state
 
-pub prepared_came : (p : Linked) (t : ℕ) (ks : List ℕ) (m m₁ m₂ : MachineState) (out out₂ : List Record) → m₁ ≡ begun m → ComesTo (prepared (moment p m₁ t) ks (so_far m₁ out)) m₁ m₂ out₂
-    → ComesTo (behind out (after p m t ks)) (begun m) m₂ out₂
+pub prepared_came : (p : Linked) (t : ℕ) (ks : List ℕ) (m m₁ m₂ : MachineState) (out out₂ : List Record) → m₁ ≡ begun m → InitializesTo (prepared (moment p m₁ t) ks (so_far m₁ out)) m₁ m₂ out₂
+    → InitializesTo (behind out (after p m t ks)) (begun m) m₂ out₂
 prepared_came p t ks m m₁ m₂ out out₂ e h =
     let q = moment p m t in
     let d = begins q in
     let n = begun m in
-    let a : ComesTo (prepared (moment p n t) ks (so_far n out)) n m₂ out₂ = subst (λ (x : MachineState). ComesTo (prepared (moment p x t) ks (so_far x out)) x m₂ out₂) e h in
-    let b : ComesTo (prepared q ks (behind out d)) n m₂ out₂ = subst (λ (r : List Record). ComesTo (prepared q ks (record { state = d.state; records = r })) n m₂ out₂) (sym (append-nil out)) a in
-    subst (λ (x : Doing). ComesTo x n m₂ out₂) (behind_prepared out q ks d) b
+    let a : InitializesTo (prepared (moment p n t) ks (so_far n out)) n m₂ out₂ = subst (λ (x : MachineState). InitializesTo (prepared (moment p x t) ks (so_far x out)) x m₂ out₂) e h in
+    let b : InitializesTo (prepared q ks (behind out d)) n m₂ out₂ = subst (λ (r : List Record). InitializesTo (prepared q ks (record { state = d.state; records = r })) n m₂ out₂) (sym (append-nil out)) a in
+    subst (λ (x : Doing). InitializesTo x n m₂ out₂) (behind_prepared out q ks d) b
 
-pub prepared_fits : (p : Linked) (t : ℕ) (ks : List ℕ) (m m₁ : MachineState) (out : List Record) → m₁ ≡ begun m → fits (after p m t ks).state.heap ≡ true → fits (prepared (moment p m₁ t) ks (so_far m₁ out)).state.heap ≡ true
+pub prepared_fits : (p : Linked) (t : ℕ) (ks : List ℕ) (m m₁ : MachineState) (out : List Record) → m₁ ≡ begun m → fits_heap (after p m t ks).state.heap ≡ true → fits_heap (prepared (moment p m₁ t) ks (so_far m₁ out)).state.heap ≡ true
 prepared_fits p t ks m m₁ out e fit =
     let q = moment p m t in
     let d = begins q in
     let n = begun m in
-    let one : fits (prepared q ks (behind out d)).state.heap ≡ true = ap (λ (x : Doing). fits x.state.heap) (behind_prepared out q ks d) ∙ fit in
-    let two : fits (prepared (moment p n t) ks (so_far n out)).state.heap ≡ true = subst (λ (r : List Record). fits (prepared q ks (record { state = d.state; records = r })).state.heap ≡ true) (append-nil out) one in
-    ap (λ (x : MachineState). fits (prepared (moment p x t) ks (so_far x out)).state.heap) e ∙ two
+    let one : fits_heap (prepared q ks (behind out d)).state.heap ≡ true = ap (λ (x : Doing). fits_heap x.state.heap) (behind_prepared out q ks d) ∙ fit in
+    let two : fits_heap (prepared (moment p n t) ks (so_far n out)).state.heap ≡ true = subst (λ (r : List Record). fits_heap (prepared q ks (record { state = d.state; records = r })).state.heap ≡ true) (append-nil out) one in
+    ap (λ (x : MachineState). fits_heap (prepared (moment p x t) ks (so_far x out)).state.heap) e ∙ two
 
 pub made_after : (p : Linked) (t : ℕ) (ks : List ℕ) (m : MachineState) → IsInOrder p → All (λ k. k < length p.classes) ks → IsSoundFor p (kept_of m) → HasMadeStrings (kept_of m) (after p m t ks).state []
 made_after p t ks m has all sound = made_prepared (moment p m t) ks (begins (moment p m t)) (kept_of m) [] has all (ready_first p (kept_of m) sound) (made_none (kept_of m) sound.held)
 
-pub ready_after : (p : Linked) (t : ℕ) (ks : List ℕ) (m : MachineState) → IsInOrder p → All (λ k. k < length p.classes) ks → IsSoundFor p (kept_of m) → IsReady p (after p m t ks).state
+pub ready_after : (p : Linked) (t : ℕ) (ks : List ℕ) (m : MachineState) → IsInOrder p → All (λ k. k < length p.classes) ks → IsSoundFor p (kept_of m) → IsInitializing p (after p m t ks).state
 ready_after p t ks m has all sound = ready_prepared (moment p m t) ks (begins (moment p m t)) has all (ready_first p (kept_of m) sound)
 
 pub threads_after : (p : Linked) (t : ℕ) (ks : List ℕ) (m : MachineState) → (after p m t ks).state.guest.threads ≡ m.guest.threads
@@ -144,7 +144,7 @@ empty_lost p t c x ks m m₂ m₃ e₂ e₃ w =
 
 -- THE CLASS IS DONE
 pub finished : (p : Linked) (t c : ℕ) (ks : List ℕ) (m m₂ m₃ m₄ : MachineState) (out out₂ : List Record) → IsInOrder p → All (λ k. k < length p.classes) ks → IsSoundFor p (kept_of m) → HasFrame m.guest t → IsWaiting p c (top m.guest t)
-    → fits (after p m t ks).state.heap ≡ true → m₂ ≡ base p m t ks → out₂ ≡ out ++ (after p m t ks).records → m₃ ≡ marked m₂ c Done
+    → fits_heap (after p m t ks).state.heap ≡ true → m₂ ≡ base p m t ks → out₂ ≡ out ++ (after p m t ks).records → m₃ ≡ marked m₂ c Done
     → m₄ ≡ steps_thread m₃ t (without_top (thread_at m₃.guest t)) (frame_roots (top m₃.guest t)) → EventAnswers (enters_clinit (moment p m t) c None (after p m t ks)) ends.Done m m₄ out out₂
 finished p t c ks m m₂ m₃ m₄ out out₂ has all sound frame w fit e₂ r₂ e₃ e₄ =
     let e = moment p m t in
@@ -165,8 +165,8 @@ finished p t c ks m m₂ m₃ m₄ out out₂ has all sound frame w fit e₂ r�
 
 -- .. OR ITS <clinit> IS ENTERED
 pub clinit_entered : (p : Linked) (t c method stack locals : ℕ) (ks : List ℕ) (m m₂ m₃ : MachineState) (out out₂ out₃ : List Record) → IsInOrder p → All (λ k. k < length p.classes) ks → IsSoundFor p (kept_of m) → HasFrame m.guest t → IsWaiting p c (top m.guest t)
-    → fits (after p m t ks).state.heap ≡ true → m₂ ≡ base p m t ks → out₂ ≡ out ++ (after p m t ks).records
-    → stack ≡ (body_of (method_at p method).code).max_stack → locals ≡ (body_of (method_at p method).code).max_locals
+    → fits_heap (after p m t ks).state.heap ≡ true → m₂ ≡ base p m t ks → out₂ ≡ out ++ (after p m t ks).records
+    → stack ≡ (present_body (method_at p method).code).max_stack → locals ≡ (present_body (method_at p method).code).max_locals
     → m₃ ≡ steps_top m₂ t (in_clinit method stack locals (top m₂.guest t)) [] → out₃ ≡ out₂ ++ Enter m₃.guest.clock t method 0 ∷ []
     → EventAnswers (enters_clinit (moment p m t) c (Some method) (after p m t ks)) ends.Done m m₃ out out₃
 clinit_entered p t c method stack locals ks m m₂ m₃ out out₂ out₃ has all sound frame w fit e₂ r₂ a b e₃ r₃ =
@@ -174,23 +174,23 @@ clinit_entered p t c method stack locals ks m m₂ m₃ out out₂ out₃ has al
     let s = kept_of m in
     let d = after p m t ks in
     let n : MachineState = base p m t ks in
-    let body = body_of (method_at p method).code in
+    let body = present_body (method_at p method).code in
     let threads = threads_after p t ks m in
-    let same : top n.guest t ≡ frame_of e = top_on m.guest n.guest t threads in
-    let size : in_clinit method stack locals (frame_of e) ≡ in_clinit method body.max_stack body.max_locals (frame_of e) = ap (λ (i : ℕ). in_clinit method i locals (frame_of e)) a ∙ ap (λ (i : ℕ). in_clinit method body.max_stack i (frame_of e)) b in
+    let same : top n.guest t ≡ current_frame e = top_on m.guest n.guest t threads in
+    let size : in_clinit method stack locals (current_frame e) ≡ in_clinit method body.max_stack body.max_locals (current_frame e) = ap (λ (i : ℕ). in_clinit method i locals (current_frame e)) a ∙ ap (λ (i : ℕ). in_clinit method body.max_stack i (current_frame e)) b in
     let at : m₃ ≡ steps_top n t (in_clinit method stack locals (top n.guest t)) [] = e₃ ∙ ap (λ (z : MachineState). steps_top z t (in_clinit method stack locals (top z.guest t)) []) e₂ in
-    let is : m₃ ≡ steps_top n t (in_clinit method body.max_stack body.max_locals (frame_of e)) [] = at ∙ ap (λ (f : FrameState). steps_top n t f []) (ap (λ (f : FrameState). in_clinit method stack locals f) same ∙ size) in
+    let is : m₃ ≡ steps_top n t (in_clinit method body.max_stack body.max_locals (current_frame e)) [] = at ∙ ap (λ (f : FrameState). steps_top n t f []) (ap (λ (f : FrameState). in_clinit method stack locals f) same ∙ size) in
     let made = made_after p t ks m has all sound in
     let on : HasFrame n.guest t = has_frame_on m.guest n.guest t threads frame in
     let way : IsOnWay s (steps_top n t (in_clinit method stack locals (top n.guest t)) []) =
     on_enter_clinit s n t method stack locals made.way on (ap (λ (f : FrameState). f.locals) same ∙ w.locals) (ap (λ (f : FrameState). f.operands) same ∙ w.operands) in
-    let x : Doing = told (Enter d.state.guest.clock t method 0) (with_frame e (in_clinit method body.max_stack body.max_locals (frame_of e)) d) in
+    let x : Doing = told (Enter d.state.guest.clock t method 0) (with_frame e (in_clinit method body.max_stack body.max_locals (current_frame e)) d) in
     let led : Led s x.state m₃ = strings_led s x.state m₃ (subst (λ (z : MachineState). IsOnWay s z) (sym at) way) (ap (λ (z : MachineState). kept_of z) is) made.grown (λ o low high. string_root x.state.guest o (made.made o low high)) in
     let records : out₃ ≡ out ++ x.records = r₃ ∙ (ap (λ (z : MachineState). out₂ ++ Enter z.guest.clock t method 0 ∷ []) is ∙ (ap (λ (l : List Record). l ++ Enter d.state.guest.clock t method 0 ∷ []) r₂ ∙ append_assoc out d.records (Enter d.state.guest.clock t method 0 ∷ []))) in
     subst (λ (y : Outcome Kept). EventAnswers y ends.Done m m₃ out out₃) (sym (ends_fit x fit)) (led, records)
 
 -- nothing fits
-pub clinit_full : (p : Linked) (t c : ℕ) (clinit : Option ℕ) (ks : List ℕ) (m : MachineState) (out : List Record) → fits (after p m t ks).state.heap ≡ false → EventAnswers (enters_clinit (moment p m t) c clinit (after p m t ks)) ends.ObjectLimit m m out out
+pub clinit_full : (p : Linked) (t c : ℕ) (clinit : Option ℕ) (ks : List ℕ) (m : MachineState) (out : List Record) → fits_heap (after p m t ks).state.heap ≡ false → EventAnswers (enters_clinit (moment p m t) c clinit (after p m t ks)) ends.ObjectLimit m m out out
 clinit_full p t c None ks m out fit =
     let e = moment p m t in
     let d = after p m t ks in
@@ -199,8 +199,8 @@ clinit_full p t c None ks m out fit =
 clinit_full p t c (Some method) ks m out fit =
     let e = moment p m t in
     let d = after p m t ks in
-    let body = body_of (method_at p method).code in
-    let x : Doing = told (Enter d.state.guest.clock t method 0) (with_frame e (in_clinit method body.max_stack body.max_locals (frame_of e)) d) in
+    let body = present_body (method_at p method).code in
+    let x : Doing = told (Enter d.state.guest.clock t method 0) (with_frame e (in_clinit method body.max_stack body.max_locals (current_frame e)) d) in
     subst (λ (y : Outcome Kept). EventAnswers y ends.ObjectLimit m m out out) (sym (ends_full x fit)) (refl, refl)
 
 pub told_enter : (out out' : List Record) (n clock t number method : ℕ) → n ≡ clock → number ≡ t → out' ≡ out ++ Enter n number method 0 ∷ [] → out' ≡ out ++ Enter clock t method 0 ∷ []
@@ -222,7 +222,7 @@ throws_is : (e : Moment) (error : GuestError) (d : Doing) → 0 < length (thread
 throws_is e error d h = ap (λ (x : Doing). ending (pending_now e (next_object d) (instance_made e (error_class e.program error) x))) (not_given_up e d h)
 
 -- one object more fits exactly where there is room for it
-pub one_fits : (heap : Objects) (class elements slots : ℕ) → 0 < length heap → fits (heap ++ Some (new_object class elements slots) ∷ []) ≡ has_room heap 1 slots
+pub one_fits : (heap : Objects) (class elements slots : ℕ) → 0 < length heap → fits_heap (heap ++ Some (new_object class elements slots) ∷ []) ≡ has_room heap 1 slots
 one_fits heap class elements slots some =
     let y : Option ObjectState = Some (new_object class elements slots) in
     let long : length (heap ++ y ∷ []) ≡ length heap + 1 = length_push heap y in
@@ -280,7 +280,7 @@ error_thrown p t error ks m m₂ m₃ m₄ out out₂ out₃ class slots o has a
     let last : Record = Alloc d.state.guest.clock t k (error_class p error) (16 + 8 * (class_at p (error_class p error)).info.slots) 0 in
     let records : out₃ ≡ out ++ made_of.records = one ∙ (two ∙ (ap (λ (l : List Record). l ++ last ∷ []) r₂ ∙ append_assoc out d.records (last ∷ []))) in
     let some : 0 < length d.state.heap = let room₀ = sound.held.room in omega (arith, room₀, grown) in
-    let fit : fits made_of.state.heap ≡ true = ap (λ (z : Kept). fits z.heap) (sym kept) ∙ (one_fits d.state.heap class 0 slots some ∙ room) in
+    let fit : fits_heap made_of.state.heap ≡ true = ap (λ (z : Kept). fits_heap z.heap) (sym kept) ∙ (one_fits d.state.heap class 0 slots some ∙ room) in
     let has_one : 0 < length (thread_at d.state.guest t).frames = subst (λ (z : ThreadState). 0 < length z.frames) (sym was) frame.frame in
     subst (λ (z : Outcome Kept). EventAnswers z ends.Done m m₄ out out₃) (sym (throws_is e error d has_one ∙ ends_fit made_of fit)) (subst (λ (z : Kept). Led s z m₄) kept led, records)
   where
@@ -296,10 +296,10 @@ error_full p t error ks m out class slots some frame name size room =
     let was : thread_at d.state.guest t ≡ thread_at m.guest t = ap (λ (ts : List ThreadState). get_or ts t no_thread) (threads_after p t ks m) in
     let has_one : 0 < length (thread_at d.state.guest t).frames = subst (λ (z : ThreadState). 0 < length z.frames) (sym was) frame.frame in
     let slots_are : slots ≡ (class_at p (error_class p error)).info.slots = size ∙ ap (λ (c : ℕ). (class_at p c).info.slots) name in
-    let fit : fits (thrown e error d).state.heap ≡ false = one_fits d.state.heap (error_class p error) 0 (class_at p (error_class p error)).info.slots some ∙ (ap (λ (i : ℕ). has_room d.state.heap 1 i) (sym slots_are) ∙ room) in
+    let fit : fits_heap (thrown e error d).state.heap ≡ false = one_fits d.state.heap (error_class p error) 0 (class_at p (error_class p error)).info.slots some ∙ (ap (λ (i : ℕ). has_room d.state.heap 1 i) (sym slots_are) ∙ room) in
     subst (λ (z : Outcome Kept). EventAnswers z ends.ObjectLimit m m out out) (sym (throws_is e error d has_one ∙ ends_full (thrown e error d) fit)) (refl, refl)
 
-pub fits_less : (heap : Objects) (slots : ℕ) → has_room heap 1 slots ≡ true → fits heap ≡ true
+pub fits_less : (heap : Objects) (slots : ℕ) → has_room heap 1 slots ≡ true → fits_heap heap ≡ true
 fits_less heap slots room =
     let b = and_parts _ _ room in
     let objects : length heap - 1 + 1 ≤ most_objects = leb-true _ _ b.0 in
@@ -314,36 +314,36 @@ base_room p t ks m m₂ slots e room = ap (λ (z : MachineState). has_room z.hea
 -- A CLASS BEGINS
 
 began_after : (p : Linked) (t c : ℕ) (ks : List ℕ) (m m₂ m₃ m₄ : MachineState) (out out₂ out₄ : List Record) → m₂ ≡ base p m t ks → out₂ ≡ out ++ (after p m t ks).records → m₃ ≡ marked m₂ c (Begun t)
-    → ComesTo (constants_set (moment p m₃ t) c (so_far m₃ out₂)) m₃ m₄ out₄ → ComesTo (behind out (constants_set (moment p m t) c (with_state c (Begun t) (after p m t ks)))) (begun m) m₄ out₄
+    → InitializesTo (constants_set (moment p m₃ t) c (so_far m₃ out₂)) m₃ m₄ out₄ → InitializesTo (behind out (constants_set (moment p m t) c (with_state c (Begun t) (after p m t ks)))) (begun m) m₄ out₄
 began_after p t c ks m m₂ m₃ m₄ out out₂ out₄ e₂ r₂ e₃ h =
     let q = moment p m t in
     let y = with_state c (Begun t) (after p m t ks) in
     let n = marked (base p m t ks) c (Begun t) in
     let is : m₃ ≡ n = e₃ ∙ ap (λ (z : MachineState). marked z c (Begun t)) e₂ in
-    let a : ComesTo (constants_set (moment p n t) c (so_far n out₂)) n m₄ out₄ = subst (λ (z : MachineState). ComesTo (constants_set (moment p z t) c (so_far z out₂)) z m₄ out₄) is h in
-    let b : ComesTo (constants_set q c (behind out y)) n m₄ out₄ = subst (λ (r : List Record). ComesTo (constants_set q c (record { state = y.state; records = r })) n m₄ out₄) r₂ a in
-    subst (λ (x : Doing). ComesTo x n m₄ out₄) (behind_constants out q c y) b
+    let a : InitializesTo (constants_set (moment p n t) c (so_far n out₂)) n m₄ out₄ = subst (λ (z : MachineState). InitializesTo (constants_set (moment p z t) c (so_far z out₂)) z m₄ out₄) is h in
+    let b : InitializesTo (constants_set q c (behind out y)) n m₄ out₄ = subst (λ (r : List Record). InitializesTo (constants_set q c (record { state = y.state; records = r })) n m₄ out₄) r₂ a in
+    subst (λ (x : Doing). InitializesTo x n m₄ out₄) (behind_constants out q c y) b
 
 pub began_fits : (p : Linked) (t c : ℕ) (ks : List ℕ) (m m₂ m₃ : MachineState) (out out₂ : List Record) → m₂ ≡ base p m t ks → out₂ ≡ out ++ (after p m t ks).records → m₃ ≡ marked m₂ c (Begun t)
-    → fits (constants_set (moment p m t) c (with_state c (Begun t) (after p m t ks))).state.heap ≡ true → fits (constants_set (moment p m₃ t) c (so_far m₃ out₂)).state.heap ≡ true
+    → fits_heap (constants_set (moment p m t) c (with_state c (Begun t) (after p m t ks))).state.heap ≡ true → fits_heap (constants_set (moment p m₃ t) c (so_far m₃ out₂)).state.heap ≡ true
 began_fits p t c ks m m₂ m₃ out out₂ e₂ r₂ e₃ fit =
     let q = moment p m t in
     let y = with_state c (Begun t) (after p m t ks) in
     let n = marked (base p m t ks) c (Begun t) in
     let is : m₃ ≡ n = e₃ ∙ ap (λ (z : MachineState). marked z c (Begun t)) e₂ in
-    let one : fits (constants_set q c (behind out y)).state.heap ≡ true = ap (λ (x : Doing). fits x.state.heap) (behind_constants out q c y) ∙ fit in
-    let two : fits (constants_set (moment p n t) c (so_far n out₂)).state.heap ≡ true = subst (λ (r : List Record). fits (constants_set q c (record { state = y.state; records = r })).state.heap ≡ true) (sym r₂) one in
-    ap (λ (z : MachineState). fits (constants_set (moment p z t) c (so_far z out₂)).state.heap) is ∙ two
+    let one : fits_heap (constants_set q c (behind out y)).state.heap ≡ true = ap (λ (x : Doing). fits_heap x.state.heap) (behind_constants out q c y) ∙ fit in
+    let two : fits_heap (constants_set (moment p n t) c (so_far n out₂)).state.heap ≡ true = subst (λ (r : List Record). fits_heap (constants_set q c (record { state = y.state; records = r })).state.heap ≡ true) (sym r₂) one in
+    ap (λ (z : MachineState). fits_heap (constants_set (moment p z t) c (so_far z out₂)).state.heap) is ∙ two
 
 pub began_threads : (p : Linked) (t c : ℕ) (ks : List ℕ) (m m₂ m₃ m₄ : MachineState) (out out₂ out₄ : List Record) → m₂ ≡ base p m t ks → out₂ ≡ out ++ (after p m t ks).records → m₃ ≡ marked m₂ c (Begun t)
-    → ComesTo (constants_set (moment p m₃ t) c (so_far m₃ out₂)) m₃ m₄ out₄ → m₄.guest.threads ≡ m.guest.threads
+    → InitializesTo (constants_set (moment p m₃ t) c (so_far m₃ out₂)) m₃ m₄ out₄ → m₄.guest.threads ≡ m.guest.threads
 began_threads p t c ks m m₂ m₃ m₄ out out₂ out₄ e₂ r₂ e₃ h =
     let y = with_state c (Begun t) (after p m t ks) in
     ap (λ (z : MachineState). z.guest.threads) (began_after p t c ks m m₂ m₃ m₄ out out₂ out₄ e₂ r₂ e₃ h).0 ∙ ((follows_each (moment p m t) (class_at p c).info.constants y).threads ∙ threads_after p t ks m)
 
 pub began_led : (p : Linked) (t c : ℕ) (ks : List ℕ) (m m₂ m₃ m₄ m₅ : MachineState) (out out₂ out₄ : List Record) (f : FrameState) → IsInOrder p → All (λ k. k < length p.classes) ks → c < length p.classes → IsSoundFor p (kept_of m) → t < length m.guest.threads
     → class_state_at (after p m t ks).state.guest c ≡ Untouched → m₂ ≡ base p m t ks → out₂ ≡ out ++ (after p m t ks).records → m₃ ≡ marked m₂ c (Begun t)
-    → ComesTo (constants_set (moment p m₃ t) c (so_far m₃ out₂)) m₃ m₄ out₄ → f ≡ initializer_frame c → m₅ ≡ steps_thread m₄ t (entered_by f (thread_at m₄.guest t)) []
+    → InitializesTo (constants_set (moment p m₃ t) c (so_far m₃ out₂)) m₃ m₄ out₄ → f ≡ initializer_frame c → m₅ ≡ steps_thread m₄ t (entered_by f (thread_at m₄.guest t)) []
     → Led (kept_of m) (begun_by (moment p m t) c (after p m t ks)).state m₅ × (out₄ ≡ out ++ (begun_by (moment p m t) c (after p m t ks)).records)
 began_led p t c ks m m₂ m₃ m₄ m₅ out out₂ out₄ f has all lt sound thread un e₂ r₂ e₃ h new e₅ =
     let q = moment p m t in
@@ -374,13 +374,13 @@ after_some p t ks m has all sound =
     omega arith
 
 -- what beginning a class needs
-pub begin_less : (p : Linked) (t c : ℕ) (ks : List ℕ) (m : MachineState) → fits (constants_set (moment p m t) c (with_state c (Begun t) (after p m t ks))).state.heap ≡ true → fits (after p m t ks).state.heap ≡ true
+pub begin_less : (p : Linked) (t c : ℕ) (ks : List ℕ) (m : MachineState) → fits_heap (constants_set (moment p m t) c (with_state c (Begun t) (after p m t ks))).state.heap ≡ true → fits_heap (after p m t ks).state.heap ≡ true
 begin_less p t c ks m fit =
     let y = with_state c (Begun t) (after p m t ks) in
     fits_grown y.state.heap (constants_set (moment p m t) c y).state.heap (follows_each (moment p m t) (class_at p c).info.constants y).heap fit
 
-pub base_ready : (p : Linked) (t : ℕ) (ks : List ℕ) (m m₂ : MachineState) → IsInOrder p → All (λ k. k < length p.classes) ks → IsSoundFor p (kept_of m) → m₂ ≡ base p m t ks → IsReady p (kept_of m₂)
-base_ready p t ks m m₂ has all sound e = subst (λ (z : MachineState). IsReady p (kept_of z)) (sym e) (ready_after p t ks m has all sound)
+pub base_ready : (p : Linked) (t : ℕ) (ks : List ℕ) (m m₂ : MachineState) → IsInOrder p → All (λ k. k < length p.classes) ks → IsSoundFor p (kept_of m) → m₂ ≡ base p m t ks → IsInitializing p (kept_of m₂)
+base_ready p t ks m m₂ has all sound e = subst (λ (z : MachineState). IsInitializing p (kept_of z)) (sym e) (ready_after p t ks m has all sound)
 
 pub base_state : (p : Linked) (t c : ℕ) (ks : List ℕ) (m m₂ : MachineState) → m₂ ≡ base p m t ks → class_state_at (after p m t ks).state.guest c ≡ Untouched → class_state_at m₂.guest c ≡ Untouched
 base_state p t c ks m m₂ e un = ap (λ (z : MachineState). class_state_at z.guest c) e ∙ un
@@ -388,7 +388,7 @@ base_state p t c ks m m₂ e un = ap (λ (z : MachineState). class_state_at z.gu
 pub base_lost : (p : Linked) (t c : ℕ) (x : ClassState) (ks : List ℕ) (m m₂ m₃ : MachineState) → m₂ ≡ base p m t ks → m₃ ≡ marked m₂ c x → length m₃.lost < lost_room
 base_lost p t c x ks m m₂ m₃ e₂ e₃ = subst (λ (l : List ℕ). length l < lost_room) (sym (ap (λ (z : MachineState). z.lost) e₃ ∙ ap (λ (z : MachineState). z.lost) e₂)) (lit< tt)
 
-pub began_done : (p : Linked) (t c : ℕ) (ks : List ℕ) (m m' : MachineState) (out out' : List Record) → length (thread_at m.guest t).frames < most_frames → fits (constants_set (moment p m t) c (with_state c (Begun t) (after p m t ks))).state.heap ≡ true
+pub began_done : (p : Linked) (t c : ℕ) (ks : List ℕ) (m m' : MachineState) (out out' : List Record) → length (thread_at m.guest t).frames < most_frames → fits_heap (constants_set (moment p m t) c (with_state c (Begun t) (after p m t ks))).state.heap ≡ true
     → Led (kept_of m) (begun_by (moment p m t) c (after p m t ks)).state m' × (out' ≡ out ++ (begun_by (moment p m t) c (after p m t ks)).records) → EventAnswers (begins_class (moment p m t) c (after p m t ks)) ends.Done m m' out out'
 began_done p t c ks m m' out out' lt fit h =
     let e = moment p m t in
@@ -396,7 +396,7 @@ began_done p t c ks m m' out out' lt fit h =
     let lt' : length (thread_at d.state.guest t).frames < most_frames = subst (λ (ts : List ThreadState). length (get_or ts t no_thread).frames < most_frames) (sym (threads_after p t ks m)) lt in
     subst (λ (x : Outcome Kept). EventAnswers x ends.Done m m' out out') (sym (few e c d lt' ∙ ends_fit (begun_by e c d) fit)) h
 
-pub began_full : (p : Linked) (t c : ℕ) (ks : List ℕ) (m : MachineState) (out : List Record) → length (thread_at m.guest t).frames < most_frames → fits (constants_set (moment p m t) c (with_state c (Begun t) (after p m t ks))).state.heap ≡ false
+pub began_full : (p : Linked) (t c : ℕ) (ks : List ℕ) (m : MachineState) (out : List Record) → length (thread_at m.guest t).frames < most_frames → fits_heap (constants_set (moment p m t) c (with_state c (Begun t) (after p m t ks))).state.heap ≡ false
     → EventAnswers (begins_class (moment p m t) c (after p m t ks)) ends.ObjectLimit m m out out
 began_full p t c ks m out lt fit =
     let e = moment p m t in

@@ -7,19 +7,19 @@ use Rattle.std.proofs.lemmas.Bool.{eqb-true}
 use Rattle.std.proofs.lemmas.Option.{unwrap_or-slice_get}
 use Rattle.std.proofs.lemmas.Slice.Eq.{bytes_eq-Decides}
 use Rattle.et_base.proofs.Lists.{Contains-here, Contains-there}
-use Rattle.et_state.specs.Interned.{object_of, text_of, objects_of}
+use Rattle.et_state.specs.Interned.{object_of, interned_text, interned_objects}
 use Rattle.et_state.specs.State.{MachineState}
 use Rattle.et_state.specs.Words.{with_string}
 use Rattle.et_state.specs.declared.records.Record.{Record}
-use Rattle.et_initialize.specs.Under.{so_far, with_kept, ComesTo}
+use Rattle.et_initialize.specs.Under.{so_far, with_kept, InitializesTo}
 use Rattle.et_event.specs.Errors.{class_called}
-use Rattle.et_event.specs.Moments.{Moment, Doing, with_guest, instance_made, next_object}
+use Rattle.et_event.specs.Moments.{Moment, Doing, doing_with_guest, instance_made, next_object}
 use Rattle.et_pool.specs.Entries.{Item, Constants}
 use Rattle.et_pool.specs.Looks.{string_at}
 use Rattle.et_program.specs.Entries.{Linked, field_at}
-use Rattle.et_initialize.specs.Texts.{text_of as text_in}
+use Rattle.et_initialize.specs.Texts.{constant_text as text_in}
 use Rattle.et_program.specs.declared.info.FieldInfo.{FieldInfo}
-use Rattle.et_event.specs.Sites.{constant_at, pool_of, no_constants}
+use Rattle.et_event.specs.Sites.{constant_at, pool_of_class, no_constants}
 use Rattle.et_event.specs.Strings.{interned, string_object}
 use Rattle.et_event.specs.Initialization.{constant_set, field_set}
 
@@ -40,12 +40,12 @@ text_step true e r apart h = absurd (apart refl)
 text_step false e r apart h = h
 
 -- an object above all of these has no bytes
-pub no_text : (o : ℕ) (es : Strings) → ((q : ℕ) → Contains (objects_of es) q → q < o) → text_of es o ≡ None
+pub no_text : (o : ℕ) (es : Strings) → ((q : ℕ) → Contains (interned_objects es) q → q < o) → interned_text es o ≡ None
 no_text o [] h = refl
 no_text o (e ∷ es) h =
-    let lt : e.1 < o = h e.1 (Contains-here e.1 (objects_of es)) in
+    let lt : e.1 < o = h e.1 (Contains-here e.1 (interned_objects es)) in
     let other : (o == e.1) ≡ true → ⊥ = λ same. let is : o ≡ e.1 = eqb-true o e.1 same in omega arith in
-    text_step (o == e.1) e (find (λ p. o == p.1) es) other (no_text o es (λ q c. h q (Contains-there e.1 (objects_of es) q c)))
+    text_step (o == e.1) e (find (λ p. o == p.1) es) other (no_text o es (λ q c. h q (Contains-there e.1 (interned_objects es) q c)))
 
 push_step : (b : Bool) (v n : ℕ) (r r' : Option ℕ) → (r ≡ None → r' ≡ Some n) → cond b (Some v) r ≡ None → cond b (Some v) r' ≡ Some n
 push_step true v n r r' ih h = absurd (some_none v h)
@@ -65,7 +65,7 @@ object_pushed (e ∷ es) bytes n h = push_step (bytes_eq bytes e.0) e.1 n (objec
 abbrev pub making : Moment → List ℕ → Doing → Doing
 making e bytes d =
     let x = instance_made e (class_called e.program (codes "java/lang/String")) d in
-    with_guest (with_string x.state.guest bytes (next_object d)) x
+    doing_with_guest (with_string x.state.guest bytes (next_object d)) x
 
 pub makes : (e : Moment) (bytes : List ℕ) (d : Doing) → object_of d.state.guest.interned bytes ≡ None → interned e bytes d ≡ making e bytes d
 makes e bytes d none = ap (λ (o : Option ℕ). if is_some o then d else making e bytes d) none
@@ -83,9 +83,9 @@ object_step true v vs r o ih h = subst (λ (k : ℕ). Contains (v ∷ vs) k) (so
 object_step false v vs r o ih h = Contains-there v vs o (ih h)
 
 -- what has bytes is the object of a string
-pub object_in : (es : Strings) (bytes : List ℕ) (o : ℕ) → object_of es bytes ≡ Some o → Contains (objects_of es) o
+pub object_in : (es : Strings) (bytes : List ℕ) (o : ℕ) → object_of es bytes ≡ Some o → Contains (interned_objects es) o
 object_in [] bytes o h = absurd (none_some o h)
-object_in (e ∷ es) bytes o h = object_step (bytes_eq bytes e.0) e.1 (objects_of es) (object_of es bytes) o (object_in es bytes o) h
+object_in (e ∷ es) bytes o h = object_step (bytes_eq bytes e.0) e.1 (interned_objects es) (object_of es bytes) o (object_in es bytes o) h
 
 -- either there is an object, or it is made
 pub by_interned : (P : Doing → Type 0) (e : Moment) (bytes : List ℕ) (d : Doing) → (object_of d.state.guest.interned bytes ≡ None → P (making e bytes d)) → ((o : ℕ) → object_of d.state.guest.interned bytes ≡ Some o → P d) → P (interned e bytes d)
@@ -96,17 +96,17 @@ by_interned P e bytes d new old = case (object_of d.state.guest.interned bytes) 
     case (Some o) h = subst P (sym (has_made e bytes d o h)) (old o h)
 
 -- its object is that of a string
-pub object_listed : (e : Moment) (bytes : List ℕ) (d : Doing) → Contains (objects_of (interned e bytes d).state.guest.interned) (string_object bytes (interned e bytes d))
-object_listed e bytes d = by_interned (λ (x : Doing). Contains (objects_of x.state.guest.interned) (string_object bytes x)) e bytes d
+pub object_listed : (e : Moment) (bytes : List ℕ) (d : Doing) → Contains (interned_objects (interned e bytes d).state.guest.interned) (string_object bytes (interned e bytes d))
+object_listed e bytes d = by_interned (λ (x : Doing). Contains (interned_objects x.state.guest.interned) (string_object bytes x)) e bytes d
     (λ none. let is : object_of (making e bytes d).state.guest.interned bytes ≡ Some (length d.state.heap) = object_pushed d.state.guest.interned bytes (length d.state.heap) none in
     listed (making e bytes d) (length d.state.heap) is)
     (λ o some. listed d o some)
   where
-    listed : (x : Doing) (o : ℕ) → object_of x.state.guest.interned bytes ≡ Some o → Contains (objects_of x.state.guest.interned) (string_object bytes x)
-    listed x o h = subst (λ (k : ℕ). Contains (objects_of x.state.guest.interned) k) (sym (ap (λ (r : Option ℕ). unwrap_or r 0) h)) (object_in x.state.guest.interned bytes o h)
+    listed : (x : Doing) (o : ℕ) → object_of x.state.guest.interned bytes ≡ Some o → Contains (interned_objects x.state.guest.interned) (string_object bytes x)
+    listed x o h = subst (λ (k : ℕ). Contains (interned_objects x.state.guest.interned) k) (sym (ap (λ (r : Option ℕ). unwrap_or r 0) h)) (object_in x.state.guest.interned bytes o h)
 
 -- A FIELD OF A CLASS WITHOUT A POOL gets nothing
-pub empty_pool : (p : Linked) (f : ℕ) (info : FieldInfo) → info ≡ field_at p f → slice_get p.pools info.class ≡ None → pool_of p (field_at p f).class ≡ []
+pub empty_pool : (p : Linked) (f : ℕ) (info : FieldInfo) → info ≡ field_at p f → slice_get p.pools info.class ≡ None → pool_of_class p (field_at p f).class ≡ []
 empty_pool p f info is none =
     let at : slice_get p.pools (field_at p f).class ≡ None = ap (λ (i : FieldInfo). slice_get p.pools i.class) (sym is) ∙ none in
     ap (λ (c : Constants). c.slots) (sym (unwrap_or-slice_get p.pools (field_at p f).class no_constants) ∙ ap (λ (o : Option Constants). unwrap_or o no_constants) at)
@@ -118,7 +118,7 @@ no_pool : (e : Moment) (f : ℕ) (d : Doing) (info : FieldInfo) → info ≡ fie
 no_pool e f d info is none =
     ap (λ (pool : List (Option Item)). constant_set e (field_at e.program f) (constant_at pool (field_at e.program f).constant) d) (empty_pool e.program f info is none)
 
-pub no_pool_field : (e : Moment) (f : ℕ) (m : MachineState) (out : List Record) (info : FieldInfo) → info ≡ field_at e.program f → slice_get e.program.pools info.class ≡ None → ComesTo (field_set e (so_far m out) f) m m out
+pub no_pool_field : (e : Moment) (f : ℕ) (m : MachineState) (out : List Record) (info : FieldInfo) → info ≡ field_at e.program f → slice_get e.program.pools info.class ≡ None → InitializesTo (field_set e (so_far m out) f) m m out
 no_pool_field e f m out info is none =
     let same = no_pool e f (so_far m out) info is none in
     (sym (ap (λ (x : Doing). with_kept m x.state) same), sym (ap (λ (x : Doing). x.records) same))

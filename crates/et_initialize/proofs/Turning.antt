@@ -11,7 +11,7 @@ use Rattle.et_program.specs.Entries.{Linked, class_at}
 use Rattle.et_state.specs.declared.records.Record.{Record}
 use Rattle.et_state.specs.declared.ends.EventEnd.{EventEnd}
 use Rattle.et_state.specs.Outcome.{Outcome}
-use Rattle.et_event.specs.Moments.{Moment, moment, Doing, begins, ends as ending}
+use Rattle.et_event.specs.Moments.{Moment, moment, Doing, begins, ends_event as ending}
 use Rattle.et_event.specs.Answered.{EventAnswers}
 use Rattle.et_event.specs.Sound.{IsSoundFor}
 use Rattle.et_event.specs.Initialization.{prepared, enters_clinit, is_quiet, is_ready, is_ready_state, initialized, initialization_step, step_by}

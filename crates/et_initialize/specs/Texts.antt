@@ -12,14 +12,14 @@ use Rattle.et_state.specs.Words.{class_state_at}
 use Rattle.et_program.specs.Entries.{Linked, class_at, field_at}
 use Rattle.et_event.specs.Errors.{class_called}
 use Rattle.et_event.specs.Moments.{Doing}
-use Rattle.et_event.specs.Sites.{pool_of}
+use Rattle.et_event.specs.Sites.{pool_of_class}
 
 -- the bytes of the constant of a field, where that is a string
-abbrev pub text_of : Linked → ℕ → Option (List ℕ)
-text_of p f = string_at (pool_of p (field_at p f).class) (field_at p f).constant
+abbrev pub constant_text : Linked → ℕ → Option (List ℕ)
+constant_text p f = string_at (pool_of_class p (field_at p f).class) (field_at p f).constant
 
 abbrev pub has_text : Linked → List ℕ → ℕ → Bool
-has_text p bytes f = option_map_or (bytes_eq bytes) (text_of p f) false
+has_text p bytes f = option_map_or (bytes_eq bytes) (constant_text p f) false
 
 abbrev pub string_slots : Linked → ℕ
 string_slots p = (class_at p (class_called p (codes "java/lang/String"))).info.slots
@@ -30,18 +30,18 @@ has_room_for heap strings each objects slots =
     nat_le (made_count heap + strings + objects) most_objects && nat_le (slot_count heap + strings * each + slots) most_slots
 
 -- the string of these bytes is there
-abbrev pub is_known : Doing → List ℕ → Bool
-is_known d t = is_some (object_of d.state.guest.interned t)
+abbrev pub is_text_known : Doing → List ℕ → Bool
+is_text_known d t = is_some (object_of d.state.guest.interned t)
 
 -- what was done made the strings of the fields that were seen, and nothing else
 pub record Counted (p : Linked) (m : MachineState) (seen : List ℕ) (d : Doing) : Type 0 where
-  pub known : (t : List ℕ) → is_known d t ≡ (is_some (object_of m.guest.interned t) || list_any (has_text p t) seen)
+  pub known : (t : List ℕ) → is_text_known d t ≡ (is_some (object_of m.guest.interned t) || list_any (has_text p t) seen)
   pub objects : length d.state.heap ≡ length m.heap + length seen
   pub slots : slot_count d.state.heap ≡ slot_count m.heap + length seen * string_slots p
 
 -- the strings of these fields are there
 abbrev pub AreKnown : Linked → List ℕ → Doing → Type 0
-AreKnown p fs d = (i : ℕ) → i < length fs → (bytes : List ℕ) → text_of p (slice_index_or fs i 0) ≡ Some bytes → is_known d bytes ≡ true
+AreKnown p fs d = (i : ℕ) → i < length fs → (bytes : List ℕ) → constant_text p (slice_index_or fs i 0) ≡ Some bytes → is_text_known d bytes ≡ true
 
 -- the class became done, and the strings of its constants are there
 pub record BecameDone (p : Linked) (m : MachineState) (d : Doing) (c : ℕ) : Type 0 where

@@ -7,7 +7,7 @@ ghost use Rattle.et_state.specs.State.{kept_of};
 ghost use Rattle.et_state.specs.Words.{thread_at, class_state_at};
 ghost use Rattle.et_state.specs.Moves.{Led};
 ghost use Rattle.et_event.specs.Answered.{EventAnswers};
-ghost use Rattle.et_event.specs.Moments.{moment, begins, fits};
+ghost use Rattle.et_event.specs.Moments.{moment, begins, fits_heap};
 ghost use Rattle.et_event.specs.Sound.{IsSoundFor};
 ghost use Rattle.et_event.specs.Initialization.{begun_by, begins_class, constants_set, with_state, initializer_frame};
 ghost use Rattle.et_event.specs.InitializationOrder.{IsInOrder};
@@ -56,7 +56,7 @@ fn begin_class(
     requires thread { thread < length machine.old.guest.threads }
     requires frames { length (thread_at machine.old.guest thread).frames < most_frames }
     requires untouched { class_state_at machine.old.guest class ≡ states.Untouched }
-    requires fits { fits
+    requires fits { fits_heap
         (constants_set (moment program.now machine.old thread) class (with_state class
         (states.Begun thread) (begins (moment program.now machine.old thread)))).state.heap ≡ true }
     ensures led { OnOk result (Led (kept_of machine.old) (begun_by (moment program.now machine.old

@@ -5,15 +5,15 @@ ghost use Rattle.et_state.specs.Threads.{lost_room};
 ghost use Rattle.et_heap.specs.Objects.{has_room, new_object};
 ghost use Rattle.et_state.specs.declared.records.Record.TheVariants.{Alloc};
 ghost use Rattle.et_state.specs.Words.{static_at, with_static, steps_guest, with_new_object};
-ghost use Rattle.et_state.specs.Interned.{object_of, objects_of};
+ghost use Rattle.et_state.specs.Interned.{object_of, interned_objects};
 ghost use Rattle.et_program.specs.Entries.{class_at, field_at};
 ghost use Rattle.et_event.specs.Errors.{class_called};
 ghost use Rattle.et_event.specs.Kinds.{narrowed_int};
-ghost use Rattle.et_event.specs.Moments.{moment, fits};
-ghost use Rattle.et_event.specs.Sites.{AString, constant_at, pool_of};
+ghost use Rattle.et_event.specs.Moments.{moment, fits_heap};
+ghost use Rattle.et_event.specs.Sites.{AString, constant_at, pool_of_class};
 ghost use Rattle.et_event.specs.Strings.{interned, string_object};
 ghost use Rattle.et_event.specs.Initialization.{constant_set, field_set};
-ghost use Rattle.et_initialize.specs.Under.{so_far, with_kept, ComesTo};
+ghost use Rattle.et_initialize.specs.Under.{so_far, with_kept, InitializesTo};
 
 use et_base::{ClassId, FieldId, NoMemory, ObjectId, ThreadId, Value, to_byte, to_char, to_short};
 use et_heap::MakeFault;
@@ -55,12 +55,13 @@ fn make_string(
 ) -> Result<ObjectId, NoMemory>
     requires first { object_of machine.old.guest.interned bytes.now ≡ None }
     requires made { (o : ℕ) →
-        Contains (objects_of machine.old.guest.interned) o → o < length machine.old.heap }
-    requires fits { fits (interned (moment program.now machine.old thread) bytes.now
+        Contains (interned_objects machine.old.guest.interned) o → o < length machine.old.heap }
+    requires fits { fits_heap (interned (moment program.now machine.old thread) bytes.now
         (so_far machine.old out.old)).state.heap ≡ true }
     ensures object { IfOk result (λ o. o ≡ string_object bytes.now
         (interned (moment program.now machine.old thread) bytes.now (so_far machine.old out.old))) }
-    ensures made { OnOk result (ComesTo (interned (moment program.now machine.old thread) bytes.now
+    ensures made { OnOk result (InitializesTo (interned (moment program.now machine.old thread)
+        bytes.now
         (so_far machine.old out.old)) machine.old machine.new out.new) }
 {
     let class = class_called(program, b"java/lang/String");
@@ -91,12 +92,13 @@ fn string_of(
     out: &mut Lines,
 ) -> Result<ObjectId, NoMemory>
     requires made { (o : ℕ) →
-        Contains (objects_of machine.old.guest.interned) o → o < length machine.old.heap }
-    requires fits { fits (interned (moment program.now machine.old thread) bytes.now
+        Contains (interned_objects machine.old.guest.interned) o → o < length machine.old.heap }
+    requires fits { fits_heap (interned (moment program.now machine.old thread) bytes.now
         (so_far machine.old out.old)).state.heap ≡ true }
     ensures object { IfOk result (λ o. o ≡ string_object bytes.now
         (interned (moment program.now machine.old thread) bytes.now (so_far machine.old out.old))) }
-    ensures made { OnOk result (ComesTo (interned (moment program.now machine.old thread) bytes.now
+    ensures made { OnOk result (InitializesTo (interned (moment program.now machine.old thread)
+        bytes.now
         (so_far machine.old out.old)) machine.old machine.new out.new) }
 {
     match machine.interned(bytes) {
@@ -129,10 +131,11 @@ fn set_string(
     requires unset { static_at machine.old.guest field.now.slot ≡ Unset }
     requires lost { length machine.old.lost < lost_room }
     requires made { (o : ℕ) →
-        Contains (objects_of machine.old.guest.interned) o → o < length machine.old.heap }
-    requires fits { fits (interned (moment program.now machine.old thread) bytes.now
+        Contains (interned_objects machine.old.guest.interned) o → o < length machine.old.heap }
+    requires fits { fits_heap (interned (moment program.now machine.old thread) bytes.now
         (so_far machine.old out.old)).state.heap ≡ true }
-    ensures { OnOk result (ComesTo (constant_set (moment program.now machine.old thread) field.now
+    ensures { OnOk result (InitializesTo (constant_set (moment program.now machine.old thread)
+        field.now
         (Some (AString bytes.now)) (so_far machine.old out.old)) machine.old machine.new out.new) }
 {
     let object = string_of(program, machine, thread, bytes, out)?;
@@ -161,11 +164,12 @@ fn set_constant(
     requires unset { static_at machine.old.guest field.now.slot ≡ Unset }
     requires lost { length machine.old.lost < lost_room }
     requires made { (o : ℕ) →
-        Contains (objects_of machine.old.guest.interned) o → o < length machine.old.heap }
-    requires fits { fits (constant_set (moment program.now machine.old thread) field.now
+        Contains (interned_objects machine.old.guest.interned) o → o < length machine.old.heap }
+    requires fits { fits_heap (constant_set (moment program.now machine.old thread) field.now
         (constant_at pool.now.slots field.now.constant) (so_far machine.old out.old)).state.heap
         ≡ true }
-    ensures { OnOk result (ComesTo (constant_set (moment program.now machine.old thread) field.now
+    ensures { OnOk result (InitializesTo (constant_set (moment program.now machine.old thread)
+        field.now
         (constant_at pool.now.slots field.now.constant)
         (so_far machine.old out.old)) machine.old machine.new out.new) }
 {
@@ -197,10 +201,10 @@ pub(crate) fn set_field(
     requires unset { static_at machine.old.guest (field_at program.now field).slot ≡ Unset }
     requires lost { length machine.old.lost < lost_room }
     requires made { (o : ℕ) →
-        Contains (objects_of machine.old.guest.interned) o → o < length machine.old.heap }
-    requires fits { fits (field_set (moment program.now machine.old thread)
+        Contains (interned_objects machine.old.guest.interned) o → o < length machine.old.heap }
+    requires fits { fits_heap (field_set (moment program.now machine.old thread)
         (so_far machine.old out.old) field).state.heap ≡ true }
-    ensures { OnOk result (ComesTo (field_set (moment program.now machine.old thread)
+    ensures { OnOk result (InitializesTo (field_set (moment program.now machine.old thread)
         (so_far machine.old out.old) field) machine.old machine.new out.new) }
 {
     let info = program.field(field);

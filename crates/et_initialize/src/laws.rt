@@ -10,12 +10,12 @@ ghost use Rattle.et_event.specs.Moments.{Moment, Doing, later};
 ghost use Rattle.et_event.specs.Sound.{IsSoundFor};
 ghost use Rattle.et_event.specs.Initialization.{quietly_done};
 ghost use Rattle.et_event.specs.InitializationOrder.{IsInOrder};
-ghost use Rattle.et_initialize.specs.Under.{IsReady, HasMadeStrings};
+ghost use Rattle.et_initialize.specs.Under.{IsInitializing, HasMadeStrings};
 
 /// A sound state is ready as an event begins, which has made nothing yet.
 #[tactic(auto, using(crate::proofs::Legal::made_none, crate::proofs::Legal::ready_first))]
 pub fn begin()
-    ensures ready { (p : Linked) (s : Kept) → IsSoundFor p s → IsReady p (later s) }
+    ensures ready { (p : Linked) (s : Kept) → IsSoundFor p s → IsInitializing p (later s) }
     ensures made { (s : Kept) → IsSound s → HasMadeStrings s (later s) [] }
 {}
 
@@ -25,9 +25,9 @@ pub fn begin()
 pub fn quietly()
     ensures ready { (e : Moment) (c : ℕ) (d : Doing) →
         IsInOrder e.program → c < length e.program.classes →
-        IsReady e.program d.state → IsReady e.program (quietly_done e c d).state }
+        IsInitializing e.program d.state → IsInitializing e.program (quietly_done e c d).state }
     ensures made { (e : Moment) (c : ℕ) (d : Doing) (s : Kept) (lost : List ℕ) →
-        IsInOrder e.program → c < length e.program.classes → IsReady e.program d.state →
+        IsInOrder e.program → c < length e.program.classes → IsInitializing e.program d.state →
         HasMadeStrings s d.state lost → HasMadeStrings s (quietly_done e c d).state lost }
     ensures threads { (e : Moment) (c : ℕ) (d : Doing) →
         (quietly_done e c d).state.guest.threads ≡ d.state.guest.threads }

@@ -9,9 +9,9 @@ ghost use Rattle.et_state.specs.Words.{class_state_at};
 ghost use Rattle.et_event.specs.InitializationOrder.{IsInOrder};
 ghost use Rattle.et_state.specs.Interned.{object_of};
 ghost use Rattle.et_program.specs.Entries.{class_at};
-ghost use Rattle.et_event.specs.Moments.{moment, Doing, begins, fits as all_fit};
+ghost use Rattle.et_event.specs.Moments.{moment, Doing, begins, fits_heap as all_fit};
 ghost use Rattle.et_event.specs.Initialization.{state_of, field_set, constants_set, with_state, class_done, quietly_done, is_ready, prepared};
-ghost use Rattle.et_initialize.specs.Texts.{text_of as text_in, has_text, string_slots as slots_of_string, has_room_for as room_for, Counted, CountedAll};
+ghost use Rattle.et_initialize.specs.Texts.{constant_text as text_in, has_text, string_slots as slots_of_string, has_room_for as room_for, Counted, CountedAll};
 
 use crate::constants::slots_of;
 use et_base::{ClassId, FieldId, NoMemory};

@@ -4,10 +4,10 @@ ghost use Rattle.et_base.specs.declared.value.Value.TheVariants.{Unset};
 ghost use Rattle.et_state.specs.Threads.{lost_room};
 ghost use Rattle.et_state.specs.State.{kept_of};
 ghost use Rattle.et_state.specs.Words.{static_at};
-ghost use Rattle.et_event.specs.Moments.{moment, fits};
+ghost use Rattle.et_event.specs.Moments.{moment, fits_heap};
 ghost use Rattle.et_event.specs.Initialization.{constants_set, class_done, quietly_done, state_of};
 ghost use Rattle.et_event.specs.InitializationOrder.{IsInOrder};
-ghost use Rattle.et_initialize.specs.Under.{so_far, ComesTo, IsReady, class_of_slot};
+ghost use Rattle.et_initialize.specs.Under.{so_far, InitializesTo, IsInitializing, class_of_slot};
 
 use crate::constants::set_field;
 use et_base::{ClassId, NoMemory, ThreadId};
@@ -24,13 +24,14 @@ pub(crate) fn set_constants(
 ) -> Result<(), NoMemory>
     requires program { IsInOrder program.now }
     requires class { class < length program.now.classes }
-    requires ready { IsReady program.now (kept_of machine.old) }
+    requires ready { IsInitializing program.now (kept_of machine.old) }
     requires unset { (i : ℕ) → i < length program.now.statics →
         class_of_slot program.now i ≡ class → static_at machine.old.guest i ≡ Unset }
     requires lost { length machine.old.lost < lost_room }
-    requires fits { fits (constants_set (moment program.now machine.old thread) class
+    requires fits { fits_heap (constants_set (moment program.now machine.old thread) class
         (so_far machine.old out.old)).state.heap ≡ true }
-    ensures { OnOk result (ComesTo (constants_set (moment program.now machine.old thread) class
+    ensures { OnOk result (InitializesTo (constants_set (moment program.now machine.old thread)
+        class
         (so_far machine.old out.old)) machine.old machine.new out.new) }
 {
     let constants = program.class(class).constants.as_slice();
@@ -50,11 +51,12 @@ fn set_done(
 ) -> Result<(), NoMemory>
     requires program { IsInOrder program.now }
     requires class { class < length program.now.classes }
-    requires ready { IsReady program.now (kept_of machine.old) }
+    requires ready { IsInitializing program.now (kept_of machine.old) }
     requires lost { length machine.old.lost < lost_room }
-    requires fits { fits (class_done (moment program.now machine.old thread) class (state_of
+    requires fits { fits_heap (class_done (moment program.now machine.old thread) class
+        (state_of
         (so_far machine.old out.old) class) (so_far machine.old out.old)).state.heap ≡ true }
-    ensures { OnOk result (ComesTo (class_done
+    ensures { OnOk result (InitializesTo (class_done
         (moment program.now machine.old thread) class (state_of (so_far machine.old out.old) class)
         (so_far machine.old out.old)) machine.old machine.new out.new) }
 {
@@ -79,11 +81,11 @@ pub fn set_quietly(
 ) -> Result<(), NoMemory>
     requires program { IsInOrder program.now }
     requires class { class < length program.now.classes }
-    requires ready { IsReady program.now (kept_of machine.old) }
+    requires ready { IsInitializing program.now (kept_of machine.old) }
     requires lost { length machine.old.lost < lost_room }
-    requires fits { fits (quietly_done (moment program.now machine.old thread) class
+    requires fits { fits_heap (quietly_done (moment program.now machine.old thread) class
         (so_far machine.old out.old)).state.heap ≡ true }
-    ensures { OnOk result (ComesTo (quietly_done (moment program.now machine.old thread) class
+    ensures { OnOk result (InitializesTo (quietly_done (moment program.now machine.old thread) class
         (so_far machine.old out.old)) machine.old machine.new out.new) }
 {
     let order = program.init_order(class);

@@ -10,12 +10,12 @@ ghost use Rattle.et_event.specs.Answered.{EventAnswers};
 ghost use Rattle.et_heap.specs.Objects.{has_room};
 ghost use Rattle.et_program.specs.Entries.{class_at};
 ghost use Rattle.et_event.specs.Errors.{error_class};
-ghost use Rattle.et_event.specs.Moments.{moment, begins, fits, throws, ends as ending};
-ghost use Rattle.et_event.specs.Sites.{body_of};
+ghost use Rattle.et_event.specs.Moments.{moment, begins, fits_heap, throws, ends_event as ending};
+ghost use Rattle.et_event.specs.Sites.{present_body};
 ghost use Rattle.et_event.specs.Sound.{IsSoundFor};
 ghost use Rattle.et_event.specs.Initialization.{is_ready as ready, prepared, quietly_if_untouched, state_of, with_state, constants_set, begins_class, enters_clinit, initialized, initialization_step};
 ghost use Rattle.et_event.specs.InitializationOrder.{IsInOrder};
-ghost use Rattle.et_initialize.specs.Under.{so_far, ComesTo, IsReady};
+ghost use Rattle.et_initialize.specs.Under.{so_far, InitializesTo, IsInitializing};
 
 use crate::begins::{MOST_FRAMES, initializer};
 use crate::constants::{make_object, slots_of};
@@ -39,12 +39,13 @@ fn prepare_class(
 ) -> Result<(), NoMemory>
     requires program { IsInOrder program.now }
     requires class { class < length program.now.classes }
-    requires ready { IsReady program.now (kept_of machine.old) }
+    requires ready { IsInitializing program.now (kept_of machine.old) }
     requires lost { length machine.old.lost < lost_room }
-    requires fits { fits (quietly_if_untouched (moment program.now machine.old thread) class
+    requires fits { fits_heap (quietly_if_untouched (moment program.now machine.old thread)
+        class
         (state_of (so_far machine.old out.old) class) (so_far machine.old out.old)).state.heap
         ≡ true }
-    ensures { OnOk result (ComesTo (quietly_if_untouched
+    ensures { OnOk result (InitializesTo (quietly_if_untouched
         (moment program.now machine.old thread) class (state_of (so_far machine.old out.old) class)
         (so_far machine.old out.old)) machine.old machine.new out.new) }
 {
@@ -64,11 +65,12 @@ pub(crate) fn prepare(
 ) -> Result<(), NoMemory>
     requires program { IsInOrder program.now }
     requires classes { All (λ c. c < length program.now.classes) classes.now }
-    requires ready { IsReady program.now (kept_of machine.old) }
+    requires ready { IsInitializing program.now (kept_of machine.old) }
     requires lost { length machine.old.lost < lost_room }
-    requires fits { fits (prepared (moment program.now machine.old thread) classes.now
+    requires fits { fits_heap (prepared (moment program.now machine.old thread) classes.now
         (so_far machine.old out.old)).state.heap ≡ true }
-    ensures { OnOk result (ComesTo (prepared (moment program.now machine.old thread) classes.now
+    ensures { OnOk result (InitializesTo (prepared (moment program.now machine.old thread)
+        classes.now
         (so_far machine.old out.old)) machine.old machine.new out.new) }
 {
     for k in 0..classes.len() {
@@ -111,8 +113,8 @@ fn ready_count(program: &Program, machine: &Machine, thread: ThreadId, classes: 
 
 /// How many operands and locals the code of a method has.
 fn frame_size(method: &MethodInfo) -> (u16, u16)
-    ensures stack { result.0 ≡ (body_of method.now.code).max_stack }
-    ensures locals { result.1 ≡ (body_of method.now.code).max_locals }
+    ensures stack { result.0 ≡ (present_body method.now.code).max_stack }
+    ensures locals { result.1 ≡ (present_body method.now.code).max_locals }
 {
     match &method.code {
         Some(code) => {
@@ -136,9 +138,9 @@ pub fn begin_prepared(
     requires classes { All (λ c. c < length program.now.classes) classes.now }
     requires sound { IsSoundFor program.now (kept_of machine.old) }
     requires clock { machine.old.guest.clock < 2 ^ 40 }
-    requires fits { fits (prepared (moment program.now machine.old thread) classes.now
+    requires fits { fits_heap (prepared (moment program.now machine.old thread) classes.now
         (begins (moment program.now machine.old thread))).state.heap ≡ true }
-    ensures { OnOk result (ComesTo (record {
+    ensures { OnOk result (InitializesTo (record {
       state = (prepared (moment program.now
           machine.old thread) classes.now (begins (moment program.now machine.old thread))).state;
       records = out.old ++ (prepared (moment program.now machine.old thread) classes.now
@@ -165,7 +167,7 @@ fn finish(
     requires clock { machine.old.guest.clock < 2 ^ 40 }
     requires frame { HasFrame machine.old.guest thread }
     requires stage { (top machine.old.guest thread).stage ≡ stages.Before class }
-    requires fits { fits (prepared (moment program.now machine.old thread) classes.now
+    requires fits { fits_heap (prepared (moment program.now machine.old thread) classes.now
         (begins (moment program.now machine.old thread))).state.heap ≡ true }
     ensures { IfOk result (λ end. EventAnswers (enters_clinit (moment program.now machine.old
         thread) class None (prepared (moment program.now machine.old thread) classes.now (begins
@@ -194,7 +196,7 @@ fn enter(
     requires clock { machine.old.guest.clock < 2 ^ 40 }
     requires frame { HasFrame machine.old.guest thread }
     requires stage { (top machine.old.guest thread).stage ≡ stages.Before class }
-    requires fits { fits (prepared (moment program.now machine.old thread) classes.now
+    requires fits { fits_heap (prepared (moment program.now machine.old thread) classes.now
         (begins (moment program.now machine.old thread))).state.heap ≡ true }
     ensures { IfOk result
         (λ end. EventAnswers (enters_clinit (moment program.now machine.old thread) class
@@ -290,7 +292,7 @@ fn begin_blocker(
     requires frames { length (thread_at machine.old.guest thread).frames < most_frames }
     requires untouched { state_of (prepared (moment program.now machine.old thread) classes.now
         (begins (moment program.now machine.old thread))) class ≡ states.Untouched }
-    requires fits { fits (constants_set (moment program.now machine.old thread) class
+    requires fits { fits_heap (constants_set (moment program.now machine.old thread) class
         (with_state class (states.Begun thread) (prepared (moment program.now machine.old thread)
         classes.now (begins (moment program.now machine.old thread))))).state.heap ≡ true }
     ensures { IfOk result (λ end. EventAnswers (begins_class (moment program.now machine.old thread)

@@ -24,9 +24,9 @@ IsWithin TooLong most = Unit {0}
 IsWithin Failed most = Unit {0}
 
 -- the read failed
-abbrev pub is_failed : Result Found NoMemory → Bool
-is_failed (Ok (Bytes bytes)) = false
-is_failed (Ok Absent) = false
-is_failed (Ok TooLong) = false
-is_failed (Ok Failed) = true
-is_failed (Err want) = false
+abbrev pub is_read_failed : Result Found NoMemory → Bool
+is_read_failed (Ok (Bytes bytes)) = false
+is_read_failed (Ok Absent) = false
+is_read_failed (Ok TooLong) = false
+is_read_failed (Ok Failed) = true
+is_read_failed (Err want) = false

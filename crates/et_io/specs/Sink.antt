@@ -14,10 +14,10 @@ Takes Failed old new piece = new ≡ old
 Takes NoMemory old new piece = new ≡ old
 
 -- the put failed
-abbrev pub is_failed : Put → Bool
-is_failed (Took n) = false
-is_failed Failed = true
-is_failed NoMemory = false
+abbrev pub is_put_failed : Put → Bool
+is_put_failed (Took n) = false
+is_put_failed Failed = true
+is_put_failed NoMemory = false
 
 -- the sink took the piece up to this rest
 pub record TakesUpTo (old new : Option (List ℕ)) (piece rest : List ℕ) : Type 0 where

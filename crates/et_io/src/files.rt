@@ -1,7 +1,7 @@
 //! Files by their paths.
 ghost use Rattle.std.specs.Prelude.{◌≡◌, ℕ, ◌≤◌, ◌++◌, ◌∷◌, [], List, Option, IfOk, IfSome};
 ghost use Rattle.et_io.specs.Faults.{count_after};
-ghost use Rattle.et_io.specs.Files.{Held, Finds, IsWithin, is_failed};
+ghost use Rattle.et_io.specs.Files.{Held, Finds, IsWithin, is_read_failed};
 
 use et_base::NoMemory;
 use std::alloc::Global;
@@ -36,7 +36,7 @@ pub trait Files {
         ensures found { IfOk result
             (λ found. IfSome (holds self.old) (λ held. Finds found most (held path.now))) }
         ensures within { IfOk result (λ found. IsWithin found most) }
-        ensures failed { faults self.new ≡ count_after (is_failed result) (faults self.old) }
+        ensures failed { faults self.new ≡ count_after (is_read_failed result) (faults self.old) }
         ensures asked { asked self.new ≡ asked self.old ++ path.now ∷ [] }
         ensures kept { holds self.new ≡ holds self.old }
         ensures never_falls { faults self.old ≤ faults self.new };

@@ -64,7 +64,7 @@ impl Files for MemFiles {
     ghost use Rattle.std.specs.Prelude.{◌≡◌, ◌≤◌, ◌↔◌, ◌++◌, ◌∷◌, [], ℕ, List, Some, Ok, IfOk, IfSome, IsTrue};
     ghost use Rattle.et_io.specs.Calls.{next_fails, after_call};
     ghost use Rattle.et_io.specs.Faults.{count_after};
-    ghost use Rattle.et_io.specs.Files.{Finds, IsWithin, is_failed};
+    ghost use Rattle.et_io.specs.Files.{Finds, IsWithin, is_read_failed};
     ghost use Rattle.et_io.specs.MemFiles.{held, calls_of, asked_of, FailsAsTold};
 
     ghost holds = { λ files. Some (held files) };
@@ -78,7 +78,7 @@ impl Files for MemFiles {
         ensures found { IfOk result (λ found. Finds found most (held self.old path.now)) }
         ensures within { IfOk result (λ found. IsWithin found most) }
         ensures failed { (calls_of self.new).faults
-            ≡ count_after (is_failed result) (calls_of self.old).faults }
+            ≡ count_after (is_read_failed result) (calls_of self.old).faults }
         ensures asked { asked_of self.new ≡ asked_of self.old ++ path.now ∷ [] }
         ensures kept { Some (held self.new) ≡ Some (held self.old) }
         ensures never_falls { (calls_of self.old).faults ≤ (calls_of self.new).faults }

@@ -5,7 +5,7 @@ ghost use Rattle.std.specs.BTreeSet.{insert_key};
 ghost use Rattle.et_io.specs.Calls.{next_fails, after_call};
 ghost use Rattle.et_io.specs.MemSink.{TakesMost};
 ghost use Rattle.et_io.specs.Faults.{count_after};
-ghost use Rattle.et_io.specs.Sink.{Takes, is_failed};
+ghost use Rattle.et_io.specs.Sink.{Takes, is_put_failed};
 
 use crate::calls::CallBook;
 use crate::sink::{Put, Sink};
@@ -80,7 +80,7 @@ impl Sink for MemSink {
     fn put(&mut self, piece: &[u8]) -> Put
         ensures takes { Takes result (Some self.old.taken) (Some self.new.taken) piece.now }
         ensures failed { self.new.calls.faults
-            ≡ count_after (is_failed result) self.old.calls.faults }
+            ≡ count_after (is_put_failed result) self.old.calls.faults }
         ensures never_falls { self.old.calls.faults ≤ self.new.calls.faults }
         ensures fails { (result ≡ Put.Failed) ↔ IsTrue (next_fails self.old.calls) }
         ensures takes_most { TakesMost result piece.now self.old.most }

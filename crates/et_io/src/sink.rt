@@ -1,7 +1,7 @@
 //! What bytes are put to.
 ghost use Rattle.std.specs.Prelude.{◌≡◌, ℕ, ◌≤◌, List, Option};
 ghost use Rattle.et_io.specs.Faults.{count_after};
-ghost use Rattle.et_io.specs.Sink.{Takes, is_failed};
+ghost use Rattle.et_io.specs.Sink.{Takes, is_put_failed};
 
 /// What a sink answered to one put.
 #[derive(Clone, Copy, Debug, PartialEq, Eq)]
@@ -27,6 +27,6 @@ pub trait Sink {
     /// after `NoMemory` nothing was taken.
     fn put(&mut self, piece: &[u8]) -> Put
         ensures takes { Takes result (taken self.old) (taken self.new) piece.now }
-        ensures failed { faults self.new ≡ count_after (is_failed result) (faults self.old) }
+        ensures failed { faults self.new ≡ count_after (is_put_failed result) (faults self.old) }
         ensures never_falls { faults self.old ≤ faults self.new };
 }

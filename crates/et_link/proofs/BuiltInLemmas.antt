@@ -5,20 +5,20 @@ use Rattle.std.specs.List.{list_all, slice_index_or}
 use Rattle.std.proofs.lemmas.Bool.{and_parts, false≢true}
 use Rattle.std.proofs.lemmas.List.{length-map}
 use Rattle.std.proofs.lemmas.List.Elements.{All-nil, All-cons, All-append, All-from_recursion}
-use Rattle.et_base.specs.Marks.{MarksAre, IsFirst, first_from}
+use Rattle.et_base.specs.Marks.{MarksAre, IsFirstBroken, first_from}
 use Rattle.et_base.proofs.Firsts.{found_is_first}
 use Rattle.et_pool.specs.declared.fault.PoolFault.{PoolFault}
 use Rattle.et_pool.specs.declared.fault.PoolFault.TheVariants as fault
 use Rattle.et_pool.specs.Entries.{Item, Constants, slots_of}
 use Rattle.et_pool.specs.Looks.{tag_of_slot}
 use Rattle.et_pool.specs.Pools.{IsPool, BreaksPool}
-use Rattle.et_pool.specs.Reading.{IsFault}
+use Rattle.et_pool.specs.Reading.{IsPoolFaultOf}
 use Rattle.et_pool.specs.Broken.{Broken, Tag, Utf8, Short}
 use Rattle.et_pool.proofs.OneAnswer.{exactly_one}
 use Rattle.et_code.specs.Decoding.{instruction_at}
 use Rattle.et_code.specs.Forms.{form_of}
 use Rattle.et_code.specs.Starts.{starts_from}
-use Rattle.et_code.specs.Rules.{code_marks, rows_marks, Checks}
+use Rattle.et_code.specs.Rules.{code_marks, rows_marks, ChecksCode}
 use Rattle.et_code.specs.Bodies.{Body, body_of}
 use Rattle.et_code.specs.declared.body.RawCode.{RawCode}
 use Rattle.et_code.specs.declared.body.CheckFault.{CheckFault}
@@ -31,7 +31,7 @@ use Rattle.et_boot.proofs.Places.{index_map}
 use Rattle.et_boot.proofs.PoolLemmas.{thread_is_read, pools_are_read}
 use Rattle.et_program.specs.MembersOf.{boot_body, IsBootPool}
 use Rattle.et_program.specs.Files.{boots}
-use Rattle.et_link.specs.BuiltIn.{IsKeptBy, HasKeptCode, KeepsCode}
+use Rattle.et_link.specs.BuiltIn.{IsKeptBy, HasKeptCode, KeepsBuiltInCode}
 
 -- CLASSES WITHOUT CODE
 
@@ -51,11 +51,11 @@ methods_without tags (m ∷ ms) h =
     let parts = and_parts (has_no_code m) (list_all has_no_code ms) h in
     All-cons (HasKeptCode tags) m ms (without tags m m.code parts.0) (methods_without tags ms parts.1)
 
-classes_without : (cs : List BootClassOf) → list_all is_without_code cs ≡ true → All KeepsCode cs
-classes_without [] h = All-nil KeepsCode
+classes_without : (cs : List BootClassOf) → list_all is_without_code cs ≡ true → All KeepsBuiltInCode cs
+classes_without [] h = All-nil KeepsBuiltInCode
 classes_without (c ∷ cs) h =
     let parts = and_parts (is_without_code c) (list_all is_without_code cs) h in
-    All-cons KeepsCode c cs (λ slots after p. methods_without (map tag_of_slot slots) c.methods parts.0) (classes_without cs parts.1)
+    All-cons KeepsBuiltInCode c cs (λ slots after p. methods_without (map tag_of_slot slots) c.methods parts.0) (classes_without cs parts.1)
 
 -- THREAD
 
@@ -83,7 +83,7 @@ one_pool bytes s t a b p q =
     let one = exactly_one bytes 0 in
     ap (λ (x : List (Option Item) × ℕ). x.0) (ok_is (s, a) (t, b) one.answer (one.only (Ok (s, a)) p) (one.only (Ok (t, b)) q))
 
-thread_keeps : KeepsCode thread
+thread_keeps : KeepsBuiltInCode thread
 thread_keeps slots after p =
     let same : slots_of thread_pool ≡ slots = one_pool thread.pool _ _ _ _ thread_is_read p in
     subst (λ (s : List (Option Item)). All (HasKeptCode (map tag_of_slot s)) thread.methods) same thread_is_kept
@@ -96,9 +96,9 @@ first_six = take 6 boot_classes
 abbrev others : List BootClassOf
 others = drop 7 boot_classes
 
-pub each_keeps : All KeepsCode boots
+pub each_keeps : All KeepsBuiltInCode boots
 unfolding boots
-each_keeps = All-append KeepsCode first_six (thread ∷ others) (classes_without first_six refl) (All-cons KeepsCode thread others thread_keeps (classes_without others refl))
+each_keeps = All-append KeepsBuiltInCode first_six (thread ∷ others) (classes_without first_six refl) (All-cons KeepsBuiltInCode thread others thread_keeps (classes_without others refl))
 
 -- READING them comes to no fault but want of memory
 
@@ -107,7 +107,7 @@ pool_fault bytes slots after p b breaks =
     let one = exactly_one bytes 0 in
     not_both (slots, after) b one.answer (one.only (Ok (slots, after)) p) (one.only (Err b) breaks)
 
-pub no_pool_fault : (bytes : List ℕ) (slots : List (Option Item)) (after : ℕ) → IsPool bytes 0 slots after → (f : PoolFault) → IsFault f (BreaksPool bytes 0) → f ≡ fault.NoMemory
+pub no_pool_fault : (bytes : List ℕ) (slots : List (Option Item)) (after : ℕ) → IsPool bytes 0 slots after → (f : PoolFault) → IsPoolFaultOf f (BreaksPool bytes 0) → f ≡ fault.NoMemory
 no_pool_fault bytes slots after p (fault.Tag k) h = absurd (pool_fault bytes slots after p (Tag k) h)
 no_pool_fault bytes slots after p (fault.Utf8 k) h = absurd (pool_fault bytes slots after p (Utf8 k) h)
 no_pool_fault bytes slots after p (fault.Index k) h = absurd h
@@ -120,12 +120,12 @@ unfolding boots
 pool_at i c lt is = subst HasPool (sym is) (pools_are_read i no_boot_class lt)
 
 pub code_at : (i : ℕ) (c : BootClassOf) (p : Constants) → i < length boots → c ≡ slice_index_or boots i no_boot_class → IsBootPool c p → All (HasKeptCode (map tag_of_slot p.slots)) c.methods
-code_at i c p lt is read = (subst KeepsCode (sym is) (each_keeps i no_boot_class lt)) p.slots read.after read.spelled
+code_at i c p lt is read = (subst KeepsBuiltInCode (sym is) (each_keeps i no_boot_class lt)) p.slots read.after read.spelled
 
-pub code_fault : (raw : RawCode) (tags : List ℕ) (b : Body) → body_of raw ≡ b → MarksAre (code_marks b tags) None → (f : CheckFault) (kind place : ℕ) → f ≡ check.At kind place → Checks raw tags (Err f) → ⊥
+pub code_fault : (raw : RawCode) (tags : List ℕ) (b : Body) → body_of raw ≡ b → MarksAre (code_marks b tags) None → (f : CheckFault) (kind place : ℕ) → f ≡ check.At kind place → ChecksCode raw tags (Err f) → ⊥
 code_fault raw tags b same kept f kind place is h =
-    let first : IsFirst (code_marks (body_of raw) tags) place kind = subst (λ (x : CheckFault). Checks raw tags (Err x)) is h in
-    let there : IsFirst (code_marks b tags) place kind = subst (λ (x : Body). IsFirst (code_marks x tags) place kind) same first in
+    let first : IsFirstBroken (code_marks (body_of raw) tags) place kind = subst (λ (x : CheckFault). ChecksCode raw tags (Err x)) is h in
+    let there : IsFirstBroken (code_marks b tags) place kind = subst (λ (x : Body). IsFirstBroken (code_marks x tags) place kind) same first in
     kept place kind there.broken
 
 pub method_at : (tags : List ℕ) (ms : List BootMethod) (i : ℕ) (d : BootMethod) → i < length ms → All (HasKeptCode tags) (map shown_method ms) → HasKeptCode tags (shown_method (slice_index_or ms i d))

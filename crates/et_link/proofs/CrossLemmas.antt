@@ -7,7 +7,7 @@ use Rattle.std.proofs.lemmas.Bool.{cases_Bool, cond-true, cond-false, and_parts,
 use Rattle.std.proofs.lemmas.List.{get_or_default}
 use Rattle.et_hierarchy.specs.Outline.{Outline}
 use Rattle.std.specs.Option.{option_to_list}
-use Rattle.et_hierarchy.specs.Links.{LinkEntry, links, no_links, AreWithin}
+use Rattle.et_hierarchy.specs.Links.{LinkEntry, links, no_links, HasLinksWithin}
 use Rattle.et_hierarchy.specs.Ancestry.{Ancestry, ancestry_at, IsAncestry, supers_over}
 use Rattle.et_program.specs.declared.info.MethodInfo.{MethodInfo}
 use Rattle.et_program.specs.declared.method_index.MethodIndex.{MethodIndex}
@@ -16,7 +16,7 @@ use Rattle.et_program.specs.Members.{is_method}
 use Rattle.et_program.specs.Finding.{found_by, FindsMethods}
 use Rattle.et_program.proofs.PlaceLemmas.{position_within}
 use Rattle.et_program.proofs.WordLemmas.{here, there, any_some, any_from}
-use Rattle.et_program.specs.LinkFaults.{IsSuperIn, IsSuper, may_redeclare, is_package_private, method_of, same_in, is_same_package, CrossesPackage}
+use Rattle.et_program.specs.LinkFaults.{IsSuperIn, IsSuper, may_redeclare, is_package_private, method_numbered, same_in, is_same_package, CrossesPackage}
 use Rattle.et_link.specs.Crossing.{is_private_at, hides, crosses, lesser, IsLeastClass, AnswersLeast}
 
 -- THE INDEX
@@ -41,26 +41,26 @@ pub least_of : (test : MethodInfo → Bool) (methods : List MethodInfo) (n : ℕ
 least_of test methods n a b e h = subst (AnswersLeast test methods n) (sym e) h
 
 module _ (test : MethodInfo → Bool) (methods : List MethodInfo) (n : ℕ) where
-  passed_over : (found : Option ℕ) → AnswersLeast test methods n found → test (method_of methods n) ≡ false → AnswersLeast test methods (n + 1) found
-  passed_over None h no' = below_more (λ j. test (method_of methods j) ≡ true → ⊥) n h (λ y. true≢false (sym y ∙ no'))
+  passed_over : (found : Option ℕ) → AnswersLeast test methods n found → test (method_numbered methods n) ≡ false → AnswersLeast test methods (n + 1) found
+  passed_over None h no' = below_more (λ j. test (method_numbered methods j) ≡ true → ⊥) n h (λ y. true≢false (sym y ∙ no'))
   passed_over (Some k) h no' = record {
     at = h.at;
     within = (let lt : h.at < n = h.within in omega arith);
     of_class = h.of_class;
     passes = h.passes;
-    least = below_more (λ j. test (method_of methods j) ≡ true → (method_of methods j).class < k → ⊥) n h.least (λ y lt. true≢false (sym y ∙ no'));
+    least = below_more (λ j. test (method_numbered methods j) ≡ true → (method_numbered methods j).class < k → ⊥) n h.least (λ y lt. true≢false (sym y ∙ no'));
   }
 
-  counted : (found : Option ℕ) → AnswersLeast test methods n found → test (method_of methods n) ≡ true → IsLeastClass test methods (n + 1) (lesser found (method_of methods n).class)
+  counted : (found : Option ℕ) → AnswersLeast test methods n found → test (method_numbered methods n) ≡ true → IsLeastClass test methods (n + 1) (lesser found (method_numbered methods n).class)
   counted None h yes' = record {
     at = n;
     within = omega arith;
     of_class = refl;
     passes = yes';
-    least = below_more (λ j. test (method_of methods j) ≡ true → (method_of methods j).class < (method_of methods n).class → ⊥) n (λ j lt y less. h j lt y) (λ y less. omega arith);
+    least = below_more (λ j. test (method_numbered methods j) ≡ true → (method_numbered methods j).class < (method_numbered methods n).class → ⊥) n (λ j lt y less. h j lt y) (λ y less. omega arith);
   }
   counted (Some k) h yes' =
-      let c : ℕ = (method_of methods n).class in
+      let c : ℕ = (method_numbered methods n).class in
       ⊎_elim
       (λ t. let lt : c < k = ltb-true c k t in
       subst (IsLeastClass test methods (n + 1)) (sym (cond-true (nat_lt c k) c k t)) (record {
@@ -68,7 +68,7 @@ module _ (test : MethodInfo → Bool) (methods : List MethodInfo) (n : ℕ) wher
         within = omega arith;
         of_class = refl;
         passes = yes';
-        least = below_more (λ j. test (method_of methods j) ≡ true → (method_of methods j).class < c → ⊥) n (λ j l y less. h.least j l y (omega arith)) (λ y less. omega arith);
+        least = below_more (λ j. test (method_numbered methods j) ≡ true → (method_numbered methods j).class < c → ⊥) n (λ j l y less. h.least j l y (omega arith)) (λ y less. omega arith);
       }))
       (λ f. let le : k ≤ c = ltb-false c k f in
       subst (IsLeastClass test methods (n + 1)) (sym (cond-false (nat_lt c k) c k f)) (record {
@@ -76,13 +76,13 @@ module _ (test : MethodInfo → Bool) (methods : List MethodInfo) (n : ℕ) wher
         within = (let lt : h.at < n = h.within in omega arith);
         of_class = h.of_class;
         passes = h.passes;
-        least = below_more (λ j. test (method_of methods j) ≡ true → (method_of methods j).class < k → ⊥) n h.least (λ y less. omega arith);
+        least = below_more (λ j. test (method_numbered methods j) ≡ true → (method_numbered methods j).class < k → ⊥) n h.least (λ y less. omega arith);
       }))
       (cases_Bool (nat_lt c k))
 
 pub least_more : (test : MethodInfo → Bool) (methods : List MethodInfo) (n : ℕ) (found : Option ℕ) (m : MethodInfo) → AnswersLeast test methods n found → n < length methods → m ≡ get_or methods n m → AnswersLeast test methods (n + 1) (cond (test m) (Some (lesser found m.class)) found)
 least_more test methods n found m h lt is =
-    let e : m ≡ method_of methods n = is ∙ get_or_default methods n m no_method lt in
+    let e : m ≡ method_numbered methods n = is ∙ get_or_default methods n m no_method lt in
     ⊎_elim
     (λ t. least_of test methods (n + 1) _ (Some (lesser found m.class)) (cond-true (test m) (Some (lesser found m.class)) found t) (subst (λ (x : MethodInfo). IsLeastClass test methods (n + 1) (lesser found x.class)) (sym e) (counted test methods n found h (ap test (sym e) ∙ t))))
     (λ f. least_of test methods (n + 1) _ found (cond-false (test m) (Some (lesser found m.class)) found f) (passed_over test methods n found h (ap test (sym e) ∙ f)))
@@ -92,7 +92,7 @@ pub least_at : (test : MethodInfo → Bool) (methods : List MethodInfo) (n : ℕ
 least_at test methods zero le = (None, λ j lt y. absurd (omega arith))
 least_at test methods (suc n) le =
     let r = least_at test methods n (omega arith) in
-    let m : MethodInfo = method_of methods n in
+    let m : MethodInfo = method_numbered methods n in
     let inside : n < length methods = omega arith in
     let e : n + 1 ≡ suc n = omega arith in
     (cond (test m) (Some (lesser r.0 m.class)) r.0, subst (λ k. AnswersLeast test methods k (cond (test m) (Some (lesser r.0 m.class)) r.0)) e (least_more test methods n r.0 m r.1 inside (get_or_default methods n no_method m inside)))
@@ -102,7 +102,7 @@ least_at test methods (suc n) le =
 some_same : (a b : ℕ) → Some a ≡ Some b → a ≡ b
 some_same a b e = cc
 
-module _ (table : List LinkEntry) (rows : List Ancestry) (is : IsAncestry table rows) (within : AreWithin (length table) table) where
+module _ (table : List LinkEntry) (rows : List Ancestry) (is : IsAncestry table rows) (within : HasLinksWithin (length table) table) where
   -- the superclasses of class k, by the class right above it
   supers_by : (k : ℕ) → k < length table → (ancestry_at rows k).supers ≡ supers_over rows (slice_index_or table k no_links).above
   supers_by k lt = ap (λ (a : Ancestry). a.supers) (is.row k lt)
@@ -136,7 +136,7 @@ module _ (table : List LinkEntry) (rows : List Ancestry) (is : IsAncestry table 
 
 -- WHAT CROSSES
 
-some_private : (methods : List MethodInfo) (o : Option ℕ) → is_private_at methods o ≡ true → (j : ℕ) × (o ≡ Some j) × (is_package_private (method_of methods j) ≡ true)
+some_private : (methods : List MethodInfo) (o : Option ℕ) → is_private_at methods o ≡ true → (j : ℕ) × (o ≡ Some j) × (is_package_private (method_numbered methods j) ≡ true)
 some_private methods None h = absurd (cc)
 some_private methods (Some j) h = (j, refl, h)
 
@@ -144,10 +144,10 @@ not_true : (b : Bool) → not b ≡ true → b ≡ false
 not_true true h = absurd (cc)
 not_true false h = refl
 
-module _ (set : List Outline) (rows : List Ancestry) (methods : List MethodInfo) (is : IsAncestry (links set) rows) (within : AreWithin (length (links set)) (links set)) (own : All (λ (m : MethodInfo). m.class < length (links set)) methods) where
-  crossing_at : (j : ℕ) → j < length methods → crosses set rows methods (method_of methods j) ≡ true → CrossesPackage set methods (method_of methods j).class
+module _ (set : List Outline) (rows : List Ancestry) (methods : List MethodInfo) (is : IsAncestry (links set) rows) (within : HasLinksWithin (length (links set)) (links set)) (own : All (λ (m : MethodInfo). m.class < length (links set)) methods) where
+  crossing_at : (j : ℕ) → j < length methods → crosses set rows methods (method_numbered methods j) ≡ true → CrossesPackage set methods (method_numbered methods j).class
   crossing_at j lt h =
-      let m : MethodInfo = method_of methods j in
+      let m : MethodInfo = method_numbered methods j in
       let a = and_parts (may_redeclare m) (list_any (hides set methods m) (ancestry_at rows m.class).supers) h in
       let s = any_some (hides set methods m) (ancestry_at rows m.class).supers a.1 in
       let b = and_parts (not (is_same_package set m.class s.0)) (is_private_at methods (same_in methods m s.0)) s.2 in
@@ -165,9 +165,9 @@ module _ (set : List Outline) (rows : List Ancestry) (methods : List MethodInfo)
         package_private = o.2;
       }
 
-  crossing_is : (k : ℕ) (c : CrossesPackage set methods k) → crosses set rows methods (method_of methods c.method) ≡ true
+  crossing_is : (k : ℕ) (c : CrossesPackage set methods k) → crosses set rows methods (method_numbered methods c.method) ≡ true
   crossing_is k c =
-      let m : MethodInfo = method_of methods c.method in
+      let m : MethodInfo = method_numbered methods c.method in
       let up : Contains (ancestry_at rows m.class).supers c.superclass = super_in (links set) rows is within c.is_super.0 m.class c.superclass (own c.method no_method c.within) (subst (λ (x : ℕ). IsSuperIn (links set) x c.is_super.0 c.superclass) (sym c.of_class) c.is_super.1) in
       let apart : is_same_package set m.class c.superclass ≡ false = ap (λ (x : ℕ). is_same_package set x c.superclass) c.of_class ∙ c.elsewhere in
       let hidden : hides set methods m c.superclass ≡ true = and_from (not (is_same_package set m.class c.superclass)) (is_private_at methods (same_in methods m c.superclass)) (ap not apart) (ap (is_private_at methods) c.found ∙ c.package_private) in
@@ -180,4 +180,4 @@ module _ (set : List Outline) (rows : List Ancestry) (methods : List MethodInfo)
   first_crosses k h = subst (CrossesPackage set methods) h.of_class (crossing_at h.at h.within h.passes)
 
   pub none_crosses_before : (k : ℕ) → AnswersLeast (crosses set rows methods) methods (length methods) (Some k) → (j : ℕ) → j < k → CrossesPackage set methods j → ⊥
-  none_crosses_before k h j lt c = h.least c.method c.within (crossing_is j c) (let e : (method_of methods c.method).class ≡ j = c.of_class in omega arith)
+  none_crosses_before k h j lt c = h.least c.method c.within (crossing_is j c) (let e : (method_numbered methods c.method).class ≡ j = c.of_class in omega arith)

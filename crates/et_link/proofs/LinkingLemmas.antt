@@ -8,8 +8,8 @@ use Rattle.std.proofs.lemmas.List.Elements.{All-head, All-tail}
 use Rattle.std.proofs.lemmas.List.Sums.{sum_by-cons}
 use Rattle.et_pool.specs.Entries.{Constants}
 use Rattle.et_program.specs.Loaded.{LoadedClass}
-use Rattle.et_hierarchy.specs.Outline.{Outline, outline_at, place_of}
-use Rattle.et_hierarchy.specs.Links.{LinkEntry, links, links_of, AreWithin, IsAncestor}
+use Rattle.et_hierarchy.specs.Outline.{Outline, outline_at, class_place}
+use Rattle.et_hierarchy.specs.Links.{LinkEntry, links, links_of, HasLinksWithin, IsAncestor}
 use Rattle.et_hierarchy.specs.Faults.{IsLinkFault, IsFaultless, kind_number}
 use Rattle.et_hierarchy.specs.declared.fault.FaultKind.{FaultKind}
 use Rattle.et_hierarchy.specs.declared.fault.FaultKind.TheVariants as set
@@ -23,17 +23,17 @@ use Rattle.et_program.specs.declared.fault.LinkFaultKind.{LinkFaultKind}
 use Rattle.et_program.specs.declared.fault.LinkFaultKind.TheVariants.{Duplicate, NoSuper, Cycle, FinalSuper, CrossPackage, NoMain, TooMany}
 use Rattle.et_link.specs.declared.fault.LinkFault.{LinkFault}
 use Rattle.et_link.specs.declared.fault.LinkFault.TheVariants as fault
-use Rattle.et_program.specs.Files.{boots, set_of, flags_of}
+use Rattle.et_program.specs.Files.{boots, set_of, file_flags}
 use Rattle.et_program.specs.MembersOf.{numbered, methods_of, fields_of}
-use Rattle.et_program.specs.Slots.{own_slots, slots_above, slots_of, placed_behind, slot_of, places_from, is_static_field, is_instance_of}
+use Rattle.et_program.specs.Slots.{own_slots, slots_above, field_slots, placed_behind, slot_of_field, places_from, is_static_field, is_instance_of}
 use Rattle.et_program.specs.Heads.{has_to_run, initializer_of, constants_of}
 use Rattle.et_program.specs.ArrayTypes.{arrays_met, array_names, array_at}
 use Rattle.et_program.specs.Classes.{Heads, set_class, array_class}
 use Rattle.et_link.specs.Crossing.{crosses, AnswersLeast}
 use Rattle.et_link.specs.Declaring.{AreRows}
-use Rattle.et_program.specs.ProgramOf.{heads_of, names_of, classes_by, main_of, is_of_file, program_with}
+use Rattle.et_program.specs.ProgramOf.{heads_of, class_names_of, classes_by, main_of, is_of_file, program_with}
 use Rattle.et_program.specs.LinkFaults.{link_number, IsLinkFree, IsFaultAt, IsLinkable}
-use Rattle.et_link.specs.Refusals.{Names, link_kind, RefusesSet, IsLate, linked_by, RefusesLink}
+use Rattle.et_link.specs.Refusals.{NamesFault, link_kind, RefusesSet, IsLate, linked_by, RefusesLink}
 use Rattle.et_link.proofs.CrossLemmas.{no_crossing, first_crosses, none_crosses_before}
 use Rattle.et_link.proofs.TabledLemmas.{length-set, methods_within, fields_within, length-classes, tabled}
 
@@ -94,8 +94,8 @@ module _ (files : List LoadedClass) (rows : List Ancestry) (ancestry : IsAncestr
   size : length (links (set_of files)) ≡ length (set_of files)
   size = length-map (set_of files) (links_of (set_of files))
 
-  inner : AreWithin (length (links (set_of files))) (links (set_of files))
-  inner = subst (λ n. AreWithin n (links (set_of files))) (sym size) (are_within (set_of files))
+  inner : HasLinksWithin (length (links (set_of files))) (links (set_of files))
+  inner = subst (λ n. HasLinksWithin n (links (set_of files))) (sym size) (are_within (set_of files))
 
   own : All (λ (m : MethodInfo). m.class < length (links (set_of files))) (methods_of files)
   own = subst (λ n. All (λ (m : MethodInfo). m.class < n) (methods_of files)) (sym size) (methods_within files)
@@ -163,7 +163,7 @@ module _ (files : List LoadedClass) (rows : List Ancestry) (ancestry : IsAncestr
   late_inside NoMain k some (none, no_main, at) = let n = length-set files in omega arith
   late_inside TooMany k some (none, main, many, at) = let n = length-set files in omega arith
 
-  pub late_refused : (kind : LinkFaultKind) (k : ℕ) (set' : List Outline) (e : LinkFault) → 0 < length files → IsLate (set_of files) rows (methods_of files) (length files) kind k → set' ≡ set_of files → Names set' kind k e → RefusesLink files e
+  pub late_refused : (kind : LinkFaultKind) (k : ℕ) (set' : List Outline) (e : LinkFault) → 0 < length files → IsLate (set_of files) rows (methods_of files) (length files) kind k → set' ≡ set_of files → NamesFault set' kind k e → RefusesLink files e
   late_refused kind k set' (fault.At other name) some h is (same, named) = (
     k,
     subst (λ (x : LinkFaultKind). IsFaultAt files x k) (sym same) (late_fault kind k some h (late_inside kind k some h)),
@@ -260,9 +260,9 @@ numbered_same f g m k (x ∷ xs) le h = ap (λ l. l ++ numbered f (k + 1) xs) (h
 placed_same : (n : ℕ) (f g : ℕ → ℕ) (before fs : List FieldInfo) → ((k : ℕ) → k < n → f k ≡ g k) → All (λ (x : FieldInfo). x.class < n) fs → placed_behind f before fs ≡ placed_behind g before fs
 placed_same n f g before [] h all = refl
 placed_same n f g before (x ∷ fs) h all =
-    let e : slot_of f before x ≡ slot_of g before x = ap (λ b. cond (is_static_field x) (count_by is_static_field before) (b + count_by (is_instance_of x.class) before)) (h x.class (All-head (λ (y : FieldInfo). y.class < n) x fs all)) in
+    let e : slot_of_field f before x ≡ slot_of_field g before x = ap (λ b. cond (is_static_field x) (count_by is_static_field before) (b + count_by (is_instance_of x.class) before)) (h x.class (All-head (λ (y : FieldInfo). y.class < n) x fs all)) in
     ap (λ s. record x { slot = s } ∷ placed_behind f (before ++ x ∷ []) fs) e
-    ∙ ap (λ l. record x { slot = slot_of g before x } ∷ l) (placed_same n f g (before ++ x ∷ []) fs h (All-tail (λ (y : FieldInfo). y.class < n) x fs all))
+    ∙ ap (λ l. record x { slot = slot_of_field g before x } ∷ l) (placed_same n f g (before ++ x ∷ []) fs h (All-tail (λ (y : FieldInfo). y.class < n) x fs all))
 
 abbrev heads_with : List LinkEntry → List Ancestry → List ℕ → ℕ → (ℕ → Bool) → Option ℕ → List ℕ → (List ℕ → Option ℕ) → (List ℕ → Option ℕ) → Heads
 heads_with t r fl s nd ci co pl ar = record { table = t; rows = r; flags = fl; slots = λ k. s; needs = nd; clinit = λ k. ci; constants = λ k. co; place = pl; array = ar }
@@ -271,13 +271,13 @@ heads_with t r fl s nd ci co pl ar = record { table = t; rows = r; flags = fl; s
 pub record IsKnown (files : List LoadedClass) (rows : List Ancestry) (h : Heads) : Type 0 where
   pub table : h.table ≡ links (set_of files)
   pub rows_are : h.rows ≡ rows
-  pub flags : h.flags ≡ flags_of files
-  pub slots : (k : ℕ) → k < length (set_of files) → h.slots k ≡ slots_of (fields_of files) rows k
+  pub flags : h.flags ≡ file_flags files
+  pub slots : (k : ℕ) → k < length (set_of files) → h.slots k ≡ field_slots (fields_of files) rows k
   pub needs : (k : ℕ) → h.needs k ≡ has_to_run (methods_of files) k
   pub clinit : (k : ℕ) → k < length (set_of files) → h.clinit k ≡ initializer_of (methods_of files) k
   pub constants : (k : ℕ) → k < length (set_of files) → h.constants k ≡ constants_of (fields_of files) k
-  pub place : (name : List ℕ) → h.place name ≡ place_of (set_of files) name
-  pub array : (name : List ℕ) → h.array name ≡ array_at (length (set_of files)) (names_of files) name
+  pub place : (name : List ℕ) → h.place name ≡ class_place (set_of files) name
+  pub array : (name : List ℕ) → h.array name ≡ array_at (length (set_of files)) (class_names_of files) name
 
 module _ (files : List LoadedClass) (rows : List Ancestry) (h : Heads) (is : IsKnown files rows h) where
   same_set_class : (k : ℕ) (c : Outline) → k < length (set_of files) → set_class h k c ≡ set_class (heads_of files rows) k c
@@ -308,24 +308,24 @@ module _ (files : List LoadedClass) (rows : List Ancestry) (h : Heads) (is : IsK
       ap (λ l. l ++ numbered (λ k name. array_class h k name ∷ []) n names) (numbered_same (λ k c. set_class h k c ∷ []) (λ k c. set_class (heads_of files rows) k c ∷ []) n 0 (set_of files) (omega arith) (λ j c lt. ap (λ x. x ∷ []) (same_set_class j c lt)))
       ∙ ap (λ l. numbered (λ k c. set_class (heads_of files rows) k c ∷ []) 0 (set_of files) ++ l) (numbered_same (λ k name. array_class h k name ∷ []) (λ k name. array_class (heads_of files rows) k name ∷ []) (n + length names) n names (omega arith) (λ j name lt. ap (λ x. x ∷ []) (same_array_class j name)))
 
-  pub same_linked : (set : List Outline) (names : List (List ℕ)) (methods : List MethodInfo) (base : ℕ → ℕ) (fields : List FieldInfo) (main : ℕ) (pools : List Constants) → set ≡ set_of files → names ≡ names_of files → methods ≡ methods_of files → fields ≡ fields_of files
+  pub same_linked : (set : List Outline) (names : List (List ℕ)) (methods : List MethodInfo) (base : ℕ → ℕ) (fields : List FieldInfo) (main : ℕ) (pools : List Constants) → set ≡ set_of files → names ≡ class_names_of files → methods ≡ methods_of files → fields ≡ fields_of files
       → ((k : ℕ) → k < length (set_of files) → base k ≡ slots_above (fields_of files) rows k) → main_of (methods_of files) ≡ Some main → linked_by h set names methods base fields main pools ≡ program_with files rows pools
   same_linked set names methods base fields main pools a b c d e m =
       ap (λ (s : List Outline). linked_by h s names methods base fields main pools) a
       ∙ (ap (λ (x : List (List ℕ)). linked_by h (set_of files) x methods base fields main pools) b
-      ∙ (ap (λ (x : List MethodInfo). linked_by h (set_of files) (names_of files) x base fields main pools) c
-      ∙ (ap (λ (x : List FieldInfo). linked_by h (set_of files) (names_of files) (methods_of files) base x main pools) d
-      ∙ (ap (λ (x : ℕ). linked_by h (set_of files) (names_of files) (methods_of files) base (fields_of files) x pools) (sym (ap (λ o. unwrap_or o 0) m))
-      ∙ (ap (λ (x : List ClassEntry). record { classes = x; methods = methods_of files; fields = placed_behind base [] (fields_of files); statics = places_from is_static_field 0 (fields_of files); file_methods = places_from is_of_file 0 (methods_of files); main = unwrap_or (main_of (methods_of files)) 0; pools = pools }) (same_classes (names_of files))
-      ∙ ap (λ (x : List FieldInfo). record { classes = classes_by (heads_of files rows) (set_of files) (names_of files); methods = methods_of files; fields = x; statics = places_from is_static_field 0 (fields_of files); file_methods = places_from is_of_file 0 (methods_of files); main = unwrap_or (main_of (methods_of files)) 0; pools = pools }) (placed_same (length (set_of files)) base (slots_above (fields_of files) rows) [] (fields_of files) e (fields_within files)))))))
+      ∙ (ap (λ (x : List MethodInfo). linked_by h (set_of files) (class_names_of files) x base fields main pools) c
+      ∙ (ap (λ (x : List FieldInfo). linked_by h (set_of files) (class_names_of files) (methods_of files) base x main pools) d
+      ∙ (ap (λ (x : ℕ). linked_by h (set_of files) (class_names_of files) (methods_of files) base (fields_of files) x pools) (sym (ap (λ o. unwrap_or o 0) m))
+      ∙ (ap (λ (x : List ClassEntry). record { classes = x; methods = methods_of files; fields = placed_behind base [] (fields_of files); statics = places_from is_static_field 0 (fields_of files); file_methods = places_from is_of_file 0 (methods_of files); main = unwrap_or (main_of (methods_of files)) 0; pools = pools }) (same_classes (class_names_of files))
+      ∙ ap (λ (x : List FieldInfo). record { classes = classes_by (heads_of files rows) (set_of files) (class_names_of files); methods = methods_of files; fields = x; statics = places_from is_static_field 0 (fields_of files); file_methods = places_from is_of_file 0 (methods_of files); main = unwrap_or (main_of (methods_of files)) 0; pools = pools }) (placed_same (length (set_of files)) base (slots_above (fields_of files) rows) [] (fields_of files) e (fields_within files)))))))
 
 -- what was known of the set, in the words of the files
-pub names_known : (files : List LoadedClass) (set : List Outline) (place : List ℕ → Option ℕ) (names met : List (List ℕ)) → set ≡ set_of files → ((name : List ℕ) → place name ≡ place_of set name) → names ≡ array_names place met → met ≡ arrays_met files → names ≡ names_of files
+pub names_known : (files : List LoadedClass) (set : List Outline) (place : List ℕ → Option ℕ) (names met : List (List ℕ)) → set ≡ set_of files → ((name : List ℕ) → place name ≡ class_place set name) → names ≡ array_names place met → met ≡ arrays_met files → names ≡ class_names_of files
 names_known files set place names met e known is read =
-    let p : place ≡ place_of (set_of files) = fun_ext known ∙ ap place_of e in
-    is ∙ (ap (λ (q : List ℕ → Option ℕ). array_names q met) p ∙ ap (array_names (place_of (set_of files))) read)
+    let p : place ≡ class_place (set_of files) = fun_ext known ∙ ap class_place e in
+    is ∙ (ap (λ (q : List ℕ → Option ℕ). array_names q met) p ∙ ap (array_names (class_place (set_of files))) read)
 
-pub tabled_program : (files : List LoadedClass) (rows : List Ancestry) (p : Linked) (main : ℕ) → AreRows files rows → main_of (methods_of files) ≡ Some main → p ≡ program_with files rows p.pools → length (set_of files) + length (names_of files) < 2 ^ 32 → length (methods_of files) < 2 ^ 32 → length (fields_of files) < 2 ^ 32 → IsTabled p
+pub tabled_program : (files : List LoadedClass) (rows : List Ancestry) (p : Linked) (main : ℕ) → AreRows files rows → main_of (methods_of files) ≡ Some main → p ≡ program_with files rows p.pools → length (set_of files) + length (class_names_of files) < 2 ^ 32 → length (methods_of files) < 2 ^ 32 → length (fields_of files) < 2 ^ 32 → IsTabled p
 tabled_program files rows p main are m e few_c few_m few_f =
-    let n = length-classes (heads_of files rows) (set_of files) (names_of files) in
+    let n = length-classes (heads_of files rows) (set_of files) (class_names_of files) in
     subst IsTabled (sym e) (tabled files rows p.pools main are m (omega arith) few_m few_f)

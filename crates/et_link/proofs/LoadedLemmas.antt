@@ -7,7 +7,7 @@ use Rattle.et_pool.specs.Entries.{Item, Constants}
 use Rattle.et_code.specs.Bodies.{Body}
 use Rattle.et_class.specs.declared.member.Member.{Member}
 use Rattle.et_class.specs.declared.class.ClassFile.{ClassFile}
-use Rattle.et_class.specs.Layout.{member_of, members_of}
+use Rattle.et_class.specs.Layout.{member_of, member_list}
 use Rattle.et_class.specs.Fields.{constant_of}
 use Rattle.et_class.specs.Methods.{code_of}
 use Rattle.et_class.specs.Classes.{class_of, pool_of, HasItsParts}
@@ -23,14 +23,14 @@ abbrev rest : {X : Type 0} → List X → List X
 rest [] = []
 rest (x ∷ xs) = xs
 
-fields_alike : (slots : List (Option Item)) (fs : List Member) → map (λ (m : Member). m.constant) fs ≡ map (constant_of slots) (members_of fs) → map (λ (m : Member). m.code) fs ≡ map (λ (m : Member). None) fs → map loaded_member fs ≡ map (loaded_field slots) (members_of fs)
+fields_alike : (slots : List (Option Item)) (fs : List Member) → map (λ (m : Member). m.constant) fs ≡ map (constant_of slots) (member_list fs) → map (λ (m : Member). m.code) fs ≡ map (λ (m : Member). None) fs → map loaded_member fs ≡ map (loaded_field slots) (member_list fs)
 fields_alike slots [] k c = refl
 fields_alike slots (f ∷ fs) k c =
     ap (λ (n : ℕ). record { flags = f.access_flags; name = f.name_index; descriptor = f.descriptor_index; constant = n; code = f.code } ∷ map loaded_member fs) (ap (λ l. get_or l 0 0) k)
     ∙ (ap (λ (b : Option Body). record { flags = f.access_flags; name = f.name_index; descriptor = f.descriptor_index; constant = constant_of slots (member_of f); code = b } ∷ map loaded_member fs) (ap (λ l. get_or l 0 None) c)
     ∙ ap (λ l. loaded_field slots (member_of f) ∷ l) (fields_alike slots fs (ap rest k) (ap rest c)))
 
-methods_alike : (slots : List (Option Item)) (ms : List Member) → map (λ (m : Member). m.code) ms ≡ map (code_of slots) (members_of ms) → map (λ (m : Member). m.constant) ms ≡ map (λ (m : Member). 0) ms → map loaded_member ms ≡ map (loaded_method slots) (members_of ms)
+methods_alike : (slots : List (Option Item)) (ms : List Member) → map (λ (m : Member). m.code) ms ≡ map (code_of slots) (member_list ms) → map (λ (m : Member). m.constant) ms ≡ map (λ (m : Member). 0) ms → map loaded_member ms ≡ map (loaded_method slots) (member_list ms)
 methods_alike slots [] c k = refl
 methods_alike slots (m ∷ ms) c k =
     ap (λ (n : ℕ). record { flags = m.access_flags; name = m.name_index; descriptor = m.descriptor_index; constant = n; code = m.code } ∷ map loaded_member ms) (ap (λ l. get_or l 0 0) k)

@@ -9,8 +9,8 @@ use Rattle.std.proofs.lemmas.List.Sorted.{All-permutation, IsPermutation-reverse
 use Rattle.et_pool.specs.Entries.{Constants}
 use Rattle.et_pool.specs.Descriptors.{dimensions}
 use Rattle.et_program.specs.Loaded.{LoadedClass}
-use Rattle.et_hierarchy.specs.Outline.{Outline, place_of}
-use Rattle.et_hierarchy.specs.Links.{LinkEntry, links, links_of, no_links, parents_of, AreWithin}
+use Rattle.et_hierarchy.specs.Outline.{Outline, class_place}
+use Rattle.et_hierarchy.specs.Links.{LinkEntry, links, links_of, no_links, parents_of, HasLinksWithin}
 use Rattle.et_hierarchy.specs.Ancestry.{Ancestry, ancestry_at, IsBelow}
 use Rattle.et_hierarchy.specs.Initialization.{interfaces_to_run, with_interfaces, init_order}
 use Rattle.et_hierarchy.proofs.BelowLemmas.{below_added_all, below_flat}
@@ -18,7 +18,7 @@ use Rattle.et_program.specs.declared.info.MethodInfo.{MethodInfo}
 use Rattle.et_program.specs.declared.info.FieldInfo.{FieldInfo}
 use Rattle.et_program.specs.declared.kind.Leaf.TheVariants.{Base, Class}
 use Rattle.et_program.specs.Entries.{ClassEntry}
-use Rattle.et_program.specs.Tables.{IsWithin, IsInfoWithin, IsLeafBelow, IsTabled}
+use Rattle.et_program.specs.Tables.{IsWithinTables, IsInfoWithin, IsLeafBelow, IsTabled}
 use Rattle.et_program.proofs.PlaceLemmas.{position_below, position_within}
 use Rattle.et_program.specs.Files.{boots, set_of, boot_outline, file_outline}
 use Rattle.et_program.specs.MembersOf.{numbered, methods_of, fields_of, boot_method, boot_methods, file_method, file_methods, boot_field, boot_fields, file_field, file_fields}
@@ -26,7 +26,7 @@ use Rattle.et_program.specs.Slots.{placed, placed_behind, places_from, slots_abo
 use Rattle.et_program.specs.ArrayTypes.{leaf_at, leaf_or, base_kind}
 use Rattle.et_program.specs.Classes.{Heads, prerequisites_of, set_class, array_class}
 use Rattle.et_link.specs.Declaring.{AreRows}
-use Rattle.et_program.specs.ProgramOf.{heads_of, names_of, classes_by, main_of, program_with}
+use Rattle.et_program.specs.ProgramOf.{heads_of, class_names_of, classes_by, main_of, program_with}
 
 -- LISTS
 
@@ -105,10 +105,10 @@ run_within : (n : ℕ) (needs : ℕ → Bool) (rows : List Ancestry) (l : LinkEn
 run_within n needs rows l below h =
     all_kept n needs _ (below_added_all n [] _ (All-nil (λ k. k < n)) (below_flat n (λ i. (ancestry_at rows i).superinterfaces ++ i ∷ []) l.interfaces (λ i d lt. All-push (λ k. k < n) _ _ (below _ (h i d lt)).superinterfaces (h i d lt))))
 
-links_at : (n : ℕ) (table : List LinkEntry) (k : ℕ) → length table ≡ n → AreWithin n table → k < n → All (λ j. j < n) (parents_of (slice_index_or table k no_links))
+links_at : (n : ℕ) (table : List LinkEntry) (k : ℕ) → length table ≡ n → HasLinksWithin n table → k < n → All (λ j. j < n) (parents_of (slice_index_or table k no_links))
 links_at n table k e within lt = within k no_links (omega arith)
 
-pub order_within : (n : ℕ) (b : Bool) (needs : ℕ → Bool) (table : List LinkEntry) (rows : List Ancestry) (k : ℕ) → length table ≡ n → AreWithin n table → ((j : ℕ) → j < n → IsBelow n (ancestry_at rows j)) → k < n → All (λ j. j < n) (init_order b needs table rows k)
+pub order_within : (n : ℕ) (b : Bool) (needs : ℕ → Bool) (table : List LinkEntry) (rows : List Ancestry) (k : ℕ) → length table ≡ n → HasLinksWithin n table → ((j : ℕ) → j < n → IsBelow n (ancestry_at rows j)) → k < n → All (λ j. j < n) (init_order b needs table rows k)
 order_within n true needs table rows k e within below lt = All-cons (λ j. j < n) k [] lt (All-nil (λ j. j < n))
 order_within n false needs table rows k e within below lt =
     let W : ℕ → List ℕ = with_interfaces needs table rows in
@@ -117,7 +117,7 @@ order_within n false needs table rows k e within below lt =
     below_added_all n [] _ (All-nil (λ j. j < n))
     (below_flat n W (reverse up) (All-permutation (λ j. All (λ i. i < n) (W j)) up (reverse up) (IsPermutation-reverse up) (All-weaker (λ j. j < n) (λ j. All (λ i. i < n) (W j)) each up (All-cons (λ j. j < n) k _ lt (below k lt).supers))))
 
-required_within : (n : ℕ) (h : Heads) (k : ℕ) (b : Bool) → length h.table ≡ n → AreWithin n h.table → ((j : ℕ) → j < n → IsBelow n (ancestry_at h.rows j)) → k < n → All (λ j. j < n) (prerequisites_of h k b)
+required_within : (n : ℕ) (h : Heads) (k : ℕ) (b : Bool) → length h.table ≡ n → HasLinksWithin n h.table → ((j : ℕ) → j < n → IsBelow n (ancestry_at h.rows j)) → k < n → All (λ j. j < n) (prerequisites_of h k b)
 required_within n h k true e within below lt = All-nil (λ j. j < n)
 required_within n h k false e within below lt =
     let p = links_at n h.table k e within lt in
@@ -128,7 +128,7 @@ some_below : (o : Option ℕ) (a b : ℕ) → a ≤ b → IfSome o (λ j. j < a)
 some_below None a b le h = tt
 some_below (Some j) a b le h = omega arith
 
-leaf_below : (set : List Outline) (m : ℕ) (text : List ℕ) → length set ≤ m → IsLeafBelow m (leaf_or (leaf_at (place_of set) text))
+leaf_below : (set : List Outline) (m : ℕ) (text : List ℕ) → length set ≤ m → IsLeafBelow m (leaf_or (leaf_at (class_place set) text))
 leaf_below set m [] le = tt
 leaf_below set m (a ∷ rest) le = by (a == 76)
   where
@@ -140,11 +140,11 @@ leaf_below set m (a ∷ rest) le = by (a == 76)
     of_base None = tt
     of_base (Some k) = tt
 
-    by : (b : Bool) → IsLeafBelow m (leaf_or (cond b (option_map (λ (k : ℕ). Class k) (place_of set (take (length rest - 1) rest))) (option_map (λ (k : ℕ). Base k) (base_kind a))))
-    by true = of_class _ (some_below (place_of set (take (length rest - 1) rest)) (length set) m le (position_within _ set))
+    by : (b : Bool) → IsLeafBelow m (leaf_or (cond b (option_map (λ (k : ℕ). Class k) (class_place set (take (length rest - 1) rest))) (option_map (λ (k : ℕ). Base k) (base_kind a))))
+    by true = of_class _ (some_below (class_place set (take (length rest - 1) rest)) (length set) m le (position_within _ set))
     by false = of_base (base_kind a)
 
-set_class_within : (files : List LoadedClass) (rows : List Ancestry) (m k : ℕ) (c : Outline) → AreRows files rows → m ≡ length (set_of files) + length (names_of files) → k < length (set_of files) → IsWithin m (set_class (heads_of files rows) k c)
+set_class_within : (files : List LoadedClass) (rows : List Ancestry) (m k : ℕ) (c : Outline) → AreRows files rows → m ≡ length (set_of files) + length (class_names_of files) → k < length (set_of files) → IsWithinTables m (set_class (heads_of files rows) k c)
 set_class_within files rows m k c are e lt =
     let n : ℕ = length (set_of files) in
     let le : n ≤ m = omega arith in
@@ -155,10 +155,10 @@ set_class_within files rows m k c are e lt =
       field_order = more n m le _ b.field_order;
       init_order = more n m le _ (order_within n c.is_interface _ (links (set_of files)) rows k (length-map (set_of files) (links_of (set_of files))) are.within are.below lt);
       leaf = (let r : k < m = omega arith in r);
-      array = some_below _ (n + length (names_of files)) m (omega arith) (position_below _ n (names_of files));
+      array = some_below _ (n + length (class_names_of files)) m (omega arith) (position_below _ n (class_names_of files));
     }
 
-set_info_within : (files : List LoadedClass) (rows : List Ancestry) (m k : ℕ) (c : Outline) → AreRows files rows → m ≡ length (set_of files) + length (names_of files) → k < length (set_of files) → IsInfoWithin m (length (methods_of files)) (length (fields_of files)) (set_class (heads_of files rows) k c).info
+set_info_within : (files : List LoadedClass) (rows : List Ancestry) (m k : ℕ) (c : Outline) → AreRows files rows → m ≡ length (set_of files) + length (class_names_of files) → k < length (set_of files) → IsInfoWithin m (length (methods_of files)) (length (fields_of files)) (set_class (heads_of files rows) k c).info
 set_info_within files rows m k c are e lt =
     let n : ℕ = length (set_of files) in
     let le : n ≤ m = omega arith in
@@ -172,7 +172,7 @@ boots_are_some : 5 ≤ length boots
 unfolding boots
 boots_are_some = omega arith
 
-array_within : (files : List LoadedClass) (rows : List Ancestry) (m k : ℕ) (name : List ℕ) → m ≡ length (set_of files) + length (names_of files) → k < m → IsWithin m (array_class (heads_of files rows) k name)
+array_within : (files : List LoadedClass) (rows : List Ancestry) (m k : ℕ) (name : List ℕ) → m ≡ length (set_of files) + length (class_names_of files) → k < m → IsWithinTables m (array_class (heads_of files rows) k name)
 array_within files rows m k name e lt =
     let n : ℕ = length (set_of files) in
     let s : n ≡ length boots + length files = length-set files in
@@ -184,7 +184,7 @@ array_within files rows m k name e lt =
       field_order = All-cons P k (2 ∷ 0 ∷ 4 ∷ []) lt (All-cons P 2 (0 ∷ 4 ∷ []) (omega arith) (All-cons P 0 (4 ∷ []) (omega arith) (All-cons P 4 [] (omega arith) (All-nil P))));
       init_order = All-cons P k [] lt (All-nil P);
       leaf = leaf_below (set_of files) m (drop (dimensions name) name) (omega arith);
-      array = some_below _ (n + length (names_of files)) m (omega arith) (position_below _ n (names_of files));
+      array = some_below _ (n + length (class_names_of files)) m (omega arith) (position_below _ n (class_names_of files));
     }
 
 array_info_within : (files : List LoadedClass) (rows : List Ancestry) (m a b k : ℕ) (name : List ℕ) → IsInfoWithin m a b (array_class (heads_of files rows) k name).info
@@ -202,24 +202,24 @@ main_below None m n e h = absurd (cc)
 main_below (Some j) m n e h = h
 
 pub tabled : (files : List LoadedClass) (rows : List Ancestry) (pools : List Constants) (m : ℕ) → AreRows files rows → main_of (methods_of files) ≡ Some m
-    → length (classes_by (heads_of files rows) (set_of files) (names_of files)) < 2 ^ 32 → length (methods_of files) < 2 ^ 32 → length (fields_of files) < 2 ^ 32 → IsTabled (program_with files rows pools)
+    → length (classes_by (heads_of files rows) (set_of files) (class_names_of files)) < 2 ^ 32 → length (methods_of files) < 2 ^ 32 → length (fields_of files) < 2 ^ 32 → IsTabled (program_with files rows pools)
 tabled files rows pools m are main few_c few_m few_f =
     let h : Heads = heads_of files rows in
     let n : ℕ = length (set_of files) in
-    let classes : List ClassEntry = classes_by h (set_of files) (names_of files) in
-    let total : length classes ≡ n + length (names_of files) = length-classes h (set_of files) (names_of files) in
+    let classes : List ClassEntry = classes_by h (set_of files) (class_names_of files) in
+    let total : length classes ≡ n + length (class_names_of files) = length-classes h (set_of files) (class_names_of files) in
     let size : length (placed (fields_of files) rows) ≡ length (fields_of files) = length-placed (slots_above (fields_of files) rows) [] (fields_of files) in
-    let W = IsWithin (length classes) in
+    let W = IsWithinTables (length classes) in
     let I = λ (c : ClassEntry). IsInfoWithin (length classes) (length (methods_of files)) (length (fields_of files)) c.info in
     let infos : All I classes =
-    All-append I (numbered (λ k c. set_class h k c ∷ []) 0 (set_of files)) (numbered (λ k name. array_class h k name ∷ []) n (names_of files))
+    All-append I (numbered (λ k c. set_class h k c ∷ []) 0 (set_of files)) (numbered (λ k name. array_class h k name ∷ []) n (class_names_of files))
     (numbered_all I (λ k c. set_class h k c ∷ []) 0 (set_of files) (λ j c le lt. All-cons I _ [] (set_info_within files rows (length classes) j c are total (omega arith)) (All-nil I)))
-    (numbered_all I (λ k name. array_class h k name ∷ []) n (names_of files) (λ j name le lt. All-cons I _ [] (array_info_within files rows (length classes) (length (methods_of files)) (length (fields_of files)) j name) (All-nil I))) in
+    (numbered_all I (λ k name. array_class h k name ∷ []) n (class_names_of files) (λ j name le lt. All-cons I _ [] (array_info_within files rows (length classes) (length (methods_of files)) (length (fields_of files)) j name) (All-nil I))) in
     record {
       classes =
-          All-append W (numbered (λ k c. set_class h k c ∷ []) 0 (set_of files)) (numbered (λ k name. array_class h k name ∷ []) n (names_of files))
+          All-append W (numbered (λ k c. set_class h k c ∷ []) 0 (set_of files)) (numbered (λ k name. array_class h k name ∷ []) n (class_names_of files))
           (numbered_all W (λ k c. set_class h k c ∷ []) 0 (set_of files) (λ j c le lt. All-cons W _ [] (set_class_within files rows (length classes) j c are total (omega arith)) (All-nil W)))
-          (numbered_all W (λ k name. array_class h k name ∷ []) n (names_of files) (λ j name le lt. All-cons W _ [] (array_within files rows (length classes) j name total (omega arith)) (All-nil W)));
+          (numbered_all W (λ k name. array_class h k name ∷ []) n (class_names_of files) (λ j name le lt. All-cons W _ [] (array_within files rows (length classes) j name total (omega arith)) (All-nil W)));
       infos = subst (λ f. All (λ (c : ClassEntry). IsInfoWithin (length classes) (length (methods_of files)) f c.info) classes) (sym size) infos;
       methods = All-weaker (λ (x : MethodInfo). x.class < n) (λ (x : MethodInfo). x.class < length classes) (λ x lt. omega arith) (methods_of files) (methods_within files);
       fields = All-weaker (λ (x : FieldInfo). x.class < n) (λ (x : FieldInfo). x.class < length classes) (λ x lt. omega arith) (placed (fields_of files) rows) (placed_within n (slots_above (fields_of files) rows) [] (fields_of files) (fields_within files));

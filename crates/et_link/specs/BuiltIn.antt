@@ -17,5 +17,5 @@ abbrev pub HasKeptCode : List ℕ → BootMethodOf → Type 0
 HasKeptCode tags m = IfSome m.code (IsKeptBy tags)
 
 -- with the pool that the bytes of a class are, the code of its methods keeps all rules
-abbrev pub KeepsCode : BootClassOf → Type 0
-KeepsCode c = (slots : List (Option Item)) (after : ℕ) → IsPool c.pool 0 slots after → All (HasKeptCode (map tag_of_slot slots)) c.methods
+abbrev pub KeepsBuiltInCode : BootClassOf → Type 0
+KeepsBuiltInCode c = (slots : List (Option Item)) (after : ℕ) → IsPool c.pool 0 slots after → All (HasKeptCode (map tag_of_slot slots)) c.methods

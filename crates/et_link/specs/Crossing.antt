@@ -4,11 +4,11 @@ use Rattle.std.specs.List.{list_any}
 use Rattle.et_hierarchy.specs.Outline.{Outline}
 use Rattle.et_hierarchy.specs.Ancestry.{Ancestry, ancestry_at}
 use Rattle.et_program.specs.declared.info.MethodInfo.{MethodInfo}
-use Rattle.et_program.specs.LinkFaults.{may_redeclare, is_package_private, method_of, same_in, is_same_package}
+use Rattle.et_program.specs.LinkFaults.{may_redeclare, is_package_private, method_numbered, same_in, is_same_package}
 
 abbrev pub is_private_at : List MethodInfo → Option ℕ → Bool
 is_private_at methods None = false
-is_private_at methods (Some j) = is_package_private (method_of methods j)
+is_private_at methods (Some j) = is_package_private (method_numbered methods j)
 
 -- class s is in another package than class k and has a package-private method like m
 abbrev pub hides : List Outline → List MethodInfo → MethodInfo → ℕ → Bool
@@ -25,10 +25,10 @@ lesser (Some j) k = if nat_lt k j then k else j
 pub record IsLeastClass (test : MethodInfo → Bool) (methods : List MethodInfo) (n k : ℕ) : Type 0 where
   pub at : ℕ
   pub within : at < n
-  pub of_class : (method_of methods at).class ≡ k
-  pub passes : test (method_of methods at) ≡ true
-  pub least : (j : ℕ) → j < n → test (method_of methods j) ≡ true → (method_of methods j).class < k → ⊥
+  pub of_class : (method_numbered methods at).class ≡ k
+  pub passes : test (method_numbered methods at) ≡ true
+  pub least : (j : ℕ) → j < n → test (method_numbered methods j) ≡ true → (method_numbered methods j).class < k → ⊥
 
 abbrev pub AnswersLeast : (MethodInfo → Bool) → List MethodInfo → ℕ → Option ℕ → Type 0
-AnswersLeast test methods n None = (j : ℕ) → j < n → test (method_of methods j) ≡ true → ⊥
+AnswersLeast test methods n None = (j : ℕ) → j < n → test (method_numbered methods j) ≡ true → ⊥
 AnswersLeast test methods n (Some k) = IsLeastClass test methods n k

@@ -1,6 +1,6 @@
 -- What was read of the files, before there is a program.
 use Rattle.std.specs.Prelude.{◌≡◌, ℕ, ◌<◌, ◌^◌, List, length, map, All, Some, Result, Ok, Err}
-use Rattle.et_hierarchy.specs.Links.{links, AreWithin}
+use Rattle.et_hierarchy.specs.Links.{links, HasLinksWithin}
 use Rattle.et_hierarchy.specs.Faults.{IsFaultless}
 use Rattle.et_hierarchy.specs.Ancestry.{Ancestry, ancestry_at, IsAncestry, IsBelow}
 use Rattle.et_link.specs.declared.reading.Declared.{Declared}
@@ -12,14 +12,14 @@ use Rattle.et_program.specs.LinkFaults.{IsLinkable}
 use Rattle.et_program.specs.Linking.{IsOfFile}
 use Rattle.et_program.specs.ProgramOf.{main_of}
 use Rattle.et_program.specs.Loaded.{LoadedClass, loaded_class}
-use Rattle.et_program.specs.Files.{set_of, flags_of}
+use Rattle.et_program.specs.Files.{set_of, file_flags}
 use Rattle.et_program.specs.MembersOf.{methods_of, fields_of, HasPools}
 use Rattle.et_program.specs.ArrayTypes.{arrays_met}
 use Rattle.et_link.specs.Refusals.{RefusesLink}
 
 -- what is known of the set keeps within it
 pub record AreRows (files : List LoadedClass) (rows : List Ancestry) : Type 0 where
-  pub within : AreWithin (length (set_of files)) (links (set_of files))
+  pub within : HasLinksWithin (length (set_of files)) (links (set_of files))
   pub below : (j : ℕ) → j < length (set_of files) → IsBelow (length (set_of files)) (ancestry_at rows j)
 
 pub record IsDeclared (files : List LoadedClass) (d : Declared) : Type 0 where
@@ -27,7 +27,7 @@ pub record IsDeclared (files : List LoadedClass) (d : Declared) : Type 0 where
   pub table_is : d.hierarchy.table.items ≡ links (set_of files)
   pub ancestry : IsAncestry (links (set_of files)) d.hierarchy.rows.items
   pub rows_are : AreRows files d.hierarchy.rows.items
-  pub flags_are : d.hierarchy.flags.items ≡ flags_of files
+  pub flags_are : d.hierarchy.flags.items ≡ file_flags files
   pub methods_are : d.parts.methods.items ≡ methods_of files
   pub fields_are : d.parts.fields.items ≡ fields_of files
   pub pools_are : HasPools files d.parts.pools.items

@@ -1,9 +1,9 @@
 -- What the record of the code knows of all classes.
 use Rattle.std.specs.Prelude.{◌≡◌, ℕ, ◌+◌, ◌<◌, [], length, None, false}
 use Rattle.std.specs.List.{slice_index_or}
-use Rattle.et_hierarchy.specs.Links.{AreWithin}
+use Rattle.et_hierarchy.specs.Links.{HasLinksWithin}
 use Rattle.et_hierarchy.specs.Ancestry.{ancestry_at, IsBelow}
-use Rattle.et_program.specs.Indices.{number_of}
+use Rattle.et_program.specs.Indices.{number_of_name}
 use Rattle.et_program.specs.Classes.{Heads}
 use Rattle.et_link.specs.declared.classes.Known.{Known}
 
@@ -16,8 +16,8 @@ heads_in x = record {
   needs = λ k. slice_index_or x.needs.items k false;
   clinit = λ k. slice_index_or x.initializers.items k None;
   constants = λ k. slice_index_or x.constants.items k [];
-  place = number_of x.places;
-  array = number_of x.arrays.index;
+  place = number_of_name x.places;
+  array = number_of_name x.arrays.index;
 }
 
 -- there is one of each for each class, and what they name is among them
@@ -28,5 +28,5 @@ pub record AreSized (x : Known) : Type 0 where
   pub above : length x.above.items ≡ length x.table.items
   pub initializers : length x.initializers.items ≡ length x.table.items
   pub constants : length x.constants.items ≡ length x.table.items
-  pub within : AreWithin (length x.table.items) x.table.items
+  pub within : HasLinksWithin (length x.table.items) x.table.items
   pub below : (k : ℕ) → k < length x.table.items → IsBelow (length x.table.items) (ancestry_at x.rows.items k)

@@ -37,9 +37,9 @@ Links files (Ok p) = LinkIs files (Ok p)
 Links files (Err e) = RefusesLink files e
 
 -- the fault names class k of the set; want of memory says nothing
-abbrev pub Names : List Outline → LinkFaultKind → ℕ → LinkFault → Type 0
-Names set kind k (fault.At other name) = (other ≡ kind) × (name ≡ (outline_at set k).name)
-Names set kind k fault.NoMemory = Unit {0}
+abbrev pub NamesFault : List Outline → LinkFaultKind → ℕ → LinkFault → Type 0
+NamesFault set kind k (fault.At other name) = (other ≡ kind) × (name ≡ (outline_at set k).name)
+NamesFault set kind k fault.NoMemory = Unit {0}
 
 abbrev pub link_kind : FaultKind → LinkFaultKind
 link_kind set.Duplicate = Duplicate

@@ -4,10 +4,10 @@ ghost use Rattle.std.specs.Prelude.{◌≡◌, ℕ, ◌<◌, ◌++◌, ◌∷◌
 ghost use Rattle.std.specs.List.{flat_map};
 ghost use Rattle.std.specs.Option.{option_to_list};
 ghost use Rattle.et_pool.specs.Looks.{named_by};
-ghost use Rattle.et_program.specs.Indices.{number_of};
+ghost use Rattle.et_program.specs.Indices.{number_of_name};
 ghost use Rattle.et_class.specs.Codes.{index_of};
 ghost use Rattle.et_program.specs.Loaded.{loaded_file};
-ghost use Rattle.et_program.specs.ArrayTypes.{base_letter, base_kind, array_over, named_arrays, made_by, made_in, made_in_method, file_arrays, arrays_met, leaf_at, leaf_of, is_known, with_elements, name_added, names_added, element_of, kind_of};
+ghost use Rattle.et_program.specs.ArrayTypes.{base_letter, base_kind, array_over, named_arrays, made_by, made_in, made_in_method, file_arrays, arrays_met, leaf_at, leaf_of, is_type_known, with_element_types, name_added, names_added, element_of, kind_of};
 ghost use Rattle.et_link.specs.Naming.{IsIndexFrom};
 
 use et_base::{ClassId, Name, NoMemory};
@@ -210,7 +210,7 @@ pub(crate) fn arrays_met(alloc: Global, files: &[ClassFile]) -> Result<Vec<Name>
 
 /// The type that a descriptor without dimensions stands for, if it is a base type or of the set.
 fn leaf_at(places: &NameIndex, text: &[u8]) -> Option<Leaf>
-    ensures { result ≡ leaf_at (number_of places.now) text.now }
+    ensures { result ≡ leaf_at (number_of_name places.now) text.now }
 {
     match text {
         [] => None,
@@ -230,7 +230,7 @@ fn leaf_at(places: &NameIndex, text: &[u8]) -> Option<Leaf>
 
 /// The type under the dimensions of an array type.
 pub(crate) fn leaf_of(places: &NameIndex, name: &[u8]) -> Option<Leaf>
-    ensures { result ≡ leaf_of (number_of places.now) name.now }
+    ensures { result ≡ leaf_of (number_of_name places.now) name.now }
 {
     let from = dimensions(name);
     leaf_at(places, &name[from..])

@@ -4,7 +4,7 @@ ghost use Rattle.std.specs.Prelude.{◌≡◌, ℕ, ◌+◌, ◌<◌, ◌++◌, 
 ghost use Rattle.std.specs.List.{slice_index_or};
 ghost use Rattle.std.specs.Option.{option_to_list};
 ghost use Rattle.et_hierarchy.specs.Outline.{outline_at};
-ghost use Rattle.et_hierarchy.specs.Links.{LinkEntry, no_links, AreWithin};
+ghost use Rattle.et_hierarchy.specs.Links.{LinkEntry, no_links, HasLinksWithin};
 ghost use Rattle.et_hierarchy.specs.Ancestry.{Ancestry, ancestry_at, IsBelow};
 ghost use Rattle.et_program.specs.Shown.{info_of};
 ghost use Rattle.et_program.specs.Entries.{ClassEntry};

@@ -4,7 +4,7 @@ ghost use Rattle.std.specs.Prelude.{◌≡◌, ℕ, ◌<◌, ◌^◌, ◌++◌, 
 ghost use Rattle.std.specs.List.{slice_index_or};
 ghost use Rattle.et_program.specs.declared.info.MethodInfo.{MethodInfo as MethodOf};
 ghost use Rattle.et_program.specs.declared.info.FieldInfo.{FieldInfo as FieldOf};
-ghost use Rattle.et_program.specs.Heads.{runs, has_to_run, is_initializer, initializer_of, constants_of};
+ghost use Rattle.et_program.specs.Heads.{is_run_first, has_to_run, is_initializer, initializer_of, constants_of};
 
 use et_base::{FieldId, MethodId, NoMemory};
 use et_class::flags::{ABSTRACT, STATIC, has};
@@ -14,7 +14,7 @@ use std::marker::Model;
 
 /// Whether a method makes its interface be initialized.
 fn runs(method: &MethodInfo) -> bool
-    ensures { result ≡ runs method.now }
+    ensures { result ≡ is_run_first method.now }
 {
     !has(method.flags, ABSTRACT)
         && !has(method.flags, STATIC)

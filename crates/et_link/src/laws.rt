@@ -8,7 +8,7 @@ ghost use Rattle.et_link.specs.Refusals.{LinkIs};
 ghost use Rattle.et_program.specs.declared.fault.LinkFaultKind.{LinkFaultKind};
 ghost use Rattle.et_program.specs.Entries.{Linked};
 ghost use Rattle.et_program.specs.Files.{boots};
-ghost use Rattle.et_link.specs.BuiltIn.{KeepsCode};
+ghost use Rattle.et_link.specs.BuiltIn.{KeepsBuiltInCode};
 
 /// What linking reads of class files that were read is what it reads of the classes that their bytes are.
 pub fn files_are_classes()
@@ -30,5 +30,5 @@ pub fn answers_exist()
 
 /// The code of each built-in method keeps all rules on code (JVMS 4.7.3, 4.9.1).
 pub fn built_in_code_keeps_rules()
-    ensures { All KeepsCode boots }
+    ensures { All KeepsBuiltInCode boots }
 {}

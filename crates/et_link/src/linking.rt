@@ -2,9 +2,9 @@
 
 ghost use Rattle.std.specs.Prelude.{◌≡◌, ℕ, ◌+◌, ◌<◌, ◌≤◌, ◌^◌, List, length, map, All, IfOk};
 ghost use Rattle.std.specs.List.{slice_index_or};
-ghost use Rattle.et_program.specs.Indices.{number_of};
-ghost use Rattle.et_hierarchy.specs.Outline.{place_of};
-ghost use Rattle.et_hierarchy.specs.Links.{AreWithin};
+ghost use Rattle.et_program.specs.Indices.{number_of_name};
+ghost use Rattle.et_hierarchy.specs.Outline.{class_place};
+ghost use Rattle.et_hierarchy.specs.Links.{HasLinksWithin};
 ghost use Rattle.et_hierarchy.specs.Ancestry.{ancestry_at, IsBelow};
 ghost use Rattle.et_program.specs.declared.info.MethodInfo.{MethodInfo as MethodOf};
 ghost use Rattle.et_program.specs.declared.info.FieldInfo.{FieldInfo as FieldOf};
@@ -60,7 +60,7 @@ fn know(
     requires table { length hierarchy.table.items ≡ length set.now }
     requires rows { length hierarchy.rows.items ≡ length set.now }
     requires flags { length hierarchy.flags.items ≡ length set.now }
-    requires within { AreWithin (length set.now) hierarchy.table.items }
+    requires within { HasLinksWithin (length set.now) hierarchy.table.items }
     requires below { (k : ℕ) →
         k < length set.now → IsBelow (length set.now) (ancestry_at hierarchy.rows.items k) }
     requires methods { All (λ (m : MethodOf). m.class < length set.now) methods.now }
@@ -81,9 +81,9 @@ fn know(
     ensures constants { IfOk result (λ x. (k : ℕ) →
         k < length set.now → slice_index_or x.constants.items k [] ≡ constants_of fields.now k) }
     ensures place { IfOk result
-        (λ x. (name : List ℕ) → number_of x.places name ≡ place_of set.now name) }
+        (λ x. (name : List ℕ) → number_of_name x.places name ≡ class_place set.now name) }
     ensures names { IfOk result
-        (λ x. x.arrays.names.items ≡ array_names (number_of x.places) met.now) }
+        (λ x. x.arrays.names.items ≡ array_names (number_of_name x.places) met.now) }
     ensures index { IfOk result
         (λ x. IsIndexFrom (length set.now) x.arrays.names.items x.arrays.index) }
     ensures sized { IfOk result AreSized }

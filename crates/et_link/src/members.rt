@@ -5,7 +5,7 @@ ghost use Rattle.et_pool.specs.Pools.{IsPool};
 ghost use Rattle.et_boot.specs.Shown.{shown, shown_method, shown_code, shown_field};
 ghost use Rattle.et_program.specs.Loaded.{loaded_member, loaded_file};
 ghost use Rattle.et_program.specs.Files.{boots};
-ghost use Rattle.et_program.specs.MembersOf.{numbered, text_of, boot_body, boot_method, file_method, boot_methods, file_methods, boot_field, file_field, boot_fields, file_fields, fields_of};
+ghost use Rattle.et_program.specs.MembersOf.{numbered, pool_text, boot_body, boot_method, file_method, boot_methods, file_methods, boot_field, file_field, boot_fields, file_fields, fields_of};
 
 use crate::boots::{boot, boots};
 use et_base::{ClassId, Name, NoMemory};
@@ -28,7 +28,7 @@ pub(crate) fn class_at_place(place: usize) -> Result<ClassId, NoMemory>
 
 /// The text of the Utf8 entry at an index, or the empty text where it isn't one.
 fn text_at(alloc: Global, pool: &Pool, index: u16) -> Result<Name, NoMemory>
-    ensures { IfOk result (λ n. n ≡ text_of pool.now.slots index) }
+    ensures { IfOk result (λ n. n ≡ pool_text pool.now.slots index) }
 {
     match pool.utf8(index) {
         Some(text) => Name::of(alloc, text),

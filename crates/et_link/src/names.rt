@@ -3,9 +3,9 @@
 ghost use Rattle.std.specs.Prelude.{◌≡◌, ℕ, ◌<◌, [], List, length, filter, IfOk, OnOk, None};
 ghost use Rattle.std.specs.List.{flat_map, position_from};
 ghost use Rattle.std.specs.Str.{bytes_eq};
-ghost use Rattle.et_program.specs.Indices.{number_of};
-ghost use Rattle.et_hierarchy.specs.Outline.{place_of};
-ghost use Rattle.et_program.specs.ArrayTypes.{is_known, with_elements, name_added, names_added, array_names, element_of, kind_of};
+ghost use Rattle.et_program.specs.Indices.{number_of_name};
+ghost use Rattle.et_hierarchy.specs.Outline.{class_place};
+ghost use Rattle.et_program.specs.ArrayTypes.{is_type_known, with_element_types, name_added, names_added, array_names, element_of, kind_of};
 ghost use Rattle.et_link.specs.Naming.{IsIndexFrom};
 
 use crate::arrays::leaf_of;
@@ -18,7 +18,7 @@ use std::alloc::Global;
 
 /// The classes of the set by name.
 pub(crate) fn index_set(alloc: Global, set: &[ClassOutline]) -> Result<NameIndex, NoMemory>
-    ensures { IfOk result (λ x. (name : List ℕ) → number_of x name ≡ place_of set.now name) }
+    ensures { IfOk result (λ x. (name : List ℕ) → number_of_name x name ≡ class_place set.now name) }
 {
     let mut places = NameIndex::begin(alloc);
     for (i, class) in set.iter().enumerate() {
@@ -71,7 +71,7 @@ fn add_with_elements(
 ) -> Result<(), NoMemory>
     requires { IsIndexFrom first names.old.items index.old }
     ensures names { OnOk result
-        (names.new.items ≡ names_added names.old.items (with_elements name.now)) }
+        (names.new.items ≡ names_added names.old.items (with_element_types name.now)) }
     ensures index { OnOk result (IsIndexFrom first names.new.items index.new) }
 {
     let mut at = 0;
@@ -90,7 +90,8 @@ pub(crate) fn array_names(
     met: &[Name],
 ) -> Result<ArrayNames, NoMemory>
     ensures first { IfOk result (λ a. a.first ≡ first) }
-    ensures names { IfOk result (λ a. a.names.items ≡ array_names (number_of places.now) met.now) }
+    ensures names { IfOk result (λ a. a.names.items ≡ array_names (number_of_name places.now)
+        met.now) }
     ensures index { IfOk result (λ a. IsIndexFrom first a.names.items a.index) }
 {
     let mut names = Vec::new(alloc);
@@ -125,7 +126,8 @@ fn add_if_known(
 ) -> Result<(), NoMemory>
     requires { IsIndexFrom first names.old.items index.old }
     ensures names { OnOk result (names.new.items ≡ names_added names.old.items
-        (if is_known (number_of places.now) name.now then with_elements name.now else [])) }
+        (if is_type_known (number_of_name places.now) name.now then with_element_types name.now
+        else [])) }
     ensures index { OnOk result (IsIndexFrom first names.new.items index.new) }
 {
     if leaf_of(places, name).is_some() {
@@ -181,7 +183,7 @@ ghost use Rattle.std.specs.Prelude.{drop};
 
 /// What an array class has as its elements.
 pub(crate) fn element_of(places: &NameIndex, arrays: &NameIndex, name: &[u8]) -> Element
-    ensures { result ≡ element_of (number_of places.now) (number_of arrays.now) name.now }
+    ensures { result ≡ element_of (number_of_name places.now) (number_of_name arrays.now) name.now }
 {
     let element = behind_first(name);
     if is_array_name(element) {
@@ -193,7 +195,7 @@ pub(crate) fn element_of(places: &NameIndex, arrays: &NameIndex, name: &[u8]) ->
 
 /// The dimensions of an array class, and what is under them.
 pub(crate) fn kind_of(places: &NameIndex, name: &[u8]) -> Result<Kind, NoMemory>
-    ensures { IfOk result (λ k. k ≡ kind_of (number_of places.now) name.now) }
+    ensures { IfOk result (λ k. k ≡ kind_of (number_of_name places.now) name.now) }
 {
     let Ok(dimensions) = u8::try_from(dimensions(name)) else {
         return Err(NoMemory);

@@ -5,7 +5,7 @@ ghost use Rattle.et_pool.specs.Looks.{class_name_at};
 ghost use Rattle.et_boot.specs.Classes.{BootClassOf};
 ghost use Rattle.et_boot.specs.Shown.{shown};
 ghost use Rattle.et_program.specs.Loaded.{loaded_file};
-ghost use Rattle.et_program.specs.Files.{boots, name_of, boot_outline, file_outline, set_of, flags_of};
+ghost use Rattle.et_program.specs.Files.{boots, name_of, boot_outline, file_outline, set_of, file_flags};
 
 use crate::boots::{boot, boots};
 use et_base::{Name, NoMemory};
@@ -121,7 +121,7 @@ pub(crate) fn outlines(alloc: Global, files: &[ClassFile]) -> Result<Vec<ClassOu
 
 /// The access flags of the built-in classes, and then those of the files.
 pub(crate) fn class_flags(alloc: Global, files: &[ClassFile]) -> Result<Vec<u16>, NoMemory>
-    ensures { IfOk result (λ flags. flags.items ≡ flags_of (map loaded_file files.now)) }
+    ensures { IfOk result (λ flags. flags.items ≡ file_flags (map loaded_file files.now)) }
 {
     let mut flags = boot_flags(alloc)?;
     for file in files {

@@ -8,7 +8,7 @@ ghost use Rattle.et_program.specs.declared.info.MethodInfo.{MethodInfo as Method
 ghost use Rattle.et_program.specs.Finding.{FindsMethods};
 ghost use Rattle.et_program.specs.Files.{boots};
 ghost use Rattle.et_program.specs.ProgramOf.{is_main, main_of};
-ghost use Rattle.et_link.specs.Refusals.{Names, RefusesSet, AnswersLate, link_kind};
+ghost use Rattle.et_link.specs.Refusals.{NamesFault, RefusesSet, AnswersLate, link_kind};
 
 use crate::boots::boots;
 use crate::crossing::first_crossing;
@@ -27,7 +27,7 @@ pub(crate) fn refusal(
     class: u32,
 ) -> LinkFault
     requires { class < length set.now }
-    ensures { Names set.now kind class result }
+    ensures { NamesFault set.now kind class result }
 {
     match Name::of(alloc, set[class as usize].name()) {
         Ok(class) => LinkFault::At { kind, class },

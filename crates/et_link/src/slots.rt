@@ -5,7 +5,7 @@ ghost use Rattle.std.specs.List.{slice_index_or};
 ghost use Rattle.et_hierarchy.specs.Ancestry.{Ancestry, ancestry_at, IsBelow};
 ghost use Rattle.et_program.specs.declared.info.FieldInfo.{FieldInfo as FieldOf};
 ghost use Rattle.et_program.specs.Files.{boots};
-ghost use Rattle.et_program.specs.Slots.{is_static_field, is_instance_of, own_slots, slots_above, slot_of, placed_behind, places_from};
+ghost use Rattle.et_program.specs.Slots.{is_static_field, is_instance_of, own_slots, slots_above, slot_of_field, placed_behind, places_from};
 ghost use Rattle.et_link.specs.Counts.{Counts};
 
 use crate::boots::{boot, boots};
@@ -114,7 +114,7 @@ fn take_slot(next: &mut Vec<u32>, statics: &mut u32, field: &FieldInfo) -> Resul
     requires { field.now.class < length next.old.items }
     ensures length { length next.new.items ≡ length next.old.items }
     ensures slot { IfOk result (λ slot. (base : ℕ → ℕ) (before : List FieldOf) →
-        Counts base before next.old.items statics.old → slot ≡ slot_of base before field.now) }
+        Counts base before next.old.items statics.old → slot ≡ slot_of_field base before field.now) }
     ensures counts { IfOk result (λ slot. (base : ℕ → ℕ) (before : List FieldOf) →
         Counts base before next.old.items statics.old →
         Counts base (before ++ field.now ∷ []) next.new.items statics.new) }

@@ -12,7 +12,7 @@ use Rattle.et_pool.specs.Looks.{class_name_at}
 use Rattle.et_pool.specs.Descriptors.{is_array}
 use Rattle.et_class.specs.Names.{is_plain_name}
 use Rattle.et_boot.specs.Classes.{BootClassOf}
-use Rattle.et_hierarchy.specs.Outline.{Outline, place_of}
+use Rattle.et_hierarchy.specs.Outline.{Outline, class_place}
 use Rattle.et_hierarchy.proofs.Names.{same_name}
 use Rattle.et_program.specs.declared.info.FieldInfo.{FieldInfo}
 use Rattle.et_program.specs.declared.info.Element.{Element}
@@ -24,9 +24,9 @@ use Rattle.et_program.specs.Loaded.{LoadedClass}
 use Rattle.et_program.specs.Files.{boots, set_of, boot_outline, file_outline, or_empty}
 use Rattle.et_program.specs.MembersOf.{numbered, fields_of}
 use Rattle.et_program.specs.Slots.{slots_above}
-use Rattle.et_program.specs.ArrayTypes.{is_known, with_elements, names_added, arrays_met, file_arrays}
+use Rattle.et_program.specs.ArrayTypes.{is_type_known, with_element_types, names_added, arrays_met, file_arrays}
 use Rattle.et_program.specs.Classes.{Heads, set_class, array_class}
-use Rattle.et_program.specs.ProgramOf.{heads_of, names_of, program_with}
+use Rattle.et_program.specs.ProgramOf.{heads_of, class_names_of, program_with}
 use Rattle.et_hierarchy.specs.Ancestry.{Ancestry}
 use Rattle.et_link.proofs.TabledLemmas.{length-classes, length-singles, fields_within}
 use Rattle.et_heap.specs.Objects.{new_object}
@@ -56,17 +56,17 @@ keeps_first x seen (y ∷ ys) = by (list_any (λ z. bytes_eq y z) (x ∷ seen)) 
     by true old new = old
     by false old new = new
 
-is_known_by : (place : List ℕ → Option ℕ) (k : ℕ) → place (codes "java/lang/String") ≡ Some k → is_known place arguments ≡ true
+is_known_by : (place : List ℕ → Option ℕ) (k : ℕ) → place (codes "java/lang/String") ≡ Some k → is_type_known place arguments ≡ true
 is_known_by place k h = ap (λ (o : Option ℕ). is_some (option_map (λ (c : ℕ). leaf.Class c) o)) h
 
-names_begin : (files : List LoadedClass) → BeginsWith arguments (names_of files)
+names_begin : (files : List LoadedClass) → BeginsWith arguments (class_names_of files)
 names_begin files =
-    let place : List ℕ → Option ℕ = place_of (set_of files) in
-    let others : List (List ℕ) = filter (is_known place) (flat_map file_arrays files) in
-    let known : is_known place arguments ≡ true = is_known_by place of_string.place (place_in_set files (codes "java/lang/String") of_string.place of_string.found) in
-    let kept : filter (is_known place) (arrays_met files) ≡ arguments ∷ others = ap (λ b. cond b (arguments ∷ others) others) known in
-    let first : BeginsWith arguments (names_added (arguments ∷ []) (flat_map with_elements others)) = keeps_first arguments [] (flat_map with_elements others) in
-    record { rest = first.rest; is = ap (λ (met : List (List ℕ)). names_added [] (flat_map with_elements met)) kept ∙ first.is }
+    let place : List ℕ → Option ℕ = class_place (set_of files) in
+    let others : List (List ℕ) = filter (is_type_known place) (flat_map file_arrays files) in
+    let known : is_type_known place arguments ≡ true = is_known_by place of_string.place (place_in_set files (codes "java/lang/String") of_string.place of_string.found) in
+    let kept : filter (is_type_known place) (arrays_met files) ≡ arguments ∷ others = ap (λ b. cond b (arguments ∷ others) others) known in
+    let first : BeginsWith arguments (names_added (arguments ∷ []) (flat_map with_element_types others)) = keeps_first arguments [] (flat_map with_element_types others) in
+    record { rest = first.rest; is = ap (λ (met : List (List ℕ)). names_added [] (flat_map with_element_types met)) kept ∙ first.is }
 
 -- NO CLASS OF THE SET has this name
 
@@ -83,7 +83,7 @@ not_arguments (Some name) h =
 file_other : (c : LoadedClass) → HasClassName c → bytes_eq arguments (file_outline c).name ≡ false
 file_other c h = not_arguments (class_name_at c.pool.slots c.this) h
 
-none_in_set : (files : List LoadedClass) → All HasClassName files → place_of (set_of files) arguments ≡ None
+none_in_set : (files : List LoadedClass) → All HasClassName files → class_place (set_of files) arguments ≡ None
 none_in_set files named =
     let P = λ (o : Outline). bytes_eq arguments o.name ≡ false in
     first_behind (λ (c : BootClassOf). bytes_eq arguments c.name) (λ (o : Outline). bytes_eq arguments o.name) boot_outline (λ c. refl) 0 boots (map file_outline files) no_boot_array
@@ -103,15 +103,15 @@ module _ (files : List LoadedClass) (rows : List Ancestry) (pools : List Constan
   arguments_called named =
       let is_it = λ (c : ClassEntry). bytes_eq arguments c.info.name in
       let n : ℕ = length (set_of files) in
-      let behind : class_named (program_with files rows pools) arguments ≡ position_from is_it (0 + n) (arrays_of (names_of files)) =
-      first_numbered_behind (λ (o : Outline). bytes_eq arguments o.name) is_it (λ k c. set_class (heads_of files rows) k c) (λ i c. refl) 0 (set_of files) (arrays_of (names_of files)) (none_in_set files named) in
-      let first : position_from is_it (0 + n) (arrays_of (names_of files)) ≡ Some (0 + n) = ap (λ (names : List (List ℕ)). position_from is_it (0 + n) (arrays_of names)) (names_begin files).is in
+      let behind : class_named (program_with files rows pools) arguments ≡ position_from is_it (0 + n) (arrays_of (class_names_of files)) =
+      first_numbered_behind (λ (o : Outline). bytes_eq arguments o.name) is_it (λ k c. set_class (heads_of files rows) k c) (λ i c. refl) 0 (set_of files) (arrays_of (class_names_of files)) (none_in_set files named) in
+      let first : position_from is_it (0 + n) (arrays_of (class_names_of files)) ≡ Some (0 + n) = ap (λ (names : List (List ℕ)). position_from is_it (0 + n) (arrays_of names)) (names_begin files).is in
       ap (λ (o : Option ℕ). unwrap_or o 0) (behind ∙ first) ∙ (let same : 0 + n ≡ n = omega arith in same)
 
   pub arguments_at : class_at (program_with files rows pools) (length (set_of files)) ≡ array_class (heads_of files rows) (length (set_of files)) arguments
   arguments_at =
-      ap (λ (k : ℕ). slice_index_or (in_set ++ arrays_of (names_of files)) k no_class) (sym (length-singles (λ k c. set_class (heads_of files rows) k c) 0 (set_of files)))
-      ∙ (at_behind in_set (arrays_of (names_of files)) no_class ∙ ap (λ (names : List (List ℕ)). slice_index_or (arrays_of names) 0 no_class) (names_begin files).is)
+      ap (λ (k : ℕ). slice_index_or (in_set ++ arrays_of (class_names_of files)) k no_class) (sym (length-singles (λ k c. set_class (heads_of files rows) k c) 0 (set_of files)))
+      ∙ (at_behind in_set (arrays_of (class_names_of files)) no_class ∙ ap (λ (names : List (List ℕ)). slice_index_or (arrays_of names) 0 no_class) (names_begin files).is)
 
 -- THE ARRAY
 
@@ -137,8 +137,8 @@ array_sound files rows pools =
     let p : Linked = program_with files rows pools in
     let n : ℕ = length (set_of files) in
     let h : Heads = heads_of files rows in
-    let total : length p.classes ≡ n + length (names_of files) = length-classes h (set_of files) (names_of files) in
-    let some : length (names_of files) ≡ suc (length (names_begin files).rest) = ap length (names_begin files).is in
+    let total : length p.classes ≡ n + length (class_names_of files) = length-classes h (set_of files) (class_names_of files) in
+    let some : length (class_names_of files) ≡ suc (length (names_begin files).rest) = ap length (names_begin files).is in
     let c : class_at p n ≡ array_class h n arguments = arguments_at files rows pools in
     let supers : All NoField (class_at p n).supers = subst (λ (x : ClassEntry). All NoField x.supers) (sym c) (All-cons NoField 0 [] object_fieldless (All-nil NoField)) in
     let interfaces : All NoField (class_at p n).superinterfaces =

@@ -8,7 +8,7 @@ use Rattle.std.proofs.lemmas.List.Elements.{All-nil, All-cons, All-head, All-tai
 use Rattle.et_base.proofs.Lists.{Contains-none, Contains-here, Contains-there, Contains-cons, any_contains, filter_kept, filter_keeps}
 use Rattle.et_pool.specs.Descriptors.{is_array, dimensions}
 use Rattle.et_hierarchy.proofs.Names.{same_name, name_itself}
-use Rattle.et_program.specs.ArrayTypes.{leaf_at, is_known, with_elements, name_added, names_added, array_names, array_at}
+use Rattle.et_program.specs.ArrayTypes.{leaf_at, is_type_known, with_element_types, name_added, names_added, array_names, array_at}
 use Rattle.et_program.specs.MembersOf.{numbered}
 
 -- LISTS
@@ -77,53 +77,53 @@ all_has seen (y ∷ ys) x h =
 -- a name among others: that of an array, of a known type, and where its elements are arrays their name is there too
 pub record IsArrayName (place : List ℕ → Option ℕ) (names : List (List ℕ)) (name : List ℕ) : Type 0 where
   pub array : is_array name ≡ true
-  pub known : is_known place name ≡ true
+  pub known : is_type_known place name ≡ true
   pub below : is_array (drop 1 name) ≡ true → Contains names (drop 1 name)
 
 -- an array type is the first of its elements
-pub first_element : (name : List ℕ) → is_array name ≡ true → Contains (with_elements name) name
+pub first_element : (name : List ℕ) → is_array name ≡ true → Contains (with_element_types name) name
 first_element [] h = absurd (false≢true h)
-first_element (a ∷ rest) h = subst (λ (b : Bool). Contains (cond b ((a ∷ rest) ∷ with_elements rest) []) (a ∷ rest)) (sym h) (Contains-here (a ∷ rest) (with_elements rest))
+first_element (a ∷ rest) h = subst (λ (b : Bool). Contains (cond b ((a ∷ rest) ∷ with_element_types rest) []) (a ∷ rest)) (sym h) (Contains-here (a ∷ rest) (with_element_types rest))
 
 pub one_more : (rest : List ℕ) → dimensions (91 ∷ rest) ≡ suc (dimensions rest)
 one_more rest = ap (λ (n : ℕ). length (take n (91 ∷ rest))) (let s : 1 + prefix_len (λ a. a == 91) rest ≡ suc (prefix_len (λ a. a == 91) rest) = omega arith in s)
 
 module _ (place : List ℕ → Option ℕ) where
   -- one dimension less leaves the type under them
-  pub known_below : (a : ℕ) (rest : List ℕ) → (a == 91) ≡ true → is_known place (a ∷ rest) ≡ is_known place rest
-  known_below a rest h = subst (λ (c : ℕ). is_known place (c ∷ rest) ≡ is_known place rest) (sym (eqb-true a 91 h)) (ap (λ (n : ℕ). is_some (leaf_at place (drop n (91 ∷ rest)))) (one_more rest))
+  pub known_below : (a : ℕ) (rest : List ℕ) → (a == 91) ≡ true → is_type_known place (a ∷ rest) ≡ is_type_known place rest
+  known_below a rest h = subst (λ (c : ℕ). is_type_known place (c ∷ rest) ≡ is_type_known place rest) (sym (eqb-true a 91 h)) (ap (λ (n : ℕ). is_some (leaf_at place (drop n (91 ∷ rest)))) (one_more rest))
 
-  elements : (names : List (List ℕ)) (name : List ℕ) → is_known place name ≡ true → ((y : List ℕ) → Contains (with_elements name) y → Contains names y) → All (IsArrayName place names) (with_elements name)
+  elements : (names : List (List ℕ)) (name : List ℕ) → is_type_known place name ≡ true → ((y : List ℕ) → Contains (with_element_types name) y → Contains names y) → All (IsArrayName place names) (with_element_types name)
   elements names [] known there = All-nil (IsArrayName place names)
   elements names (a ∷ rest) known there = by (a == 91) refl there (λ k sub. elements names rest k sub)
     where
-      by : (b : Bool) → (a == 91) ≡ b → ((y : List ℕ) → Contains (cond b ((a ∷ rest) ∷ with_elements rest) []) y → Contains names y)
-          → (is_known place rest ≡ true → ((y : List ℕ) → Contains (with_elements rest) y → Contains names y) → All (IsArrayName place names) (with_elements rest))
-          → All (IsArrayName place names) (cond b ((a ∷ rest) ∷ with_elements rest) [])
+      by : (b : Bool) → (a == 91) ≡ b → ((y : List ℕ) → Contains (cond b ((a ∷ rest) ∷ with_element_types rest) []) y → Contains names y)
+          → (is_type_known place rest ≡ true → ((y : List ℕ) → Contains (with_element_types rest) y → Contains names y) → All (IsArrayName place names) (with_element_types rest))
+          → All (IsArrayName place names) (cond b ((a ∷ rest) ∷ with_element_types rest) [])
       by true e sub more =
-          let behind : (y : List ℕ) → Contains (with_elements rest) y → Contains names y = λ y c. sub y (Contains-there (a ∷ rest) (with_elements rest) y c) in
-          All-cons (IsArrayName place names) (a ∷ rest) (with_elements rest) (record { array = e; known = known; below = λ h. behind rest (first_element rest h) })
+          let behind : (y : List ℕ) → Contains (with_element_types rest) y → Contains names y = λ y c. sub y (Contains-there (a ∷ rest) (with_element_types rest) y c) in
+          All-cons (IsArrayName place names) (a ∷ rest) (with_element_types rest) (record { array = e; known = known; below = λ h. behind rest (first_element rest h) })
           (more (sym (known_below a rest e) ∙ known) behind)
       by false e sub more = All-nil (IsArrayName place names)
 
   module _ (met : List (List ℕ)) where
     abbrev whole : List (List ℕ)
-    whole = flat_map with_elements (filter (is_known place) met)
+    whole = flat_map with_element_types (filter (is_type_known place) met)
 
-    within_whole : (x y : List ℕ) → Contains (filter (is_known place) met) x → Contains (with_elements x) y → Contains whole y
-    within_whole x y c d = flat_has with_elements (filter (is_known place) met) x y c d
+    within_whole : (x y : List ℕ) → Contains (filter (is_type_known place) met) x → Contains (with_element_types x) y → Contains whole y
+    within_whole x y c d = flat_has with_element_types (filter (is_type_known place) met) x y c d
 
     -- each name of the array classes
     pub all_names : All (IsArrayName place (array_names place met)) (array_names place met)
     all_names =
         let Q = IsArrayName place (array_names place met) in
         all_added Q [] whole (All-nil Q)
-        (all_flat Q with_elements (filter (is_known place) met)
-        (λ x c. elements (array_names place met) x (filter_kept (is_known place) met x c).1 (λ y d. all_has [] whole y (within_whole x y c d))))
+        (all_flat Q with_element_types (filter (is_type_known place) met)
+        (λ x c. elements (array_names place met) x (filter_kept (is_type_known place) met x c).1 (λ y d. all_has [] whole y (within_whole x y c d))))
 
     -- an array type of a known type that was met is one
-    pub met_is_named : (name : List ℕ) → Contains met name → is_array name ≡ true → is_known place name ≡ true → Contains (array_names place met) name
-    met_is_named name c array known = all_has [] whole name (within_whole name name (filter_keeps (is_known place) met name c known) (first_element name array))
+    pub met_is_named : (name : List ℕ) → Contains met name → is_array name ≡ true → is_type_known place name ≡ true → Contains (array_names place met) name
+    met_is_named name c array known = all_has [] whole name (within_whole name name (filter_keeps (is_type_known place) met name c known) (first_element name array))
 
 -- THE NUMBER of an array class
 

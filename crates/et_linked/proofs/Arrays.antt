@@ -16,14 +16,14 @@ use Rattle.et_code.specs.declared.instr.CodeFault.{CodeFault}
 use Rattle.et_code.specs.declared.instr.Instr.{Instr}
 use Rattle.et_code.specs.Bodies.{Body}
 use Rattle.et_code.specs.Decoding.{instruction_at}
-use Rattle.et_code.specs.Kept.{HasInstruction, IsKept}
+use Rattle.et_code.specs.Kept.{HasInstruction, IsKeptCode}
 use Rattle.et_code.specs.Rules.{is_array_kind}
 use Rattle.et_code.specs.Starts.{IsStart, Begins, Follows, is_start}
 use Rattle.et_code.proofs.Keeping.{kept_code}
 use Rattle.et_code.proofs.Starting.{starts_are_all}
 use Rattle.et_class.specs.Codes.{index_of, is_class_well}
 use Rattle.et_class.specs.Names.{is_plain_name}
-use Rattle.et_hierarchy.specs.Outline.{Outline, outline_at, no_outline, place_of}
+use Rattle.et_hierarchy.specs.Outline.{Outline, outline_at, no_outline, class_place}
 use Rattle.et_hierarchy.specs.Ancestry.{Ancestry}
 use Rattle.et_hierarchy.proofs.Names.{same_name, name_itself, missing}
 use Rattle.et_program.specs.declared.info.MethodInfo.{MethodInfo}
@@ -35,16 +35,16 @@ use Rattle.et_program.specs.Entries.{ClassEntry, Linked, no_class, no_method, cl
 use Rattle.et_program.specs.Members.{class_named, is_base_array, base_array}
 use Rattle.et_program.specs.Resolution.{resolve_class}
 use Rattle.et_program.specs.declared.errors.LinkError.{LinkError}
-use Rattle.et_program.specs.ArrayTypes.{base_letter, array_over, made_by, made_if, made_in, made_in_method, named_arrays, file_arrays, arrays_met, is_known, leaf_of, leaf_element, class_element, element_of, array_at}
+use Rattle.et_program.specs.ArrayTypes.{base_letter, array_over, made_by, made_if, made_in, made_in_method, named_arrays, file_arrays, arrays_met, is_type_known, leaf_of, leaf_element, class_element, element_of, array_at}
 use Rattle.et_program.specs.Classes.{array_class}
 use Rattle.et_program.specs.Files.{boots, set_of, boot_outline, file_outline, or_empty}
 use Rattle.et_program.specs.Loaded.{LoadedClass, LoadedMember}
 use Rattle.et_program.specs.MembersOf.{methods_of, file_methods, file_method, HasPools}
-use Rattle.et_program.specs.ProgramOf.{heads_of, names_of, program_with, IsProgramOf}
+use Rattle.et_program.specs.ProgramOf.{heads_of, class_names_of, program_with, IsProgramOf}
 use Rattle.et_event.specs.declared.rows.HeapRow.TheVariants.{NewArray, NewReferenceArray, NewMultiArray}
 use Rattle.et_event.specs.declared.rows.Row.TheVariants.{Heap}
 use Rattle.et_event.specs.Kinds as kinds
-use Rattle.et_event.specs.Sites.{natural, no_constants, pool_of}
+use Rattle.et_event.specs.Sites.{natural_of, no_constants, pool_of_class}
 use Rattle.et_event.specs.Table.{row_of}
 use Rattle.et_event.specs.Programs.{IsArrayClass, IsInstruction, NamesClass, HasDimensions, HasArrays}
 use Rattle.et_base.proofs.Positions.{Passes, position_passes}
@@ -149,7 +149,7 @@ met_there files c m body pc x y in_files in_methods e start at made =
     Contains-append_right (named_arrays c.pool.slots) _ y (flat_has (λ (n : LoadedMember). made_in_method c.pool.slots n.code) c.methods m y in_methods here) in
     Contains-there (codes "[Ljava/lang/String;") (flat_map file_arrays files) y (flat_has file_arrays files c y in_files there)
 
-kind_kept : (b : Body) (tags : List ℕ) (pc : ℕ) (x : Instr × ℕ) → IsKept b tags → IsStart b.code pc → instruction_at b.code pc ≡ Ok x → is_array_kind x.0 ≡ true
+kind_kept : (b : Body) (tags : List ℕ) (pc : ℕ) (x : Instr × ℕ) → IsKeptCode b tags → IsStart b.code pc → instruction_at b.code pc ≡ Ok x → is_array_kind x.0 ≡ true
 kind_kept b tags pc x k start e =
     let h : HasInstruction b tags pc = k.instructions pc start in
     subst (λ (i : Instr). is_array_kind i ≡ true) (ap (λ (z : Instr × ℕ). z.0) (same (h.instruction, h.next) (sym h.decoded ∙ e))) h.keeps.kind
@@ -186,10 +186,10 @@ module _ (files : List LoadedClass) (rows : List Ancestry) (pools : List Constan
   p = program_with files rows pools
 
   abbrev names : List (List ℕ)
-  names = names_of files
+  names = class_names_of files
 
   abbrev place : List ℕ → Option ℕ
-  place = place_of (set_of files)
+  place = class_place (set_of files)
 
   abbrev set_length : ℕ
   set_length = length (set_of files)
@@ -229,7 +229,7 @@ module _ (files : List LoadedClass) (rows : List Ancestry) (pools : List Constan
 
   -- its elements
 
-  leaf_by : (o : Option Leaf) → is_some o ≡ true → kinds.is_array (leaf_element o) ≡ true
+  leaf_by : (o : Option Leaf) → is_some o ≡ true → kinds.is_array_element (leaf_element o) ≡ true
   leaf_by None h = absurd (false≢true h)
   leaf_by (Some (leaf.Base b)) h = refl
   leaf_by (Some (leaf.Class k)) h = refl
@@ -237,15 +237,15 @@ module _ (files : List LoadedClass) (rows : List Ancestry) (pools : List Constan
   element_is : (k : ℕ) (name : List ℕ) → IsClassOf k name → (class_at p k).info.element ≡ element_of place (array_at set_length names) name
   element_is k name h = ap (λ (x : ClassEntry). x.info.element) h.is
 
-  has_element : (name : List ℕ) → Contains names name → kinds.is_array (element_of place (array_at set_length names) name) ≡ true
+  has_element : (name : List ℕ) → Contains names name → kinds.is_array_element (element_of place (array_at set_length names) name) ≡ true
   has_element name c = by (is_array (drop 1 name)) refl
     where
-      by : (b : Bool) → is_array (drop 1 name) ≡ b → kinds.is_array (cond b (class_element (array_at set_length names (drop 1 name))) (leaf_element (leaf_of place name))) ≡ true
-      by true e = ap (λ (o : Option ℕ). kinds.is_array (class_element o)) (class_of_name (drop 1 name) ((good name c).below e)).numbered
+      by : (b : Bool) → is_array (drop 1 name) ≡ b → kinds.is_array_element (cond b (class_element (array_at set_length names (drop 1 name))) (leaf_element (leaf_of place name))) ≡ true
+      by true e = ap (λ (o : Option ℕ). kinds.is_array_element (class_element o)) (class_of_name (drop 1 name) ((good name c).below e)).numbered
       by false e = leaf_by (leaf_of place name) (good name c).known
 
   array_class_is : (k : ℕ) (name : List ℕ) → IsClassOf k name → IsArrayClass p k
-  array_class_is k name h = record { within = h.within; array = ap (λ (e : Element). kinds.is_array e) (element_is k name h) ∙ has_element name h.among }
+  array_class_is k name h = record { within = h.within; array = ap (λ (e : Element). kinds.is_array_element e) (element_is k name h) ∙ has_element name h.among }
 
   -- NAMES THAT RESOLVE
 
@@ -331,7 +331,7 @@ module _ (files : List LoadedClass) (rows : List Ancestry) (pools : List Constan
   is_class_known None h = h
   is_class_known (Some k) h = refl
 
-  known_class : (name : List ℕ) → is_some (place name) ≡ true → is_known place (91 ∷ 76 ∷ (name ++ 59 ∷ [])) ≡ true
+  known_class : (name : List ℕ) → is_some (place name) ≡ true → is_type_known place (91 ∷ 76 ∷ (name ++ 59 ∷ [])) ≡ true
   known_class name h =
       let rest : List ℕ = name ++ 59 ∷ [] in
       let size : length rest ≡ length name + 1 = length-append name (59 ∷ []) in
@@ -340,7 +340,7 @@ module _ (files : List LoadedClass) (rows : List Ancestry) (pools : List Constan
       known_below place 91 (76 ∷ rest) refl
       ∙ is_class_known (place (take (length rest - 1) rest)) (ap (λ (x : List ℕ). is_some (place x)) front ∙ h)
 
-  known_over : (name : List ℕ) (k : ℕ) → resolve_class p name ≡ Ok k → is_known place (array_over name) ≡ true
+  known_over : (name : List ℕ) (k : ℕ) → resolve_class p name ≡ Ok k → is_type_known place (array_over name) ≡ true
   known_over name k e = by (is_array name) refl
     where
       plain : is_array name ≡ false → is_some (place name) ≡ true
@@ -351,7 +351,7 @@ module _ (files : List LoadedClass) (rows : List Ancestry) (pools : List Constan
             | inr le ↦ absurd (both_ways (is_array name) q (good name (found_behind k name le f).among).array)
           ]
 
-      by : (b : Bool) → is_array name ≡ b → is_known place (cond b (91 ∷ name) (91 ∷ 76 ∷ (name ++ 59 ∷ []))) ≡ true
+      by : (b : Bool) → is_array name ≡ b → is_type_known place (cond b (91 ∷ name) (91 ∷ 76 ∷ (name ++ 59 ∷ []))) ≡ true
       by true q = known_below place 91 name refl ∙ (good name (resolved_array name k q e).among).known
       by false q = known_class name (plain q)
 
@@ -430,7 +430,7 @@ module _ (files : List LoadedClass) (rows : List Ancestry) (pools : List Constan
 
   record IsBase (k : ℕ) : Type 0 where
     index : index_of (pos k) ≡ k
-    known : is_known place (base_name k) ≡ true
+    known : is_type_known place (base_name k) ≡ true
     element : element_of place (array_at set_length names) (base_name k) ≡ Base k
 
   bases : Each IsBase (4 ∷ 5 ∷ 6 ∷ 7 ∷ 8 ∷ 9 ∷ 10 ∷ 11 ∷ [])
@@ -509,18 +509,18 @@ module _ (files : List LoadedClass) (rows : List Ancestry) (pools : List Constan
   -- THE LAW
 
   module _ (has_pools : HasPools files pools) (rules : All KeepsCodeRules files) where
-    maker : (m : ℕ) (x : Instr × ℕ) → IsInstruction p m x → IsMaker (arrays_met files) (pool_of p (method_at p m).class) x.0
+    maker : (m : ℕ) (x : Instr × ℕ) → IsInstruction p m x → IsMaker (arrays_met files) (pool_of_class p (method_at p m).class) x.0
     maker m x i = makers files pools has_pools rules m no_method i.method i.body i.pc x i.code i.start i.at
 
-    base : (m : ℕ) (x : Instr × ℕ) → IsInstruction p m x → row_of x.0.opcode ≡ Some (Heap NewArray) → IsSome (base_array p (natural x.0.first))
+    base : (m : ℕ) (x : Instr × ℕ) → IsInstruction p m x → row_of x.0.opcode ≡ Some (Heap NewArray) → IsSome (base_array p (natural_of x.0.first))
     base m x i row =
         let opcode : x.0.opcode ≡ 0xbc = base_opcode x.0.opcode row in
         let k = maker m x i in
         by x.0.first
         (subst (λ (o : ℕ). (not (o == 0xbc) || (int_le (pos 4) x.0.first && int_le x.0.first (pos 11))) ≡ true) opcode k.kind)
-        (λ y c. k.made y (subst (λ (o : ℕ). Contains (cond (o == 0xbc) ((91 ∷ base_letter (index_of x.0.first) ∷ []) ∷ []) (cond (o == 0xbd) (option_to_list (option_map array_over (class_name_at (pool_of p (method_at p m).class) (index_of x.0.first)))) [])) y) (sym opcode) c))
+        (λ y c. k.made y (subst (λ (o : ℕ). Contains (cond (o == 0xbc) ((91 ∷ base_letter (index_of x.0.first) ∷ []) ∷ []) (cond (o == 0xbd) (option_to_list (option_map array_over (class_name_at (pool_of_class p (method_at p m).class) (index_of x.0.first)))) [])) y) (sym opcode) c))
       where
-        by : (n : ℤ) → (int_le (pos 4) n && int_le n (pos 11)) ≡ true → ((y : List ℕ) → Contains ((91 ∷ base_letter (index_of n) ∷ []) ∷ []) y → Contains (arrays_met files) y) → IsSome (base_array p (natural n))
+        by : (n : ℤ) → (int_le (pos 4) n && int_le n (pos 11)) ≡ true → ((y : List ℕ) → Contains ((91 ∷ base_letter (index_of n) ∷ []) ∷ []) y → Contains (arrays_met files) y) → IsSome (base_array p (natural_of n))
         by (negsuc n) h made = absurd (false≢true h)
         by (pos n) h made =
             let parts = and_parts (int_le (pos 4) (pos n)) (int_le (pos n) (pos 11)) h in
@@ -533,25 +533,25 @@ module _ (files : List LoadedClass) (rows : List Ancestry) (pools : List Constan
     single m x class i row n =
         let opcode : x.0.opcode ≡ 0xbd = single_opcode x.0.opcode row in
         let k = maker m x i in
-        let slots : List (Option Item) = pool_of p (method_at p m).class in
-        let index : index_of x.0.first ≡ natural x.0.first = class_index slots x.0.first n.name k.few n.operand in
+        let slots : List (Option Item) = pool_of_class p (method_at p m).class in
+        let index : index_of x.0.first ≡ natural_of x.0.first = class_index slots x.0.first n.name k.few n.operand in
         let made : made_by slots x.0 ≡ array_over n.name ∷ [] =
         ap (λ (o : ℕ). cond (o == 0xbc) ((91 ∷ base_letter (index_of x.0.first) ∷ []) ∷ []) (cond (o == 0xbd) (option_to_list (option_map array_over (class_name_at slots (index_of x.0.first)))) [])) opcode
         ∙ (ap (λ (j : ℕ). option_to_list (option_map array_over (class_name_at slots j))) index ∙ ap (λ (o : Option (List ℕ)). option_to_list (option_map array_over o)) n.operand) in
         single_array n.name class n.resolves (k.made (array_over n.name) (subst (λ (ys : List (List ℕ)). Contains ys (array_over n.name)) (sym made) (Contains-here (array_over n.name) [])))
 
-    multi : (m : ℕ) (x : Instr × ℕ) (class : ℕ) → IsInstruction p m x → row_of x.0.opcode ≡ Some (Heap NewMultiArray) → NamesClass p m x class → (0 < natural x.0.second) × HasDimensions p (natural x.0.second) class
+    multi : (m : ℕ) (x : Instr × ℕ) (class : ℕ) → IsInstruction p m x → row_of x.0.opcode ≡ Some (Heap NewMultiArray) → NamesClass p m x class → (0 < natural_of x.0.second) × HasDimensions p (natural_of x.0.second) class
     multi m x class i row n =
         let opcode : x.0.opcode ≡ 0xc5 = multi_opcode x.0.opcode row in
         let k = maker m x i in
-        let slots : List (Option Item) = pool_of p (method_at p m).class in
-        let index : index_of x.0.first ≡ natural x.0.first = class_index slots x.0.first n.name k.few n.operand in
+        let slots : List (Option Item) = pool_of_class p (method_at p m).class in
+        let index : index_of x.0.first ≡ natural_of x.0.first = class_index slots x.0.first n.name k.few n.operand in
         let named_so : class_name_at slots (index_of x.0.first) ≡ Some n.name = ap (λ (j : ℕ). class_name_at slots j) index ∙ n.operand in
         let well : is_class_well x.0 (Some n.name) ≡ true = subst (λ (o : Option (List ℕ)). is_class_well x.0 o ≡ true) named_so k.class in
         by x.0.second
         (subst (λ (o : ℕ). cond (o == 0xbb) (not (is_array n.name)) (cond (o == 0xbd) (not (dimensions n.name == 255)) (not (o == 0xc5) || (int_le (pos 1) x.0.second && int_le x.0.second (pos (dimensions n.name))))) ≡ true) opcode well)
       where
-        by : (s : ℤ) → (int_le (pos 1) s && int_le s (pos (dimensions n.name))) ≡ true → (0 < natural s) × HasDimensions p (natural s) class
+        by : (s : ℤ) → (int_le (pos 1) s && int_le s (pos (dimensions n.name))) ≡ true → (0 < natural_of s) × HasDimensions p (natural_of s) class
         by (negsuc s) h = absurd (false≢true h)
         by (pos s) h =
             let parts = and_parts (int_le (pos 1) (pos s)) (int_le (pos s) (pos (dimensions n.name))) h in

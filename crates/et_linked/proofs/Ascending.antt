@@ -6,14 +6,14 @@ use Rattle.std.specs.List.{slice_index_or}
 use Rattle.std.proofs.lemmas.Bool.{cases_Bool}
 use Rattle.std.proofs.lemmas.List.{length-set, length-replicate}
 use Rattle.std.proofs.lemmas.List.Elements.{Contains-get_or}
-use Rattle.et_hierarchy.specs.Links.{LinkEntry, no_links, parents, IsAncestor, IsAcyclic, AreWithin}
-use Rattle.et_hierarchy.specs.Search.{IsMarked, unmarked}
+use Rattle.et_hierarchy.specs.Links.{LinkEntry, no_links, parents, IsAncestor, IsAcyclic, HasLinksWithin}
+use Rattle.et_hierarchy.specs.Search.{IsMarkedIn, unmarked}
 use Rattle.et_hierarchy.specs.Sorting.{is_done}
 use Rattle.et_hierarchy.proofs.Marks.{unmarked-set, marked_before, no_marks}
 
-module _ (table : List LinkEntry) (within : AreWithin (length table) table) (acyclic : IsAcyclic table) (P : ℕ → Type 0) (step : (u : ℕ) → u < length table → All P (parents table u) → P u) where
+module _ (table : List LinkEntry) (within : HasLinksWithin (length table) table) (acyclic : IsAcyclic table) (P : ℕ → Type 0) (step : (u : ℕ) → u < length table → All P (parents table u) → P u) where
   -- each class from which one has come up to class u is marked as seen
-  up_from : (fuel : ℕ) (seen : List Bool) (u : ℕ) → u < length table → length seen ≡ length table → ((v : ℕ) → IsMarked seen v → IsAncestor table v u) → unmarked seen ≤ fuel → P u
+  up_from : (fuel : ℕ) (seen : List Bool) (u : ℕ) → u < length table → length seen ≡ length table → ((v : ℕ) → IsMarkedIn seen v → IsAncestor table v u) → unmarked seen ≤ fuel → P u
   up_from zero seen u lt len below few =
       ⊎_elim (λ y. absurd (acyclic u lt (below u y))) (λ n. let w = unmarked-set seen u (subst (λ m. u < m) (sym len) lt) n in absurd (omega arith)) (cases_Bool (is_done seen u))
   up_from (suc fuel) seen u lt len below few =

@@ -12,7 +12,7 @@ use Rattle.et_program.specs.Files.{boots}
 use Rattle.et_program.specs.MembersOf.{numbered, boot_fields}
 use Rattle.et_event.specs.declared.errors.GuestError.{GuestError}
 use Rattle.et_event.specs.declared.errors.GuestError.TheVariants.{AbstractMethodError, ArithmeticException, ArrayIndexOutOfBoundsException, ArrayStoreException, ClassCastException, ExceptionInInitializerError, IllegalMonitorStateException, IllegalThreadStateException, IncompatibleClassChangeError, InstantiationError, NegativeArraySizeException, NoClassDefFoundError, NoSuchFieldError, NoSuchMethodError, NullPointerException, OutOfMemoryError, StackOverflowError, UnsatisfiedLinkError}
-use Rattle.et_event.specs.Errors.{name_of}
+use Rattle.et_event.specs.Errors.{error_name}
 
 abbrev is_none_of : List BootFieldOf → Bool
 is_none_of [] = true
@@ -113,7 +113,7 @@ fieldless_by name (Some k) e h = record { place = k; found = e; fieldless = h }
 fieldless : (name : List ℕ) → has_fieldless name ≡ true → IsFieldless name
 fieldless name h = fieldless_by name (boot_place name) refl h
 
-error_fieldless : (error : GuestError) → has_fieldless (name_of error) ≡ true
+error_fieldless : (error : GuestError) → has_fieldless (error_name error) ≡ true
 unfolding boots has_no_fields
 error_fieldless AbstractMethodError = refl
 error_fieldless ArithmeticException = refl
@@ -138,8 +138,8 @@ string_fieldless : has_fieldless (codes "java/lang/String") ≡ true
 unfolding boots has_no_fields
 string_fieldless = refl
 
-pub of_error : (error : GuestError) → IsFieldless (name_of error)
-of_error error = fieldless (name_of error) (error_fieldless error)
+pub of_error : (error : GuestError) → IsFieldless (error_name error)
+of_error error = fieldless (error_name error) (error_fieldless error)
 
 pub of_string : IsFieldless (codes "java/lang/String")
 of_string = fieldless (codes "java/lang/String") string_fieldless

@@ -7,7 +7,7 @@ use Rattle.std.proofs.lemmas.List.Sums.{sum_by-cons, sum_by-take-le, count_by_mo
 use Rattle.std.proofs.lemmas.List.Elements.{All-head, All-tail}
 use Rattle.et_program.specs.declared.info.FieldInfo.{FieldInfo}
 use Rattle.et_program.specs.Entries.{no_field}
-use Rattle.et_program.specs.Slots.{slot_of, placed_behind, places_from}
+use Rattle.et_program.specs.Slots.{slot_of_field, placed_behind, places_from}
 
 abbrev one_if : Bool → ℕ
 one_if b = cond b 1 0
@@ -38,12 +38,12 @@ count_before t xs i j d lt e less =
 
 -- a field with its slot
 pub placed_at : (base : ℕ → ℕ) (before fs : List FieldInfo) (f : ℕ) → f < length fs
-    → slice_index_or (placed_behind base before fs) f no_field ≡ record (slice_index_or fs f no_field) { slot = slot_of base (before ++ take f fs) (slice_index_or fs f no_field) }
+    → slice_index_or (placed_behind base before fs) f no_field ≡ record (slice_index_or fs f no_field) { slot = slot_of_field base (before ++ take f fs) (slice_index_or fs f no_field) }
 placed_at base before [] f lt = absurd (omega arith)
-placed_at base before (x ∷ xs) zero lt = ap (λ (l : List FieldInfo). record x { slot = slot_of base l x }) (sym (append-nil before))
+placed_at base before (x ∷ xs) zero lt = ap (λ (l : List FieldInfo). record x { slot = slot_of_field base l x }) (sym (append-nil before))
 placed_at base before (x ∷ xs) (suc f) lt =
     placed_at base (before ++ x ∷ []) xs f (omega arith)
-    ∙ ap (λ (l : List FieldInfo). record (slice_index_or xs f no_field) { slot = slot_of base l (slice_index_or xs f no_field) }) (append_assoc before (x ∷ []) (take f xs))
+    ∙ ap (λ (l : List FieldInfo). record (slice_index_or xs f no_field) { slot = slot_of_field base l (slice_index_or xs f no_field) }) (append_assoc before (x ∷ []) (take f xs))
 
 -- PLACES
 

@@ -10,7 +10,7 @@ use Rattle.et_pool.specs.Entries.{Item}
 use Rattle.et_pool.specs.Looks.{end_of}
 use Rattle.et_class.specs.declared.flags.TheConstants.{STATIC, INTERFACE}
 use Rattle.et_class.specs.Names.{has}
-use Rattle.et_class.specs.Layout.{ClassOf, MemberOf, AttributeOf, member_bytes, attribute_bytes, u2, counted}
+use Rattle.et_class.specs.Layout.{ClassOf, MemberOf, AttributeOf, member_bytes, attribute_bytes, u2, counted_bytes}
 use Rattle.et_class.specs.Along.{along}
 use Rattle.et_class.specs.Fields.{field_marks, field_attribute_marks, is_field_flags, is_field_attribute, is_value_well, is_constant_value, is_constant, index_in, attribute_marks}
 use Rattle.et_class.specs.Rules.{pool_marks, header_marks, header_of}
@@ -49,11 +49,11 @@ well_field slots interface before place m h = record {
 pub well_fields : (bytes : List ℕ) (c : ClassOf) → IsClassFile bytes c → All (IsWellField c.slots (has c.flags INTERFACE)) c.fields
 well_fields bytes c is =
     let face : Bool = has c.flags INTERFACE in
-    let place : ℕ = end_of 8 c.slots + 6 + length (counted u2 c.interfaces) in
+    let place : ℕ = end_of 8 c.slots + 6 + length (counted_bytes u2 c.interfaces) in
     let header : List Mark = header_marks c.slots (end_of 8 c.slots) (header_of c) in
     let fields : List Mark = along member_bytes (field_marks c.slots face) [] (place + 2) c.fields in
-    let methods : List Mark = along member_bytes (method_marks c.slots) [] (place + length (counted member_bytes c.fields) + 2) c.methods in
-    let others : List Mark = along attribute_bytes (attribute_marks c.slots) [] (place + length (counted member_bytes c.fields) + length (counted member_bytes c.methods) + 2) c.attributes in
+    let methods : List Mark = along member_bytes (method_marks c.slots) [] (place + length (counted_bytes member_bytes c.fields) + 2) c.methods in
+    let others : List Mark = along attribute_bytes (attribute_marks c.slots) [] (place + length (counted_bytes member_bytes c.fields) + length (counted_bytes member_bytes c.methods) + 2) c.attributes in
     let behind : AreWell (header ++ (fields ++ (methods ++ others))) = well_behind (pool_marks c.slots) (header ++ (fields ++ (methods ++ others))) (record { none = is.rules }) in
     along_each (IsWellField c.slots face) member_bytes (field_marks c.slots face) (λ before at m w. well_field c.slots face before at m w) [] (place + 2) c.fields
     (well_before fields (methods ++ others) (well_behind header (fields ++ (methods ++ others)) behind))

@@ -17,7 +17,7 @@ use Rattle.et_state.specs.Roots.{graph_of}
 use Rattle.et_state.proofs.Places.{ended_root}
 use Rattle.et_state.proofs.Wholes.{length-remaining, sound_flushed}
 use Rattle.et_event.specs.Errors.{class_called}
-use Rattle.et_event.specs.Moments.{fits}
+use Rattle.et_event.specs.Moments.{fits_heap}
 use Rattle.et_event.specs.Sound.{HasThreadObject, IsSoundObject, IsSoundMonitor, IsSoundThread, IsSoundFor}
 
 -- here says of each object that is held whether it is reached
@@ -117,7 +117,7 @@ fewer_slots here k (x ∷ xs) =
     let rest : slot_count (remaining here (k + 1) xs) ≤ slot_count xs = fewer_slots here (k + 1) xs in
     omega (arith, sum_by-cons slots_in x xs, sum_by-cons slots_in (left_place here (here k) x) (remaining here (k + 1) xs))
 
-fits_left : (here : ℕ → Bool) (heap : Objects) → fits heap ≡ true → fits (remaining here 0 heap) ≡ true
+fits_left : (here : ℕ → Bool) (heap : Objects) → fits_heap heap ≡ true → fits_heap (remaining here 0 heap) ≡ true
 fits_left here heap h =
     let parts = and_parts (nat_le (made_count heap) most_objects) (nat_le (slot_count heap) most_slots) h in
     let made : made_count (remaining here 0 heap) ≡ made_count heap = ap (λ (n : ℕ). n - 1) (length-remaining here 0 heap) in

@@ -13,7 +13,7 @@ use Rattle.et_event.specs.declared.rows.CallRow.TheVariants.{Invoke, Return}
 use Rattle.et_event.specs.declared.rows.HeapRow.TheVariants.{GetStatic, PutStatic, GetField, PutField, LoadElement, StoreElement, New, NewArray, NewReferenceArray, NewMultiArray, ArrayLength, CheckCast, InstanceOf}
 use Rattle.et_event.specs.declared.rows.Row.{Row}
 use Rattle.et_event.specs.declared.rows.Row.TheVariants.{Frame, PoolConstant, Divide, Heap, Call, Throw, Monitor}
-use Rattle.et_event.specs.Sites.{Site, Member, member_of, natural}
+use Rattle.et_event.specs.Sites.{Site, Member, site_member, natural_of}
 use Rattle.et_event.specs.Table.{rows, row_among, row_of}
 use Rattle.et_linked.proofs.Classes.{past}
 
@@ -107,7 +107,7 @@ multi_opcode opcode e = eqb-true opcode 0xc5 (among (makes 2) (is_opcode 0xc5) r
 
 -- INDICES of a pool that isn't longer than an index can tell
 
-index_is : (n : ℤ) (slots : List (Option Item)) → length slots < 2 ^ 16 → natural n < length slots → index_of n ≡ natural n
+index_is : (n : ℤ) (slots : List (Option Item)) → length slots < 2 ^ 16 → natural_of n < length slots → index_of n ≡ natural_of n
 index_is (pos n) slots few lt = by (nat_lt n (2 ^ 16)) refl
   where
     by : (b : Bool) → nat_lt n (2 ^ 16) ≡ b → cond b n 0 ≡ n
@@ -121,18 +121,18 @@ no_name slots name e = cc
 no_pair : (x : ℕ × ℕ) → pair_of_slot is_member_tag None ≡ Some x → ⊥
 no_pair x e = cc
 
-pub class_index : (slots : List (Option Item)) (n : ℤ) (name : List ℕ) → length slots < 2 ^ 16 → class_name_at slots (natural n) ≡ Some name → index_of n ≡ natural n
+pub class_index : (slots : List (Option Item)) (n : ℤ) (name : List ℕ) → length slots < 2 ^ 16 → class_name_at slots (natural_of n) ≡ Some name → index_of n ≡ natural_of n
 class_index slots n name few e =
-    elim (cases_lt (natural n) (length slots)) [
+    elim (cases_lt (natural_of n) (length slots)) [
       | inl lt ↦ index_is n slots few lt
-      | inr le ↦ absurd (no_name slots name (sym (ap (λ (s : Option Item). named_by slots CLASS s) (past slots (natural n) None le)) ∙ e))
+      | inr le ↦ absurd (no_name slots name (sym (ap (λ (s : Option Item). named_by slots CLASS s) (past slots (natural_of n) None le)) ∙ e))
     ]
 
-pub member_index : (slots : List (Option Item)) (n : ℤ) (x : ℕ × ℕ) → length slots < 2 ^ 16 → member_at slots (natural n) ≡ Some x → index_of n ≡ natural n
+pub member_index : (slots : List (Option Item)) (n : ℤ) (x : ℕ × ℕ) → length slots < 2 ^ 16 → member_at slots (natural_of n) ≡ Some x → index_of n ≡ natural_of n
 member_index slots n x few e =
-    elim (cases_lt (natural n) (length slots)) [
+    elim (cases_lt (natural_of n) (length slots)) [
       | inl lt ↦ index_is n slots few lt
-      | inr le ↦ absurd (no_pair x (sym (ap (λ (s : Option Item). pair_of_slot is_member_tag s) (past slots (natural n) None le)) ∙ e))
+      | inr le ↦ absurd (no_pair x (sym (ap (λ (s : Option Item). pair_of_slot is_member_tag s) (past slots (natural_of n) None le)) ∙ e))
     ]
 
 -- THE NAME of a member
@@ -151,8 +151,8 @@ some_then f (Some x) y e = record { value = x; is = refl; then = e }
 
 pub record NamesMember (slots : List (Option Item)) (n : ℤ) (name : List ℕ) : Type 0 where
   pub pair : ℕ × ℕ
-  pub is : member_at slots (natural n) ≡ Some pair
-  pub named : member_name slots (natural n) ≡ Some name
+  pub is : member_at slots (natural_of n) ≡ Some pair
+  pub named : member_name slots (natural_of n) ≡ Some name
 
 mapped_name : (owner name : List ℕ) (o : Option (List ℕ)) (m : Member) → option_map (λ descriptor. record { owner = owner; name = name; descriptor = descriptor }) o ≡ Some m → name ≡ m.name
 mapped_name owner name None m e = absurd (nothing e)
@@ -164,9 +164,9 @@ mapped_name owner name (Some d) m e = ap (λ (x : Member). x.name) (same (record
     same : (it : Member) → Some it ≡ Some m → it ≡ m
     same it q = cc
 
-pub member_named : (at : Site) (m : Member) → member_of at ≡ Some m → NamesMember at.pool at.instr.first m.name
+pub member_named : (at : Site) (m : Member) → site_member at ≡ Some m → NamesMember at.pool at.instr.first m.name
 member_named at m e =
-    let i : ℕ = natural at.instr.first in
+    let i : ℕ = natural_of at.instr.first in
     let pair = some_then _ (member_at at.pool i) m e in
     let owner = some_then _ (class_name_at at.pool pair.value.0) m pair.then in
     let both = some_then _ (name_and_type_at at.pool pair.value.1) m owner.then in

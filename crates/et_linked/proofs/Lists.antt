@@ -8,7 +8,7 @@ use Rattle.std.proofs.lemmas.List.{reverse-reverse}
 use Rattle.std.proofs.lemmas.Bool.{eqb-true}
 use Rattle.et_base.proofs.Lists.{Contains-none, Contains-here, Contains-cons, any_contains}
 use Rattle.et_program.specs.Slots.{places_from}
-use Rattle.et_hierarchy.specs.Ancestry.{added, added_all}
+use Rattle.et_hierarchy.specs.Ancestry.{class_added, added_all}
 use Rattle.et_program.specs.MembersOf.{numbered}
 
 module _ (P : ℕ → Type 0) where
@@ -19,7 +19,7 @@ module _ (P : ℕ → Type 0) where
   pub all_added : (seen xs : List ℕ) → All P seen → All P xs → All P (added_all seen xs)
   all_added seen [] h g = h
   all_added seen (x ∷ xs) h g =
-      all_added (added seen x) xs (either (list_any (λ y. x == y) seen) seen (seen ++ x ∷ []) h (All-push P seen x h (All-head P x xs g))) (All-tail P x xs g)
+      all_added (class_added seen x) xs (either (list_any (λ y. x == y) seen) seen (seen ++ x ∷ []) h (All-push P seen x h (All-head P x xs g))) (All-tail P x xs g)
 
   pub all_flat : (f : ℕ → List ℕ) (xs : List ℕ) → All (λ i. All P (f i)) xs → All P (flat_map f xs)
   all_flat f [] h = All-nil P
@@ -66,14 +66,14 @@ pub all_before : {X : Type 0} (P : X → Type 0) (xs ys : List X) → All P (xs 
 all_before P [] ys h = All-nil P
 all_before P (x ∷ xs) ys h = All-cons P x xs (All-head P x (xs ++ ys) h) (all_before P xs ys (All-tail P x (xs ++ ys) h))
 
-added_has : (seen : List ℕ) (x : ℕ) → Contains (added seen x) x
+added_has : (seen : List ℕ) (x : ℕ) → Contains (class_added seen x) x
 added_has seen x = by (list_any (λ y. x == y) seen) refl
   where
     by : (b : Bool) → list_any (λ y. x == y) seen ≡ b → Contains (cond b seen (seen ++ x ∷ [])) x
     by true e = any_contains (λ y. x == y) x (λ y t. sym (eqb-true x y t)) seen e
     by false e = Contains-append_right seen (x ∷ []) x (Contains-here x [])
 
-added_keeps : (seen : List ℕ) (y x : ℕ) → Contains seen x → Contains (added seen y) x
+added_keeps : (seen : List ℕ) (y x : ℕ) → Contains seen x → Contains (class_added seen y) x
 added_keeps seen y x h = by (list_any (λ z. y == z) seen)
   where
     by : (b : Bool) → Contains (cond b seen (seen ++ y ∷ [])) x
@@ -82,14 +82,14 @@ added_keeps seen y x h = by (list_any (λ z. y == z) seen)
 
 all_keep : (seen xs : List ℕ) (x : ℕ) → Contains seen x → Contains (added_all seen xs) x
 all_keep seen [] x h = h
-all_keep seen (y ∷ ys) x h = all_keep (added seen y) ys x (added_keeps seen y x h)
+all_keep seen (y ∷ ys) x h = all_keep (class_added seen y) ys x (added_keeps seen y x h)
 
 pub added_all_has : (seen xs : List ℕ) (x : ℕ) → Contains xs x → Contains (added_all seen xs) x
 added_all_has seen [] x h = absurd (Contains-none x h)
 added_all_has seen (y ∷ ys) x h =
     elim (Contains-cons y ys x h) [
-      | inl e ↦ all_keep (added seen y) ys x (subst (λ (z : ℕ). Contains (added seen y) z) e (added_has seen y))
-      | inr d ↦ added_all_has (added seen y) ys x d
+      | inl e ↦ all_keep (class_added seen y) ys x (subst (λ (z : ℕ). Contains (class_added seen y) z) e (added_has seen y))
+      | inr d ↦ added_all_has (class_added seen y) ys x d
     ]
 
 pub flat_has : (f : ℕ → List ℕ) (xs : List ℕ) (t x : ℕ) → Contains xs t → Contains (f t) x → Contains (flat_map f xs) x

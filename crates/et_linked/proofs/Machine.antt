@@ -15,7 +15,7 @@ use Rattle.et_boot.specs.Classes.{no_boot_class}
 use Rattle.et_class.specs.Names.{has}
 use Rattle.et_class.specs.declared.flags.TheConstants.{STATIC, INTERFACE}
 use Rattle.et_pool.specs.Entries.{Constants}
-use Rattle.et_hierarchy.specs.Outline.{Outline, no_outline, place_of}
+use Rattle.et_hierarchy.specs.Outline.{Outline, no_outline, class_place}
 use Rattle.et_hierarchy.specs.Links.{LinkEntry, links, links_of}
 use Rattle.et_hierarchy.specs.Ancestry.{Ancestry, ancestry_at, supers_over, IsAncestry}
 use Rattle.et_hierarchy.proofs.Names.{same_name}
@@ -28,8 +28,8 @@ use Rattle.et_program.specs.Files.{boots, set_of, boot_outline, file_outline}
 use Rattle.et_program.specs.Loaded.{LoadedClass}
 use Rattle.et_program.specs.LinkFaults.{IsLinkable}
 use Rattle.et_program.specs.MembersOf.{numbered, fields_of, boot_fields, file_fields, file_field}
-use Rattle.et_program.specs.ProgramOf.{heads_of, names_of, program_with, IsProgramOf}
-use Rattle.et_program.specs.Slots.{is_static_field, is_instance_of, own_slots, slots_above, slot_of}
+use Rattle.et_program.specs.ProgramOf.{heads_of, class_names_of, program_with, IsProgramOf}
+use Rattle.et_program.specs.Slots.{is_static_field, is_instance_of, own_slots, slots_above, slot_of_field}
 use Rattle.et_link.proofs.TabledLemmas.{length-set, length-placed, fields_within}
 use Rattle.et_event.specs.Errors.{class_called}
 use Rattle.et_event.specs.Sound.{HasField, IsSoundObject}
@@ -165,7 +165,7 @@ module _ (files : List LoadedClass) (rows : List Ancestry) (pools : List Constan
 
   -- FIELDS
 
-  field_is : (f : ℕ) → f < length p.fields → field_at p f ≡ record (declared f) { slot = slot_of (slots_above (fields_of files) rows) (take f (fields_of files)) (declared f) }
+  field_is : (f : ℕ) → f < length p.fields → field_at p f ≡ record (declared f) { slot = slot_of_field (slots_above (fields_of files) rows) (take f (fields_of files)) (declared f) }
   field_is f lt = placed_at (slots_above (fields_of files) rows) [] (fields_of files) f (subst (λ (n : ℕ). f < n) (length-placed (slots_above (fields_of files) rows) [] (fields_of files)) lt)
 
   slot_by : (b : Bool) (n m : ℕ) → b ≡ false → (if b then n else m) ≡ m
@@ -208,7 +208,7 @@ module _ (files : List LoadedClass) (rows : List Ancestry) (pools : List Constan
   no_array : (c : ℕ) → c < set_length → (class_at p c).info.element ≡ NoArray
   no_array c lt = ap (λ (x : ClassEntry). x.info.element) (class_is c lt)
 
-  above_each : (k : ℕ) → k < length boots → supers k ≡ supers_over rows (option_and_then (place_of (set_of files)) (slice_index_or boots k no_boot_class).super_name)
+  above_each : (k : ℕ) → k < length boots → supers k ≡ supers_over rows (option_and_then (class_place (set_of files)) (slice_index_or boots k no_boot_class).super_name)
   above_each k lt =
       let n : length (set_of files) ≡ length boots + length files = length-set files in
       let m : length (links (set_of files)) ≡ length (set_of files) = length-map (set_of files) (links_of (set_of files)) in
@@ -217,12 +217,12 @@ module _ (files : List LoadedClass) (rows : List Ancestry) (pools : List Constan
   object_supers : supers 0 ≡ []
   object_supers =
       let some : 6 < length boots = thread_is.within in
-      above_each 0 (omega arith) ∙ ap (λ (o : Option (List ℕ)). supers_over rows (option_and_then (place_of (set_of files)) o)) object_top
+      above_each 0 (omega arith) ∙ ap (λ (o : Option (List ℕ)). supers_over rows (option_and_then (class_place (set_of files)) o)) object_top
 
   top_supers : (t count : ℕ) → IsTop t count → supers t ≡ 0 ∷ []
   top_supers t count top =
       above_each t top.within
-      ∙ (ap (λ (o : Option (List ℕ)). supers_over rows (option_and_then (place_of (set_of files)) o)) top.superclass
+      ∙ (ap (λ (o : Option (List ℕ)). supers_over rows (option_and_then (class_place (set_of files)) o)) top.superclass
       ∙ (ap (λ (o : Option ℕ). supers_over rows o) (place_in_set files (codes "java/lang/Object") 0 object_place) ∙ ap (λ (l : List ℕ). 0 ∷ l) object_supers))
 
   -- no slot stands above it
@@ -292,7 +292,7 @@ module _ (files : List LoadedClass) (rows : List Ancestry) (pools : List Constan
     some_own f lt static =
         let q : ℕ = (field_at p f).class in
         let inside : q < set_length = class_below f lt in
-        let n : length p.classes ≡ set_length + length (names_of files) = length_all files rows pools in
+        let n : length p.classes ≡ set_length + length (class_names_of files) = length_all files rows pools in
         let sound : IsSoundObject p (new_object q 0 (class_at p q).info.slots) = slots.instances q (omega arith) (no_array q inside) in
         let at : HasField p (new_object q 0 (class_at p q).info.slots) f = sound.fields f lt static (itself q (list_any (λ k. k == q) (class_at p q).supers || is_above p q q)) in
         let size : length (replicate (class_at p q).info.slots Unset) ≡ (class_at p q).info.slots = length-replicate (class_at p q).info.slots Unset in

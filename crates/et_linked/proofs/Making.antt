@@ -22,11 +22,11 @@ use Rattle.et_program.specs.Files.{boots, set_of}
 use Rattle.et_program.specs.MembersOf.{numbered, fields_of, boot_fields, file_fields, file_field}
 use Rattle.et_program.specs.Slots.{placed, placed_behind, slots_above}
 use Rattle.et_program.specs.Classes.{Heads, set_class, array_class}
-use Rattle.et_program.specs.ProgramOf.{heads_of, names_of, program_with, IsProgramOf}
+use Rattle.et_program.specs.ProgramOf.{heads_of, class_names_of, program_with, IsProgramOf}
 use Rattle.et_link.proofs.TabledLemmas.{length-set, length-classes}
 use Rattle.et_heap.specs.Objects.{new_object}
 use Rattle.et_event.specs.declared.errors.GuestError.{GuestError}
-use Rattle.et_event.specs.Errors.{class_called, error_class, name_of}
+use Rattle.et_event.specs.Errors.{class_called, error_class, error_name}
 use Rattle.et_event.specs.Sound.{IsSoundObject, slots_by}
 use Rattle.et_event.specs.Programs.{MakesSound, new_of, MayHold}
 use Rattle.et_linked.proofs.Places.{at_numbered, first_numbered, one_of}
@@ -60,7 +60,7 @@ fields_elsewhere files rows = placed_all (λ k. has_no_fields boots k ≡ false)
 pub class_in : (files : List LoadedClass) (rows : List Ancestry) (pools : List Constants) (k : ℕ) → k < length (set_of files) → class_at (program_with files rows pools) k ≡ set_class (heads_of files rows) k (slice_index_or (set_of files) k no_outline)
 class_in files rows pools k lt =
     let h : Heads = heads_of files rows in
-    at_numbered (λ j c. set_class h j c) 0 (set_of files) (numbered (λ j name. array_class h j name ∷ []) (length (set_of files)) (names_of files)) k no_outline no_class lt
+    at_numbered (λ j c. set_class h j c) 0 (set_of files) (numbered (λ j name. array_class h j name ∷ []) (length (set_of files)) (class_names_of files)) k no_outline no_class lt
     ∙ ap (λ i. set_class h i (slice_index_or (set_of files) k no_outline)) (let same : 0 + k ≡ k = omega arith in same)
 
 pub named_in : (files : List LoadedClass) (rows : List Ancestry) (pools : List Constants) (name : List ℕ) (k : ℕ) → boot_place name ≡ Some k → class_called (program_with files rows pools) name ≡ k
@@ -68,7 +68,7 @@ named_in files rows pools name k h =
     let heads : Heads = heads_of files rows in
     ap (λ (o : Option ℕ). unwrap_or o 0)
     (first_numbered (λ (c : Outline). bytes_eq name c.name) (λ (c : ClassEntry). bytes_eq name c.info.name) (λ j c. set_class heads j c) (λ i c. refl) 0 (set_of files)
-    (numbered (λ j n. array_class heads j n ∷ []) (length (set_of files)) (names_of files)) k (place_in_set files name k h))
+    (numbered (λ j n. array_class heads j n ∷ []) (length (set_of files)) (class_names_of files)) k (place_in_set files name k h))
 
 -- what a class that declares no field is below declares none either
 pub no_field_above : (p : Linked) (c q : ℕ) → NoField c → All NoField (class_at p c).supers → All NoField (class_at p c).superinterfaces → is_subclass p c q ≡ true → NoField q
@@ -86,7 +86,7 @@ new_sound files rows pools is k h =
     let p : Linked = program_with files rows pools in
     let n : length (set_of files) ≡ length boots + length files = length-set files in
     let lt : k < length boots = no_fields_within boots k h in
-    let total : length p.classes ≡ length (set_of files) + length (names_of files) = length-classes (heads_of files rows) (set_of files) (names_of files) in
+    let total : length p.classes ≡ length (set_of files) + length (class_names_of files) = length-classes (heads_of files rows) (set_of files) (class_names_of files) in
     let c : class_at p k ≡ set_class (heads_of files rows) k (slice_index_or (set_of files) k no_outline) = class_in files rows pools k (omega arith) in
     let free : IsFree rows k = free_above files rows is k h in
     let supers : All NoField (class_at p k).supers = subst (λ (x : ClassEntry). All NoField x.supers) (sym c) free.above.supers in
@@ -109,7 +109,7 @@ pub makes_sound : (files : List LoadedClass) (p : Linked) → IsProgramOf files 
 makes_sound files p is =
     subst (λ (q : Linked). MakesSound q) (sym is.tables) (record {
       string = named_sound files is.rows p.pools is.ancestry (codes "java/lang/String") of_string;
-      error = λ error. named_sound files is.rows p.pools is.ancestry (name_of error) (of_error error);
+      error = λ error. named_sound files is.rows p.pools is.ancestry (error_name error) (of_error error);
     })
 
 -- .. and may hold any value in any slot, since no field stands there
@@ -131,6 +131,6 @@ new_holds files rows pools is k i v h =
 pub errors_hold : (files : List LoadedClass) (p : Linked) → IsProgramOf files p → (error : GuestError) (i : ℕ) (v : Value) → MayHold p (error_class p error) i v
 errors_hold files p is error i v =
     let q : Linked = program_with files is.rows p.pools in
-    let x : IsFieldless (name_of error) = of_error error in
+    let x : IsFieldless (error_name error) = of_error error in
     subst (λ (z : Linked). MayHold z (error_class z error) i v) (sym is.tables)
-    (subst (λ (c : ℕ). MayHold q c i v) (sym (named_in files is.rows p.pools (name_of error) x.place x.found)) (new_holds files is.rows p.pools is.ancestry x.place i v x.fieldless))
+    (subst (λ (c : ℕ). MayHold q c i v) (sym (named_in files is.rows p.pools (error_name error) x.place x.found)) (new_holds files is.rows p.pools is.ancestry x.place i v x.fieldless))

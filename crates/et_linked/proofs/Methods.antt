@@ -35,19 +35,19 @@ use Rattle.et_event.specs.declared.rows.CallKind.{CallKind}
 use Rattle.et_event.specs.declared.rows.CallRow.TheVariants.{Invoke}
 use Rattle.et_event.specs.declared.rows.Row.TheVariants.{Call}
 use Rattle.et_event.specs.Calls.{entry_count}
-use Rattle.et_event.specs.Sites.{Site, Member, member_of, natural, no_constants, pool_of}
+use Rattle.et_event.specs.Sites.{Site, Member, site_member, natural_of, no_constants, pool_of_class}
 use Rattle.et_event.specs.Table.{row_of}
-use Rattle.et_event.specs.Programs.{HasMethods}
+use Rattle.et_event.specs.Programs.{HasBuiltInMethods}
 use Rattle.et_base.proofs.Positions.{Passes, position_passes}
 use Rattle.et_linked.proofs.Lists.{all_numbered}
-use Rattle.et_linked.specs.Rules.{is_clinit, KeepsNames, KeepsCode, KeepsMethodRules, KeepsCodeRules}
+use Rattle.et_linked.specs.Rules.{is_clinit_name, KeepsNames, KeepsCode, KeepsMethodRules, KeepsCodeRules}
 use Rattle.et_linked.proofs.Instructions.{NamesMember, call_opcode, member_index, member_named}
 use Rattle.et_linked.proofs.Threads.{IsPlain, run_is_plain, few_slots, pool_is, thread_slots}
 
 -- WHAT HOLDS OF EACH METHOD
 
 abbrev takes_none : MethodInfo → Bool
-takes_none x = has x.flags STATIC || is_clinit x.name
+takes_none x = has x.flags STATIC || is_clinit_name x.name
 
 -- an instruction of a class with this pool
 pub record IsWellInstruction (slots : List (Option Item)) (i : Instr) : Type 0 where
@@ -57,7 +57,7 @@ pub record IsWellInstruction (slots : List (Option Item)) (i : Instr) : Type 0 w
 
 pub record IsWellMethod (pools : List Constants) (x : MethodInfo) : Type 0 where
   pub arguments : (body : Body) (type : MethodType) → x.code ≡ Some body → method_type x.descriptor ≡ Some type → entry_count (takes_none x) type ≤ body.max_locals
-  pub static : has x.flags STATIC ≡ true → is_clinit x.name ≡ false → x.code ≡ None → has x.flags NATIVE ≡ true
+  pub static : has x.flags STATIC ≡ true → is_clinit_name x.name ≡ false → x.code ≡ None → has x.flags NATIVE ≡ true
   pub code : (body : Body) (pc : ℕ) (i : Instr × ℕ) → x.code ≡ Some body → IsStart body.code pc → instruction_at body.code pc ≡ Ok i → IsWellInstruction (slice_index_or pools x.class no_constants).slots i.0
 
 -- what holds of those of the built-in classes and of each file holds of all
@@ -168,7 +168,7 @@ well_methods files pools has_pools rules codes =
 
 -- WHAT IS CALLED
 
-not_clinit : (name : List ℕ) (i : Instr) (slots : List (Option Item)) → is_member_well slots i ≡ true → names_member i.opcode ≡ true → member_name slots (index_of i.first) ≡ Some name → is_clinit name ≡ false
+not_clinit : (name : List ℕ) (i : Instr) (slots : List (Option Item)) → is_member_well slots i ≡ true → names_member i.opcode ≡ true → member_name slots (index_of i.first) ≡ Some name → is_clinit_name name ≡ false
 not_clinit name i slots h names e =
     ⊎_elim
     (λ n. absurd (both_ways (names_member i.opcode) (not-true (names_member i.opcode) n) names))
@@ -177,11 +177,11 @@ not_clinit name i slots h names e =
     sym (ap (λ (o : Option (List ℕ)). is_text o CLINIT.now) e) ∙ not-true (is_text (member_name slots (index_of i.first)) CLINIT.now) parts.0)
     (or_cases (not (names_member i.opcode)) _ h)
 
-called_name : (slots : List (Option Item)) (at : Site) (kind : CallKind) (named : Member) → IsWellInstruction slots at.instr → at.pool ≡ slots → row_of at.instr.opcode ≡ Some (Call (Invoke kind)) → member_of at ≡ Some named → is_clinit named.name ≡ false
+called_name : (slots : List (Option Item)) (at : Site) (kind : CallKind) (named : Member) → IsWellInstruction slots at.instr → at.pool ≡ slots → row_of at.instr.opcode ≡ Some (Call (Invoke kind)) → site_member at ≡ Some named → is_clinit_name named.name ≡ false
 called_name slots at kind named w e row is =
     let n : NamesMember at.pool at.instr.first named.name = member_named at named is in
     let v : IsWellInstruction at.pool at.instr = subst (λ (s : List (Option Item)). IsWellInstruction s at.instr) (sym e) w in
-    let index : index_of at.instr.first ≡ natural at.instr.first = member_index at.pool at.instr.first n.pair v.few n.is in
+    let index : index_of at.instr.first ≡ natural_of at.instr.first = member_index at.pool at.instr.first n.pair v.few n.is in
     not_clinit named.name at.instr at.pool v.member (call_opcode at.instr.opcode kind row) (ap (λ (i : ℕ). member_name at.pool i) index ∙ n.named)
 
 -- MAIN
@@ -214,7 +214,7 @@ codes_main = codes "main"
 abbrev codes_type : List ℕ
 codes_type = codes "([Ljava/lang/String;)V"
 
-methods_have : (files : List LoadedClass) (rows : List Ancestry) (pools : List Constants) → 0 < length files → HasPools files pools → All KeepsMethodRules files → All KeepsCodeRules files → IsLinkable files → HasMethods (program_with files rows pools)
+methods_have : (files : List LoadedClass) (rows : List Ancestry) (pools : List Constants) → 0 < length files → HasPools files pools → All KeepsMethodRules files → All KeepsCodeRules files → IsLinkable files → HasBuiltInMethods (program_with files rows pools)
 methods_have files rows pools some has_pools rules codes linkable =
     let p : Linked = program_with files rows pools in
     let all : All (IsWellMethod pools) (methods_of files) = well_methods files pools has_pools rules codes in
@@ -227,7 +227,7 @@ methods_have files rows pools some has_pools rules codes linkable =
     record {
       arguments = λ k body type lt e t. (all k no_method lt).arguments body type e t;
       static = λ k lt s n e. (all k no_method lt).static s n e;
-      calls = λ k at kind named i e row is. called_name (pool_of p (method_at p k).class) at kind named ((all k no_method i.method).code i.body i.pc (at.instr, at.next) i.code i.start i.at) e row is;
+      calls = λ k at kind named i e row is. called_name (pool_of_class p (method_at p k).class) at kind named ((all k no_method i.method).code i.body i.pc (at.instr, at.next) i.code i.start i.at) e row is;
       main = m.within;
       main_static = four.0;
       main_name = same_name x.name codes_main two.0;
@@ -235,5 +235,5 @@ methods_have files rows pools some has_pools rules codes linkable =
       main_code = some_is x.code four.1;
     }
 
-pub has_methods : (files : List LoadedClass) (p : Linked) → 0 < length files → All KeepsMethodRules files → All KeepsCodeRules files → IsLinkable files → IsProgramOf files p → HasMethods p
-has_methods files p some rules codes linkable is = subst HasMethods (sym is.tables) (methods_have files is.rows p.pools some is.pools rules codes linkable)
+pub has_methods : (files : List LoadedClass) (p : Linked) → 0 < length files → All KeepsMethodRules files → All KeepsCodeRules files → IsLinkable files → IsProgramOf files p → HasBuiltInMethods p
+has_methods files p some rules codes linkable is = subst HasBuiltInMethods (sym is.tables) (methods_have files is.rows p.pools some is.pools rules codes linkable)

@@ -6,7 +6,7 @@ use Rattle.et_base.specs.Marks.{Mark, Breaks}
 use Rattle.et_pool.specs.Looks.{end_of}
 use Rattle.et_class.specs.declared.fault.TheConstants.{POOL}
 use Rattle.et_class.specs.declared.flags.TheConstants.{INTERFACE}
-use Rattle.et_class.specs.Layout.{ClassOf, u2, counted}
+use Rattle.et_class.specs.Layout.{ClassOf, u2, counted_bytes}
 use Rattle.et_class.specs.Names.{has, is_plain_class}
 use Rattle.et_class.specs.Rules.{pool_marks, header_marks, members_marks, header_of, members_of}
 use Rattle.et_class.specs.Classes.{IsClassFile}
@@ -19,7 +19,7 @@ broken_behind (m ∷ ms) ns place kind h = inr (broken_behind ms ns place kind h
 
 pub has_class_name : (bytes : List ℕ) (c : ClassOf) → IsClassFile bytes c → HasClassName (loaded_class c)
 has_class_name bytes c is =
-    let behind : List Mark = header_marks c.slots (end_of 8 c.slots) (header_of c) ++ members_marks c.slots (has c.flags INTERFACE) (end_of 8 c.slots + 6 + length (counted u2 c.interfaces)) (members_of c) in
+    let behind : List Mark = header_marks c.slots (end_of 8 c.slots) (header_of c) ++ members_marks c.slots (has c.flags INTERFACE) (end_of 8 c.slots + 6 + length (counted_bytes u2 c.interfaces)) (members_of c) in
     ⊎_elim
     (λ t. t)
     (λ f.

@@ -18,7 +18,7 @@ use Rattle.et_program.specs.Heads.{has_to_run}
 use Rattle.et_program.specs.Loaded.{LoadedClass}
 use Rattle.et_program.specs.LinkFaults.{IsLinkable}
 use Rattle.et_program.specs.MembersOf.{methods_of}
-use Rattle.et_program.specs.ProgramOf.{names_of, program_with}
+use Rattle.et_program.specs.ProgramOf.{class_names_of, program_with}
 use Rattle.et_link.proofs.TabledLemmas.{order_within}
 use Rattle.et_linked.proofs.Making.{class_in}
 use Rattle.et_linked.proofs.Classes.{length_all, class_cases, array_in}
@@ -183,7 +183,7 @@ module _ (files : List LoadedClass) (rows : List Ancestry) (pools : List Constan
   -- .. which all are classes
   pub within_all : (c : ℕ) → All (λ k. k < length (program_with files rows pools).classes) (class_at (program_with files rows pools) c).init_order
   within_all c =
-      let m : length p.classes ≡ length set + length (names_of files) = length_all files rows pools in
+      let m : length p.classes ≡ length set + length (class_names_of files) = length_all files rows pools in
       let P = λ (k : ℕ). k < length p.classes in
       class_cases files rows pools (λ (x : ClassEntry). All P x.init_order) c
       (λ lt.

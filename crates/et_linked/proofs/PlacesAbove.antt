@@ -8,9 +8,9 @@ use Rattle.std.proofs.lemmas.Bool.{and_parts, ltb-true, false≢true}
 use Rattle.std.proofs.lemmas.List.{length-map}
 use Rattle.std.proofs.lemmas.List.Elements.{All-nil, All-cons, All-head, All-tail, All-append, All-push}
 use Rattle.et_boot.specs.Classes.{BootClassOf, no_boot_class}
-use Rattle.et_hierarchy.specs.Outline.{Outline, place_of, no_outline}
+use Rattle.et_hierarchy.specs.Outline.{Outline, class_place, no_outline}
 use Rattle.et_hierarchy.specs.Links.{LinkEntry, links, links_of, no_links}
-use Rattle.et_hierarchy.specs.Ancestry.{Ancestry, ancestry_at, ancestry_of, added, added_all, supers_over, superinterfaces_over, IsAncestry}
+use Rattle.et_hierarchy.specs.Ancestry.{Ancestry, ancestry_at, ancestry_of, class_added, added_all, supers_over, superinterfaces_over, IsAncestry}
 use Rattle.et_program.specs.Loaded.{LoadedClass}
 use Rattle.et_program.specs.Files.{boots, set_of, boot_outline, file_outline}
 use Rattle.et_link.proofs.TabledLemmas.{length-set}
@@ -27,7 +27,7 @@ module _ (P : ℕ → Type 0) where
   all_added : (seen xs : List ℕ) → All P seen → All P xs → All P (added_all seen xs)
   all_added seen [] h g = h
   all_added seen (x ∷ xs) h g =
-      all_added (added seen x) xs (either (list_any (λ y. x == y) seen) seen (seen ++ x ∷ []) h (All-push P seen x h (All-head P x xs g))) (All-tail P x xs g)
+      all_added (class_added seen x) xs (either (list_any (λ y. x == y) seen) seen (seen ++ x ∷ []) h (All-push P seen x h (All-head P x xs g))) (All-tail P x xs g)
 
   all_flat : (f : ℕ → List ℕ) (xs : List ℕ) → All (λ i. All P (f i)) xs → All P (flat_map f xs)
   all_flat f [] h = All-nil P
@@ -75,13 +75,13 @@ row_of rows k l h = row_by rows k l.above l.interfaces h.superclass h.interfaces
 
 -- BY NAME: a name of the table is that of the same class in the set of a program
 
-pub place_in_set : (files : List LoadedClass) (name : List ℕ) (j : ℕ) → boot_place name ≡ Some j → place_of (set_of files) name ≡ Some j
+pub place_in_set : (files : List LoadedClass) (name : List ℕ) (j : ℕ) → boot_place name ≡ Some j → class_place (set_of files) name ≡ Some j
 place_in_set files name j h = first_in_front (λ (c : BootClassOf). bytes_eq name c.name) (λ (o : Outline). bytes_eq name o.name) boot_outline (λ c. refl) 0 boots (map file_outline files) j h
 
 -- the class of this name stands before class k and declares no field
 record IsNamedBefore (files : List LoadedClass) (k : ℕ) (name : List ℕ) : Type 0 where
   q : ℕ
-  found : place_of (set_of files) name ≡ Some q
+  found : class_place (set_of files) name ≡ Some q
   before : q < k
   fieldless : NoField q
 
@@ -95,7 +95,7 @@ named_before : (files : List LoadedClass) (k : ℕ) (name : List ℕ) → is_bef
 named_before files k name h = named_by files k name (boot_place name) refl h
 
 superclass_before : (files : List LoadedClass) (rows : List Ancestry) (k : ℕ) (name : Option (List ℕ)) → option_map_or (λ n. is_before boots k (boot_place n)) name true ≡ true → ((q : ℕ) → q < k → NoField q → IsFree rows q)
-    → (s : ℕ) → option_and_then (place_of (set_of files)) name ≡ Some s → IsFree rows s
+    → (s : ℕ) → option_and_then (class_place (set_of files)) name ≡ Some s → IsFree rows s
 superclass_before files rows k None h free s e = absurd (no_superclass s e)
   where
     no_superclass : (t : ℕ) → None ≡ Some t → ⊥
@@ -109,12 +109,12 @@ superclass_before files rows k (Some name) h free s e =
     some_same a b x = cc
 
 interfaces_before : (files : List LoadedClass) (rows : List Ancestry) (k : ℕ) (names : List (List ℕ)) → list_all (λ n. is_before boots k (boot_place n)) names ≡ true → ((q : ℕ) → q < k → NoField q → IsFree rows q)
-    → All (IsFree rows) (filter_map (place_of (set_of files)) names)
+    → All (IsFree rows) (filter_map (class_place (set_of files)) names)
 interfaces_before files rows k [] h free = All-nil (IsFree rows)
 interfaces_before files rows k (name ∷ names) h free =
     let parts = and_parts (is_before boots k (boot_place name)) (list_all (λ n. is_before boots k (boot_place n)) names) h in
     let at = named_before files k name parts.0 in
-    let rest : List ℕ = filter_map (place_of (set_of files)) names in
+    let rest : List ℕ = filter_map (class_place (set_of files)) names in
     subst (λ (o : Option ℕ). All (IsFree rows) (cons_option o rest)) (sym at.found) (All-cons (IsFree rows) at.q rest (free at.q at.before at.fieldless) (interfaces_before files rows k names parts.1 free))
 
 -- CLASS BY CLASS

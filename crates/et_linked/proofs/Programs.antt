@@ -27,10 +27,10 @@ use Rattle.et_program.specs.Heads.{is_initializer, initializer_of, has_constant,
 use Rattle.et_program.specs.Loaded.{LoadedClass}
 use Rattle.et_program.specs.LinkFaults.{IsLinkable}
 use Rattle.et_program.specs.MembersOf.{numbered, methods_of, fields_of, boot_field, boot_fields, file_field, file_fields, AreBootPools, HasPools, file_pool}
-use Rattle.et_program.specs.ProgramOf.{names_of, heads_of, program_with, IsProgramOf}
-use Rattle.et_program.specs.Slots.{is_static_field, is_instance_of, slots_above, slot_of}
-use Rattle.et_event.specs.Kinds.{kind_of}
-use Rattle.et_event.specs.Sites.{LoadedConstant, constant_at, no_constants, pool_of}
+use Rattle.et_program.specs.ProgramOf.{class_names_of, heads_of, program_with, IsProgramOf}
+use Rattle.et_program.specs.Slots.{is_static_field, is_instance_of, slots_above, slot_of_field}
+use Rattle.et_event.specs.Kinds.{operand_kind}
+use Rattle.et_event.specs.Sites.{LoadedConstant, constant_at, no_constants, pool_of_class}
 use Rattle.et_event.specs.Sound.{is_of_kind, returned_of}
 use Rattle.et_event.specs.Programs.{HasConstant, IsInitializer, HasInitializers, value_like}
 use Rattle.et_base.proofs.Positions.{Passes, position_passes}
@@ -55,7 +55,7 @@ constants_static files static =
     (all_numbered IsStaticIf file_fields (length boots) files (λ i c lt e. All-map IsStaticIf (file_field c.pool.slots (length boots + i)) c.fields (λ j d l h. subst HasStaticConstants e (static i c lt) j d l (not-true _ h))))
 
 abbrev IsTypedIf : List Constants → FieldInfo → Type 0
-IsTypedIf pools f = (k : LoadedConstant) → has_constant f ≡ true → constant_at (slice_index_or pools f.class no_constants).slots f.constant ≡ Some k → is_of_kind (kind_of f.descriptor) (value_like k) ≡ true
+IsTypedIf pools f = (k : LoadedConstant) → has_constant f ≡ true → constant_at (slice_index_or pools f.class no_constants).slots f.constant ≡ Some k → is_of_kind (operand_kind f.descriptor) (value_like k) ≡ true
 
 length-pools : (cs : List BootClassOf) (ps : List Constants) → AreBootPools cs ps → length ps ≡ length cs
 length-pools [] [] h = refl
@@ -88,7 +88,7 @@ module _ (files : List LoadedClass) (rows : List Ancestry) (pools : List Constan
   abbrev declared : ℕ → FieldInfo
   declared f = slice_index_or (fields_of files) f no_field
 
-  field_is : (f : ℕ) → f < length (fields_of files) → field_at p f ≡ record (declared f) { slot = slot_of (slots_above (fields_of files) rows) (take f (fields_of files)) (declared f) }
+  field_is : (f : ℕ) → f < length (fields_of files) → field_at p f ≡ record (declared f) { slot = slot_of_field (slots_above (fields_of files) rows) (take f (fields_of files)) (declared f) }
   field_is f lt = placed_at (slots_above (fields_of files) rows) [] (fields_of files) f lt
 
   slot_if : (b : Bool) (n m : ℕ) → b ≡ true → (if b then n else m) ≡ n
@@ -160,7 +160,7 @@ module _ (files : List LoadedClass) (rows : List Ancestry) (pools : List Constan
         slot = h.stands.within;
         place = h.stands.is;
         typed = λ k.
-            subst (λ (x : FieldInfo). constant_at (pool_of p x.class) x.constant ≡ Some k → is_of_kind (kind_of x.descriptor) (value_like k) ≡ true) (sym (field_is f h.within))
+            subst (λ (x : FieldInfo). constant_at (pool_of_class p x.class) x.constant ≡ Some k → is_of_kind (operand_kind x.descriptor) (value_like k) ≡ true) (sym (field_is f h.within))
             (constants_typed files pools has_pools typed f no_field h.within k h.constant);
       }
 
@@ -195,7 +195,7 @@ module _ (files : List LoadedClass) (rows : List Ancestry) (pools : List Constan
 
       pub initialized : HasInitializers (program_with files rows pools)
       initialized =
-          let all : length p.classes ≡ length (set_of files) + length (names_of files) = length_all files rows pools in
+          let all : length p.classes ≡ length (set_of files) + length (class_names_of files) = length_all files rows pools in
           let P = λ (k : ℕ). k < length p.classes in
           record {
             orders = λ c. within_all files rows pools is linkable c;

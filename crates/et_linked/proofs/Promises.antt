@@ -10,7 +10,7 @@ use Rattle.et_program.specs.Entries.{Linked, no_method, method_at}
 use Rattle.et_program.specs.Files.{set_of}
 use Rattle.et_program.specs.Loaded.{LoadedClass, loaded_class}
 use Rattle.et_program.specs.LinkFaults.{IsLinkable}
-use Rattle.et_program.specs.ProgramOf.{names_of, program_with, IsProgramOf}
+use Rattle.et_program.specs.ProgramOf.{class_names_of, program_with, IsProgramOf}
 use Rattle.et_link.proofs.TabledLemmas.{methods_within}
 use Rattle.et_linked.specs.ClassNames.{HasClassName}
 use Rattle.et_linked.specs.Interfaces.{HaveStaticFields}
@@ -65,7 +65,7 @@ module _ (files : List LoadedClass) (rows : List Ancestry) (pools : List Constan
 
   owner_within : (m : ℕ) → m < length p.methods → (method_at p m).class < length p.classes
   owner_within m lt =
-      let total : length p.classes ≡ length (set_of files) + length (names_of files) = length_all files rows pools in
+      let total : length p.classes ≡ length (set_of files) + length (class_names_of files) = length_all files rows pools in
       let below : (method_at p m).class < length (set_of files) = methods_within files m no_method lt in
       omega arith
 

@@ -26,12 +26,12 @@ use Rattle.et_program.specs.Classes.{set_class, array_class}
 use Rattle.et_program.specs.Files.{boots, set_of}
 use Rattle.et_program.specs.Loaded.{LoadedClass}
 use Rattle.et_program.specs.MembersOf.{numbered, fields_of, boot_fields, file_fields, file_field}
-use Rattle.et_program.specs.ProgramOf.{heads_of, names_of, program_with, IsProgramOf}
-use Rattle.et_program.specs.Slots.{is_static_field, is_instance_of, own_slots, slots_above, slot_of}
+use Rattle.et_program.specs.ProgramOf.{heads_of, class_names_of, program_with, IsProgramOf}
+use Rattle.et_program.specs.Slots.{is_static_field, is_instance_of, own_slots, slots_above, slot_of_field}
 use Rattle.et_link.proofs.TabledLemmas.{length-singles, length-classes, length-placed, fields_within}
 use Rattle.et_heap.specs.Objects.{new_object}
 use Rattle.et_event.specs.Heap.{may_be_made}
-use Rattle.et_event.specs.Kinds.{is_array, kind_of}
+use Rattle.et_event.specs.Kinds.{is_array_element, operand_kind}
 use Rattle.et_event.specs.Sound.{is_of_kind, kind_of_element, slots_by, HasField, IsSoundObject}
 use Rattle.et_event.specs.Programs.{HasInstanceField, HasSlots}
 use Rattle.et_linked.specs.Interfaces.{HaveStaticFields}
@@ -97,7 +97,7 @@ module _ (files : List LoadedClass) (rows : List Ancestry) (pools : List Constan
   abbrev above : ℕ → ℕ
   above q = slots_above (fields_of files) rows q
 
-  field_is : (f : ℕ) → f < length p.fields → field_at p f ≡ record (declared f) { slot = slot_of (slots_above (fields_of files) rows) (take f (fields_of files)) (declared f) }
+  field_is : (f : ℕ) → f < length p.fields → field_at p f ≡ record (declared f) { slot = slot_of_field (slots_above (fields_of files) rows) (take f (fields_of files)) (declared f) }
   field_is f lt = placed_at (slots_above (fields_of files) rows) [] (fields_of files) f (subst (λ (n : ℕ). f < n) (length-placed (slots_above (fields_of files) rows) [] (fields_of files)) lt)
 
   -- an instance field
@@ -168,9 +168,9 @@ module _ (files : List LoadedClass) (rows : List Ancestry) (pools : List Constan
     supers : All NoField x.supers
     interfaces : All NoField x.superinterfaces
 
-  arrays_bare : All IsBare (numbered (λ k name. array_class (heads_of files rows) k name ∷ []) set_length (names_of files))
+  arrays_bare : All IsBare (numbered (λ k name. array_class (heads_of files rows) k name ∷ []) set_length (class_names_of files))
   arrays_bare =
-      numbered_all IsBare (λ k name. array_class (heads_of files rows) k name ∷ []) set_length (names_of files) (λ j name le.
+      numbered_all IsBare (λ k name. array_class (heads_of files rows) k name ∷ []) set_length (class_names_of files) (λ j name le.
       All-cons IsBare (array_class (heads_of files rows) j name) []
       (record { supers = All-cons NoField 0 [] object_fieldless (All-nil NoField); interfaces = All-cons NoField 2 (4 ∷ []) cloneable_fieldless (All-cons NoField 4 [] serializable_fieldless (All-nil NoField)) }) (All-nil IsBare))
 
@@ -192,7 +192,7 @@ module _ (files : List LoadedClass) (rows : List Ancestry) (pools : List Constan
   behind_bare : (c : ℕ) → set_length ≤ c → IsBare (class_at p c)
   behind_bare c le =
       let front : List ClassEntry = numbered (λ k o. set_class (heads_of files rows) k o ∷ []) 0 (set_of files) in
-      let back : List ClassEntry = numbered (λ k name. array_class (heads_of files rows) k name ∷ []) set_length (names_of files) in
+      let back : List ClassEntry = numbered (λ k name. array_class (heads_of files rows) k name ∷ []) set_length (class_names_of files) in
       let n : length front ≡ set_length = length-singles (λ k o. set_class (heads_of files rows) k o) 0 (set_of files) in
       let there : class_at p c ≡ slice_index_or back (c - length front) no_class = get_or-append_right front back (length front) c no_class refl (omega arith) in
       subst (λ (x : ClassEntry). IsBare x) (sym there) (any_bare back (c - length front) arrays_bare)
@@ -247,13 +247,13 @@ module _ (files : List LoadedClass) (rows : List Ancestry) (pools : List Constan
   abbrev IsAbstract : ClassEntry → Type 0
   IsAbstract x = not (has x.info.flags INTERFACE || has x.info.flags ABSTRACT) ≡ false
 
-  arrays_abstract : All IsAbstract (numbered (λ k name. array_class (heads_of files rows) k name ∷ []) set_length (names_of files))
-  arrays_abstract = numbered_all IsAbstract (λ k name. array_class (heads_of files rows) k name ∷ []) set_length (names_of files) (λ j name le. All-cons IsAbstract (array_class (heads_of files rows) j name) [] refl (All-nil IsAbstract))
+  arrays_abstract : All IsAbstract (numbered (λ k name. array_class (heads_of files rows) k name ∷ []) set_length (class_names_of files))
+  arrays_abstract = numbered_all IsAbstract (λ k name. array_class (heads_of files rows) k name ∷ []) set_length (class_names_of files) (λ j name le. All-cons IsAbstract (array_class (heads_of files rows) j name) [] refl (All-nil IsAbstract))
 
   behind_abstract : (c : ℕ) → set_length ≤ c → c < length p.classes → may_be_made p c ≡ false
   behind_abstract c le lt =
       let front : List ClassEntry = numbered (λ k o. set_class (heads_of files rows) k o ∷ []) 0 (set_of files) in
-      let back : List ClassEntry = numbered (λ k name. array_class (heads_of files rows) k name ∷ []) set_length (names_of files) in
+      let back : List ClassEntry = numbered (λ k name. array_class (heads_of files rows) k name ∷ []) set_length (class_names_of files) in
       let n : length front ≡ set_length = length-singles (λ k o. set_class (heads_of files rows) k o) 0 (set_of files) in
       let all : length (front ++ back) ≡ length front + length back = length-append front back in
       let there : class_at p c ≡ slice_index_or back (c - length front) no_class = get_or-append_right front back (length front) c no_class refl (omega arith) in
@@ -268,7 +268,7 @@ module _ (files : List LoadedClass) (rows : List Ancestry) (pools : List Constan
 
   owner_within : (f : ℕ) → f < length p.fields → (field_at p f).class < length p.classes
   owner_within f lt =
-      let n : length p.classes ≡ set_length + length (names_of files) = length-classes (heads_of files rows) (set_of files) (names_of files) in
+      let n : length p.classes ≡ set_length + length (class_names_of files) = length-classes (heads_of files rows) (set_of files) (class_names_of files) in
       let below : (field_at p f).class < set_length = class_below f lt in
       omega arith
 
@@ -294,7 +294,7 @@ module _ (files : List LoadedClass) (rows : List Ancestry) (pools : List Constan
   all_unset : (e : Element) (n : ℕ) → All (λ v. is_of_kind (kind_of_element e) v ≡ true) (replicate n Unset)
   all_unset e n = All-replicate (λ v. is_of_kind (kind_of_element e) v ≡ true) n Unset (unset_fits (kind_of_element e))
 
-  slots_of_array : (e : Element) (s n : ℕ) → is_array e ≡ true → slots_by e s n ≡ n
+  slots_of_array : (e : Element) (s n : ℕ) → is_array_element e ≡ true → slots_by e s n ≡ n
   slots_of_array NoArray s n h = absurd (false≢true h)
   slots_of_array (Base k) s n h = refl
   slots_of_array (Class c) s n h = refl
@@ -316,19 +316,19 @@ module _ (files : List LoadedClass) (rows : List Ancestry) (pools : List Constan
                 let slot : (field_at p f).slot < (class_at p c).info.slots = slot_within c f plain lt h in
                 record {
                   slot = subst (λ (k : ℕ). (field_at p f).slot < k) (sym (length-replicate (class_at p c).info.slots Unset)) slot;
-                  value = ap (λ (v : Value). is_of_kind (kind_of (field_at p f).descriptor) v) (get_or-replicate (class_at p c).info.slots (field_at p f).slot Unset Unset slot) ∙ unset_fits (kind_of (field_at p f).descriptor);
+                  value = ap (λ (v : Value). is_of_kind (operand_kind (field_at p f).descriptor) v) (get_or-replicate (class_at p c).info.slots (field_at p f).slot Unset Unset slot) ∙ unset_fits (operand_kind (field_at p f).descriptor);
                 }
             | inr le ↦ absurd (no_field_behind c f le h)
           ]
 
-  array_behind : (c : ℕ) → is_array (class_at p c).info.element ≡ true → set_length ≤ c
+  array_behind : (c : ℕ) → is_array_element (class_at p c).info.element ≡ true → set_length ≤ c
   array_behind c h =
       elim (cases_lt c set_length) [
-        | inl lt ↦ absurd (false≢true (sym (ap (λ (e : Element). is_array e) (no_array c lt)) ∙ h))
+        | inl lt ↦ absurd (false≢true (sym (ap (λ (e : Element). is_array_element e) (no_array c lt)) ∙ h))
         | inr le ↦ le
       ]
 
-  new_array : (c n : ℕ) → c < length p.classes → is_array (class_at p c).info.element ≡ true → IsSoundObject p (new_object c n n)
+  new_array : (c n : ℕ) → c < length p.classes → is_array_element (class_at p c).info.element ≡ true → IsSoundObject p (new_object c n n)
   new_array c n inside array = record {
     class = inside;
     slots = length-replicate n Unset ∙ sym (slots_of_array (class_at p c).info.element (class_at p c).info.slots n array);

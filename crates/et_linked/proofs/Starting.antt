@@ -12,7 +12,7 @@ use Rattle.et_program.specs.Members.{class_named}
 use Rattle.et_program.proofs.PlaceLemmas.{position_within}
 use Rattle.et_program.specs.Loaded.{LoadedClass}
 use Rattle.et_program.specs.Files.{boots, set_of}
-use Rattle.et_program.specs.ProgramOf.{heads_of, names_of, program_with, IsProgramOf}
+use Rattle.et_program.specs.ProgramOf.{heads_of, class_names_of, program_with, IsProgramOf}
 use Rattle.et_link.proofs.TabledLemmas.{length-set, length-classes}
 use Rattle.et_heap.specs.Objects.{ObjectState, Objects, IsHeld, at, object_at, new_object, free_monitor}
 use Rattle.et_heap.specs.Refs.{refs_of}
@@ -25,9 +25,9 @@ use Rattle.et_state.specs.declared.records.Record.TheVariants.{Alloc}
 use Rattle.et_state.specs.Naming.{Names, IsNamed}
 use Rattle.et_event.specs.declared.rows.Operand.{Operand}
 use Rattle.et_event.specs.declared.rows.Operand.TheVariants as operand
-use Rattle.et_event.specs.Kinds.{kind_of}
+use Rattle.et_event.specs.Kinds.{operand_kind}
 use Rattle.et_event.specs.Sound.{is_of_kind, IsSoundObject, IsSoundMonitor, IsSoundThread, IsSoundClassState, IsSoundStatic, IsSoundFor}
-use Rattle.et_state.specs.Start.{argument_class, is_of_file, first_class_state, class_states_from, start}
+use Rattle.et_state.specs.Start.{argument_class, is_class_of_file, first_class_state, class_states_from, start}
 use Rattle.et_event.specs.Start.{start_records}
 use Rattle.et_linked.specs.ClassNames.{HasClassName}
 use Rattle.et_linked.proofs.Arguments.{arguments_sound}
@@ -106,7 +106,7 @@ state_sound g false = tt
 
 states_sound : (p : Linked) (g : GuestState) (c n : ℕ) → All (IsSoundClassState g) (class_states_from p c n)
 states_sound p g c zero = All-nil (IsSoundClassState g)
-states_sound p g c (suc n) = All-cons (IsSoundClassState g) (first_class_state p c) (class_states_from p (c + 1) n) (state_sound g (is_of_file p c)) (states_sound p g (c + 1) n)
+states_sound p g c (suc n) = All-cons (IsSoundClassState g) (first_class_state p c) (class_states_from p (c + 1) n) (state_sound g (is_class_of_file p c)) (states_sound p g (c + 1) n)
 
 -- STATIC SLOTS
 
@@ -119,7 +119,7 @@ unset_fits (Some operand.Reference) = refl
 static_sound : (p : Linked) (i : ℕ) → i < length p.statics → IsSoundStatic p (start p).guest i
 static_sound p i lt =
     let unset : static_at (start p).guest i ≡ Unset = get_or-replicate (length p.statics) i Unset Unset lt in
-    let kind : Option Operand = kind_of (field_at p (slice_index_or p.statics i 0)).descriptor in
+    let kind : Option Operand = operand_kind (field_at p (slice_index_or p.statics i 0)).descriptor in
     record { value = ap (λ (v : Value). is_of_kind kind v) unset ∙ unset_fits kind; untouched = λ u. unset }
 
 -- THE STATE
@@ -159,7 +159,7 @@ boots_are_some = omega arith
 has_classes : (files : List LoadedClass) (p : Linked) → IsProgramOf files p → 0 < length p.classes
 has_classes files p is =
     let q : Linked = program_with files is.rows p.pools in
-    let total : length q.classes ≡ length (set_of files) + length (names_of files) = length-classes (heads_of files is.rows) (set_of files) (names_of files) in
+    let total : length q.classes ≡ length (set_of files) + length (class_names_of files) = length-classes (heads_of files is.rows) (set_of files) (class_names_of files) in
     let set : length (set_of files) ≡ length boots + length files = length-set files in
     let some : 0 < length boots = boots_are_some in
     subst (λ (x : Linked). 0 < length x.classes) (sym is.tables) (let has : 0 < length q.classes = omega arith in has)

@@ -7,10 +7,10 @@ use Rattle.std.specs.Option.{option_map_or, option_and_then, option_to_list}
 use Rattle.std.proofs.lemmas.Bool.{cases_Bool, and_parts, not-true, false≢true}
 use Rattle.std.proofs.lemmas.List.{length-map}
 use Rattle.std.proofs.lemmas.List.Elements.{All-nil, All-cons, All-append, All-push}
-use Rattle.et_hierarchy.specs.Outline.{Outline, outline_at, no_outline, place_of}
-use Rattle.et_hierarchy.specs.Links.{LinkEntry, links, links_of, no_links, parents_of, parents, AreWithin, IsAcyclic}
+use Rattle.et_hierarchy.specs.Outline.{Outline, outline_at, no_outline, class_place}
+use Rattle.et_hierarchy.specs.Links.{LinkEntry, links, links_of, no_links, parents_of, parents, HasLinksWithin, IsAcyclic}
 use Rattle.et_hierarchy.specs.Ancestry.{Ancestry, ancestry_at, ancestry_of, IsAncestry, IsBelow}
-use Rattle.et_hierarchy.specs.Faults.{has_supers, names_class, names_interface}
+use Rattle.et_hierarchy.specs.Faults.{has_supers, names_class, is_interface_named}
 use Rattle.et_hierarchy.proofs.BelowLemmas.{below_of}
 use Rattle.et_hierarchy.proofs.LinkLemmas.{are_within}
 use Rattle.et_hierarchy.proofs.Names.{place_within}
@@ -37,7 +37,7 @@ pub record HasKinds (set : List Outline) (r : Ancestry) : Type 0 where
   pub superinterfaces : All (IsInterface set) r.superinterfaces
 
 module _ (set : List Outline) where
-  superclass_is : (name : Option (List ℕ)) (s : ℕ) → option_map_or (names_class set) name true ≡ true → option_and_then (place_of set) name ≡ Some s → IsClass set s
+  superclass_is : (name : Option (List ℕ)) (s : ℕ) → option_map_or (names_class set) name true ≡ true → option_and_then (class_place set) name ≡ Some s → IsClass set s
   superclass_is None s h e = absurd (nothing e)
     where
       nothing : None ≡ Some s → ⊥
@@ -46,13 +46,13 @@ module _ (set : List Outline) where
       let there : not (outline_at set s).is_interface ≡ true = subst (λ (o : Option ℕ). option_map_or (λ k. not (outline_at set k).is_interface) o false ≡ true) e h in
       record { within = place_within set name (Some s) (sym e); kind = not-true (outline_at set s).is_interface there }
 
-  interfaces_are : (names : List (List ℕ)) → list_all (names_interface set) names ≡ true → All (IsInterface set) (filter_map (place_of set) names)
+  interfaces_are : (names : List (List ℕ)) → list_all (is_interface_named set) names ≡ true → All (IsInterface set) (filter_map (class_place set) names)
   interfaces_are [] h = All-nil (IsInterface set)
   interfaces_are (name ∷ names) h =
-      let parts = and_parts (names_interface set name) (list_all (names_interface set) names) h in
-      by (place_of set name) refl parts.0 (interfaces_are names parts.1)
+      let parts = and_parts (is_interface_named set name) (list_all (is_interface_named set) names) h in
+      by (class_place set name) refl parts.0 (interfaces_are names parts.1)
     where
-      by : (o : Option ℕ) → place_of set name ≡ o → option_map_or (λ k. (outline_at set k).is_interface) o false ≡ true → All (IsInterface set) (filter_map (place_of set) names) → All (IsInterface set) (cons_option o (filter_map (place_of set) names))
+      by : (o : Option ℕ) → class_place set name ≡ o → option_map_or (λ k. (outline_at set k).is_interface) o false ≡ true → All (IsInterface set) (filter_map (class_place set) names) → All (IsInterface set) (cons_option o (filter_map (class_place set) names))
       by None e k rest = absurd (false≢true k)
       by (Some q) e k rest = All-cons (IsInterface set) q _ (record { within = place_within set name (Some q) (sym e); kind = k }) rest
 
@@ -87,8 +87,8 @@ module _ (files : List LoadedClass) (rows : List Ancestry) (is : IsAncestry (lin
   pub size : length (links (set_of files)) ≡ length (set_of files)
   size = length-map (set_of files) (links_of (set_of files))
 
-  pub inner : AreWithin (length (links (set_of files))) (links (set_of files))
-  inner = subst (λ n. AreWithin n table) (sym size) (are_within set)
+  pub inner : HasLinksWithin (length (links (set_of files))) (links (set_of files))
+  inner = subst (λ n. HasLinksWithin n table) (sym size) (are_within set)
 
   acyclic : IsAcyclic table
   acyclic k lt h = linkable Cycle k (subst (λ n. k < n) size lt) h
@@ -100,13 +100,13 @@ module _ (files : List LoadedClass) (rows : List Ancestry) (is : IsAncestry (lin
   pub superclass : (k s : ℕ) → k < length (set_of files) → (slice_index_or (links (set_of files)) k no_links).above ≡ Some s → IsClass (set_of files) s
   superclass k s lt e =
       let o : Outline = outline_at set k in
-      let parts = and_parts (option_map_or (names_class set) o.super_name true) (list_all (names_interface set) o.interfaces) (fit k lt) in
+      let parts = and_parts (option_map_or (names_class set) o.super_name true) (list_all (is_interface_named set) o.interfaces) (fit k lt) in
       superclass_is set o.super_name s parts.0 (sym (ap (λ (l : LinkEntry). l.above) (at_mapped (links_of set) set k no_outline no_links lt)) ∙ e)
 
   pub interfaces : (k : ℕ) → k < length (set_of files) → All (IsInterface (set_of files)) (slice_index_or (links (set_of files)) k no_links).interfaces
   interfaces k lt =
       let o : Outline = outline_at set k in
-      let parts = and_parts (option_map_or (names_class set) o.super_name true) (list_all (names_interface set) o.interfaces) (fit k lt) in
+      let parts = and_parts (option_map_or (names_class set) o.super_name true) (list_all (is_interface_named set) o.interfaces) (fit k lt) in
       subst (λ (l : LinkEntry). All (IsInterface set) l.interfaces) (sym (at_mapped (links_of set) set k no_outline no_links lt)) (interfaces_are set o.interfaces parts.1)
 
   kind_step : (u : ℕ) → u < length table → All (λ p. HasKinds set (ancestry_at rows p)) (parents table u) → HasKinds set (ancestry_at rows u)

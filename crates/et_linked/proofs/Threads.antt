@@ -8,7 +8,7 @@ use Rattle.et_boot.specs.Classes.{BootClassOf, no_boot_class, thread_pool, threa
 use Rattle.et_pool.specs.Entries.{Item, Constants, slots_of}
 use Rattle.et_pool.specs.Looks.{class_name_at}
 use Rattle.et_pool.specs.Pools.{IsPool}
-use Rattle.et_pool.specs.Spelling.{IsEntry, IsSpelled, pool_bytes}
+use Rattle.et_pool.specs.Spelling.{IsEntry, IsPoolSpelled, pool_bytes}
 use Rattle.et_pool.specs.Text.{is_modified}
 use Rattle.et_pool.specs.Broken.{Broken}
 use Rattle.et_pool.proofs.OneAnswer.{exactly_one}
@@ -118,7 +118,7 @@ entries = (
   ),
 )
 
-spelled : IsSpelled (pool_bytes thread_pool) 0 (slots_of thread_pool) (0 + length (pool_bytes thread_pool))
+spelled : IsPoolSpelled (pool_bytes thread_pool) 0 (slots_of thread_pool) (0 + length (pool_bytes thread_pool))
 spelled = record {
   entries = thread_pool;
   are_entries = all_of IsEntry thread_pool entries;

@@ -19,13 +19,13 @@ use Rattle.et_class.specs.Fields.{is_constant, is_constant_for, is_constant_valu
 use Rattle.et_class.specs.Layout.{ClassOf, MemberOf, AttributeOf}
 use Rattle.et_class.specs.Names.{has}
 use Rattle.et_hierarchy.proofs.Names.{same_name}
-use Rattle.et_event.specs.Kinds.{kind_of, kind_of_letter}
+use Rattle.et_event.specs.Kinds.{operand_kind, kind_of_letter}
 use Rattle.et_event.specs.Sites.{LoadedConstant, AnInt, ALong, AString, constant_at}
 use Rattle.et_event.specs.Sound.{is_of_kind}
 use Rattle.et_event.specs.declared.rows.Operand.TheVariants as operand
 use Rattle.et_program.specs.Files.{or_empty}
 use Rattle.et_program.specs.Loaded.{LoadedMember, loaded_class, loaded_field}
-use Rattle.et_program.specs.MembersOf.{text_of}
+use Rattle.et_program.specs.MembersOf.{pool_text}
 use Rattle.et_event.specs.Programs.{value_like}
 use Rattle.et_linked.specs.Fields.{HasTypedConstants, KeepsFieldRules}
 use Rattle.et_linked.proofs.Files.{IsWellField, well_fields, constant_by, static_fields, static_constants}
@@ -54,7 +54,7 @@ int_letter a h =
     (or_cases ((a == 73) || (a == 83) || (a == 67) || (a == 66)) (a == 90) h)
 
 abbrev Fits : List ℕ → LoadedConstant → Type 0
-Fits type k = is_of_kind (kind_of type) (value_like k) ≡ true
+Fits type k = is_of_kind (operand_kind type) (value_like k) ≡ true
 
 int_fits : (type : List ℕ) (n : ℤ) → is_int_type type ≡ true → Fits type (AnInt n)
 int_fits [] n h = absurd (false≢true h)
@@ -65,7 +65,7 @@ long_fits [] n h = absurd (false≢true h)
 long_fits (a ∷ rest) n h = ap (λ (b : ℕ). is_of_kind (kind_of_letter b) (Long n)) (eqb-true a 74 (and_parts (a == 74) (length rest == 0) h).0)
 
 string_fits : (type bytes : List ℕ) → bytes_eq type STRING_TYPE.now ≡ true → Fits type (AString bytes)
-string_fits type bytes h = ap (λ (t : List ℕ). is_of_kind (kind_of t) Null) (same_name type STRING_TYPE.now h)
+string_fits type bytes h = ap (λ (t : List ℕ). is_of_kind (operand_kind t) Null) (same_name type STRING_TYPE.now h)
 
 -- ENTRIES of the pool
 
@@ -127,7 +127,7 @@ if_true : (b : Bool) (n m : ℕ) → b ≡ true → (if b then n else m) ≡ n
 if_true true n m e = refl
 if_true false n m e = cc
 
-field_fits : (slots : List (Option Item)) (face : Bool) (m : MemberOf) → IsWellField slots face m → (k : LoadedConstant) → (constant_of slots m == 0) ≡ false → constant_at slots (constant_of slots m) ≡ Some k → Fits (text_of slots m.descriptor) k
+field_fits : (slots : List (Option Item)) (face : Bool) (m : MemberOf) → IsWellField slots face m → (k : LoadedConstant) → (constant_of slots m == 0) ≡ false → constant_at slots (constant_of slots m) ≡ Some k → Fits (pool_text slots m.descriptor) k
 field_fits slots face m w k h e =
     by (find (is_constant_value slots) m.attributes) refl (subst (λ (i : ℕ). (i == 0) ≡ false) index h) (subst (λ (i : ℕ). constant_at slots i ≡ Some k) index e)
   where
@@ -137,7 +137,7 @@ field_fits slots face m w k h e =
     index : constant_of slots m ≡ index_in (find (is_constant_value slots) m.attributes)
     index = if_true (has m.flags STATIC) (index_in (find (is_constant_value slots) m.attributes)) 0 static
 
-    by : (o : Option AttributeOf) → find (is_constant_value slots) m.attributes ≡ o → (index_in o == 0) ≡ false → constant_at slots (index_in o) ≡ Some k → Fits (text_of slots m.descriptor) k
+    by : (o : Option AttributeOf) → find (is_constant_value slots) m.attributes ≡ o → (index_in o == 0) ≡ false → constant_at slots (index_in o) ≡ Some k → Fits (pool_text slots m.descriptor) k
     by None f z at = absurd (false≢true (sym z))
     by (Some a) f z at =
         let well : is_constant slots m a.body ≡ true = found (is_constant_value slots) (λ (x : AttributeOf). has m.flags STATIC ≡ true → is_constant slots m x.body ≡ true) m.attributes w.values a f static in
@@ -147,7 +147,7 @@ field_fits slots face m w k h e =
 
 typed_constants : (bytes : List ℕ) (c : ClassOf) → IsClassFile bytes c → HasTypedConstants (loaded_class c)
 typed_constants bytes c is =
-    All-map (λ (f : LoadedMember). (k : LoadedConstant) → (f.constant == 0) ≡ false → constant_at c.slots f.constant ≡ Some k → Fits (text_of c.slots f.descriptor) k) (loaded_field c.slots) c.fields
+    All-map (λ (f : LoadedMember). (k : LoadedConstant) → (f.constant == 0) ≡ false → constant_at c.slots f.constant ≡ Some k → Fits (pool_text c.slots f.descriptor) k) (loaded_field c.slots) c.fields
     (λ i d lt k h e. field_fits c.slots (has c.flags INTERFACE) _ (well_fields bytes c is i d lt) k h e)
 
 -- ALL RULES

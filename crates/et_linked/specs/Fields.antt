@@ -2,11 +2,11 @@
 use Rattle.std.specs.Prelude.{◌≡◌, true, false, ◌==◌, All, Some}
 use Rattle.et_class.specs.Names.{has}
 use Rattle.et_class.specs.declared.flags.TheConstants.{STATIC, INTERFACE}
-use Rattle.et_event.specs.Kinds.{kind_of}
+use Rattle.et_event.specs.Kinds.{operand_kind}
 use Rattle.et_event.specs.Sites.{LoadedConstant, constant_at}
 use Rattle.et_event.specs.Sound.{is_of_kind}
 use Rattle.et_program.specs.Loaded.{LoadedClass, LoadedMember}
-use Rattle.et_program.specs.MembersOf.{text_of}
+use Rattle.et_program.specs.MembersOf.{pool_text}
 use Rattle.et_event.specs.Programs.{value_like}
 
 -- those of an interface are static (4.5)
@@ -19,7 +19,7 @@ HasStaticConstants c = All (λ (f : LoadedMember). (f.constant == 0) ≡ false �
 
 -- .. and of its type (4.7.2)
 abbrev pub HasTypedConstants : LoadedClass → Type 0
-HasTypedConstants c = All (λ (f : LoadedMember). (k : LoadedConstant) → (f.constant == 0) ≡ false → constant_at c.pool.slots f.constant ≡ Some k → is_of_kind (kind_of (text_of c.pool.slots f.descriptor)) (value_like k) ≡ true) c.fields
+HasTypedConstants c = All (λ (f : LoadedMember). (k : LoadedConstant) → (f.constant == 0) ≡ false → constant_at c.pool.slots f.constant ≡ Some k → is_of_kind (operand_kind (pool_text c.pool.slots f.descriptor)) (value_like k) ≡ true) c.fields
 
 -- all of it
 pub record KeepsFieldRules (c : LoadedClass) : Type 0 where

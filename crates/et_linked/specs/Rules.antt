@@ -16,36 +16,36 @@ use Rattle.et_class.specs.Names.{has}
 use Rattle.et_class.specs.declared.flags.TheConstants.{STATIC, NATIVE, ABSTRACT}
 use Rattle.et_event.specs.Calls.{entry_count}
 use Rattle.et_program.specs.Loaded.{LoadedClass, LoadedMember}
-use Rattle.et_program.specs.MembersOf.{text_of}
+use Rattle.et_program.specs.MembersOf.{pool_text}
 
 -- METHODS
 
 -- the name of a method that initializes a class (2.9). No rule looks at the flags of such a method, nor at whether it has
 -- code, and it counts as having no receiver.
-abbrev pub is_clinit : List ℕ → Bool
-is_clinit name = bytes_eq name (codes "<clinit>")
+abbrev pub is_clinit_name : List ℕ → Bool
+is_clinit_name name = bytes_eq name (codes "<clinit>")
 
-abbrev pub name_of : LoadedClass → LoadedMember → List ℕ
-name_of c m = text_of c.pool.slots m.name
+abbrev pub member_name_of : LoadedClass → LoadedMember → List ℕ
+member_name_of c m = pool_text c.pool.slots m.name
 
 abbrev pub descriptor_of : LoadedClass → LoadedMember → List ℕ
-descriptor_of c m = text_of c.pool.slots m.descriptor
+descriptor_of c m = pool_text c.pool.slots m.descriptor
 
 -- each method but <clinit> has the flags of a method: none is abstract and static (4.6)
 abbrev pub HasMethodFlags : LoadedClass → Type 0
-HasMethodFlags c = All (λ (m : LoadedMember). is_clinit (name_of c m) ≡ false → is_method_flags m.flags ≡ true) c.methods
+HasMethodFlags c = All (λ (m : LoadedMember). is_clinit_name (member_name_of c m) ≡ false → is_method_flags m.flags ≡ true) c.methods
 
 -- .. and has code exactly where it is neither native nor abstract (4.7.3)
 abbrev pub HasCodeWhere : LoadedClass → Type 0
-HasCodeWhere c = All (λ (m : LoadedMember). is_clinit (name_of c m) ≡ false → is_some m.code ≡ not (has m.flags NATIVE || has m.flags ABSTRACT)) c.methods
+HasCodeWhere c = All (λ (m : LoadedMember). is_clinit_name (member_name_of c m) ≡ false → is_some m.code ≡ not (has m.flags NATIVE || has m.flags ABSTRACT)) c.methods
 
 -- each has the descriptor of a method, and at most 255 entries of arguments (4.3.3)
 abbrev pub HasMethodTypes : LoadedClass → Type 0
-HasMethodTypes c = All (λ (m : LoadedMember). (type : MethodType) × (method_type (descriptor_of c m) ≡ Some type) × (entry_count (has m.flags STATIC || is_clinit (name_of c m)) type ≤ 255)) c.methods
+HasMethodTypes c = All (λ (m : LoadedMember). (type : MethodType) × (method_type (descriptor_of c m) ≡ Some type) × (entry_count (has m.flags STATIC || is_clinit_name (member_name_of c m)) type ≤ 255)) c.methods
 
 -- .. which its local variables take (4.7.3)
 abbrev pub HasArgumentRoom : LoadedClass → Type 0
-HasArgumentRoom c = All (λ (m : LoadedMember). (body : Body) (type : MethodType) → m.code ≡ Some body → method_type (descriptor_of c m) ≡ Some type → entry_count (has m.flags STATIC || is_clinit (name_of c m)) type ≤ body.max_locals) c.methods
+HasArgumentRoom c = All (λ (m : LoadedMember). (body : Body) (type : MethodType) → m.code ≡ Some body → method_type (descriptor_of c m) ≡ Some type → entry_count (has m.flags STATIC || is_clinit_name (member_name_of c m)) type ≤ body.max_locals) c.methods
 
 -- all of it
 pub record KeepsMethodRules (c : LoadedClass) : Type 0 where

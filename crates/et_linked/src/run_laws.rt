@@ -15,7 +15,7 @@ ghost use Rattle.et_event.specs.Runnable.{IsRunnable};
 ghost use Rattle.et_linked.specs.Programs.{KeepRules};
 ghost use Rattle.et_program.specs.Linking.{IsOfFile};
 ghost use Rattle.et_linked.specs.Rules.{KeepsCodeRules, KeepsMethodRules};
-ghost use Rattle.et_event.specs.Programs.{HasArrays, HasMachineSlots, HasMethods};
+ghost use Rattle.et_event.specs.Programs.{HasArrays, HasMachineSlots, HasBuiltInMethods};
 
 /// The methods of a class file keep the rules: but for `<clinit>`, none is abstract and static, and one has code exactly
 /// where it is neither native nor abstract; the arguments of each are within its local variables (JVMS 4.6, 4.7.3).
@@ -35,7 +35,7 @@ pub fn class_files_keep_code_rules()
 pub fn programs_have_methods()
     ensures { (files : List LoadedClass) (p : Linked) →
         0 < length files → All KeepsMethodRules files →
-        All KeepsCodeRules files → IsLinkable files → IsProgramOf files p → HasMethods p }
+        All KeepsCodeRules files → IsLinkable files → IsProgramOf files p → HasBuiltInMethods p }
 {}
 
 /// The message and the cause of a Throwable stand in slots that are no field's, and the target of a Thread in that of its

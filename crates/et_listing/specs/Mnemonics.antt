@@ -4,11 +4,11 @@ use Rattle.indexmap.specs.IndexSet.{insert_all}
 use Rattle.et_listing.specs.declared.mnemonic.Shape.{Shape}
 use Rattle.et_listing.specs.declared.mnemonic.Shape.TheVariants.{Refused}
 use Rattle.et_listing.specs.declared.mnemonic.TheConstants.{NAMES, SHAPES}
-use Rattle.et_listing.specs.Words.{words, same}
+use Rattle.et_listing.specs.Words.{words, same_word}
 
 -- the words of NAMES, each once
 unfoldable pub mnemonics : List (List ℕ)
-mnemonics = insert_all same [] (words NAMES.now)
+mnemonics = insert_all same_word [] (words NAMES.now)
 
-unfoldable pub shape_of : ℕ → Shape
-shape_of opcode = slice_index_or SHAPES opcode Refused
+unfoldable pub mnemonic_shape : ℕ → Shape
+mnemonic_shape opcode = slice_index_or SHAPES opcode Refused

@@ -2,6 +2,7 @@
 use Rattle.std.specs.Prelude.{ℕ, ◌+◌, ◌-◌, ◌*◌, List, [], ◌∷◌, length, take, drop, filter, slice_index, Bool, true, not, ◌==◌, ◌&&◌, ◌||◌, nat_le, nat_lt, nat_eq, if◌then◌else◌, ℤ, pos, neg_ℤ, fold, int_le, Option, Some, None, ◌^◌}
 use Rattle.std.specs.List.{list_all}
 use Rattle.std.specs.Cmp.Lexicographic.{pointwise}
+use Rattle.et_base.specs.Digits.{is_digit}
 
 abbrev pub before_first : ℕ → List (List ℕ) → List (List ℕ)
 before_first c [] = (c ∷ []) ∷ []
@@ -30,9 +31,6 @@ lines text = without_last_empty (pieces 10 text)
 
 -- NAMES, DESCRIPTORS AND TEXTS. A byte below 33 or above 126, and `%`, is spelled `%` and two upper-case hexadecimal
 -- digits; every other byte stands for itself.
-
-abbrev pub is_digit : ℕ → Bool
-is_digit c = nat_le 48 c && nat_le c 57
 
 abbrev pub is_upper_hex : ℕ → Bool
 is_upper_hex c = is_digit c || (nat_le 65 c && nat_le c 70)
@@ -72,8 +70,8 @@ unescaped (c ∷ d ∷ []) = c ∷ d ∷ []
 unescaped (c ∷ d ∷ e ∷ rest) = if c == 37 then (hex d * 16 + hex e) ∷ unescaped rest else c ∷ unescaped (d ∷ e ∷ rest)
 
 -- whether two words are the same
-abbrev pub same : List ℕ → List ℕ → Bool
-same a b = pointwise nat_eq a b
+abbrev pub same_word : List ℕ → List ℕ → Bool
+same_word a b = pointwise nat_eq a b
 
 -- LABELS are of letters and digits
 
@@ -115,8 +113,8 @@ is_hex c = is_upper_hex c || is_lower_hex c
 abbrev pub is_flags : List ℕ → Bool
 is_flags word = (length word == 4) && list_all is_hex word
 
-abbrev pub flags_of : List ℕ → ℕ
-flags_of word = hex (slice_index word 0) * 4096 + hex (slice_index word 1) * 256 + hex (slice_index word 2) * 16 + hex (slice_index word 3)
+abbrev pub flags_of_words : List ℕ → ℕ
+flags_of_words word = hex (slice_index word 0) * 4096 + hex (slice_index word 1) * 256 + hex (slice_index word 2) * 16 + hex (slice_index word 3)
 
 -- a number that isn't negative and at most high, or one between two bounds
 abbrev pub is_natural_in : ℕ → List ℕ → Bool

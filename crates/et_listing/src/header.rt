@@ -1,7 +1,7 @@
 //! Lines outside of bodies, and handlers.
 
 ghost use Rattle.std.specs.Prelude.{◌≡◌, ◌<◌};
-ghost use Rattle.et_listing.specs.Lines.{class_of, interface_of, four_or_six, constant_form, constant_entry, field_form, field_constant, field_of, method_form, method_limits, method_of, caught, catch_of, word_at};
+ghost use Rattle.et_listing.specs.Lines.{class_line_of, interface_of, four_or_six, constant_form, constant_entry, field_form, field_constant, field_of, method_form, method_limits, method_of, caught_class, catch_of, word_at};
 
 use crate::entry::Entry;
 use crate::line::{Line, LineFault};
@@ -11,9 +11,9 @@ use crate::place::{
 use crate::spelling::is_spelling;
 use crate::word::Word;
 
-#[tactic(auto, unfolding(crate::specs::Lines::class_of))]
+#[tactic(auto, unfolding(crate::specs::Lines::class_line_of))]
 pub(crate) fn class_of<'a>(words: &[Word<'a>]) -> Result<Line<'a>, LineFault>
-    ensures { result ≡ class_of words.now }
+    ensures { result ≡ class_line_of words.now }
 {
     counted(words, 4)?;
     let name = spelled(words, 1)?;
@@ -138,7 +138,7 @@ pub(crate) fn method_of<'a>(words: &[Word<'a>]) -> Result<Line<'a>, LineFault>
 
 /// The class that a handler catches.
 fn caught<'a>(words: &[Word<'a>]) -> Result<Option<Word<'a>>, LineFault>
-    ensures { result ≡ caught words.now }
+    ensures { result ≡ caught_class words.now }
 {
     if is_word(words, 4, b"*") {
         return Ok(None);

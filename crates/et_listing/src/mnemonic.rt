@@ -1,8 +1,8 @@
 //! Mnemonics.
 
 ghost use Rattle.std.specs.Prelude.{◌≡◌, slice_index_or, position, IfOk};
-ghost use Rattle.et_listing.specs.Words.{same};
-ghost use Rattle.et_listing.specs.Mnemonics.{mnemonics, shape_of};
+ghost use Rattle.et_listing.specs.Words.{same_word};
+ghost use Rattle.et_listing.specs.Mnemonics.{mnemonics, mnemonic_shape};
 
 use self::Shape::{
     Array, BaseArray, Branch, Byte, Direct, Field, Increment, Interface, Load, Local, LongLoad,
@@ -222,9 +222,9 @@ fn shape_in(shapes: &[Shape], opcode: u8) -> Shape
 }
 
 /// What operands stand behind the mnemonic of an opcode.
-#[tactic(auto, unfolding(crate::specs::Mnemonics::shape_of))]
+#[tactic(auto, unfolding(crate::specs::Mnemonics::mnemonic_shape))]
 pub(crate) fn operands_of(opcode: u8) -> Shape
-    ensures { result ≡ shape_of opcode }
+    ensures { result ≡ mnemonic_shape opcode }
 {
     shape_in(&SHAPES, opcode)
 }
@@ -244,7 +244,7 @@ pub(crate) fn mnemonics<'a>(alloc: Global) -> Result<IndexSet<Word<'a>>, AllocEr
 
 /// The opcode of a mnemonic.
 pub(crate) fn opcode_of<'a>(names: &IndexSet<Word<'a>>, word: &Word<'a>) -> Option<usize>
-    ensures { result ≡ position (λ name. same word.now name) names.now.keys }
+    ensures { result ≡ position (λ name. same_word word.now name) names.now.keys }
 {
     names.get_index_of(word)
 }

@@ -2,7 +2,8 @@
 
 ghost use Rattle.std.specs.Prelude.{◌≡◌, ℕ, ◌+◌, ◌-◌, ◌*◌, ◌<◌, ◌≤◌, ◌^◌, min, true, length, drop, neg_ℤ, pos, nat_le, if◌then◌else◌, Some, None, unsigned_abs};
 ghost use Rattle.std.specs.List.{list_all};
-ghost use Rattle.et_listing.specs.Words.{is_some_text, is_digit, is_upper_hex, is_lower_hex, hex, is_letter, is_label_byte, is_label, is_label_line, is_negative, digits, is_numeral, magnitude, is_hex, is_flags, flags_of, value, is_natural_in, is_integer_in, is_int32, signed};
+ghost use Rattle.et_listing.specs.Words.{is_some_text, is_upper_hex, is_lower_hex, hex, is_letter, is_label_byte, is_label, is_label_line, is_negative, digits, is_numeral, magnitude, is_hex, is_flags, flags_of_words, value, is_natural_in, is_integer_in, is_int32, signed};
+ghost use Rattle.et_base.specs.Digits.{is_digit};
 
 pub(crate) fn is_digit(c: u8) -> bool
     ensures { result ≡ is_digit c }
@@ -110,7 +111,7 @@ pub(crate) fn is_flags(word: &[u8]) -> bool
 /// The value of four hexadecimal digits.
 pub(crate) fn flags_of(word: &[u8]) -> u16
     requires { is_flags word.now ≡ true }
-    ensures { result ≡ flags_of word.now }
+    ensures { result ≡ flags_of_words word.now }
 {
     hex(word[0]) as u16 * 4096
         + hex(word[1]) as u16 * 256

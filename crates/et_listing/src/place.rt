@@ -1,8 +1,8 @@
 //! Words of a line by their places.
 
 ghost use Rattle.std.specs.Prelude.{◌≡◌, ◌≤◌, IfOk, ◌≤ℤ◌};
-ghost use Rattle.et_listing.specs.Words.{same};
-ghost use Rattle.et_listing.specs.Lines.{word_at, needs, counted, spelled, label, flags, numeral, natural, integer, int32, int64};
+ghost use Rattle.et_listing.specs.Words.{same_word};
+ghost use Rattle.et_listing.specs.Lines.{word_at, needs, counted_words, spelled_word, label, flags, numeral, natural_word, integer, int32, int64};
 
 use crate::line::LineFault;
 use crate::operand;
@@ -21,7 +21,7 @@ pub(crate) fn word_at<'a>(words: &[Word<'a>], i: usize) -> Word<'a>
 }
 
 pub(crate) fn is_word(words: &[Word], i: usize, text: &[u8]) -> bool
-    ensures { result ≡ same (word_at words.now i) text.now }
+    ensures { result ≡ same_word (word_at words.now i) text.now }
 {
     word_at(words, i).bytes() == text
 }
@@ -33,13 +33,13 @@ pub(crate) fn needs(holds: bool, fault: LineFault) -> Result<(), LineFault>
 }
 
 pub(crate) fn counted(words: &[Word], n: usize) -> Result<(), LineFault>
-    ensures { result ≡ counted words.now n }
+    ensures { result ≡ counted_words words.now n }
 {
     needs(words.len() == n, LineFault::Operands)
 }
 
 pub(crate) fn spelled<'a>(words: &[Word<'a>], i: usize) -> Result<Word<'a>, LineFault>
-    ensures { result ≡ spelled words.now i }
+    ensures { result ≡ spelled_word words.now i }
 {
     let word = word_at(words, i);
     if is_spelling(word.bytes()) {
@@ -81,7 +81,7 @@ pub(crate) fn numeral(words: &[Word], i: usize) -> Result<(), LineFault>
 }
 
 pub(crate) fn natural(words: &[Word], i: usize, high: u16) -> Result<u16, LineFault>
-    ensures value { result ≡ natural words.now i high }
+    ensures value { result ≡ natural_word words.now i high }
     ensures bound { IfOk result (λ n. n ≤ high) }
 {
     operand::natural(word_at(words, i).bytes(), high).ok_or(LineFault::Number)

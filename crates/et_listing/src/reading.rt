@@ -1,7 +1,7 @@
 //! What lines say.
 
 ghost use Rattle.std.specs.Prelude.{◌≡◌, ◌-◌, ◌==◌, map, length, take, position, IfOk, Some, None, if◌then◌else◌};
-ghost use Rattle.et_listing.specs.Words.{is_label_line, same};
+ghost use Rattle.et_listing.specs.Words.{is_label_line, same_word};
 ghost use Rattle.et_listing.specs.Mnemonics.{mnemonics};
 ghost use Rattle.et_listing.specs.Lines.{word_at, with_mnemonic, said, is_silent, parsed_of};
 
@@ -34,7 +34,8 @@ fn instruction_of<'a>(
 ) -> Result<Line<'a>, LineFault>
     requires { names.now.keys ≡ mnemonics }
     ensures { result
-        ≡ with_mnemonic words.now (position (λ name. same (word_at words.now 0) name) mnemonics) }
+        ≡ with_mnemonic words.now (position (λ name. same_word (word_at words.now 0) name)
+        mnemonics) }
 {
     match opcode_of(names, &word_at(words, 0)) {
         None => Err(LineFault::Word),

@@ -3,7 +3,7 @@
 ghost use Rattle.std.specs.Prelude.{◌≡◌, ◌<◌, ◌≤◌, ◌-◌, length, take, drop};
 ghost use Rattle.std.specs.List.{list_all};
 ghost use Rattle.et_listing.specs.Words.{is_label, is_int32};
-ghost use Rattle.et_listing.specs.Lines.{word_at, bipush_of, sipush_of, load_of, long_load_of, local_of, increment_of, branch_of, member, field_access_of, virtual_call_of, direct_interface_call_of, direct_call_of, interface_call_of, type_of, base_type, base_array_of, array_of, default_label, ends_default, table_labels, table_fits, table_of, lookup_words, pairs, is_pair, lookup_of, shaped};
+ghost use Rattle.et_listing.specs.Lines.{word_at, bipush_of, sipush_of, load_of, long_load_of, local_word, increment_of, branch_of, member, field_access_of, virtual_call_of, direct_interface_call_of, direct_call_of, interface_call_of, type_of, base_type, base_array_of, array_of, default_label, ends_default, table_labels, table_fits, table_of, lookup_words, pairs, is_word_pair, lookup_of, shaped};
 
 use crate::entry::Entry;
 use crate::header::{constant_entry, constant_form};
@@ -54,7 +54,7 @@ fn long_load_of<'a>(words: &[Word<'a>], opcode: u8) -> Result<Instruction<'a>, L
 }
 
 fn local_of<'a>(words: &[Word<'a>], opcode: u8) -> Result<Instruction<'a>, LineFault>
-    ensures { result ≡ local_of words.now opcode }
+    ensures { result ≡ local_word words.now opcode }
 {
     counted(words, 2)?;
     numeral(words, 1)?;
@@ -257,14 +257,14 @@ fn lookup_words<'b, 'a>(words: &'b [Word<'a>]) -> &'b [Word<'a>]
 }
 
 fn is_pair(number: &Word, target: &Word) -> bool
-    ensures { result ≡ is_pair (number.now, target.now) }
+    ensures { result ≡ is_word_pair (number.now, target.now) }
 {
     operand::is_numeral(number.bytes()) && operand::is_label(target.bytes())
 }
 
 /// Whether words two by two are numbers and labels.
 fn are_pairs(words: &[Word]) -> bool
-    ensures { result ≡ list_all is_pair (pairs words.now) }
+    ensures { result ≡ list_all is_word_pair (pairs words.now) }
 {
     let mut rest = words;
     while let [number, target, more @ ..] = rest {

@@ -7,7 +7,7 @@ use Rattle.et_state.specs.declared.records.Record.{Record}
 use Rattle.et_state.specs.Outcome.{Outcome, state_after, end_by}
 use Rattle.et_state.specs.Outcome as outcome
 use Rattle.et_state.specs.Naming.{Mentions}
-use Rattle.et_state.specs.History.{Setting, is_flush_point, turn_of, step_of, ending, settled, left_by}
+use Rattle.et_state.specs.History.{Setting, is_flush_point, picked_turn, outcome_step, ending, settled, left_by}
 use Rattle.et_loop.specs.Kept.{Settles}
 use Rattle.et_loop.specs.Stamping.{Passes}
 use Rattle.et_loop.specs.Run.{due_state, Turns, Advances, Concludes}
@@ -28,15 +28,15 @@ event_within graph s thread (outcome.IllTyped method pc) = omega arith
 event_within graph s thread outcome.ObjectLimit = omega arith
 
 -- the history ends there, or the event is done by the thread that has the turn
-pub event_allowed : {S : Type 0} (given : Setting S) (e : ℕ) (s : S) (thread old new : ℕ) → (length (given.rule.unended s) == 0) ≡ false → (e == given.limit) ≡ false → thread ≡ turn_of given (suc e) s
+pub event_allowed : {S : Type 0} (given : Setting S) (e : ℕ) (s : S) (thread old new : ℕ) → (length (given.rule.unended s) == 0) ≡ false → (e == given.limit) ≡ false → thread ≡ picked_turn given (suc e) s
     → new ≤ old + 8 + ((given.rule.graph (state_after s (given.rule.event s thread))).made - (given.rule.graph s).made) → new ≤ old + visits_of_event given e s
 event_allowed given e s thread old new some within turn few =
     let made : ℕ = made_after given e s - (given.rule.graph s).made in
     let few' : new ≤ old + 8 + made = subst (λ (t : ℕ). new ≤ old + 8 + ((given.rule.graph (state_after s (given.rule.event s t))).made - (given.rule.graph s).made)) turn few in
-    let on : end_by (turn_of given (suc e) s) (step_of given (suc e) s) ≡ ending given e s =
-    sym (ap (λ (b : Bool). if b then Some Finished else (if e == given.limit then Some EventLimit else end_by (turn_of given (suc e) s) (step_of given (suc e) s))) some
-    ∙ ap (λ (b : Bool). if b then Some EventLimit else end_by (turn_of given (suc e) s) (step_of given (suc e) s)) within) in
-    let most = subst (λ (x : Option End). 8 + made ≤ event_visits x made) on (event_within given.rule.graph s (turn_of given (suc e) s) (step_of given (suc e) s)) in
+    let on : end_by (picked_turn given (suc e) s) (outcome_step given (suc e) s) ≡ ending given e s =
+    sym (ap (λ (b : Bool). if b then Some Finished else (if e == given.limit then Some EventLimit else end_by (picked_turn given (suc e) s) (outcome_step given (suc e) s))) some
+    ∙ ap (λ (b : Bool). if b then Some EventLimit else end_by (picked_turn given (suc e) s) (outcome_step given (suc e) s)) within) in
+    let most = subst (λ (x : Option End). 8 + made ≤ event_visits x made) on (event_within given.rule.graph s (picked_turn given (suc e) s) (outcome_step given (suc e) s)) in
     omega (arith, few', most)
 
 due_within : (due : Bool) (flush : ℕ) → due_visits due flush ≤ flush
@@ -88,7 +88,7 @@ pub settled_state : {S : Type 0} (reached : Graph → ℕ → Bool) (given : Set
 settled_state reached given e s s' due at is = is ∙ (ap (λ (b : Bool). due_state b (given.rule.flushed (reached (given.rule.graph s)) s) s) at ∙ settled_is reached given s (is_flush_point given.interval e))
 
 -- a turn that is done, and one that ends the history
-pub turn_done : {S : Type 0} (reached : Graph → ℕ → Bool) (given : Setting S) (flush_visits : (ℕ → Bool) → S → ℕ) (e : ℕ) (s s' : S) (old new : ℕ) → ending given e (settled reached given e s) ≡ None → s' ≡ state_after (settled reached given e s) (step_of given (suc e) (settled reached given e s))
+pub turn_done : {S : Type 0} (reached : Graph → ℕ → Bool) (given : Setting S) (flush_visits : (ℕ → Bool) → S → ℕ) (e : ℕ) (s s' : S) (old new : ℕ) → ending given e (settled reached given e s) ≡ None → s' ≡ state_after (settled reached given e s) (outcome_step given (suc e) (settled reached given e s))
     → new ≤ old + visits_of_turn reached given flush_visits e s → new ≤ old + due_visits (is_flush_point given.interval e) (flush_visits (reached (given.rule.graph s)) s) + 8 + ((given.rule.graph s').made - (given.rule.graph s).made)
 turn_done {S = S} reached given flush_visits e s s' old new goes is few =
     let flush : ℕ = flush_visits (reached (given.rule.graph s)) s in

@@ -8,10 +8,10 @@ use Rattle.et_graph.specs.Listed.{AreListed, IsGreatest}
 use Rattle.et_base.specs.declared.value.End.{End}
 use Rattle.et_state.specs.Naming.{Mentions}
 use Rattle.et_io.specs.Sink.{with_more}
-use Rattle.et_loop.specs.Run.{noted, Turns}
+use Rattle.et_loop.specs.Run.{time_noted, Turns}
 use Rattle.et_loop.proofs.RunLemmas.{noted_before, noted_is, Running, turn_on}
 use Rattle.et_loop.specs.Stamping.{Passes}
-use Rattle.et_loop.specs.Told.{IsTold}
+use Rattle.et_loop.specs.Told.{IsToldByStamps}
 use Rattle.et_loop.proofs.Dates.{dated, dated_listed}
 use Rattle.et_loop.proofs.Turns.{told_dates, told_passed}
 
@@ -41,14 +41,14 @@ module _ {S : Type 0} (reached : Graph → ℕ → Bool) (decides : Decides reac
       last_case o t e (reached (graphs (suc e)) o) refl le r latest (λ down. last_is o t e down r (λ k lek. latest k (omega (arith, lek))))
 
   -- The deaths of a flush after event e are those that the stamps show.
-  pub listed_now : (e : ℕ) (g : Graph) (stamps : ℕ → ℕ) → g ≡ graphs e → IsTold graphs e g stamps
-      → AreListed g stamps (dated reached decides g (noted (reached g) (λ o. noted_before reached given start made o e) e))
+  pub listed_now : (e : ℕ) (g : Graph) (stamps : ℕ → ℕ) → g ≡ graphs e → IsToldByStamps graphs e g stamps
+      → AreListed g stamps (dated reached decides g (time_noted (reached g) (λ o. noted_before reached given start made o e) e))
   listed_now e g stamps at told =
       let last = λ (o : ℕ). noted_before reached given start made o e in
-      dated_listed reached decides g (noted (reached g) last e) stamps (λ o dead.
+      dated_listed reached decides g (time_noted (reached g) last e) stamps (λ o dead.
       let d = told_dates graphs e g stamps told o dead in
-      let same : d.0 ≡ noted (reached g) last e o =
-      sym (last_is o d.0 e d.1 d.2 d.3) ∙ (sym (noted_is reached given start made o e) ∙ ap (λ (x : Graph). noted (reached x) last e o) (sym at)) in
+      let same : d.0 ≡ time_noted (reached g) last e o =
+      sym (last_is o d.0 e d.1 d.2 d.3) ∙ (sym (noted_is reached given start made o e) ∙ ap (λ (x : Graph). time_noted (reached x) last e o) (sym at)) in
       subst (λ (t : ℕ). IsGreatest g stamps o t) same d.4)
 
   pub graph_first : graphs 0 ≡ given.rule.graph start
@@ -59,16 +59,16 @@ module _ {S : Type 0} (reached : Graph → ℕ → Bool) (decides : Decides reac
   pub running_as : (e : ℕ) (s : S) (last : ℕ → ℕ) (m : Mentions) (before now : Option (List ℕ)) → Running reached given start made e s last m before now → Running reached given start made e s (λ o. noted_before reached given start made o e) m before now
   running_as e s last m before now r = record { state = r.state; first = r.first; noted = λ o. refl; mentions = r.mentions; lines = r.lines }
 
-  module _ (e : ℕ) (s : S) (m : Mentions) (before now : Option (List ℕ)) (r : Running reached given start made e s (λ o. noted_before reached given start made o e) m before now) (stamps : ℕ → ℕ) (told : IsTold graphs e (given.rule.graph s) stamps) where
-    pub listed_here : AreListed (given.rule.graph s) stamps (dated reached decides (given.rule.graph s) (noted (reached (given.rule.graph s)) (λ o. noted_before reached given start made o e) e))
+  module _ (e : ℕ) (s : S) (m : Mentions) (before now : Option (List ℕ)) (r : Running reached given start made e s (λ o. noted_before reached given start made o e) m before now) (stamps : ℕ → ℕ) (told : IsToldByStamps graphs e (given.rule.graph s) stamps) where
+    pub listed_here : AreListed (given.rule.graph s) stamps (dated reached decides (given.rule.graph s) (time_noted (reached (given.rule.graph s)) (λ o. noted_before reached given start made o e) e))
     listed_here = listed_now e (given.rule.graph s) stamps (ap given.rule.graph r.state) told
 
     module _ (next : Option End) (s' : S) (last' : ℕ → ℕ) (m' : Mentions) (out out' : List ℕ) (empty : out ≡ []) (is : next ≡ None) (turn : Turns reached given e s (λ o. noted_before reached given start made o e) m s' last' m' out out' next) (n : ℕ) (now' : Option (List ℕ)) (at : n ≡ suc e) (en : now' ≡ with_more now out') where
       pub next_runs : Running reached given start made n s' (λ o. noted_before reached given start made o n) m' before now'
       next_runs = running_as n s' last' m' before now' (turn_on reached given start made e s (λ o. noted_before reached given start made o e) m before now r next s' last' m' out out' empty is turn n now' at en)
 
-      pub next_told : (due : Bool) (stamps' : ℕ → ℕ) → Passes due e (given.rule.graph s) (given.rule.graph s') stamps stamps' → IsTold graphs n (given.rule.graph s') stamps'
+      pub next_told : (due : Bool) (stamps' : ℕ → ℕ) → Passes due e (given.rule.graph s) (given.rule.graph s') stamps stamps' → IsToldByStamps graphs n (given.rule.graph s') stamps'
       next_told due stamps' passes =
           let here : graphs (suc e) ≡ given.rule.graph s' = sym (ap given.rule.graph next_runs.state ∙ ap graphs at) in
-          subst (λ (k : ℕ). IsTold graphs k (given.rule.graph s') stamps') (sym at)
+          subst (λ (k : ℕ). IsToldByStamps graphs k (given.rule.graph s') stamps') (sym at)
           (told_passed graphs due e (given.rule.graph s) (given.rule.graph s') stamps stamps' told passes here)

@@ -10,10 +10,10 @@ use Rattle.et_graph.specs.Graph.{Graph}
 use Rattle.et_state.specs.declared.records.Record.{Record}
 use Rattle.et_state.specs.Outcome.{state_after, records_of}
 use Rattle.et_state.specs.Naming.{Mentions, nothing_mentioned, mentions_after, lines_of}
-use Rattle.et_state.specs.History.{Setting, is_flush_point, flush_lines, how_of, ending, step_of, settled, left_by, records_at, last_reached, deaths, mentions_to, lines_to, trace_of, IsLast}
+use Rattle.et_state.specs.History.{Setting, is_flush_point, flush_lines, how_of, ending, outcome_step, settled, left_by, records_at, last_reached, deaths, mentions_to, lines_to, trace_of, IsLastEvent}
 use Rattle.et_text.specs.Spelling.{text, spelling}
 use Rattle.et_io.specs.Sink.{with_more, TakesPrefix}
-use Rattle.et_loop.specs.Run.{noted, flush_of, due_lines, flush_now, Turns, Advances, Concludes}
+use Rattle.et_loop.specs.Run.{time_noted, flush_of, due_lines, flush_now, Turns, Advances, Concludes}
 use Rattle.et_loop.specs.Traced.{WritesTrace, WritesPrefix}
 
 -- WHAT IS TAKEN
@@ -91,7 +91,7 @@ module _ {S : Type 0} (reached : Graph → ℕ → Bool) (given : Setting S) (st
   lines_traced e n end le = extends_on _ _ _ (lines_within n e le) (_, append_assoc (lines_to reached given start made n) _ _)
 
   -- an event before which no end came is at most the last one
-  up_to_last : (e n : ℕ) (end : End) → IsLast reached given start made n end → ((k : ℕ) → k < e → ends_at k ≡ None) → e ≤ n
+  up_to_last : (e n : ℕ) (end : End) → IsLastEvent reached given start made n end → ((k : ℕ) → k < e → ends_at k ≡ None) → e ≤ n
   up_to_last e n end last first = ⊎_elim (λ past. absurd (none_some (ends_at n) end (first n past) last.ends)) (λ le. le) (cases_lt n e)
 
   -- the last event before event e after which an object was reached, as far as it is noted before event e is
@@ -99,7 +99,7 @@ module _ {S : Type 0} (reached : Graph → ℕ → Bool) (given : Setting S) (st
   noted_before o zero = zero
   noted_before o (suc e) = last_reached reached given start made o e
 
-  pub noted_is : (o e : ℕ) → noted (reached (given.rule.graph (left_by reached given start made e))) (λ x. noted_before x e) e o ≡ last_reached reached given start made o e
+  pub noted_is : (o e : ℕ) → time_noted (reached (given.rule.graph (left_by reached given start made e))) (λ x. noted_before x e) e o ≡ last_reached reached given start made o e
   unfolding noted_before last_reached
   noted_is o zero = elim (reached (given.rule.graph (left_by reached given start made 0)) o) as (λ b. (if b then zero else zero) ≡ zero) [ true ↦ refl | false ↦ refl ]
   noted_is o (suc e) = refl
@@ -136,8 +136,8 @@ module _ {S : Type 0} (reached : Graph → ℕ → Bool) (given : Setting S) (st
     -- the lines of a flush that is due are those of the history
     flush_is : flush_now reached given e s last m s last m [] [] ≡ flush_lines e (deaths reached given start made e)
     flush_is =
-        ap (λ f. flush_of (reached (given.rule.graph s)) (noted (reached (given.rule.graph s)) f e) e (given.rule.graph s)) (fun_ext r.noted)
-        ∙ (ap (λ x. flush_of (reached (given.rule.graph x)) (noted (reached (given.rule.graph x)) (λ o. noted_before o e) e) e (given.rule.graph x)) r.state
+        ap (λ f. flush_of (reached (given.rule.graph s)) (time_noted (reached (given.rule.graph s)) f e) e (given.rule.graph s)) (fun_ext r.noted)
+        ∙ (ap (λ x. flush_of (reached (given.rule.graph x)) (time_noted (reached (given.rule.graph x)) (λ o. noted_before o e) e) e (given.rule.graph x)) r.state
         ∙ ap (λ f. flush_of (reached (given.rule.graph (left_by reached given start made e))) f e (given.rule.graph (left_by reached given start made e))) (fun_ext (λ o. noted_is o e)))
 
     -- so far only a prefix of the trace was put
@@ -156,7 +156,7 @@ module _ {S : Type 0} (reached : Graph → ℕ → Bool) (given : Setting S) (st
       unfolding more_lines
       put_is =
           let due = is_flush_point given.interval e in
-          let records = λ (x : S). records_of (step_of given (suc e) (settled reached given e x)) in
+          let records = λ (x : S). records_of (outcome_step given (suc e) (settled reached given e x)) in
           a.lines
           ∙ (ap (λ o. o ++ text (due_lines due (flush_now reached given e s last m s' last' m' out out') ++ lines_of given.names m (records s))) empty
           ∙ (ap (λ f. text (due_lines due f ++ lines_of given.names m (records s))) flush_is
@@ -174,10 +174,10 @@ module _ {S : Type 0} (reached : Graph → ℕ → Bool) (given : Setting S) (st
       running_next : (now' : Option (List ℕ)) → now' ≡ with_more now out' → Running (suc e) s' last' m' before now'
       unfolding left_by noted_before last_reached mentions_to
       running_next now' en = record {
-        state = a.state ∙ ap (λ x. state_after (settled reached given e x) (step_of given (suc e) (settled reached given e x))) r.state;
+        state = a.state ∙ ap (λ x. state_after (settled reached given e x) (outcome_step given (suc e) (settled reached given e x))) r.state;
         first = first_next;
-        noted = λ o. a.notes o ∙ (ap (λ x. noted (reached (given.rule.graph x)) last e o) r.state ∙ (ap (λ f. noted (reached (given.rule.graph (left_by reached given start made e))) f e o) (fun_ext r.noted) ∙ noted_is o e));
-        mentions = a.mentions ∙ (ap (λ x. mentions_after given.names x (records_of (step_of given (suc e) (settled reached given e s)))) r.mentions ∙ ap (λ x. mentions_after given.names (mentions_to reached given start made e) (records_of (step_of given (suc e) (settled reached given e x)))) r.state);
+        noted = λ o. a.notes o ∙ (ap (λ x. time_noted (reached (given.rule.graph x)) last e o) r.state ∙ (ap (λ f. time_noted (reached (given.rule.graph (left_by reached given start made e))) f e o) (fun_ext r.noted) ∙ noted_is o e));
+        mentions = a.mentions ∙ (ap (λ x. mentions_after given.names x (records_of (outcome_step given (suc e) (settled reached given e s)))) r.mentions ∙ ap (λ x. mentions_after given.names (mentions_to reached given start made e) (records_of (outcome_step given (suc e) (settled reached given e x)))) r.state);
         lines = en ∙ (ap (λ t. with_more t out') r.lines ∙ (more_twice before (text (lines_to reached given start made e)) out' ∙ (ap (λ o. with_more before (text (lines_to reached given start made e) ++ o)) put_is ∙ ap (λ o. with_more before o) (sym lines_are))));
       }
 
@@ -205,7 +205,7 @@ module _ {S : Type 0} (reached : Graph → ℕ → Bool) (given : Setting S) (st
           ∙ (flat_map-append spelling (lines_to reached given start made e) (flush_lines e (deaths reached given start made e) ++ Finish e (how_of end) ∷ [])
           ∙ ap (λ o. text (lines_to reached given start made e) ++ o) (sym last_put))
 
-      is_last : IsLast reached given start made e end
+      is_last : IsLastEvent reached given start made e end
       is_last = record { ends = subst (λ x. ending given e (settled reached given e x) ≡ Some end) r.state a.ends; first = r.first }
 
       pub running_end : (now' : Option (List ℕ)) → now' ≡ with_more now out' → WritesTrace reached given start made (record { end = end; event = e }) before now'

@@ -8,9 +8,9 @@ use Rattle.et_base.specs.declared.value.End.{End}
 use Rattle.et_graph.specs.Graph.{Graph}
 use Rattle.et_state.specs.Outcome.{state_after, records_of}
 use Rattle.et_state.specs.Naming.{Mentions, mentions_after, lines_of}
-use Rattle.et_state.specs.History.{Setting, is_flush_point, how_of, ending, step_of, settled}
+use Rattle.et_state.specs.History.{Setting, is_flush_point, how_of, ending, outcome_step, settled}
 use Rattle.et_text.specs.Spelling.{text, spelling}
-use Rattle.et_loop.specs.Run.{noted, flush_of, due_lines, due_state, last_lines, Goes, Turns}
+use Rattle.et_loop.specs.Run.{time_noted, flush_of, due_lines, due_state, last_lines, Goes, Turns}
 
 -- a flush where it is due leads to the settled state
 pub settled_is : {S : Type 0} (reached : Graph → ℕ → Bool) (given : Setting S) (s : S) (b : Bool) → due_state b (given.rule.flushed (reached (given.rule.graph s)) s) s ≡ (if b then given.rule.flushed (reached (given.rule.graph s)) s else s)
@@ -22,25 +22,25 @@ last_once : {S : Type 0} (b : Bool) (end : End) (e : ℕ) (after s : S) (fl : S 
 last_once true end e after s fl out = append_assoc out (text (fl s)) (text (Finish e (how_of end) ∷ [])) ∙ ap (λ t. out ++ t) (sym (flat_map-append spelling (fl s) (Finish e (how_of end) ∷ [])))
 last_once false end e after s fl out = rw (append-nil out) refl
 
-module _ {S : Type 0} (reached : Graph → ℕ → Bool) (given : Setting S) (e : ℕ) (s s₁ s₂ : S) (here : ℕ → Bool) (last last' : ℕ → ℕ) (m m' : Mentions) (due : Bool) (out out₁ out₂ : List ℕ) (eh : here ≡ reached (given.rule.graph s)) (ed : due ≡ is_flush_point given.interval e) (en : (o : ℕ) → last' o ≡ noted here last e o) (el : out₁ ≡ out ++ text (due_lines due (flush_of here last' e (given.rule.graph s)))) (es : s₁ ≡ due_state due (given.rule.flushed here s) s) where
+module _ {S : Type 0} (reached : Graph → ℕ → Bool) (given : Setting S) (e : ℕ) (s s₁ s₂ : S) (here : ℕ → Bool) (last last' : ℕ → ℕ) (m m' : Mentions) (due : Bool) (out out₁ out₂ : List ℕ) (eh : here ≡ reached (given.rule.graph s)) (ed : due ≡ is_flush_point given.interval e) (en : (o : ℕ) → last' o ≡ time_noted here last e o) (el : out₁ ≡ out ++ text (due_lines due (flush_of here last' e (given.rule.graph s)))) (es : s₁ ≡ due_state due (given.rule.flushed here s) s) where
   settled_now : s₁ ≡ settled reached given e s
   settled_now = es ∙ (ap (λ h. due_state due (given.rule.flushed h s) s) eh ∙ (ap (λ b. due_state b (given.rule.flushed (reached (given.rule.graph s)) s) s) ed ∙ settled_is reached given s (is_flush_point given.interval e)))
 
-  last_now : last' ≡ noted (reached (given.rule.graph s)) last e
-  last_now = fun_ext en ∙ ap (λ h. noted h last e) eh
+  last_now : last' ≡ time_noted (reached (given.rule.graph s)) last e
+  last_now = fun_ext en ∙ ap (λ h. time_noted h last e) eh
 
-  flush_is : flush_of here last' e (given.rule.graph s) ≡ flush_of (reached (given.rule.graph s)) (noted (reached (given.rule.graph s)) last e) e (given.rule.graph s)
+  flush_is : flush_of here last' e (given.rule.graph s) ≡ flush_of (reached (given.rule.graph s)) (time_noted (reached (given.rule.graph s)) last e) e (given.rule.graph s)
   flush_is = ap (λ h. flush_of h last' e (given.rule.graph s)) eh ∙ ap (λ f. flush_of (reached (given.rule.graph s)) f e (given.rule.graph s)) last_now
 
   pub turned_on : Goes given e s₁ m s₂ m' out₁ out₂ None → Turns reached given e s last m s₂ last' m' out out₂ None
   turned_on g =
-      let fl = flush_of (reached (given.rule.graph s)) (noted (reached (given.rule.graph s)) last e) e (given.rule.graph s) in
-      let more = λ (x : S). lines_of given.names m (records_of (step_of given (suc e) x)) in
+      let fl = flush_of (reached (given.rule.graph s)) (time_noted (reached (given.rule.graph s)) last e) e (given.rule.graph s) in
+      let more = λ (x : S). lines_of given.names m (records_of (outcome_step given (suc e) x)) in
       record {
         goes = subst (λ x. ending given e x ≡ None) settled_now g.goes;
-        state = subst (λ x. s₂ ≡ state_after x (step_of given (suc e) x)) settled_now g.state;
-        notes = λ o. en o ∙ ap (λ h. noted h last e o) eh;
-        mentions = subst (λ x. m' ≡ mentions_after given.names m (records_of (step_of given (suc e) x))) settled_now g.mentions;
+        state = subst (λ x. s₂ ≡ state_after x (outcome_step given (suc e) x)) settled_now g.state;
+        notes = λ o. en o ∙ ap (λ h. time_noted h last e o) eh;
+        mentions = subst (λ x. m' ≡ mentions_after given.names m (records_of (outcome_step given (suc e) x))) settled_now g.mentions;
         lines =
             g.lines
             ∙ (ap (λ x. out₁ ++ text (more x)) settled_now

@@ -7,7 +7,7 @@ use Rattle.et_graph.proofs.Walks.{walk_more}
 use Rattle.et_state.specs.Naming.{Mentions}
 use Rattle.et_state.specs.History.{Setting, is_flush_point, flush_lines, deaths_to, is_gone}
 use Rattle.et_text.specs.Spelling.{text}
-use Rattle.et_loop.specs.Run.{noted, flush_of, due_lines, due_state, last_lines, Goes, Turns}
+use Rattle.et_loop.specs.Run.{time_noted, flush_of, due_lines, due_state, last_lines, Goes, Turns}
 use Rattle.et_loop.proofs.TurnLemmas.{turned_on, turned_last}
 use Rattle.et_graph.specs.Listed.{AreListed}
 use Rattle.et_loop.specs.Kept.{Settles}
@@ -23,20 +23,20 @@ settled_made false g h e made o r = subst (λ (x : Graph). IsMade x o) (sym e) (
 module _ {S : Type 0} (reached : Graph → ℕ → Bool) (given : Setting S) (e : ℕ) (s s₁ s₂ : S) (last : ℕ → ℕ) (m m' : Mentions) (due : Bool) (out out₁ out₂ : List ℕ) where
   -- the deaths of a flush after event e
   abbrev pub deaths_now : List (ℕ × ℕ)
-  deaths_now = let g = given.rule.graph s in deaths_to (reached g) (is_gone g) (noted (reached g) last e) g.made
+  deaths_now = let g = given.rule.graph s in deaths_to (reached g) (is_gone g) (time_noted (reached g) last e) g.made
 
   module _ (ed : due ≡ is_flush_point given.interval e) (el : out₁ ≡ out ++ text (due_lines due (flush_lines e deaths_now))) (es : s₁ ≡ due_state due (given.rule.flushed (reached (given.rule.graph s)) s) s) where
-    pub goes_on : Goes given e s₁ m s₂ m' out₁ out₂ None → Turns reached given e s last m s₂ (noted (reached (given.rule.graph s)) last e) m' out out₂ None
-    goes_on g = turned_on reached given e s s₁ s₂ (reached (given.rule.graph s)) last (noted (reached (given.rule.graph s)) last e) m m' due out out₁ out₂ refl ed (λ o. refl) el es g
+    pub goes_on : Goes given e s₁ m s₂ m' out₁ out₂ None → Turns reached given e s last m s₂ (time_noted (reached (given.rule.graph s)) last e) m' out out₂ None
+    goes_on g = turned_on reached given e s s₁ s₂ (reached (given.rule.graph s)) last (time_noted (reached (given.rule.graph s)) last e) m m' due out out₁ out₂ refl ed (λ o. refl) el es g
 
     -- nothing was left out at the end
-    last_same : (b : Bool) (end : End) → s₂ ≡ due_state b (given.rule.flushed (reached (given.rule.graph s)) s) s → last_lines b end e (flush_lines e deaths_now) ≡ last_lines b end e (flush_of (reached (given.rule.graph s)) (noted (reached (given.rule.graph s)) last e) e (given.rule.graph s₂))
+    last_same : (b : Bool) (end : End) → s₂ ≡ due_state b (given.rule.flushed (reached (given.rule.graph s)) s) s → last_lines b end e (flush_lines e deaths_now) ≡ last_lines b end e (flush_of (reached (given.rule.graph s)) (time_noted (reached (given.rule.graph s)) last e) e (given.rule.graph s₂))
     last_same true end same = refl
-    last_same false end same = ap (λ (x : S). last_lines false end e (flush_of (reached (given.rule.graph s)) (noted (reached (given.rule.graph s)) last e) e (given.rule.graph x))) (sym same)
+    last_same false end same = ap (λ (x : S). last_lines false end e (flush_of (reached (given.rule.graph s)) (time_noted (reached (given.rule.graph s)) last e) e (given.rule.graph x))) (sym same)
 
-    pub goes_out : (end : End) (out₃ : List ℕ) → Goes given e s₁ m s₂ m' out₁ out₂ (Some end) → out₃ ≡ out₂ ++ text (last_lines due end e (flush_lines e deaths_now)) → Turns reached given e s last m s₂ (noted (reached (given.rule.graph s)) last e) m' out out₃ (Some end)
+    pub goes_out : (end : End) (out₃ : List ℕ) → Goes given e s₁ m s₂ m' out₁ out₂ (Some end) → out₃ ≡ out₂ ++ text (last_lines due end e (flush_lines e deaths_now)) → Turns reached given e s last m s₂ (time_noted (reached (given.rule.graph s)) last e) m' out out₃ (Some end)
     goes_out end out₃ g ec =
-        turned_last reached given e s s₁ s₂ (reached (given.rule.graph s)) last (noted (reached (given.rule.graph s)) last e) m m' due out out₁ out₂ refl ed (λ o. refl) el es end out₃ g
+        turned_last reached given e s s₁ s₂ (reached (given.rule.graph s)) last (time_noted (reached (given.rule.graph s)) last e) m m' due out out₁ out₂ refl ed (λ o. refl) el es end out₃ g
         (ec ∙ ap (λ (ls : List TraceLine). out₂ ++ text ls) (last_same due end (g.state ∙ es)))
 
     -- where no flush was due, what the stamps show at the end is what they showed before

@@ -11,9 +11,9 @@ use Rattle.et_graph.proofs.Sound.{made_cases, fresh_range, reached_made, stepped
 use Rattle.et_graph.proofs.StampLemmas.{history_told, stamp_fresh, stamp_lost, stamp_kept, stamps_told}
 use Rattle.et_graph.specs.Cleared.{IsCleared}
 use Rattle.et_graph.specs.Listed.{IsGreatest}
-use Rattle.et_loop.specs.Kept.{IsKept, Settles}
+use Rattle.et_loop.specs.Kept.{IsKeptPart, Settles}
 use Rattle.et_loop.specs.Stamping.{Restamps, Passes}
-use Rattle.et_loop.specs.Told.{StandsFor, IsTold}
+use Rattle.et_loop.specs.Told.{StandsForTurns, IsToldByStamps}
 use Rattle.et_loop.proofs.Wholes.{kept_itself, reached_whole, reached_kept, leads_kept, dead_whole, whole_step, legal_whole, step_kept, whole_flushed, flush_whole, flush_kept}
 use Rattle.et_loop.proofs.Dates.{some_dead}
 
@@ -38,7 +38,7 @@ module _ (graphs : ℕ → Graph) where
     was_first : (k o : ℕ) → (k ≤ 0) × IsReached (graphs k) o → WasReached first_turns k o
     was_first k o h = let z : k ≡ 0 = omega (arith, h.0) in inl (z, subst (λ (x : Graph). IsReached x o) at (subst (λ (j : ℕ). IsReached (graphs j) o) z h.1))
 
-    pub told_first : IsTold graphs 0 g stamps
+    pub told_first : IsToldByStamps graphs 0 g stamps
     told_first = (
       first_turns,
       record {
@@ -51,7 +51,7 @@ module _ (graphs : ℕ → Graph) where
     )
 
   -- A FLUSH
-  pub told_flushed : (e : ℕ) (g h : Graph) (stamps : ℕ → ℕ) → IsTold graphs e g stamps → IsCleared g h → IsTold graphs e h stamps
+  pub told_flushed : (e : ℕ) (g h : Graph) (stamps : ℕ → ℕ) → IsToldByStamps graphs e g stamps → IsCleared g h → IsToldByStamps graphs e h stamps
   told_flushed e g h stamps told cleared =
       let turns = told.0 in
       let is = told.1 in
@@ -68,12 +68,12 @@ module _ (graphs : ℕ → Graph) where
         },
       )
 
-  pub told_settled : (due : Bool) (e : ℕ) (g h : Graph) (stamps : ℕ → ℕ) → IsTold graphs e g stamps → Settles due g h → IsTold graphs e h stamps
+  pub told_settled : (due : Bool) (e : ℕ) (g h : Graph) (stamps : ℕ → ℕ) → IsToldByStamps graphs e g stamps → Settles due g h → IsToldByStamps graphs e h stamps
   told_settled true e g h stamps told s = told_flushed e g h stamps told s
-  told_settled false e g h stamps told s = subst (λ (x : Graph). IsTold graphs e x stamps) (sym s) told
+  told_settled false e g h stamps told s = subst (λ (x : Graph). IsToldByStamps graphs e x stamps) (sym s) told
 
   -- A STEP
-  module _ (e : ℕ) (g h : Graph) (stamps stamps' : ℕ → ℕ) (turns : List Turn) (is : StandsFor graphs e g stamps turns) (fresh lost : List ℕ) (legal : IsLegalStep g (record { after = h; fresh = fresh; lost = lost })) (marks : Restamps e g.made h.made lost stamps stamps') (at : graphs (suc e) ≡ h) where
+  module _ (e : ℕ) (g h : Graph) (stamps stamps' : ℕ → ℕ) (turns : List Turn) (is : StandsForTurns graphs e g stamps turns) (fresh lost : List ℕ) (legal : IsLegalStep g (record { after = h; fresh = fresh; lost = lost })) (marks : Restamps e g.made h.made lost stamps stamps') (at : graphs (suc e) ≡ h) where
     abbrev before : Graph
     before = graph_after turns
 
@@ -86,7 +86,7 @@ module _ (graphs : ℕ → Graph) where
     taken_legal : IsLegalStep before taken
     taken_legal = legal_whole g before h fresh lost is.kept sound_before legal
 
-    after_kept : IsKept h taken.after
+    after_kept : IsKeptPart h taken.after
     after_kept = step_kept g before h fresh lost is.kept sound_before legal
 
     after_sound : IsSoundGraph taken.after
@@ -137,7 +137,7 @@ module _ (graphs : ℕ → Graph) where
               inl (now ∙ sym is.steps_so_far, reached_whole h taken.after after_kept o (subst (λ (x : Graph). IsReached x o) at (subst (λ (j : ℕ). IsReached (graphs j) o) now w.1)))
         ]
 
-    pub told_step : IsTold graphs (suc e) h stamps'
+    pub told_step : IsToldByStamps graphs (suc e) h stamps'
     told_step = (
       Took taken ∷ turns,
       record {
@@ -150,20 +150,20 @@ module _ (graphs : ℕ → Graph) where
     )
 
   -- a flush where it is due, and then a step
-  pub told_passed : (due : Bool) (e : ℕ) (g h : Graph) (stamps stamps' : ℕ → ℕ) → IsTold graphs e g stamps → Passes due e g h stamps stamps' → graphs (suc e) ≡ h → IsTold graphs (suc e) h stamps'
+  pub told_passed : (due : Bool) (e : ℕ) (g h : Graph) (stamps stamps' : ℕ → ℕ) → IsToldByStamps graphs e g stamps → Passes due e g h stamps stamps' → graphs (suc e) ≡ h → IsToldByStamps graphs (suc e) h stamps'
   told_passed due e g h stamps stamps' told p at =
       let now = told_settled due e g p.0 stamps told p.1 in
       told_step e p.0 h stamps stamps' now.0 now.1 p.2.1.0 p.2.0 p.2.1.1 p.2.2 at
 
   -- WHAT THE STAMPS TELL
   -- what is reached was made
-  pub told_made : (e : ℕ) (g : Graph) (stamps : ℕ → ℕ) → IsTold graphs e g stamps → (o : ℕ) → IsReached g o → IsMade g o
+  pub told_made : (e : ℕ) (g : Graph) (stamps : ℕ → ℕ) → IsToldByStamps graphs e g stamps → (o : ℕ) → IsReached g o → IsMade g o
   told_made e g stamps told o r =
       let made = reached_made (graph_after told.0) (history_sound told.0 told.1.history) o (reached_whole g (graph_after told.0) told.1.kept o r) in
       (made.0, omega (arith, made.1, told.1.kept.made))
 
   -- of each dead object the greatest stamp is the last event after which it was reached
-  pub told_dates : (e : ℕ) (g : Graph) (stamps : ℕ → ℕ) → IsTold graphs e g stamps → (o : ℕ) → IsDead g o
+  pub told_dates : (e : ℕ) (g : Graph) (stamps : ℕ → ℕ) → IsToldByStamps graphs e g stamps → (o : ℕ) → IsDead g o
       → (t : ℕ) × (t ≤ e) × IsReached (graphs t) o × ((k : ℕ) → k ≤ e → IsReached (graphs k) o → k ≤ t) × IsGreatest g stamps o t
   told_dates e g stamps told o dead =
       let turns = told.0 in

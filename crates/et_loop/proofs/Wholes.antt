@@ -8,14 +8,14 @@ use Rattle.et_base.proofs.Lists.{has_contains, contains_has, cases_number, filte
 use Rattle.et_graph.proofs.Walks.{walk_more}
 use Rattle.et_graph.proofs.Sound.{reached_held, fresh_range}
 use Rattle.et_graph.specs.Cleared.{IsCleared}
-use Rattle.et_loop.specs.Kept.{IsKept}
+use Rattle.et_loop.specs.Kept.{IsKeptPart}
 
 -- in the same list
 there : (a b : List ℕ) (o : ℕ) → a ≡ b → Contains a o → Contains b o
 there a b o e c = subst (λ (os : List ℕ). Contains os o) e c
 
 -- a graph without pairs of gone objects is the whole one
-pub kept_itself : (g : Graph) → g.gone ≡ [] → IsKept g g
+pub kept_itself : (g : Graph) → g.gone ≡ [] → IsKeptPart g g
 kept_itself g none = record {
   made = refl;
   roots = refl;
@@ -23,7 +23,7 @@ kept_itself g none = record {
   pairs = λ u x. ((λ c. (c, λ gone. let h : Contains [] u = there g.gone [] u none gone in let lt = h.1 in absurd (omega arith))), (λ h. h.0));
 }
 
-module _ (g whole : Graph) (kept : IsKept g whole) where
+module _ (g whole : Graph) (kept : IsKeptPart g whole) where
   leads_whole : (u o : ℕ) → LeadsTo g u o → LeadsTo whole u o
   leads_whole u o l = (l.0, walk_more g.pairs whole.pairs (λ v x c. ((kept.pairs v x).0 c).0) u l.0 o l.1)
 
@@ -60,7 +60,7 @@ gone_test whole p = list_any (λ x. x == p.0) whole.gone
 abbrev pub whole_after : Graph → Graph → Graph
 whole_after whole h = record h { pairs = h.pairs ++ filter (gone_test whole) whole.pairs }
 
-module _ (g whole h : Graph) (fresh lost : List ℕ) (kept : IsKept g whole) (sound : IsSoundGraph whole) (legal : IsLegalStep g (record { after = h; fresh = fresh; lost = lost })) where
+module _ (g whole h : Graph) (fresh lost : List ℕ) (kept : IsKeptPart g whole) (sound : IsSoundGraph whole) (legal : IsLegalStep g (record { after = h; fresh = fresh; lost = lost })) where
   abbrev step : Step
   step = record { after = h; fresh = fresh; lost = lost }
 
@@ -125,7 +125,7 @@ module _ (g whole h : Graph) (fresh lost : List ℕ) (kept : IsKept g whole) (so
   same_gone : h.gone ≡ whole.gone
   same_gone = legal.draft.gone ∙ kept.gone
 
-  pub step_kept : IsKept h (whole_after whole h)
+  pub step_kept : IsKeptPart h (whole_after whole h)
   step_kept = record {
     made = refl;
     roots = refl;
@@ -145,7 +145,7 @@ module _ (g whole h : Graph) (fresh lost : List ℕ) (kept : IsKept g whole) (so
 abbrev pub whole_flushed : Graph → Graph → Graph
 whole_flushed whole h = record h { pairs = whole.pairs }
 
-module _ (g whole h : Graph) (reports : List ℕ) (kept : IsKept g whole) (sound : IsSoundGraph whole) (cleared : IsCleared g h) (dead : AreDead g reports) where
+module _ (g whole h : Graph) (reports : List ℕ) (kept : IsKeptPart g whole) (sound : IsSoundGraph whole) (cleared : IsCleared g h) (dead : AreDead g reports) where
   -- a flush of what is kept is one of all
   pub flush_whole : IsFlush whole reports (whole_flushed whole h)
   flush_whole = record {
@@ -168,7 +168,7 @@ module _ (g whole h : Graph) (reports : List ℕ) (kept : IsKept g whole) (sound
     );
   }
 
-  pub flush_kept : IsKept h (whole_flushed whole h)
+  pub flush_kept : IsKeptPart h (whole_flushed whole h)
   flush_kept = record {
     made = refl;
     roots = refl;

@@ -5,7 +5,7 @@ use Rattle.et_graph.specs.Steps.{IsLegalStep}
 use Rattle.et_graph.specs.Cleared.{IsCleared}
 
 -- g is the whole graph without the pairs of gone objects
-pub record IsKept (g whole : Graph) : Type 0 where
+pub record IsKeptPart (g whole : Graph) : Type 0 where
   pub made : g.made ≡ whole.made
   pub roots : g.roots ≡ whole.roots
   pub gone : g.gone ≡ whole.gone

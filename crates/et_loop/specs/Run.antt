@@ -7,12 +7,12 @@ use Rattle.et_graph.specs.Graph.{Graph}
 use Rattle.et_state.specs.declared.records.Record.{Record}
 use Rattle.et_state.specs.Outcome.{state_after, records_of}
 use Rattle.et_state.specs.Naming.{Mentions, mentions_after, lines_of}
-use Rattle.et_state.specs.History.{Setting, flush_lines, deaths_to, is_gone, is_flush_point, how_of, ending, step_of, settled}
+use Rattle.et_state.specs.History.{Setting, flush_lines, deaths_to, is_gone, is_flush_point, how_of, ending, outcome_step, settled}
 use Rattle.et_text.specs.Spelling.{text}
 
 -- the last event noted for an object, after this event was noted for those that are here
-abbrev pub noted : (ℕ → Bool) → (ℕ → ℕ) → ℕ → ℕ → ℕ
-noted here last e o = if here o then e else last o
+abbrev pub time_noted : (ℕ → Bool) → (ℕ → ℕ) → ℕ → ℕ → ℕ
+time_noted here last e o = if here o then e else last o
 
 -- the lines of a flush after event e, by which objects are here and when each was last
 abbrev pub flush_of : (ℕ → Bool) → (ℕ → ℕ) → ℕ → Graph → List TraceLine
@@ -35,37 +35,37 @@ last_lines false end e lines = lines ++ Finish e (how_of end) ∷ []
 
 module _ {S : Type 0} (given : Setting S) (e : ℕ) (s : S) (m : Mentions) (s' : S) (m' : Mentions) (out out' : List ℕ) where
   -- the event after event e is done in state s
-  pub record Steps : Type 0 where
+  pub record StepsTo : Type 0 where
     pub goes : ending given e s ≡ None
-    pub state : s' ≡ state_after s (step_of given (suc e) s)
-    pub mentions : m' ≡ mentions_after given.names m (records_of (step_of given (suc e) s))
-    pub lines : out' ≡ out ++ text (lines_of given.names m (records_of (step_of given (suc e) s)))
+    pub state : s' ≡ state_after s (outcome_step given (suc e) s)
+    pub mentions : m' ≡ mentions_after given.names m (records_of (outcome_step given (suc e) s))
+    pub lines : out' ≡ out ++ text (lines_of given.names m (records_of (outcome_step given (suc e) s)))
 
   -- the history ends after event e
-  pub record Stops (end : End) : Type 0 where
+  pub record StopsAt (end : End) : Type 0 where
     pub ends : ending given e s ≡ Some end
     pub state : s' ≡ s
     pub mentions : m' ≡ m
     pub lines : out' ≡ out
 
   abbrev pub Goes : Option End → Type 0
-  Goes None = Steps
-  Goes (Some end) = Stops end
+  Goes None = StepsTo
+  Goes (Some end) = StopsAt end
 
 module _ {S : Type 0} (reached : Graph → ℕ → Bool) (given : Setting S) (e : ℕ) (s : S) (last : ℕ → ℕ) (m : Mentions) (s' : S) (last' : ℕ → ℕ) (m' : Mentions) (out out' : List ℕ) where
   -- the records of the event after event e, which left s
   abbrev pub records_next : List Record
-  records_next = records_of (step_of given (suc e) (settled reached given e s))
+  records_next = records_of (outcome_step given (suc e) (settled reached given e s))
 
   -- the lines of a flush after event e
   abbrev pub flush_now : List TraceLine
-  flush_now = flush_of (reached (given.rule.graph s)) (noted (reached (given.rule.graph s)) last e) e (given.rule.graph s)
+  flush_now = flush_of (reached (given.rule.graph s)) (time_noted (reached (given.rule.graph s)) last e) e (given.rule.graph s)
 
   -- one turn of the loop, after event e left s
   pub record Advances : Type 0 where
     pub goes : ending given e (settled reached given e s) ≡ None
-    pub state : s' ≡ state_after (settled reached given e s) (step_of given (suc e) (settled reached given e s))
-    pub notes : (o : ℕ) → last' o ≡ noted (reached (given.rule.graph s)) last e o
+    pub state : s' ≡ state_after (settled reached given e s) (outcome_step given (suc e) (settled reached given e s))
+    pub notes : (o : ℕ) → last' o ≡ time_noted (reached (given.rule.graph s)) last e o
     pub mentions : m' ≡ mentions_after given.names m records_next
     pub lines : out' ≡ out ++ text (due_lines (is_flush_point given.interval e) flush_now ++ lines_of given.names m records_next)
 

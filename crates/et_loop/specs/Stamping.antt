@@ -22,12 +22,12 @@ pub record Restamps (e before made : ℕ) (lost : List ℕ) (old new : ℕ → �
   pub kept : (o : ℕ) → (o ≤ before) ⊎ (made < o) → ¬ Contains lost o → new o ≡ old o
 
 -- the event after e led from g to h, and the stamps changed with it
-abbrev pub Marks : ℕ → Graph → Graph → (ℕ → ℕ) → (ℕ → ℕ) → Type 0
-Marks e g h old new = (lost : List ℕ) × IsStepTo g h lost × Restamps e g.made h.made lost old new
+abbrev pub StampsMark : ℕ → Graph → Graph → (ℕ → ℕ) → (ℕ → ℕ) → Type 0
+StampsMark e g h old new = (lost : List ℕ) × IsStepTo g h lost × Restamps e g.made h.made lost old new
 
 -- .. after a flush, where one was due
 abbrev pub Passes : Bool → ℕ → Graph → Graph → (ℕ → ℕ) → (ℕ → ℕ) → Type 0
-Passes due e g h old new = (settled : Graph) × Settles due g settled × Marks e settled h old new
+Passes due e g h old new = (settled : Graph) × Settles due g settled × StampsMark e settled h old new
 
 -- there is a stamp for each object, and no more objects than have numbers
 pub record HasStamps (g : Graph) (stamps : List ℕ) : Type 0 where
@@ -36,5 +36,5 @@ pub record HasStamps (g : Graph) (stamps : List ℕ) : Type 0 where
 
 -- What becomes of the stamps in a turn: they are marked where the event was done, and stay where the history ends.
 abbrev pub Stamped : Option End → ℕ → Graph → Graph → List ℕ → List ℕ → Type 0
-Stamped None e g h old new = Marks e g h (slice_index old) (slice_index new)
+Stamped None e g h old new = StampsMark e g h (slice_index old) (slice_index new)
 Stamped (Some end) e g h old new = new ≡ old

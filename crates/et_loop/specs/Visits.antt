@@ -5,7 +5,7 @@ use Rattle.et_base.specs.declared.value.End.{End}
 use Rattle.et_graph.specs.Graph.{Graph}
 use Rattle.et_state.specs.declared.records.Record.{Record}
 use Rattle.et_state.specs.Outcome.{state_after}
-use Rattle.et_state.specs.History.{Setting, is_flush_point, ending, step_of, settled, left_by, lines_to}
+use Rattle.et_state.specs.History.{Setting, is_flush_point, ending, outcome_step, settled, left_by, lines_to}
 use Rattle.et_text.specs.Spelling.{text}
 use Rattle.et_io.specs.Sink.{with_more}
 
@@ -32,7 +32,7 @@ turn_visits (Some end) due flush made = flush + 8
 module _ {S : Type 0} (given : Setting S) (e : ℕ) where
   -- the objects that are made in state s once the event after event e was done
   abbrev pub made_after : S → ℕ
-  made_after s = (given.rule.graph (state_after s (step_of given (suc e) s))).made
+  made_after s = (given.rule.graph (state_after s (outcome_step given (suc e) s))).made
 
   -- the event after event e, in state s
   abbrev pub visits_of_event : S → ℕ

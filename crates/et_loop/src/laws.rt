@@ -5,25 +5,25 @@ ghost use Rattle.std.specs.Prelude.{ℕ, ◌↔◌, List};
 ghost use Rattle.et_graph.specs.Graph.{Graph, IsReached, AreDead, IsSoundGraph};
 ghost use Rattle.et_graph.specs.Steps.{IsLegalStep, IsFlush};
 ghost use Rattle.et_graph.specs.Cleared.{IsCleared};
-ghost use Rattle.et_loop.specs.Kept.{IsKept};
+ghost use Rattle.et_loop.specs.Kept.{IsKeptPart};
 
 /// What is reached is the same in both.
 pub fn reached()
     ensures { (g whole : Graph) →
-        IsKept g whole → IsSoundGraph whole → (o : ℕ) → IsReached g o ↔ IsReached whole o }
+        IsKeptPart g whole → IsSoundGraph whole → (o : ℕ) → IsReached g o ↔ IsReached whole o }
 {}
 
 /// A step that is legal over what is kept is one over the whole graph.
 pub fn step()
-    ensures { (g whole h : Graph) (fresh lost : List ℕ) → IsKept g whole →
+    ensures { (g whole h : Graph) (fresh lost : List ℕ) → IsKeptPart g whole →
         IsSoundGraph whole → IsLegalStep g (record { after = h; fresh = fresh; lost = lost }) →
-        (after : Graph) × IsKept h after
+        (after : Graph) × IsKeptPart h after
         × IsLegalStep whole (record { after = after; fresh = fresh; lost = lost }) }
 {}
 
 /// A flush of what is kept is one of the whole graph.
 pub fn flush()
-    ensures { (g whole h : Graph) (reports : List ℕ) → IsKept g whole → IsSoundGraph whole →
+    ensures { (g whole h : Graph) (reports : List ℕ) → IsKeptPart g whole → IsSoundGraph whole →
         IsCleared g h → AreDead g reports →
-        (after : Graph) × IsKept h after × IsFlush whole reports after }
+        (after : Graph) × IsKeptPart h after × IsFlush whole reports after }
 {}

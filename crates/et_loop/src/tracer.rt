@@ -7,7 +7,7 @@ ghost use Rattle.et_state.specs.History.{is_flush_point, deaths_to, is_gone};
 ghost use Rattle.et_state.specs.Options.{AreOptions};
 ghost use Rattle.et_text.specs.Spelling.{text};
 ghost use Rattle.et_loop.specs.Options.{setting_of};
-ghost use Rattle.et_loop.specs.Run.{noted, Goes, Turns};
+ghost use Rattle.et_loop.specs.Run.{time_noted, Goes, Turns};
 ghost use Rattle.et_graph.specs.Listed.{AreListed};
 ghost use Rattle.et_loop.specs.Stamping.{HasStamps, Stamped, Passes};
 ghost use Rattle.et_loop.specs.Visits.{visits_of_event, visits_of_turn};
@@ -157,10 +157,10 @@ pub fn turn<G: Guest, L: Ledger>(
     ensures turns { (reached : Graph → ℕ → Bool) →
         Decides reached → (last : ℕ → ℕ) → AreListed (G.graph_of (G.state machine.old))
         (slice_index tracer.old.stamps) (let g = G.graph_of (G.state machine.old)
-        in deaths_to (reached g) (is_gone g) (noted (reached g) last e) g.made) → IfOk result
+        in deaths_to (reached g) (is_gone g) (time_noted (reached g) last e) g.made) → IfOk result
         (λ end. Turns reached (setting_of (G.event_of code.now) G.unended_of G.graph_of G.flushed_of
         (G.Code.names code.now) options.now) e (G.state machine.old) last tracer.old.numbering
-        (G.state machine.new) (noted (reached (G.graph_of (G.state machine.old))) last e)
+        (G.state machine.new) (time_noted (reached (G.graph_of (G.state machine.old))) last e)
         tracer.new.numbering tracer.old.buffer.items tracer.new.buffer.items end) }
     ensures visits { (reached : Graph → ℕ → Bool) → Decides reached → visits.new ≤ visits.old
         + visits_of_turn reached (setting_of (G.event_of code.now) G.unended_of G.graph_of

@@ -9,7 +9,7 @@ use Rattle.et_replay.specs.declared.item.Item.{Item}
 use Rattle.et_replay.specs.declared.item.Item.TheVariants.{Alloc, Write, Death}
 use Rattle.et_replay.specs.Feeding.{MayCome}
 use Rattle.et_replay.specs.Heap.{size_in, is_made, bytes}
-use Rattle.et_replay.specs.Items.{made, sizes}
+use Rattle.et_replay.specs.Items.{made_objects, sizes}
 use Rattle.et_models.specs.Fed.{AreFed}
 
 pub cases_eqb : (a b : ℕ) → ((eqb a b ≡ true) × (a ≡ b)) ⊎ ((eqb a b ≡ false) × (a ≢ b))
@@ -67,7 +67,7 @@ in_range n (Alloc event object size ∷ past) o f h = elim (cases_eqb object o) 
 in_range n (Write event object slot new ∷ past) o f h = in_range n past o f.0 h
 in_range n (Death object time ∷ past) o f h = in_range n past o f.0 h
 
-unmade_apart : (past : List Item) (x : ℕ) → is_made past x ≡ false → AllByRecursion (λ y. eqb x y ≡ false) (made past)
+unmade_apart : (past : List Item) (x : ℕ) → is_made past x ≡ false → AllByRecursion (λ y. eqb x y ≡ false) (made_objects past)
 unmade_apart [] x h = tt
 unmade_apart (Alloc event object size ∷ past) x h = elim (cases_eqb object x) [
   | inl e ↦ not_both (is_made (Alloc event object size ∷ past) x) (subst (λ (k : ℕ). is_made (Alloc event object size ∷ past) k ≡ true) e.1 (ap (λ (s : Option ℕ). is_some s) (size_here past event object size))) h
@@ -79,45 +79,45 @@ unmade_apart (Alloc event object size ∷ past) x h = elim (cases_eqb object x) 
 unmade_apart (Write event object slot new ∷ past) x h = unmade_apart past x h
 unmade_apart (Death object time ∷ past) x h = unmade_apart past x h
 
-distinct : (n : ℕ) (past : List Item) → AreFed n past → IsDistinct eqb (made past)
+distinct : (n : ℕ) (past : List Item) → AreFed n past → IsDistinct eqb (made_objects past)
 unfolding IsDistinct
 distinct n [] f = tt
 distinct n (Alloc event object size ∷ past) f = (unmade_apart past object f.1.new, distinct n past f.0)
 distinct n (Write event object slot new ∷ past) f = distinct n past f.0
 distinct n (Death object time ∷ past) f = distinct n past f.0
 
-no_zero : (n : ℕ) (past : List Item) → AreFed n past → AllByRecursion (λ y. eqb 0 y ≡ false) (made past)
+no_zero : (n : ℕ) (past : List Item) → AreFed n past → AllByRecursion (λ y. eqb 0 y ≡ false) (made_objects past)
 no_zero n [] f = tt
 no_zero n (Alloc event object size ∷ past) f = (let first = f.1.first in let z : eqb 0 object ≡ false = grind (arith, nat_tests) in z, no_zero n past f.0)
 no_zero n (Write event object slot new ∷ past) f = no_zero n past f.0
 no_zero n (Death object time ∷ past) f = no_zero n past f.0
 
-listed_low : (n : ℕ) (past : List Item) (q : ℕ) → AreFed n past → list_any (eqb q) (made past) ≡ true → q < n + 1
+listed_low : (n : ℕ) (past : List Item) (q : ℕ) → AreFed n past → list_any (eqb q) (made_objects past) ≡ true → q < n + 1
 listed_low n [] q f h = absurd cc
 listed_low n (Alloc event object size ∷ past) q f h = elim (cases_eqb q object) [
   | inl e ↦ let last = f.1.last in let same = e.1 in omega (arith, last, same)
-  | inr e ↦ listed_low n past q f.0 (subst (λ (b : Bool). (b || list_any (eqb q) (made past)) ≡ true) e.0 h)
+  | inr e ↦ listed_low n past q f.0 (subst (λ (b : Bool). (b || list_any (eqb q) (made_objects past)) ≡ true) e.0 h)
 ]
 listed_low n (Write event object slot new ∷ past) q f h = listed_low n past q f.0 h
 listed_low n (Death object time ∷ past) q f h = listed_low n past q f.0 h
 
-distinct_front : (n : ℕ) (past : List Item) → AreFed n past → IsDistinct eqb (0 ∷ made past)
+distinct_front : (n : ℕ) (past : List Item) → AreFed n past → IsDistinct eqb (0 ∷ made_objects past)
 unfolding IsDistinct
 distinct_front n past f = (no_zero n past f, distinct n past f)
 
-front_low : (n : ℕ) (past : List Item) (q : ℕ) → AreFed n past → list_any (eqb q) (0 ∷ made past) ≡ true → q < n + 1
+front_low : (n : ℕ) (past : List Item) (q : ℕ) → AreFed n past → list_any (eqb q) (0 ∷ made_objects past) ≡ true → q < n + 1
 front_low n past q f h = elim (cases_eqb q 0) [
   | inl e ↦ let same = e.1 in omega (arith, same)
-  | inr e ↦ listed_low n past q f (subst (λ (b : Bool). (b || list_any (eqb q) (made past)) ≡ true) e.0 h)
+  | inr e ↦ listed_low n past q f (subst (λ (b : Bool). (b || list_any (eqb q) (made_objects past)) ≡ true) e.0 h)
 ]
 
 -- no more objects are made than were told of
-pub few_made : (n : ℕ) (past : List Item) → AreFed n past → length (made past) ≤ n
+pub few_made : (n : ℕ) (past : List Item) → AreFed n past → length (made_objects past) ≤ n
 few_made n past f =
-    let le = length-le_from_distinct_below (0 ∷ made past) (n + 1) (distinct_front n past f) (λ q h. front_low n past q f h) in
+    let le = length-le_from_distinct_below (0 ∷ made_objects past) (n + 1) (distinct_front n past f) (λ q h. front_low n past q f h) in
     omega (arith, le)
 
-pub low_sum : (n : ℕ) (past : List Item) → AreFed n past → sum (sizes past) ≤ length (made past) * 2 ^ 30
+pub low_sum : (n : ℕ) (past : List Item) → AreFed n past → sum (sizes past) ≤ length (made_objects past) * 2 ^ 30
 low_sum n [] f = omega arith
 low_sum n (Alloc event object size ∷ past) f =
     let ih = low_sum n past f.0 in

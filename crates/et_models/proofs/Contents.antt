@@ -5,7 +5,7 @@ use Rattle.std.specs.List.{filter_map}
 use Rattle.et_base.proofs.Lists.{Contains-none, Contains-here, Contains-there, Contains-cons}
 use Rattle.et_replay.specs.declared.item.Item.{Item}
 use Rattle.et_replay.specs.declared.item.Item.TheVariants.{Alloc, Write, Death}
-use Rattle.et_replay.specs.Heap.{is_made, content, slot_of}
+use Rattle.et_replay.specs.Heap.{is_made, content, slot_written_by}
 use Rattle.et_models.proofs.Coming.{cases_eqb, made_stays}
 
 pub cases_bool : (b : Bool) → (b ≡ true) ⊎ (b ≡ false)
@@ -29,7 +29,7 @@ content_made (Write event other at new ∷ past) o s ne = elim (cases_bool (eqb 
 ]
 
 -- .. by one of the Write items
-pub slots_have : (whole past : List Item) (o s : ℕ) → content past o s ≢ 0 → Contains (filter_map (slot_of whole) past) (o, content whole o s)
+pub slots_have : (whole past : List Item) (o s : ℕ) → content past o s ≢ 0 → Contains (filter_map (slot_written_by whole) past) (o, content whole o s)
 slots_have whole [] o s ne = absurd (ne refl)
 slots_have whole (Alloc event object size ∷ past) o s ne = slots_have whole past o s ne
 slots_have whole (Death object time ∷ past) o s ne = slots_have whole past o s ne
@@ -39,16 +39,16 @@ slots_have whole (Write event other at new ∷ past) o s ne = elim (cases_bool (
       let a : other ≡ o = elim (cases_eqb other o) [ inl x ↦ x.1 | inr x ↦ (let y = x.0 in let z = t.0 in cc) ] in
       let b : at ≡ s = elim (cases_eqb at s) [ inl x ↦ x.1 | inr x ↦ (let y = x.0 in let z = t.1 in cc) ] in
       let same : (other, content whole other at) ≡ (o, content whole o s) = cc in
-      subst (λ (p : ℕ × ℕ). Contains ((other, content whole other at) ∷ filter_map (slot_of whole) past) p) same (Contains-here (other, content whole other at) (filter_map (slot_of whole) past))
-  | inr e ↦ Contains-there (other, content whole other at) (filter_map (slot_of whole) past) (o, content whole o s) (slots_have whole past o s (λ z. ne (ap (λ (b : Bool). cond b new (content past o s)) e ∙ z)))
+      subst (λ (p : ℕ × ℕ). Contains ((other, content whole other at) ∷ filter_map (slot_written_by whole) past) p) same (Contains-here (other, content whole other at) (filter_map (slot_written_by whole) past))
+  | inr e ↦ Contains-there (other, content whole other at) (filter_map (slot_written_by whole) past) (o, content whole o s) (slots_have whole past o s (λ z. ne (ap (λ (b : Bool). cond b new (content past o s)) e ∙ z)))
 ]
 
 -- and nothing else is listed
-pub slots_only : (whole past : List Item) (o t : ℕ) → Contains (filter_map (slot_of whole) past) (o, t) → (s : ℕ) × (content whole o s ≡ t)
+pub slots_only : (whole past : List Item) (o t : ℕ) → Contains (filter_map (slot_written_by whole) past) (o, t) → (s : ℕ) × (content whole o s ≡ t)
 slots_only whole [] o t h = absurd (Contains-none (o, t) h)
 slots_only whole (Alloc event object size ∷ past) o t h = slots_only whole past o t h
 slots_only whole (Death object time ∷ past) o t h = slots_only whole past o t h
-slots_only whole (Write event other at new ∷ past) o t h = elim (Contains-cons (other, content whole other at) (filter_map (slot_of whole) past) (o, t) h) [
+slots_only whole (Write event other at new ∷ past) o t h = elim (Contains-cons (other, content whole other at) (filter_map (slot_written_by whole) past) (o, t) h) [
   | inl e ↦ (let a : other ≡ o = ap (λ (p : ℕ × ℕ). p.0) e in let b : content whole other at ≡ t = ap (λ (p : ℕ × ℕ). p.1) e in (at, ap (λ (k : ℕ). content whole k at) (sym a) ∙ b))
   | inr r ↦ slots_only whole past o t r
 ]

@@ -8,14 +8,14 @@ use Rattle.et_replay.specs.declared.item.Item.{Item}
 use Rattle.et_replay.specs.declared.item.Item.TheVariants.{Alloc, Write, Death}
 use Rattle.et_replay.specs.Feeding.{MayCome, IsNewObject}
 use Rattle.et_replay.specs.Heap.{size_in, is_made, is_live, bytes}
-use Rattle.et_replay.specs.Items.{made, sizes}
-use Rattle.et_replay.specs.Tally.{Heap, empty_heap, fits, sweep, collect, exhaust, place, space_on, space_after}
+use Rattle.et_replay.specs.Items.{made_objects, sizes}
+use Rattle.et_replay.specs.Tally.{Heap, empty_heap, fits_capacity, sweep, collect, exhaust, place, space_on, space_after}
 use Rattle.et_models.specs.Fed.{AreFed}
 use Rattle.et_models.proofs.Coming.{AreMade, are_made_on, bytes_stay, size_here, all_low}
 
 pub record HasFacts (past : List Item) (heap : Heap) (most : ℕ) : Type 0 where
   pub held : AreMade past heap.space
-  pub short : length heap.space ≤ length (made past)
+  pub short : length heap.space ≤ length (made_objects past)
   pub sums : heap.freed + bytes past heap.space ≤ sum (sizes past)
   pub kept_low : heap.kept ≤ heap.major * 2 ^ 54
   pub few : heap.major ≤ most
@@ -24,7 +24,7 @@ pub record HasFacts (past : List Item) (heap : Heap) (most : ℕ) : Type 0 where
 pub facts_empty : HasFacts [] empty_heap 0
 facts_empty = record { held = λ k d lt. absurd (omega (arith, lt)); short = omega arith; sums = omega arith; kept_low = omega arith; few = omega arith; young = refl }
 
-made_more : (past : List Item) (item : Item) → length (made past) ≤ length (made (item ∷ past))
+made_more : (past : List Item) (item : Item) → length (made_objects past) ≤ length (made_objects (item ∷ past))
 made_more past (Alloc event object size) = omega arith
 made_more past (Write event object slot new) = omega arith
 made_more past (Death object time) = omega arith
@@ -85,33 +85,33 @@ facts_place n past event object size heap most c f =
     }
 
 facts_settle : (n : ℕ) (past : List Item) (event object size capacity : ℕ) (ready : Heap) (most : ℕ) → IsNewObject n past object size → HasFacts past ready most
-    → HasFacts (Alloc event object size ∷ past) (cond (fits past ready.space size capacity) (place (Alloc event object size ∷ past) object ready) (exhaust event ready)) most
+    → HasFacts (Alloc event object size ∷ past) (cond (fits_capacity past ready.space size capacity) (place (Alloc event object size ∷ past) object ready) (exhaust event ready)) most
 facts_settle n past event object size capacity ready most c f =
-    elim (fits past ready.space size capacity) as (λ b. HasFacts (Alloc event object size ∷ past) (cond b (place (Alloc event object size ∷ past) object ready) (exhaust event ready)) most) [
+    elim (fits_capacity past ready.space size capacity) as (λ b. HasFacts (Alloc event object size ∷ past) (cond b (place (Alloc event object size ∷ past) object ready) (exhaust event ready)) most) [
       | true ↦ facts_place n past event object size ready most c f
       | false ↦ (let s = facts_stay n past (Alloc event object size) ready most most c (omega arith) f in record { held = s.held; short = s.short; sums = s.sums; kept_low = s.kept_low; few = s.few; young = s.young })
     ]
 
-pub facts_ready : (past : List Item) (size capacity : ℕ) (heap : Heap) (most : ℕ) → sum (sizes past) ≤ 2 ^ 54 → HasFacts past heap most → HasFacts past (cond (fits past heap.space size capacity) heap (collect past heap)) (most + 1)
-facts_ready past size capacity heap most low f = elim (fits past heap.space size capacity) as (λ b. HasFacts past (cond b heap (collect past heap)) (most + 1)) [
+pub facts_ready : (past : List Item) (size capacity : ℕ) (heap : Heap) (most : ℕ) → sum (sizes past) ≤ 2 ^ 54 → HasFacts past heap most → HasFacts past (cond (fits_capacity past heap.space size capacity) heap (collect past heap)) (most + 1)
+facts_ready past size capacity heap most low f = elim (fits_capacity past heap.space size capacity) as (λ b. HasFacts past (cond b heap (collect past heap)) (most + 1)) [
   | true ↦ (let few = f.few in record { held = f.held; short = f.short; sums = f.sums; kept_low = f.kept_low; few = omega (arith, few); young = f.young })
   | false ↦ facts_collect past heap most low f
 ]
 
-facts_on : (n capacity : ℕ) (past : List Item) (item : Item) (heap : Heap) → n ≤ 16777215 → AreFed n past → MayCome n past item → HasFacts past heap (length (made past)) → HasFacts (item ∷ past) (space_on capacity past item heap) (length (made (item ∷ past)))
+facts_on : (n capacity : ℕ) (past : List Item) (item : Item) (heap : Heap) → n ≤ 16777215 → AreFed n past → MayCome n past item → HasFacts past heap (length (made_objects past)) → HasFacts (item ∷ past) (space_on capacity past item heap) (length (made_objects (item ∷ past)))
 facts_on n capacity past (Alloc event object size) heap few a c f =
-    let ready = facts_ready past size capacity heap (length (made past)) (all_low n past few a) f in
-    let next : length (made past) + 1 ≡ length (made (Alloc event object size ∷ past)) = omega arith in
-    subst (λ (m : ℕ). HasFacts (Alloc event object size ∷ past) (space_on capacity past (Alloc event object size) heap) m) next (facts_settle n past event object size capacity (cond (fits past heap.space size capacity) heap (collect past heap)) (length (made past) + 1) c ready)
-facts_on n capacity past (Write event object slot new) heap few a c f = facts_stay n past (Write event object slot new) heap (length (made past)) (length (made past)) c (omega arith) f
-facts_on n capacity past (Death object time) heap few a c f = facts_stay n past (Death object time) heap (length (made past)) (length (made past)) c (omega arith) f
+    let ready = facts_ready past size capacity heap (length (made_objects past)) (all_low n past few a) f in
+    let next : length (made_objects past) + 1 ≡ length (made_objects (Alloc event object size ∷ past)) = omega arith in
+    subst (λ (m : ℕ). HasFacts (Alloc event object size ∷ past) (space_on capacity past (Alloc event object size) heap) m) next (facts_settle n past event object size capacity (cond (fits_capacity past heap.space size capacity) heap (collect past heap)) (length (made_objects past) + 1) c ready)
+facts_on n capacity past (Write event object slot new) heap few a c f = facts_stay n past (Write event object slot new) heap (length (made_objects past)) (length (made_objects past)) c (omega arith) f
+facts_on n capacity past (Death object time) heap few a c f = facts_stay n past (Death object time) heap (length (made_objects past)) (length (made_objects past)) c (omega arith) f
 
-facts_next : (n capacity : ℕ) (past : List Item) (item : Item) (heap : Heap) → n ≤ 16777215 → AreFed n past → MayCome n past item → HasFacts past heap (length (made past)) → HasFacts (item ∷ past) (cond (is_some heap.exhausted) heap (space_on capacity past item heap)) (length (made (item ∷ past)))
-facts_next n capacity past item heap few a c f = elim (is_some heap.exhausted) as (λ b. HasFacts (item ∷ past) (cond b heap (space_on capacity past item heap)) (length (made (item ∷ past)))) [
-  | true ↦ facts_stay n past item heap (length (made past)) (length (made (item ∷ past))) c (made_more past item) f
+facts_next : (n capacity : ℕ) (past : List Item) (item : Item) (heap : Heap) → n ≤ 16777215 → AreFed n past → MayCome n past item → HasFacts past heap (length (made_objects past)) → HasFacts (item ∷ past) (cond (is_some heap.exhausted) heap (space_on capacity past item heap)) (length (made_objects (item ∷ past)))
+facts_next n capacity past item heap few a c f = elim (is_some heap.exhausted) as (λ b. HasFacts (item ∷ past) (cond b heap (space_on capacity past item heap)) (length (made_objects (item ∷ past)))) [
+  | true ↦ facts_stay n past item heap (length (made_objects past)) (length (made_objects (item ∷ past))) c (made_more past item) f
   | false ↦ facts_on n capacity past item heap few a c f
 ]
 
-pub space_facts : (n capacity : ℕ) (past : List Item) → n ≤ 16777215 → AreFed n past → HasFacts past (space_after capacity past) (length (made past))
+pub space_facts : (n capacity : ℕ) (past : List Item) → n ≤ 16777215 → AreFed n past → HasFacts past (space_after capacity past) (length (made_objects past))
 space_facts n capacity [] few f = facts_empty
 space_facts n capacity (item ∷ past) few f = facts_next n capacity past item (space_after capacity past) few f.0 f.1 (space_facts n capacity past few f.0)

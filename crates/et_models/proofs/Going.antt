@@ -10,7 +10,7 @@ use Rattle.et_models.specs.declared.places.Place.{Place}
 use Rattle.et_models.specs.declared.places.Place.TheVariants.{Nursery, Kept}
 use Rattle.et_models.specs.Places.{place_at, is_old}
 use Rattle.et_models.proofs.Spots.{old_nursery, old_is, cases_nursery}
-use Rattle.et_models.specs.Marking.{Refers, Marks, AllMarked, Names, Stays, Draws, IsGoing, IsSeed, Begins, IsFound}
+use Rattle.et_models.specs.Marking.{Refers, MarksFrom, AllMarked, NamesInSlot, Stays, Draws, IsMarking, IsSeed, BeginsMarking, IsFound}
 use Rattle.et_models.proofs.Coming.{cases_eqb}
 use Rattle.et_models.proofs.Marking.{in_front, at_end, in_longer, not_back}
 
@@ -18,7 +18,7 @@ kept_nursery : {A : Type 0} (p : Place) → p ≡ Kept → p ≡ Nursery → A
 kept_nursery p a b = absurd cc
 
 -- what stays is reached
-stays_reached : (g : Graph) (slots : List (BTreeMap ℕ ℕ)) (space : List ℕ) (start places : List Place) (work : List ℕ) (o : ℕ) → Draws g slots space start → IsGoing g slots space start places work → Stays space places o → IsReached g o
+stays_reached : (g : Graph) (slots : List (BTreeMap ℕ ℕ)) (space : List ℕ) (start places : List Place) (work : List ℕ) (o : ℕ) → Draws g slots space start → IsMarking g slots space start places work → Stays space places o → IsReached g o
 stays_reached g slots space start places work o d i (inl k) = elim (i.each o) [
   | inl e ↦ absurd (d.fresh o (sym e ∙ k))
   | inr r ↦ r.2
@@ -29,13 +29,13 @@ reached_next : (g : Graph) (u t : ℕ) → IsReached g u → Contains g.pairs (u
 reached_next g u t r c = reached_on g u t r (leads_first g.pairs u t t c (leads_itself g.pairs t))
 
 -- an object that stays goes on staying
-stays_on : (E : ℕ → Type 0) (space : List ℕ) (p : List Place) (w : List ℕ) (p' : List Place) (w' : List ℕ) (o : ℕ) → Marks E p w p' w' → Stays space p o → Stays space p' o
+stays_on : (E : ℕ → Type 0) (space : List ℕ) (p : List Place) (w : List ℕ) (p' : List Place) (w' : List ℕ) (o : ℕ) → MarksFrom E p w p' w' → Stays space p o → Stays space p' o
 stays_on E space p w p' w' o m s = elim (m.each o) [
   | inl e ↦ elim s [ inl k ↦ inl (e ∙ k) | inr k ↦ inr k ]
   | inr k ↦ inl k.is
 ]
 
-stayed : (E : ℕ → Type 0) (space : List ℕ) (p : List Place) (w : List ℕ) (p' : List Place) (w' : List ℕ) (o : ℕ) → Marks E p w p' w' → Stays space p' o → Stays space p o ⊎ Contains w' o
+stayed : (E : ℕ → Type 0) (space : List ℕ) (p : List Place) (w : List ℕ) (p' : List Place) (w' : List ℕ) (o : ℕ) → MarksFrom E p w p' w' → Stays space p' o → Stays space p o ⊎ Contains w' o
 stayed E space p w p' w' o m s = elim (m.each o) [
   | inl e ↦ elim s [ inl k ↦ inl (inl (sym e ∙ k)) | inr k ↦ inl (inr k) ]
   | inr k ↦ inr k.waits
@@ -44,9 +44,9 @@ stayed E space p w p' w' o m s = elim (m.each o) [
 same_map : (slots : List (BTreeMap ℕ ℕ)) (o : ℕ) (m n : BTreeMap ℕ ℕ) → o < length slots → m ≡ get_or slots o m → n ≡ get_or slots o n → n ≡ m
 same_map slots o m n lt e f = f ∙ (get_or_default slots o n m lt ∙ sym e)
 
-pub going_visit : (g : Graph) (slots : List (BTreeMap ℕ ℕ)) (space : List ℕ) (start p : List Place) (w : List ℕ) (o : ℕ) (m : BTreeMap ℕ ℕ) (p' : List Place) (w' : List ℕ) → o < length slots → m ≡ get_or slots o m → Marks (Refers m) p w p' w' → AllMarked (Refers m) p' → Draws g slots space start → IsGoing g slots space start p (w ++ o ∷ []) → IsGoing g slots space start p' w'
+pub going_visit : (g : Graph) (slots : List (BTreeMap ℕ ℕ)) (space : List ℕ) (start p : List Place) (w : List ℕ) (o : ℕ) (m : BTreeMap ℕ ℕ) (p' : List Place) (w' : List ℕ) → o < length slots → m ≡ get_or slots o m → MarksFrom (Refers m) p w p' w' → AllMarked (Refers m) p' → Draws g slots space start → IsMarking g slots space start p (w ++ o ∷ []) → IsMarking g slots space start p' w'
 going_visit g slots space start p w o m p' w' lt at k all d i =
-    let names = λ (t : ℕ) (r : Refers m t). let n : Names slots o t = record { own = m; within = lt; stands = at; refers = r } in n in
+    let names = λ (t : ℕ) (r : Refers m t). let n : NamesInSlot slots o t = record { own = m; within = lt; stands = at; refers = r } in n in
     let own = stays_reached g slots space start p (w ++ o ∷ []) o d i (i.waits o (at_end w o)) in
     record {
       each = λ x. elim (k.each x) [
@@ -74,7 +74,7 @@ going_visit g slots space start p w o m p' w' lt at k all d i =
       ];
     }
 
-pub going_skip : (g : Graph) (slots : List (BTreeMap ℕ ℕ)) (space : List ℕ) (start p : List Place) (w : List ℕ) (o : ℕ) → length slots ≤ o → IsGoing g slots space start p (w ++ o ∷ []) → IsGoing g slots space start p w
+pub going_skip : (g : Graph) (slots : List (BTreeMap ℕ ℕ)) (space : List ℕ) (start p : List Place) (w : List ℕ) (o : ℕ) → length slots ≤ o → IsMarking g slots space start p (w ++ o ∷ []) → IsMarking g slots space start p w
 going_skip g slots space start p w o le i = record {
   each = i.each;
   waits = λ x h. i.waits x (in_front w o x h);
@@ -87,7 +87,7 @@ going_skip g slots space start p w o le i = record {
 }
 
 -- a search begins ..
-pub going_first : (g : Graph) (nursery space noted : List ℕ) (dead : List Bool) (slots : List (BTreeMap ℕ ℕ)) (start p : List Place) (w : List ℕ) → Begins g nursery space noted dead slots start → Marks (IsSeed nursery dead) start (filter (λ o. is_old (place_at start o)) noted) p w → AllMarked (IsSeed nursery dead) p → IsGoing g slots space start p w
+pub going_first : (g : Graph) (nursery space noted : List ℕ) (dead : List Bool) (slots : List (BTreeMap ℕ ℕ)) (start p : List Place) (w : List ℕ) → BeginsMarking g nursery space noted dead slots start → MarksFrom (IsSeed nursery dead) start (filter (λ o. is_old (place_at start o)) noted) p w → AllMarked (IsSeed nursery dead) p → IsMarking g slots space start p w
 going_first g nursery space noted dead slots start p w b m all = record {
   each = λ o. elim (m.each o) [ inl e ↦ inl e | inr k ↦ inr (k.was, k.is, b.seeds o k.by) ];
   waits = λ o h. elim (m.only o h) [ inl f ↦ inr (b.only_old o (old_is (place_at start o) (filter_kept (λ x. is_old (place_at start x)) noted o f).1)) | inr k ↦ inl k.is ];
@@ -109,7 +109,7 @@ going_first g nursery space noted dead slots start p w b m all = record {
 }
 
 -- .. and ends
-pub going_last : (g : Graph) (nursery space noted : List ℕ) (dead : List Bool) (slots : List (BTreeMap ℕ ℕ)) (start p : List Place) → Begins g nursery space noted dead slots start → IsGoing g slots space start p [] → IsFound g start p
+pub going_last : (g : Graph) (nursery space noted : List ℕ) (dead : List Bool) (slots : List (BTreeMap ℕ ℕ)) (start p : List Place) → BeginsMarking g nursery space noted dead slots start → IsMarking g slots space start p [] → IsFound g start p
 going_last g nursery space noted dead slots start p b i = record {
   as_long = i.as_long;
   kept = λ o k. elim (i.each o) [ inl e ↦ absurd (b.draws.fresh o (sym e ∙ k)) | inr r ↦ r.2 ];

@@ -9,10 +9,10 @@ use Rattle.et_models.specs.declared.places.Place.{Place}
 use Rattle.et_models.specs.declared.places.Place.TheVariants.{Nowhere, Nursery, Kept, Old}
 use Rattle.et_models.specs.Tables.{flag_at}
 use Rattle.et_models.specs.Places.{place_at, with_place, is_nursery}
-use Rattle.et_models.specs.Marking.{young, IsMarked, Marks, AllMarked, IsSeed}
+use Rattle.et_models.specs.Marking.{young, IsMarkedFrom, MarksFrom, AllMarked, IsSeed}
 use Rattle.et_models.proofs.Coming.{cases_eqb}
 
-pub marks_none : (E : ℕ → Type 0) (places : List Place) (work : List ℕ) → Marks E places work places work
+pub marks_none : (E : ℕ → Type 0) (places : List Place) (work : List ℕ) → MarksFrom E places work places work
 marks_none E places work = record { as_long = refl; each = λ o. inl refl; grows = λ o h. h; only = λ o h. inl h; spent = refl }
 
 -- a kept object is not of the nursery
@@ -59,19 +59,19 @@ less_young places o e =
     let one : test (get_or places o Nowhere) ≡ 1 = ap test e in
     omega (arith, s, one)
 
-pub marks_one : (places : List Place) (work : List ℕ) (object : ℕ) → place_at places object ≡ Nursery → Marks (λ o. o ≡ object) places work (with_place places object Kept) (work ++ object ∷ [])
+pub marks_one : (places : List Place) (work : List ℕ) (object : ℕ) → place_at places object ≡ Nursery → MarksFrom (λ o. o ≡ object) places work (with_place places object Kept) (work ++ object ∷ [])
 marks_one places work object e =
     let lt = within places object e in
     let here : place_at (with_place places object Kept) object ≡ Kept = rw get_or-set_same refl in
-    let marked : IsMarked (λ o. o ≡ object) places (with_place places object Kept) (work ++ object ∷ []) object = record { was = e; is = here; by = refl; waits = at_end work object } in
+    let marked : IsMarkedFrom (λ o. o ≡ object) places (with_place places object Kept) (work ++ object ∷ []) object = record { was = e; is = here; by = refl; waits = at_end work object } in
     record {
       as_long = length-set places object Kept;
       each = λ o. elim (cases_eqb o object) [
-        | inl q ↦ inr (subst (λ (k : ℕ). IsMarked (λ u. u ≡ object) places (with_place places object Kept) (work ++ object ∷ []) k) (sym q.1) marked)
+        | inl q ↦ inr (subst (λ (k : ℕ). IsMarkedFrom (λ u. u ≡ object) places (with_place places object Kept) (work ++ object ∷ []) k) (sym q.1) marked)
         | inr q ↦ (let ne : o ≢ object = q.1 in inl (rw get_or-set_other refl))
       ];
       grows = λ o h. in_front work object o h;
-      only = λ o h. elim (in_longer work object o h) [ inl f ↦ inl f | inr q ↦ inr (subst (λ (k : ℕ). IsMarked (λ u. u ≡ object) places (with_place places object Kept) (work ++ object ∷ []) k) (sym q) marked) ];
+      only = λ o h. elim (in_longer work object o h) [ inl f ↦ inl f | inr q ↦ inr (subst (λ (k : ℕ). IsMarkedFrom (λ u. u ≡ object) places (with_place places object Kept) (work ++ object ∷ []) k) (sym q) marked) ];
       spent = omega (arith, less_young places object e, length-append work (object ∷ []));
     }
 
@@ -82,13 +82,13 @@ marked_one places object e o q =
     subst (λ (k : ℕ). place_at (with_place places object Kept) k ≢ Nursery) (sym q) (kept_not (place_at (with_place places object Kept) object) here)
 
 -- .. and more
-pub not_back : (E : ℕ → Type 0) (places : List Place) (work : List ℕ) (places' : List Place) (work' : List ℕ) (o : ℕ) → Marks E places work places' work' → place_at places o ≢ Nursery → place_at places' o ≢ Nursery
+pub not_back : (E : ℕ → Type 0) (places : List Place) (work : List ℕ) (places' : List Place) (work' : List ℕ) (o : ℕ) → MarksFrom E places work places' work' → place_at places o ≢ Nursery → place_at places' o ≢ Nursery
 not_back E places work places' work' o m ne = elim (m.each o) [
   | inl e ↦ λ q. ne (sym e ∙ q)
   | inr k ↦ absurd (ne k.was)
 ]
 
-pub marks_then : (E F : ℕ → Type 0) (p0 : List Place) (w0 : List ℕ) (p1 : List Place) (w1 : List ℕ) (p2 : List Place) (w2 : List ℕ) → ((o : ℕ) → F o → E o) → Marks E p0 w0 p1 w1 → Marks F p1 w1 p2 w2 → Marks E p0 w0 p2 w2
+pub marks_then : (E F : ℕ → Type 0) (p0 : List Place) (w0 : List ℕ) (p1 : List Place) (w1 : List ℕ) (p2 : List Place) (w2 : List ℕ) → ((o : ℕ) → F o → E o) → MarksFrom E p0 w0 p1 w1 → MarksFrom F p1 w1 p2 w2 → MarksFrom E p0 w0 p2 w2
 marks_then E F p0 w0 p1 w1 p2 w2 of a b =
     let x = a.spent in let y = b.spent in
     record {
@@ -105,11 +105,11 @@ marks_then E F p0 w0 p1 w1 p2 w2 of a b =
       spent = omega (arith, x, y);
     }
   where
-    then_marked : (o : ℕ) → IsMarked F p1 p2 w2 o → (place_at p1 o ≡ place_at p0 o) ⊎ IsMarked E p0 p1 w1 o → IsMarked E p0 p2 w2 o
+    then_marked : (o : ℕ) → IsMarkedFrom F p1 p2 w2 o → (place_at p1 o ≡ place_at p0 o) ⊎ IsMarkedFrom E p0 p1 w1 o → IsMarkedFrom E p0 p2 w2 o
     then_marked o k (inl e) = record { was = sym e ∙ k.was; is = k.is; by = of o k.by; waits = k.waits }
     then_marked o k (inr j) = absurd (kept_not (place_at p1 o) j.is k.was)
 
-    still_marked : (o : ℕ) → IsMarked E p0 p1 w1 o → (place_at p2 o ≡ place_at p1 o) ⊎ IsMarked F p1 p2 w2 o → IsMarked E p0 p2 w2 o
+    still_marked : (o : ℕ) → IsMarkedFrom E p0 p1 w1 o → (place_at p2 o ≡ place_at p1 o) ⊎ IsMarkedFrom F p1 p2 w2 o → IsMarkedFrom E p0 p2 w2 o
     still_marked o k (inl e) = record { was = k.was; is = e ∙ k.is; by = k.by; waits = b.grows o k.waits }
     still_marked o k (inr j) = record { was = k.was; is = j.is; by = k.by; waits = j.waits }
 
@@ -122,12 +122,12 @@ seed_all nursery dead places i le done o s =
     subst (λ (k : ℕ). place_at places k ≢ Nursery) at (done among.0 (omega (arith, lt, le)) (ap (λ (k : ℕ). flag_at dead k) at ∙ s.lives))
 
 -- one more of them
-pub seed_marks : (nursery : List ℕ) (dead : List Bool) (p0 : List Place) (w0 : List ℕ) (p1 : List Place) (w1 : List ℕ) (p2 : List Place) (w2 : List ℕ) (i : ℕ) → i < length nursery → flag_at dead (get_or nursery i 0) ≡ false → Marks (IsSeed nursery dead) p0 w0 p1 w1 → Marks (λ o. o ≡ get_or nursery i 0) p1 w1 p2 w2 → Marks (IsSeed nursery dead) p0 w0 p2 w2
+pub seed_marks : (nursery : List ℕ) (dead : List Bool) (p0 : List Place) (w0 : List ℕ) (p1 : List Place) (w1 : List ℕ) (p2 : List Place) (w2 : List ℕ) (i : ℕ) → i < length nursery → flag_at dead (get_or nursery i 0) ≡ false → MarksFrom (IsSeed nursery dead) p0 w0 p1 w1 → MarksFrom (λ o. o ≡ get_or nursery i 0) p1 w1 p2 w2 → MarksFrom (IsSeed nursery dead) p0 w0 p2 w2
 seed_marks nursery dead p0 w0 p1 w1 p2 w2 i lt lives a b =
     let own : IsSeed nursery dead (get_or nursery i 0) = record { among = (i, lt, get_or_default nursery i (get_or nursery i 0) 0 lt); lives = lives } in
     marks_then (IsSeed nursery dead) (λ o. o ≡ get_or nursery i 0) p0 w0 p1 w1 p2 w2 (λ o e. subst (λ (k : ℕ). IsSeed nursery dead k) (sym e) own) a b
 
-pub seed_done : (nursery : List ℕ) (dead : List Bool) (p1 : List Place) (w1 : List ℕ) (p2 : List Place) (w2 : List ℕ) (i : ℕ) → ((k : ℕ) → k < i → flag_at dead (get_or nursery k 0) ≡ false → place_at p1 (get_or nursery k 0) ≢ Nursery) → Marks (λ o. o ≡ get_or nursery i 0) p1 w1 p2 w2 → AllMarked (λ o. o ≡ get_or nursery i 0) p2
+pub seed_done : (nursery : List ℕ) (dead : List Bool) (p1 : List Place) (w1 : List ℕ) (p2 : List Place) (w2 : List ℕ) (i : ℕ) → ((k : ℕ) → k < i → flag_at dead (get_or nursery k 0) ≡ false → place_at p1 (get_or nursery k 0) ≢ Nursery) → MarksFrom (λ o. o ≡ get_or nursery i 0) p1 w1 p2 w2 → AllMarked (λ o. o ≡ get_or nursery i 0) p2
     → (k : ℕ) → k < i + 1 → flag_at dead (get_or nursery k 0) ≡ false → place_at p2 (get_or nursery k 0) ≢ Nursery
 seed_done nursery dead p1 w1 p2 w2 i done m all k lt lives = elim (cases_eqb k i) [
   | inl e ↦ all (get_or nursery k 0) (ap (λ (j : ℕ). get_or nursery j 0) e.1)

@@ -12,8 +12,8 @@ use Rattle.et_replay.specs.declared.item.Item.{Item}
 use Rattle.et_replay.specs.Heap.{is_made, content}
 use Rattle.et_models.specs.declared.places.Place.TheVariants.{Nursery, Old}
 use Rattle.et_models.specs.Places.{place_at, is_nursery, is_old}
-use Rattle.et_models.specs.Marking.{Names}
-use Rattle.et_models.specs.Generations.{Both, KnowsSlots, WritesSlot, noted}
+use Rattle.et_models.specs.Marking.{NamesInSlot}
+use Rattle.et_models.specs.Generations.{Both, KnowsSlots, WritesSlot, reference_noted}
 use Rattle.et_models.proofs.Coming.{cases_eqb, made_stays}
 use Rattle.et_models.proofs.Contents.{cases_bool, content_made, element}
 use Rattle.et_models.proofs.Marking.{in_front}
@@ -29,7 +29,7 @@ unmade_before past item o e = elim (cases_bool (is_made past o)) [
 ]
 
 -- an object with something in a slot is made
-pub names_made : (slots : List (BTreeMap ℕ ℕ)) (n : ℕ) (past : List Item) (u t : ℕ) → KnowsSlots slots n past → Names slots u t → t ≢ 0 → is_made past u ≡ true
+pub names_made : (slots : List (BTreeMap ℕ ℕ)) (n : ℕ) (past : List Item) (u t : ℕ) → KnowsSlots slots n past → NamesInSlot slots u t → t ≢ 0 → is_made past u ≡ true
 names_made slots n past u t k m ne =
     let s = m.refers.0 in
     let is : content past u s ≡ t = sym (k.content_is u s m.own m.within m.stands) ∙ ap (λ (v : Option ℕ). unwrap_or v 0) m.refers.1 in
@@ -46,7 +46,7 @@ insert_has xs x = Contains-insert_key nat_eq (λ a b e. eqb-true a b e) xs x
 -- WHAT IS WRITTEN
 
 -- nothing but the two lists changes
-pub noted_is : (object new : ℕ) (v : Both) → noted object new v ≡ record v { remembered = (noted object new v).remembered; early = (noted object new v).early }
+pub noted_is : (object new : ℕ) (v : Both) → reference_noted object new v ≡ record v { remembered = (reference_noted object new v).remembered; early = (reference_noted object new v).early }
 noted_is object new v = elim (new == 0) as (λ b. let w = cond b v (cond (is_some (get_or v.sizes new None)) (cond (is_old (place_at v.places object) && is_nursery (place_at v.places new)) (record v { remembered = insert_key nat_eq v.remembered object }) v) (record v { early = insert_key nat_eq v.early object })) in w ≡ record v { remembered = w.remembered; early = w.early }) [
   | true ↦ refl
   | false ↦ elim (is_some (get_or v.sizes new None)) as (λ b. let w = cond b (cond (is_old (place_at v.places object) && is_nursery (place_at v.places new)) (record v { remembered = insert_key nat_eq v.remembered object }) v) (record v { early = insert_key nat_eq v.early object }) in w ≡ record v { remembered = w.remembered; early = w.early }) [
@@ -56,7 +56,7 @@ noted_is object new v = elim (new == 0) as (λ b. let w = cond b v (cond (is_som
 ]
 
 -- what was noted stays so
-pub noted_keeps : (object new : ℕ) (v : Both) (u : ℕ) → (Contains v.remembered u → Contains (noted object new v).remembered u) × (Contains v.early u → Contains (noted object new v).early u)
+pub noted_keeps : (object new : ℕ) (v : Both) (u : ℕ) → (Contains v.remembered u → Contains (reference_noted object new v).remembered u) × (Contains v.early u → Contains (reference_noted object new v).early u)
 noted_keeps object new v u = elim (new == 0) as (λ b. let w = cond b v (cond (is_some (get_or v.sizes new None)) (cond (is_old (place_at v.places object) && is_nursery (place_at v.places new)) (record v { remembered = insert_key nat_eq v.remembered object }) v) (record v { early = insert_key nat_eq v.early object })) in (Contains v.remembered u → Contains w.remembered u) × (Contains v.early u → Contains w.early u)) [
   | true ↦ (λ c. c, λ c. c)
   | false ↦ elim (is_some (get_or v.sizes new None)) as (λ b. let w = cond b (cond (is_old (place_at v.places object) && is_nursery (place_at v.places new)) (record v { remembered = insert_key nat_eq v.remembered object }) v) (record v { early = insert_key nat_eq v.early object }) in (Contains v.remembered u → Contains w.remembered u) × (Contains v.early u → Contains w.early u)) [
@@ -72,11 +72,11 @@ not_null : (new : ℕ) → new ≢ 0 → (new == 0) ≡ false
 not_null new ne = elim (cases_eqb new 0) [ inl e ↦ absurd (ne e.1) | inr e ↦ e.0 ]
 
 -- an object that isn't made is noted
-pub noted_early : (object new : ℕ) (v : Both) → new ≢ 0 → is_some (get_or v.sizes new None) ≡ false → Contains (noted object new v).early object
+pub noted_early : (object new : ℕ) (v : Both) → new ≢ 0 → is_some (get_or v.sizes new None) ≡ false → Contains (reference_noted object new v).early object
 noted_early object new v ne none = rw (not_null new ne, none) (insert_has v.early object)
 
 -- .. and one of the nursery that is given to one of the old space
-pub noted_young : (object new : ℕ) (v : Both) → new ≢ 0 → is_some (get_or v.sizes new None) ≡ true → place_at v.places object ≡ Old → place_at v.places new ≡ Nursery → Contains (noted object new v).remembered object
+pub noted_young : (object new : ℕ) (v : Both) → new ≢ 0 → is_some (get_or v.sizes new None) ≡ true → place_at v.places object ≡ Old → place_at v.places new ≡ Nursery → Contains (reference_noted object new v).remembered object
 noted_young object new v ne some old young = rw (not_null new ne, some, old, young) (insert_has v.remembered object)
 
 -- one of the two lists has it
@@ -86,7 +86,7 @@ in_either xs ys xs' ys' u k c = elim (Contains-append_cases xs ys u c) [
   | inr y ↦ Contains-append_right xs' ys' u (k.1 y)
 ]
 
-same_own : (slots : List (BTreeMap ℕ ℕ)) (slots' : List (BTreeMap ℕ ℕ)) (object slot new : ℕ) (t : ℕ) → WritesSlot slots slots' object slot new → Names slots' object t → (t ≡ new) ⊎ Names slots object t
+same_own : (slots : List (BTreeMap ℕ ℕ)) (slots' : List (BTreeMap ℕ ℕ)) (object slot new : ℕ) (t : ℕ) → WritesSlot slots slots' object slot new → NamesInSlot slots' object t → (t ≡ new) ⊎ NamesInSlot slots object t
 same_own slots slots' object slot new t w n =
     let long = w.as_long in let lt' = n.within in
     let lt : object < length slots = omega (arith, long, lt') in
@@ -102,11 +102,11 @@ same_own slots slots' object slot new t w n =
     some_same a b e = ap (λ (v : Option ℕ). unwrap_or v 0) e
 
 -- what refers to what, after an object was written
-pub names_before : (slots slots' : List (BTreeMap ℕ ℕ)) (object slot new u t : ℕ) → WritesSlot slots slots' object slot new → Names slots' u t → ((u ≡ object) × (t ≡ new)) ⊎ Names slots u t
+pub names_before : (slots slots' : List (BTreeMap ℕ ℕ)) (object slot new u t : ℕ) → WritesSlot slots slots' object slot new → NamesInSlot slots' u t → ((u ≡ object) × (t ≡ new)) ⊎ NamesInSlot slots u t
 names_before slots slots' object slot new u t w n = elim (cases_eqb u object) [
-  | inl e ↦ elim (same_own slots slots' object slot new t w (subst (λ (k : ℕ). Names slots' k t) e.1 n)) [
+  | inl e ↦ elim (same_own slots slots' object slot new t w (subst (λ (k : ℕ). NamesInSlot slots' k t) e.1 n)) [
     | inl q ↦ inl (e.1, q)
-    | inr m ↦ inr (subst (λ (k : ℕ). Names slots k t) (sym e.1) m)
+    | inr m ↦ inr (subst (λ (k : ℕ). NamesInSlot slots k t) (sym e.1) m)
   ]
   | inr e ↦ (let long = w.as_long in let lt' = n.within in inr (record { own = n.own; within = omega (arith, long, lt'); stands = w.others u n.own e.1 n.stands; refers = n.refers }))
 ]

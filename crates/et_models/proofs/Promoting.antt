@@ -11,15 +11,15 @@ use Rattle.et_base.proofs.Lists.{filter_kept, filter_keeps, has_contains, contai
 use Rattle.et_graph.proofs.Walks.{root_reached}
 use Rattle.et_replay.proofs.ByKey.{filter_same}
 use Rattle.et_replay.specs.declared.item.Item.{Item}
-use Rattle.et_replay.specs.Heap.{is_made, content, slot_of, slots}
+use Rattle.et_replay.specs.Heap.{is_made, content, slot_written_by, slots}
 use Rattle.et_replay.specs.Tally.{live_of, nursery_graph}
 use Rattle.et_models.specs.declared.places.Place.{Place}
 use Rattle.et_models.specs.declared.places.Place.TheVariants.{Nursery}
 use Rattle.et_models.specs.Fed.{AreFed}
 use Rattle.et_models.specs.Tables.{size_at, flag_at}
 use Rattle.et_models.specs.Places.{place_at, is_kept}
-use Rattle.et_models.specs.Marking.{Names, Begins, IsFound}
-use Rattle.et_models.specs.Generations.{Both, KnowsSlots, IsReady}
+use Rattle.et_models.specs.Marking.{NamesInSlot, BeginsMarking, IsFound}
+use Rattle.et_models.specs.Generations.{Both, KnowsSlots, IsReadyToCollect}
 use Rattle.et_models.proofs.Coming.{in_range}
 use Rattle.et_models.proofs.Contents.{content_made, slots_have, slots_only, element}
 use Rattle.et_models.proofs.Spots.{nowhere_nursery, nowhere_kept, nowhere_old, nursery_kept, old_nursery, old_kept, kept_is}
@@ -53,13 +53,13 @@ not_true true e = absurd cc
 not_true false e = refl
 
 -- the slots of the tables are those that the items tell of
-names_pairs : (slots : List (BTreeMap ℕ ℕ)) (n : ℕ) (past : List Item) (u t : ℕ) → KnowsSlots slots n past → Names slots u t → t ≢ 0 → Contains (filter_map (slot_of past) past) (u, t)
+names_pairs : (slots : List (BTreeMap ℕ ℕ)) (n : ℕ) (past : List Item) (u t : ℕ) → KnowsSlots slots n past → NamesInSlot slots u t → t ≢ 0 → Contains (filter_map (slot_written_by past) past) (u, t)
 names_pairs slots n past u t k m ne =
     let s = m.refers.0 in
     let is : content past u s ≡ t = sym (k.content_is u s m.own m.within m.stands) ∙ ap (λ (v : Option ℕ). unwrap_or v 0) m.refers.1 in
-    subst (λ (v : ℕ). Contains (filter_map (slot_of past) past) (u, v)) is (slots_have past past u s (λ z. ne (sym is ∙ z)))
+    subst (λ (v : ℕ). Contains (filter_map (slot_written_by past) past) (u, v)) is (slots_have past past u s (λ z. ne (sym is ∙ z)))
 
-pairs_names : (slots : List (BTreeMap ℕ ℕ)) (n : ℕ) (past : List Item) (u t : ℕ) → AreFed n past → KnowsSlots slots n past → Contains (filter_map (slot_of past) past) (u, t) → t ≢ 0 → Names slots u t
+pairs_names : (slots : List (BTreeMap ℕ ℕ)) (n : ℕ) (past : List Item) (u t : ℕ) → AreFed n past → KnowsSlots slots n past → Contains (filter_map (slot_written_by past) past) (u, t) → t ≢ 0 → NamesInSlot slots u t
 pairs_names slots n past u t f k h ne =
     let r = slots_only past past u t h in
     let nz : content past u r.0 ≢ 0 = λ z. ne (sym r.1 ∙ z) in
@@ -71,7 +71,7 @@ pairs_names slots n past u t f k h ne =
     record { own = e.0; within = lt; stands = e.1; refers = (r.0, some_is (get nat_cmp e.0 r.0) t is ne) }
 
 -- a minor collection may search
-pub begins : (reached : Graph → ℕ → Bool) (v : Both) (n : ℕ) (past : List Item) (a b : ℕ) → IsReady v n past a b → Begins (nursery_graph reached past v.heap) v.heap.nursery v.heap.space (v.remembered ++ v.early) v.dead v.slots v.places
+pub begins : (reached : Graph → ℕ → Bool) (v : Both) (n : ℕ) (past : List Item) (a b : ℕ) → IsReadyToCollect v n past a b → BeginsMarking (nursery_graph reached past v.heap) v.heap.nursery v.heap.space (v.remembered ++ v.early) v.dead v.slots v.places
 begins reached v n past a b r =
     let h = v.heap in
     let g = nursery_graph reached past h in

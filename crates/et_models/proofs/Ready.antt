@@ -21,10 +21,10 @@ use Rattle.et_replay.specs.Tally.{live_of, dead_of, sweep, exhaust, place, place
 use Rattle.et_models.specs.declared.places.Place.{Place}
 use Rattle.et_models.specs.declared.places.Place.TheVariants.{Nowhere, Nursery, Old}
 use Rattle.et_models.specs.Tables.{size_at, flag_at, with_flag}
-use Rattle.et_models.specs.Places.{place_at, with_place, is_kept, settled, without_dead, AreSettled}
-use Rattle.et_models.specs.Marking.{Begins, IsFound}
+use Rattle.et_models.specs.Places.{place_at, with_place, is_kept, place_settled, without_dead, AreCollected}
+use Rattle.et_models.specs.Marking.{BeginsMarking, IsFound}
 use Rattle.et_models.specs.Spaces.{unflagged}
-use Rattle.et_models.specs.Generations.{Both, KnowsSlots, KnowsPlaces, AreNoted, IsReady, WritesSlot, swept, promoted, placed_young, placed_old, left_out, noted}
+use Rattle.et_models.specs.Generations.{Both, KnowsSlots, KnowsPlaces, AreNoted, IsReadyToCollect, WritesSlot, swept, promoted, placed_young, placed_old, left_out, reference_noted}
 use Rattle.et_models.proofs.Coming.{AreMade, are_made_on, apart, bytes_stay, size_here, all_low, cases_eqb, in_range}
 use Rattle.et_models.proofs.Marking.{at_end, in_front, in_longer}
 use Rattle.et_models.proofs.Totals.{sum_is, unflagged_is, knows_more, knows_death}
@@ -68,7 +68,7 @@ swept_places v n k =
       ];
     }
 
-pub swept_ready : (v : Both) (n : ℕ) (past : List Item) (a b : ℕ) → IsReady v n past a b → IsReady (swept v) n past a (b + 1) × ((swept v).heap ≡ sweep past v.heap)
+pub swept_ready : (v : Both) (n : ℕ) (past : List Item) (a b : ℕ) → IsReadyToCollect v n past a b → IsReadyToCollect (swept v) n past a (b + 1) × ((swept v).heap ≡ sweep past v.heap)
 swept_ready v n past a b r =
     let h = v.heap in
     let live : unflagged v.dead h.space ≡ live_of past h.space = unflagged_is n past v.sizes v.dead h.space r.fed r.knows r.old_made in
@@ -104,7 +104,7 @@ swept_ready v n past a b r =
 
 -- A MINOR COLLECTION
 
-promoted_places : (v : Both) (n : ℕ) (g : Graph) (marked places : List Place) → KnowsPlaces v.places n v.heap.nursery v.heap.space → IsFound g v.places marked → AreSettled v.heap.nursery marked places → KnowsPlaces places n [] (v.heap.space ++ filter (λ o. is_kept (place_at marked o)) v.heap.nursery)
+promoted_places : (v : Both) (n : ℕ) (g : Graph) (marked places : List Place) → KnowsPlaces v.places n v.heap.nursery v.heap.space → IsFound g v.places marked → AreCollected v.heap.nursery marked places → KnowsPlaces places n [] (v.heap.space ++ filter (λ o. is_kept (place_at marked o)) v.heap.nursery)
 promoted_places v n g marked places k f cleared =
     let h = v.heap in
     let test = λ (o : ℕ). is_kept (place_at marked o) in
@@ -118,13 +118,13 @@ promoted_places v n g marked places k f cleared =
       young = λ o c. absurd (Contains-none o c);
       old = λ o c. elim (Contains-append_cases h.space (filter test h.nursery) o c) [
         | inl x ↦ old o x
-        | inr y ↦ (let z = filter_kept test h.nursery o y in cleared.moved o z.0 ∙ ap settled (kept_is (place_at marked o) z.1))
+        | inr y ↦ (let z = filter_kept test h.nursery o y in cleared.moved o z.0 ∙ ap place_settled (kept_is (place_at marked o) z.1))
       ];
       only = λ o. elim (k.only o) [
         | inl e ↦ inl (stays o Nowhere e (λ y. nowhere_nursery Nowhere refl y))
         | inr x ↦ elim x [
           | inl c ↦ elim (f.left o (k.young o c)) [
-            | inl y ↦ inl (cleared.moved o c ∙ ap settled y)
+            | inl y ↦ inl (cleared.moved o c ∙ ap place_settled y)
             | inr y ↦ inr (inr (Contains-append_right h.space (filter test h.nursery) o (filter_keeps test h.nursery o c (ap is_kept y))))
           ]
           | inr c ↦ inr (inr (Contains-append_left h.space (filter test h.nursery) o c))
@@ -132,7 +132,7 @@ promoted_places v n g marked places k f cleared =
       ];
     }
 
-pub promoted_ready : (v : Both) (n : ℕ) (past : List Item) (a b : ℕ) (marked places : List Place) → IsReady v n past a b → ((g : Graph) (space : List ℕ) → Begins g v.heap.nursery space (v.remembered ++ v.early) v.dead v.slots v.places → IsFound g v.places marked) → AreSettled v.heap.nursery marked places → IsReady (promoted marked places v) n past (a + 1) b
+pub promoted_ready : (v : Both) (n : ℕ) (past : List Item) (a b : ℕ) (marked places : List Place) → IsReadyToCollect v n past a b → ((g : Graph) (space : List ℕ) → BeginsMarking g v.heap.nursery space (v.remembered ++ v.early) v.dead v.slots v.places → IsFound g v.places marked) → AreCollected v.heap.nursery marked places → IsReadyToCollect (promoted marked places v) n past (a + 1) b
 promoted_ready v n past a b marked places r found cleared =
     let h = v.heap in
     let test = λ (o : ℕ). is_kept (place_at marked o) in
@@ -167,7 +167,7 @@ promoted_ready v n past a b marked places r found cleared =
       major_low = r.major_low;
     }
 
-pub promoted_is : (reached : Graph → ℕ → Bool) → Decides reached → (v : Both) (n : ℕ) (past : List Item) (a b : ℕ) (marked places : List Place) → IsReady v n past a b → ((g : Graph) (space : List ℕ) → Begins g v.heap.nursery space (v.remembered ++ v.early) v.dead v.slots v.places → IsFound g v.places marked) → (promoted marked places v).heap ≡ promote reached past v.heap
+pub promoted_is : (reached : Graph → ℕ → Bool) → Decides reached → (v : Both) (n : ℕ) (past : List Item) (a b : ℕ) (marked places : List Place) → IsReadyToCollect v n past a b → ((g : Graph) (space : List ℕ) → BeginsMarking g v.heap.nursery space (v.remembered ++ v.early) v.dead v.slots v.places → IsFound g v.places marked) → (promoted marked places v).heap ≡ promote reached past v.heap
 promoted_is reached decides v n past a b marked places r found =
     let h = v.heap in
     let test = λ (o : ℕ). is_kept (place_at marked o) in
@@ -190,7 +190,7 @@ of_new past object new o m q = apart past object o new m (sym q)
 plus_is : (a b c d : ℕ) → a ≡ b → c ≡ d → a + c ≡ b + d
 plus_is a b c d e f = omega arith
 
-pub young_ready : (v : Both) (n : ℕ) (past : List Item) (a b event object size : ℕ) → IsNewObject n past object size → IsReady v n past a b → IsReady (placed_young object size v) n (Alloc event object size ∷ past) a b × ((placed_young object size v).heap ≡ place_young (Alloc event object size ∷ past) object v.heap)
+pub young_ready : (v : Both) (n : ℕ) (past : List Item) (a b event object size : ℕ) → IsNewObject n past object size → IsReadyToCollect v n past a b → IsReadyToCollect (placed_young object size v) n (Alloc event object size ∷ past) a b × ((placed_young object size v).heap ≡ place_young (Alloc event object size ∷ past) object v.heap)
 young_ready v n past a b event object size c r =
     let h = v.heap in
     let item = Alloc event object size in
@@ -245,16 +245,16 @@ young_ready v n past a b event object size c r =
     )
 
 -- what is at a place of the nursery is in it, so it is made and not null
-in_nursery : (v : Both) (n : ℕ) (past : List Item) (a b o : ℕ) → IsReady v n past a b → place_at v.places o ≡ Nursery → Contains v.heap.nursery o
+in_nursery : (v : Both) (n : ℕ) (past : List Item) (a b o : ℕ) → IsReadyToCollect v n past a b → place_at v.places o ≡ Nursery → Contains v.heap.nursery o
 in_nursery v n past a b o r y = elim (r.places.only o) [
   | inl e ↦ nowhere_nursery (place_at v.places o) e y
   | inr x ↦ elim x [ inl c ↦ c | inr c ↦ old_nursery (place_at v.places o) (r.places.old o c) y ]
 ]
 
-in_nursery_made : (v : Both) (n : ℕ) (past : List Item) (a b o : ℕ) → IsReady v n past a b → place_at v.places o ≡ Nursery → is_made past o ≡ true
+in_nursery_made : (v : Both) (n : ℕ) (past : List Item) (a b o : ℕ) → IsReadyToCollect v n past a b → place_at v.places o ≡ Nursery → is_made past o ≡ true
 in_nursery_made v n past a b o r y = of_all (λ x. is_made past x ≡ true) v.heap.nursery o r.young_made (in_nursery v n past a b o r y)
 
-in_nursery_some : (v : Both) (n : ℕ) (past : List Item) (a b o : ℕ) → IsReady v n past a b → place_at v.places o ≡ Nursery → o ≢ 0
+in_nursery_some : (v : Both) (n : ℕ) (past : List Item) (a b o : ℕ) → IsReadyToCollect v n past a b → place_at v.places o ≡ Nursery → o ≢ 0
 in_nursery_some v n past a b o r y z = (let first = (in_range n past o r.fed (in_nursery_made v n past a b o r y)).0 in omega (arith, first, z))
 
 places_with : (v : Both) (n : ℕ) (past : List Item) (object : ℕ) → object < length v.places → ((o : ℕ) → Contains v.heap.nursery o → o ≢ object) → ((o : ℕ) → Contains v.heap.space o → o ≢ object) → KnowsPlaces v.places n v.heap.nursery v.heap.space → KnowsPlaces (with_place v.places object Old) n v.heap.nursery (v.heap.space ++ object ∷ [])
@@ -278,7 +278,7 @@ places_with v n past object within young old k =
     }
 
 -- a new object refers to nothing
-noted_with : (v : Both) (n : ℕ) (past : List Item) (a b event object size : ℕ) → object < length v.places → IsNewObject n past object size → IsReady v n past a b → AreNoted (placed_old object size v) (Alloc event object size ∷ past)
+noted_with : (v : Both) (n : ℕ) (past : List Item) (a b event object size : ℕ) → object < length v.places → IsNewObject n past object size → IsReadyToCollect v n past a b → AreNoted (placed_old object size v) (Alloc event object size ∷ past)
 noted_with v n past a b event object size within c r =
     let h = v.heap in
     let here = set_here v.places object Old within in
@@ -296,7 +296,7 @@ noted_with v n past a b event object size within c r =
       early = λ u t m nz un. r.noted.early u t m nz (unmade_before past (Alloc event object size) t un);
     }
 
-pub old_ready : (v : Both) (n : ℕ) (past : List Item) (a b event object size : ℕ) → IsNewObject n past object size → IsReady v n past a b → IsReady (placed_old object size v) n (Alloc event object size ∷ past) a b × ((placed_old object size v).heap ≡ place (Alloc event object size ∷ past) object v.heap)
+pub old_ready : (v : Both) (n : ℕ) (past : List Item) (a b event object size : ℕ) → IsNewObject n past object size → IsReadyToCollect v n past a b → IsReadyToCollect (placed_old object size v) n (Alloc event object size ∷ past) a b × ((placed_old object size v).heap ≡ place (Alloc event object size ∷ past) object v.heap)
 old_ready v n past a b event object size c r =
     let h = v.heap in
     let item = Alloc event object size in
@@ -330,7 +330,7 @@ old_ready v n past a b event object size c r =
       ap (λ (k : ℕ). record h { space = h.space ++ object ∷ []; peak = max h.peak k }) (plus_is v.young_bytes (bytes (item ∷ past) h.nursery) (v.old_bytes + size) (bytes (item ∷ past) (h.space ++ object ∷ [])) rest total),
     )
 
-pub left_ready : (v : Both) (n : ℕ) (past : List Item) (a b event object size : ℕ) → IsNewObject n past object size → IsReady v n past a b → IsReady (left_out event object size v) n (Alloc event object size ∷ past) a b × ((left_out event object size v).heap ≡ exhaust event v.heap)
+pub left_ready : (v : Both) (n : ℕ) (past : List Item) (a b event object size : ℕ) → IsNewObject n past object size → IsReadyToCollect v n past a b → IsReadyToCollect (left_out event object size v) n (Alloc event object size ∷ past) a b × ((left_out event object size v).heap ≡ exhaust event v.heap)
 left_ready v n past a b event object size c r =
     let h = v.heap in
     let item = Alloc event object size in
@@ -357,7 +357,7 @@ left_ready v n past a b event object size c r =
       refl,
     )
 
-pub ready_more : (v : Both) (n : ℕ) (past : List Item) (a b a' b' : ℕ) → a ≤ a' → b ≤ b' → IsReady v n past a b → IsReady v n past a' b'
+pub ready_more : (v : Both) (n : ℕ) (past : List Item) (a b a' b' : ℕ) → a ≤ a' → b ≤ b' → IsReadyToCollect v n past a b → IsReadyToCollect v n past a' b'
 ready_more v n past a b a' b' x y r = record {
   fed = r.fed;
   few = r.few;
@@ -377,7 +377,7 @@ ready_more v n past a b a' b' x y r = record {
 
 -- A DEATH
 
-pub died_ready : (v : Both) (n : ℕ) (past : List Item) (a b object time : ℕ) → IsReady v n past a b → IsReady (record v { dead = with_flag v.dead object }) n (Death object time ∷ past) a b
+pub died_ready : (v : Both) (n : ℕ) (past : List Item) (a b object time : ℕ) → IsReadyToCollect v n past a b → IsReadyToCollect (record v { dead = with_flag v.dead object }) n (Death object time ∷ past) a b
 died_ready v n past a b object time r = record {
   fed = (r.fed, tt);
   few = r.few;
@@ -441,7 +441,7 @@ ignored_slots slots n past event object slot new m k = record {
 }
 
 -- an object is made where the table has its bytes
-sized_made : (v : Both) (n : ℕ) (past : List Item) (a b o : ℕ) → IsReady v n past a b → is_made past o ≡ false → is_some (get_or v.sizes o None) ≡ false
+sized_made : (v : Both) (n : ℕ) (past : List Item) (a b o : ℕ) → IsReadyToCollect v n past a b → is_made past o ≡ false → is_some (get_or v.sizes o None) ≡ false
 sized_made v n past a b o r un = elim (less o (length v.sizes)) [
   | inl lt ↦ (let long = r.knows.sizes_long in ap (λ (s : Option ℕ). is_some s) (r.knows.size_is o (omega (arith, lt, long))) ∙ un)
   | inr ge ↦ ap (λ (s : Option ℕ). is_some s) (get_or_past v.sizes o None ge)
@@ -450,13 +450,13 @@ sized_made v n past a b o r un = elim (less o (length v.sizes)) [
     less : (a b : ℕ) → (a < b) ⊎ (b ≤ a)
     less a b = grind arith
 
-made_sized : (v : Both) (n : ℕ) (past : List Item) (a b o : ℕ) → IsReady v n past a b → is_made past o ≡ true → is_some (get_or v.sizes o None) ≡ true
+made_sized : (v : Both) (n : ℕ) (past : List Item) (a b o : ℕ) → IsReadyToCollect v n past a b → is_made past o ≡ true → is_some (get_or v.sizes o None) ≡ true
 made_sized v n past a b o r m = ap (λ (s : Option ℕ). is_some s) (r.knows.size_is o (in_range n past o r.fed m).1) ∙ m
 
 -- what is noted after an object was written to a slot
-wrote_noted : (v : Both) (n : ℕ) (past : List Item) (a b event object slot new : ℕ) (slots' : List (BTreeMap ℕ ℕ)) → WritesSlot v.slots slots' object slot new → IsReady v n past a b → AreNoted (record v { slots = slots'; remembered = (noted object new v).remembered; early = (noted object new v).early }) (Write event object slot new ∷ past)
+wrote_noted : (v : Both) (n : ℕ) (past : List Item) (a b event object slot new : ℕ) (slots' : List (BTreeMap ℕ ℕ)) → WritesSlot v.slots slots' object slot new → IsReadyToCollect v n past a b → AreNoted (record v { slots = slots'; remembered = (reference_noted object new v).remembered; early = (reference_noted object new v).early }) (Write event object slot new ∷ past)
 wrote_noted v n past a b event object slot new slots' w r =
-    let x = noted object new v in
+    let x = reference_noted object new v in
     record {
       young = λ u t k m y. elim (names_before v.slots slots' object slot new u t w m) [
         | inl e ↦
@@ -476,7 +476,7 @@ wrote_noted v n past a b event object slot new slots' w r =
       ];
     }
 
-with_slots : (v : Both) (n : ℕ) (past : List Item) (a b event object slot new : ℕ) (slots' : List (BTreeMap ℕ ℕ)) (remembered early : List ℕ) → KnowsSlots slots' n (Write event object slot new ∷ past) → AreNoted (record v { slots = slots'; remembered = remembered; early = early }) (Write event object slot new ∷ past) → IsReady v n past a b → IsReady (record v { slots = slots'; remembered = remembered; early = early }) n (Write event object slot new ∷ past) a b
+with_slots : (v : Both) (n : ℕ) (past : List Item) (a b event object slot new : ℕ) (slots' : List (BTreeMap ℕ ℕ)) (remembered early : List ℕ) → KnowsSlots slots' n (Write event object slot new ∷ past) → AreNoted (record v { slots = slots'; remembered = remembered; early = early }) (Write event object slot new ∷ past) → IsReadyToCollect v n past a b → IsReadyToCollect (record v { slots = slots'; remembered = remembered; early = early }) n (Write event object slot new ∷ past) a b
 with_slots v n past a b event object slot new slots' remembered early k noted_now r = record {
   fed = (r.fed, tt);
   few = r.few;
@@ -494,11 +494,11 @@ with_slots v n past a b event object slot new slots' remembered early k noted_no
   major_low = r.major_low;
 }
 
-pub wrote_ready : (v : Both) (n : ℕ) (past : List Item) (a b event object slot new : ℕ) (slots' : List (BTreeMap ℕ ℕ)) → is_made past object ≡ true → WritesSlot v.slots slots' object slot new → IsReady v n past a b → IsReady (record (noted object new v) { slots = slots' }) n (Write event object slot new ∷ past) a b
+pub wrote_ready : (v : Both) (n : ℕ) (past : List Item) (a b event object slot new : ℕ) (slots' : List (BTreeMap ℕ ℕ)) → is_made past object ≡ true → WritesSlot v.slots slots' object slot new → IsReadyToCollect v n past a b → IsReadyToCollect (record (reference_noted object new v) { slots = slots' }) n (Write event object slot new ∷ past) a b
 wrote_ready v n past a b event object slot new slots' m w r =
-    let x = noted object new v in
-    subst (λ (u : Both). IsReady (record u { slots = slots' }) n (Write event object slot new ∷ past) a b) (sym (noted_is object new v))
+    let x = reference_noted object new v in
+    subst (λ (u : Both). IsReadyToCollect (record u { slots = slots' }) n (Write event object slot new ∷ past) a b) (sym (noted_is object new v))
     (with_slots v n past a b event object slot new slots' x.remembered x.early (wrote_slots v.slots slots' n past event object slot new m w r.slots) (wrote_noted v n past a b event object slot new slots' w r) r)
 
-pub ignored_ready : (v : Both) (n : ℕ) (past : List Item) (a b event object slot new : ℕ) → is_made past object ≡ false → IsReady v n past a b → IsReady v n (Write event object slot new ∷ past) a b
+pub ignored_ready : (v : Both) (n : ℕ) (past : List Item) (a b event object slot new : ℕ) → is_made past object ≡ false → IsReadyToCollect v n past a b → IsReadyToCollect v n (Write event object slot new ∷ past) a b
 ignored_ready v n past a b event object slot new m r = with_slots v n past a b event object slot new v.slots v.remembered v.early (ignored_slots v.slots n past event object slot new m r.slots) (record { young = r.noted.young; early = r.noted.early }) r

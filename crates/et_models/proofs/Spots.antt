@@ -7,7 +7,7 @@ use Rattle.et_base.proofs.Lists.{Contains-none, Contains-here, Contains-there, C
 use Rattle.et_models.specs.declared.places.Place.{Place}
 use Rattle.et_models.specs.declared.places.Place.TheVariants.{Nowhere, Nursery, Kept, Old}
 use Rattle.et_models.specs.Tables.{flag_at}
-use Rattle.et_models.specs.Places.{place_at, with_place, is_kept, is_old, settled, without_one, without_dead, AreSettled}
+use Rattle.et_models.specs.Places.{place_at, with_place, is_kept, is_old, place_settled, without_one, without_dead, AreCollected}
 use Rattle.et_models.proofs.Coming.{cases_eqb}
 use Rattle.et_models.proofs.Contents.{cases_bool}
 use Rattle.et_models.proofs.Marking.{in_longer, at_end}
@@ -69,35 +69,35 @@ set_nowhere places o = elim (less o (length places)) [
 
 -- SETTLING
 
-pub settled_twice : (p : Place) → settled (settled p) ≡ settled p
+pub settled_twice : (p : Place) → place_settled (place_settled p) ≡ place_settled p
 settled_twice Nowhere = refl
 settled_twice Nursery = refl
 settled_twice Kept = refl
 settled_twice Old = refl
 
 -- a place that is set is the one that is set, or there is none
-settled_set : (places : List Place) (o : ℕ) → place_at (with_place places o (settled (place_at places o))) o ≡ settled (place_at places o)
+settled_set : (places : List Place) (o : ℕ) → place_at (with_place places o (place_settled (place_at places o))) o ≡ place_settled (place_at places o)
 settled_set places o = elim (less o (length places)) [
-  | inl lt ↦ set_here places o (settled (place_at places o)) lt
+  | inl lt ↦ set_here places o (place_settled (place_at places o)) lt
   | inr ge ↦
-      let long = length-set places o (settled (place_at places o)) in
+      let long = length-set places o (place_settled (place_at places o)) in
       let none : place_at places o ≡ Nowhere = get_or_past places o Nowhere ge in
-      get_or_past (with_place places o (settled (place_at places o))) o Nowhere (omega (arith, ge, long)) ∙ sym (ap settled none)
+      get_or_past (with_place places o (place_settled (place_at places o))) o Nowhere (omega (arith, ge, long)) ∙ sym (ap place_settled none)
 ]
 
-pub settle_none : (places : List Place) → AreSettled [] places places
+pub settle_none : (places : List Place) → AreCollected [] places places
 settle_none places = record { as_long = refl; moved = λ o c. absurd (Contains-none o c); each = λ o. inl refl }
 
-pub settle_more : (objects : List ℕ) (x : ℕ) (start places : List Place) → AreSettled objects start places → AreSettled (objects ++ x ∷ []) start (with_place places x (settled (place_at places x)))
+pub settle_more : (objects : List ℕ) (x : ℕ) (start places : List Place) → AreCollected objects start places → AreCollected (objects ++ x ∷ []) start (with_place places x (place_settled (place_at places x)))
 settle_more objects x start places s = record {
-  as_long = length-set places x (settled (place_at places x)) ∙ s.as_long;
+  as_long = length-set places x (place_settled (place_at places x)) ∙ s.as_long;
   moved = λ o c. elim (cases_eqb o x) [
-    | inl e ↦ subst (λ (k : ℕ). place_at (with_place places x (settled (place_at places x))) k ≡ settled (place_at start k)) (sym e.1) (settled_set places x ∙ of_start x)
-    | inr e ↦ set_there places x (settled (place_at places x)) o e.1 ∙ elim (in_longer objects x o c) [ inl f ↦ s.moved o f | inr q ↦ absurd (e.1 q) ]
+    | inl e ↦ subst (λ (k : ℕ). place_at (with_place places x (place_settled (place_at places x))) k ≡ place_settled (place_at start k)) (sym e.1) (settled_set places x ∙ of_start x)
+    | inr e ↦ set_there places x (place_settled (place_at places x)) o e.1 ∙ elim (in_longer objects x o c) [ inl f ↦ s.moved o f | inr q ↦ absurd (e.1 q) ]
   ];
   each = λ o. elim (cases_eqb o x) [
     | inl e ↦ inr (subst (λ (k : ℕ). Contains (objects ++ x ∷ []) k) (sym e.1) (at_end objects x))
-    | inr e ↦ elim (s.each o) [ inl f ↦ inl (set_there places x (settled (place_at places x)) o e.1 ∙ f) | inr c ↦ inr (longer objects x o c) ]
+    | inr e ↦ elim (s.each o) [ inl f ↦ inl (set_there places x (place_settled (place_at places x)) o e.1 ∙ f) | inr c ↦ inr (longer objects x o c) ]
   ];
 }
   where
@@ -108,8 +108,8 @@ settle_more objects x start places s = record {
       | inr t ↦ Contains-there y (xs ++ x ∷ []) o (longer xs x o t)
     ]
 
-    of_start : (k : ℕ) → settled (place_at places k) ≡ settled (place_at start k)
-    of_start k = elim (s.each k) [ inl e ↦ ap settled e | inr c ↦ ap settled (s.moved k c) ∙ settled_twice (place_at start k) ]
+    of_start : (k : ℕ) → place_settled (place_at places k) ≡ place_settled (place_at start k)
+    of_start k = elim (s.each k) [ inl e ↦ ap place_settled e | inr c ↦ ap place_settled (s.moved k c) ∙ settled_twice (place_at start k) ]
 
 -- THE DEAD ARE TAKEN OUT
 

@@ -11,12 +11,12 @@ use Rattle.et_replay.specs.declared.item.Item.TheVariants.{Alloc, Write, Death}
 use Rattle.et_replay.specs.declared.model.Kind.{Kind}
 use Rattle.et_replay.specs.declared.model.Kind.TheVariants.{Generational}
 use Rattle.et_replay.specs.declared.model.Policy.{Policy}
-use Rattle.et_replay.specs.Feeding.{MayCome, HasRoom}
+use Rattle.et_replay.specs.Feeding.{MayCome, HasItemRoom}
 use Rattle.et_replay.specs.Tally.{Heap, generations_on, generations_after, heap_by, heap_after, tally, is_exhausted}
 use Rattle.et_models.specs.Tables.{Knows}
 use Rattle.et_models.specs.declared.places.Place.{Place}
 use Rattle.et_models.specs.declared.places.Place.TheVariants.{Nowhere}
-use Rattle.et_models.specs.Generations.{Both, Opens, KnowsPlaces, IsReady, Steps, StandsAs, account_of}
+use Rattle.et_models.specs.Generations.{Both, Opens, KnowsPlaces, IsReadyToCollect, StepsBoth, StandsAs, account_of}
 
 -- AT FIRST
 
@@ -38,13 +38,13 @@ nothing m s t e f = absurd (none_some (sym f ∙ none))
     none_some : Some t ≡ None → ⊥
     none_some g = cc
 
-pub opened_ready : (v : Both) (first second n : ℕ) → n ≤ 16777215 → Opens first second n v → IsReady v n [] 0 0
+pub opened_ready : (v : Both) (first second n : ℕ) → n ≤ 16777215 → Opens first second n v → IsReadyToCollect v n [] 0 0
 opened_ready v first second n few o =
     let heap = o.heap_is in
     let nowhere : (x : ℕ) → get_or v.places x Nowhere ≡ Nowhere = λ x. ap (λ (p : List Place). get_or p x Nowhere) o.places_is ∙ all_same (n + 1) x Nowhere in
     let long : length v.places ≡ n + 1 = ap (λ (p : List Place). length p) o.places_is ∙ length-replicate (n + 1) Nowhere in
     let bare : KnowsPlaces v.places n [] [] = record { long = long; young = λ x c. absurd (Contains-none x c); only = λ x. inl (nowhere x); old = λ x c. absurd (Contains-none x c) } in
-    subst (λ (h : Heap). IsReady (record v { heap = h }) n [] 0 0) (sym heap) (record {
+    subst (λ (h : Heap). IsReadyToCollect (record v { heap = h }) n [] 0 0) (sym heap) (record {
       fed = tt;
       few = few;
       knows = record {
@@ -85,7 +85,7 @@ goes_on : (b : Bool) (x y : Heap) → b ≡ false → cond b x y ≡ y
 goes_on false x y e = refl
 goes_on true x y e = absurd cc
 
-pub stands_next : (own policy : Policy) (v v' : Both) (n : ℕ) (past : List Item) (item : Item) → is_some v.heap.exhausted ≡ false → MayCome n past item → Steps item v v' → StandsAs own policy v n past → StandsAs own policy v' n (item ∷ past)
+pub stands_next : (own policy : Policy) (v v' : Both) (n : ℕ) (past : List Item) (item : Item) → is_some v.heap.exhausted ≡ false → MayCome n past item → StepsBoth item v v' → StandsAs own policy v n past → StandsAs own policy v' n (item ∷ past)
 stands_next own policy v v' n past item room c s t = record {
   policy_is = t.policy_is;
   kind_is = t.kind_is;
@@ -118,7 +118,7 @@ stands_tally reached d own policy v n past t = ap (λ (p : Policy). account_of p
 pub stands_exhausted : (reached : Graph → ℕ → Bool) → Decides reached → (own policy : Policy) (v : Both) (n : ℕ) (past : List Item) → StandsAs own policy v n past → is_some v.heap.exhausted ≡ is_exhausted reached policy past
 stands_exhausted reached d own policy v n past t = ap (λ (h : Heap). is_some h.exhausted) (stands_heap reached d own policy v n past t)
 
-pub stands_room : (own policy : Policy) (v : Both) (n : ℕ) (past : List Item) → StandsAs own policy v n past → HasRoom policy past → is_some v.heap.exhausted ≡ false
+pub stands_room : (own policy : Policy) (v : Both) (n : ℕ) (past : List Item) → StandsAs own policy v n past → HasItemRoom policy past → is_some v.heap.exhausted ≡ false
 stands_room own policy v n past t r = stands_exhausted r.reached r.decides own policy v n past t ∙ r.room
 
 -- what may come after some items may come after all that the tables know

@@ -10,18 +10,18 @@ use Rattle.std.proofs.lemmas.List.Sums.{sum_by_push}
 use Rattle.et_replay.specs.declared.item.Item.{Item}
 use Rattle.et_replay.specs.declared.item.Item.TheVariants.{Alloc, Write, Death}
 use Rattle.et_replay.specs.Feeding.{MayCome, IsNewObject}
-use Rattle.et_replay.specs.Heap.{size_in, is_made, is_live, ends, bytes}
-use Rattle.et_replay.specs.Items.{made}
+use Rattle.et_replay.specs.Heap.{size_in, is_made, is_live, ends_life, bytes}
+use Rattle.et_replay.specs.Items.{made_objects}
 use Rattle.et_graph.specs.Graph.{Graph}
 use Rattle.et_replay.specs.declared.model.Kind.{Kind}
 use Rattle.et_replay.specs.declared.model.Report.{Report}
 use Rattle.et_models.specs.declared.space.Space.{Space}
-use Rattle.et_replay.specs.Tally.{heap_by, heap_after, tally, Heap, fits, live_of, collect, exhaust, place, place_with, space_on, space_after}
+use Rattle.et_replay.specs.Tally.{heap_by, heap_after, tally, Heap, fits_capacity, live_of, collect, exhaust, place, place_with, space_on, space_after}
 use Rattle.et_replay.proofs.ByKey.{filter_same}
 use Rattle.et_models.specs.Fed.{AreFed}
 use Rattle.et_models.specs.Tables.{size_at, flag_at, with_size, with_flag, Knows}
 use Rattle.et_replay.specs.declared.model.Policy.{Policy}
-use Rattle.et_models.specs.Spaces.{View, view_of, Accounts, account, collected, has_place, roomy, placed, unflagged, IsHeap}
+use Rattle.et_models.specs.Spaces.{View, view_of, Accounts, account, collected, has_place, roomy, object_placed, unflagged, IsReplayedHeap}
 use Rattle.et_models.proofs.Coming.{AreMade, in_range, cases_eqb, sum_same, bytes_stay, size_here, size_there, all_low, few_made}
 use Rattle.et_models.proofs.Facts.{HasFacts, facts_ready, space_facts}
 
@@ -35,9 +35,9 @@ live_test false b c h e = absurd cc
 
 pub unflagged_is : (n : ℕ) (past : List Item) (s : List (Option ℕ)) (d : List Bool) (xs : List ℕ) → AreFed n past → Knows s d n past → AreMade past xs → unflagged d xs ≡ live_of past xs
 unflagged_is n past s d xs f k m = filter_same (λ o. not (flag_at d o)) (is_live past) xs
-    (λ i e lt. (let o = get_or xs i e in live_test (is_made past o) (list_any (ends o) past) (flag_at d o) (m i e lt) (k.dead_is o (in_range n past o f (m i e lt)).1)))
+    (λ i e lt. (let o = get_or xs i e in live_test (is_made past o) (list_any (ends_life o) past) (flag_at d o) (m i e lt) (k.dead_is o (in_range n past o f (m i e lt)).1)))
 
-pub collected_is : (n : ℕ) (past : List Item) (v : View) (heap : Heap) (most : ℕ) → AreFed n past → IsHeap v n past heap → HasFacts past heap most → IsHeap (collected v) n past (collect past heap)
+pub collected_is : (n : ℕ) (past : List Item) (v : View) (heap : Heap) (most : ℕ) → AreFed n past → IsReplayedHeap v n past heap → HasFacts past heap most → IsReplayedHeap (collected v) n past (collect past heap)
 collected_is n past v heap most f h a =
     let live : unflagged v.dead v.held ≡ live_of past heap.space = ap (λ (xs : List ℕ). unflagged v.dead xs) h.held_is ∙ unflagged_is n past v.sizes v.dead heap.space f h.knows a.held in
     let stay : AreMade past (live_of past heap.space) = All-filter (is_live past) (λ o. is_made past o ≡ true) heap.space a.held in
@@ -55,13 +55,13 @@ collected_is n past v heap most f h a =
       exhausted_is = h.exhausted_is;
     }
 
-pub place_is : (n : ℕ) (past : List Item) (v : View) (heap : Heap) (size : ℕ) → IsHeap v n past heap → has_place size v ≡ fits past heap.space size v.capacity
+pub place_is : (n : ℕ) (past : List Item) (v : View) (heap : Heap) (size : ℕ) → IsReplayedHeap v n past heap → has_place size v ≡ fits_capacity past heap.space size v.capacity
 place_is n past v heap size h = ap (λ (b : ℕ). leb (b + size) v.capacity) h.bytes_is
 
-pub roomy_is : (n : ℕ) (past : List Item) (v : View) (heap : Heap) (most size : ℕ) → AreFed n past → IsHeap v n past heap → HasFacts past heap most → IsHeap (roomy size v) n past (cond (fits past heap.space size v.capacity) heap (collect past heap))
+pub roomy_is : (n : ℕ) (past : List Item) (v : View) (heap : Heap) (most size : ℕ) → AreFed n past → IsReplayedHeap v n past heap → HasFacts past heap most → IsReplayedHeap (roomy size v) n past (cond (fits_capacity past heap.space size v.capacity) heap (collect past heap))
 roomy_is n past v heap most size f h a =
-    subst (λ (b : Bool). IsHeap (roomy size v) n past (cond b heap (collect past heap))) (place_is n past v heap size h)
-    (elim (has_place size v) as (λ b. IsHeap (cond b v (collected v)) n past (cond b heap (collect past heap))) [ true ↦ h | false ↦ collected_is n past v heap most f h a ])
+    subst (λ (b : Bool). IsReplayedHeap (roomy size v) n past (cond b heap (collect past heap))) (place_is n past v heap size h)
+    (elim (has_place size v) as (λ b. IsReplayedHeap (cond b v (collected v)) n past (cond b heap (collect past heap))) [ true ↦ h | false ↦ collected_is n past v heap most f h a ])
 
 -- an object comes
 pub knows_more : (n : ℕ) (past : List Item) (s : List (Option ℕ)) (d : List Bool) (event object size : ℕ) → IsNewObject n past object size → Knows s d n past → Knows (with_size s object size) d n (Alloc event object size ∷ past)
@@ -85,8 +85,8 @@ knows_more n past s d event object size c k = record {
 zero_plus : (a b c : ℕ) → a ≡ 0 → b ≡ c → b ≡ a + c
 zero_plus a b c z e = omega arith
 
-pub placed_is : (n : ℕ) (past : List Item) (v : View) (heap : Heap) (most event object size : ℕ) → IsNewObject n past object size → IsHeap v n past heap → HasFacts past heap most
-    → IsHeap (placed event object size v) n (Alloc event object size ∷ past) (cond (fits past heap.space size v.capacity) (place (Alloc event object size ∷ past) object heap) (exhaust event heap))
+pub placed_is : (n : ℕ) (past : List Item) (v : View) (heap : Heap) (most event object size : ℕ) → IsNewObject n past object size → IsReplayedHeap v n past heap → HasFacts past heap most
+    → IsReplayedHeap (object_placed event object size v) n (Alloc event object size ∷ past) (cond (fits_capacity past heap.space size v.capacity) (place (Alloc event object size ∷ past) object heap) (exhaust event heap))
 placed_is n past v heap most event object size c h a =
     let item = Alloc event object size in
     let knows = knows_more n past v.sizes v.dead event object size c h.knows in
@@ -97,8 +97,8 @@ placed_is n past v heap most event object size c h a =
     let total : v.bytes + size ≡ bytes (item ∷ past) (heap.space ++ object ∷ []) = omega (arith, b, same, one, more) in
     let young : bytes (item ∷ past) heap.nursery ≡ 0 = ap (λ (xs : List ℕ). bytes (item ∷ past) xs) a.young in
     let both = zero_plus (bytes (item ∷ past) heap.nursery) (v.bytes + size) (bytes (item ∷ past) (heap.space ++ object ∷ [])) young total in
-    subst (λ (t : Bool). IsHeap (placed event object size v) n (item ∷ past) (cond t (place (item ∷ past) object heap) (exhaust event heap))) (place_is n past v heap size h)
-    (elim (has_place size v) as (λ t. IsHeap (cond t (record v { sizes = with_size v.sizes object size; held = v.held ++ object ∷ []; bytes = v.bytes + size; peak = max v.peak (v.bytes + size) }) (record v { sizes = with_size v.sizes object size; exhausted = Some event })) n (item ∷ past) (cond t (place (item ∷ past) object heap) (exhaust event heap))) [
+    subst (λ (t : Bool). IsReplayedHeap (object_placed event object size v) n (item ∷ past) (cond t (place (item ∷ past) object heap) (exhaust event heap))) (place_is n past v heap size h)
+    (elim (has_place size v) as (λ t. IsReplayedHeap (cond t (record v { sizes = with_size v.sizes object size; held = v.held ++ object ∷ []; bytes = v.bytes + size; peak = max v.peak (v.bytes + size) }) (record v { sizes = with_size v.sizes object size; exhausted = Some event })) n (item ∷ past) (cond t (place (item ∷ past) object heap) (exhaust event heap))) [
       | true ↦ record {
         knows = knows;
         held_is = ap (λ (xs : List ℕ). xs ++ object ∷ []) h.held_is;
@@ -122,27 +122,27 @@ placed_is n past v heap most event object size c h a =
     ])
 
 -- an object comes to a space that isn't exhausted
-pub came_is : (n : ℕ) (past : List Item) (v : View) (event object size : ℕ) → n ≤ 16777215 → AreFed n past → IsNewObject n past object size → v.exhausted ≡ None → IsHeap v n past (space_after v.capacity past)
-    → IsHeap (placed event object size (roomy size v)) n (Alloc event object size ∷ past) (space_after v.capacity (Alloc event object size ∷ past))
+pub came_is : (n : ℕ) (past : List Item) (v : View) (event object size : ℕ) → n ≤ 16777215 → AreFed n past → IsNewObject n past object size → v.exhausted ≡ None → IsReplayedHeap v n past (space_after v.capacity past)
+    → IsReplayedHeap (object_placed event object size (roomy size v)) n (Alloc event object size ∷ past) (space_after v.capacity (Alloc event object size ∷ past))
 came_is n past v event object size few f c none h =
     let heap = space_after v.capacity past in
     let a = space_facts n v.capacity past few f in
     let low = all_low n past few f in
     let on : (heap.exhausted ≡ None) = sym h.exhausted_is ∙ none in
     let goes : is_some heap.exhausted ≡ false = ap (λ (o : Option ℕ). is_some o) on in
-    let ready = cond (fits past heap.space size v.capacity) heap (collect past heap) in
-    let r = roomy_is n past v heap (length (made past)) size f h a in
-    let b = facts_ready past size v.capacity heap (length (made past)) low a in
-    let p = placed_is n past (roomy size v) ready (length (made past) + 1) event object size c r b in
+    let ready = cond (fits_capacity past heap.space size v.capacity) heap (collect past heap) in
+    let r = roomy_is n past v heap (length (made_objects past)) size f h a in
+    let b = facts_ready past size v.capacity heap (length (made_objects past)) low a in
+    let p = placed_is n past (roomy size v) ready (length (made_objects past) + 1) event object size c r b in
     let cap : (roomy size v).capacity ≡ v.capacity = elim (has_place size v) as (λ t. (cond t v (collected v)).capacity ≡ v.capacity) [ true ↦ refl | false ↦ refl ] in
-    let q = subst (λ (k : ℕ). IsHeap (placed event object size (roomy size v)) n (Alloc event object size ∷ past) (cond (fits past ready.space size k) (place (Alloc event object size ∷ past) object ready) (exhaust event ready))) cap p in
-    subst (λ (t : Bool). IsHeap (placed event object size (roomy size v)) n (Alloc event object size ∷ past) (cond t heap (space_on v.capacity past (Alloc event object size) heap))) (sym goes) q
+    let q = subst (λ (k : ℕ). IsReplayedHeap (object_placed event object size (roomy size v)) n (Alloc event object size ∷ past) (cond (fits_capacity past ready.space size k) (place (Alloc event object size ∷ past) object ready) (exhaust event ready))) cap p in
+    subst (λ (t : Bool). IsReplayedHeap (object_placed event object size (roomy size v)) n (Alloc event object size ∷ past) (cond t heap (space_on v.capacity past (Alloc event object size) heap))) (sym goes) q
 
 -- a Write item
-pub wrote_is : (n : ℕ) (past : List Item) (v : View) (event object slot new : ℕ) → v.exhausted ≡ None → IsHeap v n past (space_after v.capacity past) → IsHeap v n (Write event object slot new ∷ past) (space_after v.capacity (Write event object slot new ∷ past))
+pub wrote_is : (n : ℕ) (past : List Item) (v : View) (event object slot new : ℕ) → v.exhausted ≡ None → IsReplayedHeap v n past (space_after v.capacity past) → IsReplayedHeap v n (Write event object slot new ∷ past) (space_after v.capacity (Write event object slot new ∷ past))
 wrote_is n past v event object slot new none h =
     let heap = space_after v.capacity past in
-    subst (λ (g : Heap). IsHeap v n (Write event object slot new ∷ past) g) (elim (is_some heap.exhausted) as (λ t. heap ≡ cond t heap heap) [ true ↦ refl | false ↦ refl ])
+    subst (λ (g : Heap). IsReplayedHeap v n (Write event object slot new ∷ past) g) (elim (is_some heap.exhausted) as (λ t. heap ≡ cond t heap heap) [ true ↦ refl | false ↦ refl ])
     (record { knows = record { sizes_long = h.knows.sizes_long; dead_long = h.knows.dead_long; size_is = h.knows.size_is; dead_is = h.knows.dead_is }; held_is = h.held_is; bytes_is = h.bytes_is; major_is = h.major_is; kept_is = h.kept_is; freed_is = h.freed_is; peak_is = h.peak_is; exhausted_is = h.exhausted_is })
 
 -- a Death item
@@ -156,21 +156,21 @@ knows_death n past s d object time k = record {
         let same = e.1 in let long = k.dead_long in
         let within : object < length d = omega (arith, same, le, long) in
         let here : get_or (set d object true) object false ≡ true = rw get_or-set_same refl in
-        let told : list_any (ends object) (Death object time ∷ past) ≡ true = (let y : eqb object object ≡ true = grind (arith, nat_tests) in rw y refl) in
-        subst (λ (j : ℕ). get_or (set d object true) j false ≡ list_any (ends j) (Death object time ∷ past)) e.1 (here ∙ sym told)
+        let told : list_any (ends_life object) (Death object time ∷ past) ≡ true = (let y : eqb object object ≡ true = grind (arith, nat_tests) in rw y refl) in
+        subst (λ (j : ℕ). get_or (set d object true) j false ≡ list_any (ends_life j) (Death object time ∷ past)) e.1 (here ∙ sym told)
     | inr e ↦
         let ne : o ≢ object = (let far = e.1 in λ (q : o ≡ object). far (sym q)) in
         let there : get_or (set d object true) o false ≡ get_or d o false = rw get_or-set_other refl in
         let no : eqb object o ≡ false = e.0 in
-        let untold : list_any (ends o) (Death object time ∷ past) ≡ list_any (ends o) past = rw no refl in
+        let untold : list_any (ends_life o) (Death object time ∷ past) ≡ list_any (ends_life o) past = rw no refl in
         there ∙ (k.dead_is o le ∙ sym untold)
   ];
 }
 
-pub died_is : (n : ℕ) (past : List Item) (v : View) (object time : ℕ) → v.exhausted ≡ None → IsHeap v n past (space_after v.capacity past) → IsHeap (record v { dead = with_flag v.dead object }) n (Death object time ∷ past) (space_after v.capacity (Death object time ∷ past))
+pub died_is : (n : ℕ) (past : List Item) (v : View) (object time : ℕ) → v.exhausted ≡ None → IsReplayedHeap v n past (space_after v.capacity past) → IsReplayedHeap (record v { dead = with_flag v.dead object }) n (Death object time ∷ past) (space_after v.capacity (Death object time ∷ past))
 died_is n past v object time none h =
     let heap = space_after v.capacity past in
-    subst (λ (g : Heap). IsHeap (record v { dead = with_flag v.dead object }) n (Death object time ∷ past) g) (elim (is_some heap.exhausted) as (λ t. heap ≡ cond t heap heap) [ true ↦ refl | false ↦ refl ])
+    subst (λ (g : Heap). IsReplayedHeap (record v { dead = with_flag v.dead object }) n (Death object time ∷ past) g) (elim (is_some heap.exhausted) as (λ t. heap ≡ cond t heap heap) [ true ↦ refl | false ↦ refl ])
     (record { knows = knows_death n past v.sizes v.dead object time h.knows; held_is = h.held_is; bytes_is = h.bytes_is; major_is = h.major_is; kept_is = h.kept_is; freed_is = h.freed_is; peak_is = h.peak_is; exhausted_is = h.exhausted_is })
 
 -- what is kept is no more than all
@@ -189,7 +189,7 @@ pub record CanTake (v : View) (n : ℕ) : Type 0 where
   pub kept : v.kept ≤ v.major * 2 ^ 54
   pub short : length v.held < n
 
-pub can_take : (n : ℕ) (past : List Item) (v : View) (event object size : ℕ) → n ≤ 16777215 → AreFed n past → IsNewObject n past object size → IsHeap v n past (space_after v.capacity past) → CanTake v n
+pub can_take : (n : ℕ) (past : List Item) (v : View) (event object size : ℕ) → n ≤ 16777215 → AreFed n past → IsNewObject n past object size → IsReplayedHeap v n past (space_after v.capacity past) → CanTake v n
 can_take n past v event object size few f c h =
     let heap = space_after v.capacity past in
     let a = space_facts n v.capacity past few f in
@@ -208,7 +208,7 @@ can_take n past v event object size few f c h =
     }
 
 -- what may come after these items may come after all that the space stands for
-pub may_come : (n n' : ℕ) (past past' : List Item) (v : View) (heap heap' : Heap) (item : Item) → IsHeap v n past heap → IsHeap v n' past' heap' → MayCome n past item → MayCome n' past' item
+pub may_come : (n n' : ℕ) (past past' : List Item) (v : View) (heap heap' : Heap) (item : Item) → IsReplayedHeap v n past heap → IsReplayedHeap v n' past' heap' → MayCome n past item → MayCome n' past' item
 may_come n n' past past' v heap heap' (Alloc event object size) h h' c =
     let a = h.knows.sizes_long in let b = h'.knows.sizes_long in
     let last = c.last in
@@ -233,17 +233,17 @@ can_place v n size small t = elim (has_place size v) as (λ b. CanPlace (cond b 
       record { fits = omega (arith, le, sums, low, small); short = omega (arith, both, short) }
 ]
 
-pub placed_capacity : (event object size : ℕ) (v : View) → (placed event object size (roomy size v)).capacity ≡ v.capacity
+pub placed_capacity : (event object size : ℕ) (v : View) → (object_placed event object size (roomy size v)).capacity ≡ v.capacity
 placed_capacity event object size v = after_place (roomy size v) ∙ after_room
   where
     after_room : (roomy size v).capacity ≡ v.capacity
     after_room = elim (has_place size v) as (λ b. (cond b v (collected v)).capacity ≡ v.capacity) [ true ↦ refl | false ↦ refl ]
 
-    after_place : (u : View) → (placed event object size u).capacity ≡ u.capacity
+    after_place : (u : View) → (object_placed event object size u).capacity ≡ u.capacity
     after_place u = elim (has_place size u) as (λ b. (cond b (record u { sizes = with_size u.sizes object size; held = u.held ++ object ∷ []; bytes = u.bytes + size; peak = max u.peak (u.bytes + size) }) (record u { sizes = with_size u.sizes object size; exhausted = Some event })).capacity ≡ u.capacity) [ true ↦ refl | false ↦ refl ]
 
 -- the account of a space
-pub is_account : (n : ℕ) (past : List Item) (v : View) (policy : Policy) (heap : Heap) → IsHeap v n past heap → account policy v ≡ record { kind = policy.kind; first = policy.first; second = policy.second; minor = 0; major = heap.major; kept = heap.kept; freed = heap.freed; peak = heap.peak; exhausted = heap.exhausted }
+pub is_account : (n : ℕ) (past : List Item) (v : View) (policy : Policy) (heap : Heap) → IsReplayedHeap v n past heap → account policy v ≡ record { kind = policy.kind; first = policy.first; second = policy.second; minor = 0; major = heap.major; kept = heap.kept; freed = heap.freed; peak = heap.peak; exhausted = heap.exhausted }
 is_account n past v policy heap h =
     let a = h.major_is in let b = h.kept_is in let c = h.freed_is in let d = h.peak_is in let e = h.exhausted_is in
     cc
@@ -253,13 +253,13 @@ report_by policy heap = record { kind = policy.kind; first = policy.first; secon
 
 -- one space has no minor collections
 no_minor_with : (capacity : ℕ) (past : List Item) (event object size : ℕ) (heap : Heap) → heap.minor ≡ 0 → (place_with collect capacity past event object size heap).minor ≡ 0
-no_minor_with capacity past event object size heap h = settled (cond (fits past heap.space size capacity) heap (collect past heap)) ready
+no_minor_with capacity past event object size heap h = settled (cond (fits_capacity past heap.space size capacity) heap (collect past heap)) ready
   where
-    ready : (cond (fits past heap.space size capacity) heap (collect past heap)).minor ≡ 0
-    ready = elim (fits past heap.space size capacity) as (λ b. (cond b heap (collect past heap)).minor ≡ 0) [ true ↦ h | false ↦ h ]
+    ready : (cond (fits_capacity past heap.space size capacity) heap (collect past heap)).minor ≡ 0
+    ready = elim (fits_capacity past heap.space size capacity) as (λ b. (cond b heap (collect past heap)).minor ≡ 0) [ true ↦ h | false ↦ h ]
 
-    settled : (g : Heap) → g.minor ≡ 0 → (cond (fits past g.space size capacity) (place (Alloc event object size ∷ past) object g) (exhaust event g)).minor ≡ 0
-    settled g e = elim (fits past g.space size capacity) as (λ b. (cond b (place (Alloc event object size ∷ past) object g) (exhaust event g)).minor ≡ 0) [ true ↦ e | false ↦ e ]
+    settled : (g : Heap) → g.minor ≡ 0 → (cond (fits_capacity past g.space size capacity) (place (Alloc event object size ∷ past) object g) (exhaust event g)).minor ≡ 0
+    settled g e = elim (fits_capacity past g.space size capacity) as (λ b. (cond b (place (Alloc event object size ∷ past) object g) (exhaust event g)).minor ≡ 0) [ true ↦ e | false ↦ e ]
 
 no_minor_on : (capacity : ℕ) (past : List Item) (item : Item) (heap : Heap) → heap.minor ≡ 0 → (space_on capacity past item heap).minor ≡ 0
 no_minor_on capacity past (Alloc event object size) heap h = no_minor_with capacity past event object size heap h

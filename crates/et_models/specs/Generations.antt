@@ -9,14 +9,14 @@ use Rattle.et_replay.specs.declared.item.Item.{Item}
 use Rattle.et_replay.specs.declared.model.Policy.{Policy}
 use Rattle.et_replay.specs.declared.model.Report.{Report}
 use Rattle.et_replay.specs.Heap.{bytes, is_made, content}
-use Rattle.et_replay.specs.Items.{made, sizes}
+use Rattle.et_replay.specs.Items.{made_objects, sizes}
 use Rattle.et_replay.specs.Feeding.{MayCome}
 use Rattle.et_replay.specs.declared.model.Kind.TheVariants as kinds
 use Rattle.et_replay.specs.Tally.{Heap, empty_heap, generations_on, generations_after}
 use Rattle.et_models.specs.Fed.{AreFed}
 use Rattle.et_models.specs.Tables.{size_at, with_size, Knows}
-use Rattle.et_models.specs.Places.{place_at, with_place, is_nursery, is_kept, is_old, without_dead, AreSettled}
-use Rattle.et_models.specs.Marking.{Names, Begins, IsFound}
+use Rattle.et_models.specs.Places.{place_at, with_place, is_nursery, is_kept, is_old, without_dead, AreCollected}
+use Rattle.et_models.specs.Marking.{NamesInSlot, BeginsMarking, IsFound}
 use Rattle.et_models.specs.Spaces.{unflagged}
 use Rattle.et_models.specs.declared.places.Place.{Place}
 use Rattle.et_models.specs.declared.places.Place.TheVariants.{Nowhere, Nursery, Old}
@@ -84,8 +84,8 @@ abbrev pub left_out : ℕ → ℕ → ℕ → Both → Both
 left_out event object size v = record v { sizes = with_size v.sizes object size; heap = record v.heap { exhausted = Some event } }
 
 -- after an object was given another: one that isn't made, or one of the nursery to one of the old space
-abbrev pub noted : ℕ → ℕ → Both → Both
-noted object new v =
+abbrev pub reference_noted : ℕ → ℕ → Both → Both
+reference_noted object new v =
     if new == 0 then v
     else if is_some (slice_index_or v.sizes new None) then (if is_old (place_at v.places object) && is_nursery (place_at v.places new) then record v { remembered = insert_key nat_eq v.remembered object } else v)
     else record v { early = insert_key nat_eq v.early object }
@@ -106,8 +106,8 @@ promoted marked places v =
 -- a minor collection marked what is reached, and promoted it
 pub record Promotes (v v' : Both) : Type 0 where
   pub marked : List Place
-  pub found : (g : Graph) (space : List ℕ) → Begins g v.heap.nursery space (v.remembered ++ v.early) v.dead v.slots v.places → IsFound g v.places marked
-  pub cleared : AreSettled v.heap.nursery marked v'.places
+  pub found : (g : Graph) (space : List ℕ) → BeginsMarking g v.heap.nursery space (v.remembered ++ v.early) v.dead v.slots v.places → IsFound g v.places marked
+  pub cleared : AreCollected v.heap.nursery marked v'.places
   pub is : v' ≡ promoted marked v'.places v
 
 -- each slot has what the items say
@@ -124,11 +124,11 @@ pub record KnowsPlaces (places : List Place) (objects : ℕ) (nursery space : Li
 
 -- an object of the old space that refers to the nursery is noted, and so is each that refers to an object that isn't made
 pub record AreNoted (v : Both) (past : List Item) : Type 0 where
-  pub young : (u t : ℕ) → Contains v.heap.space u → Names v.slots u t → place_at v.places t ≡ Nursery → Contains (v.remembered ++ v.early) u
-  pub early : (u t : ℕ) → Names v.slots u t → t ≢ 0 → is_made past t ≡ false → Contains v.early u
+  pub young : (u t : ℕ) → Contains v.heap.space u → NamesInSlot v.slots u t → place_at v.places t ≡ Nursery → Contains (v.remembered ++ v.early) u
+  pub early : (u t : ℕ) → NamesInSlot v.slots u t → t ≢ 0 → is_made past t ≡ false → Contains v.early u
 
 -- the tables tell what the items so far say, and the numbers are low: at most so many minor and major collections
-pub record IsReady (v : Both) (objects : ℕ) (past : List Item) (minor major : ℕ) : Type 0 where
+pub record IsReadyToCollect (v : Both) (objects : ℕ) (past : List Item) (minor major : ℕ) : Type 0 where
   pub fed : AreFed objects past
   pub few : objects ≤ 16777215
   pub knows : Knows v.sizes v.dead objects past
@@ -158,10 +158,10 @@ pub record Collects (v v' : Both) : Type 0 where
 
 -- between two items, each collection was for one object
 abbrev pub IsStable : Both → ℕ → List Item → Type 0
-IsStable v objects past = IsReady v objects past (length (made past)) (length (made past))
+IsStable v objects past = IsReadyToCollect v objects past (length (made_objects past)) (length (made_objects past))
 
 -- the item is taken as the policy has it
-pub record Steps (item : Item) (v v' : Both) : Type 0 where
+pub record StepsBoth (item : Item) (v v' : Both) : Type 0 where
   pub first_is : v'.first ≡ v.first
   pub second_is : v'.second ≡ v.second
   pub stable : (objects : ℕ) (past : List Item) → MayCome objects past item → IsStable v objects past → IsStable v' objects (item ∷ past)

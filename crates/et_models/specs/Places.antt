@@ -23,15 +23,15 @@ is_old Old = true
 is_old _ = false
 
 -- after a minor collection: what is kept goes to the old space, and the rest of the nursery is gone
-abbrev pub settled : Place → Place
-settled Kept = Old
-settled Old = Old
-settled _ = Nowhere
+abbrev pub place_settled : Place → Place
+place_settled Kept = Old
+place_settled Old = Old
+place_settled _ = Nowhere
 
 -- these objects settled, and the others stay where they are
-pub record AreSettled (objects : List ℕ) (places places' : List Place) : Type 0 where
+pub record AreCollected (objects : List ℕ) (places places' : List Place) : Type 0 where
   pub as_long : length places' ≡ length places
-  pub moved : (o : ℕ) → Contains objects o → place_at places' o ≡ settled (place_at places o)
+  pub moved : (o : ℕ) → Contains objects o → place_at places' o ≡ place_settled (place_at places o)
   pub each : (o : ℕ) → (place_at places' o ≡ place_at places o) ⊎ Contains objects o
 
 -- without an object, where it is dead

@@ -60,8 +60,8 @@ abbrev pub roomy : ℕ → View → View
 roomy size v = if has_place size v then v else collected v
 
 -- after an object came
-abbrev pub placed : ℕ → ℕ → ℕ → View → View
-placed event object size v =
+abbrev pub object_placed : ℕ → ℕ → ℕ → View → View
+object_placed event object size v =
     if has_place size v
     then record v { sizes = with_size v.sizes object size; held = v.held ++ object ∷ []; bytes = v.bytes + size; peak = max v.peak (v.bytes + size) }
     else record v { sizes = with_size v.sizes object size; exhausted = Some event }
@@ -71,7 +71,7 @@ abbrev pub account : Policy → View → Report
 account policy v = record { kind = policy.kind; first = policy.first; second = policy.second; minor = 0; major = v.major; kept = v.kept; freed = v.freed; peak = v.peak; exhausted = v.exhausted }
 
 -- the running totals are those of the heap
-pub record IsHeap (v : View) (objects : ℕ) (past : List Item) (heap : Heap) : Type 0 where
+pub record IsReplayedHeap (v : View) (objects : ℕ) (past : List Item) (heap : Heap) : Type 0 where
   pub knows : Knows v.sizes v.dead objects past
   pub held_is : v.held ≡ heap.space
   pub bytes_is : v.bytes ≡ bytes past heap.space
@@ -85,7 +85,7 @@ pub record IsHeap (v : View) (objects : ℕ) (past : List Item) (heap : Heap) : 
 pub record IsSpaceOf (space : Space) (objects : ℕ) (past : List Item) : Type 0 where
   pub fed : AreFed objects past
   pub few : objects ≤ 16777215
-  pub heap : IsHeap (view_of space) objects past (space_after space.capacity past)
+  pub heap : IsReplayedHeap (view_of space) objects past (space_after space.capacity past)
   pub room : objects ≤ vec_capacity space.held
 
 -- .. and accounts for them by the policy, which is of this kind and gives the space this capacity

@@ -2,7 +2,7 @@
 use Rattle.std.specs.Prelude.{◌≡◌, ℕ, ◌+◌, ◌≤◌, Bool, true, false, List, length, slice_index_or, slice_set, Option, Some, None, unwrap_or}
 use Rattle.std.specs.List.{list_any}
 use Rattle.et_replay.specs.declared.item.Item.{Item}
-use Rattle.et_replay.specs.Heap.{ends, size_in}
+use Rattle.et_replay.specs.Heap.{ends_life, size_in}
 
 abbrev pub size_at : List (Option ℕ) → ℕ → ℕ
 size_at sizes object = unwrap_or (slice_index_or sizes object None) 0
@@ -21,4 +21,4 @@ pub record Knows (sizes : List (Option ℕ)) (dead : List Bool) (objects : ℕ) 
   pub sizes_long : length sizes ≡ objects + 1
   pub dead_long : length dead ≡ objects + 1
   pub size_is : (object : ℕ) → object ≤ objects → slice_index_or sizes object None ≡ size_in past object
-  pub dead_is : (object : ℕ) → object ≤ objects → flag_at dead object ≡ list_any (ends object) past
+  pub dead_is : (object : ℕ) → object ≤ objects → flag_at dead object ≡ list_any (ends_life object) past

@@ -33,7 +33,7 @@ impl Generational {
 impl HeapModel for Generational {
     ghost use Rattle.std.specs.Prelude.{◌≡◌, ◌≤◌, ℕ, Bool, List, [], ◌∷◌, OnOk};
     ghost use Rattle.et_graph.specs.Graph.{Graph, Decides};
-    ghost use Rattle.et_replay.specs.Feeding.{MayCome, HasRoom, OnTaken, TellsExhausted};
+    ghost use Rattle.et_replay.specs.Feeding.{MayCome, HasItemRoom, OnTaken, TellsExhausted};
     ghost use Rattle.et_replay.specs.Tally.{tally, is_exhausted};
     ghost use Rattle.et_replay.specs.declared.item.Item.{Item};
     ghost use Rattle.et_replay.specs.declared.model.Policy.{Policy};

@@ -4,7 +4,7 @@ ghost use Rattle.std.specs.List.{sum_by};
 ghost use Rattle.et_replay.specs.Feeding.{MayCome};
 ghost use Rattle.et_replay.specs.declared.item.Item.{Item};
 ghost use Rattle.et_replay.specs.declared.item.Item.TheVariants.{Alloc, Write, Death};
-ghost use Rattle.et_models.specs.Generations.{both_of, new_both, swept, placed_young, placed_old, left_out, noted, Opens, Promotes, Collects, IsStable, Steps, account_of};
+ghost use Rattle.et_models.specs.Generations.{both_of, new_both, swept, placed_young, placed_old, left_out, reference_noted, Opens, Promotes, Collects, IsStable, StepsBoth, account_of};
 ghost use Rattle.et_models.specs.Tables.{size_at};
 
 use crate::marks::{push_kept, search_nursery, settle, take_dead};
@@ -199,7 +199,7 @@ impl Generations {
         requires small { size ≤ 2 ^ 30 }
         requires fits { size ≤ self.old.first }
         ensures { OnOk result
-            (Steps (Alloc event object size) (both_of self.old) (both_of self.new)) }
+            (StepsBoth (Alloc event object size) (both_of self.old) (both_of self.new)) }
     {
         if self.nursery_bytes + u64::from(size) <= self.first {
             self.place_young(object, size)?;
@@ -221,7 +221,7 @@ impl Generations {
         requires small { size ≤ 2 ^ 30 }
         requires large { self.old.first < size }
         ensures { OnOk result
-            (Steps (Alloc event object size) (both_of self.old) (both_of self.new)) }
+            (StepsBoth (Alloc event object size) (both_of self.old) (both_of self.new)) }
     {
         let bytes = u64::from(size);
         if self.space_bytes + bytes <= self.second {
@@ -239,7 +239,7 @@ impl Generations {
 
     /// Remembers the object, if it is given one that a minor collection has to find through it.
     fn note(&mut self, object: u32, new: u32) -> Result<(), NoMemory>
-        ensures { OnOk result (both_of self.new ≡ noted object new (both_of self.old)) }
+        ensures { OnOk result (both_of self.new ≡ reference_noted object new (both_of self.old)) }
     {
         if new == 0 {
             return Ok(());
@@ -258,7 +258,7 @@ impl Generations {
         requires ready { (objects : ℕ)
             × (past : List Item) × IsStable (both_of self.old) objects past }
         ensures { OnOk result ((event : ℕ) →
-            Steps (Write event object slot new) (both_of self.old) (both_of self.new)) }
+            StepsBoth (Write event object slot new) (both_of self.old) (both_of self.new)) }
     {
         if !is_sized(&self.sizes, object) {
             return Ok(());
@@ -270,7 +270,7 @@ impl Generations {
 
     /// An object ends.
     fn end(&mut self, object: u32)
-        ensures { (time : ℕ) → Steps (Death object time) (both_of self.old) (both_of self.new) }
+        ensures { (time : ℕ) → StepsBoth (Death object time) (both_of self.old) (both_of self.new) }
     {
         set_flag(&mut self.dead, object);
     }
@@ -296,7 +296,7 @@ impl Generations {
     pub fn take(&mut self, item: &Item) -> Result<(), NoMemory>
         requires ready { (objects : ℕ) × (past : List Item)
             × IsStable (both_of self.old) objects past × MayCome objects past item.now }
-        ensures { OnOk result (Steps item.now (both_of self.old) (both_of self.new)) }
+        ensures { OnOk result (StepsBoth item.now (both_of self.old) (both_of self.new)) }
     {
         match item {
             Item::Alloc {

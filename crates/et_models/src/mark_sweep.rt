@@ -33,7 +33,7 @@ impl MarkSweep {
 impl HeapModel for MarkSweep {
     ghost use Rattle.std.specs.Prelude.{◌≡◌, ◌≢◌, ◌≤◌, ◌/◌, ℕ, Bool, List, [], ◌∷◌, OnOk};
     ghost use Rattle.et_graph.specs.Graph.{Graph, Decides};
-    ghost use Rattle.et_replay.specs.Feeding.{MayCome, HasRoom, OnTaken, TellsExhausted};
+    ghost use Rattle.et_replay.specs.Feeding.{MayCome, HasItemRoom, OnTaken, TellsExhausted};
     ghost use Rattle.et_replay.specs.Tally.{tally, is_exhausted};
     ghost use Rattle.et_replay.specs.declared.item.Item.{Item};
     ghost use Rattle.et_replay.specs.declared.model.Policy.{Policy};
@@ -61,7 +61,7 @@ impl HeapModel for MarkSweep {
     fn feed(&mut self, item: &Item) -> Fed
         requires stands { (policy : Policy) × (objects : ℕ) × (past : List Item)
             × ⟦<MarkSweep as HeapModel>⟧.stands_for self.old policy objects past
-            × HasRoom policy past × MayCome objects past item.now }
+            × HasItemRoom policy past × MayCome objects past item.now }
         ensures taken { (policy : Policy) (objects : ℕ) (past : List Item) →
             ⟦<MarkSweep as HeapModel>⟧.stands_for self.old policy objects past → OnTaken result
             (⟦<MarkSweep as HeapModel>⟧.stands_for self.new policy objects (item.now ∷ past)) }

@@ -1,7 +1,7 @@
 //! What a minor collection keeps.
 ghost use Rattle.std.specs.Prelude.{◌≡◌, ◌++◌, [], ℕ, List, filter, Contains, OnOk};
-ghost use Rattle.et_models.specs.Marking.{Refers, Marks, AllMarked, Draws, IsGoing, IsSeed, Begins, IsFound};
-ghost use Rattle.et_models.specs.Places.{place_at, is_kept, is_old, without_dead, AreSettled};
+ghost use Rattle.et_models.specs.Marking.{Refers, MarksFrom, AllMarked, Draws, IsMarking, IsSeed, BeginsMarking, IsFound};
+ghost use Rattle.et_models.specs.Places.{place_at, is_kept, is_old, without_dead, AreCollected};
 ghost use Rattle.et_models.specs.declared.places.Place.{Place};
 ghost use Rattle.et_graph.specs.Graph.{Graph};
 
@@ -12,7 +12,7 @@ use std::collections::BTreeMap;
 
 /// Marks an object of the nursery, and lets it be visited.
 fn mark(object: u32, places: &mut [Place], work: &mut Vec<u32>) -> Result<(), NoMemory>
-    ensures { OnOk result (Marks (λ o. o ≡ object) places.old
+    ensures { OnOk result (MarksFrom (λ o. o ≡ object) places.old
         work.old.items places.new work.new.items × AllMarked (λ o. o ≡ object) places.new) }
 {
     let Place::Nursery = place_at(places, object) else {
@@ -30,7 +30,7 @@ fn seed(
     places: &mut [Place],
     work: &mut Vec<u32>,
 ) -> Result<(), NoMemory>
-    ensures { OnOk result (Marks (IsSeed nursery.now dead.now) places.old work.old.items
+    ensures { OnOk result (MarksFrom (IsSeed nursery.now dead.now) places.old work.old.items
         places.new work.new.items × AllMarked (IsSeed nursery.now dead.now) places.new) }
 {
     for object in nursery {
@@ -47,7 +47,7 @@ fn visit(
     places: &mut [Place],
     work: &mut Vec<u32>,
 ) -> Result<(), NoMemory>
-    ensures { OnOk result (Marks (Refers slots.now) places.old
+    ensures { OnOk result (MarksFrom (Refers slots.now) places.old
         work.old.items places.new work.new.items × AllMarked (Refers slots.now) places.new) }
 {
     for (_slot, target) in slots {
@@ -63,8 +63,9 @@ fn follow(
     work: &mut Vec<u32>,
 ) -> Result<(), NoMemory>
     ensures { OnOk result ((g : Graph) (space : List ℕ) (start : List Place) →
-        Draws g slots.now space start → IsGoing g slots.now space start places.old work.old.items →
-        IsGoing g slots.now space start places.new []) }
+        Draws g slots.now space start → IsMarking g slots.now space start places.old work.old.items
+        →
+        IsMarking g slots.now space start places.new []) }
 {
     while let Some(object) = work.pop() {
         if (object as usize) < slots.len() {
@@ -98,7 +99,8 @@ pub fn search_nursery(
     places: &mut [Place],
     work: &mut Vec<u32>,
 ) -> Result<(), NoMemory>
-    ensures { OnOk result ((g : Graph) (space : List ℕ) → Begins g nursery.now space (remembered.now
+    ensures { OnOk result ((g : Graph) (space : List ℕ) → BeginsMarking g nursery.now space
+        (remembered.now
         ++ early.now) dead.now slots.now places.old → IsFound g places.old places.new) }
 {
     work.clear();
@@ -124,7 +126,7 @@ pub fn push_kept(objects: &[u32], places: &[Place], kept: &mut Vec<u32>) -> Resu
 
 /// Takes the objects out of the nursery: what was marked goes to the old space.
 pub fn settle(objects: &[u32], places: &mut [Place])
-    ensures { AreSettled objects.now places.old places.new }
+    ensures { AreCollected objects.now places.old places.new }
 {
     for object in objects {
         let place = place_at(places, *object).settled();

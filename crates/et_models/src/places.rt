@@ -17,11 +17,11 @@ pub enum Place {
 
 impl Place {
     ghost use Rattle.std.specs.Prelude.{◌≡◌};
-    ghost use Rattle.et_models.specs.Places.{settled};
+    ghost use Rattle.et_models.specs.Places.{place_settled};
 
     /// Where an object is after a minor collection.
     pub fn settled(self) -> Place
-        ensures { result ≡ settled self }
+        ensures { result ≡ place_settled self }
     {
         match self {
             Place::Kept | Place::Old => Place::Old,

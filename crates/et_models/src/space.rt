@@ -5,7 +5,7 @@ ghost use Rattle.et_graph.specs.Graph.{Graph};
 ghost use Rattle.et_replay.specs.Feeding.{MayCome};
 ghost use Rattle.et_replay.specs.Tally.{space_after};
 ghost use Rattle.et_replay.specs.declared.item.Item.{Item};
-ghost use Rattle.et_models.specs.Spaces.{view_of, new_view, account, collected, roomy, placed, IsSpaceOf};
+ghost use Rattle.et_models.specs.Spaces.{view_of, new_view, account, collected, roomy, object_placed, IsSpaceOf};
 ghost use Rattle.et_models.specs.Tables.{size_at};
 
 use crate::tables::{bytes_of, keep_unflagged, push_within, set_flag, set_size};
@@ -105,7 +105,7 @@ impl Space {
     fn place(&mut self, event: u64, object: u32, size: u32)
         requires bytes { self.old.bytes + size < 2 ^ 64 }
         requires room { length self.old.held.items < vec_capacity self.old.held }
-        ensures view { view_of self.new ≡ placed event object size (view_of self.old) }
+        ensures view { view_of self.new ≡ object_placed event object size (view_of self.old) }
         ensures room { vec_capacity self.old.held ≤ vec_capacity self.new.held }
     {
         set_size(&mut self.sizes, object, size);

@@ -18,7 +18,7 @@ use Rattle.et_event.specs.declared.rows.Number.TheVariants as number
 use Rattle.et_event.specs.declared.rows.Division.{Division}
 use Rattle.et_event.specs.Answered.{EventAnswers}
 use Rattle.et_event.specs.Checks.{with_int, with_long}
-use Rattle.et_event.specs.Moments.{Moment, moment, frame_of, begins, ill_typed, throws}
+use Rattle.et_event.specs.Moments.{Moment, moment, current_frame, begins, ill_typed, throws}
 use Rattle.et_event.specs.Sites.{Site}
 use Rattle.et_event.specs.Plain.{put, on_frame, divided, divides, quotient}
 use Rattle.et_ops.specs.declared.divisions.Divided.TheVariants as ends
@@ -29,7 +29,7 @@ use Rattle.et_parts.proofs.Answering.{ill_typed_end, steps_done, steps_refused, 
 abbrev outcome_of : Moment → Site → Option (Option (List Value)) → Outcome Kept
 outcome_of e at None = ill_typed e
 outcome_of e at (Some None) = throws e ArithmeticException (begins e)
-outcome_of e at (Some (Some operands)) = on_frame e (put at.next operands (frame_of e))
+outcome_of e at (Some (Some operands)) = on_frame e (put at.next operands (current_frame e))
 
 by_quotient : (e : Moment) (at : Site) (n : Option ℤ) (operands : ℤ → List Value) → quotient e at n operands ≡ outcome_of e at (Some (option_map operands n))
 by_quotient e at None operands = refl
@@ -89,9 +89,9 @@ longs e at o (LongHigh ∷ Ref r ∷ vs) = refl
 longs e at o (Null ∷ vs) = refl
 longs e at o (Ref r ∷ vs) = refl
 
-divides_by : (e : Moment) (at : Site) (n : Number) (o : Division) → divides e at n o ≡ outcome_of e at (quotients n o (frame_of e).operands)
-divides_by e at number.Int o = ints e at o (frame_of e).operands
-divides_by e at number.Long o = longs e at o (frame_of e).operands
+divides_by : (e : Moment) (at : Site) (n : Number) (o : Division) → divides e at n o ≡ outcome_of e at (quotients n o (current_frame e).operands)
+divides_by e at number.Int o = ints e at o (current_frame e).operands
+divides_by e at number.Long o = longs e at o (current_frame e).operands
 
 -- WHAT A DIVISION ANSWERS
 

@@ -16,7 +16,7 @@ use Rattle.et_heap.proofs.HeapLists.{held_within}
 use Rattle.et_state.specs.Threads.{FrameState, at_pc, pushed}
 use Rattle.et_state.specs.ThreadRoots.{frame_roots}
 use Rattle.et_state.specs.State.{GuestState, Kept, MachineState, kept_of}
-use Rattle.et_state.specs.Interned.{object_of, text_of, objects_of}
+use Rattle.et_state.specs.Interned.{object_of, interned_text, interned_objects}
 use Rattle.et_state.specs.Words.{top, with_top, HasFrame, ticked, begun, steps_top, with_guest, with_string}
 use Rattle.et_state.specs.Roots.{graph_of}
 use Rattle.et_state.specs.Sound.{IsSound}
@@ -31,8 +31,8 @@ use Rattle.et_state.specs.declared.ends.EventEnd.TheVariants as ends
 use Rattle.et_state.specs.Outcome.{Outcome, Goes, ObjectLimit}
 use Rattle.et_program.specs.Entries.{Linked, class_at}
 use Rattle.et_event.specs.Errors.{class_called}
-use Rattle.et_event.specs.Moments.{Moment, moment, Doing, frame_of, begins, instance_made, next_object, with_frame, ends as ending, fits, ill_typed}
-use Rattle.et_event.specs.Moments.{with_guest as doing_with}
+use Rattle.et_event.specs.Moments.{Moment, moment, Doing, current_frame, begins, instance_made, next_object, with_frame, ends_event as ending, fits_heap, ill_typed}
+use Rattle.et_event.specs.Moments.{doing_with_guest as doing_with}
 use Rattle.et_event.specs.Checks.{ill_typed_unless}
 use Rattle.et_event.specs.Sites.{Site, AString}
 use Rattle.et_event.specs.Strings.{interned, string_object}
@@ -60,9 +60,9 @@ object_step : (b : Bool) (v : ℕ) (vs : List ℕ) (r : Option ℕ) (o : ℕ) �
 object_step true v vs r o ih h = subst (λ (k : ℕ). Contains (v ∷ vs) k) (some_inj v o h) (Contains-here v vs)
 object_step false v vs r o ih h = Contains-there v vs o (ih h)
 
-object_in : (es : Strings) (bytes : List ℕ) (o : ℕ) → object_of es bytes ≡ Some o → Contains (objects_of es) o
+object_in : (es : Strings) (bytes : List ℕ) (o : ℕ) → object_of es bytes ≡ Some o → Contains (interned_objects es) o
 object_in [] bytes o h = absurd (none_some o h)
-object_in (e ∷ es) bytes o h = object_step (bytes_eq bytes e.0) e.1 (objects_of es) (object_of es bytes) o (object_in es bytes o) h
+object_in (e ∷ es) bytes o h = object_step (bytes_eq bytes e.0) e.1 (interned_objects es) (object_of es bytes) o (object_in es bytes o) h
 
 pub string_held : (m : MachineState) (bytes : List ℕ) (o : ℕ) → IsSound (kept_of m) → object_of m.guest.interned bytes ≡ Some o → IsHeld m.heap o
 string_held m bytes o sound h = sound.roots o (string_root m.guest o (object_in m.guest.interned bytes o h))
@@ -79,18 +79,18 @@ text_step : (b : Bool) (e : List ℕ × ℕ) (r : Option (List ℕ × ℕ)) → 
 text_step true e r apart h = absurd (apart refl)
 text_step false e r apart h = h
 
-no_text : (o : ℕ) (es : Strings) → ((q : ℕ) → Contains (objects_of es) q → q < o) → text_of es o ≡ None
+no_text : (o : ℕ) (es : Strings) → ((q : ℕ) → Contains (interned_objects es) q → q < o) → interned_text es o ≡ None
 no_text o [] h = refl
 no_text o (e ∷ es) h =
-    let lt : e.1 < o = h e.1 (Contains-here e.1 (objects_of es)) in
+    let lt : e.1 < o = h e.1 (Contains-here e.1 (interned_objects es)) in
     let other : (o == e.1) ≡ true → ⊥ = λ same. let is : o ≡ e.1 = eqb-true o e.1 same in omega arith in
-    text_step (o == e.1) e (find (λ p. o == p.1) es) other (no_text o es (λ q c. h q (Contains-there e.1 (objects_of es) q c)))
+    text_step (o == e.1) e (find (λ p. o == p.1) es) other (no_text o es (λ q c. h q (Contains-there e.1 (interned_objects es) q c)))
 
 -- the object that is made next has no bytes yet
-pub new_text : (m m₁ : MachineState) (o : ℕ) → IsSound (kept_of m) → o ≡ length m.heap → m₁.guest ≡ m.guest → text_of m₁.guest.interned o ≡ None
+pub new_text : (m m₁ : MachineState) (o : ℕ) → IsSound (kept_of m) → o ≡ length m.heap → m₁.guest ≡ m.guest → interned_text m₁.guest.interned o ≡ None
 new_text m m₁ o sound e same =
-    let none : text_of m.guest.interned (length m.heap) ≡ None = no_text (length m.heap) m.guest.interned (λ q c. held_within m.heap q (sound.roots q (string_root m.guest q c))) in
-    ap (λ (g : GuestState). text_of g.interned o) same ∙ (ap (λ (k : ℕ). text_of m.guest.interned k) e ∙ none)
+    let none : interned_text m.guest.interned (length m.heap) ≡ None = no_text (length m.heap) m.guest.interned (λ q c. held_within m.heap q (sound.roots q (string_root m.guest q c))) in
+    ap (λ (g : GuestState). interned_text g.interned o) same ∙ (ap (λ (k : ℕ). interned_text m.guest.interned k) e ∙ none)
 
 -- THE EVENT
 
@@ -140,7 +140,7 @@ made_led m t class slots pc bytes m₁ m₂ m₃ m₄ m₅ sound has e₁ e₂ e
 
 -- the object is pushed that the string has in a state
 abbrev loading : Moment → ℕ → List ℕ → Doing → Doing
-loading e pc bytes d = with_frame e (record (frame_of e) { pc = pc; operands = Ref (string_object bytes d) ∷ (frame_of e).operands }) d
+loading e pc bytes d = with_frame e (record (current_frame e) { pc = pc; operands = Ref (string_object bytes d) ∷ (current_frame e).operands }) d
 
 -- the string is made
 abbrev making : Moment → List ℕ → Doing
@@ -148,20 +148,20 @@ making e bytes =
     let x = instance_made e (class_called e.program (codes "java/lang/String")) (begins e) in
     doing_with (with_string x.state.guest bytes (next_object (begins e))) x
 
-loads : (e : Moment) (at : Site) (bytes : List ℕ) → length (frame_of e).operands < (frame_of e).room → constant e at (Some (AString bytes)) ≡ ending (loading e at.next bytes (interned e bytes (begins e)))
-loads e at bytes lt = ap (λ (b : Bool). ill_typed_unless e b (ending (loading e at.next bytes (interned e bytes (begins e))))) (lt-ltb (length (frame_of e).operands) (frame_of e).room lt)
+loads : (e : Moment) (at : Site) (bytes : List ℕ) → length (current_frame e).operands < (current_frame e).room → constant e at (Some (AString bytes)) ≡ ending (loading e at.next bytes (interned e bytes (begins e)))
+loads e at bytes lt = ap (λ (b : Bool). ill_typed_unless e b (ending (loading e at.next bytes (interned e bytes (begins e))))) (lt-ltb (length (current_frame e).operands) (current_frame e).room lt)
 
-loads_new : (e : Moment) (at : Site) (bytes : List ℕ) → length (frame_of e).operands < (frame_of e).room → object_of e.before.guest.interned bytes ≡ None
+loads_new : (e : Moment) (at : Site) (bytes : List ℕ) → length (current_frame e).operands < (current_frame e).room → object_of e.before.guest.interned bytes ≡ None
     → constant e at (Some (AString bytes)) ≡ ending (loading e at.next bytes (making e bytes))
 loads_new e at bytes lt none =
     loads e at bytes lt ∙ ap (λ (o : Option ℕ). ending (loading e at.next bytes (if is_some o then begins e else making e bytes))) none
 
-loads_old : (e : Moment) (at : Site) (bytes : List ℕ) (o : ℕ) → length (frame_of e).operands < (frame_of e).room → object_of e.before.guest.interned bytes ≡ Some o
-    → constant e at (Some (AString bytes)) ≡ ending (with_frame e (stepped at.next o (frame_of e)) (begins e))
+loads_old : (e : Moment) (at : Site) (bytes : List ℕ) (o : ℕ) → length (current_frame e).operands < (current_frame e).room → object_of e.before.guest.interned bytes ≡ Some o
+    → constant e at (Some (AString bytes)) ≡ ending (with_frame e (stepped at.next o (current_frame e)) (begins e))
 loads_old e at bytes o lt some =
     loads e at bytes lt
     ∙ (ap (λ (r : Option ℕ). ending (loading e at.next bytes (if is_some r then begins e else making e bytes))) some
-    ∙ ap (λ (r : Option ℕ). ending (with_frame e (stepped at.next (unwrap_or r 0) (frame_of e)) (begins e))) some)
+    ∙ ap (λ (r : Option ℕ). ending (with_frame e (stepped at.next (unwrap_or r 0) (current_frame e)) (begins e))) some)
 
 pub string_refused : (p : Linked) (at : Site) (bytes : List ℕ) (t : ℕ) (m : MachineState) (out : List Record) (end : EventEnd) → (top m.guest t).room ≤ length (top m.guest t).operands → end ≡ ill_typed_end m t
     → EventAnswers (constant (moment p m t) at (Some (AString bytes))) end m m out out
@@ -171,12 +171,12 @@ string_refused p at bytes t m out end le e =
     ap (λ (b : Bool). ill_typed_unless e₀ b (ending (loading e₀ at.next bytes (interned e₀ bytes (begins e₀))))) (le-ltb (length (top m.guest t).operands) (top m.guest t).room le) in
     subst (λ (x : Outcome Kept). EventAnswers x end m m out out) (sym is) (ill_typed_answers p t m m out end refl e)
 
-pub string_known : (p : Linked) (at : Site) (bytes : List ℕ) (o t : ℕ) (m m' : MachineState) (out : List Record) → length (top m.guest t).operands < (top m.guest t).room → fits m.heap ≡ true
+pub string_known : (p : Linked) (at : Site) (bytes : List ℕ) (o t : ℕ) (m m' : MachineState) (out : List Record) → length (top m.guest t).operands < (top m.guest t).room → fits_heap m.heap ≡ true
     → object_of m.guest.interned bytes ≡ Some o → Led (kept_of m) (record { heap = m.heap; guest = with_top (ticked m.guest) t (stepped at.next o (top m.guest t)) }) m'
     → EventAnswers (constant (moment p m t) at (Some (AString bytes))) ends.Done m m' out out
 string_known p at bytes o t m m' out lt fit some led =
     let e = moment p m t in
-    let d : Doing = with_frame e (stepped at.next o (frame_of e)) (begins e) in
+    let d : Doing = with_frame e (stepped at.next o (current_frame e)) (begins e) in
     let is : constant e at (Some (AString bytes)) ≡ Goes d.state d.records = loads_old e at bytes o lt some ∙ ends_fit d fit in
     subst (λ (x : Outcome Kept). EventAnswers x ends.Done m m' out out) (sym is) (led, sym (append-nil out))
 
@@ -198,8 +198,8 @@ string_made p at bytes o t m m₁ m₂ m₃ m₄ m₅ out out' sound has lt none
     let e : Moment = moment p m t in
     let n : ℕ = length m.heap in
     let class : ℕ = class_called p (codes "java/lang/String") in
-    let d : Doing = with_frame e (stepped at.next n (frame_of e)) (making e bytes) in
-    let named : loading e at.next bytes (making e bytes) ≡ d = ap (λ (r : Option ℕ). with_frame e (stepped at.next (unwrap_or r 0) (frame_of e)) (making e bytes)) (object_pushed m.guest.interned bytes n none) in
+    let d : Doing = with_frame e (stepped at.next n (current_frame e)) (making e bytes) in
+    let named : loading e at.next bytes (making e bytes) ≡ d = ap (λ (r : Option ℕ). with_frame e (stepped at.next (unwrap_or r 0) (current_frame e)) (making e bytes)) (object_pushed m.guest.interned bytes n none) in
     let is : constant e at (Some (AString bytes)) ≡ Goes d.state d.records = loads_new e at bytes lt none ∙ (ap ending named ∙ ends_fit d made.0) in
     let h₂ = e₂ ∙ ap (λ (k : ℕ). with_guest m₁ (with_string m₁.guest bytes k)) made.1 in
     let h₄ = e₄ ∙ ap (λ (k : ℕ). steps_top m₃ t (pushed (Ref k) (top m₃.guest t)) []) made.1 in

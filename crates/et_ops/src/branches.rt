@@ -7,7 +7,7 @@ ghost use Rattle.et_state.specs.Sound.{IsSound};
 ghost use Rattle.et_event.specs.Answered.{StepsFrame};
 ghost use Rattle.et_state.specs.Threads.{FrameState};
 ghost use Rattle.et_event.specs.Sites.{target as target_of};
-ghost use Rattle.et_event.specs.Plain.{compares, same_reference, tested};
+ghost use Rattle.et_event.specs.Plain.{compares, same_reference, condition_tested};
 ghost use Rattle.et_event.specs.declared.rows.Condition.TheVariants as when;
 ghost use Rattle.et_ops.specs.Tops.{jumped};
 
@@ -84,7 +84,8 @@ fn go(machine: &mut Machine, thread: ThreadId, offset: i32, next: u32) -> bool
     requires clock { machine.old.guest.clock < 2 ^ 40 }
     requires pc { (top machine.old.guest thread).pc < 2 ^ 31 }
     ensures { StepsFrame
-        (option_map (jumped offset next (top machine.old.guest thread)) (tested when.Always
+        (option_map (jumped offset next (top machine.old.guest thread))
+        (condition_tested when.Always
         (top machine.old.guest thread).operands)) result thread machine.old machine.new }
 {
     jump(machine, thread, 0, true, offset, next);
@@ -104,7 +105,7 @@ fn branch_with_zero(
     requires clock { machine.old.guest.clock < 2 ^ 40 }
     requires pc { (top machine.old.guest thread).pc < 2 ^ 31 }
     ensures { StepsFrame (option_map (jumped offset next (top machine.old.guest thread))
-        (tested (when.WithZero comparison) (top machine.old.guest thread).operands))
+        (condition_tested (when.WithZero comparison) (top machine.old.guest thread).operands))
         result thread machine.old machine.new }
 {
     let Some(a) = int_at(machine, thread, 0) else {
@@ -128,7 +129,7 @@ fn branch_of_ints(
     requires clock { machine.old.guest.clock < 2 ^ 40 }
     requires pc { (top machine.old.guest thread).pc < 2 ^ 31 }
     ensures { StepsFrame (option_map (jumped offset next (top machine.old.guest thread))
-        (tested (when.OfInts comparison) (top machine.old.guest thread).operands))
+        (condition_tested (when.OfInts comparison) (top machine.old.guest thread).operands))
         result thread machine.old machine.new }
 {
     let Some(b) = int_at(machine, thread, 0) else {
@@ -149,7 +150,8 @@ fn branch_of_same(machine: &mut Machine, thread: ThreadId, offset: i32, next: u3
     requires clock { machine.old.guest.clock < 2 ^ 40 }
     requires pc { (top machine.old.guest thread).pc < 2 ^ 31 }
     ensures { StepsFrame
-        (option_map (jumped offset next (top machine.old.guest thread)) (tested when.SameReference
+        (option_map (jumped offset next (top machine.old.guest thread))
+        (condition_tested when.SameReference
         (top machine.old.guest thread).operands)) result thread machine.old machine.new }
 {
     let Some(b) = reference_at(machine, thread, 0) else {
@@ -170,7 +172,8 @@ fn branch_of_other(machine: &mut Machine, thread: ThreadId, offset: i32, next: u
     requires clock { machine.old.guest.clock < 2 ^ 40 }
     requires pc { (top machine.old.guest thread).pc < 2 ^ 31 }
     ensures { StepsFrame
-        (option_map (jumped offset next (top machine.old.guest thread)) (tested when.OtherReference
+        (option_map (jumped offset next (top machine.old.guest thread))
+        (condition_tested when.OtherReference
         (top machine.old.guest thread).operands)) result thread machine.old machine.new }
 {
     let Some(b) = reference_at(machine, thread, 0) else {
@@ -190,7 +193,8 @@ fn branch_of_null(machine: &mut Machine, thread: ThreadId, offset: i32, next: u3
     requires sound { IsSound (kept_of machine.old) }
     requires clock { machine.old.guest.clock < 2 ^ 40 }
     requires pc { (top machine.old.guest thread).pc < 2 ^ 31 }
-    ensures { StepsFrame (option_map (jumped offset next (top machine.old.guest thread)) (tested
+    ensures { StepsFrame (option_map (jumped offset next (top machine.old.guest thread))
+        (condition_tested
         when.Null (top machine.old.guest thread).operands)) result thread machine.old machine.new }
 {
     let Some(a) = reference_at(machine, thread, 0) else {
@@ -208,7 +212,8 @@ fn branch_of_object(machine: &mut Machine, thread: ThreadId, offset: i32, next: 
     requires clock { machine.old.guest.clock < 2 ^ 40 }
     requires pc { (top machine.old.guest thread).pc < 2 ^ 31 }
     ensures { StepsFrame
-        (option_map (jumped offset next (top machine.old.guest thread)) (tested when.NotNull
+        (option_map (jumped offset next (top machine.old.guest thread))
+        (condition_tested when.NotNull
         (top machine.old.guest thread).operands)) result thread machine.old machine.new }
 {
     let Some(a) = reference_at(machine, thread, 0) else {
@@ -231,7 +236,8 @@ pub(crate) fn branch(
     requires sound { IsSound (kept_of machine.old) }
     requires clock { machine.old.guest.clock < 2 ^ 40 }
     requires pc { (top machine.old.guest thread).pc < 2 ^ 31 }
-    ensures { StepsFrame (option_map (jumped offset next (top machine.old.guest thread)) (tested
+    ensures { StepsFrame (option_map (jumped offset next (top machine.old.guest thread))
+        (condition_tested
         condition (top machine.old.guest thread).operands)) result thread machine.old machine.new }
 {
     match condition {

@@ -9,7 +9,7 @@ ghost use Rattle.et_state.specs.State.{kept_of};
 ghost use Rattle.et_state.specs.Words.{HasFrame, top};
 ghost use Rattle.et_state.specs.Sound.{IsSound};
 ghost use Rattle.et_event.specs.Answered.{StepsFrame, EventAnswers};
-ghost use Rattle.et_event.specs.Moments.{fits, moment};
+ghost use Rattle.et_event.specs.Moments.{fits_heap, moment};
 ghost use Rattle.et_event.specs.Plain.{put, on_frame, constant};
 ghost use Rattle.et_event.specs.Sites.{constant_at};
 
@@ -103,7 +103,7 @@ pub(crate) fn constant_event(
     requires frame { HasFrame machine.old.guest thread }
     requires sound { IsSound (kept_of machine.old) }
     requires clock { machine.old.guest.clock < 2 ^ 40 }
-    requires fits { fits machine.old.heap ≡ true }
+    requires fits { fits_heap machine.old.heap ≡ true }
     ensures ok { IfOk result (λ end. (instr : Decoded) (code : List ℕ) (items : List (Option Item))
         (class : ℕ) → EventAnswers (constant (moment program.now machine.old thread)
         (record { instr = instr; next = next; code = code; pool = items; class = class })

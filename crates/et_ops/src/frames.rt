@@ -7,8 +7,8 @@ ghost use Rattle.et_state.specs.Words.{HasFrame, top};
 ghost use Rattle.et_state.specs.Sound.{IsSound};
 ghost use Rattle.et_event.specs.declared.rows.FrameRow.TheVariants as rows;
 ghost use Rattle.et_event.specs.Answered.{StepsFrame};
-ghost use Rattle.et_event.specs.Sites.{natural as natural_of};
-ghost use Rattle.et_event.specs.Plain.{after};
+ghost use Rattle.et_event.specs.Sites.{natural_of};
+ghost use Rattle.et_event.specs.Plain.{frame_after};
 
 use crate::branches::branch;
 use crate::constants::{push_int, push_long, push_null};
@@ -47,7 +47,7 @@ pub(crate) fn frame_event(
     requires locals { length (top machine.old.guest thread).locals < 2 ^ 16 }
     requires pc { (top machine.old.guest thread).pc < 2 ^ 31 }
     requires switch { row ≡ rows.Switch → IsSwitch code.now instr.now }
-    ensures { (pool : List (Option Item)) (class : ℕ) → StepsFrame (after
+    ensures { (pool : List (Option Item)) (class : ℕ) → StepsFrame (frame_after
         (record { instr = instr.now; next = next; code = code.now; pool = pool; class = class }) row
         (top machine.old.guest thread)) result thread machine.old machine.new }
 {

@@ -5,7 +5,7 @@ ghost use Rattle.et_state.specs.State.{kept_of};
 ghost use Rattle.et_state.specs.Words.{HasFrame, top};
 ghost use Rattle.et_state.specs.Sound.{IsSound};
 ghost use Rattle.et_event.specs.Answered.{StepsFrame};
-ghost use Rattle.et_event.specs.Plain.{combine as combination, combined, negated, shifted, moved, converted, compared, put_some};
+ghost use Rattle.et_event.specs.Plain.{combine as combination, combined, negated, shifted, values_moved, converted, compared, put_some};
 ghost use Rattle.et_event.specs.declared.rows.Number.TheVariants as numbers;
 ghost use Rattle.et_event.specs.declared.rows.Conversion.TheVariants as conversions;
 
@@ -155,7 +155,7 @@ fn shift_int(machine: &mut Machine, thread: ThreadId, shift: Shift, next: u32) -
     requires sound { IsSound (kept_of machine.old) }
     requires clock { machine.old.guest.clock < 2 ^ 40 }
     ensures { StepsFrame
-        (put_some next (moved numbers.Int shift (top machine.old.guest thread).operands)
+        (put_some next (values_moved numbers.Int shift (top machine.old.guest thread).operands)
         (top machine.old.guest thread)) result thread machine.old machine.new }
 {
     let Some(count) = int_at(machine, thread, 0) else {
@@ -179,7 +179,7 @@ fn shift_long(machine: &mut Machine, thread: ThreadId, shift: Shift, next: u32) 
     requires sound { IsSound (kept_of machine.old) }
     requires clock { machine.old.guest.clock < 2 ^ 40 }
     ensures { StepsFrame
-        (put_some next (moved numbers.Long shift (top machine.old.guest thread).operands)
+        (put_some next (values_moved numbers.Long shift (top machine.old.guest thread).operands)
         (top machine.old.guest thread)) result thread machine.old machine.new }
 {
     let Some(count) = int_at(machine, thread, 0) else {
@@ -347,7 +347,8 @@ pub(crate) fn shift_number(
     requires frame { HasFrame machine.old.guest thread }
     requires sound { IsSound (kept_of machine.old) }
     requires clock { machine.old.guest.clock < 2 ^ 40 }
-    ensures { StepsFrame (put_some next (moved number shift (top machine.old.guest thread).operands)
+    ensures { StepsFrame (put_some next (values_moved number shift
+        (top machine.old.guest thread).operands)
         (top machine.old.guest thread)) result thread machine.old machine.new }
 {
     match number {

@@ -13,10 +13,10 @@ ghost use Rattle.et_event.specs.declared.rows.FrameRow.TheVariants as frame_rows
 ghost use Rattle.et_event.specs.declared.rows.Row.TheVariants as rows;
 ghost use Rattle.et_event.specs.Answered.{EventAnswers};
 ghost use Rattle.et_event.specs.Event.{does};
-ghost use Rattle.et_event.specs.Moments.{fits, moment};
-ghost use Rattle.et_event.specs.Plain.{after, constant, on_frame};
-ghost use Rattle.et_event.specs.Sites.{constant_at, natural as natural_of};
-ghost use Rattle.et_parts.specs.Pools.{slots_of};
+ghost use Rattle.et_event.specs.Moments.{fits_heap, moment};
+ghost use Rattle.et_event.specs.Plain.{frame_after, constant, on_frame};
+ghost use Rattle.et_event.specs.Sites.{constant_at, natural_of};
+ghost use Rattle.et_parts.specs.Pools.{pool_slots};
 ghost use Rattle.et_event.specs.PlainRows.{is_plain};
 ghost use Rattle.et_event.specs.Sound.{IsSoundFor};
 ghost use Rattle.et_parts.specs.Places.{IsPlace, site_at};
@@ -48,7 +48,7 @@ fn frame_row_event(
     requires pc { (top machine.old.guest thread).pc < 2 ^ 31 }
     requires switch { row ≡ frame_rows.Switch → IsSwitch code.now instr.now }
     ensures { (p : Linked) (pool : List (Option Item)) (class : ℕ) (out : List Record) →
-        EventAnswers (on_frame (moment p machine.old thread) (after
+        EventAnswers (on_frame (moment p machine.old thread) (frame_after
         (record { instr = instr.now; next = next; code = code.now; pool = pool; class = class }) row
         (top machine.old.guest thread))) result machine.old machine.new out out }
 {
@@ -72,11 +72,12 @@ fn pool_event(
     requires frame { HasFrame machine.old.guest thread }
     requires sound { IsSound (kept_of machine.old) }
     requires clock { machine.old.guest.clock < 2 ^ 40 }
-    requires fits { fits machine.old.heap ≡ true }
+    requires fits { fits_heap machine.old.heap ≡ true }
     ensures ok { IfOk result (λ end. (instr : Decoded) (code : List ℕ) (items : List (Option Item))
         (class : ℕ) → EventAnswers (constant (moment program.now machine.old thread) (record
         { instr = instr; next = next; code = code; pool = items; class = class }) (constant_at
-        (slots_of (option_copied pool.entry)) index)) end machine.old machine.new out.old out.new) }
+        (pool_slots (option_copied pool.entry)) index)) end machine.old machine.new out.old
+        out.new) }
     ensures err { OnErr result (machine.new.guest ≡ machine.old.guest) }
 {
     match pool {
@@ -97,7 +98,7 @@ fn row_event(
     requires frame { HasFrame machine.old.guest thread }
     requires sound { IsSound (kept_of machine.old) }
     requires clock { machine.old.guest.clock < 2 ^ 40 }
-    requires fits { fits machine.old.heap ≡ true }
+    requires fits { fits_heap machine.old.heap ≡ true }
     requires locals { length (top machine.old.guest thread).locals < 2 ^ 16 }
     requires pc { (top machine.old.guest thread).pc < 2 ^ 31 }
     requires switch { row ≡ rows.Frame frame_rows.Switch →

@@ -10,7 +10,7 @@ ghost use Rattle.et_state.specs.Sound.{IsSound};
 ghost use Rattle.et_state.specs.Moves.{Led};
 ghost use Rattle.et_state.specs.Interned.{object_of};
 ghost use Rattle.et_event.specs.Answered.{EventAnswers};
-ghost use Rattle.et_event.specs.Moments.{fits, moment};
+ghost use Rattle.et_event.specs.Moments.{fits_heap, moment};
 ghost use Rattle.et_event.specs.Plain.{constant};
 ghost use Rattle.et_event.specs.Sites.{AString};
 
@@ -87,7 +87,7 @@ pub(crate) fn string_event(
     requires frame { HasFrame machine.old.guest thread }
     requires sound { IsSound (kept_of machine.old) }
     requires clock { machine.old.guest.clock < 2 ^ 40 }
-    requires fits { fits machine.old.heap ≡ true }
+    requires fits { fits_heap machine.old.heap ≡ true }
     ensures ok { IfOk result (λ end. (instr : Decoded) (code : List ℕ) (pool : List (Option Item))
         (class : ℕ) → EventAnswers (constant (moment program.now machine.old thread)
         (record { instr = instr; next = next; code = code; pool = pool; class = class })

@@ -1,6 +1,6 @@
 //! A whole trace, replayed.
 ghost use Rattle.std.specs.Prelude.{◌≤◌, ℕ, [], length};
-ghost use Rattle.et_replay.specs.Items.{made};
+ghost use Rattle.et_replay.specs.Items.{made_objects};
 ghost use Rattle.et_replay.specs.declared.model.Policy.{Policy};
 
 use et_io::MemSink;
@@ -36,9 +36,10 @@ fn replay_both(
     semi_space: SemiSpace,
     sink: &mut MemSink,
 ) -> Result<u32, Fail>
-    requires first { (policy : Policy) × (objects : ℕ) × (length (made items.now) ≤ objects)
+    requires first { (policy : Policy) × (objects : ℕ) × (length (made_objects items.now) ≤ objects)
         × ⟦<MarkSweep as HeapModel>⟧.stands_for mark_sweep policy objects [] }
-    requires second { (policy : Policy) × (objects : ℕ) × (length (made items.now) ≤ objects)
+    requires second { (policy : Policy) × (objects : ℕ) ×
+        (length (made_objects items.now) ≤ objects)
         × ⟦<SemiSpace as HeapModel>⟧.stands_for semi_space policy objects [] }
 {
     let mut models: Vec<Box<dyn HeapModel>> = Vec::new(alloc);

@@ -12,9 +12,10 @@ use Rattle.et_code.specs.declared.instr.Instr.{Instr}
 use Rattle.et_code.specs.declared.form.Form.{Form}
 use Rattle.et_code.specs.declared.form.Form.TheVariants as form
 use Rattle.et_code.specs.Forms.{form_of, wide_form_of}
-use Rattle.et_code.specs.Decoding.{◌>>=◌, read, instr, table_place, rows_at, row_count, table_rows, table_at, lookup_at, wide_at, behind_wide, operands_at, instruction_at}
+use Rattle.et_code.specs.Decoding.{read, instr, table_place, rows_at, row_count, table_instruction, table_at, lookup_at, wide_at, behind_wide, operands_at, instruction_at}
+use Rattle.et_base.specs.Steps.{◌>>=◌}
 use Rattle.et_event.specs.declared.rows.Row.{Row}
-use Rattle.et_event.specs.Sites.{natural}
+use Rattle.et_event.specs.Sites.{natural_of}
 use Rattle.et_event.specs.Table.{rows, row_of}
 use Rattle.et_parts.specs.Places.{is_frame}
 use Rattle.et_parts.proofs.RowsAmong.{among}
@@ -64,7 +65,7 @@ wide_one opcode f e known x = let a : is_unknown f ≡ true = ap (λ (g : Form).
 -- WHAT IS DECODED
 
 abbrev Small : Result (Instr × ℕ) CodeFault → Type 0
-Small r = IfOk r (λ x. Indexed x.0.opcode → natural x.0.first < 2 ^ 16)
+Small r = IfOk r (λ x. Indexed x.0.opcode → natural_of x.0.first < 2 ^ 16)
 
 small_guard : {A : Type 0} (b : Bool) (x : A) (f : A → Result (Instr × ℕ) CodeFault) → Small (f x) → Small (ok_or (cond b None (Some x)) fault.Short >>= f)
 small_guard true x f h = tt
@@ -111,9 +112,9 @@ unfolding table_at
 small_table code pc opcode none =
     let low = from_be_bytes w32 (drop (table_place pc + 4) code) in
     let high = from_be_bytes w32 (drop (table_place pc + 4 + 4) code) in
-    small_read code w32 (table_place pc) (λ d. read w32 code d.1 >>= λ l. read w32 code l.1 >>= λ h. table_rows code pc opcode h.1 (cast_signed w32 l.0) (cast_signed w32 h.0))
-    (small_read code w32 (table_place pc + 4) (λ l. read w32 code l.1 >>= λ h. table_rows code pc opcode h.1 (cast_signed w32 l.0) (cast_signed w32 h.0))
-    (small_read code w32 (table_place pc + 4 + 4) (λ h. table_rows code pc opcode h.1 (cast_signed w32 low) (cast_signed w32 h.0))
+    small_read code w32 (table_place pc) (λ d. read w32 code d.1 >>= λ l. read w32 code l.1 >>= λ h. table_instruction code pc opcode h.1 (cast_signed w32 l.0) (cast_signed w32 h.0))
+    (small_read code w32 (table_place pc + 4) (λ l. read w32 code l.1 >>= λ h. table_instruction code pc opcode h.1 (cast_signed w32 l.0) (cast_signed w32 h.0))
+    (small_read code w32 (table_place pc + 4 + 4) (λ h. table_instruction code pc opcode h.1 (cast_signed w32 low) (cast_signed w32 h.0))
     (small_if (int_lt (cast_signed w32 high) (cast_signed w32 low)) (Err fault.Short) (rows_at code pc opcode (table_place pc + 4 + 4 + 4) (row_count (cast_signed w32 low) (cast_signed w32 high) * 4)) tt
     (small_rows code pc opcode (table_place pc + 4 + 4 + 4) (row_count (cast_signed w32 low) (cast_signed w32 high) * 4) none))))
 
@@ -147,7 +148,7 @@ unfolding instruction_at
 small code pc b s = small_read code w8 pc (λ o. operands_at code pc o.0 o.1 (form_of o.0)) (small_operands code pc (from_be_bytes w8 (drop pc code)) (pc + 1) (form_of (from_be_bytes w8 (drop pc code))) b s refl)
 
 pub index_small : (code : List ℕ) (pc : ℕ) (x : Instr × ℕ) → IfSome (number_at w8 code (pc + 1)) (λ x. x.0 < 2 ^ 8) → IfSome (number_at w16 code (pc + 1)) (λ x. x.0 < 2 ^ 16)
-    → instruction_at code pc ≡ Ok x → (r : Row) → row_of x.0.opcode ≡ Some r → is_frame r ≡ false → natural x.0.first < 2 ^ 16
+    → instruction_at code pc ≡ Ok x → (r : Row) → row_of x.0.opcode ≡ Some r → is_frame r ≡ false → natural_of x.0.first < 2 ^ 16
 index_small code pc x b s e r there other =
     let h : Small (Ok x) = subst (λ (q : Result (Instr × ℕ) CodeFault). Small q) e (small code pc b s) in
     h (record { row = r; there = there; other = other })

@@ -16,7 +16,7 @@ use Rattle.et_state.specs.Words.{thread_at}
 use Rattle.et_state.proofs.Places.{refs_of-locals_with}
 use Rattle.et_program.specs.Entries.{Linked}
 use Rattle.et_event.specs.Frames.{method_frame}
-use Rattle.et_event.specs.Moments.{Moment, Doing, with_thread_state, fits}
+use Rattle.et_event.specs.Moments.{Moment, Doing, with_thread_state, fits_heap}
 use Rattle.et_event.specs.Monitors.{Lock, OfObject, OfClass, entered_some}
 use Rattle.et_parts.specs.Locks.{HasSome}
 
@@ -28,7 +28,7 @@ slots_set (Some y ∷ heap) zero x h = refl
 slots_set (z ∷ heap) (suc o) x h =
     sum_by-cons slots_in z (set heap o (Some (with_monitor x (found (at heap o))))) ∙ (ap (λ (n : ℕ). slots_in z + n) (slots_set heap o x h) ∙ sym (sum_by-cons slots_in z heap))
 
-pub fits_locked : (e : Moment) (lock : Option Lock) (d : Doing) (m : MachineState) → kept_of m ≡ d.state → HasSome m lock → fits (entered_some e lock d).state.heap ≡ fits d.state.heap
+pub fits_locked : (e : Moment) (lock : Option Lock) (d : Doing) (m : MachineState) → kept_of m ≡ d.state → HasSome m lock → fits_heap (entered_some e lock d).state.heap ≡ fits_heap d.state.heap
 fits_locked e None d m kept has = refl
 fits_locked e (Some (OfClass c)) d m kept has = refl
 fits_locked e (Some (OfObject o)) d m kept has =

@@ -8,10 +8,10 @@ use Rattle.et_heap.specs.Refs.{refs_of_value, refs_of}
 use Rattle.et_state.specs.Threads.{FrameState, operand_of, local_of}
 use Rattle.et_state.specs.ThreadRoots.{frame_roots}
 use Rattle.et_state.proofs.Places.{part_contained}
-use Rattle.et_event.specs.Plain.{is_single, is_one, is_pair}
+use Rattle.et_event.specs.Plain.{is_single, is_one_value, is_value_pair}
 use Rattle.et_parts.specs.Tops.{are_pair}
 
-single_pair : (v : Value) → is_pair (v ∷ []) ≡ are_pair v Unset
+single_pair : (v : Value) → is_value_pair (v ∷ []) ≡ are_pair v Unset
 single_pair Unset = refl
 single_pair (Int n) = refl
 single_pair (Long n) = refl
@@ -19,7 +19,7 @@ single_pair LongHigh = refl
 single_pair Null = refl
 single_pair (Ref o) = refl
 
-two_pair : (v w : Value) (vs : List Value) → is_pair (v ∷ w ∷ vs) ≡ are_pair v w
+two_pair : (v w : Value) (vs : List Value) → is_value_pair (v ∷ w ∷ vs) ≡ are_pair v w
 two_pair Unset w vs = refl
 two_pair (Int n) w vs = refl
 two_pair (Long n) w vs = refl
@@ -32,20 +32,20 @@ two_pair LongHigh (Ref o) vs = refl
 two_pair Null w vs = refl
 two_pair (Ref o) w vs = refl
 
-pub one_at : (ops : List Value) (k : ℕ) → is_single (get_or ops k Unset) ≡ is_one (drop k ops)
+pub one_at : (ops : List Value) (k : ℕ) → is_single (get_or ops k Unset) ≡ is_one_value (drop k ops)
 one_at [] zero = refl
 one_at [] (suc k) = refl
 one_at (v ∷ vs) zero = refl
 one_at (v ∷ vs) (suc k) = one_at vs k
 
-pairs_at : (ops : List Value) (k : ℕ) → are_pair (get_or ops k Unset) (get_or ops (suc k) Unset) ≡ is_pair (drop k ops)
+pairs_at : (ops : List Value) (k : ℕ) → are_pair (get_or ops k Unset) (get_or ops (suc k) Unset) ≡ is_value_pair (drop k ops)
 pairs_at [] zero = refl
 pairs_at [] (suc k) = refl
 pairs_at (v ∷ []) zero = sym (single_pair v)
 pairs_at (v ∷ w ∷ vs) zero = sym (two_pair v w vs)
 pairs_at (v ∷ vs) (suc k) = pairs_at vs k
 
-pub pair_at : (ops : List Value) (k : ℕ) → are_pair (get_or ops k Unset) (get_or ops (k + 1) Unset) ≡ is_pair (drop k ops)
+pub pair_at : (ops : List Value) (k : ℕ) → are_pair (get_or ops k Unset) (get_or ops (k + 1) Unset) ≡ is_value_pair (drop k ops)
 pair_at ops k = let e : k + 1 ≡ suc k = omega arith in ap (λ (j : ℕ). are_pair (get_or ops k Unset) (get_or ops j Unset)) e ∙ pairs_at ops k
 
 pub one_deep : (ops : List Value) (k : ℕ) → is_single (get_or ops k Unset) ≡ true → k < length ops
@@ -54,7 +54,7 @@ one_deep [] (suc k) e = cc
 one_deep (v ∷ vs) zero e = omega arith
 one_deep (v ∷ vs) (suc k) e = let h : k < length vs = one_deep vs k e in omega arith
 
-pairs_deep : (ops : List Value) (k : ℕ) → is_pair (drop k ops) ≡ true → k + 1 < length ops
+pairs_deep : (ops : List Value) (k : ℕ) → is_value_pair (drop k ops) ≡ true → k + 1 < length ops
 pairs_deep [] zero e = cc
 pairs_deep [] (suc k) e = cc
 pairs_deep (v ∷ []) zero e = absurd (none v (sym (single_pair v) ∙ e))

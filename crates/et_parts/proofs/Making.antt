@@ -5,10 +5,10 @@ use Rattle.std.proofs.lemmas.List.{length_push, length-replicate}
 use Rattle.std.proofs.lemmas.List.Sums.{sum_by_push}
 use Rattle.et_base.specs.declared.value.Value.TheVariants.{Unset}
 use Rattle.et_heap.specs.Objects.{Objects, new_object, slots_in, made_count, slot_count, most_objects, most_slots, has_room}
-use Rattle.et_event.specs.Moments.{fits}
+use Rattle.et_event.specs.Moments.{fits_heap}
 
 -- an object fits exactly where there is room for it
-pub fits_made : (heap : Objects) (class slots : ℕ) → 0 < length heap → fits (heap ++ Some (new_object class 0 slots) ∷ []) ≡ has_room heap 1 slots
+pub fits_made : (heap : Objects) (class slots : ℕ) → 0 < length heap → fits_heap (heap ++ Some (new_object class 0 slots) ∷ []) ≡ has_room heap 1 slots
 fits_made heap class slots lt =
     let pushed : length (heap ++ Some (new_object class 0 slots) ∷ []) ≡ length heap + 1 = length_push heap (Some (new_object class 0 slots)) in
     let objects : made_count (heap ++ Some (new_object class 0 slots) ∷ []) ≡ made_count heap + 1 = omega arith in

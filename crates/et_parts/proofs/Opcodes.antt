@@ -11,9 +11,10 @@ use Rattle.et_code.specs.declared.instr.CodeFault.TheVariants as fault
 use Rattle.et_code.specs.declared.instr.Instr.{Instr}
 use Rattle.et_code.specs.declared.form.Form.{Form}
 use Rattle.et_code.specs.declared.form.Form.TheVariants as form
-use Rattle.et_code.specs.Kept.{IsKept}
+use Rattle.et_code.specs.Kept.{IsKeptCode}
 use Rattle.et_code.specs.Forms.{form_of, wide_form_of}
-use Rattle.et_code.specs.Decoding.{◌>>=◌, read, instr, table_place, rows_at, row_count, table_rows, table_at, lookup_at, wide_at, behind_wide, operands_at, instruction_at}
+use Rattle.et_code.specs.Decoding.{read, instr, table_place, rows_at, row_count, table_instruction, table_at, lookup_at, wide_at, behind_wide, operands_at, instruction_at}
+use Rattle.et_base.specs.Steps.{◌>>=◌}
 use Rattle.et_program.specs.Entries.{Linked}
 use Rattle.et_state.specs.declared.stage.Turn.TheVariants.{Instruction}
 use Rattle.et_state.specs.State.{Kept}
@@ -23,7 +24,7 @@ use Rattle.et_event.specs.declared.families.Family.{Family}
 use Rattle.et_event.specs.declared.families.Family.TheVariants.{Ops, Refs, Calls, Throw, Sync}
 use Rattle.et_event.specs.declared.rows.Row.{Row}
 use Rattle.et_event.specs.Families.{family_of, family_of_row, row_at}
-use Rattle.et_event.specs.Sites.{code_of}
+use Rattle.et_event.specs.Sites.{code_of_frame}
 use Rattle.et_event.specs.Sound.{IsPc}
 use Rattle.et_event.specs.Table.{rows, row_of}
 use Rattle.et_event.proofs.FamilyTurns.{family_here}
@@ -129,9 +130,9 @@ unfolding table_at
 tells_table code pc opcode =
     let low = from_be_bytes w32 (drop (table_place pc + 4) code) in
     let high = from_be_bytes w32 (drop (table_place pc + 4 + 4) code) in
-    reads opcode code w32 (table_place pc) (λ d. read w32 code d.1 >>= λ l. read w32 code l.1 >>= λ h. table_rows code pc opcode h.1 (cast_signed w32 l.0) (cast_signed w32 h.0))
-    (reads opcode code w32 (table_place pc + 4) (λ l. read w32 code l.1 >>= λ h. table_rows code pc opcode h.1 (cast_signed w32 l.0) (cast_signed w32 h.0))
-    (reads opcode code w32 (table_place pc + 4 + 4) (λ h. table_rows code pc opcode h.1 (cast_signed w32 low) (cast_signed w32 h.0))
+    reads opcode code w32 (table_place pc) (λ d. read w32 code d.1 >>= λ l. read w32 code l.1 >>= λ h. table_instruction code pc opcode h.1 (cast_signed w32 l.0) (cast_signed w32 h.0))
+    (reads opcode code w32 (table_place pc + 4) (λ l. read w32 code l.1 >>= λ h. table_instruction code pc opcode h.1 (cast_signed w32 l.0) (cast_signed w32 h.0))
+    (reads opcode code w32 (table_place pc + 4 + 4) (λ h. table_instruction code pc opcode h.1 (cast_signed w32 low) (cast_signed w32 h.0))
     (either opcode (int_lt (cast_signed w32 high) (cast_signed w32 low)) (Err fault.Short) (rows_at code pc opcode (table_place pc + 4 + 4 + 4) (row_count (cast_signed w32 low) (cast_signed w32 high) * 4)) tt
     (tells_rows code pc opcode (table_place pc + 4 + 4 + 4) (row_count (cast_signed w32 low) (cast_signed w32 high) * 4)))))
 
@@ -186,25 +187,25 @@ unfolding instruction_at
 unread code pc e = ap (λ (o : Option (ℕ × ℕ)). ok_or o fault.Short >>= λ n. operands_at code pc n.0 n.1 (form_of n.0)) e
 
 -- at the end of the code there is no opcode
-pub end_family : (p : Linked) (s : Kept) (t : ℕ) → turn_of (thread_at s.guest t) ≡ Instruction → number_at w8 (code_of p (top s.guest t)).code (top s.guest t).pc ≡ None → Ops ≡ family_of p s t
+pub end_family : (p : Linked) (s : Kept) (t : ℕ) → turn_of (thread_at s.guest t) ≡ Instruction → number_at w8 (code_of_frame p (top s.guest t)).code (top s.guest t).pc ≡ None → Ops ≡ family_of p s t
 end_family p s t turn e =
     let f : FrameState = top s.guest t in
-    sym (family_here p s t None turn (ap (λ (d : Result (Instr × ℕ) CodeFault). row_at d) (unread (code_of p f).code f.pc e)))
+    sym (family_here p s t None turn (ap (λ (d : Result (Instr × ℕ) CodeFault). row_at d) (unread (code_of_frame p f).code f.pc e)))
 
 no_number : (code : List ℕ) (pc opcode at : ℕ) → pc ≡ length code → number_at w8 code pc ≡ Some (opcode, at) → ⊥
 no_number code pc opcode at e h = not_there (ltb (length code) (pc + byte_len w8)) (from_be_bytes w8 (drop pc code), pc + byte_len w8) (opcode, at) (past_end (length code) (pc + byte_len w8) (omega (arith, e))) h
 
-begun_family : (p : Linked) (s : Kept) (t opcode at : ℕ) → turn_of (thread_at s.guest t) ≡ Instruction → (x : Instr × ℕ) → number_at w8 (code_of p (top s.guest t)).code (top s.guest t).pc ≡ Some (opcode, at)
-    → instruction_at (code_of p (top s.guest t)).code (top s.guest t).pc ≡ Ok x → opcode_family opcode ≡ family_of p s t
+begun_family : (p : Linked) (s : Kept) (t opcode at : ℕ) → turn_of (thread_at s.guest t) ≡ Instruction → (x : Instr × ℕ) → number_at w8 (code_of_frame p (top s.guest t)).code (top s.guest t).pc ≡ Some (opcode, at)
+    → instruction_at (code_of_frame p (top s.guest t)).code (top s.guest t).pc ≡ Ok x → opcode_family opcode ≡ family_of p s t
 begun_family p s t opcode at turn x read decoded =
     let f : FrameState = top s.guest t in
-    sym (opcode_tells (code_of p f).code f.pc opcode at x read decoded)
+    sym (opcode_tells (code_of_frame p f).code f.pc opcode at x read decoded)
     ∙ sym (family_here p s t (row_of x.0.opcode) turn (ap (λ (d : Result (Instr × ℕ) CodeFault). row_at d) decoded))
 
 -- where the code keeps the rules, an instruction stands at the pc
-pub begins_family : (p : Linked) (s : Kept) (t opcode at : ℕ) (tags : List ℕ) → turn_of (thread_at s.guest t) ≡ Instruction → IsKept (code_of p (top s.guest t)) tags → IsPc (code_of p (top s.guest t)) (top s.guest t).pc
-    → number_at w8 (code_of p (top s.guest t)).code (top s.guest t).pc ≡ Some (opcode, at) → opcode_family opcode ≡ family_of p s t
+pub begins_family : (p : Linked) (s : Kept) (t opcode at : ℕ) (tags : List ℕ) → turn_of (thread_at s.guest t) ≡ Instruction → IsKeptCode (code_of_frame p (top s.guest t)) tags → IsPc (code_of_frame p (top s.guest t)) (top s.guest t).pc
+    → number_at w8 (code_of_frame p (top s.guest t)).code (top s.guest t).pc ≡ Some (opcode, at) → opcode_family opcode ≡ family_of p s t
 begins_family p s t opcode at tags turn kept (inl start) read =
     let here = kept.instructions (top s.guest t).pc start in
     begun_family p s t opcode at turn (here.instruction, here.next) read here.decoded
-begins_family p s t opcode at tags turn kept (inr ended) read = absurd (no_number (code_of p (top s.guest t)).code (top s.guest t).pc opcode at ended read)
+begins_family p s t opcode at tags turn kept (inr ended) read = absurd (no_number (code_of_frame p (top s.guest t)).code (top s.guest t).pc opcode at ended read)

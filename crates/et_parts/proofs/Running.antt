@@ -5,7 +5,7 @@ use Rattle.std.specs.Option.{is_some}
 use Rattle.et_state.specs.declared.stage.Stage.{Stage}
 use Rattle.et_state.specs.declared.stage.Stage.TheVariants.{Plain, Before, Clinit}
 use Rattle.et_state.specs.declared.stage.Turn.TheVariants.{Unwind, EndThread, Entry, Initialize, Instruction}
-use Rattle.et_state.specs.Threads.{FrameState, ThreadState, no_thread, turn_of, has_frame, is_before, first_frame, top_of}
+use Rattle.et_state.specs.Threads.{FrameState, ThreadState, no_thread, turn_of, has_frame, is_before_class, first_frame, top_of}
 use Rattle.et_state.specs.State.{GuestState, Kept}
 use Rattle.et_state.specs.Words.{thread_at, top, HasFrame}
 use Rattle.et_program.specs.Entries.{Linked}
@@ -22,8 +22,8 @@ by_parts false true false entered e = (refl, refl)
 by_parts false false before true e = cc
 by_parts false false before false e = cc
 
-pub framed : (x : ThreadState) → turn_of x ≡ Instruction → (has_frame x.frames ≡ true) × (is_before (top_of x).stage ≡ false)
-framed x e = by_parts (is_some x.pending) (has_frame x.frames) (is_before (top_of x).stage) x.entered e
+pub framed : (x : ThreadState) → turn_of x ≡ Instruction → (has_frame x.frames ≡ true) × (is_before_class (top_of x).stage ≡ false)
+framed x e = by_parts (is_some x.pending) (has_frame x.frames) (is_before_class (top_of x).stage) x.entered e
 
 some_frame : (fs : List FrameState) → has_frame fs ≡ true → 0 < length fs
 some_frame [] e = cc
@@ -39,14 +39,14 @@ has_frame_there g t e =
     let h = (framed (thread_at g t) e).0 in
     record { thread = started g.threads t h; frame = some_frame (thread_at g t).frames h }
 
-runs_staged : (p : Linked) (f : FrameState) (stage : Stage) (method : Option ℕ) → f.method ≡ method → is_before stage ≡ false → IsStaged p f stage method → Runs p f
+runs_staged : (p : Linked) (f : FrameState) (stage : Stage) (method : Option ℕ) → f.method ≡ method → is_before_class stage ≡ false → IsStaged p f stage method → Runs p f
 runs_staged p f Plain (Some m) e b h = record { method = m; named = e; runs = h.0 }
 runs_staged p f Plain None e b h = absurd h
 runs_staged p f (Before c) method e b h = cc
 runs_staged p f (Clinit c) (Some m) e b h = record { method = m; named = e; runs = h.1 }
 runs_staged p f (Clinit c) None e b h = absurd h
 
-runs_first : (p : Linked) (fs : List FrameState) → has_frame fs ≡ true → is_before (first_frame fs).stage ≡ false → AreSoundFrames p fs → Runs p (first_frame fs)
+runs_first : (p : Linked) (fs : List FrameState) → has_frame fs ≡ true → is_before_class (first_frame fs).stage ≡ false → AreSoundFrames p fs → Runs p (first_frame fs)
 runs_first p [] e b h = cc
 runs_first p (f ∷ fs) e b h = runs_staged p f f.stage f.method refl b h.0
 

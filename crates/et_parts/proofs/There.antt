@@ -15,7 +15,7 @@ use Rattle.et_state.specs.State.{MachineState, kept_of}
 use Rattle.et_state.specs.Words.{HasFrame, top}
 use Rattle.et_state.proofs.Places.{top_root, lock_root}
 use Rattle.et_event.specs.Monitors.{Lock, OfObject, OfClass, lock_for, lock_in}
-use Rattle.et_event.specs.Sites.{method_of}
+use Rattle.et_event.specs.Sites.{running_method}
 use Rattle.et_event.specs.Sound.{IsSoundFor, IsSoundMonitor}
 use Rattle.et_parts.specs.Locks.{HasSome, IsFewTimes, IsSomeFewTimes, monitor_at}
 
@@ -40,11 +40,11 @@ stage_lock_there m (Clinit c) x r class held = tt
 lock_listed : (r : Option ℕ) (o : ℕ) → r ≡ Some o → Contains (option_to_list r) o
 lock_listed r o e = subst (λ (q : Option ℕ). Contains (option_to_list q) o) (sym e) (0, omega arith, refl)
 
-pub frame_lock_there : (p : Linked) (m : MachineState) (t : ℕ) → IsSoundFor p (kept_of m) → HasFrame m.guest t → (method_of p (top m.guest t)).class < length p.classes
-    → HasSome m (lock_in (top m.guest t).stage (method_of p (top m.guest t)) (top m.guest t).lock)
+pub frame_lock_there : (p : Linked) (m : MachineState) (t : ℕ) → IsSoundFor p (kept_of m) → HasFrame m.guest t → (running_method p (top m.guest t)).class < length p.classes
+    → HasSome m (lock_in (top m.guest t).stage (running_method p (top m.guest t)) (top m.guest t).lock)
 frame_lock_there p m t sound has class =
     let f : FrameState = top m.guest t in
-    stage_lock_there m f.stage (method_of p f) f.lock (subst (λ (n : ℕ). (method_of p f).class < n) (sym sound.class_monitors.0) class)
+    stage_lock_there m f.stage (running_method p f) f.lock (subst (λ (n : ℕ). (running_method p f).class < n) (sym sound.class_monitors.0) class)
     (λ o e. sound.held.roots o (top_root m.guest t o has (lock_root f o (lock_listed f.lock o e))))
 
 -- HOW OFTEN A MONITOR WAS ENTERED

@@ -21,16 +21,16 @@ use Rattle.et_state.specs.Outcome.{Outcome, Goes, ObjectLimit}
 use Rattle.et_program.specs.Entries.{Linked, class_at}
 use Rattle.et_event.specs.declared.errors.GuestError.{GuestError}
 use Rattle.et_event.specs.Errors.{error_class}
-use Rattle.et_event.specs.Moments.{Moment, moment, Doing, with_thread_state, begins, instance_made, pending_now, entry_given_up, next_object, ends as ending, fits, throws}
+use Rattle.et_event.specs.Moments.{Moment, moment, Doing, with_thread_state, begins, instance_made, pending_now, entry_given_up, next_object, ends_event as ending, fits_heap, throws}
 use Rattle.et_event.specs.Answered.{EventAnswers}
 use Rattle.et_parts.specs.Making.{MakesObject}
 
 -- HOW AN EVENT ENDS THAT MADE SOMETHING
 
-pub ends_fit : (d : Doing) → fits d.state.heap ≡ true → ending d ≡ Goes d.state d.records
+pub ends_fit : (d : Doing) → fits_heap d.state.heap ≡ true → ending d ≡ Goes d.state d.records
 ends_fit d e = ap (λ (b : Bool). if b then Goes d.state d.records else ObjectLimit) e
 
-pub ends_full : (d : Doing) → fits d.state.heap ≡ false → ending d ≡ ObjectLimit
+pub ends_full : (d : Doing) → fits_heap d.state.heap ≡ false → ending d ≡ ObjectLimit
 ends_full d e = ap (λ (b : Bool). if b then Goes d.state d.records else ObjectLimit) e
 
 -- A THREAD WITH A FRAME

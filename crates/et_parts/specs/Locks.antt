@@ -64,17 +64,17 @@ abbrev pub with_monitor_at : table.Lock → Monitor → MachineState → Machine
 with_monitor_at lock x m = keeping (table.with_monitor_of lock x (doing m)).state m
 
 -- a thread enters the monitor once more
-abbrev pub entering : ℕ → table.Lock → MachineState → MachineState
-entering t lock m = with_monitor_at lock (record { owner = Some t; count = (monitor_at m lock).count + 1 }) m
+abbrev pub entering_lock : ℕ → table.Lock → MachineState → MachineState
+entering_lock t lock m = with_monitor_at lock (record { owner = Some t; count = (monitor_at m lock).count + 1 }) m
 
 abbrev pub entering_some : ℕ → Option table.Lock → MachineState → MachineState
 entering_some t None m = m
-entering_some t (Some lock) m = entering t lock m
+entering_some t (Some lock) m = entering_lock t lock m
 
 -- .. and its owner leaves it once
-abbrev pub leaving : table.Lock → MachineState → MachineState
-leaving lock m = with_monitor_at lock (table.left_once (monitor_at m lock)) m
+abbrev pub leaving_lock : table.Lock → MachineState → MachineState
+leaving_lock lock m = with_monitor_at lock (table.left_once (monitor_at m lock)) m
 
 abbrev pub leaving_some : Option table.Lock → MachineState → MachineState
 leaving_some None m = m
-leaving_some (Some lock) m = leaving lock m
+leaving_some (Some lock) m = leaving_lock lock m

@@ -3,5 +3,5 @@ use Rattle.std.specs.Prelude.{List, Option, unwrap_or}
 use Rattle.et_pool.specs.Entries.{Item, Constants}
 use Rattle.et_event.specs.Sites.{no_constants}
 
-abbrev pub slots_of : Option Constants → List (Option Item)
-slots_of pool = (unwrap_or pool no_constants).slots
+abbrev pub pool_slots : Option Constants → List (Option Item)
+pool_slots pool = (unwrap_or pool no_constants).slots

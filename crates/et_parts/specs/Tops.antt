@@ -16,10 +16,10 @@ abbrev pub long_of : Value → Value → Option ℤ
 long_of LongHigh (Long n) = Some n
 long_of high low = None
 
-abbrev pub reference_of : Value → Option Reference
-reference_of Null = Some None
-reference_of (Ref o) = Some (Some o)
-reference_of other = None
+abbrev pub entry_reference : Value → Option Reference
+entry_reference Null = Some None
+entry_reference (Ref o) = Some (Some o)
+entry_reference other = None
 
 -- two entries are a long, or two values
 abbrev pub are_pair : Value → Value → Bool

@@ -5,7 +5,7 @@ ghost use Rattle.et_base.specs.Numbers.{number_at};
 ghost use Rattle.et_code.specs.Decoding.{instruction_at};
 ghost use Rattle.et_code.specs.Rules.{KeepsRules};
 ghost use Rattle.et_state.specs.Words.{HasFrame, top};
-ghost use Rattle.et_event.specs.Sites.{body_of, method_of as method_in, natural};
+ghost use Rattle.et_event.specs.Sites.{present_body, running_method as method_in, natural_of};
 ghost use Rattle.et_event.specs.Table.{row_of as row_in_table};
 ghost use Rattle.et_event.specs.declared.rows.Row.{Row};
 ghost use Rattle.et_parts.specs.Places.{Runs, is_frame};
@@ -39,7 +39,7 @@ fn bytes_of(code: &Code) -> &[u8]
 
 /// The code of a method, borrowed; it is empty where the method is abstract, native or built in.
 pub fn code_of(method: &MethodInfo) -> &[u8]
-    ensures bytes { result.now ≡ (body_of method.now.code).code }
+    ensures bytes { result.now ≡ (present_body method.now.code).code }
     ensures few { length result.now < 2 ^ 16 }
 {
     match &method.code {
@@ -88,7 +88,7 @@ fn few_locals(code: &Code)
 
 /// .. and so has a method.
 pub(crate) fn locals_are_few(method: &MethodInfo)
-    ensures { (body_of method.now.code).max_locals < 2 ^ 16 }
+    ensures { (present_body method.now.code).max_locals < 2 ^ 16 }
 {
     match &method.code {
         Some(code) => few_locals(code),
@@ -103,7 +103,7 @@ pub(crate) fn instruction(code: &[u8], pc: u32) -> Result<(Instr, u32), CodeFaul
     ensures decoded { result ≡ instruction_at code.now pc }
     ensures within { IfOk result (λ x. pc < length code.now) }
     ensures index { IfOk result (λ x. (r : Row) →
-        row_in_table x.0.opcode ≡ Some r → is_frame r ≡ false → natural x.0.first < 2 ^ 16) }
+        row_in_table x.0.opcode ≡ Some r → is_frame r ≡ false → natural_of x.0.first < 2 ^ 16) }
 {
     let pc = pc as usize;
     if pc >= code.len() {

@@ -1,6 +1,6 @@
 //! What an instruction names in the pool of its class: a member (JVMS 4.4.2) or a class (JVMS 4.4.1).
 ghost use Rattle.std.specs.Prelude.{◌≡◌, ◌<◌, ◌^◌, option_map};
-ghost use Rattle.et_event.specs.Sites.{Site, natural, pool_index, member_of, class_operand as operand_of, names_interface as is_of_interface};
+ghost use Rattle.et_event.specs.Sites.{Site, natural_of, pool_index, site_member, class_operand as operand_of, names_interface as is_of_interface};
 ghost use Rattle.et_parts.specs.Places.{site_at};
 ghost use Rattle.et_parts.specs.Members.{shown_member};
 
@@ -18,8 +18,8 @@ pub struct MemberAt<'a> {
 
 /// The index into the pool that an instruction has.
 fn index_of(place: &Place<'_>) -> u16
-    requires { natural place.now.instr.first < 2 ^ 16 }
-    ensures { result ≡ natural place.now.instr.first }
+    requires { natural_of place.now.instr.first < 2 ^ 16 }
+    ensures { result ≡ natural_of place.now.instr.first }
 {
     if place.instr.first < 0 {
         0
@@ -31,7 +31,7 @@ fn index_of(place: &Place<'_>) -> u16
 /// The member that an entry of a pool gives.
 fn described<'a>(pool: &'a Pool, index: u16) -> Option<MemberAt<'a>>
     ensures { (at : Site) → at.pool ≡ pool.now.slots →
-        pool_index at ≡ index → option_map shown_member result ≡ member_of at }
+        pool_index at ≡ index → option_map shown_member result ≡ site_member at }
 {
     let (owner, name_and_type) = pool.member(index)?;
     let owner = pool.class_name(owner)?;
@@ -48,8 +48,8 @@ fn described<'a>(pool: &'a Pool, index: u16) -> Option<MemberAt<'a>>
 /// The member that an instruction names; `None` where its index is that of no such entry, or its class has no pool. The bytes
 /// are borrowed from the pool.
 pub fn member_at<'a>(place: &Place<'a>) -> Option<MemberAt<'a>>
-    requires { natural place.now.instr.first < 2 ^ 16 }
-    ensures { option_map shown_member result ≡ member_of (site_at place.now) }
+    requires { natural_of place.now.instr.first < 2 ^ 16 }
+    ensures { option_map shown_member result ≡ site_member (site_at place.now) }
 {
     match place.pool {
         Some(pool) => described(pool, index_of(place)),
@@ -60,7 +60,7 @@ pub fn member_at<'a>(place: &Place<'a>) -> Option<MemberAt<'a>>
 /// The name of the class that an instruction has as its operand; `None` where its index is that of no Class entry, or its
 /// class has no pool.
 pub fn class_operand<'a>(place: &Place<'a>) -> Option<&'a [u8]>
-    requires { natural place.now.instr.first < 2 ^ 16 }
+    requires { natural_of place.now.instr.first < 2 ^ 16 }
     ensures { option_map (λ name. name.now) result ≡ operand_of (site_at place.now) }
 {
     match place.pool {
@@ -71,7 +71,7 @@ pub fn class_operand<'a>(place: &Place<'a>) -> Option<&'a [u8]>
 
 /// Whether the member is one of an interface (JVMS 4.4.2).
 pub fn names_interface(place: &Place<'_>) -> bool
-    requires { natural place.now.instr.first < 2 ^ 16 }
+    requires { natural_of place.now.instr.first < 2 ^ 16 }
     ensures { result ≡ is_of_interface (site_at place.now) }
 {
     match place.pool {

@@ -1,7 +1,7 @@
 //! Monitors, read, entered and left.
 ghost use Rattle.std.specs.Prelude.{◌≡◌, ◌+◌, ◌<◌, ◌≤◌, ◌^◌};
 ghost use Rattle.et_event.specs.Monitors.{left_once as once_left};
-ghost use Rattle.et_parts.specs.Locks.{lock_of, locks_of, HasMonitor, HasSome, IsFewTimes, IsSomeFewTimes, monitor_at, with_monitor_at, owns_at, owns_some_at, may_enter_at, may_enter_some_at, entering, entering_some, leaving, leaving_some};
+ghost use Rattle.et_parts.specs.Locks.{lock_of, locks_of, HasMonitor, HasSome, IsFewTimes, IsSomeFewTimes, monitor_at, with_monitor_at, owns_at, owns_some_at, may_enter_at, may_enter_some_at, entering_lock, entering_some, leaving_lock, leaving_some};
 
 use crate::locks::Lock;
 use et_base::{Steps, ThreadId};
@@ -83,7 +83,7 @@ pub fn enter_monitor<L: Ledger>(
 )
     requires there { HasMonitor machine.old (lock_of lock.now) }
     requires count { IsFewTimes machine.old (lock_of lock.now) }
-    ensures new { machine.new ≡ entering thread (lock_of lock.now) machine.old }
+    ensures new { machine.new ≡ entering_lock thread (lock_of lock.now) machine.old }
     ensures visits { visits.new ≤ visits.old + 2 }
 {
     let count = monitor(machine, lock, visits).count;
@@ -114,7 +114,7 @@ fn left_once(monitor: &Monitor) -> Monitor
 /// Leaves the monitor of a lock once: after the last time nobody owns it. It visits two objects at most.
 pub fn leave_monitor<L: Ledger>(machine: &mut Machine, lock: &Lock, visits: &mut Steps<L>)
     requires { HasMonitor machine.old (lock_of lock.now) }
-    ensures new { machine.new ≡ leaving (lock_of lock.now) machine.old }
+    ensures new { machine.new ≡ leaving_lock (lock_of lock.now) machine.old }
     ensures visits { visits.new ≤ visits.old + 2 }
 {
     let entered = monitor(machine, lock, visits);

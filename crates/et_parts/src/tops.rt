@@ -2,8 +2,8 @@
 ghost use Rattle.std.specs.Prelude.{◌≡◌, ◌+◌, ◌<◌, ◌^◌, length, drop, true};
 ghost use Rattle.et_state.specs.Threads.{operand_of};
 ghost use Rattle.et_state.specs.Words.{HasFrame, top};
-ghost use Rattle.et_event.specs.Plain.{is_single as single, is_one as one_first, is_pair as pair_first};
-ghost use Rattle.et_parts.specs.Tops.{int_of, long_of, reference_of, IsIn, are_pair};
+ghost use Rattle.et_event.specs.Plain.{is_single as single, is_one_value as one_first, is_value_pair as pair_first};
+ghost use Rattle.et_parts.specs.Tops.{int_of, long_of, entry_reference, IsIn, are_pair};
 
 use et_base::{ObjectId, ThreadId, Value};
 use et_state::Machine;
@@ -52,7 +52,7 @@ pub fn long_at(machine: &Machine, thread: ThreadId, k: u32) -> Option<i64>
 /// The reference so far below the top.
 pub fn reference_at(machine: &Machine, thread: ThreadId, k: u32) -> Option<Option<ObjectId>>
     requires { HasFrame machine.now.guest thread }
-    ensures { result ≡ reference_of (operand_of (top machine.now.guest thread) k) }
+    ensures { result ≡ entry_reference (operand_of (top machine.now.guest thread) k) }
 {
     match operand_at(machine, thread, k) {
         Value::Null => Some(None),

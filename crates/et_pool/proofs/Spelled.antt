@@ -11,11 +11,11 @@ use Rattle.et_pool.specs.Broken.{Broken, Tag, Utf8, Short}
 use Rattle.et_pool.specs.declared.entry.Shape.{Shape}
 use Rattle.et_pool.specs.declared.entry.Shape.TheVariants as shape
 use Rattle.et_pool.specs.Text.{is_modified}
-use Rattle.et_pool.specs.Entries.{Item, Text, Word, Wide, Name, Pair, Handle, shape_of, indices, item_bytes, room_of, slots_of, slots_of_item}
-use Rattle.et_pool.specs.Reading.{number, text_at, body_at, shaped_at, entry_at}
+use Rattle.et_pool.specs.Entries.{Item, Text, Word, Wide, Name, Pair, Handle, shape_of, indices, item_bytes, slots_taken, slots_of, slots_of_item}
+use Rattle.et_pool.specs.Reading.{pool_number, text_at, body_at, shaped_at, entry_at}
 use Rattle.et_pool.specs.Pools.{AreEntries, IsPool}
 use Rattle.et_pool.specs.Looks.{slot_bytes, end_of}
-use Rattle.et_pool.specs.Spelling.{IsEntry, IsSpelled}
+use Rattle.et_pool.specs.Spelling.{IsEntry, IsPoolSpelled}
 use Rattle.et_pool.proofs.Rooms.{entry_room}
 use Rattle.et_pool.proofs.Listing.{slots_length}
 use Rattle.et_pool.proofs.OneAnswer.{room_pos}
@@ -71,7 +71,7 @@ byte_reads bytes at n next fits e =
 text_spelt : (bytes : List ℕ) (entry tag at : ℕ) → AreBytes bytes → tag ≡ 1 → Spelt bytes at tag (text_at bytes entry at)
 unfolding text_at
 text_spelt bytes entry tag at fits one =
-    by_bind (Spelt bytes at tag) (number w16 bytes at) _ (λ f h. tt) (λ n h.
+    by_bind (Spelt bytes at tag) (pool_number w16 bytes at) _ (λ f h. tt) (λ n h.
     by_bind (Spelt bytes at tag) (ok_or (bytes_at bytes n.0 n.1) (Short n.1)) _ (λ f g. tt) (λ text g.
     by_if (Spelt bytes at tag) (is_modified text.0) (Ok (Text text.0, text.1)) (Err (Utf8 entry)) (λ m.
     let r = number_reads w16 wide16 bytes at n.0 n.1 fits (ok_some _ _ _ h) in
@@ -86,23 +86,23 @@ text_spelt bytes entry tag at fits one =
 body_spelt : (bytes : List ℕ) (entry tag at : ℕ) (s : Shape) → AreBytes bytes → shape_of tag ≡ Some s → Spelt bytes at tag (body_at bytes entry tag at s)
 body_spelt bytes entry tag at shape.Text fits e = text_spelt bytes entry tag at fits (tag_text tag e)
 body_spelt bytes entry tag at shape.Word fits e =
-    by_bind (Spelt bytes at tag) (number w32 bytes at) _ (λ f h. tt) (λ n h.
+    by_bind (Spelt bytes at tag) (pool_number w32 bytes at) _ (λ f h. tt) (λ n h.
     let r = number_reads w32 wide32 bytes at n.0 n.1 fits (ok_some _ _ _ h) in (to_be_bytes w32 n.0, refl, r.reads, (e, r.fits)))
 body_spelt bytes entry tag at shape.Wide fits e =
-    by_bind (Spelt bytes at tag) (number w64 bytes at) _ (λ f h. tt) (λ n h.
+    by_bind (Spelt bytes at tag) (pool_number w64 bytes at) _ (λ f h. tt) (λ n h.
     let r = number_reads w64 wide64 bytes at n.0 n.1 fits (ok_some _ _ _ h) in (to_be_bytes w64 n.0, refl, r.reads, (e, r.fits)))
 body_spelt bytes entry tag at shape.Name fits e =
-    by_bind (Spelt bytes at tag) (number w16 bytes at) _ (λ f h. tt) (λ n h.
+    by_bind (Spelt bytes at tag) (pool_number w16 bytes at) _ (λ f h. tt) (λ n h.
     let r = number_reads w16 wide16 bytes at n.0 n.1 fits (ok_some _ _ _ h) in (to_be_bytes w16 n.0, refl, r.reads, (e, r.fits)))
 body_spelt bytes entry tag at shape.Pair fits e =
-    by_bind (Spelt bytes at tag) (number w16 bytes at) _ (λ f h. tt) (λ m h.
-    by_bind (Spelt bytes at tag) (number w16 bytes m.1) _ (λ f i. tt) (λ n i.
+    by_bind (Spelt bytes at tag) (pool_number w16 bytes at) _ (λ f h. tt) (λ m h.
+    by_bind (Spelt bytes at tag) (pool_number w16 bytes m.1) _ (λ f i. tt) (λ n i.
     let r = number_reads w16 wide16 bytes at m.0 m.1 fits (ok_some _ _ _ h) in
     let s = number_reads w16 wide16 bytes m.1 n.0 n.1 fits (ok_some _ _ _ i) in
     (to_be_bytes w16 m.0 ++ to_be_bytes w16 n.0, refl, Reads-then bytes at (to_be_bytes w16 m.0) m.1 (to_be_bytes w16 n.0) n.1 r.reads s.reads, (e, r.fits, s.fits))))
 body_spelt bytes entry tag at shape.Handle fits e =
-    by_bind (Spelt bytes at tag) (number w8 bytes at) _ (λ f h. tt) (λ m h.
-    by_bind (Spelt bytes at tag) (number w16 bytes m.1) _ (λ f i. tt) (λ n i.
+    by_bind (Spelt bytes at tag) (pool_number w8 bytes at) _ (λ f h. tt) (λ m h.
+    by_bind (Spelt bytes at tag) (pool_number w16 bytes m.1) _ (λ f i. tt) (λ n i.
     let r = byte_reads bytes at m.0 m.1 fits (ok_some _ _ _ h) in
     let s = number_reads w16 wide16 bytes m.1 n.0 n.1 fits (ok_some _ _ _ i) in
     (m.0 ∷ to_be_bytes w16 n.0, ap (λ (k : ℕ). k ∷ m.0 ∷ to_be_bytes w16 n.0) (sym (tag_handle tag e)), Reads-then bytes at (m.0 ∷ []) m.1 (to_be_bytes w16 n.0) n.1 r.reads s.reads, (r.fits, s.fits))))
@@ -127,7 +127,7 @@ whole_from bytes at tag after (Err f) h s = tt
 entry_whole : (bytes : List ℕ) (room at : ℕ) → AreBytes bytes → Whole bytes at (entry_at bytes room at)
 unfolding entry_at
 entry_whole bytes room at fits =
-    by_bind (Whole bytes at) (number w8 bytes at) _ (λ f h. tt) (λ tag h.
+    by_bind (Whole bytes at) (pool_number w8 bytes at) _ (λ f h. tt) (λ tag h.
     whole_from bytes at tag.0 tag.1 (shaped_at bytes room at tag.0 tag.1 (shape_of tag.0)) (byte_reads bytes at tag.0 tag.1 fits (ok_some _ _ _ h)).reads (shaped_spelt bytes room at tag.0 tag.1 _ fits refl))
 
 entry_reads : (bytes : List ℕ) (room at : ℕ) (e : Item) (next : ℕ) → AreBytes bytes → entry_at bytes room at ≡ Ok (e, next) → IsWhole bytes at e next
@@ -136,7 +136,7 @@ entry_reads bytes room at e next fits h = subst (λ r. Whole bytes at r) h (entr
 entries_read : (bytes : List ℕ) (room at : ℕ) (es : List Item) (left after : ℕ) → AreBytes bytes → AreEntries bytes room at es left after → Reads bytes at (flat_map item_bytes es) after
 entries_read bytes room at [] left after fits h = Reads-nothing bytes at after h.1
 entries_read bytes room at (e ∷ es) left after fits h =
-    Reads-then bytes at (item_bytes e) h.0 (flat_map item_bytes es) after (entry_reads bytes room at e h.0 fits h.1).reads (entries_read bytes (room - room_of e) h.0 es left after fits h.2)
+    Reads-then bytes at (item_bytes e) h.0 (flat_map item_bytes es) after (entry_reads bytes room at e h.0 fits h.1).reads (entries_read bytes (room - slots_taken e) h.0 es left after fits h.2)
 
 at_place : (e : Item) (es : List Item) → IsEntry e → All IsEntry es → (k : ℕ) (d : Item) → k < length (e ∷ es) → IsEntry (slice_index_or (e ∷ es) k d)
 at_place e es h all zero d lt = h
@@ -147,14 +147,14 @@ All-cons e es h all = λ k d lt. at_place e es h all k d lt
 
 are_entries : (bytes : List ℕ) (room at : ℕ) (es : List Item) (left after : ℕ) → AreBytes bytes → AreEntries bytes room at es left after → All IsEntry es
 are_entries bytes room at [] left after fits h = λ k d lt. absurd (omega arith)
-are_entries bytes room at (e ∷ es) left after fits h = All-cons e es (entry_reads bytes room at e h.0 fits h.1).entry (are_entries bytes (room - room_of e) h.0 es left after fits h.2)
+are_entries bytes room at (e ∷ es) left after fits h = All-cons e es (entry_reads bytes room at e h.0 fits h.1).entry (are_entries bytes (room - slots_taken e) h.0 es left after fits h.2)
 
 slots_fill : (bytes : List ℕ) (room at : ℕ) (es : List Item) (left after : ℕ) → AreEntries bytes room at es left after → length (flat_map slots_of_item es) + left ≡ room
 slots_fill bytes room at [] left after h = omega (arith, h.0)
 slots_fill bytes room at (e ∷ es) left after h =
-    omega (arith, slots_fill bytes (room - room_of e) h.0 es left after h.2, entry_room bytes room at e h.0 h.1, slots_length e, length-append (slots_of_item e) (flat_map slots_of_item es))
+    omega (arith, slots_fill bytes (room - slots_taken e) h.0 es left after h.2, entry_room bytes room at e h.0 h.1, slots_length e, length-append (slots_of_item e) (flat_map slots_of_item es))
 
-pub pool_spelled : (bytes : List ℕ) (at : ℕ) (slots : List (Option Item)) (after : ℕ) → AreBytes bytes → IsPool bytes at slots after → IsSpelled bytes at slots after
+pub pool_spelled : (bytes : List ℕ) (at : ℕ) (slots : List (Option Item)) (after : ℕ) → AreBytes bytes → IsPool bytes at slots after → IsPoolSpelled bytes at slots after
 pool_spelled bytes at slots after fits p =
     let fill = slots_fill bytes (p.count - 1) p.start p.filled.entries 0 after p.filled.whole in
     let count_is : p.count ≡ length (slots_of p.filled.entries) = omega (arith, fill, p.some) in
@@ -185,12 +185,12 @@ none_some s e = cc
 tag_small : (tag : ℕ) (s : Shape) → shape_of tag ≡ Some s → tag < 256
 tag_small tag s e = elim (cases_lt tag 256) [ inl lt ↦ lt | inr le ↦ absurd (none_some s (sym (none_beyond tag le) ∙ e)) ]
 
-read_byte : (bytes : List ℕ) (at n next : ℕ) → n < 256 → Reads bytes at (n ∷ []) next → number w8 bytes at ≡ Ok (n, next)
+read_byte : (bytes : List ℕ) (at n next : ℕ) → n < 256 → Reads bytes at (n ∷ []) next → pool_number w8 bytes at ≡ Ok (n, next)
 read_byte bytes at n next lt r =
     let same : n ≡ n % 256 = omega arith in
     some_ok _ _ _ (reads_number w8 wide8 (omega arith) bytes at n next lt (subst (λ (k : ℕ). Reads bytes at (k ∷ []) next) same r))
 
-read_16 : (bytes : List ℕ) (at n next : ℕ) → n < 2 ^ 16 → Reads bytes at (to_be_bytes w16 n) next → number w16 bytes at ≡ Ok (n, next)
+read_16 : (bytes : List ℕ) (at n next : ℕ) → n < 2 ^ 16 → Reads bytes at (to_be_bytes w16 n) next → pool_number w16 bytes at ≡ Ok (n, next)
 read_16 bytes at n next lt r = some_ok _ _ _ (reads_number w16 wide16 (omega arith) bytes at n next lt r)
 
 -- an entry behind its tag
@@ -198,7 +198,7 @@ after_tag : (bytes : List ℕ) (room at tag : ℕ) (s : Shape) (rest : List ℕ)
 unfolding entry_at
 after_tag bytes room at tag s rest next x e le r h =
     let first = read_byte bytes at tag (at + 1) (tag_small tag s e) (Reads-first bytes at (tag ∷ []) rest next r) in
-    bind_ok (number w8 bytes at) _ (tag, at + 1) x first (ap (λ o. shaped_at bytes room at tag (at + 1) o) e ∙ (ap (λ (b : Bool). cond b (Err (Tag at)) (body_at bytes at tag (at + 1) s)) (le-ltb _ _ le) ∙ h))
+    bind_ok (pool_number w8 bytes at) _ (tag, at + 1) x first (ap (λ o. shaped_at bytes room at tag (at + 1) o) e ∙ (ap (λ (b : Bool). cond b (Err (Tag at)) (body_at bytes at tag (at + 1) s)) (le-ltb _ _ le) ∙ h))
 
 -- a text that is spelled is read, or refused where it isn't modified UTF-8
 text_read : (bytes : List ℕ) (entry at : ℕ) (text : List ℕ) (next : ℕ) → length text < 2 ^ 16 → Reads bytes at (to_be_bytes w16 (length text) ++ text) next → text_at bytes entry at ≡ cond (is_modified text) (Ok (Text text, next)) (Err (Utf8 entry))
@@ -207,30 +207,30 @@ text_read bytes entry at text next lt r =
     let head = Reads-first bytes at (to_be_bytes w16 (length text)) text next r in
     let n = read_16 bytes at (length text) (at + 2) lt head in
     let run = reads_run bytes (length text) (at + 2) text next (in_bytes bytes at (to_be_bytes w16 (length text)) (at + 2) (omega arith) head) refl (Reads-second bytes at (to_be_bytes w16 (length text)) text next r) in
-    bind_ok (number w16 bytes at) _ (length text, at + 2) _ n (bind_ok (ok_or (bytes_at bytes (length text) (at + 2)) (Short (at + 2))) _ (text, next) _ (some_ok _ _ _ run) refl)
+    bind_ok (pool_number w16 bytes at) _ (length text, at + 2) _ n (bind_ok (ok_or (bytes_at bytes (length text) (at + 2)) (Short (at + 2))) _ (text, next) _ (some_ok _ _ _ run) refl)
 
 text_back : (bytes : List ℕ) (entry at : ℕ) (text : List ℕ) (next : ℕ) → is_modified text ≡ true → length text < 2 ^ 16 → Reads bytes at (to_be_bytes w16 (length text) ++ text) next → text_at bytes entry at ≡ Ok (Text text, next)
 text_back bytes entry at text next m lt r = text_read bytes entry at text next lt r ∙ ap (λ (b : Bool). cond {A = Result (Item × ℕ) Broken} b (Ok (Text text, next)) (Err (Utf8 entry))) m
 
-entry_back : (bytes : List ℕ) (room at : ℕ) (e : Item) (next : ℕ) → IsEntry e → room_of e ≤ room → Reads bytes at (item_bytes e) next → entry_at bytes room at ≡ Ok (e, next)
+entry_back : (bytes : List ℕ) (room at : ℕ) (e : Item) (next : ℕ) → IsEntry e → slots_taken e ≤ room → Reads bytes at (item_bytes e) next → entry_at bytes room at ≡ Ok (e, next)
 entry_back bytes room at (Text text) next h le r =
     after_tag bytes room at 1 shape.Text _ next _ refl le r (text_back bytes at (at + 1) text next h.0 h.1 (Reads-second bytes at (1 ∷ []) _ next r))
 entry_back bytes room at (Word tag n) next h le r =
-    after_tag bytes room at tag shape.Word _ next _ h.0 le r (bind_ok (number w32 bytes (at + 1)) _ (n, next) _ (some_ok _ _ _ (reads_number w32 wide32 (omega arith) bytes (at + 1) n next h.1 (Reads-second bytes at (tag ∷ []) _ next r))) refl)
+    after_tag bytes room at tag shape.Word _ next _ h.0 le r (bind_ok (pool_number w32 bytes (at + 1)) _ (n, next) _ (some_ok _ _ _ (reads_number w32 wide32 (omega arith) bytes (at + 1) n next h.1 (Reads-second bytes at (tag ∷ []) _ next r))) refl)
 entry_back bytes room at (Wide tag n) next h le r =
-    after_tag bytes room at tag shape.Wide _ next _ h.0 le r (bind_ok (number w64 bytes (at + 1)) _ (n, next) _ (some_ok _ _ _ (reads_number w64 wide64 (omega arith) bytes (at + 1) n next h.1 (Reads-second bytes at (tag ∷ []) _ next r))) refl)
+    after_tag bytes room at tag shape.Wide _ next _ h.0 le r (bind_ok (pool_number w64 bytes (at + 1)) _ (n, next) _ (some_ok _ _ _ (reads_number w64 wide64 (omega arith) bytes (at + 1) n next h.1 (Reads-second bytes at (tag ∷ []) _ next r))) refl)
 entry_back bytes room at (Name tag n) next h le r =
-    after_tag bytes room at tag shape.Name _ next _ h.0 le r (bind_ok (number w16 bytes (at + 1)) _ (n, next) _ (read_16 bytes (at + 1) n next h.1 (Reads-second bytes at (tag ∷ []) _ next r)) refl)
+    after_tag bytes room at tag shape.Name _ next _ h.0 le r (bind_ok (pool_number w16 bytes (at + 1)) _ (n, next) _ (read_16 bytes (at + 1) n next h.1 (Reads-second bytes at (tag ∷ []) _ next r)) refl)
 entry_back bytes room at (Pair tag m n) next h le r =
     let body = Reads-second bytes at (tag ∷ []) (to_be_bytes w16 m ++ to_be_bytes w16 n) next r in
     after_tag bytes room at tag shape.Pair _ next _ h.0 le r
-    (bind_ok (number w16 bytes (at + 1)) _ (m, at + 1 + 2) _ (read_16 bytes (at + 1) m (at + 1 + 2) h.1 (Reads-first bytes (at + 1) (to_be_bytes w16 m) (to_be_bytes w16 n) next body))
-    (bind_ok (number w16 bytes (at + 1 + 2)) _ (n, next) _ (read_16 bytes (at + 1 + 2) n next h.2 (Reads-second bytes (at + 1) (to_be_bytes w16 m) (to_be_bytes w16 n) next body)) refl))
+    (bind_ok (pool_number w16 bytes (at + 1)) _ (m, at + 1 + 2) _ (read_16 bytes (at + 1) m (at + 1 + 2) h.1 (Reads-first bytes (at + 1) (to_be_bytes w16 m) (to_be_bytes w16 n) next body))
+    (bind_ok (pool_number w16 bytes (at + 1 + 2)) _ (n, next) _ (read_16 bytes (at + 1 + 2) n next h.2 (Reads-second bytes (at + 1) (to_be_bytes w16 m) (to_be_bytes w16 n) next body)) refl))
 entry_back bytes room at (Handle k n) next h le r =
     let body = Reads-second bytes at (15 ∷ []) (k ∷ to_be_bytes w16 n) next r in
     after_tag bytes room at 15 shape.Handle _ next _ refl le r
-    (bind_ok (number w8 bytes (at + 1)) _ (k, at + 1 + 1) _ (read_byte bytes (at + 1) k (at + 1 + 1) h.0 (Reads-first bytes (at + 1) (k ∷ []) (to_be_bytes w16 n) next body))
-    (bind_ok (number w16 bytes (at + 1 + 1)) _ (n, next) _ (read_16 bytes (at + 1 + 1) n next h.1 (Reads-second bytes (at + 1) (k ∷ []) (to_be_bytes w16 n) next body)) refl))
+    (bind_ok (pool_number w8 bytes (at + 1)) _ (k, at + 1 + 1) _ (read_byte bytes (at + 1) k (at + 1 + 1) h.0 (Reads-first bytes (at + 1) (k ∷ []) (to_be_bytes w16 n) next body))
+    (bind_ok (pool_number w16 bytes (at + 1 + 1)) _ (n, next) _ (read_16 bytes (at + 1 + 1) n next h.1 (Reads-second bytes (at + 1) (k ∷ []) (to_be_bytes w16 n) next body)) refl))
 
 entries_back : (bytes : List ℕ) (room at : ℕ) (es : List Item) (after : ℕ) → All IsEntry es → length (flat_map slots_of_item es) ≡ room → Reads bytes at (flat_map item_bytes es) after → AreEntries bytes room at es 0 after
 entries_back bytes room at [] after all k r = (k, omega (arith, r.next_is))
@@ -238,10 +238,10 @@ entries_back bytes room at (e ∷ es) after all k r =
     let split = length-append (slots_of_item e) (flat_map slots_of_item es) in (
       at + length (item_bytes e),
       entry_back bytes room at e (at + length (item_bytes e)) (all 0 e (omega arith)) (omega (arith, split, k, slots_length e)) (Reads-first bytes at (item_bytes e) (flat_map item_bytes es) after r),
-      entries_back bytes (room - room_of e) (at + length (item_bytes e)) es after (λ i d lt. all (suc i) d (omega arith)) (omega (arith, split, k, slots_length e)) (Reads-second bytes at (item_bytes e) (flat_map item_bytes es) after r),
+      entries_back bytes (room - slots_taken e) (at + length (item_bytes e)) es after (λ i d lt. all (suc i) d (omega arith)) (omega (arith, split, k, slots_length e)) (Reads-second bytes at (item_bytes e) (flat_map item_bytes es) after r),
     )
 
-pub spelled_pool : (bytes : List ℕ) (at : ℕ) (slots : List (Option Item)) (after : ℕ) → IsSpelled bytes at slots after → IsPool bytes at slots after
+pub spelled_pool : (bytes : List ℕ) (at : ℕ) (slots : List (Option Item)) (after : ℕ) → IsPoolSpelled bytes at slots after → IsPool bytes at slots after
 spelled_pool bytes at slots after s =
     let whole : Reads bytes at (to_be_bytes w16 (length (slots_of s.entries)) ++ flat_map item_bytes s.entries) after = record { stands = s.stands; next_is = s.after_is } in
     record {
@@ -277,7 +277,7 @@ text_case bytes room at text next x false m lt le r h =
     absurd cc
 
 -- an entry that fits is one that can be spelled, where any entry is read from its bytes
-read_fits : (bytes : List ℕ) (room at : ℕ) (e : Item) (next : ℕ) (x : Item × ℕ) → Fits e → room_of e ≤ room → Reads bytes at (item_bytes e) next → entry_at bytes room at ≡ Ok x → IsEntry e
+read_fits : (bytes : List ℕ) (room at : ℕ) (e : Item) (next : ℕ) (x : Item × ℕ) → Fits e → slots_taken e ≤ room → Reads bytes at (item_bytes e) next → entry_at bytes room at ≡ Ok x → IsEntry e
 read_fits bytes room at (Text text) next x f le r h = (text_case bytes room at text next x (is_modified text) refl f le r h, f)
 read_fits bytes room at (Word tag n) next x f le r h = f
 read_fits bytes room at (Wide tag n) next x f le r h = f
@@ -295,21 +295,21 @@ entries_fit bytes room at [] (d ∷ ds) after next all k r w =
     absurd (omega (arith, split, k, slots_length d, room_pos d, w.0))
 entries_fit bytes room at (e ∷ es) (d ∷ ds) after next all k r w =
     let split = length-append (slots_of_item d) (flat_map slots_of_item ds) in
-    let le : room_of d ≤ room = omega (arith, split, k, slots_length d) in
+    let le : slots_taken d ≤ room = omega (arith, split, k, slots_length d) in
     let here = Reads-first bytes at (item_bytes d) (flat_map item_bytes ds) next r in
     let rest = Reads-second bytes at (item_bytes d) (flat_map item_bytes ds) next r in
     let is = read_fits bytes room at d (at + length (item_bytes d)) (e, w.0) (all 0 d (omega arith)) le here w.1 in
     let same = same_read (entry_at bytes room at) (e, w.0) (d, at + length (item_bytes d)) w.1 (entry_back bytes room at d (at + length (item_bytes d)) is le here) in
     All-cons d ds is
-    (entries_fit bytes (room - room_of d) (at + length (item_bytes d)) es ds after next (λ i x lt. all (suc i) x (omega arith)) (omega (arith, split, k, slots_length d)) rest
-    (subst (λ (x : Item × ℕ). AreEntries bytes (room - room_of x.0) x.1 es 0 after) same w.2))
+    (entries_fit bytes (room - slots_taken d) (at + length (item_bytes d)) es ds after next (λ i x lt. all (suc i) x (omega arith)) (omega (arith, split, k, slots_length d)) rest
+    (subst (λ (x : Item × ℕ). AreEntries bytes (room - slots_taken x.0) x.1 es 0 after) same w.2))
 
 -- where a pool is read from the bytes of entries that fit, they can be spelled
 pub pool_stands : (bytes : List ℕ) (at : ℕ) (slots : List (Option Item)) (after : ℕ) (ds : List Item) (next : ℕ) → IsPool bytes at slots after → All Fits ds → length (slots_of ds) < 2 ^ 16 → Reads bytes at (to_be_bytes w16 (length (slots_of ds)) ++ flat_map item_bytes ds) next → All IsEntry ds
 pool_stands bytes at slots after ds next p all lt r =
     let n = length (slots_of ds) in
-    let counted : number w16 bytes at ≡ Ok (n, at + 2) = read_16 bytes at n (at + 2) lt (Reads-first bytes at (to_be_bytes w16 n) (flat_map item_bytes ds) next r) in
-    let same = same_read (number w16 bytes at) (p.count, p.start) (n, at + 2) p.counted counted in
+    let counted : pool_number w16 bytes at ≡ Ok (n, at + 2) = read_16 bytes at n (at + 2) lt (Reads-first bytes at (to_be_bytes w16 n) (flat_map item_bytes ds) next r) in
+    let same = same_read (pool_number w16 bytes at) (p.count, p.start) (n, at + 2) p.counted counted in
     entries_fit bytes (n - 1) (at + 2) p.filled.entries ds after next all (omega arith) (Reads-second bytes at (to_be_bytes w16 n) (flat_map item_bytes ds) next r)
     (subst (λ (x : ℕ × ℕ). AreEntries bytes (x.0 - 1) x.1 p.filled.entries 0 after) same p.filled.whole)
 

@@ -30,13 +30,13 @@ after_dimensions more (a ∷ rest) = if a == 91 then (if more == 0 then None els
 abbrev pub after_type : List ℕ → Option (List ℕ)
 after_type s = after_dimensions 255 s
 
-abbrev pub is_end : Option (List ℕ) → Bool
-is_end None = false
-is_end (Some rest) = length rest == 0
+abbrev pub is_text_end : Option (List ℕ) → Bool
+is_text_end None = false
+is_text_end (Some rest) = length rest == 0
 
 -- a field descriptor, and nothing behind it
 abbrev pub is_field_descriptor : List ℕ → Bool
-is_field_descriptor s = is_end (after_type s)
+is_field_descriptor s = is_text_end (after_type s)
 
 -- the field descriptor at the front, and what stands behind it
 abbrev pub first_type : List ℕ → Option (List ℕ × List ℕ)
@@ -75,8 +75,8 @@ abbrev pub is_method_descriptor : List ℕ → Bool
 is_method_descriptor s = is_some (method_type s)
 
 -- the byte behind the dimensions of a type
-abbrev pub element_of : List ℕ → Option ℕ
-element_of s = find (λ a. not (a == 91)) s
+abbrev pub element_descriptor : List ℕ → Option ℕ
+element_descriptor s = find (λ a. not (a == 91)) s
 
 abbrev pub is_float_or_double : Option ℕ → Bool
 is_float_or_double None = false
@@ -84,7 +84,7 @@ is_float_or_double (Some a) = (a == 68) || (a == 70)
 
 -- D or F, or an array over one of them
 abbrev pub is_floating : List ℕ → Bool
-is_floating s = is_float_or_double (element_of s)
+is_floating s = is_float_or_double (element_descriptor s)
 
 abbrev pub is_array : List ℕ → Bool
 is_array [] = false

@@ -62,8 +62,8 @@ slots_of_item (Name tag index) = Some (Name tag index) ∷ []
 slots_of_item (Pair tag first second) = Some (Pair tag first second) ∷ []
 slots_of_item (Handle kind index) = Some (Handle kind index) ∷ []
 
-abbrev pub room_of : Item → ℕ
-room_of e = indices (layout_of e)
+abbrev pub slots_taken : Item → ℕ
+slots_taken e = indices (layout_of e)
 
 -- the bytes of an entry
 abbrev pub item_bytes : Item → List ℕ

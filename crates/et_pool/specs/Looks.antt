@@ -140,8 +140,8 @@ slot_bytes None = []
 slot_bytes (Some e) = item_bytes e
 
 -- the place of the entry at an index of a pool whose count stands at `at`
-abbrev pub place_of : ℕ → List (Option Item) → ℕ → ℕ
-place_of at slots i = at + 2 + length (flat_map slot_bytes (take i slots))
+abbrev pub item_place : ℕ → List (Option Item) → ℕ → ℕ
+item_place at slots i = at + 2 + length (flat_map slot_bytes (take i slots))
 
 -- the place after a pool
 abbrev pub end_of : ℕ → List (Option Item) → ℕ
@@ -153,13 +153,13 @@ pub record BreaksIndex (at : ℕ) (slots : List (Option Item)) (place : ℕ) : T
   pub within : index < length slots
   pub broken : is_fit_slot slots (slot_at slots index) ≡ false
   pub first : AllFit slots index
-  pub place_is : place ≡ place_of at slots index
+  pub place_is : place ≡ item_place at slots index
 
 -- no entry breaks a rule, or the answer is the first that does
-abbrev pub Checks : {A : Type 0} → ℕ → List (Option Item) → Result A PoolFault → Type 0
-Checks at slots (Ok x) = AllFit slots (length slots)
-Checks at slots (Err (fault.Tag p)) = ⊥
-Checks at slots (Err (fault.Utf8 p)) = ⊥
-Checks at slots (Err (fault.Index p)) = BreaksIndex at slots p
-Checks at slots (Err (fault.Short p)) = ⊥
-Checks at slots (Err fault.NoMemory) = ⊥
+abbrev pub ChecksPool : {A : Type 0} → ℕ → List (Option Item) → Result A PoolFault → Type 0
+ChecksPool at slots (Ok x) = AllFit slots (length slots)
+ChecksPool at slots (Err (fault.Tag p)) = ⊥
+ChecksPool at slots (Err (fault.Utf8 p)) = ⊥
+ChecksPool at slots (Err (fault.Index p)) = BreaksIndex at slots p
+ChecksPool at slots (Err (fault.Short p)) = ⊥
+ChecksPool at slots (Err fault.NoMemory) = ⊥

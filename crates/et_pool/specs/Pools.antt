@@ -6,14 +6,14 @@ use Rattle.et_pool.specs.declared.fault.PoolFault.{PoolFault}
 use Rattle.et_pool.specs.declared.entry.Entry.{Entry}
 use Rattle.et_pool.specs.declared.look.Pool.{Pool}
 use Rattle.et_pool.specs.Broken.{Broken, Tag}
-use Rattle.et_pool.specs.Entries.{Item, room_of, slots_of, view_slots}
-use Rattle.et_pool.specs.Reading.{number, entry_at, IsFault}
+use Rattle.et_pool.specs.Entries.{Item, slots_taken, slots_of, view_slots}
+use Rattle.et_pool.specs.Reading.{pool_number, entry_at, IsPoolFaultOf}
 
 -- These entries stand one after the other from `at` up to `after`. Before the first of them `room` indices are to be
 -- filled, behind the last one `left`.
 abbrev pub AreEntries : List ℕ → ℕ → ℕ → List Item → ℕ → ℕ → Type 0
 AreEntries bytes room at [] left after = (left ≡ room) × (after ≡ at)
-AreEntries bytes room at (e ∷ es) left after = (next : ℕ) × (entry_at bytes room at ≡ Ok (e, next)) × AreEntries bytes (room - room_of e) next es left after
+AreEntries bytes room at (e ∷ es) left after = (next : ℕ) × (entry_at bytes room at ≡ Ok (e, next)) × AreEntries bytes (room - slots_taken e) next es left after
 
 -- behind whole entries, the next one that is wanted is broken
 pub record BreaksEntries (bytes : List ℕ) (room at : ℕ) (b : Broken) : Type 0 where
@@ -35,28 +35,28 @@ pub record AreSlots (bytes : List ℕ) (room at : ℕ) (slots : List (Option Ite
 pub record IsPool (bytes : List ℕ) (at : ℕ) (slots : List (Option Item)) (after : ℕ) : Type 0 where
   pub count : ℕ
   pub start : ℕ
-  pub counted : number w16 bytes at ≡ Ok (count, start)
+  pub counted : pool_number w16 bytes at ≡ Ok (count, start)
   pub some : 0 < count
   pub filled : AreSlots bytes (count - 1) start slots after
 
 -- the first broken item of a pool at a place
 pub data BreaksPool (bytes : List ℕ) (at : ℕ) (b : Broken) : Type 0 where
   -- the count is cut off
-  CutCount : number w16 bytes at ≡ Err b → BreaksPool bytes at b
+  CutCount : pool_number w16 bytes at ≡ Err b → BreaksPool bytes at b
   -- the count is 0
-  NoCount : (start : ℕ) → number w16 bytes at ≡ Ok (0, start) → b ≡ Tag at → BreaksPool bytes at b
+  NoCount : (start : ℕ) → pool_number w16 bytes at ≡ Ok (0, start) → b ≡ Tag at → BreaksPool bytes at b
   -- an entry is broken
-  InEntry : (count start : ℕ) → number w16 bytes at ≡ Ok (count, start) → 0 < count → BreaksEntries bytes (count - 1) start b → BreaksPool bytes at b
+  InEntry : (count start : ℕ) → pool_number w16 bytes at ≡ Ok (count, start) → 0 < count → BreaksEntries bytes (count - 1) start b → BreaksPool bytes at b
 
 -- what a call returned are the slots behind a count, or the first broken entry
 abbrev pub ReadsSlots : List ℕ → ℕ → ℕ → Result (Vec (Option Entry) × ℕ) PoolFault → Type 0
 ReadsSlots bytes count start (Ok x) = AreSlots bytes (count - 1) start (view_slots x.0.items) x.1
-ReadsSlots bytes count start (Err f) = IsFault f (BreaksEntries bytes (count - 1) start)
+ReadsSlots bytes count start (Err f) = IsPoolFaultOf f (BreaksEntries bytes (count - 1) start)
 
 -- what a call returned is the pool at a place and the place after it, or the first broken item
 abbrev pub ReadsPool : List ℕ → ℕ → Result (Pool × ℕ) PoolFault → Type 0
 ReadsPool bytes at (Ok x) = (x.0.at ≡ at) × IsPool bytes at x.0.slots x.1
-ReadsPool bytes at (Err f) = IsFault f (BreaksPool bytes at)
+ReadsPool bytes at (Err f) = IsPoolFaultOf f (BreaksPool bytes at)
 
 -- what stands at a place: a pool and the place after it, or the first broken item
 abbrev pub PoolIs : List ℕ → ℕ → Result (List (Option Item) × ℕ) Broken → Type 0

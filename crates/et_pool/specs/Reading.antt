@@ -12,26 +12,26 @@ use Rattle.et_pool.specs.Text.{is_modified}
 use Rattle.et_pool.specs.Entries.{Item, Text, Word, Wide, Name, Pair, Handle, shape_of, indices}
 
 -- the fault that a call answered is this broken item; want of memory says nothing
-abbrev pub IsFault : PoolFault → (Broken → Type 0) → Type 0
-IsFault (fault.Tag p) P = P (Tag p)
-IsFault (fault.Utf8 p) P = P (Utf8 p)
-IsFault (fault.Index p) P = ⊥
-IsFault (fault.Short p) P = P (Short p)
-IsFault fault.NoMemory P = Unit {0}
+abbrev pub IsPoolFaultOf : PoolFault → (Broken → Type 0) → Type 0
+IsPoolFaultOf (fault.Tag p) P = P (Tag p)
+IsPoolFaultOf (fault.Utf8 p) P = P (Utf8 p)
+IsPoolFaultOf (fault.Index p) P = ⊥
+IsPoolFaultOf (fault.Short p) P = P (Short p)
+IsPoolFaultOf fault.NoMemory P = Unit {0}
 
 -- what a call returned, seen by `view`, is what is read
-abbrev pub Gives : {X Y : Type 0} → (X → Y) → Result X PoolFault → Result Y Broken → Type 0
-Gives view (Ok x) read = read ≡ Ok (view x)
-Gives view (Err e) read = IsFault e (λ b. read ≡ Err b)
+abbrev pub GivesOrIsBroken : {X Y : Type 0} → (X → Y) → Result X PoolFault → Result Y Broken → Type 0
+GivesOrIsBroken view (Ok x) read = read ≡ Ok (view x)
+GivesOrIsBroken view (Err e) read = IsPoolFaultOf e (λ b. read ≡ Err b)
 
 -- a number, and the place after it
-abbrev pub number : Width → List ℕ → ℕ → Result (ℕ × ℕ) Broken
-number w bytes at = ok_or (number_at w bytes at) (Short at)
+abbrev pub pool_number : Width → List ℕ → ℕ → Result (ℕ × ℕ) Broken
+pool_number w bytes at = ok_or (number_at w bytes at) (Short at)
 
 -- the text of a Utf8 entry that begins at `entry` (4.4.7): its length, and that many bytes of modified UTF-8
 unfoldable pub text_at : List ℕ → ℕ → ℕ → Result (Item × ℕ) Broken
 text_at bytes entry at = do
-  n ← number w16 bytes at
+  n ← pool_number w16 bytes at
   text ← ok_or (bytes_at bytes n.0 n.1) (Short n.1)
   if is_modified text.0 then Ok (Text text.0, text.1) else Err (Utf8 entry)
 
@@ -39,21 +39,21 @@ text_at bytes entry at = do
 abbrev pub body_at : List ℕ → ℕ → ℕ → ℕ → Shape → Result (Item × ℕ) Broken
 body_at bytes entry tag at shape.Text = text_at bytes entry at
 body_at bytes entry tag at shape.Word = do
-  n ← number w32 bytes at
+  n ← pool_number w32 bytes at
   Ok (Word tag n.0, n.1)
 body_at bytes entry tag at shape.Wide = do
-  n ← number w64 bytes at
+  n ← pool_number w64 bytes at
   Ok (Wide tag n.0, n.1)
 body_at bytes entry tag at shape.Name = do
-  n ← number w16 bytes at
+  n ← pool_number w16 bytes at
   Ok (Name tag n.0, n.1)
 body_at bytes entry tag at shape.Pair = do
-  m ← number w16 bytes at
-  n ← number w16 bytes m.1
+  m ← pool_number w16 bytes at
+  n ← pool_number w16 bytes m.1
   Ok (Pair tag m.0 n.0, n.1)
 body_at bytes entry tag at shape.Handle = do
-  m ← number w8 bytes at
-  n ← number w16 bytes m.1
+  m ← pool_number w8 bytes at
+  n ← pool_number w16 bytes m.1
   Ok (Handle m.0 n.0, n.1)
 
 -- the body behind a tag, where that many indices are left: a tag that is in no table is broken, and so is an entry
@@ -65,5 +65,5 @@ shaped_at bytes room entry tag at (Some s) = if nat_lt room (indices s) then Err
 -- the entry at a place, where that many indices are left
 unfoldable pub entry_at : List ℕ → ℕ → ℕ → Result (Item × ℕ) Broken
 entry_at bytes room at = do
-  tag ← number w8 bytes at
+  tag ← pool_number w8 bytes at
   shaped_at bytes room at tag.0 tag.1 (shape_of tag.0)

@@ -20,7 +20,7 @@ abbrev pub pool_bytes : List Item → List ℕ
 pool_bytes entries = to_be_bytes w16 (length (slots_of entries)) ++ flat_map item_bytes entries
 
 -- the pool at a place is spelled there, whole
-pub record IsSpelled (bytes : List ℕ) (at : ℕ) (slots : List (Option Item)) (after : ℕ) : Type 0 where
+pub record IsPoolSpelled (bytes : List ℕ) (at : ℕ) (slots : List (Option Item)) (after : ℕ) : Type 0 where
   pub entries : List Item
   pub are_entries : All IsEntry entries
   pub few : length (slots_of entries) < 2 ^ 16

@@ -1,7 +1,7 @@
 //! Descriptors (JVMS 4.3), and the names of classes in a pool.
 
 ghost use Rattle.std.specs.Prelude.{◌≡◌, ◌<◌, ◌≤◌, false, length, option_map, IfSome};
-ghost use Rattle.et_pool.specs.Descriptors.{is_base, after_name, after_class, after_element, after_type, first_type, types_of, parameters_of, method_type, is_end, is_void, is_return, element_of, is_floating, is_array, is_floating_array, width_of, shape_of_method, is_field_descriptor as field, dimensions as count_of, is_class_name};
+ghost use Rattle.et_pool.specs.Descriptors.{is_base, after_name, after_class, after_element, after_type, first_type, types_of, parameters_of, method_type, is_text_end, is_void, is_return, element_descriptor, is_floating, is_array, is_floating_array, width_of, shape_of_method, is_field_descriptor as field, dimensions as count_of, is_class_name};
 
 /// What the rules on methods ask of a method descriptor.
 #[derive(Clone, Copy, Debug, PartialEq, Eq)]
@@ -123,7 +123,7 @@ fn entries_of_type(s: &[u8]) -> usize
 
 /// The byte behind the dimensions of a type.
 fn element(s: &[u8]) -> Option<u8>
-    ensures { result ≡ element_of s.now }
+    ensures { result ≡ element_descriptor s.now }
 {
     s.iter().copied().find(|a| *a != b'[')
 }

@@ -1,7 +1,7 @@
 //! The entries of a pool, by the layout of their bodies.
 
 ghost use Rattle.std.specs.Prelude.{◌≡◌};
-ghost use Rattle.et_pool.specs.Entries.{shape_of, indices, room_of, view};
+ghost use Rattle.et_pool.specs.Entries.{shape_of, indices, slots_taken, view};
 
 use crate::tags::{
     CLASS, DOUBLE, FIELDREF, FLOAT, INTEGER, INTERFACE_METHODREF, INVOKE_DYNAMIC, LONG,
@@ -65,7 +65,7 @@ pub fn indices_of(shape: Shape) -> usize
 
 /// How many indices the entry takes.
 pub fn room_of_entry(entry: &Entry) -> usize
-    ensures { result ≡ room_of (view entry.now) }
+    ensures { result ≡ slots_taken (view entry.now) }
 {
     match entry {
         Entry::Wide(_, _) => 2,

@@ -2,7 +2,7 @@
 
 ghost use Rattle.std.specs.Prelude.{◌≡◌, ◌<◌, ◌^◌, Option, option_map, length, map, IfOk};
 ghost use Rattle.et_pool.specs.Entries.{view, item_bytes, view_slots};
-ghost use Rattle.et_pool.specs.Looks.{slot_at, tag_at, utf8_at, class_name_at, string_at, integer_at, long_at, name_and_type_at, member_at, tag_of, tag_of_slot, named_by, is_name, is_member_tag, is_fit, is_fit_slot, slot_bytes, Checks};
+ghost use Rattle.et_pool.specs.Looks.{slot_at, tag_at, utf8_at, class_name_at, string_at, integer_at, long_at, name_and_type_at, member_at, tag_of, tag_of_slot, named_by, is_name, is_member_tag, is_fit, is_fit_slot, slot_bytes, ChecksPool};
 
 use crate::descriptor::is_class_name_text;
 use crate::entry::Entry;
@@ -291,7 +291,7 @@ impl Pool {
     /// the place of the first that doesn't, in the bytes that the pool was read from; no other
     /// fault comes.
     pub fn check(&self) -> Result<(), PoolFault>
-        ensures { Checks self.now.at self.now.slots result }
+        ensures { ChecksPool self.now.at self.now.slots result }
     {
         let mut place = self.at + 2;
         let mut i = 0;

@@ -2,7 +2,7 @@
 
 ghost use Rattle.std.specs.Prelude.{◌≡◌, ◌<◌, ◌≤◌, ◌+◌, take, drop, length, IfOk, IfErr};
 ghost use Rattle.et_pool.specs.Entries.{view};
-ghost use Rattle.et_pool.specs.Reading.{Gives, text_at, body_at, shaped_at, entry_at};
+ghost use Rattle.et_pool.specs.Reading.{GivesOrIsBroken, text_at, body_at, shaped_at, entry_at};
 ghost use Rattle.et_pool.specs.Pools.{ReadsSlots, ReadsPool};
 
 use crate::entry::{Entry, Shape, indices_of, room_of_entry, shape_of_tag};
@@ -20,7 +20,7 @@ fn text_of(
     entry: usize,
     at: usize,
 ) -> Result<(Entry, usize), PoolFault>
-    ensures { Gives (λ x. (view x.0, x.1)) result (text_at bytes.now entry at) }
+    ensures { GivesOrIsBroken (λ x. (view x.0, x.1)) result (text_at bytes.now entry at) }
 {
     let (len, at) = u16_item(bytes, at)?;
     let (text, after) = run_at(bytes, len as usize, at).ok_or(PoolFault::Short { offset: at })?;
@@ -38,7 +38,7 @@ fn body_of(
     shape: Shape,
     at: usize,
 ) -> Result<(Entry, usize), PoolFault>
-    ensures { Gives (λ x. (view x.0, x.1)) result (body_at bytes.now entry tag at shape) }
+    ensures { GivesOrIsBroken (λ x. (view x.0, x.1)) result (body_at bytes.now entry tag at shape) }
 {
     match shape {
         Shape::Text => text_of(alloc, bytes, entry, at),
@@ -74,7 +74,7 @@ fn entry_of(
     room: usize,
     at: usize,
 ) -> Result<(Entry, usize), PoolFault>
-    ensures { Gives (λ x. (view x.0, x.1)) result (entry_at bytes.now room at) }
+    ensures { GivesOrIsBroken (λ x. (view x.0, x.1)) result (entry_at bytes.now room at) }
 {
     let (tag, after) = u8_item(bytes, at)?;
     match shape_of_tag(tag) {

@@ -1,10 +1,10 @@
 //! Modified UTF-8 (JVMS 4.4.7).
 
 ghost use Rattle.std.specs.Prelude.{◌≡◌};
-ghost use Rattle.et_pool.specs.Text.{is_one, is_two, is_three, is_more, unit_len, is_modified};
+ghost use Rattle.et_pool.specs.Text.{is_one_byte, is_two, is_three, is_more, unit_len, is_modified};
 
 fn one(a: u8) -> bool
-    ensures { result ≡ is_one a }
+    ensures { result ≡ is_one_byte a }
 {
     1 <= a && a <= 127
 }

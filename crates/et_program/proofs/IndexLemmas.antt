@@ -11,12 +11,12 @@ use Rattle.std.proofs.lemmas.List.Elements.{All-nil, All-cons, All-append}
 use Rattle.std.proofs.lemmas.Slice.Eq.{bytes_eq-Decides}
 use Rattle.et_program.specs.declared.names.NameIndex.{NameIndex}
 use Rattle.et_program.specs.declared.members.MemberIndex.{MemberIndex}
-use Rattle.et_program.specs.Indices.{number_of, member_of}
+use Rattle.et_program.specs.Indices.{number_of_name, member_number}
 use Rattle.et_program.specs.declared.info.MethodInfo.{MethodInfo}
 use Rattle.et_program.specs.declared.info.FieldInfo.{FieldInfo}
 use Rattle.et_program.specs.Members.{is_method, is_field}
 use Rattle.et_program.specs.Tables.{looked_up}
-use Rattle.et_program.specs.Indexed.{AreApart, AreBelow, IsNumbering, Has, Keeps, HasTexts, PutsMember}
+use Rattle.et_program.specs.Indexed.{AreApart, HasNumbersBelow, IsNumbering, Has, Keeps, HasTexts, PutsMember}
 
 -- THE FIRST PLACE THAT PASSES
 
@@ -59,28 +59,28 @@ or_right (Some k) p h = refl
 
 -- what was put in at a text with the number n
 abbrev Puts : NameIndex → NameIndex → List ℕ → ℕ → Type 0
-Puts old new text n = (q : List ℕ) → number_of new q ≡ option_or (number_of old q) (cond (bytes_eq q text) (Some n) None)
+Puts old new text n = (q : List ℕ) → number_of_name new q ≡ option_or (number_of_name old q) (cond (bytes_eq q text) (Some n) None)
 
 pub text_has : (old new : NameIndex) (text : List ℕ) (n : ℕ) → Puts old new text n → Has new text
 text_has old new text n puts =
-    ap is_some (puts text) ∙ or_right (number_of old text) _ (ap is_some (cond-true (bytes_eq text text) (Some n) None (text_itself text)))
+    ap is_some (puts text) ∙ or_right (number_of_name old text) _ (ap is_some (cond-true (bytes_eq text text) (Some n) None (text_itself text)))
 
 pub text_keeps : (old new : NameIndex) (text : List ℕ) (n : ℕ) → Puts old new text n → Keeps old new
-text_keeps old new text n puts x h = ap is_some (puts x) ∙ or_some (number_of old x) _ h
+text_keeps old new text n puts x h = ap is_some (puts x) ∙ or_some (number_of_name old x) _ h
 
 -- a text with a number had it, or is the one that was put in
 data From (old : NameIndex) (text : List ℕ) (n : ℕ) (x : List ℕ) (k : ℕ) : Type 0 where
-  Had : number_of old x ≡ Some k → From old text n x k
+  Had : number_of_name old x ≡ Some k → From old text n x k
   Got : x ≡ text → n ≡ k → From old text n x k
 
-from_or : (old : NameIndex) (text : List ℕ) (n : ℕ) (x : List ℕ) (k : ℕ) (o : Option ℕ) → number_of old x ≡ o → option_or o (cond (bytes_eq x text) (Some n) None) ≡ Some k → From old text n x k
+from_or : (old : NameIndex) (text : List ℕ) (n : ℕ) (x : List ℕ) (k : ℕ) (o : Option ℕ) → number_of_name old x ≡ o → option_or o (cond (bytes_eq x text) (Some n) None) ≡ Some k → From old text n x k
 from_or old text n x k (Some j) is h = Had (is ∙ h)
 from_or old text n x k None is h =
     ⊎_elim (λ y. Got (same_text x text y) (some_same n k (sym (cond-true (bytes_eq x text) (Some n) None y) ∙ h)))
     (λ f. let z : None ≡ Some k = sym (cond-false (bytes_eq x text) (Some n) None f) ∙ h in absurd (cc)) (cases_Bool (bytes_eq x text))
 
-from_puts : (old new : NameIndex) (text : List ℕ) (n : ℕ) → Puts old new text n → (x : List ℕ) (k : ℕ) → number_of new x ≡ Some k → From old text n x k
-from_puts old new text n puts x k h = from_or old text n x k (number_of old x) refl (sym (puts x) ∙ h)
+from_puts : (old new : NameIndex) (text : List ℕ) (n : ℕ) → Puts old new text n → (x : List ℕ) (k : ℕ) → number_of_name new x ≡ Some k → From old text n x k
+from_puts old new text n puts x k h = from_or old text n x k (number_of_name old x) refl (sym (puts x) ∙ h)
 
 apart_cases : (old : NameIndex) (text : List ℕ) (n : ℕ) → IsNumbering old n → (x y : List ℕ) (k : ℕ) → From old text n x k → From old text n y k → x ≡ y
 apart_cases old text n is x y k (Had a) (Had b) = is.apart x y k a b
@@ -98,7 +98,7 @@ text_numbering old new text n m is puts e = record {
   below = λ x k a. below_cases old text n m is e x k (from_puts old new text n puts x k a);
 }
 
-pub no_texts : (texts : NameIndex) → ((x : List ℕ) → number_of texts x ≡ None) → IsNumbering texts 0
+pub no_texts : (texts : NameIndex) → ((x : List ℕ) → number_of_name texts x ≡ None) → IsNumbering texts 0
 no_texts texts none = record {
   apart = λ x y k a b. let z : None ≡ Some k = sym (none x) ∙ a in absurd (cc);
   below = λ x k a. let z : None ≡ Some k = sym (none x) ∙ a in absurd (cc);
@@ -107,16 +107,16 @@ no_texts texts none = record {
 -- MEMBERS
 
 -- the numbers of two texts are equal exactly where the texts are
-same_number : (texts : NameIndex) → AreApart texts → (x y : List ℕ) (a b : ℕ) → number_of texts x ≡ Some a → number_of texts y ≡ Some b → (a == b) ≡ bytes_eq x y
+same_number : (texts : NameIndex) → AreApart texts → (x y : List ℕ) (a b : ℕ) → number_of_name texts x ≡ Some a → number_of_name texts y ≡ Some b → (a == b) ≡ bytes_eq x y
 same_number texts apart x y a b ha hb =
     ⊎_elim
-    (λ t. let e : x ≡ y = same_text x y t in let f : a ≡ b = some_same a b (sym ha ∙ (ap (number_of texts) e ∙ hb)) in eq-eqb a b f ∙ sym t)
+    (λ t. let e : x ≡ y = same_text x y t in let f : a ≡ b = some_same a b (sym ha ∙ (ap (number_of_name texts) e ∙ hb)) in eq-eqb a b f ∙ sym t)
     (λ f. ne_eqb a b (λ e. let s : x ≡ y = apart x y b (ha ∙ ap (λ (k : ℕ). Some k) e) hb in true≢false (sym (text_itself y) ∙ (ap (λ l. bytes_eq l y) (sym s) ∙ f))) ∙ sym f)
     (cases_Bool (bytes_eq x y))
 
-no_number : (texts : NameIndex) (x y : List ℕ) → Has texts x → number_of texts y ≡ None → bytes_eq x y ≡ false
+no_number : (texts : NameIndex) (x y : List ℕ) → Has texts x → number_of_name texts y ≡ None → bytes_eq x y ≡ false
 no_number texts x y has none =
-    ⊎_elim (λ t. absurd (true≢false (sym has ∙ ap is_some (ap (number_of texts) (same_text x y t) ∙ none)))) (λ f. f) (cases_Bool (bytes_eq x y))
+    ⊎_elim (λ t. absurd (true≢false (sym has ∙ ap is_some (ap (number_of_name texts) (same_text x y t) ∙ none)))) (λ f. f) (cases_Bool (bytes_eq x y))
 
 and_assoc : (a b c : Bool) → ((a && b) && c) ≡ (a && (b && c))
 and_assoc true b c = refl
@@ -131,11 +131,11 @@ false_and a b h = ap (λ x. x && b) h
 
 -- the member index by numbers after one was put in
 abbrev PutsAt : MemberIndex → MemberIndex → ℕ → ℕ → ℕ → ℕ → Type 0
-PutsAt old new class name descriptor number = (c n d : ℕ) → member_of new c n d ≡ option_or (member_of old c n d) (cond (((class == c) && (name == n)) && (descriptor == d)) (Some number) None)
+PutsAt old new class name descriptor number = (c n d : ℕ) → member_number new c n d ≡ option_or (member_number old c n d) (cond (((class == c) && (name == n)) && (descriptor == d)) (Some number) None)
 
-by_numbers : (texts : NameIndex) (old new : MemberIndex) (class number : ℕ) (name descriptor : List ℕ) (a b : ℕ) → AreApart texts → number_of texts name ≡ Some a → number_of texts descriptor ≡ Some b → PutsAt old new class a b number
-    → (n d : List ℕ) (c : ℕ) (o p : Option ℕ) → number_of texts n ≡ o → number_of texts d ≡ p
-    → option_and_then (λ x. option_and_then (λ y. member_of new c x y) p) o ≡ option_or (option_and_then (λ x. option_and_then (λ y. member_of old c x y) p) o) (cond ((class == c) && (bytes_eq name n && bytes_eq descriptor d)) (Some number) None)
+by_numbers : (texts : NameIndex) (old new : MemberIndex) (class number : ℕ) (name descriptor : List ℕ) (a b : ℕ) → AreApart texts → number_of_name texts name ≡ Some a → number_of_name texts descriptor ≡ Some b → PutsAt old new class a b number
+    → (n d : List ℕ) (c : ℕ) (o p : Option ℕ) → number_of_name texts n ≡ o → number_of_name texts d ≡ p
+    → option_and_then (λ x. option_and_then (λ y. member_number new c x y) p) o ≡ option_or (option_and_then (λ x. option_and_then (λ y. member_number old c x y) p) o) (cond ((class == c) && (bytes_eq name n && bytes_eq descriptor d)) (Some number) None)
 by_numbers texts old new class number name descriptor a b apart ha hb puts n d c None p hn hd =
     let f : ((class == c) && (bytes_eq name n && bytes_eq descriptor d)) ≡ false = and_false (class == c) _ (false_and (bytes_eq name n) (bytes_eq descriptor d) (no_number texts name n (ap is_some ha) hn)) in
     sym (cond-false ((class == c) && (bytes_eq name n && bytes_eq descriptor d)) (Some number) None f)
@@ -145,14 +145,14 @@ by_numbers texts old new class number name descriptor a b apart ha hb puts n d c
 by_numbers texts old new class number name descriptor a b apart ha hb puts n d c (Some x) (Some y) hn hd =
     let e : (((class == c) && (a == x)) && (b == y)) ≡ ((class == c) && (bytes_eq name n && bytes_eq descriptor d)) =
     and_assoc (class == c) (a == x) (b == y) ∙ (ap (λ t. (class == c) && (t && (b == y))) (same_number texts apart name n a x ha hn) ∙ ap (λ t. (class == c) && (bytes_eq name n && t)) (same_number texts apart descriptor d b y hb hd)) in
-    puts c x y ∙ ap (λ t. option_or (member_of old c x y) (cond t (Some number) None)) e
+    puts c x y ∙ ap (λ t. option_or (member_number old c x y) (cond t (Some number) None)) e
 
-pub member_put_in : (texts : NameIndex) (old new : MemberIndex) (class number : ℕ) (name descriptor : List ℕ) (a b : ℕ) → AreApart texts → number_of texts name ≡ Some a → number_of texts descriptor ≡ Some b → PutsAt old new class a b number
+pub member_put_in : (texts : NameIndex) (old new : MemberIndex) (class number : ℕ) (name descriptor : List ℕ) (a b : ℕ) → AreApart texts → number_of_name texts name ≡ Some a → number_of_name texts descriptor ≡ Some b → PutsAt old new class a b number
     → PutsMember texts old new class name descriptor number
 member_put_in texts old new class number name descriptor a b apart ha hb puts n d c =
-    by_numbers texts old new class number name descriptor a b apart ha hb puts n d c (number_of texts n) (number_of texts d) refl refl
+    by_numbers texts old new class number name descriptor a b apart ha hb puts n d c (number_of_name texts n) (number_of_name texts d) refl refl
 
-pub no_text : (texts : NameIndex) (x : List ℕ) → Has texts x → number_of texts x ≡ None → ⊥
+pub no_text : (texts : NameIndex) (x : List ℕ) → Has texts x → number_of_name texts x ≡ None → ⊥
 no_text texts x has none = true≢false (sym has ∙ ap is_some none)
 
 no_member : (o p : Option ℕ) (f : ℕ → ℕ → Option ℕ) → ((x y : ℕ) → f x y ≡ None) → option_and_then (λ x. option_and_then (λ y. f x y) p) o ≡ None
@@ -160,8 +160,8 @@ no_member None p f h = refl
 no_member (Some x) None f h = refl
 no_member (Some x) (Some y) f h = h x y
 
-pub no_members : (texts : NameIndex) (members : MemberIndex) → ((c n d : ℕ) → member_of members c n d ≡ None) → (n d : List ℕ) (c : ℕ) → looked_up texts members n d c ≡ None
-no_members texts members none n d c = no_member (number_of texts n) (number_of texts d) (λ x y. member_of members c x y) (λ x y. none c x y)
+pub no_members : (texts : NameIndex) (members : MemberIndex) → ((c n d : ℕ) → member_number members c n d ≡ None) → (n d : List ℕ) (c : ℕ) → looked_up texts members n d c ≡ None
+no_members texts members none n d c = no_member (number_of_name texts n) (number_of_name texts d) (λ x y. member_number members c x y) (λ x y. none c x y)
 
 -- ONE MORE ELEMENT
 

@@ -5,11 +5,11 @@ use Rattle.std.specs.List.{slice_index_or}
 use Rattle.et_program.specs.declared.info.MethodInfo.{MethodInfo}
 use Rattle.et_program.specs.declared.info.FieldInfo.{FieldInfo}
 use Rattle.et_program.specs.Entries.{ClassEntry, Linked}
-use Rattle.et_program.specs.Tables.{IsWithin, IsInfoWithin, IsTabled}
+use Rattle.et_program.specs.Tables.{IsWithinTables, IsInfoWithin, IsTabled}
 
-pub class_within : (p q : Linked) (c : ℕ) (x : ClassEntry) → IsTabled p → p ≡ q → c < length q.classes → x ≡ slice_index_or p.classes c x → IsWithin (length q.classes) x
+pub class_within : (p q : Linked) (c : ℕ) (x : ClassEntry) → IsTabled p → p ≡ q → c < length q.classes → x ≡ slice_index_or p.classes c x → IsWithinTables (length q.classes) x
 class_within p q c x tabled e lt is =
-    subst (λ (r : Linked). c < length r.classes → IsWithin (length r.classes) x) e (λ below. subst (IsWithin (length p.classes)) (sym is) (tabled.classes c x below)) lt
+    subst (λ (r : Linked). c < length r.classes → IsWithinTables (length r.classes) x) e (λ below. subst (IsWithinTables (length p.classes)) (sym is) (tabled.classes c x below)) lt
 
 pub owner_within : (p q : Linked) (m : ℕ) (x : MethodInfo) → IsTabled p → p ≡ q → m < length q.methods → x ≡ slice_index_or p.methods m x → x.class < length q.classes
 owner_within p q m x tabled e lt is =

@@ -4,7 +4,7 @@ use mathlib.Core.Logic.{⊎_elim}
 use Rattle.std.specs.List.{list_any, filter_map, cons_option}
 use Rattle.std.proofs.lemmas.Bool.{cases_Bool, and_parts, and_from, eqb-true, eq-eqb}
 use Rattle.et_program.specs.Entries.{Linked, class_at, is_private, is_static, is_abstract}
-use Rattle.et_program.specs.Members.{method_in, kept, is_open, open_in, is_above, is_overridden, specific_in}
+use Rattle.et_program.specs.Members.{method_in, kept, is_open_method, open_in, is_above, is_overridden, specific_in}
 use Rattle.et_program.specs.Words.{IsOpenMember, AreSpecific}
 
 pub here : (x : ℕ) (xs : List ℕ) → Contains (x ∷ xs) x
@@ -86,13 +86,13 @@ not_false b h = ap not h
 
 open_is : (p : Linked) (name descriptor : List ℕ) (i m : ℕ) → open_in p name descriptor i ≡ Some m → IsOpenMember p name descriptor i m
 open_is p name descriptor i m e =
-    let k = kept_is (is_open p) (method_in p name descriptor i) m e in
+    let k = kept_is (is_open_method p) (method_in p name descriptor i) m e in
     let a = and_parts (not (is_private p m)) (not (is_static p m)) k.1 in
     record { declared = k.0; not_private = not_true _ a.0; not_static = not_true _ a.1 }
 
 open_from : (p : Linked) (name descriptor : List ℕ) (i m : ℕ) → IsOpenMember p name descriptor i m → open_in p name descriptor i ≡ Some m
 open_from p name descriptor i m h =
-    keeps (is_open p) (method_in p name descriptor i) m h.declared (and_from (not (is_private p m)) (not (is_static p m)) (not_false _ h.not_private) (not_false _ h.not_static))
+    keeps (is_open_method p) (method_in p name descriptor i) m h.declared (and_from (not (is_private p m)) (not (is_static p m)) (not_false _ h.not_private) (not_false _ h.not_static))
 
 some_of : (o : Option ℕ) → is_some o ≡ true → (m : ℕ) × (o ≡ Some m)
 some_of None h = absurd (cc)

@@ -85,13 +85,13 @@ leaf_at place (a ∷ rest) = if a == 76 then option_map (λ (k : ℕ). Class k) 
 abbrev pub leaf_of : (List ℕ → Option ℕ) → List ℕ → Option Leaf
 leaf_of place name = leaf_at place (drop (dimensions name) name)
 
-abbrev pub is_known : (List ℕ → Option ℕ) → List ℕ → Bool
-is_known place name = is_some (leaf_of place name)
+abbrev pub is_type_known : (List ℕ → Option ℕ) → List ℕ → Bool
+is_type_known place name = is_some (leaf_of place name)
 
 -- an array type, and the types of its elements that are array types
-abbrev pub with_elements : List ℕ → List (List ℕ)
-with_elements [] = []
-with_elements (a ∷ rest) = if a == 91 then (a ∷ rest) ∷ with_elements rest else []
+abbrev pub with_element_types : List ℕ → List (List ℕ)
+with_element_types [] = []
+with_element_types (a ∷ rest) = if a == 91 then (a ∷ rest) ∷ with_element_types rest else []
 
 -- a name is put behind a list that doesn't have it
 abbrev pub name_added : List (List ℕ) → List ℕ → List (List ℕ)
@@ -103,7 +103,7 @@ names_added seen (x ∷ xs) = names_added (name_added seen x) xs
 
 -- the names of the array classes, each once
 abbrev pub array_names : (List ℕ → Option ℕ) → List (List ℕ) → List (List ℕ)
-array_names place met = names_added [] (flat_map with_elements (filter (is_known place) met))
+array_names place met = names_added [] (flat_map with_element_types (filter (is_type_known place) met))
 
 -- WHAT EACH IS, where the array classes have the numbers from `first` on in the order of these names
 

@@ -44,5 +44,5 @@ abbrev pub set_of : List LoadedClass → List Outline
 set_of files = map boot_outline boots ++ map file_outline files
 
 -- the access flags of each class
-abbrev pub flags_of : List LoadedClass → List ℕ
-flags_of files = map (λ (c : BootClassOf). c.flags) boots ++ map (λ (c : LoadedClass). c.flags) files
+abbrev pub file_flags : List LoadedClass → List ℕ
+file_flags files = map (λ (c : BootClassOf). c.flags) boots ++ map (λ (c : LoadedClass). c.flags) files

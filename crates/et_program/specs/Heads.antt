@@ -9,12 +9,12 @@ use Rattle.et_program.specs.declared.info.FieldInfo.{FieldInfo}
 use Rattle.et_program.specs.Slots.{places_from}
 
 -- a method that makes its interface be initialized (5.5): it is neither abstract nor static, and isn't <clinit> itself
-abbrev pub runs : MethodInfo → Bool
-runs m = not (has m.flags ABSTRACT) && (not (has m.flags STATIC) && not (bytes_eq m.name (codes "<clinit>")))
+abbrev pub is_run_first : MethodInfo → Bool
+is_run_first m = not (has m.flags ABSTRACT) && (not (has m.flags STATIC) && not (bytes_eq m.name (codes "<clinit>")))
 
 -- class k declares such a method
 abbrev pub has_to_run : List MethodInfo → ℕ → Bool
-has_to_run methods k = list_any (λ (m : MethodInfo). (m.class == k) && runs m) methods
+has_to_run methods k = list_any (λ (m : MethodInfo). (m.class == k) && is_run_first m) methods
 
 -- <clinit> ()V with code (2.9); its flags aren't looked at
 abbrev pub is_initializer : MethodInfo → Bool

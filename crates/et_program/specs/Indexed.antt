@@ -4,26 +4,26 @@ use Rattle.std.specs.Option.{option_or}
 use Rattle.std.specs.Str.{bytes_eq}
 use Rattle.et_program.specs.declared.names.NameIndex.{NameIndex}
 use Rattle.et_program.specs.declared.members.MemberIndex.{MemberIndex}
-use Rattle.et_program.specs.Indices.{number_of}
+use Rattle.et_program.specs.Indices.{number_of_name}
 use Rattle.et_program.specs.declared.info.MethodInfo.{MethodInfo}
 use Rattle.et_program.specs.declared.info.FieldInfo.{FieldInfo}
 use Rattle.et_program.specs.Tables.{looked_up}
 
 -- no two texts have one number
 abbrev pub AreApart : NameIndex → Type 0
-AreApart texts = (x y : List ℕ) (k : ℕ) → number_of texts x ≡ Some k → number_of texts y ≡ Some k → x ≡ y
+AreApart texts = (x y : List ℕ) (k : ℕ) → number_of_name texts x ≡ Some k → number_of_name texts y ≡ Some k → x ≡ y
 
 -- no text has a number from the next one on
-abbrev pub AreBelow : NameIndex → ℕ → Type 0
-AreBelow texts next = (x : List ℕ) (k : ℕ) → number_of texts x ≡ Some k → k < next
+abbrev pub HasNumbersBelow : NameIndex → ℕ → Type 0
+HasNumbersBelow texts next = (x : List ℕ) (k : ℕ) → number_of_name texts x ≡ Some k → k < next
 
 pub record IsNumbering (texts : NameIndex) (next : ℕ) : Type 0 where
   pub apart : AreApart texts
-  pub below : AreBelow texts next
+  pub below : HasNumbersBelow texts next
 
 -- the text has a number
 abbrev pub Has : NameIndex → List ℕ → Type 0
-Has texts x = is_some (number_of texts x) ≡ true
+Has texts x = is_some (number_of_name texts x) ≡ true
 
 -- each text that had a number has one
 abbrev pub Keeps : NameIndex → NameIndex → Type 0
@@ -34,8 +34,8 @@ pub record HasTexts (texts : NameIndex) (name descriptor : List ℕ) : Type 0 wh
   pub name_has : Has texts name
   pub descriptor_has : Has texts descriptor
 
-abbrev pub HasMethods : NameIndex → List MethodInfo → Type 0
-HasMethods texts methods = All (λ (m : MethodInfo). HasTexts texts m.name m.descriptor) methods
+abbrev pub HasIndexedMethods : NameIndex → List MethodInfo → Type 0
+HasIndexedMethods texts methods = All (λ (m : MethodInfo). HasTexts texts m.name m.descriptor) methods
 
 abbrev pub HasFields : NameIndex → List FieldInfo → Type 0
 HasFields texts fields = All (λ (f : FieldInfo). HasTexts texts f.name f.descriptor) fields

@@ -45,8 +45,8 @@ may_redeclare m =
 abbrev pub is_package_private : MethodInfo → Bool
 is_package_private m = not (has m.flags PUBLIC) && (not (has m.flags PRIVATE) && not (has m.flags PROTECTED))
 
-abbrev pub method_of : List MethodInfo → ℕ → MethodInfo
-method_of methods j = slice_index_or methods j no_method
+abbrev pub method_numbered : List MethodInfo → ℕ → MethodInfo
+method_numbered methods j = slice_index_or methods j no_method
 
 -- the method of class s with the name and descriptor of m
 abbrev pub same_in : List MethodInfo → MethodInfo → ℕ → Option ℕ
@@ -59,14 +59,14 @@ is_same_package set k s = bytes_eq (package_of (outline_at set k).name) (package
 pub record CrossesPackage (set : List Outline) (methods : List MethodInfo) (k : ℕ) : Type 0 where
   pub method : ℕ
   pub within : method < length methods
-  pub of_class : (method_of methods method).class ≡ k
-  pub redeclares : may_redeclare (method_of methods method) ≡ true
+  pub of_class : (method_numbered methods method).class ≡ k
+  pub redeclares : may_redeclare (method_numbered methods method) ≡ true
   pub superclass : ℕ
   pub is_super : IsSuper (links set) k superclass
   pub elsewhere : is_same_package set k superclass ≡ false
   pub redeclared : ℕ
-  pub found : same_in methods (method_of methods method) superclass ≡ Some redeclared
-  pub package_private : is_package_private (method_of methods redeclared) ≡ true
+  pub found : same_in methods (method_numbered methods method) superclass ≡ Some redeclared
+  pub package_private : is_package_private (method_numbered methods redeclared) ≡ true
 
 -- FAULTS
 

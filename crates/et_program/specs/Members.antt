@@ -45,12 +45,12 @@ abbrev pub kept : (ℕ → Bool) → Option ℕ → Option ℕ
 kept test None = None
 kept test (Some m) = if test m then Some m else None
 
-abbrev pub is_open : Linked → ℕ → Bool
-is_open p m = not (is_private p m) && not (is_static p m)
+abbrev pub is_open_method : Linked → ℕ → Bool
+is_open_method p m = not (is_private p m) && not (is_static p m)
 
 -- the method of that name and descriptor in class c that is neither private nor static
 abbrev pub open_in : Linked → List ℕ → List ℕ → ℕ → Option ℕ
-open_in p name descriptor c = kept (is_open p) (method_in p name descriptor c)
+open_in p name descriptor c = kept (is_open_method p) (method_in p name descriptor c)
 
 -- i is a superinterface of j
 abbrev pub is_above : Linked → ℕ → ℕ → Bool

@@ -16,8 +16,8 @@ numbered f k [] = []
 numbered f k (x ∷ xs) = f k x ++ numbered f (k + 1) xs
 
 -- the bytes of the Utf8 entry at an index; in a class file there is one wherever linking looks for one
-abbrev pub text_of : List (Option Item) → ℕ → List ℕ
-text_of slots i = or_empty (utf8_at slots i)
+abbrev pub pool_text : List (Option Item) → ℕ → List ℕ
+pool_text slots i = or_empty (utf8_at slots i)
 
 -- METHODS
 
@@ -29,7 +29,7 @@ abbrev pub boot_method : ℕ → BootMethodOf → MethodInfo
 boot_method k m = record { class = k; name = m.name; descriptor = m.descriptor; flags = m.flags; code = option_map boot_body m.code; deferred = m.deferred }
 
 abbrev pub file_method : List (Option Item) → ℕ → LoadedMember → MethodInfo
-file_method slots k m = record { class = k; name = text_of slots m.name; descriptor = text_of slots m.descriptor; flags = m.flags; code = m.code; deferred = false }
+file_method slots k m = record { class = k; name = pool_text slots m.name; descriptor = pool_text slots m.descriptor; flags = m.flags; code = m.code; deferred = false }
 
 abbrev pub boot_methods : ℕ → BootClassOf → List MethodInfo
 boot_methods k c = map (boot_method k) c.methods
@@ -46,7 +46,7 @@ abbrev pub boot_field : ℕ → BootFieldOf → FieldInfo
 boot_field k f = record { class = k; name = f.name; descriptor = f.descriptor; flags = f.flags; slot = 0; constant = 0 }
 
 abbrev pub file_field : List (Option Item) → ℕ → LoadedMember → FieldInfo
-file_field slots k f = record { class = k; name = text_of slots f.name; descriptor = text_of slots f.descriptor; flags = f.flags; slot = 0; constant = f.constant }
+file_field slots k f = record { class = k; name = pool_text slots f.name; descriptor = pool_text slots f.descriptor; flags = f.flags; slot = 0; constant = f.constant }
 
 abbrev pub boot_fields : ℕ → BootClassOf → List FieldInfo
 boot_fields k c = map (boot_field k) c.fields

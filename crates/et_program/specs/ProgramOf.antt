@@ -6,34 +6,34 @@ use Rattle.std.specs.Str.{bytes_eq}
 use Rattle.et_class.specs.Entries.{Constants}
 use Rattle.et_class.specs.Names.{has}
 use Rattle.et_class.specs.declared.flags.TheConstants.{STATIC}
-use Rattle.et_hierarchy.specs.Outline.{Outline, place_of}
+use Rattle.et_hierarchy.specs.Outline.{Outline, class_place}
 use Rattle.et_hierarchy.specs.Links.{links}
 use Rattle.et_hierarchy.specs.Ancestry.{Ancestry, IsAncestry}
 use Rattle.et_program.specs.declared.info.MethodInfo.{MethodInfo}
 use Rattle.et_program.specs.Entries.{ClassEntry, Linked}
 use Rattle.et_program.specs.Loaded.{LoadedClass}
-use Rattle.et_program.specs.Files.{boots, set_of, flags_of}
+use Rattle.et_program.specs.Files.{boots, set_of, file_flags}
 use Rattle.et_program.specs.MembersOf.{numbered, methods_of, fields_of, HasPools}
-use Rattle.et_program.specs.Slots.{slots_of, placed, places_from, is_static_field}
+use Rattle.et_program.specs.Slots.{field_slots, placed, places_from, is_static_field}
 use Rattle.et_program.specs.Heads.{has_to_run, initializer_of, constants_of}
 use Rattle.et_program.specs.ArrayTypes.{arrays_met, array_names, array_at}
 use Rattle.et_program.specs.Classes.{Heads, set_class, array_class}
 
 -- the names of the array classes
-abbrev pub names_of : List LoadedClass → List (List ℕ)
-names_of files = array_names (place_of (set_of files)) (arrays_met files)
+abbrev pub class_names_of : List LoadedClass → List (List ℕ)
+class_names_of files = array_names (class_place (set_of files)) (arrays_met files)
 
 abbrev pub heads_of : List LoadedClass → List Ancestry → Heads
 heads_of files rows = record {
   table = links (set_of files);
   rows = rows;
-  flags = flags_of files;
-  slots = slots_of (fields_of files) rows;
+  flags = file_flags files;
+  slots = field_slots (fields_of files) rows;
   needs = has_to_run (methods_of files);
   clinit = initializer_of (methods_of files);
   constants = constants_of (fields_of files);
-  place = place_of (set_of files);
-  array = array_at (length (set_of files)) (names_of files);
+  place = class_place (set_of files);
+  array = array_at (length (set_of files)) (class_names_of files);
 }
 
 -- each class of the set, and then each array class
@@ -53,7 +53,7 @@ is_of_file m = not (nat_lt m.class (length boots))
 
 abbrev pub program_with : List LoadedClass → List Ancestry → List Constants → Linked
 program_with files rows pools = record {
-  classes = classes_by (heads_of files rows) (set_of files) (names_of files);
+  classes = classes_by (heads_of files rows) (set_of files) (class_names_of files);
   methods = methods_of files;
   fields = placed (fields_of files) rows;
   statics = places_from is_static_field 0 (fields_of files);

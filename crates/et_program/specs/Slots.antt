@@ -23,17 +23,17 @@ own_slots fields k = if nat_lt k (length boots) then (slice_index_or boots k no_
 abbrev pub slots_above : List FieldInfo → List Ancestry → ℕ → ℕ
 slots_above fields rows k = sum_by (own_slots fields) (ancestry_at rows k).supers
 
-abbrev pub slots_of : List FieldInfo → List Ancestry → ℕ → ℕ
-slots_of fields rows k = slots_above fields rows k + own_slots fields k
+abbrev pub field_slots : List FieldInfo → List Ancestry → ℕ → ℕ
+field_slots fields rows k = slots_above fields rows k + own_slots fields k
 
 -- the slot of a field, by the fields that stand before it, where the slots of class k begin at base k
-abbrev pub slot_of : (ℕ → ℕ) → List FieldInfo → FieldInfo → ℕ
-slot_of base before f = if is_static_field f then count_by is_static_field before else base f.class + count_by (is_instance_of f.class) before
+abbrev pub slot_of_field : (ℕ → ℕ) → List FieldInfo → FieldInfo → ℕ
+slot_of_field base before f = if is_static_field f then count_by is_static_field before else base f.class + count_by (is_instance_of f.class) before
 
 -- fields with their slots, behind other fields
 abbrev pub placed_behind : (ℕ → ℕ) → List FieldInfo → List FieldInfo → List FieldInfo
 placed_behind base before [] = []
-placed_behind base before (f ∷ fs) = record f { slot = slot_of base before f } ∷ placed_behind base (before ++ f ∷ []) fs
+placed_behind base before (f ∷ fs) = record f { slot = slot_of_field base before f } ∷ placed_behind base (before ++ f ∷ []) fs
 
 abbrev pub placed : List FieldInfo → List Ancestry → List FieldInfo
 placed fields rows = placed_behind (slots_above fields rows) [] fields

@@ -3,7 +3,7 @@ use Rattle.std.specs.Prelude.{◌≡◌, ℕ, ◌<◌, ◌^◌, List, length, Al
 use Rattle.std.specs.List.{slice_index_or}
 use Rattle.et_program.specs.declared.names.NameIndex.{NameIndex}
 use Rattle.et_program.specs.declared.members.MemberIndex.{MemberIndex}
-use Rattle.et_program.specs.Indices.{number_of, member_of}
+use Rattle.et_program.specs.Indices.{number_of_name, member_number}
 use Rattle.et_program.specs.declared.info.MethodInfo.{MethodInfo}
 use Rattle.et_program.specs.declared.info.FieldInfo.{FieldInfo}
 use Rattle.et_program.specs.declared.kind.Leaf.{Leaf}
@@ -17,7 +17,7 @@ IsLeafBelow n (Base b) = Unit {0}
 IsLeafBelow n (Class c) = c < n
 
 -- each class that this one names is one of the first n
-pub record IsWithin (n : ℕ) (c : ClassEntry) : Type 0 where
+pub record IsWithinTables (n : ℕ) (c : ClassEntry) : Type 0 where
   pub supers : All (λ k. k < n) c.supers
   pub superinterfaces : All (λ k. k < n) c.superinterfaces
   pub field_order : All (λ k. k < n) c.field_order
@@ -32,7 +32,7 @@ pub record IsInfoWithin (classes methods fields : ℕ) (c : ClassInfoOf) : Type 
   pub constants : All (λ f. f < fields) c.constants
 
 pub record IsTabled (p : Linked) : Type 0 where
-  pub classes : All (IsWithin (length p.classes)) p.classes
+  pub classes : All (IsWithinTables (length p.classes)) p.classes
   pub infos : All (λ (c : ClassEntry). IsInfoWithin (length p.classes) (length p.methods) (length p.fields) c.info) p.classes
   pub methods : All (λ (m : MethodInfo). m.class < length p.classes) p.methods
   pub fields : All (λ (f : FieldInfo). f.class < length p.classes) p.fields
@@ -48,11 +48,11 @@ pub record IsTabled (p : Linked) : Type 0 where
 -- the member of a class, by the numbers of its name and of its descriptor
 abbrev pub looked_up : NameIndex → MemberIndex → List ℕ → List ℕ → ℕ → Option ℕ
 looked_up texts members name descriptor class =
-    option_and_then (λ n. option_and_then (λ d. member_of members class n d) (number_of texts descriptor)) (number_of texts name)
+    option_and_then (λ n. option_and_then (λ d. member_number members class n d) (number_of_name texts descriptor)) (number_of_name texts name)
 
 -- the indices find what the definitions find
 pub record AreIndexed (p : Linked) (base_arrays : List (Option ℕ)) (places texts : NameIndex) (methods fields : MemberIndex) : Type 0 where
-  pub classes_found : (name : List ℕ) → number_of places name ≡ class_named p name
+  pub classes_found : (name : List ℕ) → number_of_name places name ≡ class_named p name
   pub methods_found : (name descriptor : List ℕ) (c : ℕ) → looked_up texts methods name descriptor c ≡ method_in p name descriptor c
   pub fields_found : (name descriptor : List ℕ) (c : ℕ) → looked_up texts fields name descriptor c ≡ field_in p name descriptor c
   pub base_arrays_found : (kind : ℕ) → kind < 256 → slice_index_or base_arrays kind None ≡ base_array p kind

@@ -3,11 +3,11 @@
 ghost use Rattle.std.specs.Prelude.{◌≡◌, ℕ, ◌<◌, ◌^◌, List, length, IfOk, OnOk, None};
 ghost use Rattle.std.specs.List.{position_from, slice_index_or};
 ghost use Rattle.std.specs.Str.{bytes_eq};
-ghost use Rattle.et_program.specs.Indices.{number_of};
+ghost use Rattle.et_program.specs.Indices.{number_of_name};
 ghost use Rattle.et_program.specs.Entries.{ClassEntry};
 ghost use Rattle.et_program.specs.Members.{is_method, is_field, is_base_array};
 ghost use Rattle.et_program.specs.Tables.{looked_up};
-ghost use Rattle.et_program.specs.Indexed.{AreApart, IsNumbering, Has, Keeps, HasTexts, HasMethods, HasFields, PutsMember};
+ghost use Rattle.et_program.specs.Indexed.{AreApart, IsNumbering, Has, Keeps, HasTexts, HasIndexedMethods, HasFields, PutsMember};
 
 use crate::class::Class;
 use crate::info::{Element, FieldInfo, MethodInfo};
@@ -19,7 +19,7 @@ use std::alloc::Global;
 /// The classes by name; the first of a name.
 pub(crate) fn index_classes(alloc: Global, classes: &[Class]) -> Result<NameIndex, NoMemory>
     requires { length classes.now < 2 ^ 32 }
-    ensures { IfOk result (λ x. (name : List ℕ) → number_of x name
+    ensures { IfOk result (λ x. (name : List ℕ) → number_of_name x name
         ≡ position_from (λ (c : ClassEntry). bytes_eq name c.info.name) 0 classes.now) }
 {
     let mut places = NameIndex::begin(alloc);
@@ -83,7 +83,7 @@ fn add_method_texts(
 ) -> Result<u32, NoMemory>
     requires { IsNumbering texts.old first }
     ensures numbering { IfOk result (IsNumbering texts.new) }
-    ensures has { OnOk result (HasMethods texts.new methods.now) }
+    ensures has { OnOk result (HasIndexedMethods texts.new methods.now) }
     ensures keeps { OnOk result (Keeps texts.old texts.new) }
 {
     let mut next = first;
@@ -121,7 +121,7 @@ pub(crate) fn number_texts(
     fields: &[FieldInfo],
 ) -> Result<NameIndex, NoMemory>
     ensures apart { IfOk result AreApart }
-    ensures methods { IfOk result (λ texts. HasMethods texts methods.now) }
+    ensures methods { IfOk result (λ texts. HasIndexedMethods texts methods.now) }
     ensures fields { IfOk result (λ texts. HasFields texts fields.now) }
 {
     let mut texts = NameIndex::begin(alloc);
@@ -164,7 +164,7 @@ pub(crate) fn index_methods(
 ) -> Result<MemberIndex, NoMemory>
     requires few { length methods.now < 2 ^ 32 }
     requires apart { AreApart texts.now }
-    requires has { HasMethods texts.now methods.now }
+    requires has { HasIndexedMethods texts.now methods.now }
     ensures { IfOk result (λ x. (name descriptor : List ℕ) (c : ℕ) → looked_up
         texts.now x name descriptor c ≡ position_from (is_method name descriptor c) 0 methods.now) }
 {

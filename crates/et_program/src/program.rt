@@ -122,7 +122,7 @@ impl Program {
     ghost use Rattle.et_program.specs.Linking.{IsLinked};
     ghost use Rattle.et_program.specs.Parts.{shown_tables};
     ghost use Rattle.et_program.specs.Entries.{class_at, method_at, field_at};
-    ghost use Rattle.et_program.specs.Tables.{IsWithin, IsInfoWithin};
+    ghost use Rattle.et_program.specs.Tables.{IsWithinTables, IsInfoWithin};
     ghost use Rattle.et_program.specs.Shown.{info_of};
     ghost use Rattle.et_program.specs.Members.{class_named, method_in, field_in, is_above, is_subclass, base_array};
     ghost use Rattle.et_program.specs.Resolution.{resolve_class};
@@ -157,7 +157,7 @@ impl Program {
     pub(crate) fn entry(&self, class: ClassId) -> &Class
         requires { class < length self.now.classes }
         ensures value { result.now ≡ class_at self.now class }
-        ensures within { IsWithin (length self.now.classes) result.now }
+        ensures within { IsWithinTables (length self.now.classes) result.now }
         ensures info { IsInfoWithin (length self.now.classes)
             (length self.now.methods) (length self.now.fields) result.now.info }
     {

@@ -2,7 +2,7 @@
 
 ghost use Rattle.std.specs.Prelude.{◌≡◌, ℕ, ◌<◌, length, IfSome, IfOk, All};
 ghost use Rattle.std.specs.List.{filter_map};
-ghost use Rattle.et_program.specs.Members.{method_in, field_in, first_in, is_open, open_in, is_overridden, specific_in, amount, resolved_above};
+ghost use Rattle.et_program.specs.Members.{method_in, field_in, first_in, is_open_method, open_in, is_overridden, specific_in, amount, resolved_above};
 ghost use Rattle.et_program.specs.Resolution.{resolve_field, resolve_method};
 ghost use Rattle.et_program.specs.Counted.{IsOneBelow};
 
@@ -49,7 +49,7 @@ impl Program {
     /// Whether a method is neither private nor static.
     fn is_open(&self, method: MethodId) -> bool
         requires { method < length self.now.methods }
-        ensures { result ≡ is_open self.now method }
+        ensures { result ≡ is_open_method self.now method }
     {
         let flags = self.method(method).flags;
         !has(flags, PRIVATE) && !has(flags, STATIC)

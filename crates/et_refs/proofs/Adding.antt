@@ -26,8 +26,8 @@ use Rattle.et_state.specs.declared.ends.EventEnd.TheVariants as endings
 use Rattle.et_state.specs.Outcome.{Outcome, state_after}
 use Rattle.et_event.specs.Answered.{EventAnswers}
 use Rattle.et_event.specs.Heap.{arrays_made, naturals}
-use Rattle.et_event.specs.Moments.{Moment, moment, Doing, begins, with_frame, next_object, fits}
-use Rattle.et_event.specs.Sites.{natural}
+use Rattle.et_event.specs.Moments.{Moment, moment, Doing, begins, with_frame, next_object, fits_heap}
+use Rattle.et_event.specs.Sites.{natural_of}
 use Rattle.et_parts.proofs.Taking.{replaced, length_dropped}
 use Rattle.et_parts.proofs.Throwing.{ends_fit, ends_full}
 use Rattle.et_refs.proofs.Leading.{moves_held}
@@ -115,7 +115,7 @@ has_made : (p : Linked) (m : MachineState) (t c : ℕ) (ns : List ℤ) → IsSou
 has_made p m t c [] sound some = absurd (omega arith)
 has_made p m t c (n ∷ ns) sound some =
     let d : Doing = record { state = kept_of (begun m); records = [] } in
-    arrays_legal (moment p m t) c (natural n) (naturals ns) d (kept_of m) [] (on_begin_event m sound) (omega arith)
+    arrays_legal (moment p m t) c (natural_of n) (naturals ns) d (kept_of m) [] (on_begin_event m sound) (omega arith)
 
 pub came_by : (p : Linked) (m m₁ m₂ : MachineState) (t c : ℕ) (ns : List ℤ) (out out₂ : List Record) → IsSound (kept_of m) → 0 < length ns → m₁ ≡ begun m
     → ((b : Kept) → doing_of m₂ out₂ ≡ arrays_made (record { program = p; before = b; thread = t }) c (naturals ns) (doing_of m₁ out)) → m₂.lost ≡ m₁.lost → Came p m m₂ t c ns out out₂
@@ -159,7 +159,7 @@ room_came m m₂ t k n e same deep some fit =
 -- THE EVENT
 
 pub arrays_answer : (p : Linked) (t c k o next : ℕ) (ns : List ℤ) (m m₂ m₃ : MachineState) (out out₂ : List Record) → IsSound (kept_of m) → HasFrame m.guest t → Came p m m₂ t c ns out out₂
-    → fits (arrays_made (moment p m t) c (naturals ns) (begins (moment p m t))).state.heap ≡ true → k ≡ length ns → o ≡ length m.heap
+    → fits_heap (arrays_made (moment p m t) c (naturals ns) (begins (moment p m t))).state.heap ≡ true → k ≡ length ns → o ≡ length m.heap
     → m₃ ≡ steps_top m₂ t (replaced k (Ref o ∷ []) next (top m₂.guest t)) (refs_of (take k (top m₂.guest t).operands))
     → EventAnswers (new_arrays_outcome (moment p m t) next ns (drop (length ns) (top m.guest t).operands) c) endings.Done m m₃ out out₂
 arrays_answer p t c k o next ns m m₂ m₃ out out₂ sound has came fit same first is₃ =
@@ -173,7 +173,7 @@ arrays_answer p t c k o next ns m m₂ m₃ out out₂ sound has came fit same f
     ∙ ap (λ (j : ℕ). steps_top (with_arrays x) t (replaced n (Ref j ∷ []) next (top (with_arrays x).guest t)) (refs_of (take n (top (with_arrays x).guest t).operands))) first)) in
     subst (λ (z : Outcome Kept). EventAnswers z endings.Done m m₃ out out₂) (sym (ends_fit d fit)) (added_led m m₃ t n next x sound has came.made is, came.records)
 
-pub arrays_full : (p : Linked) (t c next : ℕ) (ns : List ℤ) (below : List Value) (m : MachineState) (out : List Record) → fits (arrays_made (moment p m t) c (naturals ns) (begins (moment p m t))).state.heap ≡ false
+pub arrays_full : (p : Linked) (t c next : ℕ) (ns : List ℤ) (below : List Value) (m : MachineState) (out : List Record) → fits_heap (arrays_made (moment p m t) c (naturals ns) (begins (moment p m t))).state.heap ≡ false
     → EventAnswers (new_arrays_outcome (moment p m t) next ns below c) endings.ObjectLimit m m out out
 arrays_full p t c next ns below m out fit =
     let e : Moment = moment p m t in
@@ -181,7 +181,7 @@ arrays_full p t c next ns below m out fit =
     subst (λ (z : Outcome Kept). EventAnswers z endings.ObjectLimit m m out out) (sym (ends_full d fit)) (refl, refl)
 
 -- HOW MANY ARRAYS THE EVENT MAKES: where they fit, as many as are made from the machine at which it began
-pub arrays_many : (p : Linked) (t c next : ℕ) (ns : List ℤ) (below : List Value) (m m₁ : MachineState) (out : List Record) → m₁ ≡ begun m → fits (arrays_made (moment p m t) c (naturals ns) (begins (moment p m t))).state.heap ≡ true
+pub arrays_many : (p : Linked) (t c next : ℕ) (ns : List ℤ) (below : List Value) (m m₁ : MachineState) (out : List Record) → m₁ ≡ begun m → fits_heap (arrays_made (moment p m t) c (naturals ns) (begins (moment p m t))).state.heap ≡ true
     → length (arrays_made (moment p m t) c (naturals ns) (doing_of m₁ out)).state.heap ≡ length (state_after (kept_of m) (new_arrays_outcome (moment p m t) next ns below c)).heap
 arrays_many p t c next ns below m m₁ out e₁ fit =
     let e : Moment = moment p m t in
@@ -191,7 +191,7 @@ arrays_many p t c next ns below m m₁ out e₁ fit =
     ∙ ap (λ (o : Outcome Kept). length (state_after (kept_of m) o).heap) (sym (ends_fit d fit)))
 
 -- .. so whatever making them answered, it visited no more
-pub arrays_visited : (p : Linked) (t c next : ℕ) (ns : List ℤ) (below : List Value) (m m₁ m₂ : MachineState) (out : List Record) (old new : ℕ) → m₁ ≡ begun m → fits (arrays_made (moment p m t) c (naturals ns) (begins (moment p m t))).state.heap ≡ true
+pub arrays_visited : (p : Linked) (t c next : ℕ) (ns : List ℤ) (below : List Value) (m m₁ m₂ : MachineState) (out : List Record) (old new : ℕ) → m₁ ≡ begun m → fits_heap (arrays_made (moment p m t) c (naturals ns) (begins (moment p m t))).state.heap ≡ true
     → new + length m₁.heap ≤ old + length m₂.heap → length m₂.heap ≤ length (arrays_made (moment p m t) c (naturals ns) (doing_of m₁ out)).state.heap
     → new ≤ old + (length (state_after (kept_of m) (new_arrays_outcome (moment p m t) next ns below c)).heap - length m.heap)
 arrays_visited p t c next ns below m m₁ m₂ out old new e₁ fit visits most =

@@ -8,8 +8,8 @@ use Rattle.et_state.specs.declared.ends.EventEnd.{EventEnd}
 use Rattle.et_state.specs.Outcome.{Outcome, state_after}
 use Rattle.et_event.specs.Answered.{EventAnswers}
 use Rattle.et_event.specs.Heap.{with_lengths}
-use Rattle.et_event.specs.Moments.{Moment, frame_of, ill_typed}
-use Rattle.et_event.specs.Sites.{Site, natural}
+use Rattle.et_event.specs.Moments.{Moment, current_frame, ill_typed}
+use Rattle.et_event.specs.Sites.{Site, natural_of}
 use Rattle.et_refs.specs.Refusals.{outcome_of, refusal_outcome}
 use Rattle.et_refs.specs.declared.refusals.Refusal.{Refusal}
 use Rattle.et_refs.specs.Events.{new_arrays_outcome, with_checked_class}
@@ -31,20 +31,20 @@ as_many {A} r items k a l is list h = ap (λ (ns : List ℤ). length ns) list �
 
 -- the event of multianewarray that names a class so
 abbrev pub multi_array_of : Moment → Site → List ℕ → Outcome Kept
-multi_array_of e at name = with_lengths (natural at.instr.second) [] (ill_typed e) (frame_of e).operands (λ lengths below. with_checked_class e name lengths (new_arrays_outcome e at.next lengths below))
+multi_array_of e at name = with_lengths (natural_of at.instr.second) [] (ill_typed e) (current_frame e).operands (λ lengths below. with_checked_class e name lengths (new_arrays_outcome e at.next lengths below))
 
 module _ {A : Type 0} (e : Moment) (at : Site) (name : List ℕ) (k : ℕ) (r : Result A Refusal) (items : A → List ℤ) where
   abbrev Takes : Type 0
-  Takes = (go : List ℤ → List Value → Outcome Kept) → with_lengths k [] (ill_typed e) (frame_of e).operands go ≡ outcome_of e r (λ x. go (items x) (drop k (frame_of e).operands))
+  Takes = (go : List ℤ → List Value → Outcome Kept) → with_lengths k [] (ill_typed e) (current_frame e).operands go ≡ outcome_of e r (λ x. go (items x) (drop k (current_frame e).operands))
 
-  pub taken_as : k ≡ natural at.instr.second → Takes → multi_array_of e at name ≡ outcome_of e r (λ x. with_checked_class e name (items x) (new_arrays_outcome e at.next (items x) (drop k (frame_of e).operands)))
-  taken_as same takes = ap (λ (n : ℕ). with_lengths n [] (ill_typed e) (frame_of e).operands (λ l below. with_checked_class e name l (new_arrays_outcome e at.next l below))) (sym same) ∙ takes (λ l below. with_checked_class e name l (new_arrays_outcome e at.next l below))
+  pub taken_as : k ≡ natural_of at.instr.second → Takes → multi_array_of e at name ≡ outcome_of e r (λ x. with_checked_class e name (items x) (new_arrays_outcome e at.next (items x) (drop k (current_frame e).operands)))
+  taken_as same takes = ap (λ (n : ℕ). with_lengths n [] (ill_typed e) (current_frame e).operands (λ l below. with_checked_class e name l (new_arrays_outcome e at.next l below))) (sym same) ∙ takes (λ l below. with_checked_class e name l (new_arrays_outcome e at.next l below))
 
-  pub taken_ok : (a : A) (l : List ℤ) → k ≡ natural at.instr.second → Takes → r ≡ Ok a → length l ≡ k → l ≡ items a → multi_array_of e at name ≡ with_checked_class e name l (new_arrays_outcome e at.next l (drop (length l) (frame_of e).operands))
+  pub taken_ok : (a : A) (l : List ℤ) → k ≡ natural_of at.instr.second → Takes → r ≡ Ok a → length l ≡ k → l ≡ items a → multi_array_of e at name ≡ with_checked_class e name l (new_arrays_outcome e at.next l (drop (length l) (current_frame e).operands))
   taken_ok a l same takes is count list =
-      taken_as same takes ∙ (ap (λ (x : Result A Refusal). outcome_of e x (λ y. with_checked_class e name (items y) (new_arrays_outcome e at.next (items y) (drop k (frame_of e).operands)))) is
-      ∙ (ap (λ (n : ℕ). with_checked_class e name (items a) (new_arrays_outcome e at.next (items a) (drop n (frame_of e).operands))) (sym count)
-      ∙ ap (λ (ns : List ℤ). with_checked_class e name ns (new_arrays_outcome e at.next ns (drop (length l) (frame_of e).operands))) (sym list)))
+      taken_as same takes ∙ (ap (λ (x : Result A Refusal). outcome_of e x (λ y. with_checked_class e name (items y) (new_arrays_outcome e at.next (items y) (drop k (current_frame e).operands)))) is
+      ∙ (ap (λ (n : ℕ). with_checked_class e name (items a) (new_arrays_outcome e at.next (items a) (drop n (current_frame e).operands))) (sym count)
+      ∙ ap (λ (ns : List ℤ). with_checked_class e name ns (new_arrays_outcome e at.next ns (drop (length l) (current_frame e).operands))) (sym list)))
 
-  pub taken_err : (x : Refusal) → k ≡ natural at.instr.second → Takes → r ≡ Err x → multi_array_of e at name ≡ refusal_outcome e x
-  taken_err x same takes is = taken_as same takes ∙ ap (λ (y : Result A Refusal). outcome_of e y (λ z. with_checked_class e name (items z) (new_arrays_outcome e at.next (items z) (drop k (frame_of e).operands)))) is
+  pub taken_err : (x : Refusal) → k ≡ natural_of at.instr.second → Takes → r ≡ Err x → multi_array_of e at name ≡ refusal_outcome e x
+  taken_err x same takes is = taken_as same takes ∙ ap (λ (y : Result A Refusal). outcome_of e y (λ z. with_checked_class e name (items z) (new_arrays_outcome e at.next (items z) (drop k (current_frame e).operands)))) is

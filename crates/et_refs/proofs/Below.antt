@@ -10,10 +10,10 @@ use Rattle.et_state.specs.State.{MachineState, kept_of}
 use Rattle.et_state.specs.Words.{HasFrame, top}
 use Rattle.et_state.specs.Sound.{IsSound}
 use Rattle.et_state.proofs.Places.{top_root}
-use Rattle.et_event.specs.Checks.{Reference, with_int, with_long, with_reference, value_of}
-use Rattle.et_parts.specs.Tops.{int_of, long_of, reference_of}
+use Rattle.et_event.specs.Checks.{Reference, with_int, with_long, with_reference, reference_value}
+use Rattle.et_parts.specs.Tops.{int_of, long_of, entry_reference}
 use Rattle.et_parts.proofs.Groups.{operand_is_in}
-use Rattle.et_refs.specs.Changes.{IsNamed}
+use Rattle.et_refs.specs.Changes.{IsNamedReference}
 
 int_first : {A : Type 0} (v : Value) (ops : List Value) (n : ℤ) (refused : A) (go : ℤ → List Value → A) → int_of v ≡ Some n → with_int refused (v ∷ ops) go ≡ go n ops
 int_first Unset ops n refused go e = cc
@@ -115,7 +115,7 @@ long_deep (v ∷ w ∷ ops) n e = omega arith
 
 -- REFERENCES
 
-reference_first : {A : Type 0} (v : Value) (ops : List Value) (r : Reference) (refused : A) (go : Reference → List Value → A) → reference_of v ≡ Some r → with_reference refused (v ∷ ops) go ≡ go r ops
+reference_first : {A : Type 0} (v : Value) (ops : List Value) (r : Reference) (refused : A) (go : Reference → List Value → A) → entry_reference v ≡ Some r → with_reference refused (v ∷ ops) go ≡ go r ops
 reference_first Unset ops r refused go e = cc
 reference_first (Int m) ops r refused go e = cc
 reference_first (Long m) ops r refused go e = cc
@@ -123,7 +123,7 @@ reference_first LongHigh ops r refused go e = cc
 reference_first Null ops r refused go e = let same : None ≡ r = cc in ap (λ (k : Reference). go k ops) same
 reference_first (Ref o) ops r refused go e = let same : Some o ≡ r = cc in ap (λ (k : Reference). go k ops) same
 
-no_reference_first : {A : Type 0} (v : Value) (ops : List Value) (refused : A) (go : Reference → List Value → A) → reference_of v ≡ None → with_reference refused (v ∷ ops) go ≡ refused
+no_reference_first : {A : Type 0} (v : Value) (ops : List Value) (refused : A) (go : Reference → List Value → A) → entry_reference v ≡ None → with_reference refused (v ∷ ops) go ≡ refused
 no_reference_first Unset ops refused go e = refl
 no_reference_first (Int m) ops refused go e = refl
 no_reference_first (Long m) ops refused go e = refl
@@ -131,31 +131,31 @@ no_reference_first LongHigh ops refused go e = refl
 no_reference_first Null ops refused go e = cc
 no_reference_first (Ref o) ops refused go e = cc
 
-reference_at_depth : {A : Type 0} (ops : List Value) (k : ℕ) (r : Reference) (refused : A) (go : Reference → List Value → A) → reference_of (get_or ops k Unset) ≡ Some r → with_reference refused (drop k ops) go ≡ go r (drop (suc k) ops)
+reference_at_depth : {A : Type 0} (ops : List Value) (k : ℕ) (r : Reference) (refused : A) (go : Reference → List Value → A) → entry_reference (get_or ops k Unset) ≡ Some r → with_reference refused (drop k ops) go ≡ go r (drop (suc k) ops)
 reference_at_depth [] zero r refused go e = cc
 reference_at_depth [] (suc k) r refused go e = cc
 reference_at_depth (v ∷ ops) zero r refused go e = reference_first v ops r refused go e
 reference_at_depth (v ∷ ops) (suc k) r refused go e = reference_at_depth ops k r refused go e
 
-pub reference_there : {A : Type 0} (ops : List Value) (k : ℕ) (r : Reference) (refused : A) (go : Reference → List Value → A) → Some r ≡ reference_of (get_or ops k Unset) → with_reference refused (drop k ops) go ≡ go r (drop (k + 1) ops)
+pub reference_there : {A : Type 0} (ops : List Value) (k : ℕ) (r : Reference) (refused : A) (go : Reference → List Value → A) → Some r ≡ entry_reference (get_or ops k Unset) → with_reference refused (drop k ops) go ≡ go r (drop (k + 1) ops)
 reference_there ops k r refused go e =
     let one : suc k ≡ k + 1 = omega arith in
     reference_at_depth ops k r refused go (sym e) ∙ ap (λ (j : ℕ). go r (drop j ops)) one
 
-pub no_reference : {A : Type 0} (ops : List Value) (k : ℕ) (refused : A) (go : Reference → List Value → A) → None ≡ reference_of (get_or ops k Unset) → with_reference refused (drop k ops) go ≡ refused
+pub no_reference : {A : Type 0} (ops : List Value) (k : ℕ) (refused : A) (go : Reference → List Value → A) → None ≡ entry_reference (get_or ops k Unset) → with_reference refused (drop k ops) go ≡ refused
 no_reference [] zero refused go e = refl
 no_reference [] (suc k) refused go e = refl
 no_reference (v ∷ ops) zero refused go e = no_reference_first v ops refused go (sym e)
 no_reference (v ∷ ops) (suc k) refused go e = no_reference ops k refused go e
 
-pub reference_deep : (ops : List Value) (k : ℕ) (r : Reference) → Some r ≡ reference_of (get_or ops k Unset) → k < length ops
+pub reference_deep : (ops : List Value) (k : ℕ) (r : Reference) → Some r ≡ entry_reference (get_or ops k Unset) → k < length ops
 reference_deep [] zero r e = cc
 reference_deep [] (suc k) r e = cc
 reference_deep (v ∷ ops) zero r e = omega arith
 reference_deep (v ∷ ops) (suc k) r e = let h : k < length ops = reference_deep ops k r e in omega arith
 
 -- an object that a reference names stands in the value
-named_by : (v : Value) (r : Reference) (o : ℕ) → Some r ≡ reference_of v → r ≡ Some o → Contains (refs_of_value v) o
+named_by : (v : Value) (r : Reference) (o : ℕ) → Some r ≡ entry_reference v → r ≡ Some o → Contains (refs_of_value v) o
 named_by Unset r o e f = cc
 named_by (Int m) r o e f = cc
 named_by (Long m) r o e f = cc
@@ -163,7 +163,7 @@ named_by LongHigh r o e f = cc
 named_by Null r o e f = cc
 named_by (Ref x) r o e f = let same : x ≡ o = cc in subst (λ (k : ℕ). Contains (x ∷ []) k) same (Contains-here x [])
 
-pub reference_named : (m : MachineState) (t k : ℕ) (r : Reference) → HasFrame m.guest t → IsSound (kept_of m) → Some r ≡ reference_of (operand_of (top m.guest t) k) → IsNamed m (top m.guest t) r
+pub reference_named : (m : MachineState) (t k : ℕ) (r : Reference) → HasFrame m.guest t → IsSound (kept_of m) → Some r ≡ entry_reference (operand_of (top m.guest t) k) → IsNamedReference m (top m.guest t) r
 reference_named m t k r has sound e =
     let f = top m.guest t in
     λ o named.
@@ -171,7 +171,7 @@ reference_named m t k r has sound e =
     (sound.roots o (top_root m.guest t o has inside), inside)
 
 -- .. and as a value it refers to that object alone
-pub named_in : (m : MachineState) (f : FrameState) (r : Reference) → IsNamed m f r → (o : ℕ) → Contains (refs_of_value (value_of r)) o → Contains (frame_roots f) o
+pub named_in : (m : MachineState) (f : FrameState) (r : Reference) → IsNamedReference m f r → (o : ℕ) → Contains (refs_of_value (reference_value r)) o → Contains (frame_roots f) o
 named_in m f None named o c = absurd (Contains-none o c)
 named_in m f (Some x) named o c = (named o (only x o c)).1
   where

@@ -26,9 +26,9 @@ use Rattle.et_state.specs.declared.ends.EventEnd.TheVariants as endings
 use Rattle.et_state.specs.Outcome.{Outcome}
 use Rattle.et_event.specs.Answered.{EventAnswers}
 use Rattle.et_event.specs.Checks.{entries_of}
-use Rattle.et_event.specs.Heap.{leaving}
+use Rattle.et_event.specs.Heap.{leaving_values}
 use Rattle.et_event.specs.Kinds.{or_zero}
-use Rattle.et_event.specs.Moments.{Moment, moment, Doing, frame_of, fits, updated}
+use Rattle.et_event.specs.Moments.{Moment, moment, Doing, current_frame, fits_heap, updated}
 use Rattle.et_event.specs.Sites.{Site}
 use Rattle.et_event.specs.Sound.{is_of_kind}
 use Rattle.et_event.specs.declared.rows.Operand.{Operand}
@@ -47,7 +47,7 @@ use Rattle.et_refs.specs.declared.accesses.Write.{Write}
 use Rattle.et_refs.specs.declared.accesses.Access.{Access}
 use Rattle.et_refs.specs.declared.accesses.Access.TheVariants as access
 use Rattle.et_refs.specs.declared.accesses.Wanted.{Wanted}
-use Rattle.et_refs.specs.Accesses.{with_access, access_outcome, objects_in, slots_in, MayAccess, MayRead, MayWrite, MayWant, CanAccess, Accesses, reads, writes, replaces}
+use Rattle.et_refs.specs.Accesses.{with_access, access_outcome, objects_in, slots_accessed, MayAccess, MayRead, MayWrite, MayWant, CanAccess, Accesses, reads, access_written, replaces}
 
 -- so far the event has come to d: it initialized classes, and did nothing else
 pub record HasInitialized (p : Linked) (m : MachineState) (d : Doing) : Type 0 where
@@ -60,7 +60,7 @@ base_threads p m m₂ d done e = ap (λ (z : MachineState). z.guest.threads) e �
 
 -- WHAT THE CALL NEEDS
 
-can_by : (p : Linked) (m n : MachineState) (t c : ℕ) (f : FrameState) (a : Access) → IsWellFormed p (kept_of n) → MayAccess p f a → has_room n.heap (objects_in a) (slots_in p c a) ≡ true → CanAccess p n f c a
+can_by : (p : Linked) (m n : MachineState) (t c : ℕ) (f : FrameState) (a : Access) → IsWellFormed p (kept_of n) → MayAccess p f a → has_room n.heap (objects_in a) (slots_accessed p c a) ≡ true → CanAccess p n f c a
 can_by p m n t c f (access.Read x) well may room = record {
   slot = subst (λ (k : ℕ). x.slot < k) (sym well.statics.0) may.slot;
   room = may.room (static_at n.guest x.slot) (ap (λ (k : Option Operand). is_of_kind k (static_at n.guest x.slot)) may.kind ∙ (well.statics.1 x.slot may.slot).value);
@@ -68,7 +68,7 @@ can_by p m n t c f (access.Read x) well may room = record {
 can_by p m n t c f (access.Write x) well may room = record { slot = subst (λ (k : ℕ). x.slot < k) (sym well.statics.0) may.slot; taken = may.taken; few = may.few }
 can_by p m n t c f access.Make well may room = record { operands = may; room = room }
 
-pub can_access : (p : Linked) (t : ℕ) (m m₂ : MachineState) (d : Doing) (x : Wanted) → HasInitialized p m d → MayWant p (top m.guest t) x → has_room d.state.heap (objects_in x.access) (slots_in p x.class x.access) ≡ true
+pub can_access : (p : Linked) (t : ℕ) (m m₂ : MachineState) (d : Doing) (x : Wanted) → HasInitialized p m d → MayWant p (top m.guest t) x → has_room d.state.heap (objects_in x.access) (slots_accessed p x.class x.access) ≡ true
     → m₂ ≡ base m d → CanAccess p m₂ (top m₂.guest t) x.class x.access
 can_access p t m m₂ d x done may room e =
     let n = base m d in
@@ -81,9 +81,9 @@ can_access p t m m₂ d x done may room e =
 some_made : (p : Linked) (m : MachineState) (d : Doing) → IsSound (kept_of m) → HasInitialized p m d → 0 < length d.state.heap
 some_made p m d sound done = let room = sound.room in let grown = done.made.grown in omega (arith, room, grown)
 
-pub fits_as : (e : Moment) (at : Site) (c : ℕ) (a : Access) (d : Doing) → 0 < length d.state.heap → fits (with_access e at c a d).state.heap ≡ has_room d.state.heap (objects_in a) (slots_in e.program c a)
+pub fits_as : (e : Moment) (at : Site) (c : ℕ) (a : Access) (d : Doing) → 0 < length d.state.heap → fits_heap (with_access e at c a d).state.heap ≡ has_room d.state.heap (objects_in a) (slots_accessed e.program c a)
 fits_as e at c (access.Read x) d some = sym (room_fits d.state.heap)
-fits_as e at c (access.Write x) d some = ap (λ (k : Kept). fits k.heap) (written_state e x.slot x.value (leaving e at (drop x.taken (frame_of e).operands) d)) ∙ sym (room_fits d.state.heap)
+fits_as e at c (access.Write x) d some = ap (λ (k : Kept). fits_heap k.heap) (written_state e x.slot x.value (leaving_values e at (drop x.taken (current_frame e).operands) d)) ∙ sym (room_fits d.state.heap)
 fits_as e at c access.Make d some = one_fits d.state.heap c 0 (class_at e.program c).info.slots some
 
 -- THE STEP
@@ -144,8 +144,8 @@ write_steps p t at m m₃ d out out₂ out₃ c x has done may r₂ did =
     did_on_way s n t (replaced x.taken [] at.next f) lost b done.made.way on
     (record { is = refl; moves = moves_held (MayEnter n) (MayBeLost s n) f x.taken at.next [] (λ o z. absurd (Contains-none o z)) (λ o z. frame_there m n t o has done.threads z) }) in
     let held : (o : ℕ) → Contains (refs_of_value x.value) o → IsHeld b.heap o = λ o z. done.made.way.sound.roots o (top_root n.guest t o on (subst (λ (g : FrameState). Contains (frame_roots g) o) (sym same) (may.value o z))) in
-    let way₂ : IsOnWay s (writes t at.next x n) = on_set_static s b x.slot x.value way₁ lt held (λ o z. static_there s (kept_of b) d.state x.slot o done.made refl lt z) in
-    let left : Doing = leaving e at (drop x.taken (top m.guest t).operands) d in
+    let way₂ : IsOnWay s (access_written t at.next x n) = on_set_static s b x.slot x.value way₁ lt held (λ o z. static_there s (kept_of b) d.state x.slot o done.made refl lt z) in
+    let left : Doing = leaving_values e at (drop x.taken (top m.guest t).operands) d in
     let k : Kept = record { heap = d.state.heap; guest = with_static left.state.guest x.slot x.value } in
     let is : kept_of m₃ ≡ k =
     ap (λ (z : MachineState). kept_of z) did.0 ∙ ap (λ (g : FrameState). let w : Kept = record { heap = d.state.heap; guest = with_static (with_top d.state.guest t (replaced x.taken [] at.next g)) x.slot x.value } in w) same in
@@ -203,19 +203,19 @@ steps_by p t at m m₃ d out out₂ out₃ c access.Make has done may r₂ did =
 -- THE EVENT
 
 pub accessed_answers : (p : Linked) (t : ℕ) (at : Site) (x : Wanted) (m m₂ m₃ : MachineState) (d : Doing) (out out₂ out₃ : List Record) → IsSound (kept_of m) → HasFrame m.guest t → HasInitialized p m d → MayWant p (top m.guest t) x
-    → has_room d.state.heap (objects_in x.access) (slots_in p x.class x.access) ≡ true → m₂ ≡ base m d → out₂ ≡ out ++ d.records → Accesses p t at.next x.class x.access m₂ m₃ out₂ out₃
+    → has_room d.state.heap (objects_in x.access) (slots_accessed p x.class x.access) ≡ true → m₂ ≡ base m d → out₂ ≡ out ++ d.records → Accesses p t at.next x.class x.access m₂ m₃ out₂ out₃
     → EventAnswers (access_outcome (moment p m t) at x d) endings.Done m m₃ out out₃
 accessed_answers p t at x m m₂ m₃ d out out₂ out₃ sound has done may room e₂ r₂ did =
     let e = moment p m t in
     let y : Doing = with_access e at x.class x.access d in
     let steps = steps_by p t at m m₃ d out out₂ out₃ x.class x.access has done may.access r₂ (subst (λ (z : MachineState). Accesses p t at.next x.class x.access z m₃ out₂ out₃) e₂ did) in
-    let fit : fits y.state.heap ≡ true = fits_as e at x.class x.access d (some_made p m d sound done) ∙ room in
+    let fit : fits_heap y.state.heap ≡ true = fits_as e at x.class x.access d (some_made p m d sound done) ∙ room in
     subst (λ (z : Outcome Kept). EventAnswers z endings.Done m m₃ out out₃) (sym (ends_fit y fit)) (steps.led, steps.records)
 
-pub access_full : (p : Linked) (t : ℕ) (at : Site) (x : Wanted) (m : MachineState) (d : Doing) (out : List Record) → IsSound (kept_of m) → HasInitialized p m d → has_room d.state.heap (objects_in x.access) (slots_in p x.class x.access) ≡ false
+pub access_full : (p : Linked) (t : ℕ) (at : Site) (x : Wanted) (m : MachineState) (d : Doing) (out : List Record) → IsSound (kept_of m) → HasInitialized p m d → has_room d.state.heap (objects_in x.access) (slots_accessed p x.class x.access) ≡ false
     → EventAnswers (access_outcome (moment p m t) at x d) endings.ObjectLimit m m out out
 access_full p t at x m d out sound done room =
     let e = moment p m t in
     let y : Doing = with_access e at x.class x.access d in
-    let fit : fits y.state.heap ≡ false = fits_as e at x.class x.access d (some_made p m d sound done) ∙ room in
+    let fit : fits_heap y.state.heap ≡ false = fits_as e at x.class x.access d (some_made p m d sound done) ∙ room in
     subst (λ (z : Outcome Kept). EventAnswers z endings.ObjectLimit m m out out) (sym (ends_full y fit)) (refl, refl)

@@ -11,11 +11,11 @@ use Rattle.et_state.specs.State.{Kept}
 use Rattle.et_state.specs.Outcome.{Outcome}
 use Rattle.et_event.specs.declared.rows.Elements.{Elements}
 use Rattle.et_event.specs.declared.errors.GuestError.TheVariants.{ArrayIndexOutOfBoundsException, ArrayStoreException, ClassCastException, IncompatibleClassChangeError}
-use Rattle.et_event.specs.Moments.{Moment, frame_of, begins, class_of, next_object, array_made, slot_written, ill_typed, goes, ends}
+use Rattle.et_event.specs.Moments.{Moment, current_frame, begins, object_class, next_object, array_made, slot_written, ill_typed, goes, ends_event}
 use Rattle.et_event.specs.Checks.{Reference, with_int, with_reference, with_value, entries_of, ill_typed_unless, throws_unless, not_null}
-use Rattle.et_event.specs.Heap.{leaving, field_fits, resolved_field, is_static_field, with_holder, with_element, element_of, length_of, passes_element, resolved_class, cast, tested, truth, new_array_of}
-use Rattle.et_event.specs.Kinds.{kind_of, kind_of_field, or_zero, narrowed, kind_of_elements, kept_element, is_array, are_elements, in_bounds}
-use Rattle.et_event.specs.Sites.{Site, Member, natural}
+use Rattle.et_event.specs.Heap.{leaving_values, field_fits, resolved_field, is_static_at, with_holder, with_element, element_of_array, length_of, passes_element, resolved_class, cast, type_tested, truth, new_array_of}
+use Rattle.et_event.specs.Kinds.{operand_kind, kind_of_field, or_zero, narrowed, kind_of_elements, kept_element, is_array_element, are_elements, in_bounds}
+use Rattle.et_event.specs.Sites.{Site, Member, natural_of}
 use Rattle.et_refs.specs.declared.refusals.Refusal.{Refusal}
 use Rattle.et_refs.specs.Changes.{put_outcome}
 use Rattle.et_refs.specs.Refusals.{outcome_of, refusal_outcome}
@@ -27,40 +27,40 @@ refusing e x s r h a b = a ∙ ap (λ q. outcome_of e q h) (sym b)
 -- GETFIELD
 
 abbrev pub got : Moment → Site → Member → List Value → ℕ → ℕ → Outcome Kept
-got e at m below o slot = goes (leaving e at (entries_of (or_zero (kind_of m.descriptor) (slot_of (object_at e.before.heap o) slot)) ++ below) (begins e))
+got e at m below o slot = goes (leaving_values e at (entries_of (or_zero (operand_kind m.descriptor) (slot_of (object_at e.before.heap o) slot)) ++ below) (begins e))
 
 abbrev pub gets_slot : Moment → Site → Member → Reference → List Value → Outcome Kept
 gets_slot e at m r below =
-    resolved_field e (begins e) m (λ f. throws_unless e (begins e) IncompatibleClassChangeError (not (is_static_field e.program f)) (with_holder e (begins e) f r (λ o. got e at m below o (field_at e.program f).slot)))
+    resolved_field e (begins e) m (λ f. throws_unless e (begins e) IncompatibleClassChangeError (not (is_static_at e.program f)) (with_holder e (begins e) f r (λ o. got e at m below o (field_at e.program f).slot)))
 
 abbrev pub gets_fitting : Moment → Site → Member → Reference → List Value → Outcome Kept
 gets_fitting e at m r below = ill_typed_unless e (field_fits e below m) (gets_slot e at m r below)
 
 abbrev pub gets : Moment → Site → Member → Outcome Kept
-gets e at m = with_reference (ill_typed e) (frame_of e).operands (gets_fitting e at m)
+gets e at m = with_reference (ill_typed e) (current_frame e).operands (gets_fitting e at m)
 
 -- PUTFIELD
 
 abbrev pub put : Moment → Site → Member → Value → List Value → ℕ → ℕ → Outcome Kept
-put e at m v below o slot = goes (slot_written e o slot (narrowed m.descriptor v) (leaving e at below (begins e)))
+put e at m v below o slot = goes (slot_written e o slot (narrowed m.descriptor v) (leaving_values e at below (begins e)))
 
 abbrev pub puts_slot : Moment → Site → Member → Value → Reference → List Value → Outcome Kept
 puts_slot e at m v r below =
-    resolved_field e (begins e) m (λ f. throws_unless e (begins e) IncompatibleClassChangeError (not (is_static_field e.program f)) (with_holder e (begins e) f r (λ o. put e at m v below o (field_at e.program f).slot)))
+    resolved_field e (begins e) m (λ f. throws_unless e (begins e) IncompatibleClassChangeError (not (is_static_at e.program f)) (with_holder e (begins e) f r (λ o. put e at m v below o (field_at e.program f).slot)))
 
 abbrev pub puts_value : Moment → Site → Member → Value → List Value → Outcome Kept
 puts_value e at m v more = with_reference (ill_typed e) more (puts_slot e at m v)
 
 abbrev pub puts : Moment → Site → Member → Outcome Kept
-puts e at m = with_value (kind_of_field m.descriptor) (ill_typed e) (frame_of e).operands (puts_value e at m)
+puts e at m = with_value (kind_of_field m.descriptor) (ill_typed e) (current_frame e).operands (puts_value e at m)
 
 -- ELEMENTS
 
 abbrev pub loaded : Moment → Site → Elements → List Value → ℕ → ℕ → Outcome Kept
-loaded e at kind below o i = goes (leaving e at (entries_of (or_zero (Some (kind_of_elements kind)) (slot_of (object_at e.before.heap o) i)) ++ below) (begins e))
+loaded e at kind below o i = goes (leaving_values e at (entries_of (or_zero (Some (kind_of_elements kind)) (slot_of (object_at e.before.heap o) i)) ++ below) (begins e))
 
 abbrev pub loads : Moment → Site → Elements → ℤ → Reference → List Value → Outcome Kept
-loads e at kind i r below = with_element e kind r i (λ o. loaded e at kind below o (natural i))
+loads e at kind i r below = with_element e kind r i (λ o. loaded e at kind below o (natural_of i))
 
 abbrev pub loads_index : Moment → Site → Elements → ℤ → List Value → Outcome Kept
 loads_index e at kind i more = with_reference (ill_typed e) more (loads e at kind i)
@@ -68,10 +68,10 @@ loads_index e at kind i more = with_reference (ill_typed e) more (loads e at kin
 -- ARRAYLENGTH
 
 abbrev pub measured : Moment → Site → List Value → ℕ → Outcome Kept
-measured e at below o = goes (leaving e at (Int (pos (length_of e o)) ∷ below) (begins e))
+measured e at below o = goes (leaving_values e at (Int (pos (length_of e o)) ∷ below) (begins e))
 
 abbrev pub measures_array : Moment → Site → List Value → ℕ → Outcome Kept
-measures_array e at below o = ill_typed_unless e (is_array (element_of e o)) (measured e at below o)
+measures_array e at below o = ill_typed_unless e (is_array_element (element_of_array e o)) (measured e at below o)
 
 abbrev pub measures : Moment → Site → Reference → List Value → Outcome Kept
 measures e at r below = not_null e (begins e) r (measures_array e at below)
@@ -79,15 +79,15 @@ measures e at r below = not_null e (begins e) r (measures_array e at below)
 -- THE ELEMENT OF AN INDEX
 
 abbrev pub indexed : Moment → ℤ → (ℕ → ℕ → Outcome Kept) → ℕ → Outcome Kept
-indexed e i go o = throws_unless e (begins e) ArrayIndexOutOfBoundsException (in_bounds i (length_of e o)) (go o (natural i))
+indexed e i go o = throws_unless e (begins e) ArrayIndexOutOfBoundsException (in_bounds i (length_of e o)) (go o (natural_of i))
 
 abbrev pub elements_there : Moment → Elements → ℤ → (ℕ → ℕ → Outcome Kept) → ℕ → Outcome Kept
-elements_there e kind i go o = ill_typed_unless e (are_elements kind (element_of e o)) (indexed e i go o)
+elements_there e kind i go o = ill_typed_unless e (are_elements kind (element_of_array e o)) (indexed e i go o)
 
 -- A FIELD OF AN OBJECT
 
 abbrev pub held_by : Moment → ℕ → (ℕ → Outcome Kept) → ℕ → Outcome Kept
-held_by e f go o = ill_typed_unless e (is_subclass e.program (class_of (begins e) o) (field_at e.program f).class) (go o)
+held_by e f go o = ill_typed_unless e (is_subclass e.program (object_class (begins e) o) (field_at e.program f).class) (go o)
 
 abbrev pub slot_held_by : Moment → Reference → (ℕ → ℕ → Outcome Kept) → ℕ → Outcome Kept
 slot_held_by e r go f = with_holder e (begins e) f r (λ o. go o (field_at e.program f).slot)
@@ -95,13 +95,13 @@ slot_held_by e r go f = with_holder e (begins e) f r (λ o. go o (field_at e.pro
 -- TYPE TESTS
 
 abbrev pub casts : Moment → Site → List Value → ℕ → ℕ → Outcome Kept
-casts e at below o class = throws_unless e (begins e) ClassCastException (passes e.program (class_of (begins e) o) class) (put_outcome e at below (Ref o))
+casts e at below o class = throws_unless e (begins e) ClassCastException (passes e.program (object_class (begins e) o) class) (put_outcome e at below (Ref o))
 
 abbrev pub tests : Moment → Site → List Value → ℕ → ℕ → Outcome Kept
-tests e at below o class = goes (leaving e at (truth (passes e.program (class_of (begins e) o) class) ∷ below) (begins e))
+tests e at below o class = goes (leaving_values e at (truth (passes e.program (object_class (begins e) o) class) ∷ below) (begins e))
 
 -- a truth takes one entry
-pub truth_left : (e : Moment) (at : Site) (below : List Value) (b : Bool) → goes (leaving e at (truth b ∷ below) (begins e)) ≡ put_outcome e at below (truth b)
+pub truth_left : (e : Moment) (at : Site) (below : List Value) (b : Bool) → goes (leaving_values e at (truth b ∷ below) (begins e)) ≡ put_outcome e at below (truth b)
 truth_left e at below true = refl
 truth_left e at below false = refl
 
@@ -109,24 +109,24 @@ abbrev pub casts_reference : Moment → Site → List ℕ → Reference → List
 casts_reference e at name r below = cast e at name below r
 
 abbrev pub casts_named : Moment → Site → List ℕ → Outcome Kept
-casts_named e at name = with_reference (ill_typed e) (frame_of e).operands (casts_reference e at name)
+casts_named e at name = with_reference (ill_typed e) (current_frame e).operands (casts_reference e at name)
 
 abbrev pub tests_reference : Moment → Site → List ℕ → Reference → List Value → Outcome Kept
-tests_reference e at name r below = tested e at name below r
+tests_reference e at name r below = type_tested e at name below r
 
 abbrev pub tests_named : Moment → Site → List ℕ → Outcome Kept
-tests_named e at name = with_reference (ill_typed e) (frame_of e).operands (tests_reference e at name)
+tests_named e at name = with_reference (ill_typed e) (current_frame e).operands (tests_reference e at name)
 
 -- IASTORE AND ITS KIN
 
 abbrev pub kept : Moment → Site → Elements → Value → List Value → ℕ → ℕ → Outcome Kept
-kept e at kind v below o i = goes (slot_written e o i (kept_element kind v) (leaving e at below (begins e)))
+kept e at kind v below o i = goes (slot_written e o i (kept_element kind v) (leaving_values e at below (begins e)))
 
 abbrev pub stores_tested : Moment → Site → Elements → Value → List Value → ℕ → ℕ → Outcome Kept
-stores_tested e at kind v below o i = throws_unless e (begins e) ArrayStoreException (passes_element e v (element_of e o)) (kept e at kind v below o i)
+stores_tested e at kind v below o i = throws_unless e (begins e) ArrayStoreException (passes_element e v (element_of_array e o)) (kept e at kind v below o i)
 
 abbrev pub stores : Moment → Site → Elements → Value → ℤ → Reference → List Value → Outcome Kept
-stores e at kind v i r below = with_element e kind r i (λ o. stores_tested e at kind v below o (natural i))
+stores e at kind v i r below = with_element e kind r i (λ o. stores_tested e at kind v below o (natural_of i))
 
 abbrev pub stores_index : Moment → Site → Elements → Value → ℤ → List Value → Outcome Kept
 stores_index e at kind v i more = with_reference (ill_typed e) more (stores e at kind v i)
@@ -137,7 +137,7 @@ stores_value e at kind v most = with_int (ill_typed e) most (stores_index e at k
 -- NEWARRAY, ANEWARRAY
 
 abbrev pub makes_base : Moment → Site → ℤ → List Value → Outcome Kept
-makes_base e at n below = new_array_of e at (unwrap_or (base_array e.program (natural at.instr.first)) 0) n below
+makes_base e at n below = new_array_of e at (unwrap_or (base_array e.program (natural_of at.instr.first)) 0) n below
 
 abbrev pub makes : Moment → Site → ℤ → List Value → ℕ → Outcome Kept
 makes e at n below class = new_array_of e at (unwrap_or (class_at e.program class).array 0) n below
@@ -146,10 +146,10 @@ abbrev pub makes_resolved : Moment → Site → List ℕ → ℤ → List Value 
 makes_resolved e at name n below = resolved_class e (begins e) name (makes e at n below)
 
 abbrev pub makes_named : Moment → Site → List ℕ → Outcome Kept
-makes_named e at name = with_int (ill_typed e) (frame_of e).operands (makes_resolved e at name)
+makes_named e at name = with_int (ill_typed e) (current_frame e).operands (makes_resolved e at name)
 
 abbrev pub sized : Moment → Site → ℕ → ℕ → Outcome Kept
-sized e at class elements = ends (leaving e at (Ref (next_object (begins e)) ∷ drop 1 (frame_of e).operands) (array_made e class elements (begins e)))
+sized e at class elements = ends_event (leaving_values e at (Ref (next_object (begins e)) ∷ drop 1 (current_frame e).operands) (array_made e class elements (begins e)))
 
 -- where all is well whatever the answer
 pub whatever : {A E : Type 0} {P : Type 0} (r : Result A E) → P → IfOk r (λ a. P)

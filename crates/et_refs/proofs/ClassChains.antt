@@ -7,11 +7,11 @@ use Rattle.et_state.specs.State.{Kept}
 use Rattle.et_state.specs.Words.{static_at}
 use Rattle.et_state.specs.Outcome.{Outcome}
 use Rattle.et_event.specs.declared.errors.GuestError.TheVariants.{IncompatibleClassChangeError, InstantiationError}
-use Rattle.et_event.specs.Moments.{Moment, frame_of, begins, next_object, instance_made, static_written, ill_typed, ends}
+use Rattle.et_event.specs.Moments.{Moment, current_frame, begins, next_object, instance_made, static_written, ill_typed, ends_event}
 use Rattle.et_event.specs.Checks.{with_value, entries_of, ill_typed_unless, throws_unless}
-use Rattle.et_event.specs.Heap.{leaving, field_fits, resolved_field, resolved_class, is_static_field, may_be_made}
+use Rattle.et_event.specs.Heap.{leaving_values, field_fits, resolved_field, resolved_class, is_static_at, may_be_made}
 use Rattle.et_event.specs.Initialization.{initialized}
-use Rattle.et_event.specs.Kinds.{kind_of, kind_of_field, or_zero, narrowed}
+use Rattle.et_event.specs.Kinds.{operand_kind, kind_of_field, or_zero, narrowed}
 use Rattle.et_event.specs.Sites.{Site, Member}
 use Rattle.std.specs.Prelude.{nat_le, ◌+◌, length}
 
@@ -19,29 +19,29 @@ use Rattle.std.specs.Prelude.{nat_le, ◌+◌, length}
 
 abbrev pub got : Moment → Site → Member → ℕ → Outcome Kept
 got e at m f =
-    initialized e (begins e) (field_at e.program f).class (λ d. ends (leaving e at (entries_of (or_zero (kind_of m.descriptor) (static_at d.state.guest (field_at e.program f).slot)) ++ (frame_of e).operands) d))
+    initialized e (begins e) (field_at e.program f).class (λ d. ends_event (leaving_values e at (entries_of (or_zero (operand_kind m.descriptor) (static_at d.state.guest (field_at e.program f).slot)) ++ (current_frame e).operands) d))
 
 abbrev pub gets_field : Moment → Site → Member → Outcome Kept
-gets_field e at m = resolved_field e (begins e) m (λ f. throws_unless e (begins e) IncompatibleClassChangeError (is_static_field e.program f) (got e at m f))
+gets_field e at m = resolved_field e (begins e) m (λ f. throws_unless e (begins e) IncompatibleClassChangeError (is_static_at e.program f) (got e at m f))
 
 abbrev pub gets : Moment → Site → Member → Outcome Kept
-gets e at m = ill_typed_unless e (field_fits e (frame_of e).operands m) (gets_field e at m)
+gets e at m = ill_typed_unless e (field_fits e (current_frame e).operands m) (gets_field e at m)
 
 -- PUTSTATIC
 
 abbrev pub put : Moment → Site → Member → Value → List Value → ℕ → Outcome Kept
-put e at m v below f = initialized e (begins e) (field_at e.program f).class (λ d. ends (static_written e (field_at e.program f).slot (narrowed m.descriptor v) (leaving e at below d)))
+put e at m v below f = initialized e (begins e) (field_at e.program f).class (λ d. ends_event (static_written e (field_at e.program f).slot (narrowed m.descriptor v) (leaving_values e at below d)))
 
 abbrev pub puts_field : Moment → Site → Member → Value → List Value → Outcome Kept
-puts_field e at m v below = resolved_field e (begins e) m (λ f. throws_unless e (begins e) IncompatibleClassChangeError (is_static_field e.program f) (put e at m v below f))
+puts_field e at m v below = resolved_field e (begins e) m (λ f. throws_unless e (begins e) IncompatibleClassChangeError (is_static_at e.program f) (put e at m v below f))
 
 abbrev pub puts : Moment → Site → Member → Outcome Kept
-puts e at m = with_value (kind_of_field m.descriptor) (ill_typed e) (frame_of e).operands (puts_field e at m)
+puts e at m = with_value (kind_of_field m.descriptor) (ill_typed e) (current_frame e).operands (puts_field e at m)
 
 -- NEW
 
 abbrev pub made_of : Moment → Site → ℕ → Outcome Kept
-made_of e at class = initialized e (begins e) class (λ d. ends (leaving e at (Ref (next_object d) ∷ (frame_of e).operands) (instance_made e class d)))
+made_of e at class = initialized e (begins e) class (λ d. ends_event (leaving_values e at (Ref (next_object d) ∷ (current_frame e).operands) (instance_made e class d)))
 
 abbrev pub makes_class : Moment → Site → ℕ → Outcome Kept
 makes_class e at class = throws_unless e (begins e) InstantiationError (may_be_made e.program class) (made_of e at class)
@@ -50,4 +50,4 @@ abbrev pub makes_named : Moment → Site → List ℕ → Outcome Kept
 makes_named e at name = resolved_class e (begins e) name (makes_class e at)
 
 abbrev pub makes_fitting : Moment → Site → List ℕ → Outcome Kept
-makes_fitting e at name = ill_typed_unless e (nat_le (1 + length (frame_of e).operands) (frame_of e).room) (makes_named e at name)
+makes_fitting e at name = ill_typed_unless e (nat_le (1 + length (current_frame e).operands) (current_frame e).room) (makes_named e at name)

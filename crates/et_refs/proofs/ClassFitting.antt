@@ -9,7 +9,7 @@ use Rattle.et_program.specs.declared.info.FieldInfo.{FieldInfo}
 use Rattle.et_program.specs.Entries.{Linked, field_at}
 use Rattle.et_event.specs.declared.rows.Operand.{Operand}
 use Rattle.et_event.specs.Checks.{entries_of}
-use Rattle.et_event.specs.Kinds.{kind_of, or_zero, narrowed}
+use Rattle.et_event.specs.Kinds.{operand_kind, or_zero, narrowed}
 use Rattle.et_event.specs.Sound.{is_of_kind}
 use Rattle.et_parts.specs.Tops.{IsIn}
 use Rattle.et_refs.proofs.Reading.{kept_refers}
@@ -19,7 +19,7 @@ use Rattle.et_refs.specs.declared.accesses.Access.TheVariants as access
 use Rattle.et_refs.specs.Accesses.{IsStaticField, MayWant}
 
 pub may_read : (p : Linked) (f : FrameState) (type : List ℕ) (field width : ℕ) (info : FieldInfo) (kind : Option Operand) → HasSlots p → IsStaticField p type field → width ≡ width_of type
-    → width + length f.operands ≤ f.room → info ≡ field_at p field → kind ≡ kind_of type → MayWant p f (record { class = info.class; access = access.Read (record { slot = info.slot; kind = kind }) })
+    → width + length f.operands ≤ f.room → info ≡ field_at p field → kind ≡ operand_kind type → MayWant p f (record { class = info.class; access = access.Read (record { slot = info.slot; kind = kind }) })
 may_read p f type field width info kind slots is wide fit named shown =
     let at = slots.statics field is.within is.static in
     let slot : info.slot ≡ (field_at p field).slot = ap (λ (x : FieldInfo). x.slot) named in
@@ -28,10 +28,10 @@ may_read p f type field width info kind slots is wide fit named shown =
       class = subst (λ (x : FieldInfo). x.class < length p.classes) (sym named) (slots.owners field is.within);
       access = record {
         slot = subst (λ (i : ℕ). i < length p.statics) (sym slot) at.0;
-        kind = shown ∙ (ap kind_of (sym is.descriptor) ∙ ap (λ (i : ℕ). kind_of (field_at p i).descriptor) (sym there));
+        kind = shown ∙ (ap operand_kind (sym is.descriptor) ∙ ap (λ (i : ℕ). operand_kind (field_at p i).descriptor) (sym there));
         room = λ v typed.
-            let few : length (entries_of (or_zero (kind_of type) v)) ≤ width_of type = read_width type v (ap (λ (k : Option Operand). is_of_kind k v) (sym shown) ∙ typed) in
-            let same : length (entries_of (or_zero kind v)) ≡ length (entries_of (or_zero (kind_of type) v)) = ap (λ (k : Option Operand). length (entries_of (or_zero k v))) shown in
+            let few : length (entries_of (or_zero (operand_kind type) v)) ≤ width_of type = read_width type v (ap (λ (k : Option Operand). is_of_kind k v) (sym shown) ∙ typed) in
+            let same : length (entries_of (or_zero kind v)) ≡ length (entries_of (or_zero (operand_kind type) v)) = ap (λ (k : Option Operand). length (entries_of (or_zero k v))) shown in
             omega (arith, few, same, wide, fit);
       };
     }

@@ -13,8 +13,8 @@ use Rattle.et_state.specs.declared.records.Record.{Record}
 use Rattle.et_state.specs.declared.ends.EventEnd.TheVariants as endings
 use Rattle.et_state.specs.Outcome.{Outcome, Goes}
 use Rattle.et_event.specs.Answered.{EventAnswers}
-use Rattle.et_event.specs.Heap.{leaving}
-use Rattle.et_event.specs.Moments.{Moment, moment, Doing, begins, next_object, array_made, slot_written, updated, goes, ends}
+use Rattle.et_event.specs.Heap.{leaving_values}
+use Rattle.et_event.specs.Moments.{Moment, moment, Doing, begins, next_object, array_made, slot_written, updated, goes, ends_event}
 use Rattle.et_event.specs.Sites.{Site}
 use Rattle.et_parts.specs.Making.{MakesObject}
 use Rattle.et_parts.proofs.Taking.{replaced}
@@ -42,7 +42,7 @@ updated_records e o i old (Ref r) s out = refl
 pub write_answers : (p : Linked) (at : Site) (t taken o i clock : ℕ) (old v : Value) (m m₁ : MachineState) (out out₁ : List Record) → clock ≡ m.guest.clock + 1 → old ≡ slot_of (object_at m.heap o) i
     → ((q : Linked) (b s : Kept) → s.guest.clock ≡ clock → out₁ ≡ (updated (record { program = q; before = b; thread = t }) o i old v (record { state = s; records = out })).records)
     → Led (kept_of m) (record { heap = with_object_at m.heap o (with_slot i v (object_at m.heap o)); guest = with_top (ticked m.guest) t (replaced taken [] at.next (top m.guest t)) }) m₁
-    → EventAnswers (goes (slot_written (moment p m t) o i v (leaving (moment p m t) at (drop taken (top m.guest t).operands) (begins (moment p m t))))) endings.Done m m₁ out out₁
+    → EventAnswers (goes (slot_written (moment p m t) o i v (leaving_values (moment p m t) at (drop taken (top m.guest t).operands) (begins (moment p m t))))) endings.Done m m₁ out out₁
 write_answers p at t taken o i clock old v m m₁ out out₁ time stood told led =
     let e : Moment = moment p m t in
     let x : Kept = record { heap = with_object_at m.heap o (with_slot i v (object_at m.heap o)); guest = with_top (ticked m.guest) t (replaced taken [] at.next (top m.guest t)) } in
@@ -56,10 +56,10 @@ write_answers p at t taken o i clock old v m m₁ out out₁ time stood told led
 pub make_answers : (p : Linked) (at : Site) (t class elements o : ℕ) (m m₁ m₂ m₃ : MachineState) (out out₁ : List Record) → IsSound (kept_of m) → HasFrame m.guest t
     → MakesObject (array_made (moment p m t) class elements (begins (moment p m t))) (Some o) m m₁ out out₁ → m₂ ≡ begun m₁
     → m₃ ≡ steps_top m₂ t (replaced 1 (Ref o ∷ []) at.next (top m₂.guest t)) (refs_of (take 1 (top m₂.guest t).operands))
-    → EventAnswers (ends (leaving (moment p m t) at (Ref (next_object (begins (moment p m t))) ∷ drop 1 (top m.guest t).operands) (array_made (moment p m t) class elements (begins (moment p m t))))) endings.Done m m₃ out out₁
+    → EventAnswers (ends_event (leaving_values (moment p m t) at (Ref (next_object (begins (moment p m t))) ∷ drop 1 (top m.guest t).operands) (array_made (moment p m t) class elements (begins (moment p m t))))) endings.Done m m₃ out out₁
 make_answers p at t class elements o m m₁ m₂ m₃ out out₁ sound has made e₂ e₃ =
     let e : Moment = moment p m t in
-    let d : Doing = leaving e at (Ref (next_object (begins e)) ∷ drop 1 (top m.guest t).operands) (array_made e class elements (begins e)) in
-    let is : ends d ≡ Goes d.state d.records = ends_fit d made.0 in
+    let d : Doing = leaving_values e at (Ref (next_object (begins e)) ∷ drop 1 (top m.guest t).operands) (array_made e class elements (begins e)) in
+    let is : ends_event d ≡ Goes d.state d.records = ends_fit d made.0 in
     let newest = e₃ ∙ ap (λ (k : ℕ). steps_top m₂ t (replaced 1 (Ref k ∷ []) at.next (top m₂.guest t)) (refs_of (take 1 (top m₂.guest t).operands))) made.1 in
     subst (λ (x : Outcome Kept). EventAnswers x endings.Done m m₃ out out₁) (sym is) (make_led m t class elements at.next m₁ m₂ m₃ sound has made.2 e₂ newest, made.3)

@@ -7,10 +7,10 @@ use Rattle.et_base.specs.declared.value.Value.TheVariants.{Ref}
 use Rattle.et_heap.specs.Objects.{object_at, new_object, with_slot, has_room, slot_count, most_objects, most_slots}
 use Rattle.et_program.specs.Entries.{class_at}
 use Rattle.et_event.specs.Heap.{arrays_made, filled, element_class}
-use Rattle.et_event.specs.Moments.{Moment, Doing, next_object, array_made, slot_written, fits}
+use Rattle.et_event.specs.Moments.{Moment, Doing, next_object, array_made, slot_written, fits_heap}
 use Rattle.et_refs.proofs.Fitting.{fits_array}
 use Rattle.et_refs.specs.declared.filling.Filling.{Filling}
-use Rattle.et_refs.specs.Filling.{filled_from, inner_dimensions, rest_from, with_elements, first_filling, next_filling}
+use Rattle.et_refs.specs.Filling.{filled_from, inner_dimensions, rest_from, with_filled, first_filling, next_filling}
 use Rattle.et_refs.proofs.Making.{made_grows, same_slots}
 
 -- ELEMENTS IN ORDER
@@ -32,7 +32,7 @@ all_from e o n make d =
     let sum : n + 0 ≡ n = omega arith in
     from_on e o make 0 0 n d refl ∙ ap (λ (k : ℕ). filled e o make k d) sum
 
-pub opened : (e : Moment) (c n : ℕ) (ns : List ℕ) (d : Doing) → with_elements e (first_filling e (next_object d) c n ns ∷ []) ns (array_made e c n d) ≡ arrays_made e c (n ∷ ns) d
+pub opened : (e : Moment) (c n : ℕ) (ns : List ℕ) (d : Doing) → with_filled e (first_filling e (next_object d) c n ns ∷ []) ns (array_made e c n d) ≡ arrays_made e c (n ∷ ns) d
 opened e c n [] d = refl
 opened e c n (m ∷ more) d =
     let inner = element_class (class_at e.program c).info.element in
@@ -49,49 +49,49 @@ lower_drop zero (n ∷ ns) = refl
 lower_drop (suc j) (n ∷ ns) = refl
 
 pub on_top : (e : Moment) (xs : List Filling) (f g : Filling) (up up' : List Filling) (ns : List ℕ) (d d' : Doing) → f.array ≡ g.array
-    → with_elements e (f ∷ up) (drop (length xs) ns) d ≡ with_elements e (g ∷ up') (drop (length xs) ns) d' → with_elements e (xs ++ f ∷ up) ns d ≡ with_elements e (xs ++ g ∷ up') ns d'
+    → with_filled e (f ∷ up) (drop (length xs) ns) d ≡ with_filled e (g ∷ up') (drop (length xs) ns) d' → with_filled e (xs ++ f ∷ up) ns d ≡ with_filled e (xs ++ g ∷ up') ns d'
 on_top e [] f g up up' ns d d' same h = h
 on_top e (x ∷ []) f g up up' ns d d' same h =
-    let here : with_elements e (f ∷ up) (inner_dimensions ns) d ≡ with_elements e (g ∷ up') (inner_dimensions ns) d' = subst (λ (ms : List ℕ). with_elements e (f ∷ up) ms d ≡ with_elements e (g ∷ up') ms d') (sym (lower_drop 0 ns)) h in
+    let here : with_filled e (f ∷ up) (inner_dimensions ns) d ≡ with_filled e (g ∷ up') (inner_dimensions ns) d' = subst (λ (ms : List ℕ). with_filled e (f ∷ up) ms d ≡ with_filled e (g ∷ up') ms d') (sym (lower_drop 0 ns)) h in
     ap (λ (y : Doing). rest_from e x ns (x.next + 1) (slot_written e x.array x.next (Ref f.array) y)) here
-    ∙ ap (λ (o : ℕ). rest_from e x ns (x.next + 1) (slot_written e x.array x.next (Ref o) (with_elements e (g ∷ up') (inner_dimensions ns) d'))) same
+    ∙ ap (λ (o : ℕ). rest_from e x ns (x.next + 1) (slot_written e x.array x.next (Ref o) (with_filled e (g ∷ up') (inner_dimensions ns) d'))) same
 on_top e (x ∷ y ∷ xs) f g up up' ns d d' same h =
-    let rest = on_top e (y ∷ xs) f g up up' (inner_dimensions ns) d d' same (subst (λ (ms : List ℕ). with_elements e (f ∷ up) ms d ≡ with_elements e (g ∷ up') ms d') (sym (lower_drop (length (y ∷ xs)) ns)) h) in
+    let rest = on_top e (y ∷ xs) f g up up' (inner_dimensions ns) d d' same (subst (λ (ms : List ℕ). with_filled e (f ∷ up) ms d ≡ with_filled e (g ∷ up') ms d') (sym (lower_drop (length (y ∷ xs)) ns)) h) in
     ap (λ (z : Doing). rest_from e x ns (x.next + 1) (slot_written e x.array x.next (Ref y.array) z)) rest
 
 -- an element is begun
 begun_top : (e : Moment) (f : Filling) (n : ℕ) (ns : List ℕ) (d : Doing) → f.next < f.count
-    → with_elements e (f ∷ first_filling e (next_object d) f.inner n ns ∷ []) (n ∷ ns) (array_made e f.inner n d) ≡ with_elements e (f ∷ []) (n ∷ ns) d
+    → with_filled e (f ∷ first_filling e (next_object d) f.inner n ns ∷ []) (n ∷ ns) (array_made e f.inner n d) ≡ with_filled e (f ∷ []) (n ∷ ns) d
 begun_top e f n ns d lt =
     let left : f.count - f.next ≡ suc (f.count - (f.next + 1)) = omega (arith, lt) in
     ap (λ (x : Doing). rest_from e f (n ∷ ns) (f.next + 1) (slot_written e f.array f.next (Ref (next_object d)) x)) (opened e f.inner n ns d)
     ∙ ap (λ (k : ℕ). filled_from e f.array (arrays_made e f.inner (n ∷ ns)) f.next k d) (sym left)
 
 pub pushed : (e : Moment) (xs : List Filling) (f : Filling) (n : ℕ) (ns ms : List ℕ) (d : Doing) → f.next < f.count → drop (length xs) ms ≡ n ∷ ns
-    → with_elements e (xs ++ f ∷ first_filling e (next_object d) f.inner n ns ∷ []) ms (array_made e f.inner n d) ≡ with_elements e (xs ++ f ∷ []) ms d
+    → with_filled e (xs ++ f ∷ first_filling e (next_object d) f.inner n ns ∷ []) ms (array_made e f.inner n d) ≡ with_filled e (xs ++ f ∷ []) ms d
 pushed e xs f n ns ms d lt at =
     let child = first_filling e (next_object d) f.inner n ns in
     on_top e xs f f (child ∷ []) [] ms (array_made e f.inner n d) d refl
-    (subst (λ (ks : List ℕ). with_elements e (f ∷ child ∷ []) ks (array_made e f.inner n d) ≡ with_elements e (f ∷ []) ks d) (sym at) (begun_top e f n ns d lt))
+    (subst (λ (ks : List ℕ). with_filled e (f ∷ child ∷ []) ks (array_made e f.inner n d) ≡ with_filled e (f ∷ []) ks d) (sym at) (begun_top e f n ns d lt))
 
 -- the last one is whole
 
-whole_top : (e : Moment) (f g : Filling) (ns : List ℕ) (d : Doing) → g.next ≡ g.count → with_elements e (next_filling f ∷ []) ns (slot_written e f.array f.next (Ref g.array) d) ≡ with_elements e (f ∷ g ∷ []) ns d
+whole_top : (e : Moment) (f g : Filling) (ns : List ℕ) (d : Doing) → g.next ≡ g.count → with_filled e (next_filling f ∷ []) ns (slot_written e f.array f.next (Ref g.array) d) ≡ with_filled e (f ∷ g ∷ []) ns d
 whole_top e f g ns d is =
     let none : 0 ≡ g.count - g.next = omega (arith, is) in
     ap (λ (k : ℕ). rest_from e f ns (f.next + 1) (slot_written e f.array f.next (Ref g.array) (filled_from e g.array (arrays_made e g.inner (inner_dimensions ns)) g.next k d))) none
 
 pub popped : (e : Moment) (xs : List Filling) (f g : Filling) (ms : List ℕ) (d : Doing) → g.next ≡ g.count
-    → with_elements e (xs ++ next_filling f ∷ []) ms (slot_written e f.array f.next (Ref g.array) d) ≡ with_elements e (xs ++ f ∷ g ∷ []) ms d
+    → with_filled e (xs ++ next_filling f ∷ []) ms (slot_written e f.array f.next (Ref g.array) d) ≡ with_filled e (xs ++ f ∷ g ∷ []) ms d
 popped e xs f g ms d is = on_top e xs (next_filling f) f [] (g ∷ []) ms (slot_written e f.array f.next (Ref g.array) d) d refl (whole_top e f g (drop (length xs) ms) d is)
 
 -- the first one is whole
-pub whole : (e : Moment) (f : Filling) (ns : List ℕ) (d : Doing) → f.next ≡ f.count → with_elements e (f ∷ []) ns d ≡ d
+pub whole : (e : Moment) (f : Filling) (ns : List ℕ) (d : Doing) → f.next ≡ f.count → with_filled e (f ∷ []) ns d ≡ d
 whole e f ns d is =
     let none : f.count - f.next ≡ 0 = omega (arith, is) in
     ap (λ (k : ℕ). filled_from e f.array (arrays_made e f.inner ns) f.next k d) none
 
-pub all_whole : (e : Moment) (xs : List Filling) (f : Filling) (ns : List ℕ) (d : Doing) → length xs ≡ 0 → f.next ≡ f.count → with_elements e (xs ++ f ∷ []) ns d ≡ d
+pub all_whole : (e : Moment) (xs : List Filling) (f : Filling) (ns : List ℕ) (d : Doing) → length xs ≡ 0 → f.next ≡ f.count → with_filled e (xs ++ f ∷ []) ns d ≡ d
 all_whole e [] f ns d none is = whole e f ns d is
 all_whole e (x ∷ xs) f ns d none is = absurd (omega (arith, none))
 
@@ -128,15 +128,15 @@ from_keeps e o c ns i (suc left) d =
     let y = slot_written e o i (Ref (next_object d)) x in
     keeps_then d y _ (keeps_then d x y (made_keeps e c ns d) (written_keeps e o i (next_object d) x)) (from_keeps e o c ns (i + 1) left y)
 
-finished_keeps : (e : Moment) (fs : List Filling) (ns : List ℕ) (d : Doing) → Keeps d (with_elements e fs ns d)
+finished_keeps : (e : Moment) (fs : List Filling) (ns : List ℕ) (d : Doing) → Keeps d (with_filled e fs ns d)
 finished_keeps e [] ns d = keeps_itself d
 finished_keeps e (f ∷ []) ns d = from_keeps e f.array f.inner ns f.next (f.count - f.next) d
 finished_keeps e (f ∷ g ∷ up) ns d =
-    let x = with_elements e (g ∷ up) (inner_dimensions ns) d in
+    let x = with_filled e (g ∷ up) (inner_dimensions ns) d in
     let y = slot_written e f.array f.next (Ref g.array) x in
     keeps_then d y _ (keeps_then d x y (finished_keeps e (g ∷ up) (inner_dimensions ns) d) (written_keeps e f.array f.next g.array x)) (from_keeps e f.array f.inner ns (f.next + 1) (f.count - (f.next + 1)) y)
 
-fits_kept : (d x : Doing) → Keeps d x → fits x.state.heap ≡ true → fits d.state.heap ≡ true
+fits_kept : (d x : Doing) → Keeps d x → fits_heap x.state.heap ≡ true → fits_heap d.state.heap ≡ true
 fits_kept d x k fit =
     let b = and_parts _ _ fit in
     let number : length x.state.heap - 1 ≤ most_objects = leb-true _ _ b.0 in
@@ -148,33 +148,33 @@ fits_kept d x k fit =
     ap (λ (z : Bool). z && leb (slot_count d.state.heap) most_slots) (le-leb _ _ few) ∙ le-leb _ _ small
 
 -- where all fits in the end, the next array fits
-pub next_fits : (e : Moment) (xs : List Filling) (f : Filling) (n : ℕ) (ns ms : List ℕ) (d : Doing) → f.next < f.count → drop (length xs) ms ≡ n ∷ ns → 0 < length d.state.heap → fits (with_elements e (xs ++ f ∷ []) ms d).state.heap ≡ true → has_room d.state.heap 1 n ≡ true
+pub next_fits : (e : Moment) (xs : List Filling) (f : Filling) (n : ℕ) (ns ms : List ℕ) (d : Doing) → f.next < f.count → drop (length xs) ms ≡ n ∷ ns → 0 < length d.state.heap → fits_heap (with_filled e (xs ++ f ∷ []) ms d).state.heap ≡ true → has_room d.state.heap 1 n ≡ true
 next_fits e xs f n ns ms d lt at some fit =
     let child = first_filling e (next_object d) f.inner n ns in
     let x = array_made e f.inner n d in
-    let all : fits (with_elements e (xs ++ f ∷ child ∷ []) ms x).state.heap ≡ true = ap (λ (y : Doing). fits y.state.heap) (pushed e xs f n ns ms d lt at) ∙ fit in
-    sym (fits_array d.state.heap f.inner n some) ∙ fits_kept x (with_elements e (xs ++ f ∷ child ∷ []) ms x) (finished_keeps e (xs ++ f ∷ child ∷ []) ms x) all
+    let all : fits_heap (with_filled e (xs ++ f ∷ child ∷ []) ms x).state.heap ≡ true = ap (λ (y : Doing). fits_heap y.state.heap) (pushed e xs f n ns ms d lt at) ∙ fit in
+    sym (fits_array d.state.heap f.inner n some) ∙ fits_kept x (with_filled e (xs ++ f ∷ child ∷ []) ms x) (finished_keeps e (xs ++ f ∷ child ∷ []) ms x) all
 
 -- .. and so does the first one
-pub first_fits : (e : Moment) (c n : ℕ) (ns : List ℕ) (d : Doing) → 0 < length d.state.heap → fits (arrays_made e c (n ∷ ns) d).state.heap ≡ true → has_room d.state.heap 1 n ≡ true
+pub first_fits : (e : Moment) (c n : ℕ) (ns : List ℕ) (d : Doing) → 0 < length d.state.heap → fits_heap (arrays_made e c (n ∷ ns) d).state.heap ≡ true → has_room d.state.heap 1 n ≡ true
 first_fits e c n ns d some fit =
     let child = first_filling e (next_object d) c n ns in
     let x = array_made e c n d in
-    let all : fits (with_elements e (child ∷ []) ns x).state.heap ≡ true = ap (λ (y : Doing). fits y.state.heap) (opened e c n ns d) ∙ fit in
-    sym (fits_array d.state.heap c n some) ∙ fits_kept x (with_elements e (child ∷ []) ns x) (finished_keeps e (child ∷ []) ns x) all
+    let all : fits_heap (with_filled e (child ∷ []) ns x).state.heap ≡ true = ap (λ (y : Doing). fits_heap y.state.heap) (opened e c n ns d) ∙ fit in
+    sym (fits_array d.state.heap c n some) ∙ fits_kept x (with_filled e (child ∷ []) ns x) (finished_keeps e (child ∷ []) ns x) all
 
 -- HOW MANY OBJECTS THERE ARE IN THE END: no fewer than there are now, and where one is still to be made, one more
 
-pub still_made : (e : Moment) (fs : List Filling) (ns : List ℕ) (d : Doing) → length d.state.heap ≤ length (with_elements e fs ns d).state.heap
+pub still_made : (e : Moment) (fs : List Filling) (ns : List ℕ) (d : Doing) → length d.state.heap ≤ length (with_filled e fs ns d).state.heap
 still_made e fs ns d = (finished_keeps e fs ns d).objects
 
-pub next_made : (e : Moment) (xs : List Filling) (f : Filling) (n : ℕ) (ns ms : List ℕ) (d : Doing) → f.next < f.count → drop (length xs) ms ≡ n ∷ ns → length d.state.heap + 1 ≤ length (with_elements e (xs ++ f ∷ []) ms d).state.heap
+pub next_made : (e : Moment) (xs : List Filling) (f : Filling) (n : ℕ) (ns ms : List ℕ) (d : Doing) → f.next < f.count → drop (length xs) ms ≡ n ∷ ns → length d.state.heap + 1 ≤ length (with_filled e (xs ++ f ∷ []) ms d).state.heap
 next_made e xs f n ns ms d lt at =
     let child = first_filling e (next_object d) f.inner n ns in
     let x = array_made e f.inner n d in
     let more : length x.state.heap ≡ length d.state.heap + 1 = length_push d.state.heap (Some (new_object f.inner n n)) in
-    let kept : length x.state.heap ≤ length (with_elements e (xs ++ f ∷ child ∷ []) ms x).state.heap = still_made e (xs ++ f ∷ child ∷ []) ms x in
-    let same : length (with_elements e (xs ++ f ∷ child ∷ []) ms x).state.heap ≡ length (with_elements e (xs ++ f ∷ []) ms d).state.heap = ap (λ (y : Doing). length y.state.heap) (pushed e xs f n ns ms d lt at) in
+    let kept : length x.state.heap ≤ length (with_filled e (xs ++ f ∷ child ∷ []) ms x).state.heap = still_made e (xs ++ f ∷ child ∷ []) ms x in
+    let same : length (with_filled e (xs ++ f ∷ child ∷ []) ms x).state.heap ≡ length (with_filled e (xs ++ f ∷ []) ms d).state.heap = ap (λ (y : Doing). length y.state.heap) (pushed e xs f n ns ms d lt at) in
     omega (arith, more, kept, same)
 
 pub first_made : (e : Moment) (c n : ℕ) (ns : List ℕ) (d : Doing) → length d.state.heap + 1 ≤ length (arrays_made e c (n ∷ ns) d).state.heap
@@ -182,6 +182,6 @@ first_made e c n ns d =
     let child = first_filling e (next_object d) c n ns in
     let x = array_made e c n d in
     let more : length x.state.heap ≡ length d.state.heap + 1 = length_push d.state.heap (Some (new_object c n n)) in
-    let kept : length x.state.heap ≤ length (with_elements e (child ∷ []) ns x).state.heap = still_made e (child ∷ []) ns x in
-    let same : length (with_elements e (child ∷ []) ns x).state.heap ≡ length (arrays_made e c (n ∷ ns) d).state.heap = ap (λ (y : Doing). length y.state.heap) (opened e c n ns d) in
+    let kept : length x.state.heap ≤ length (with_filled e (child ∷ []) ns x).state.heap = still_made e (child ∷ []) ns x in
+    let same : length (with_filled e (child ∷ []) ns x).state.heap ≡ length (arrays_made e c (n ∷ ns) d).state.heap = ap (λ (y : Doing). length y.state.heap) (opened e c n ns d) in
     omega (arith, more, kept, same)

@@ -5,10 +5,10 @@ use Rattle.std.proofs.lemmas.List.{length_push, length-replicate}
 use Rattle.std.proofs.lemmas.List.Sums.{sum_by_push}
 use Rattle.et_base.specs.declared.value.Value.TheVariants.{Unset}
 use Rattle.et_heap.specs.Objects.{Objects, new_object, slots_in, made_count, slot_count, most_objects, most_slots, has_room}
-use Rattle.et_event.specs.Moments.{fits}
+use Rattle.et_event.specs.Moments.{fits_heap}
 
 -- an array fits exactly where there is room for it
-pub fits_array : (heap : Objects) (class elements : ℕ) → 0 < length heap → fits (heap ++ Some (new_object class elements elements) ∷ []) ≡ has_room heap 1 elements
+pub fits_array : (heap : Objects) (class elements : ℕ) → 0 < length heap → fits_heap (heap ++ Some (new_object class elements elements) ∷ []) ≡ has_room heap 1 elements
 fits_array heap class elements lt =
     let pushed : length (heap ++ Some (new_object class elements elements) ∷ []) ≡ length heap + 1 = length_push heap (Some (new_object class elements elements)) in
     let objects : made_count (heap ++ Some (new_object class elements elements) ∷ []) ≡ made_count heap + 1 = omega arith in

@@ -8,8 +8,8 @@ use Rattle.et_base.specs.declared.value.Value.TheVariants.{Unset, Ref}
 use Rattle.et_heap.specs.Objects.{ObjectState, Objects, new_object, object_at, with_slot, with_object_at, slots_in, slot_count, has_room, most_objects, most_slots}
 use Rattle.et_program.specs.Entries.{class_at}
 use Rattle.et_event.specs.Heap.{arrays_made, filled, element_class}
-use Rattle.et_event.specs.Moments.{Moment, Doing, next_object, array_made, slot_written, fits}
-use Rattle.et_refs.specs.Counts.{objects_of, slots_of}
+use Rattle.et_event.specs.Moments.{Moment, Doing, next_object, array_made, slot_written, fits_heap}
+use Rattle.et_refs.specs.Counts.{array_count, array_slots}
 
 -- a slot that is written changes no count
 pub same_slots : (xs : Objects) (o i : ℕ) (v : Value) → slot_count (with_object_at xs o (with_slot i v (object_at xs o))) ≡ slot_count xs
@@ -52,7 +52,7 @@ filled_grows e o objects slots make (suc i) d h =
     written_grows e o i (next_object x) (suc i * objects) (suc i * slots) d (make x)
     (grows_then (i * objects) objects (suc i * objects) (i * slots) slots (suc i * slots) d x (make x) (filled_grows e o objects slots make i d h) (h x) (grind arith) (grind arith))
 
-pub made_grows : (e : Moment) (c : ℕ) (ns : List ℕ) (d : Doing) → Grows (objects_of ns) (slots_of ns) d (arrays_made e c ns d)
+pub made_grows : (e : Moment) (c : ℕ) (ns : List ℕ) (d : Doing) → Grows (array_count ns) (array_slots ns) d (arrays_made e c ns d)
 made_grows e c [] d = record { objects = omega arith; slots = omega arith }
 made_grows e c (n ∷ []) d =
     let h = array_grows e c n d in
@@ -63,15 +63,15 @@ made_grows e c (n ∷ m ∷ more) d =
     let inner = element_class (class_at e.program c).info.element in
     let x = array_made e c n d in
     let make = arrays_made e inner (m ∷ more) in
-    grows_then 1 (n * objects_of (m ∷ more)) (objects_of (n ∷ m ∷ more)) n (n * slots_of (m ∷ more)) (slots_of (n ∷ m ∷ more)) d x (filled e (next_object d) make n x)
-    (array_grows e c n d) (filled_grows e (next_object d) (objects_of (m ∷ more)) (slots_of (m ∷ more)) make n x (λ y. made_grows e inner (m ∷ more) y)) refl refl
+    grows_then 1 (n * array_count (m ∷ more)) (array_count (n ∷ m ∷ more)) n (n * array_slots (m ∷ more)) (array_slots (n ∷ m ∷ more)) d x (filled e (next_object d) make n x)
+    (array_grows e c n d) (filled_grows e (next_object d) (array_count (m ∷ more)) (array_slots (m ∷ more)) make n x (λ y. made_grows e inner (m ∷ more) y)) refl refl
 
-pub made_fits : (e : Moment) (c : ℕ) (ns : List ℕ) (d : Doing) (heap : Objects) → d.state.heap ≡ heap → 0 < length heap → fits (arrays_made e c ns d).state.heap ≡ has_room heap (objects_of ns) (slots_of ns)
+pub made_fits : (e : Moment) (c : ℕ) (ns : List ℕ) (d : Doing) (heap : Objects) → d.state.heap ≡ heap → 0 < length heap → fits_heap (arrays_made e c ns d).state.heap ≡ has_room heap (array_count ns) (array_slots ns)
 made_fits e c ns d heap is some =
     let h = made_grows e c ns d in
     let p = h.objects in
     let same : length d.state.heap ≡ length heap = ap (λ (xs : Objects). length xs) is in
-    let number : length (arrays_made e c ns d).state.heap - 1 ≡ length heap - 1 + objects_of ns = omega (arith, p, same, some) in
-    let size : slot_count (arrays_made e c ns d).state.heap ≡ slot_count heap + slots_of ns = h.slots ∙ ap (λ (xs : Objects). slot_count xs + slots_of ns) is in
+    let number : length (arrays_made e c ns d).state.heap - 1 ≡ length heap - 1 + array_count ns = omega (arith, p, same, some) in
+    let size : slot_count (arrays_made e c ns d).state.heap ≡ slot_count heap + array_slots ns = h.slots ∙ ap (λ (xs : Objects). slot_count xs + array_slots ns) is in
     ap (λ (n : ℕ). leb n most_objects && leb (slot_count (arrays_made e c ns d).state.heap) most_slots) number
-    ∙ ap (λ (n : ℕ). leb (length heap - 1 + objects_of ns) most_objects && leb n most_slots) size
+    ∙ ap (λ (n : ℕ). leb (length heap - 1 + array_count ns) most_objects && leb n most_slots) size

@@ -10,14 +10,14 @@ use Rattle.et_event.specs.Checks.{resolved}
 use Rattle.et_event.specs.Heap.{resolved_class}
 use Rattle.et_event.specs.Errors.{error_of, error_class}
 use Rattle.et_event.specs.declared.errors.GuestError.{GuestError}
-use Rattle.et_event.specs.Moments.{Moment, Doing, begins, next_object, instance_made, entry_given_up, pending_now, fits, ends, throws}
+use Rattle.et_event.specs.Moments.{Moment, Doing, begins, next_object, instance_made, entry_given_up, pending_now, fits_heap, ends_event, throws}
 
 no_wait : (b : Bool) (d : Doing) (s : Kept) → (if b then Goes d.state d.records else ObjectLimit) ≡ Waits s → ⊥
 no_wait true d s e = cc
 no_wait false d s e = cc
 
-never_waits : (d : Doing) (s : Kept) → ends d ≡ Waits s → ⊥
-never_waits d s e = no_wait (fits d.state.heap) d s e
+never_waits : (d : Doing) (s : Kept) → ends_event d ≡ Waits s → ⊥
+never_waits d s e = no_wait (fits_heap d.state.heap) d s e
 
 abbrev named_in : Outcome Kept → ℕ
 named_in (IllTyped method pc) = method

@@ -6,7 +6,7 @@ use Rattle.std.proofs.lemmas.List.{length-set, get_or-set_other, get_or_append_l
 use Rattle.et_base.specs.declared.value.Value.{Value}
 use Rattle.et_heap.specs.Objects.{ObjectState, Objects, IsHeld, is_there, found, at, object_at, with_slot, with_object_at}
 use Rattle.et_heap.proofs.HeapLists.{held_within}
-use Rattle.et_event.specs.Sites.{natural}
+use Rattle.et_event.specs.Sites.{natural_of}
 use Rattle.et_event.specs.Heap.{naturals}
 use Rattle.et_refs.specs.declared.filling.Filling.{Filling}
 use Rattle.et_refs.specs.Filling.{IsFilling, AreFillings, inner_dimensions, element_count, next_filling}
@@ -84,7 +84,7 @@ parent_filling heap dimensions p (x ∷ y ∷ ys) f g h =
 
 -- DIMENSIONS
 
-natural_at : (ns : List ℤ) (j : ℕ) (d : ℤ) → j < length ns → get_or (naturals ns) j 0 ≡ natural (get_or ns j d)
+natural_at : (ns : List ℤ) (j : ℕ) (d : ℤ) → j < length ns → get_or (naturals ns) j 0 ≡ natural_of (get_or ns j d)
 natural_at [] j d lt = absurd (omega arith)
 natural_at (n ∷ ns) zero d lt = refl
 natural_at (n ∷ ns) (suc j) d lt = natural_at ns j d (omega arith)
@@ -94,13 +94,13 @@ same_length [] = refl
 same_length (n ∷ ns) = ap (λ (k : ℕ). suc k) (same_length ns)
 
 -- the dimensions of the elements at a level
-pub dimensions_at : (ns : List ℤ) (p : ℕ) (d : ℤ) → p + 1 < length ns → drop p (inner_dimensions (naturals ns)) ≡ natural (get_or ns (p + 1) d) ∷ drop (p + 1 + 1) (naturals ns)
+pub dimensions_at : (ns : List ℤ) (p : ℕ) (d : ℤ) → p + 1 < length ns → drop p (inner_dimensions (naturals ns)) ≡ natural_of (get_or ns (p + 1) d) ∷ drop (p + 1 + 1) (naturals ns)
 dimensions_at ns p d lt =
     let long : length (naturals ns) ≡ length ns = same_length ns in
     let one : suc p ≡ p + 1 = omega arith in
     let two : suc (p + 1) ≡ p + 1 + 1 = omega arith in
     lower_drop p (naturals ns) ∙ (ap (λ (k : ℕ). drop k (naturals ns)) one ∙ (drop-cons (naturals ns) (p + 1) 0 (omega (arith, long, lt))
-    ∙ (ap (λ (n : ℕ). n ∷ drop (suc (p + 1)) (naturals ns)) (natural_at ns (p + 1) d lt) ∙ ap (λ (k : ℕ). natural (get_or ns (p + 1) d) ∷ drop k (naturals ns)) two)))
+    ∙ (ap (λ (n : ℕ). n ∷ drop (suc (p + 1)) (naturals ns)) (natural_at ns (p + 1) d lt) ∙ ap (λ (k : ℕ). natural_of (get_or ns (p + 1) d) ∷ drop k (naturals ns)) two)))
 
 counted_some : (n : ℕ) (ms : List ℕ) → 0 < length ms → element_count n ms ≡ n
 counted_some n [] lt = absurd (omega arith)

@@ -15,10 +15,10 @@ use Rattle.et_state.specs.declared.records.Record.{Record}
 use Rattle.et_state.specs.declared.records.Record.TheVariants.{Alloc}
 use Rattle.et_state.specs.Outcome.{Outcome}
 use Rattle.et_event.specs.Checks.{entries_of}
-use Rattle.et_event.specs.Heap.{leaving}
+use Rattle.et_event.specs.Heap.{leaving_values}
 use Rattle.et_event.specs.Initialization.{initialized}
-use Rattle.et_event.specs.Kinds.{kind_of, or_zero}
-use Rattle.et_event.specs.Moments.{Moment, Doing, frame_of, begins, next_object, instance_made, static_written, updated, ends}
+use Rattle.et_event.specs.Kinds.{operand_kind, or_zero}
+use Rattle.et_event.specs.Moments.{Moment, Doing, current_frame, begins, next_object, instance_made, static_written, updated, ends_event}
 use Rattle.et_event.specs.Sites.{Site}
 use Rattle.et_event.specs.Sound.{is_of_kind}
 use Rattle.et_parts.specs.Tops.{IsIn}
@@ -30,12 +30,12 @@ use Rattle.et_refs.specs.declared.accesses.Wanted.{Wanted}
 
 -- what was done, with the access
 abbrev pub with_access : Moment → Site → ℕ → Access → Doing → Doing
-with_access e at class (access.Read x) d = leaving e at (entries_of (or_zero x.kind (static_at d.state.guest x.slot)) ++ (frame_of e).operands) d
-with_access e at class (access.Write x) d = static_written e x.slot x.value (leaving e at (drop x.taken (frame_of e).operands) d)
-with_access e at class access.Make d = leaving e at (Ref (next_object d) ∷ (frame_of e).operands) (instance_made e class d)
+with_access e at class (access.Read x) d = leaving_values e at (entries_of (or_zero x.kind (static_at d.state.guest x.slot)) ++ (current_frame e).operands) d
+with_access e at class (access.Write x) d = static_written e x.slot x.value (leaving_values e at (drop x.taken (current_frame e).operands) d)
+with_access e at class access.Make d = leaving_values e at (Ref (next_object d) ∷ (current_frame e).operands) (instance_made e class d)
 
 abbrev pub access_outcome : Moment → Site → Wanted → Doing → Outcome Kept
-access_outcome e at x d = ends (with_access e at x.class x.access d)
+access_outcome e at x d = ends_event (with_access e at x.class x.access d)
 
 -- the class is initialized first
 abbrev pub wanted_outcome : Moment → Site → Wanted → Outcome Kept
@@ -47,10 +47,10 @@ objects_in (access.Read x) = 0
 objects_in (access.Write x) = 0
 objects_in access.Make = 1
 
-abbrev pub slots_in : Linked → ℕ → Access → ℕ
-slots_in p class (access.Read x) = 0
-slots_in p class (access.Write x) = 0
-slots_in p class access.Make = (class_at p class).info.slots
+abbrev pub slots_accessed : Linked → ℕ → Access → ℕ
+slots_accessed p class (access.Read x) = 0
+slots_accessed p class (access.Write x) = 0
+slots_accessed p class access.Make = (class_at p class).info.slots
 
 -- WHAT HOLDS OF AN ACCESS
 
@@ -63,7 +63,7 @@ pub record IsStaticField (p : Linked) (type : List ℕ) (f : ℕ) : Type 0 where
 -- each value that the field may hold fits on top
 pub record MayRead (p : Linked) (f : FrameState) (x : Read) : Type 0 where
   pub slot : x.slot < length p.statics
-  pub kind : x.kind ≡ kind_of (field_at p (slice_index_or p.statics x.slot 0)).descriptor
+  pub kind : x.kind ≡ operand_kind (field_at p (slice_index_or p.statics x.slot 0)).descriptor
   pub room : (v : Value) → is_of_kind x.kind v ≡ true → length (entries_of (or_zero x.kind v)) + length f.operands ≤ f.room
 
 -- the operands are there, and what the value refers to stands in the frame
@@ -112,8 +112,8 @@ replaces t next taken values m =
 abbrev pub reads : ℕ → ℕ → Read → MachineState → MachineState
 reads t next x m = replaces t next 0 (entries_of (or_zero x.kind (static_at m.guest x.slot))) m
 
-abbrev pub writes : ℕ → ℕ → Write → MachineState → MachineState
-writes t next x m =
+abbrev pub access_written : ℕ → ℕ → Write → MachineState → MachineState
+access_written t next x m =
     let n = replaces t next x.taken [] m in
     steps_guest n (with_static n.guest x.slot x.value) (refs_of_value (static_at n.guest x.slot))
 
@@ -127,6 +127,6 @@ TellsStatic clock t slot old value out out' =
 
 abbrev pub Accesses : Linked → ℕ → ℕ → ℕ → Access → MachineState → MachineState → List Record → List Record → Type 0
 Accesses p t next class (access.Read x) m m' out out' = (m' ≡ reads t next x m) × (out' ≡ out)
-Accesses p t next class (access.Write x) m m' out out' = (m' ≡ writes t next x m) × TellsStatic m.guest.clock t x.slot (static_at m.guest x.slot) x.value out out'
+Accesses p t next class (access.Write x) m m' out out' = (m' ≡ access_written t next x m) × TellsStatic m.guest.clock t x.slot (static_at m.guest x.slot) x.value out out'
 Accesses p t next class access.Make m m' out out' =
     (m' ≡ makes p t next class m) × (out' ≡ out ++ Alloc m.guest.clock t (length m.heap) class (16 + 8 * (class_at p class).info.slots) 0 ∷ [])

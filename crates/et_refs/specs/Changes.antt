@@ -8,11 +8,11 @@ use Rattle.et_heap.specs.Refs.{refs_of_value}
 use Rattle.et_state.specs.Threads.{FrameState}
 use Rattle.et_state.specs.ThreadRoots.{frame_roots}
 use Rattle.et_state.specs.State.{Kept, MachineState}
-use Rattle.et_state.specs.Moves.{AreHeld}
+use Rattle.et_state.specs.Moves.{AreInHeap}
 use Rattle.et_state.specs.Outcome.{Outcome}
-use Rattle.et_event.specs.Moments.{Moment, frame_of, begins, next_object, array_made, slot_written, goes, ends}
+use Rattle.et_event.specs.Moments.{Moment, current_frame, begins, next_object, array_made, slot_written, goes, ends_event}
 use Rattle.et_event.specs.Checks.{Reference, entries_of}
-use Rattle.et_event.specs.Heap.{leaving}
+use Rattle.et_event.specs.Heap.{leaving_values}
 use Rattle.et_event.specs.Sites.{Site}
 use Rattle.et_parts.specs.Tops.{IsIn}
 use Rattle.et_refs.specs.declared.changes.Exchange.{Exchange}
@@ -23,16 +23,16 @@ use Rattle.et_refs.specs.declared.changes.Change.TheVariants as change
 
 -- a value was put in the place of operands, and these are below it
 abbrev pub put_outcome : Moment → Site → List Value → Value → Outcome Kept
-put_outcome e at below v = goes (leaving e at (entries_of v ++ below) (begins e))
+put_outcome e at below v = goes (leaving_values e at (entries_of v ++ below) (begins e))
 
 abbrev pub exchange_outcome : Moment → Site → Exchange → Outcome Kept
-exchange_outcome e at x = put_outcome e at (drop x.taken (frame_of e).operands) x.value
+exchange_outcome e at x = put_outcome e at (drop x.taken (current_frame e).operands) x.value
 
 abbrev pub store_outcome : Moment → Site → Store → Outcome Kept
-store_outcome e at x = goes (slot_written e x.object x.slot x.value (leaving e at (drop x.taken (frame_of e).operands) (begins e)))
+store_outcome e at x = goes (slot_written e x.object x.slot x.value (leaving_values e at (drop x.taken (current_frame e).operands) (begins e)))
 
 abbrev pub new_array_outcome : Moment → Site → NewArray → Outcome Kept
-new_array_outcome e at x = ends (leaving e at (Ref (next_object (begins e)) ∷ drop 1 (frame_of e).operands) (array_made e x.class x.elements (begins e)))
+new_array_outcome e at x = ends_event (leaving_values e at (Ref (next_object (begins e)) ∷ drop 1 (current_frame e).operands) (array_made e x.class x.elements (begins e)))
 
 abbrev pub change_outcome : Moment → Site → Change → Outcome Kept
 change_outcome e at (change.Put x) = exchange_outcome e at x
@@ -46,7 +46,7 @@ pub record MayExchange (m : MachineState) (f : FrameState) (x : Exchange) : Type
   pub taken : x.taken ≤ length f.operands
   pub few : x.taken ≤ 16
   pub room : length (entries_of x.value) + length (drop x.taken f.operands) ≤ f.room
-  pub held : AreHeld m (refs_of_value x.value)
+  pub held : AreInHeap m (refs_of_value x.value)
 
 -- the operands are there, the object stands in the frame and has the slot, and what the value refers to stands in the frame
 pub record MayStore (m : MachineState) (f : FrameState) (x : Store) : Type 0 where
@@ -67,5 +67,5 @@ MayChange m f (change.Write x) = MayStore m f x
 MayChange m f (change.Make x) = MayMake f
 
 -- the object that a reference names is held and stands in the frame
-abbrev pub IsNamed : MachineState → FrameState → Reference → Type 0
-IsNamed m f r = (o : ℕ) → r ≡ Some o → IsHeld m.heap o × Contains (frame_roots f) o
+abbrev pub IsNamedReference : MachineState → FrameState → Reference → Type 0
+IsNamedReference m f r = (o : ℕ) → r ≡ Some o → IsHeld m.heap o × Contains (frame_roots f) o

@@ -2,13 +2,13 @@
 use Rattle.std.specs.Prelude.{ℕ, ◌+◌, ◌*◌, List, [], ◌∷◌, nat_le, if◌then◌else◌}
 
 -- an array, and those in it
-abbrev pub objects_of : List ℕ → ℕ
-objects_of [] = 0
-objects_of (n ∷ ns) = 1 + n * objects_of ns
+abbrev pub array_count : List ℕ → ℕ
+array_count [] = 0
+array_count (n ∷ ns) = 1 + n * array_count ns
 
-abbrev pub slots_of : List ℕ → ℕ
-slots_of [] = 0
-slots_of (n ∷ ns) = n + n * slots_of ns
+abbrev pub array_slots : List ℕ → ℕ
+array_slots [] = 0
+array_slots (n ∷ ns) = n + n * array_slots ns
 
 -- a count that goes no further than this
 abbrev pub count_limit : ℕ

@@ -8,12 +8,12 @@ use Rattle.et_state.specs.Outcome.{Outcome}
 use Rattle.et_event.specs.declared.errors.GuestError.TheVariants.{NegativeArraySizeException}
 use Rattle.et_event.specs.Checks.{throws_unless}
 use Rattle.et_event.specs.Heap.{arrays_made, naturals, resolved_class}
-use Rattle.et_event.specs.Moments.{Moment, frame_of, begins, with_frame, next_object, ends}
+use Rattle.et_event.specs.Moments.{Moment, current_frame, begins, with_frame, next_object, ends_event}
 
 -- arrays of a class with these lengths take the place of the lengths, and the pc is the one behind the instruction
 abbrev pub new_arrays_outcome : Moment → ℕ → List ℤ → List Value → ℕ → Outcome Kept
 new_arrays_outcome e next lengths below class =
-    ends (with_frame e (record (frame_of e) { pc = next; operands = Ref (next_object (begins e)) ∷ below }) (arrays_made e class (naturals lengths) (begins e)))
+    ends_event (with_frame e (record (current_frame e) { pc = next; operands = Ref (next_object (begins e)) ∷ below }) (arrays_made e class (naturals lengths) (begins e)))
 
 -- .. where none of them is less than 0
 abbrev pub unless_negative : Moment → List ℤ → (ℕ → Outcome Kept) → ℕ → Outcome Kept

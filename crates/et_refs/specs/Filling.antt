@@ -15,8 +15,8 @@ abbrev pub doing_of : MachineState → List Record → Doing
 doing_of m out = record { state = kept_of m; records = out }
 
 -- machine and records are those of what was done, and nothing more is lost
-abbrev pub ComesTo : Doing → MachineState → MachineState → List Record → Type 0
-ComesTo d m m' out = (m' ≡ record { heap = d.state.heap; guest = d.state.guest; lost = m.lost }) × (out ≡ d.records)
+abbrev pub FillsTo : Doing → MachineState → MachineState → List Record → Type 0
+FillsTo d m m' out = (m' ≡ record { heap = d.state.heap; guest = d.state.guest; lost = m.lost }) × (out ≡ d.records)
 
 -- so many elements of an array from i on are made, each with what is in it
 abbrev pub filled_from : Moment → ℕ → (Doing → Doing) → ℕ → ℕ → Doing → Doing
@@ -32,10 +32,10 @@ abbrev pub rest_from : Moment → Filling → List ℕ → ℕ → Doing → Doi
 rest_from e f ns i d = filled_from e f.array (arrays_made e f.inner ns) i (f.count - i) d
 
 -- what is still to be done: the last array gets its elements, and then it is an element of the one before
-abbrev pub with_elements : Moment → List Filling → List ℕ → Doing → Doing
-with_elements e [] ns d = d
-with_elements e (f ∷ []) ns d = rest_from e f ns f.next d
-with_elements e (f ∷ g ∷ up) ns d = rest_from e f ns (f.next + 1) (slot_written e f.array f.next (Ref g.array) (with_elements e (g ∷ up) (inner_dimensions ns) d))
+abbrev pub with_filled : Moment → List Filling → List ℕ → Doing → Doing
+with_filled e [] ns d = d
+with_filled e (f ∷ []) ns d = rest_from e f ns f.next d
+with_filled e (f ∷ g ∷ up) ns d = rest_from e f ns (f.next + 1) (slot_written e f.array f.next (Ref g.array) (with_filled e (g ∷ up) (inner_dimensions ns) d))
 
 -- how many elements of an array are made: none in the last dimension
 abbrev pub element_count : ℕ → List ℕ → ℕ

@@ -5,7 +5,7 @@ ghost use Rattle.et_heap.specs.Objects.{has_room, new_object};
 ghost use Rattle.et_state.specs.Words.{HasFrame, top, static_at, with_new_object};
 ghost use Rattle.et_program.specs.Entries.{class_at};
 ghost use Rattle.et_state.specs.declared.records.Record.TheVariants.{Alloc};
-ghost use Rattle.et_refs.specs.Accesses.{CanRead, CanWrite, CanMake, CanAccess, Accesses, TellsStatic, replaces, reads, writes, makes, objects_in, slots_in};
+ghost use Rattle.et_refs.specs.Accesses.{CanRead, CanWrite, CanMake, CanAccess, Accesses, TellsStatic, replaces, reads, access_written, makes, objects_in, slots_accessed};
 
 use crate::changes::{number_of, replace_top};
 use crate::kinds::or_zero;
@@ -68,7 +68,7 @@ pub(crate) fn objects_made(wanted: &Wanted) -> u32
 /// How many slots they have.
 pub(crate) fn slots_made(program: &Program, wanted: &Wanted) -> u32
     requires { wanted.now.class < length program.now.classes }
-    ensures { result ≡ slots_in program.now wanted.now.class wanted.now.access }
+    ensures { result ≡ slots_accessed program.now wanted.now.class wanted.now.access }
 {
     match wanted.access {
         Access::Read(_) | Access::Write(_) => 0,
@@ -135,7 +135,7 @@ fn write_static(
     requires frame { HasFrame machine.old.guest thread }
     requires lost { length machine.old.lost + 3 ≤ lost_room }
     requires can { CanWrite machine.old (top machine.old.guest thread) x }
-    ensures machine { OnOk result (machine.new ≡ writes thread next x machine.old) }
+    ensures machine { OnOk result (machine.new ≡ access_written thread next x machine.old) }
     ensures told { OnOk result (TellsStatic machine.old.guest.clock thread x.slot
         (static_at machine.old.guest x.slot) x.value out.old out.new) }
 {

@@ -4,8 +4,8 @@ ghost use Rattle.et_state.specs.State.{Kept, kept_of};
 ghost use Rattle.et_state.specs.Words.{HasFrame, top};
 ghost use Rattle.et_program.specs.Entries.{class_at};
 ghost use Rattle.et_event.specs.Heap.{new_array_of, new_array as base_type_array, new_reference_array as reference_array};
-ghost use Rattle.et_event.specs.Moments.{Moment, moment, frame_of};
-ghost use Rattle.et_event.specs.Sites.{Site, natural as natural_of};
+ghost use Rattle.et_event.specs.Moments.{Moment, moment, current_frame};
+ghost use Rattle.et_event.specs.Sites.{Site, natural_of};
 ghost use Rattle.et_event.specs.Sound.{IsSoundFor};
 ghost use Rattle.et_parts.specs.Places.{site_at};
 ghost use Rattle.et_refs.specs.Changes.{MayMake, new_array_outcome};
@@ -28,7 +28,7 @@ use et_state::Machine;
 /// An array of a class of so many elements; a NegativeArraySizeException where they are less than 0.
 fn sized(class: ClassId, elements: i32) -> Result<NewArray, Refusal>
     ensures { (e : Moment) (at : Site) → new_array_of e at class elements
-        (drop 1 (frame_of e).operands) ≡ outcome_of e result (new_array_outcome e at) }
+        (drop 1 (current_frame e).operands) ≡ outcome_of e result (new_array_outcome e at) }
 {
     throws_unless(GuestError::NegativeArraySizeException, is_length(elements))?;
     Ok(NewArray {

@@ -6,16 +6,16 @@ ghost use Rattle.et_heap.specs.Objects.{IsHeld, object_at};
 ghost use Rattle.et_heap.specs.Refs.{refs_of_value};
 ghost use Rattle.et_state.specs.State.{Kept, kept_of};
 ghost use Rattle.et_state.specs.Words.{HasFrame, top};
-ghost use Rattle.et_state.specs.Moves.{AreHeld};
+ghost use Rattle.et_state.specs.Moves.{AreInHeap};
 ghost use Rattle.et_state.specs.Outcome.{Outcome};
 ghost use Rattle.et_program.specs.Types.{passes as passing};
 ghost use Rattle.et_event.specs.Checks.{Reference, entries_of};
-ghost use Rattle.et_event.specs.Heap.{leaving, with_class, check_cast as check_casting, cast as casting, instance_of as instance_testing, tested as testing, truth as truth_of};
+ghost use Rattle.et_event.specs.Heap.{leaving_values, with_class, check_cast as check_casting, cast as casting, instance_of as instance_testing, type_tested as testing, truth as truth_of};
 ghost use Rattle.et_event.specs.Moments.{Moment, moment, begins, goes};
-ghost use Rattle.et_event.specs.Sites.{Site, class_operand as operand_class, natural};
+ghost use Rattle.et_event.specs.Sites.{Site, class_operand as operand_class, natural_of};
 ghost use Rattle.et_event.specs.Sound.{IsSoundFor};
 ghost use Rattle.et_parts.specs.Places.{site_at};
-ghost use Rattle.et_refs.specs.Changes.{IsNamed, MayExchange, exchange_outcome, put_outcome};
+ghost use Rattle.et_refs.specs.Changes.{IsNamedReference, MayExchange, exchange_outcome, put_outcome};
 ghost use Rattle.et_refs.specs.Refusals.{outcome_of};
 
 use crate::changes::Exchange;
@@ -31,7 +31,7 @@ use std::sync::ledger::Ledger;
 
 /// The name of the class that an instruction has as its operand.
 pub fn class_named<'a>(place: &Place<'a>) -> Result<&'a [u8], Refusal>
-    requires { natural place.now.instr.first < 2 ^ 16 }
+    requires { natural_of place.now.instr.first < 2 ^ 16 }
     ensures { (e : Moment) (go : List ℕ → Outcome Kept) → with_class e
         (operand_class (site_at place.now)) go ≡ outcome_of e result (λ name. go name.now) }
 {
@@ -75,7 +75,7 @@ fn cast_object<L: Ledger>(
         ≡ outcome_of (moment program.now machine.now thread) result
         (put_outcome (moment program.now machine.now thread) at below) }
     ensures few { IfOk result (λ v. length (entries_of v) ≤ 1) }
-    ensures held { IfOk result (λ v. AreHeld machine.now (refs_of_value v)) }
+    ensures held { IfOk result (λ v. AreInHeap machine.now (refs_of_value v)) }
     ensures visits { visits.new ≤ visits.old + 1 }
 {
     let class = resolve(program, name)?;
@@ -100,7 +100,7 @@ fn test_object<L: Ledger>(
         ≡ outcome_of (moment program.now machine.now thread) result
         (put_outcome (moment program.now machine.now thread) at below) }
     ensures few { IfOk result (λ v. length (entries_of v) ≤ 1) }
-    ensures held { IfOk result (λ v. AreHeld machine.now (refs_of_value v)) }
+    ensures held { IfOk result (λ v. AreInHeap machine.now (refs_of_value v)) }
     ensures visits { visits.new ≤ visits.old + 1 }
 {
     let class = resolve(program, name)?;
@@ -125,13 +125,13 @@ fn cast<L: Ledger>(
     visits: &mut Steps<L>,
 ) -> Result<Value, Refusal>
     requires sound { IsSoundFor program.now (kept_of machine.now) }
-    requires named { IsNamed machine.now (top machine.now.guest thread) reference }
+    requires named { IsNamedReference machine.now (top machine.now.guest thread) reference }
     ensures is { (at : Site) (below : List Entry) →
         casting (moment program.now machine.now thread) at name.now below reference
         ≡ outcome_of (moment program.now machine.now thread) result
         (put_outcome (moment program.now machine.now thread) at below) }
     ensures few { IfOk result (λ v. length (entries_of v) ≤ 1) }
-    ensures held { IfOk result (λ v. AreHeld machine.now (refs_of_value v)) }
+    ensures held { IfOk result (λ v. AreInHeap machine.now (refs_of_value v)) }
     ensures visits { visits.new ≤ visits.old + 1 }
 {
     match reference {
@@ -150,13 +150,13 @@ fn test<L: Ledger>(
     visits: &mut Steps<L>,
 ) -> Result<Value, Refusal>
     requires sound { IsSoundFor program.now (kept_of machine.now) }
-    requires named { IsNamed machine.now (top machine.now.guest thread) reference }
+    requires named { IsNamedReference machine.now (top machine.now.guest thread) reference }
     ensures is { (at : Site) (below : List Entry) →
         testing (moment program.now machine.now thread) at name.now below reference
         ≡ outcome_of (moment program.now machine.now thread) result
         (put_outcome (moment program.now machine.now thread) at below) }
     ensures few { IfOk result (λ v. length (entries_of v) ≤ 1) }
-    ensures held { IfOk result (λ v. AreHeld machine.now (refs_of_value v)) }
+    ensures held { IfOk result (λ v. AreInHeap machine.now (refs_of_value v)) }
     ensures visits { visits.new ≤ visits.old + 1 }
 {
     match reference {
@@ -175,7 +175,7 @@ pub(crate) fn check_cast<L: Ledger>(
 ) -> Result<Exchange, Refusal>
     requires frame { HasFrame machine.now.guest thread }
     requires sound { IsSoundFor program.now (kept_of machine.now) }
-    requires index { natural place.now.instr.first < 2 ^ 16 }
+    requires index { natural_of place.now.instr.first < 2 ^ 16 }
     ensures is { check_casting (moment program.now machine.now thread) (site_at place.now)
         ≡ outcome_of (moment program.now machine.now thread) result
         (exchange_outcome (moment program.now machine.now thread) (site_at place.now)) }
@@ -199,7 +199,7 @@ pub(crate) fn instance_of<L: Ledger>(
 ) -> Result<Exchange, Refusal>
     requires frame { HasFrame machine.now.guest thread }
     requires sound { IsSoundFor program.now (kept_of machine.now) }
-    requires index { natural place.now.instr.first < 2 ^ 16 }
+    requires index { natural_of place.now.instr.first < 2 ^ 16 }
     ensures is { instance_testing (moment program.now machine.now thread) (site_at place.now)
         ≡ outcome_of (moment program.now machine.now thread) result
         (exchange_outcome (moment program.now machine.now thread) (site_at place.now)) }

@@ -5,13 +5,13 @@ ghost use Rattle.et_state.specs.State.{kept_of};
 ghost use Rattle.et_state.specs.Words.{HasFrame, top};
 ghost use Rattle.et_event.specs.Answered.{EventAnswers};
 ghost use Rattle.et_event.specs.Initialization.{quietly_done};
-ghost use Rattle.et_event.specs.Moments.{moment, begins, fits};
+ghost use Rattle.et_event.specs.Moments.{moment, begins, fits_heap};
 ghost use Rattle.et_event.specs.Sound.{IsSoundFor};
 ghost use Rattle.et_parts.specs.Places.{site_at};
 ghost use Rattle.et_event.specs.Programs.{HasInitializers, MakesSound};
 ghost use Rattle.et_event.specs.InitializationOrder.{IsInOrder};
 ghost use Rattle.et_initialize.specs.Under.{base};
-ghost use Rattle.et_refs.specs.Accesses.{MayWant, objects_in, slots_in, access_outcome, wanted_outcome};
+ghost use Rattle.et_refs.specs.Accesses.{MayWant, objects_in, slots_accessed, access_outcome, wanted_outcome};
 
 use crate::accesses::{Wanted, carry_out, objects_made, slots_made};
 use et_base::{NoMemory, ThreadId};
@@ -34,7 +34,8 @@ fn has_room(machine: &Machine, objects: u32, slots: u32) -> bool
 fn access_fits(program: &Program, machine: &Machine, wanted: &Wanted) -> bool
     requires { wanted.now.class < length program.now.classes }
     ensures { result ≡ room_for machine.now.heap
-        (objects_in wanted.now.access) (slots_in program.now wanted.now.class wanted.now.access) }
+        (objects_in wanted.now.access) (slots_accessed program.now wanted.now.class
+        wanted.now.access) }
 {
     let objects = objects_made(wanted);
     has_room(machine, objects, slots_made(program, wanted))
@@ -78,7 +79,8 @@ fn begin_quietly(
     requires class { wanted.now.class < length program.now.classes }
     requires sound { IsSoundFor program.now (kept_of machine.old) }
     requires clock { machine.old.guest.clock < 2 ^ 40 }
-    requires fits { fits (quietly_done (moment program.now machine.old thread) wanted.now.class
+    requires fits { fits_heap (quietly_done (moment program.now machine.old thread)
+        wanted.now.class
         (begins (moment program.now machine.old thread))).state.heap ≡ true }
     ensures machine { OnOk result (machine.new ≡ base machine.old (quietly_done (moment program.now
         machine.old thread) wanted.now.class (begins (moment program.now machine.old thread)))) }

@@ -2,8 +2,8 @@
 ghost use Rattle.std.specs.Prelude.{◌≡◌, ℕ, ◌<◌, length};
 ghost use Rattle.et_heap.specs.Objects.{has_room};
 ghost use Rattle.et_event.specs.Heap.{arrays_made, naturals};
-ghost use Rattle.et_event.specs.Moments.{Moment, Doing, fits};
-ghost use Rattle.et_refs.specs.Counts.{objects_of, slots_of, capped_count};
+ghost use Rattle.et_event.specs.Moments.{Moment, Doing, fits_heap};
+ghost use Rattle.et_refs.specs.Counts.{array_count, array_slots, capped_count};
 
 use crate::kinds::natural;
 use et_heap::{MOST_OBJECTS, MOST_SLOTS};
@@ -21,7 +21,7 @@ fn capped(n: u64) -> u64
 
 /// How many arrays these dimensions make, capped.
 fn count_objects(lengths: &[i32]) -> u64
-    ensures { result ≡ capped_count (objects_of (naturals lengths.now)) }
+    ensures { result ≡ capped_count (array_count (naturals lengths.now)) }
 {
     let mut objects = 0;
     for k in 0..lengths.len() {
@@ -33,7 +33,7 @@ fn count_objects(lengths: &[i32]) -> u64
 
 /// How many slots they have, capped.
 fn count_slots(lengths: &[i32]) -> u64
-    ensures { result ≡ capped_count (slots_of (naturals lengths.now)) }
+    ensures { result ≡ capped_count (array_slots (naturals lengths.now)) }
 {
     let mut slots = 0;
     for k in 0..lengths.len() {
@@ -46,7 +46,7 @@ fn count_slots(lengths: &[i32]) -> u64
 /// Whether so many objects, with so many slots, may be made.
 fn arrays_have_room(machine: &Machine, lengths: &[i32]) -> bool
     ensures room { result ≡ has_room machine.now.heap
-        (objects_of (naturals lengths.now)) (slots_of (naturals lengths.now)) }
+        (array_count (naturals lengths.now)) (array_slots (naturals lengths.now)) }
     ensures some { 0 < length machine.now.heap }
 {
     let objects = (MOST_OBJECTS - machine.heap.count()) as u64;
@@ -57,7 +57,7 @@ fn arrays_have_room(machine: &Machine, lengths: &[i32]) -> bool
 /// Whether arrays of these dimensions fit, in the event that comes next.
 pub fn arrays_fit(machine: &Machine, lengths: &[i32]) -> bool
     ensures { (e : Moment) (class : ℕ) (d : Doing) → d.state.heap ≡ machine.now.heap →
-        result ≡ fits (arrays_made e class (naturals lengths.now) d).state.heap }
+        result ≡ fits_heap (arrays_made e class (naturals lengths.now) d).state.heap }
 {
     arrays_have_room(machine, lengths)
 }

@@ -6,16 +6,16 @@ ghost use Rattle.et_heap.specs.Refs.{refs_of_value};
 ghost use Rattle.et_program.specs.Entries.{class_at};
 ghost use Rattle.et_state.specs.Words.{HasFrame, top};
 ghost use Rattle.et_state.specs.Sound.{IsSound};
-ghost use Rattle.et_state.specs.Moves.{AreHeld};
+ghost use Rattle.et_state.specs.Moves.{AreInHeap};
 ghost use Rattle.et_event.specs.Checks.{entries_of};
 ghost use Rattle.et_state.specs.Outcome.{Outcome};
 ghost use Rattle.et_heap.specs.Objects.{IsHeld, object_at, slot_of};
-ghost use Rattle.et_event.specs.Heap.{with_element, load_element, store_element, array_length, element_of as elements_of, passes_element as passing_element};
-ghost use Rattle.et_event.specs.Kinds.{kind_of_elements as elements_kind, or_zero as zero_or, is_array as is_such};
-ghost use Rattle.et_event.specs.Sites.{Site, natural as natural_of};
+ghost use Rattle.et_event.specs.Heap.{with_element, load_element, store_element, array_length, element_of_array as elements_of, passes_element as passing_element};
+ghost use Rattle.et_event.specs.Kinds.{kind_of_elements as elements_kind, or_zero as zero_or, is_array_element as is_such};
+ghost use Rattle.et_event.specs.Sites.{Site, natural_of};
 ghost use Rattle.et_event.specs.Sound.{IsSoundFor};
 ghost use Rattle.et_parts.specs.Places.{site_at};
-ghost use Rattle.et_refs.specs.Changes.{IsNamed, MayExchange, MayStore, exchange_outcome, store_outcome};
+ghost use Rattle.et_refs.specs.Changes.{IsNamedReference, MayExchange, MayStore, exchange_outcome, store_outcome};
 ghost use Rattle.et_event.specs.Moments.{moment};
 ghost use Rattle.et_refs.specs.Refusals.{outcome_of};
 ghost use Rattle.et_refs.specs.Slots.{IsSlotAt};
@@ -83,7 +83,7 @@ fn element_slot<L: Ledger>(
     visits: &mut Steps<L>,
 ) -> Result<SlotAt, Refusal>
     requires sound { IsSoundFor program.now (kept_of machine.now) }
-    requires named { IsNamed machine.now (top machine.now.guest thread) reference }
+    requires named { IsNamedReference machine.now (top machine.now.guest thread) reference }
     ensures is { (go : ℕ → ℕ → Outcome Kept) → with_element (moment program.now machine.now thread)
         elements reference index (λ o. go o (natural_of index))
         ≡ outcome_of (moment program.now machine.now thread) result (λ x. go x.object x.slot) }
@@ -117,7 +117,7 @@ fn element_value<L: Ledger>(
     ensures value { result ≡ zero_or (Some (elements_kind elements))
         (slot_of (object_at machine.now.heap at.now.object) at.now.slot) }
     ensures few { length (entries_of result) ≤ 2 }
-    ensures held { AreHeld machine.now (refs_of_value result) }
+    ensures held { AreInHeap machine.now (refs_of_value result) }
     ensures visits { visits.new ≡ visits.old + 1 }
 {
     let kind = Some(kind_of_elements(elements));
@@ -161,7 +161,7 @@ fn length_value<L: Ledger>(
         (class_at program.now (object_at machine.now.heap object).class).info.element ≡ true }
     ensures value { result ≡ Int (pos (object_at machine.now.heap object).length) }
     ensures few { length (entries_of result) ≤ 1 }
-    ensures held { AreHeld machine.now (refs_of_value result) }
+    ensures held { AreInHeap machine.now (refs_of_value result) }
     ensures visits { visits.new ≡ visits.old + 1 }
 {
     let length = length_of(program, machine, object, visits);
@@ -227,7 +227,7 @@ fn passes_element<L: Ledger>(
     requires sound { IsSoundFor program.now (kept_of machine.now) }
     requires elements { AreElementsWithin program.now }
     requires array { IsHeld machine.now.heap array }
-    requires value { AreHeld machine.now (refs_of_value value) }
+    requires value { AreInHeap machine.now (refs_of_value value) }
     ensures value { result ≡ passing_element (moment program.now machine.now thread) value
         (elements_of (moment program.now machine.now thread) array) }
     ensures visits { visits.new ≤ visits.old + 2 }

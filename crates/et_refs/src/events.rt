@@ -12,7 +12,7 @@ ghost use Rattle.et_event.specs.declared.rows.HeapRow.TheVariants as heap_rows;
 ghost use Rattle.et_event.specs.Answered.{EventAnswers};
 ghost use Rattle.et_event.specs.Heap.{new_multi_array};
 ghost use Rattle.et_event.specs.Moments.{moment};
-ghost use Rattle.et_event.specs.Sites.{natural as natural_of};
+ghost use Rattle.et_event.specs.Sites.{natural_of};
 ghost use Rattle.et_event.specs.Sound.{IsSoundFor};
 ghost use Rattle.et_parts.specs.Places.{IsPlace, site_at};
 ghost use Rattle.et_refs.specs.Refusals.{outcome_of};

@@ -10,18 +10,18 @@ ghost use Rattle.et_state.specs.State.{Kept, kept_of};
 ghost use Rattle.et_heap.specs.Refs.{refs_of_value};
 ghost use Rattle.et_state.specs.Words.{HasFrame, top};
 ghost use Rattle.et_state.specs.Sound.{IsSound};
-ghost use Rattle.et_state.specs.Moves.{AreHeld};
+ghost use Rattle.et_state.specs.Moves.{AreInHeap};
 ghost use Rattle.et_state.specs.Outcome.{Outcome};
 ghost use Rattle.et_event.specs.declared.errors.GuestError.TheVariants.{IncompatibleClassChangeError};
 ghost use Rattle.et_event.specs.Checks.{entries_of, resolved, throws_unless as throwing_unless};
-ghost use Rattle.et_event.specs.Heap.{with_field, resolved_field, is_static_field, with_holder, get_field, put_field};
-ghost use Rattle.et_event.specs.Kinds.{kind_of as descriptor_kind, or_zero as zero_or};
+ghost use Rattle.et_event.specs.Heap.{with_field, resolved_field, is_static_at, with_holder, get_field, put_field};
+ghost use Rattle.et_event.specs.Kinds.{operand_kind as descriptor_kind, or_zero as zero_or};
 ghost use Rattle.et_event.specs.Moments.{Moment, moment, begins};
-ghost use Rattle.et_event.specs.Sites.{Member, member_of, natural};
+ghost use Rattle.et_event.specs.Sites.{Member, site_member, natural_of};
 ghost use Rattle.et_event.specs.Sound.{IsSoundFor, HasField};
 ghost use Rattle.et_parts.specs.Members.{shown_member};
 ghost use Rattle.et_parts.specs.Places.{site_at};
-ghost use Rattle.et_refs.specs.Changes.{IsNamed, MayExchange, MayStore, exchange_outcome, store_outcome};
+ghost use Rattle.et_refs.specs.Changes.{IsNamedReference, MayExchange, MayStore, exchange_outcome, store_outcome};
 ghost use Rattle.et_refs.specs.Refusals.{outcome_of};
 ghost use Rattle.et_refs.specs.Slots.{IsInstanceField, IsSlotAt};
 
@@ -42,9 +42,9 @@ use std::sync::ledger::Ledger;
 
 /// The member that an instruction names, where it is a field.
 pub fn field_named<'a>(place: &Place<'a>) -> Result<MemberAt<'a>, Refusal>
-    requires { natural place.now.instr.first < 2 ^ 16 }
+    requires { natural_of place.now.instr.first < 2 ^ 16 }
     ensures is { (e : Moment) (go : Member → Outcome Kept) → with_field e
-        (member_of (site_at place.now)) go ≡ outcome_of e result (λ m. go (shown_member m)) }
+        (site_member (site_at place.now)) go ≡ outcome_of e result (λ m. go (shown_member m)) }
     ensures field { IfOk result (λ m. is_of_field m.descriptor.now ≡ true) }
 {
     let Some(member) = member_at(place) else {
@@ -85,7 +85,7 @@ fn instance_field(program: &Program, member: &MemberAt<'_>) -> Result<FieldId, R
         (record { program = program.now; before = s; thread = t })) (shown_member member.now)
         (λ f. throwing_unless (record { program = program.now; before = s; thread = t }) (begins
         (record { program = program.now; before = s; thread = t })) IncompatibleClassChangeError
-        (not (is_static_field program.now f)) (go f))
+        (not (is_static_at program.now f)) (go f))
         ≡ outcome_of (record { program = program.now; before = s; thread = t }) result go }
     ensures field { IfOk result (λ f. IsInstanceField program.now member.now.descriptor.now f) }
 {
@@ -108,7 +108,7 @@ fn holder<L: Ledger>(
     requires sound { IsSoundFor program.now (kept_of machine.now) }
     requires within { field < length program.now.fields }
     requires instance { has_flag (field_of program.now field).flags STATIC_FLAG ≡ false }
-    requires named { IsNamed machine.now (top machine.now.guest thread) reference }
+    requires named { IsNamedReference machine.now (top machine.now.guest thread) reference }
     ensures is { (go : ℕ → Outcome Kept) → with_holder (moment program.now machine.now thread)
         (begins (moment program.now machine.now thread)) field reference go
         ≡ outcome_of (moment program.now machine.now thread) result go }
@@ -133,12 +133,12 @@ fn field_slot<L: Ledger>(
     visits: &mut Steps<L>,
 ) -> Result<SlotAt, Refusal>
     requires sound { IsSoundFor program.now (kept_of machine.now) }
-    requires named { IsNamed machine.now (top machine.now.guest thread) reference }
+    requires named { IsNamedReference machine.now (top machine.now.guest thread) reference }
     ensures is { (go : ℕ → ℕ → Outcome Kept) → resolved_field
         (moment program.now machine.now thread) (begins (moment program.now machine.now thread))
         (shown_member member.now) (λ f. throwing_unless (moment program.now machine.now thread)
         (begins (moment program.now machine.now thread)) IncompatibleClassChangeError
-        (not (is_static_field program.now f)) (with_holder (moment program.now machine.now thread)
+        (not (is_static_at program.now f)) (with_holder (moment program.now machine.now thread)
         (begins (moment program.now machine.now thread)) f reference
         (λ o. go o (field_of program.now f).slot)))
         ≡ outcome_of (moment program.now machine.now thread) result (λ x. go x.object x.slot) }
@@ -168,7 +168,7 @@ fn field_value<L: Ledger>(
     ensures value { result ≡ zero_or (descriptor_kind descriptor.now)
         (slot_of (object_at machine.now.heap at.now.object) at.now.slot) }
     ensures few { length (entries_of result) ≤ descriptor_width descriptor.now }
-    ensures held { AreHeld machine.now (refs_of_value result) }
+    ensures held { AreInHeap machine.now (refs_of_value result) }
     ensures visits { visits.new ≡ visits.old + 1 }
 {
     read_slot(machine, kind_of(descriptor), at, visits)
@@ -184,7 +184,7 @@ pub(crate) fn read_field<L: Ledger>(
 ) -> Result<Exchange, Refusal>
     requires frame { HasFrame machine.now.guest thread }
     requires sound { IsSoundFor program.now (kept_of machine.now) }
-    requires index { natural place.now.instr.first < 2 ^ 16 }
+    requires index { natural_of place.now.instr.first < 2 ^ 16 }
     ensures is { get_field (moment program.now machine.now thread) (site_at place.now)
         ≡ outcome_of (moment program.now machine.now thread) result
         (exchange_outcome (moment program.now machine.now thread) (site_at place.now)) }
@@ -209,7 +209,7 @@ pub(crate) fn write_field<L: Ledger>(
 ) -> Result<Store, Refusal>
     requires frame { HasFrame machine.now.guest thread }
     requires sound { IsSoundFor program.now (kept_of machine.now) }
-    requires index { natural place.now.instr.first < 2 ^ 16 }
+    requires index { natural_of place.now.instr.first < 2 ^ 16 }
     ensures is { put_field (moment program.now machine.now thread) (site_at place.now)
         ≡ outcome_of (moment program.now machine.now thread) result
         (store_outcome (moment program.now machine.now thread) (site_at place.now)) }

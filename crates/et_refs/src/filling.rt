@@ -4,10 +4,10 @@ ghost use Rattle.et_base.specs.declared.value.Value.TheVariants.{Ref};
 ghost use Rattle.et_heap.specs.Objects.{IsHeld, has_room, object_at, most_objects};
 ghost use Rattle.et_program.specs.Entries.{Linked, class_at};
 ghost use Rattle.et_event.specs.Heap.{arrays_made, element_class, naturals};
-ghost use Rattle.et_event.specs.Moments.{moment, array_made, slot_written, fits};
+ghost use Rattle.et_event.specs.Moments.{moment, array_made, slot_written, fits_heap};
 ghost use Rattle.et_state.specs.State.{Kept};
-ghost use Rattle.et_event.specs.Sites.{natural as natural_of};
-ghost use Rattle.et_refs.specs.Filling.{doing_of, ComesTo, element_count, first_filling, next_filling, with_elements, inner_dimensions, AreFillings};
+ghost use Rattle.et_event.specs.Sites.{natural_of};
+ghost use Rattle.et_refs.specs.Filling.{doing_of, FillsTo, element_count, first_filling, next_filling, with_filled, inner_dimensions, AreFillings};
 
 use crate::changes::{array_size, number_of, width_in};
 use crate::kinds::natural;
@@ -63,7 +63,7 @@ fn make_array(
 ) -> Result<ObjectId, NoMemory>
     requires { has_room machine.old.heap 1 elements ≡ true }
     ensures object { IfOk result (λ o. o ≡ length machine.old.heap) }
-    ensures made { OnOk result (ComesTo (array_made (moment program.now machine.old thread)
+    ensures made { OnOk result (FillsTo (array_made (moment program.now machine.old thread)
         class elements (doing_of machine.old out.old)) machine.old machine.new out.new) }
     ensures grown { length machine.old.heap ≤ length machine.new.heap }
     ensures one { length machine.new.heap ≤ length machine.old.heap + 1 }
@@ -115,7 +115,7 @@ pub fn open_array(
         f ≡ first_filling (record { program = program.now; before = b; thread = thread })
         (length machine.old.heap) class (natural_of (slice_index_or lengths.now level (pos 0)))
         (drop (level + 1) (naturals lengths.now))) }
-    ensures made { OnOk result (ComesTo (array_made (moment program.now machine.old thread) class
+    ensures made { OnOk result (FillsTo (array_made (moment program.now machine.old thread) class
         (natural_of (slice_index_or lengths.now level (pos 0)))
         (doing_of machine.old out.old)) machine.old machine.new out.new) }
     ensures grown { length machine.old.heap ≤ length machine.new.heap }
@@ -144,14 +144,14 @@ fn descend(
     requires more { top.next < top.count }
     requires fillings { AreFillings machine.old.heap
         (length lengths.now) 0 (stack.old.items ++ top ∷ []) }
-    requires fits { (b : Kept) → fits (with_elements
+    requires fits { (b : Kept) → fits_heap (with_filled
         (record { program = program.now; before = b; thread = thread })
         (stack.old.items ++ top ∷ []) (inner_dimensions (naturals lengths.now))
         (doing_of machine.old out.old)).state.heap ≡ true }
-    ensures same { IfOk result (λ last. (b : Kept) → with_elements
+    ensures same { IfOk result (λ last. (b : Kept) → with_filled
         (record { program = program.now; before = b; thread = thread })
         (stack.new.items ++ last ∷ []) (inner_dimensions (naturals lengths.now))
-        (doing_of machine.new out.new) ≡ with_elements
+        (doing_of machine.new out.new) ≡ with_filled
         (record { program = program.now; before = b; thread = thread })
         (stack.old.items ++ top ∷ []) (inner_dimensions (naturals lengths.now))
         (doing_of machine.old out.old)) }
@@ -162,7 +162,7 @@ fn descend(
     ensures made { OnOk result (length machine.new.heap ≡ length machine.old.heap + 1) }
     ensures few { OnOk result (length machine.new.heap ≤ most_objects + 1) }
     ensures grown { length machine.old.heap ≤ length machine.new.heap }
-    ensures most { (b : Kept) → length machine.new.heap ≤ length (with_elements
+    ensures most { (b : Kept) → length machine.new.heap ≤ length (with_filled
         (record { program = program.now; before = b; thread = thread })
         (stack.old.items ++ top ∷ []) (inner_dimensions (naturals lengths.now))
         (doing_of machine.old out.old)).state.heap }
@@ -186,7 +186,7 @@ fn ascend<L: Ledger>(
     requires slot { around.next < length (object_at machine.old.heap around.array).slots }
     requires next { around.next < around.count }
     ensures last { IfOk result (λ last. last ≡ next_filling around) }
-    ensures written { OnOk result ((p : Linked) (b : Kept) → ComesTo
+    ensures written { OnOk result ((p : Linked) (b : Kept) → FillsTo
         (slot_written (record { program = p; before = b; thread = thread }) around.array around.next
         (Ref array) (doing_of machine.old out.old)) machine.old machine.new out.new) }
     ensures same { length machine.new.heap ≡ length machine.old.heap }
@@ -223,7 +223,7 @@ pub fn make_arrays<L: Ledger>(
 ) -> Result<ObjectId, NoMemory>
     requires some { 0 < length arrays.now.lengths.now }
     requires heap { 0 < length machine.old.heap }
-    requires fits { (b : Kept) → fits (arrays_made
+    requires fits { (b : Kept) → fits_heap (arrays_made
         (record { program = program.now; before = b; thread = thread }) arrays.now.class
         (naturals arrays.now.lengths.now) (doing_of machine.old out.old)).state.heap ≡ true }
     ensures first { IfOk result (λ o. o ≡ length machine.old.heap) }

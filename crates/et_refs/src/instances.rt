@@ -2,7 +2,7 @@
 ghost use Rattle.std.specs.Prelude.{◌≡◌, ◌<◌, ◌^◌, length, IfOk};
 ghost use Rattle.et_state.specs.Words.{HasFrame, top};
 ghost use Rattle.et_event.specs.Heap.{may_be_made as may_make, new_instance};
-ghost use Rattle.et_event.specs.Sites.{natural};
+ghost use Rattle.et_event.specs.Sites.{natural_of};
 ghost use Rattle.et_parts.specs.Places.{site_at};
 ghost use Rattle.et_event.specs.Moments.{moment};
 ghost use Rattle.et_refs.specs.Refusals.{outcome_of};
@@ -37,7 +37,7 @@ pub(crate) fn new_object(
     place: &Place<'_>,
 ) -> Result<Wanted, Refusal>
     requires frame { HasFrame machine.now.guest thread }
-    requires index { natural place.now.instr.first < 2 ^ 16 }
+    requires index { natural_of place.now.instr.first < 2 ^ 16 }
     ensures is { new_instance (moment program.now machine.now thread) (site_at place.now)
         ≡ outcome_of (moment program.now machine.now thread) result
         (wanted_outcome (moment program.now machine.now thread) (site_at place.now)) }

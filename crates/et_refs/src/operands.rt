@@ -8,10 +8,10 @@ ghost use Rattle.et_state.specs.Sound.{IsSound};
 ghost use Rattle.et_state.specs.Words.{HasFrame, top};
 ghost use Rattle.et_state.specs.Outcome.{Outcome};
 ghost use Rattle.et_event.specs.Moments.{Moment, ill_typed};
-ghost use Rattle.et_event.specs.Checks.{Reference, with_int, with_long, with_reference, with_value, value_of as value_named, ill_typed_unless as ill_unless};
+ghost use Rattle.et_event.specs.Checks.{Reference, with_int, with_long, with_reference, with_value, reference_value as value_named, ill_typed_unless as ill_unless};
 ghost use Rattle.et_parts.specs.Tops.{IsIn};
 ghost use Rattle.et_refs.specs.Refusals.{outcome_of};
-ghost use Rattle.et_refs.specs.Changes.{IsNamed};
+ghost use Rattle.et_refs.specs.Changes.{IsNamedReference};
 
 use crate::checks::ill_typed_unless;
 use crate::kinds::{kind_of, kind_of_elements, width_of};
@@ -71,7 +71,8 @@ pub(crate) fn take_reference(
         with_reference (ill_typed e) (drop k (top machine.now.guest thread).operands) go
         ≡ outcome_of e result (λ r. go r (drop (k + 1) (top machine.now.guest thread).operands)) }
     ensures deep { IfOk result (λ r. k < length (top machine.now.guest thread).operands) }
-    ensures named { IfOk result (λ r. IsNamed machine.now (top machine.now.guest thread) r) }
+    ensures named { IfOk result (λ r. IsNamedReference machine.now (top machine.now.guest thread)
+        r) }
 {
     match reference_at(machine, thread, k) {
         Some(reference) => Ok(reference),

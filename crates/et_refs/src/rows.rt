@@ -4,7 +4,7 @@ ghost use Rattle.et_event.specs.declared.rows.HeapRow.{HeapRow as OfHeap};
 ghost use Rattle.et_event.specs.Heap.{heap_event};
 ghost use Rattle.et_event.specs.Moments.{Moment, moment};
 ghost use Rattle.et_event.specs.Programs.{AreElementsWithin, HasSlots};
-ghost use Rattle.et_event.specs.Sites.{Site, natural};
+ghost use Rattle.et_event.specs.Sites.{Site, natural_of};
 ghost use Rattle.et_event.specs.Sound.{IsSoundFor};
 ghost use Rattle.et_parts.specs.Places.{site_at};
 ghost use Rattle.et_program.specs.Entries.{Linked};
@@ -107,7 +107,7 @@ pub fn plan_of<L: Ledger>(
 ) -> Result<Plan, Refusal>
     requires frame { HasFrame machine.now.guest thread }
     requires sound { IsSoundFor program.now (kept_of machine.now) }
-    requires index { natural place.now.instr.first < 2 ^ 16 }
+    requires index { natural_of place.now.instr.first < 2 ^ 16 }
     requires elements { AreElementsWithin program.now }
     requires slots { HasSlots program.now }
     ensures is { heap_event (moment program.now machine.now thread) (site_at place.now) row

@@ -4,7 +4,7 @@ ghost use Rattle.et_heap.specs.Objects.{IsHeld, object_at, slot_of};
 ghost use Rattle.et_heap.specs.Refs.{refs_of_value};
 ghost use Rattle.et_state.specs.State.{kept_of};
 ghost use Rattle.et_state.specs.Sound.{IsSound};
-ghost use Rattle.et_state.specs.Moves.{AreHeld};
+ghost use Rattle.et_state.specs.Moves.{AreInHeap};
 ghost use Rattle.et_event.specs.Checks.{entries_of};
 ghost use Rattle.et_event.specs.Kinds.{or_zero as zero_or};
 ghost use Rattle.et_refs.specs.Slots.{IsSlotAt, entries};
@@ -44,7 +44,7 @@ pub(crate) fn read_slot<L: Ledger>(
     ensures value { result
         ≡ zero_or kind (slot_of (object_at machine.now.heap at.now.object) at.now.slot) }
     ensures few { length (entries_of result) ≤ entries kind }
-    ensures held { AreHeld machine.now (refs_of_value result) }
+    ensures held { AreInHeap machine.now (refs_of_value result) }
     ensures visits { visits.new ≡ visits.old + 1 }
 {
     let value = slot_value(machine, at, visits);

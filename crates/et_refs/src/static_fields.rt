@@ -5,9 +5,9 @@ ghost use Rattle.et_state.specs.Words.{HasFrame, top};
 ghost use Rattle.et_state.specs.Outcome.{Outcome};
 ghost use Rattle.et_event.specs.declared.errors.GuestError.TheVariants.{IncompatibleClassChangeError};
 ghost use Rattle.et_event.specs.Checks.{ill_typed_unless as ill_unless, throws_unless as throwing_unless};
-ghost use Rattle.et_event.specs.Heap.{resolved_field, is_static_field, get_static, put_static};
+ghost use Rattle.et_event.specs.Heap.{resolved_field, is_static_at, get_static, put_static};
 ghost use Rattle.et_event.specs.Moments.{Moment, moment, begins};
-ghost use Rattle.et_event.specs.Sites.{natural};
+ghost use Rattle.et_event.specs.Sites.{natural_of};
 ghost use Rattle.et_event.specs.Sound.{IsSoundFor};
 ghost use Rattle.et_parts.specs.Members.{shown_member};
 ghost use Rattle.et_parts.specs.Places.{site_at};
@@ -59,7 +59,7 @@ fn static_field(program: &Program, member: &MemberAt<'_>) -> Result<FieldId, Ref
         (record { program = program.now; before = s; thread = t })) (shown_member member.now)
         (λ f. throwing_unless (record { program = program.now; before = s; thread = t }) (begins
         (record { program = program.now; before = s; thread = t })) IncompatibleClassChangeError
-        (is_static_field program.now f) (go f))
+        (is_static_at program.now f) (go f))
         ≡ outcome_of (record { program = program.now; before = s; thread = t }) result go }
     ensures field { IfOk result (λ f. IsStaticField program.now member.now.descriptor.now f) }
 {
@@ -79,7 +79,7 @@ pub(crate) fn read_field(
 ) -> Result<Wanted, Refusal>
     requires program { HasSlots program.now }
     requires frame { HasFrame machine.now.guest thread }
-    requires index { natural place.now.instr.first < 2 ^ 16 }
+    requires index { natural_of place.now.instr.first < 2 ^ 16 }
     ensures is { get_static (moment program.now machine.now thread) (site_at place.now)
         ≡ outcome_of (moment program.now machine.now thread) result
         (wanted_outcome (moment program.now machine.now thread) (site_at place.now)) }
@@ -108,7 +108,7 @@ pub(crate) fn write_field(
     requires program { HasSlots program.now }
     requires frame { HasFrame machine.now.guest thread }
     requires sound { IsSoundFor program.now (kept_of machine.now) }
-    requires index { natural place.now.instr.first < 2 ^ 16 }
+    requires index { natural_of place.now.instr.first < 2 ^ 16 }
     ensures is { put_static (moment program.now machine.now thread) (site_at place.now)
         ≡ outcome_of (moment program.now machine.now thread) result
         (wanted_outcome (moment program.now machine.now thread) (site_at place.now)) }

@@ -12,7 +12,7 @@ use Rattle.et_text.specs.Rules.{objects, births, is_reported, is_timely, AreFine
 use Rattle.et_replay.specs.declared.item.Item.{Item}
 use Rattle.et_replay.specs.declared.item.Item.TheVariants as items
 use Rattle.et_replay.specs.Lives.{never, no_size, Sizes, with_time, died_by}
-use Rattle.et_replay.specs.Parts.{moment, death_of, deaths_from}
+use Rattle.et_replay.specs.Parts.{item_event, death_of, deaths_from}
 use Rattle.et_replay.specs.Timeline.{tells_at, dies_at, death_at}
 use Rattle.et_replay.proofs.ByKey.{equal}
 use Rattle.et_replay.proofs.Living.{follows, both_true, leb-yes, eqb-yes, lives, times_push, set_here, set_there, cases_eqb, not_true, not_or}
@@ -105,27 +105,27 @@ dying-push p e k (suc n) =
     ap (λ (t : List Item). here p e (k + 1) ++ t) (dying-push p e (k + 1) n ∙ ap (λ (j : ℕ). dying p e (k + 1) n ++ here p e j) q)
     ∙ sym (append_assoc (here p e (k + 1)) (dying p e (k + 1) n) (here p e (k + suc n + 1)))
 
-moment_here : (o e t : ℕ) → eqb (moment (items.Death o t)) (2 * e + 1) ≡ eqb t e
+moment_here : (o e t : ℕ) → eqb (item_event (items.Death o t)) (2 * e + 1) ≡ eqb t e
 moment_here o e t = grind (arith, nat_tests)
 
-equal_one : (o e : ℕ) (q : ℕ × ℕ) (b : Bool) → e ≢ never → eqb q.0 e ≡ b → equal moment (2 * e + 1) (death_of o q) ≡ cond b (items.Death o e ∷ []) []
+equal_one : (o e : ℕ) (q : ℕ × ℕ) (b : Bool) → e ≢ never → eqb q.0 e ≡ b → equal item_event (2 * e + 1) (death_of o q) ≡ cond b (items.Death o e ∷ []) []
 equal_one o e q true ne h =
     let is : q.0 ≡ e = eqb-yes q.0 e h in
     let lives_not : eqb q.0 never ≡ false = grind (arith, nat_tests) in
-    let yes : eqb (moment (items.Death o q.0)) (2 * e + 1) ≡ true = moment_here o e q.0 ∙ h in
+    let yes : eqb (item_event (items.Death o q.0)) (2 * e + 1) ≡ true = moment_here o e q.0 ∙ h in
     rw (lives_not, yes) (ap (λ (t : ℕ). items.Death o t ∷ []) is)
-equal_one o e q false ne h = elim (eqb q.0 never) as (λ v. equal moment (2 * e + 1) (cond v [] (items.Death o q.0 ∷ [])) ≡ []) [
+equal_one o e q false ne h = elim (eqb q.0 never) as (λ v. equal item_event (2 * e + 1) (cond v [] (items.Death o q.0 ∷ [])) ≡ []) [
   | true ↦ refl
-  | false ↦ let no : eqb (moment (items.Death o q.0)) (2 * e + 1) ≡ false = moment_here o e q.0 ∙ h in rw no refl
+  | false ↦ let no : eqb (item_event (items.Death o q.0)) (2 * e + 1) ≡ false = moment_here o e q.0 ∙ h in rw no refl
 ]
 
-equal_deaths : (p : ℕ → Bool) (e k : ℕ) (d : Sizes) → e ≢ never → ((i : ℕ) → i < length d → eqb (at d i).0 e ≡ p (k + i + 1)) → equal moment (2 * e + 1) (deaths_from k d) ≡ dying p e k (length d)
+equal_deaths : (p : ℕ → Bool) (e k : ℕ) (d : Sizes) → e ≢ never → ((i : ℕ) → i < length d → eqb (at d i).0 e ≡ p (k + i + 1)) → equal item_event (2 * e + 1) (deaths_from k d) ≡ dying p e k (length d)
 equal_deaths p e k [] ne h = refl
 equal_deaths p e k (q ∷ d) ne h =
     let first : eqb q.0 e ≡ p (k + 1) = (let z : k + 0 + 1 ≡ k + 1 = omega arith in subst (λ (j : ℕ). eqb q.0 e ≡ p j) z (h 0 (omega arith))) in
     let rest = equal_deaths p e (k + 1) d ne (λ i lt. (let z : k + suc i + 1 ≡ k + 1 + i + 1 = omega arith in subst (λ (j : ℕ). eqb (at d i).0 e ≡ p j) z (h (suc i) (omega (arith, lt))))) in
-    filter-append (λ x. eqb (moment x) (2 * e + 1)) (death_of (k + 1) q) (deaths_from (k + 1) d)
-    ∙ (ap (λ (t : List Item). t ++ equal moment (2 * e + 1) (deaths_from (k + 1) d)) (equal_one (k + 1) e q (p (k + 1)) ne first)
+    filter-append (λ x. eqb (item_event x) (2 * e + 1)) (death_of (k + 1) q) (deaths_from (k + 1) d)
+    ∙ (ap (λ (t : List Item). t ++ equal item_event (2 * e + 1) (deaths_from (k + 1) d)) (equal_one (k + 1) e q (p (k + 1)) ne first)
     ∙ ap (λ (t : List Item). here p e (k + 1) ++ t) rest)
 
 length_push : (past : List TraceLine) (event : ℕ) → length (births past ++ event ∷ []) ≡ length (births past) + 1
@@ -167,7 +167,7 @@ deaths_are lines [] e f = refl
 deaths_are lines (line ∷ past) e f = deaths_on lines past line e f (deaths_are lines past e f.0)
 
 -- the deaths of a time are those that the lines tell
-pub deaths_told : (lines : List TraceLine) (e : ℕ) → AreFine 1 (reverse lines) → e ≢ never → equal moment (2 * e + 1) (deaths_from 0 (died_by (reverse lines))) ≡ filter_map (death_at lines e) lines
+pub deaths_told : (lines : List TraceLine) (e : ℕ) → AreFine 1 (reverse lines) → e ≢ never → equal item_event (2 * e + 1) (deaths_from 0 (died_by (reverse lines))) ≡ filter_map (death_at lines e) lines
 deaths_told lines e f ne =
     let l = lives (reverse lines) f in
     let many = l.many in

@@ -11,7 +11,7 @@ use Rattle.std.proofs.lemmas.List.Kept.{IsSortedBy-push, AllPairs-from_increasin
 use Rattle.std.proofs.lemmas.Map.Keys.{IsStrictlyIncreasing-dedup}
 use Rattle.et_base.specs.declared.line.TraceLine.{TraceLine}
 use Rattle.et_base.specs.declared.line.TraceLine.TheVariants.{Header, Class, Method, Alloc, Update, Enter, Exit, Unwind, Flush, Death, Finish}
-use Rattle.et_text.specs.Rules.{is_open, is_timely, is_before, misses_no_flush, interval, flushed, objects, latest, AreFine}
+use Rattle.et_text.specs.Rules.{is_open, is_timely, is_before, misses_no_flush, interval, newest_flush, objects, latest, AreFine}
 use Rattle.et_replay.specs.Curve.{happens_at, curve_events}
 use Rattle.et_replay.proofs.Living.{follows, both_true, leb-yes}
 use Rattle.std.proofs.Math.Seq.{get_or-append_seam}
@@ -37,7 +37,7 @@ second_true true false c d e = absurd cc
 second_true false b c d e = absurd cc
 
 timely : (past : List TraceLine) (event : ℕ) → is_timely past event ≡ true → latest past ≤ event
-timely past event e = leb-yes (latest past) event (second_true (is_open past) (leb (latest past) event) (is_before (flushed past) event) (misses_no_flush (interval past) (flushed past) event) e)
+timely past event e = leb-yes (latest past) event (second_true (is_open past) (leb (latest past) event) (is_before (newest_flush past) event) (misses_no_flush (interval past) (newest_flush past) event) e)
 
 -- what a line does to the event of the newest line
 pub data Moves (past : List TraceLine) (line : TraceLine) : Type 0 where

@@ -15,14 +15,14 @@ use Rattle.et_replay.specs.declared.model.Kind.{Kind}
 use Rattle.et_replay.specs.declared.model.Kind.TheVariants.{MarkSweep, SemiSpace, Generational}
 use Rattle.et_replay.specs.declared.model.Policy.{Policy}
 use Rattle.et_replay.specs.declared.model.Report.{Report}
-use Rattle.et_replay.specs.Feeding.{HasRoom, MayCome}
+use Rattle.et_replay.specs.Feeding.{HasItemRoom, MayCome}
 use Rattle.et_replay.specs.Lines.{report_text}
 use Rattle.et_replay.specs.Replay.{replay_text}
 use Rattle.et_replay.specs.Seats.{IsFinal, Sits, EachZip, Told, AllMayCome, told_line}
 use Rattle.et_replay.specs.Tally.{Heap, tally, is_exhausted, heap_by, space_on, generations_on}
 
 -- there is room where each test that decides says so
-pub has_room : (policy : Policy) (past : List Item) → ((reached : Graph → ℕ → Bool) → Decides reached → is_exhausted reached policy past ≡ false) → HasRoom policy past
+pub has_room : (policy : Policy) (past : List Item) → ((reached : Graph → ℕ → Bool) → Decides reached → is_exhausted reached policy past ≡ false) → HasItemRoom policy past
 has_room policy past h = record { reached = is_reached; decides = is_reached_decides; room = h is_reached is_reached_decides }
 
 stopped : (heap next : Heap) → is_some heap.exhausted ≡ true → cond (is_some heap.exhausted) heap next ≡ heap
@@ -131,7 +131,7 @@ room_by reached MarkSweep first second = refl
 room_by reached SemiSpace first second = refl
 room_by reached Generational first second = refl
 
-pub room_first : (policy : Policy) → HasRoom policy []
+pub room_first : (policy : Policy) → HasItemRoom policy []
 room_first policy = has_room policy [] (λ reached decides. room_by reached policy.kind policy.first policy.second)
 
 element : {A : Type 0} (xs : List A) (k : ℕ) → k < length xs → A

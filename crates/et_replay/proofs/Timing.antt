@@ -12,12 +12,12 @@ use Rattle.std.proofs.lemmas.List.Elements.{filter_map-append, filter-append, Al
 use Rattle.std.proofs.lemmas.List.Sorted.{All-permutation, IsNonDecreasingBy-push}
 use Rattle.et_base.specs.declared.line.TraceLine.{TraceLine}
 use Rattle.et_base.specs.declared.line.TraceLine.TheVariants.{Header, Class, Method, Alloc, Update, Enter, Exit, Unwind, Flush, Death, Finish}
-use Rattle.et_text.specs.Rules.{objects, births, flushed, is_timely, latest, awaited, last_dead, AreFine}
+use Rattle.et_text.specs.Rules.{objects, births, newest_flush, is_timely, latest, awaited, last_dead, AreFine}
 use Rattle.et_replay.specs.declared.item.Item.{Item}
 use Rattle.et_replay.specs.declared.item.Item.TheVariants as items
-use Rattle.et_replay.specs.Items.{object_made, size_made, made, sizes, MakesInOrder}
+use Rattle.et_replay.specs.Items.{object_made, size_made, made_objects, sizes, MakesInOrder}
 use Rattle.et_replay.specs.Lives.{never, no_size, Sizes, died_by}
-use Rattle.et_replay.specs.Parts.{item_of, moment, death_of, deaths_from}
+use Rattle.et_replay.specs.Parts.{item_of, item_event, death_of, deaths_from}
 use Rattle.et_replay.specs.Timeline.{item_at, death_at, items_at, items_to, timeline_items}
 use Rattle.et_replay.proofs.ByKey.{below, equal, below-suc, below-all, below-zero, same_by_key, filter_swap, filter_same}
 use Rattle.et_replay.proofs.Dying.{deaths_told}
@@ -35,14 +35,14 @@ even_odd a b = grind (arith, nat_tests)
 odd_even : (a b : ℕ) → eqb (2 * a + 1) (2 * b) ≡ false
 odd_even a b = grind (arith, nat_tests)
 
-one_at : (e : ℕ) (line : TraceLine) → equal moment (2 * e) (filter_map item_of (line ∷ [])) ≡ filter_map (item_at e) (line ∷ [])
+one_at : (e : ℕ) (line : TraceLine) → equal item_event (2 * e) (filter_map item_of (line ∷ [])) ≡ filter_map (item_at e) (line ∷ [])
 one_at e (Header v n) = refl
 one_at e (Class number name) = refl
 one_at e (Method number class name descriptor) = refl
 one_at e (Alloc event thread object class size len) = rw (even_same event e) (elim (eqb event e) as (λ v. cond v (items.Alloc event object size ∷ []) [] ≡ filter_map (λ (u : TraceLine). cond v (Some (items.Alloc event object size)) None) (Alloc event thread object class size len ∷ [])) [ true ↦ refl | false ↦ refl ])
 one_at e (Update event thread object slot old new) = written (eqb object 0) (eqb event e) refl refl
   where
-    written : (a b : Bool) → eqb object 0 ≡ a → eqb event e ≡ b → equal moment (2 * e) (filter_map item_of (Update event thread object slot old new ∷ [])) ≡ filter_map (item_at e) (Update event thread object slot old new ∷ [])
+    written : (a b : Bool) → eqb object 0 ≡ a → eqb event e ≡ b → equal item_event (2 * e) (filter_map item_of (Update event thread object slot old new ∷ [])) ≡ filter_map (item_at e) (Update event thread object slot old new ∷ [])
     written true true p q = rw (p, q) refl
     written true false p q = rw (p, q) refl
     written false true p q = (let s : eqb (2 * event) (2 * e) ≡ true = even_same event e ∙ q in rw (p, s, q) refl)
@@ -54,12 +54,12 @@ one_at e (Flush event deaths) = refl
 one_at e (Death object time) = refl
 one_at e (Finish event how) = refl
 
-one_odd : (e : ℕ) (line : TraceLine) → equal moment (2 * e + 1) (filter_map item_of (line ∷ [])) ≡ []
+one_odd : (e : ℕ) (line : TraceLine) → equal item_event (2 * e + 1) (filter_map item_of (line ∷ [])) ≡ []
 one_odd e (Header v n) = refl
 one_odd e (Class number name) = refl
 one_odd e (Method number class name descriptor) = refl
 one_odd e (Alloc event thread object class size len) = rw (even_odd event e) refl
-one_odd e (Update event thread object slot old new) = elim (eqb object 0) as (λ v. equal moment (2 * e + 1) (filter_map (λ (u : TraceLine). cond v None (Some (items.Write event object slot new))) (Update event thread object slot old new ∷ [])) ≡ []) [
+one_odd e (Update event thread object slot old new) = elim (eqb object 0) as (λ v. equal item_event (2 * e + 1) (filter_map (λ (u : TraceLine). cond v None (Some (items.Write event object slot new))) (Update event thread object slot old new ∷ [])) ≡ []) [
   | true ↦ refl
   | false ↦ rw (even_odd event e) refl
 ]
@@ -74,27 +74,27 @@ one_odd e (Finish event how) = refl
 first_line : {Y : Type 0} (f : TraceLine → Option Y) (line : TraceLine) (lines : List TraceLine) → filter_map f (line ∷ lines) ≡ filter_map f (line ∷ []) ++ filter_map f lines
 first_line f line lines = filter_map-append f (line ∷ []) lines
 
-all_at : (e : ℕ) (lines : List TraceLine) → equal moment (2 * e) (filter_map item_of lines) ≡ filter_map (item_at e) lines
+all_at : (e : ℕ) (lines : List TraceLine) → equal item_event (2 * e) (filter_map item_of lines) ≡ filter_map (item_at e) lines
 all_at e [] = refl
 all_at e (line ∷ lines) =
-    ap (λ (t : List Item). equal moment (2 * e) t) (first_line item_of line lines)
-    ∙ (filter-append (λ x. eqb (moment x) (2 * e)) (filter_map item_of (line ∷ [])) (filter_map item_of lines)
-    ∙ (ap (λ (t : List Item). t ++ equal moment (2 * e) (filter_map item_of lines)) (one_at e line)
+    ap (λ (t : List Item). equal item_event (2 * e) t) (first_line item_of line lines)
+    ∙ (filter-append (λ x. eqb (item_event x) (2 * e)) (filter_map item_of (line ∷ [])) (filter_map item_of lines)
+    ∙ (ap (λ (t : List Item). t ++ equal item_event (2 * e) (filter_map item_of lines)) (one_at e line)
     ∙ (ap (λ (t : List Item). filter_map (item_at e) (line ∷ []) ++ t) (all_at e lines) ∙ sym (first_line (item_at e) line lines))))
 
-none_odd : (e : ℕ) (lines : List TraceLine) → equal moment (2 * e + 1) (filter_map item_of lines) ≡ []
+none_odd : (e : ℕ) (lines : List TraceLine) → equal item_event (2 * e + 1) (filter_map item_of lines) ≡ []
 none_odd e [] = refl
 none_odd e (line ∷ lines) =
-    ap (λ (t : List Item). equal moment (2 * e + 1) t) (first_line item_of line lines)
-    ∙ (filter-append (λ x. eqb (moment x) (2 * e + 1)) (filter_map item_of (line ∷ [])) (filter_map item_of lines)
-    ∙ (ap (λ (t : List Item). t ++ equal moment (2 * e + 1) (filter_map item_of lines)) (one_odd e line) ∙ none_odd e lines))
+    ap (λ (t : List Item). equal item_event (2 * e + 1) t) (first_line item_of line lines)
+    ∙ (filter-append (λ x. eqb (item_event x) (2 * e + 1)) (filter_map item_of (line ∷ [])) (filter_map item_of lines)
+    ∙ (ap (λ (t : List Item). t ++ equal item_event (2 * e + 1) (filter_map item_of lines)) (one_odd e line) ∙ none_odd e lines))
 
 -- no death is at an even moment
-none_even : (e k : ℕ) (d : Sizes) → equal moment (2 * e) (deaths_from k d) ≡ []
+none_even : (e k : ℕ) (d : Sizes) → equal item_event (2 * e) (deaths_from k d) ≡ []
 none_even e k [] = refl
 none_even e k (q ∷ d) =
-    filter-append (λ x. eqb (moment x) (2 * e)) (death_of (k + 1) q) (deaths_from (k + 1) d)
-    ∙ (ap (λ (t : List Item). t ++ equal moment (2 * e) (deaths_from (k + 1) d)) (elim (eqb q.0 never) as (λ v. equal moment (2 * e) (cond v [] (items.Death (k + 1) q.0 ∷ [])) ≡ []) [ true ↦ refl | false ↦ rw (odd_even q.0 e) refl ])
+    filter-append (λ x. eqb (item_event x) (2 * e)) (death_of (k + 1) q) (deaths_from (k + 1) d)
+    ∙ (ap (λ (t : List Item). t ++ equal item_event (2 * e) (deaths_from (k + 1) d)) (elim (eqb q.0 never) as (λ v. equal item_event (2 * e) (cond v [] (items.Death (k + 1) q.0 ∷ [])) ≡ []) [ true ↦ refl | false ↦ rw (odd_even q.0 e) refl ])
     ∙ none_even e (k + 1) d)
 
 -- IN ORDER
@@ -103,7 +103,7 @@ abbrev happening : List TraceLine → List Item
 happening past = filter_map item_of (reverse past)
 
 data Gives (past : List TraceLine) (line : TraceLine) : Type 0 where
-  GivesOne : (x : Item) → item_of line ≡ Some x → moment x ≡ 2 * latest (line ∷ past) → Gives past line
+  GivesOne : (x : Item) → item_of line ≡ Some x → item_event x ≡ 2 * latest (line ∷ past) → Gives past line
   GivesNone : item_of line ≡ None → Gives past line
 
 gives : (past : List TraceLine) (line : TraceLine) → Gives past line
@@ -133,8 +133,8 @@ more_happening : (past : List TraceLine) (line : TraceLine) → happening (line 
 more_happening past line = ap (λ (t : List TraceLine). filter_map item_of t) (reverse-append (line ∷ []) past) ∙ filter_map-append item_of (reverse past) (line ∷ [])
 
 record AreTimed (xs : List Item) (most : ℕ) : Type 0 where
-  pub sorted : IsNonDecreasingBy moment xs
-  pub low : All (λ x. moment x ≤ 2 * most) xs
+  pub sorted : IsNonDecreasingBy item_event xs
+  pub low : All (λ x. item_event x ≤ 2 * most) xs
 
 timed_on : (past : List TraceLine) (line : TraceLine) → latest past ≤ latest (line ∷ past) → Gives past line → AreTimed (happening past) (latest past) → AreTimed (happening (line ∷ past)) (latest (line ∷ past))
 timed_on past line le (GivesOne x h m) t =
@@ -142,8 +142,8 @@ timed_on past line le (GivesOne x h m) t =
     let is : happening (line ∷ past) ≡ xs ++ x ∷ [] = more_happening past line ∙ ap (λ (t : List Item). xs ++ t) (rw h refl) in
     let low = t.low in
     subst (λ (t : List Item). AreTimed t (latest (line ∷ past))) (sym is) (record {
-      sorted = IsNonDecreasingBy-push moment xs x t.sorted (λ d lt. (let l = low (length xs - 1) d (omega (arith, lt)) in omega (arith, l, m, le)));
-      low = All-push (λ x. moment x ≤ 2 * latest (line ∷ past)) xs x (λ k d lt. (let l = low k d lt in omega (arith, l, le))) (omega (arith, m));
+      sorted = IsNonDecreasingBy-push item_event xs x t.sorted (λ d lt. (let l = low (length xs - 1) d (omega (arith, lt)) in omega (arith, l, m, le)));
+      low = All-push (λ x. item_event x ≤ 2 * latest (line ∷ past)) xs x (λ k d lt. (let l = low k d lt in omega (arith, l, le))) (omega (arith, m));
     })
 timed_on past line le (GivesNone h) t =
     let xs = happening past in
@@ -157,7 +157,7 @@ timed (line ∷ past) f = timed_on past line (grows past line f) (gives past lin
 
 -- TIMES ARE LOW
 
-flushed_low : (past : List TraceLine) → AreFine 1 past → unwrap_or (flushed past) 0 ≤ latest past
+flushed_low : (past : List TraceLine) → AreFine 1 past → unwrap_or (newest_flush past) 0 ≤ latest past
 flushed_low [] f = omega arith
 flushed_low (Header v n ∷ past) f = flushed_low past f.0
 flushed_low (Class number name ∷ past) f = flushed_low past f.0
@@ -196,24 +196,24 @@ times_low (Unwind event thread method exception ∷ past) f = low_on (latest pas
 times_low (Flush event deaths ∷ past) f = low_on (latest past) event (died_by past) (grows past (Flush event deaths) f) (times_low past f.0)
 times_low (Death object time ∷ past) f =
     let g = follows past (Death object time) f.2 in
-    let c = last_true (ltb 0 (awaited past)) (ltb (last_dead past) object) (leb time (unwrap_or (flushed past) 0)) g.ordered in
-    let a = leb-yes time (unwrap_or (flushed past) 0) c in
+    let c = last_true (ltb 0 (awaited past)) (ltb (last_dead past) object) (leb time (unwrap_or (newest_flush past) 0)) g.ordered in
+    let a = leb-yes time (unwrap_or (newest_flush past) 0) c in
     let b = flushed_low past f.0 in
     All-set (IsLow (latest past)) (died_by past) (object - 1) (time, (get_or (died_by past) (object - 1) no_size).1) (λ ne. omega (arith, a, b)) (times_low past f.0)
 times_low (Finish event how ∷ past) f = times_low past f.0
 
-deaths_low : (most k : ℕ) (d : Sizes) → All (IsLow most) d → All (λ x. moment x ≤ 2 * most + 1) (deaths_from k d)
+deaths_low : (most k : ℕ) (d : Sizes) → All (IsLow most) d → All (λ x. item_event x ≤ 2 * most + 1) (deaths_from k d)
 deaths_low most k [] h = λ i e lt. absurd (omega (arith, lt))
 deaths_low most k (q ∷ d) h =
-    All-append (λ x. moment x ≤ 2 * most + 1) (death_of (k + 1) q) (deaths_from (k + 1) d) (one (eqb q.0 never) refl) (deaths_low most (k + 1) d (All-tail (IsLow most) q d h))
+    All-append (λ x. item_event x ≤ 2 * most + 1) (death_of (k + 1) q) (deaths_from (k + 1) d) (one (eqb q.0 never) refl) (deaths_low most (k + 1) d (All-tail (IsLow most) q d h))
   where
-    one : (b : Bool) → eqb q.0 never ≡ b → All (λ x. moment x ≤ 2 * most + 1) (death_of (k + 1) q)
+    one : (b : Bool) → eqb q.0 never ≡ b → All (λ x. item_event x ≤ 2 * most + 1) (death_of (k + 1) q)
     one true p = rw p (λ i e lt. absurd (omega (arith, lt)))
     one false p =
         let l = h 0 q (omega arith) in
         let ne : q.0 ≢ never = grind (arith, nat_tests) in
         let low = l ne in
-        rw p (All-cons (λ x. moment x ≤ 2 * most + 1) (items.Death (k + 1) q.0) [] (omega (arith, low)) (λ i e lt. absurd (omega (arith, lt))))
+        rw p (All-cons (λ x. item_event x ≤ 2 * most + 1) (items.Death (k + 1) q.0) [] (omega (arith, low)) (λ i e lt. absurd (omega (arith, lt))))
 
 -- ALL ITEMS, before they are put in order
 
@@ -223,54 +223,54 @@ unordered lines = filter_map item_of lines ++ deaths_from 0 (died_by (reverse li
 happening_is : (lines : List TraceLine) → happening (reverse lines) ≡ filter_map item_of lines
 happening_is lines = ap (λ (t : List TraceLine). filter_map item_of t) (reverse-reverse lines)
 
-all_low : (lines : List TraceLine) → AreFine 1 (reverse lines) → All (λ x. moment x < 2 * suc (latest (reverse lines))) (unordered lines)
+all_low : (lines : List TraceLine) → AreFine 1 (reverse lines) → All (λ x. item_event x < 2 * suc (latest (reverse lines))) (unordered lines)
 all_low lines f =
     let most = latest (reverse lines) in
     let t = timed (reverse lines) f in
     let low = t.low in
     let late = deaths_low most 0 (died_by (reverse lines)) (times_low (reverse lines) f) in
-    All-append (λ x. moment x < 2 * suc most) (filter_map item_of lines) (deaths_from 0 (died_by (reverse lines)))
-    (subst (λ (xs : List Item). All (λ x. moment x < 2 * suc most) xs) (happening_is lines) (λ k d lt. (let l = low k d lt in omega (arith, l))))
+    All-append (λ x. item_event x < 2 * suc most) (filter_map item_of lines) (deaths_from 0 (died_by (reverse lines)))
+    (subst (λ (xs : List Item). All (λ x. item_event x < 2 * suc most) xs) (happening_is lines) (λ k d lt. (let l = low k d lt in omega (arith, l))))
     (λ k d lt. (let l = late k d lt in omega (arith, l)))
 
 -- what is at a moment, of all items
-even_part : (lines : List TraceLine) (e : ℕ) → equal moment (2 * e) (unordered lines) ≡ filter_map (item_at e) lines
+even_part : (lines : List TraceLine) (e : ℕ) → equal item_event (2 * e) (unordered lines) ≡ filter_map (item_at e) lines
 even_part lines e =
-    filter-append (λ x. eqb (moment x) (2 * e)) (filter_map item_of lines) (deaths_from 0 (died_by (reverse lines)))
-    ∙ (ap (λ (t : List Item). t ++ equal moment (2 * e) (deaths_from 0 (died_by (reverse lines)))) (all_at e lines)
+    filter-append (λ x. eqb (item_event x) (2 * e)) (filter_map item_of lines) (deaths_from 0 (died_by (reverse lines)))
+    ∙ (ap (λ (t : List Item). t ++ equal item_event (2 * e) (deaths_from 0 (died_by (reverse lines)))) (all_at e lines)
     ∙ (ap (λ (t : List Item). filter_map (item_at e) lines ++ t) (none_even e 0 (died_by (reverse lines))) ∙ append-nil (filter_map (item_at e) lines)))
 
-odd_part : (lines : List TraceLine) (e : ℕ) → AreFine 1 (reverse lines) → e ≢ never → equal moment (2 * e + 1) (unordered lines) ≡ filter_map (death_at lines e) lines
+odd_part : (lines : List TraceLine) (e : ℕ) → AreFine 1 (reverse lines) → e ≢ never → equal item_event (2 * e + 1) (unordered lines) ≡ filter_map (death_at lines e) lines
 odd_part lines e f ne =
-    filter-append (λ x. eqb (moment x) (2 * e + 1)) (filter_map item_of lines) (deaths_from 0 (died_by (reverse lines)))
-    ∙ (ap (λ (t : List Item). t ++ equal moment (2 * e + 1) (deaths_from 0 (died_by (reverse lines)))) (none_odd e lines)
+    filter-append (λ x. eqb (item_event x) (2 * e + 1)) (filter_map item_of lines) (deaths_from 0 (died_by (reverse lines)))
+    ∙ (ap (λ (t : List Item). t ++ equal item_event (2 * e + 1) (deaths_from 0 (died_by (reverse lines)))) (none_odd e lines)
     ∙ deaths_told lines e f ne)
 
 -- IN ORDER OF TIME
 
 pub record InOrder (lines : List TraceLine) (xs : List Item) : Type 0 where
-  pub sorted : IsNonDecreasingBy moment xs
-  pub same : (m : ℕ) → equal moment m xs ≡ equal moment m (unordered lines)
-  pub low : All (λ x. moment x < 2 * suc (latest (reverse lines))) xs
+  pub sorted : IsNonDecreasingBy item_event xs
+  pub same : (m : ℕ) → equal item_event m xs ≡ equal item_event m (unordered lines)
+  pub low : All (λ x. item_event x < 2 * suc (latest (reverse lines))) xs
 
-at_both : (lines : List TraceLine) (xs : List Item) (e : ℕ) → AreFine 1 (reverse lines) → e ≤ 2 ^ 40 → InOrder lines xs → below moment (suc (suc (2 * e))) xs ≡ below moment (2 * e) xs ++ items_at lines e
+at_both : (lines : List TraceLine) (xs : List Item) (e : ℕ) → AreFine 1 (reverse lines) → e ≤ 2 ^ 40 → InOrder lines xs → below item_event (suc (suc (2 * e))) xs ≡ below item_event (2 * e) xs ++ items_at lines e
 at_both lines xs e f le o =
-    let a : equal moment (2 * e) xs ≡ filter_map (item_at e) lines = o.same (2 * e) ∙ even_part lines e in
+    let a : equal item_event (2 * e) xs ≡ filter_map (item_at e) lines = o.same (2 * e) ∙ even_part lines e in
     let next : suc (2 * e) ≡ 2 * e + 1 = omega arith in
     let ne : e ≢ never = omega (arith, le) in
-    let b : equal moment (suc (2 * e)) xs ≡ filter_map (death_at lines e) lines = ap (λ (m : ℕ). equal moment m xs) next ∙ (o.same (2 * e + 1) ∙ odd_part lines e f ne) in
-    below-suc moment (suc (2 * e)) xs o.sorted
-    ∙ (ap (λ (t : List Item). t ++ equal moment (suc (2 * e)) xs) (below-suc moment (2 * e) xs o.sorted)
-    ∙ (append_assoc (below moment (2 * e) xs) (equal moment (2 * e) xs) (equal moment (suc (2 * e)) xs)
-    ∙ (ap (λ (t : List Item). below moment (2 * e) xs ++ (t ++ equal moment (suc (2 * e)) xs)) a
-    ∙ ap (λ (t : List Item). below moment (2 * e) xs ++ (filter_map (item_at e) lines ++ t)) b)))
+    let b : equal item_event (suc (2 * e)) xs ≡ filter_map (death_at lines e) lines = ap (λ (m : ℕ). equal item_event m xs) next ∙ (o.same (2 * e + 1) ∙ odd_part lines e f ne) in
+    below-suc item_event (suc (2 * e)) xs o.sorted
+    ∙ (ap (λ (t : List Item). t ++ equal item_event (suc (2 * e)) xs) (below-suc item_event (2 * e) xs o.sorted)
+    ∙ (append_assoc (below item_event (2 * e) xs) (equal item_event (2 * e) xs) (equal item_event (suc (2 * e)) xs)
+    ∙ (ap (λ (t : List Item). below item_event (2 * e) xs ++ (t ++ equal item_event (suc (2 * e)) xs)) a
+    ∙ ap (λ (t : List Item). below item_event (2 * e) xs ++ (filter_map (item_at e) lines ++ t)) b)))
 
-up_to : (lines : List TraceLine) (xs : List Item) (e : ℕ) → AreFine 1 (reverse lines) → e ≤ 2 ^ 40 → InOrder lines xs → below moment (suc (suc (2 * e))) xs ≡ items_to lines e
-up_to lines xs zero f le o = at_both lines xs 0 f le o ∙ ap (λ (t : List Item). t ++ items_at lines 0) (below-zero moment xs)
+up_to : (lines : List TraceLine) (xs : List Item) (e : ℕ) → AreFine 1 (reverse lines) → e ≤ 2 ^ 40 → InOrder lines xs → below item_event (suc (suc (2 * e))) xs ≡ items_to lines e
+up_to lines xs zero f le o = at_both lines xs 0 f le o ∙ ap (λ (t : List Item). t ++ items_at lines 0) (below-zero item_event xs)
 up_to lines xs (suc e) f le o =
     let twice : 2 * suc e ≡ suc (suc (2 * e)) = omega arith in
     at_both lines xs (suc e) f le o
-    ∙ (ap (λ (m : ℕ). below moment m xs ++ items_at lines (suc e)) twice
+    ∙ (ap (λ (m : ℕ). below item_event m xs ++ items_at lines (suc e)) twice
     ∙ ap (λ (t : List Item). t ++ items_at lines (suc e)) (up_to lines xs e f (omega (arith, le)) o))
 
 latest_fits : (past : List TraceLine) → AreFine 1 past → latest past ≤ 2 ^ 40
@@ -292,18 +292,18 @@ pub are_timeline : (lines : List TraceLine) (xs : List Item) → AreFine 1 (reve
 are_timeline lines xs f o =
     let most = latest (reverse lines) in
     let twice : 2 * suc most ≡ suc (suc (2 * most)) = omega arith in
-    sym (below-all moment (2 * suc most) xs o.low) ∙ (ap (λ (m : ℕ). below moment m xs) twice ∙ up_to lines xs most f (latest_fits (reverse lines) f) o)
+    sym (below-all item_event (2 * suc most) xs o.low) ∙ (ap (λ (m : ℕ). below item_event m xs) twice ∙ up_to lines xs most f (latest_fits (reverse lines) f) o)
 
 -- what a stable sort gives
 tie_test : (a b : ℕ) → (not (is_lt (nat_cmp a b)) && not (is_lt (nat_cmp b a))) ≡ eqb b a
 tie_test a b = grind (arith, nat_tests)
 
-by_tie : (xs : List Item) (x : Item) (m : ℕ) → moment x ≡ m → filter (ties (λ a b. is_lt (nat_cmp (moment a) (moment b))) x) xs ≡ equal moment m xs
-by_tie xs x m e = filter_same (ties (λ a b. is_lt (nat_cmp (moment a) (moment b))) x) (λ y. eqb (moment y) m) xs (λ k d lt. tie_test (moment x) (moment (get_or xs k d)) ∙ ap (λ (n : ℕ). eqb (moment (get_or xs k d)) n) e)
+by_tie : (xs : List Item) (x : Item) (m : ℕ) → item_event x ≡ m → filter (ties (λ a b. is_lt (nat_cmp (item_event a) (item_event b))) x) xs ≡ equal item_event m xs
+by_tie xs x m e = filter_same (ties (λ a b. is_lt (nat_cmp (item_event a) (item_event b))) x) (λ y. eqb (item_event y) m) xs (λ k d lt. tie_test (item_event x) (item_event (get_or xs k d)) ∙ ap (λ (n : ℕ). eqb (item_event (get_or xs k d)) n) e)
 
 -- an item at each moment
 data HasItem (m : ℕ) : Type 0 where
-  Has : (x : Item) → moment x ≡ m → HasItem m
+  Has : (x : Item) → item_event x ≡ m → HasItem m
 
 halves : (m : ℕ) → (m ≡ 2 * (m / 2)) ⊎ (m ≡ 2 * (m / 2) + 1)
 halves m = let small : m % 2 < 2 = omega arith in let parts : 2 * (m / 2) + m % 2 ≡ m = omega arith in grind (arith, small, parts)
@@ -314,14 +314,14 @@ has_item m = elim (halves m) [
   | inr e ↦ Has (items.Death 0 (m / 2)) (sym e)
 ]
 
-equal_parts : (xs ys : List Item) → IsStableByKey moment nat_cmp xs ys → (m : ℕ) → equal moment m ys ≡ equal moment m xs
+equal_parts : (xs ys : List Item) → IsStableByKey item_event nat_cmp xs ys → (m : ℕ) → equal item_event m ys ≡ equal item_event m xs
 equal_parts xs ys s m = elim (has_item m) [ Has x e ↦ sym (by_tie ys x m e) ∙ (s x ∙ by_tie xs x m e) ]
 
-pub sort_orders : (lines : List TraceLine) (xs : List Item) → AreFine 1 (reverse lines) → IsNonDecreasingBy moment xs → IsPermutation (unordered lines) xs → IsStableByKey moment nat_cmp (unordered lines) xs → InOrder lines xs
+pub sort_orders : (lines : List TraceLine) (xs : List Item) → AreFine 1 (reverse lines) → IsNonDecreasingBy item_event xs → IsPermutation (unordered lines) xs → IsStableByKey item_event nat_cmp (unordered lines) xs → InOrder lines xs
 sort_orders lines xs f sorted perm stable = record {
   sorted = sorted;
   same = equal_parts (unordered lines) xs stable;
-  low = All-permutation (λ x. moment x < 2 * suc (latest (reverse lines))) (unordered lines) xs perm (all_low lines f);
+  low = All-permutation (λ x. item_event x < 2 * suc (latest (reverse lines))) (unordered lines) xs perm (all_low lines f);
 }
 
 -- WHAT IS MADE
@@ -362,22 +362,22 @@ allocs_stay lines xs f o =
     let ys = filter_map item_of lines in
     let ds = deaths_from 0 (died_by (reverse lines)) in
     let t = timed (reverse lines) f in
-    let low = subst (λ (v : List Item). All (λ x. moment x ≤ 2 * latest (reverse lines)) v) (happening_is lines) t.low in
-    same_by_key moment is_alloc (2 * suc (latest (reverse lines))) xs ys o.sorted (subst (λ (v : List Item). IsNonDecreasingBy moment v) (happening_is lines) t.sorted) o.low
+    let low = subst (λ (v : List Item). All (λ x. item_event x ≤ 2 * latest (reverse lines)) v) (happening_is lines) t.low in
+    same_by_key item_event is_alloc (2 * suc (latest (reverse lines))) xs ys o.sorted (subst (λ (v : List Item). IsNonDecreasingBy item_event v) (happening_is lines) t.sorted) o.low
     (λ k d lt. (let l = low k d lt in omega (arith, l)))
-    (λ m. ap (λ (v : List Item). filter is_alloc v) (o.same m ∙ filter-append (λ x. eqb (moment x) m) ys ds)
-    ∙ (filter-append is_alloc (equal moment m ys) (equal moment m ds)
-    ∙ (ap (λ (v : List Item). filter is_alloc (equal moment m ys) ++ v) (filter_swap is_alloc (λ x. eqb (moment x) m) ds ∙ ap (λ (v : List Item). equal moment m v) (no_alloc 0 (died_by (reverse lines))))
-    ∙ append-nil (filter is_alloc (equal moment m ys)))))
+    (λ m. ap (λ (v : List Item). filter is_alloc v) (o.same m ∙ filter-append (λ x. eqb (item_event x) m) ys ds)
+    ∙ (filter-append is_alloc (equal item_event m ys) (equal item_event m ds)
+    ∙ (ap (λ (v : List Item). filter is_alloc (equal item_event m ys) ++ v) (filter_swap is_alloc (λ x. eqb (item_event x) m) ds ∙ ap (λ (v : List Item). equal item_event m v) (no_alloc 0 (died_by (reverse lines))))
+    ∙ append-nil (filter is_alloc (equal item_event m ys)))))
 
 record AreMade (past : List TraceLine) (xs : List Item) : Type 0 where
-  pub many : length (made xs) ≡ objects past
-  pub numbered : (k : ℕ) → k < length (made xs) → get_or (made xs) k 0 ≡ k + 1
+  pub many : length (made_objects xs) ≡ objects past
+  pub numbered : (k : ℕ) → k < length (made_objects xs) → get_or (made_objects xs) k 0 ≡ k + 1
   pub small : All (λ size. size ≤ 2 ^ 30) (sizes xs)
 
 -- a line that makes nothing
 record MakesNone (past : List TraceLine) (line : TraceLine) : Type 0 where
-  pub no_made : made (filter_map item_of (line ∷ [])) ≡ []
+  pub no_made : made_objects (filter_map item_of (line ∷ [])) ≡ []
   pub no_sizes : sizes (filter_map item_of (line ∷ [])) ≡ []
   pub as_many : objects (line ∷ past) ≡ objects past
 
@@ -385,7 +385,7 @@ made_same : (past : List TraceLine) (line : TraceLine) → MakesNone past line �
 made_same past line n a =
     let xs = happening past in
     let new = filter_map item_of (line ∷ []) in
-    let made_is : made (happening (line ∷ past)) ≡ made xs = ap (λ (t : List Item). made t) (more_happening past line) ∙ (filter_map-append object_made xs new ∙ (ap (λ (t : List ℕ). made xs ++ t) n.no_made ∙ append-nil (made xs))) in
+    let made_is : made_objects (happening (line ∷ past)) ≡ made_objects xs = ap (λ (t : List Item). made_objects t) (more_happening past line) ∙ (filter_map-append object_made xs new ∙ (ap (λ (t : List ℕ). made_objects xs ++ t) n.no_made ∙ append-nil (made_objects xs))) in
     let sizes_is : sizes (happening (line ∷ past)) ≡ sizes xs = ap (λ (t : List Item). sizes t) (more_happening past line) ∙ (filter_map-append size_made xs new ∙ (ap (λ (t : List ℕ). sizes xs ++ t) n.no_sizes ∙ append-nil (sizes xs))) in
     record {
       many = ap (λ (t : List ℕ). length t) made_is ∙ (a.many ∙ sym n.as_many);
@@ -407,12 +407,12 @@ made_more past event thread object class size len next fits a =
     let xs = happening past in
     let line = Alloc event thread object class size len in
     let many = a.many in
-    let is : object ≡ length (made xs) + 1 = omega (arith, next, many) in
-    let made_is : made (happening (line ∷ past)) ≡ made xs ++ (length (made xs) + 1) ∷ [] = ap (λ (t : List Item). made t) (more_happening past line) ∙ (filter_map-append object_made xs (filter_map item_of (line ∷ [])) ∙ ap (λ (o : ℕ). made xs ++ o ∷ []) is) in
+    let is : object ≡ length (made_objects xs) + 1 = omega (arith, next, many) in
+    let made_is : made_objects (happening (line ∷ past)) ≡ made_objects xs ++ (length (made_objects xs) + 1) ∷ [] = ap (λ (t : List Item). made_objects t) (more_happening past line) ∙ (filter_map-append object_made xs (filter_map item_of (line ∷ [])) ∙ ap (λ (o : ℕ). made_objects xs ++ o ∷ []) is) in
     let sizes_is : sizes (happening (line ∷ past)) ≡ sizes xs ++ size ∷ [] = ap (λ (t : List Item). sizes t) (more_happening past line) ∙ filter_map-append size_made xs (filter_map item_of (line ∷ [])) in
     record {
-      many = ap (λ (t : List ℕ). length t) made_is ∙ (length-append (made xs) ((length (made xs) + 1) ∷ []) ∙ (let l = length-append (births past) (event ∷ []) in omega (arith, many, l)));
-      numbered = λ k lt. ap (λ (t : List ℕ). get_or t k 0) made_is ∙ numbered_push (made xs) k a.numbered (subst (λ (t : List ℕ). k < length t) made_is lt);
+      many = ap (λ (t : List ℕ). length t) made_is ∙ (length-append (made_objects xs) ((length (made_objects xs) + 1) ∷ []) ∙ (let l = length-append (births past) (event ∷ []) in omega (arith, many, l)));
+      numbered = λ k lt. ap (λ (t : List ℕ). get_or t k 0) made_is ∙ numbered_push (made_objects xs) k a.numbered (subst (λ (t : List ℕ). k < length t) made_is lt);
       small = subst (λ (t : List ℕ). All (λ s. s ≤ 2 ^ 30) t) (sym sizes_is) (All-push (λ s. s ≤ 2 ^ 30) (sizes xs) size a.small fits);
     }
 
@@ -425,7 +425,7 @@ made_on past (Alloc event thread object class size len) f a =
     let o = both_true (is_timely past event) (eqb object (objects past + 1)) g.ordered in
     made_more past event thread object class size len (eqb-yes object (objects past + 1) o.1) (let r = f.1 in omega arith) a
 made_on past (Update event thread object slot old new) f a = made_same past (Update event thread object slot old new) (record {
-  no_made = elim (eqb object 0) as (λ v. made (filter_map (λ (u : TraceLine). cond v None (Some (items.Write event object slot new))) (Update event thread object slot old new ∷ [])) ≡ []) [ true ↦ refl | false ↦ refl ];
+  no_made = elim (eqb object 0) as (λ v. made_objects (filter_map (λ (u : TraceLine). cond v None (Some (items.Write event object slot new))) (Update event thread object slot old new ∷ [])) ≡ []) [ true ↦ refl | false ↦ refl ];
   no_sizes = elim (eqb object 0) as (λ v. sizes (filter_map (λ (u : TraceLine). cond v None (Some (items.Write event object slot new))) (Update event thread object slot old new ∷ [])) ≡ []) [ true ↦ refl | false ↦ refl ];
   as_many = refl;
 }) a
@@ -449,7 +449,7 @@ makes_in_order lines xs f o =
     let lives_many = l.many in
     let same = sym (ap (λ (t : List Item). filter is_alloc t) (happening_is lines)) in
     let stay = allocs_stay lines xs f o ∙ same in
-    let made_is : made xs ≡ made (happening (reverse lines)) = sym (of_allocs object_made no_object xs) ∙ (ap (λ (t : List Item). made t) stay ∙ of_allocs object_made no_object (happening (reverse lines))) in
+    let made_is : made_objects xs ≡ made_objects (happening (reverse lines)) = sym (of_allocs object_made no_object xs) ∙ (ap (λ (t : List Item). made_objects t) stay ∙ of_allocs object_made no_object (happening (reverse lines))) in
     let sizes_is : sizes xs ≡ sizes (happening (reverse lines)) = sym (of_allocs size_made no_size_made xs) ∙ (ap (λ (t : List Item). sizes t) stay ∙ of_allocs size_made no_size_made (happening (reverse lines))) in
     let many = a.many in
     let long = ap (λ (t : List ℕ). length t) made_is in

@@ -21,7 +21,7 @@ MayCome objects past (Alloc event object size) = IsNewObject objects past object
 MayCome objects past _ = Unit {0}
 
 -- by some test that decides reachability there is still room
-pub record HasRoom (policy : Policy) (past : List Item) : Type 0 where
+pub record HasItemRoom (policy : Policy) (past : List Item) : Type 0 where
   pub reached : Graph → ℕ → Bool
   pub decides : Decides reached
   pub room : is_exhausted reached policy past ≡ false

@@ -13,13 +13,13 @@ size_in (_ ∷ past) object = size_in past object
 abbrev pub is_made : List Item → ℕ → Bool
 is_made past object = is_some (size_in past object)
 
-abbrev pub ends : ℕ → Item → Bool
-ends object (Death other time) = other == object
-ends object _ = false
+abbrev pub ends_life : ℕ → Item → Bool
+ends_life object (Death other time) = other == object
+ends_life object _ = false
 
 -- an Alloc item made the object, and no Death item ended it
 abbrev pub is_live : List Item → ℕ → Bool
-is_live past object = is_made past object && not (list_any (ends object) past)
+is_live past object = is_made past object && not (list_any (ends_life object) past)
 
 -- the bytes of a set of objects
 abbrev pub bytes : List Item → List ℕ → ℕ
@@ -33,10 +33,10 @@ content (Write event other at new ∷ past) object slot = if other == object && 
 content (_ ∷ past) object slot = content past object slot
 
 -- the slot of a Write item, as its object and what stands in it
-abbrev pub slot_of : List Item → Item → Option (ℕ × ℕ)
-slot_of past (Write event object slot new) = Some (object, content past object slot)
-slot_of past _ = None
+abbrev pub slot_written_by : List Item → Item → Option (ℕ × ℕ)
+slot_written_by past (Write event object slot new) = Some (object, content past object slot)
+slot_written_by past _ = None
 
 -- all slots that were written
 abbrev pub slots : List Item → List (ℕ × ℕ)
-slots past = filter_map (slot_of past) past
+slots past = filter_map (slot_written_by past) past

@@ -13,10 +13,10 @@ item_of (Update event thread object slot old new) = if object == 0 then None els
 item_of _ = None
 
 -- where the item stands: an even number for what happens at an event, and the next one for the deaths of its time
-abbrev pub moment : Item → ℕ
-moment (items.Alloc event object size) = 2 * event
-moment (items.Write event object slot new) = 2 * event
-moment (items.Death object time) = 2 * time + 1
+abbrev pub item_event : Item → ℕ
+item_event (items.Alloc event object size) = 2 * event
+item_event (items.Write event object slot new) = 2 * event
+item_event (items.Death object time) = 2 * time + 1
 
 -- the death of this object, where a D line tells of one
 abbrev pub death_of : ℕ → ℕ × ℕ → List Item

@@ -4,7 +4,7 @@ use Rattle.et_graph.specs.Graph.{Graph, Decides}
 use Rattle.et_replay.specs.declared.item.Item.{Item}
 use Rattle.et_replay.specs.declared.model.Policy.{Policy}
 use Rattle.et_replay.specs.declared.model.Report.{Report}
-use Rattle.et_replay.specs.Feeding.{HasRoom, MayCome}
+use Rattle.et_replay.specs.Feeding.{HasItemRoom, MayCome}
 use Rattle.et_replay.specs.Lines.{report_text}
 use Rattle.et_replay.specs.Tally.{tally, is_exhausted}
 
@@ -33,6 +33,6 @@ AllMayCome told past item = All (λ p. MayCome p.1 past item) told
 module _ {B : Type 0} (stands : B → Policy → ℕ → List Item → Type 0) where
   -- a model stands for the items, and there is room; or it is gone, and its report is final
   abbrev pub Sits : Option B → Option Report → Policy → ℕ → List Item → Type 0
-  Sits (Some model) report policy objects past = stands model policy objects past × HasRoom policy past
+  Sits (Some model) report policy objects past = stands model policy objects past × HasItemRoom policy past
   Sits None (Some report) policy objects past = IsFinal report policy past
   Sits None None policy objects past = ⊥

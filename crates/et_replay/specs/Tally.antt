@@ -9,7 +9,7 @@ use Rattle.et_replay.specs.declared.model.Kind.TheVariants.{MarkSweep, SemiSpace
 use Rattle.et_replay.specs.declared.model.Policy.{Policy}
 use Rattle.et_replay.specs.declared.model.Report.{Report}
 use Rattle.et_replay.specs.Heap.{is_live, bytes, slots}
-use Rattle.et_replay.specs.Items.{made}
+use Rattle.et_replay.specs.Items.{made_objects}
 
 -- The heap of a policy. A generational one has objects in its nursery and others in its old space; the other two have
 -- one space. Each number counts from 0.
@@ -31,8 +31,8 @@ abbrev pub empty_heap : Heap
 empty_heap = record { nursery = []; space = []; minor = 0; major = 0; kept = 0; freed = 0; peak = 0; exhausted = None }
 
 -- so many bytes fit beside the objects
-abbrev pub fits : List Item → List ℕ → ℕ → ℕ → Bool
-fits past objects size capacity = nat_le (bytes past objects + size) capacity
+abbrev pub fits_capacity : List Item → List ℕ → ℕ → ℕ → Bool
+fits_capacity past objects size capacity = nat_le (bytes past objects + size) capacity
 
 abbrev pub live_of : List Item → List ℕ → List ℕ
 live_of past objects = filter (is_live past) objects
@@ -64,8 +64,8 @@ place_young past object heap = peaked past (record heap { nursery = heap.nursery
 -- an object of this size comes into the space of this capacity; where it doesn't fit, there is a collection first
 abbrev pub place_with : (List Item → Heap → Heap) → ℕ → List Item → ℕ → ℕ → ℕ → Heap → Heap
 place_with collection capacity past event object size heap =
-    let ready = (if fits past heap.space size capacity then heap else collection past heap) in
-    if fits past ready.space size capacity then place (Alloc event object size ∷ past) object ready else exhaust event ready
+    let ready = (if fits_capacity past heap.space size capacity then heap else collection past heap) in
+    if fits_capacity past ready.space size capacity then place (Alloc event object size ∷ past) object ready else exhaust event ready
 
 -- MARK-SWEEP AND SEMISPACE: one space of this capacity
 
@@ -85,7 +85,7 @@ module _ (reached : Graph → ℕ → Bool) where
   -- roots, be they live or dead.
   abbrev pub nursery_graph : List Item → Heap → Graph
   nursery_graph past heap = record {
-    made = length (made past);
+    made = length (made_objects past);
     roots = live_of past heap.nursery ++ heap.space;
     pairs = filter (λ pair. list_any (λ object. object == pair.1) heap.nursery) (slots past);
     gone = [];
@@ -100,14 +100,14 @@ module _ (reached : Graph → ℕ → Bool) where
 
   -- a minor collection, and a major one where the old space is too full then
   abbrev pub minor_collection : ℕ → List Item → Heap → Heap
-  minor_collection old past heap = let next = promote past heap in if fits past next.space 0 old then next else sweep past next
+  minor_collection old past heap = let next = promote past heap in if fits_capacity past next.space 0 old then next else sweep past next
 
   -- an object comes into the nursery
   abbrev pub nursery_on : ℕ → ℕ → List Item → ℕ → ℕ → ℕ → Heap → Heap
   nursery_on nursery old past event object size heap =
-      if fits past heap.nursery size nursery then place_young (Alloc event object size ∷ past) object heap
+      if fits_capacity past heap.nursery size nursery then place_young (Alloc event object size ∷ past) object heap
       else (let ready = minor_collection old past heap in
-      if fits past ready.space 0 old then place_young (Alloc event object size ∷ past) object ready else exhaust event ready)
+      if fits_capacity past ready.space 0 old then place_young (Alloc event object size ∷ past) object ready else exhaust event ready)
 
   -- what is larger than the nursery goes to the old space
   abbrev pub generations_on : ℕ → ℕ → List Item → Item → Heap → Heap

@@ -1,7 +1,7 @@
 //! The timeline of a trace.
 ghost use Rattle.std.specs.Prelude.{◌≡◌, ◌<◌, ◌^◌, ◌++◌, ◌∷◌, [], length, IfOk, OnOk};
 ghost use Rattle.std.specs.List.{filter_map};
-ghost use Rattle.et_replay.specs.Parts.{item_of, moment, deaths_from};
+ghost use Rattle.et_replay.specs.Parts.{item_of, item_event, deaths_from};
 ghost use Rattle.et_replay.specs.Timeline.{timeline_items};
 
 use crate::item::{Item, Timeline};
@@ -42,7 +42,7 @@ fn item_of(line: &TraceLine) -> Option<Item>
 }
 
 fn moment(item: &Item) -> u128
-    ensures { result ≡ moment item.now }
+    ensures { result ≡ item_event item.now }
 {
     match item {
         Item::Alloc { event, .. } | Item::Write { event, .. } => 2 * u128::from(*event),

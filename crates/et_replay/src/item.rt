@@ -1,6 +1,6 @@
 //! What a trace says of the heap, in order of time.
 ghost use Rattle.std.specs.Prelude.{◌≡◌, ◌<◌, ◌≤◌, ◌^◌, ◌∷◌, [], length};
-ghost use Rattle.et_replay.specs.Items.{made, MakesInOrder};
+ghost use Rattle.et_replay.specs.Items.{made_objects, MakesInOrder};
 
 use std::marker::Model;
 
@@ -28,7 +28,7 @@ pub enum Item {
 }
 
 fn makes(item: &Item) -> u32
-    ensures { result ≡ length (made (item.now ∷ [])) }
+    ensures { result ≡ length (made_objects (item.now ∷ [])) }
 {
     match item {
         Item::Alloc { .. } => 1,
@@ -37,8 +37,8 @@ fn makes(item: &Item) -> u32
 }
 
 fn count_objects(items: &[Item]) -> u32
-    requires { length (made items.now) < 2 ^ 24 }
-    ensures { result ≡ length (made items.now) }
+    requires { length (made_objects items.now) < 2 ^ 24 }
+    ensures { result ≡ length (made_objects items.now) }
 {
     let mut objects = 0;
     for item in items {
@@ -77,7 +77,7 @@ impl Timeline {
 
     /// How many objects it makes, at most 16,777,215.
     pub fn objects(&self) -> u32
-        ensures count { result ≡ length (made self.now) }
+        ensures count { result ≡ length (made_objects self.now) }
         ensures few { result ≤ 16777215 }
     {
         count_objects(self.items())

@@ -1,7 +1,7 @@
 //! Models of the heap: policies, reports, and what each model keeps to.
 ghost use Rattle.std.specs.Prelude.{◌≡◌, ◌≤◌, ℕ, Bool, List, [], ◌∷◌, OnOk};
 ghost use Rattle.et_graph.specs.Graph.{Graph, Decides};
-ghost use Rattle.et_replay.specs.Feeding.{MayCome, HasRoom, OnTaken, TellsExhausted};
+ghost use Rattle.et_replay.specs.Feeding.{MayCome, HasItemRoom, OnTaken, TellsExhausted};
 ghost use Rattle.et_replay.specs.Tally.{tally, is_exhausted};
 ghost use Rattle.et_replay.specs.declared.item.Item.{Item};
 ghost use Rattle.et_replay.specs.declared.model.Kind.{Kind};
@@ -89,7 +89,7 @@ pub trait HeapModel: Drop {
     fn feed(&mut self, item: &Item) -> Fed
         requires stands { (policy : Policy)
             × (objects : ℕ) × (past : List Item) × stands_for self.old policy objects past
-            × HasRoom policy past × MayCome objects past item.now }
+            × HasItemRoom policy past × MayCome objects past item.now }
         ensures taken { (policy : Policy) (objects : ℕ) (past : List Item) →
             stands_for self.old policy objects past →
             OnTaken result (stands_for self.new policy objects (item.now ∷ past)) }

@@ -4,8 +4,8 @@ ghost use Rattle.std.specs.List.{flat_map, AllZip};
 ghost use Rattle.et_io.specs.Faults.{count_after, is_write_fault};
 ghost use Rattle.et_io.specs.Sink.{with_more, TakesPrefix};
 ghost use Rattle.et_graph.specs.Graph.{Graph, Decides};
-ghost use Rattle.et_replay.specs.Feeding.{HasRoom, MayCome};
-ghost use Rattle.et_replay.specs.Items.{made, MakesInOrder};
+ghost use Rattle.et_replay.specs.Feeding.{HasItemRoom, MayCome};
+ghost use Rattle.et_replay.specs.Items.{made_objects, MakesInOrder};
 ghost use Rattle.et_replay.specs.Lines.{report_text};
 ghost use Rattle.et_replay.specs.Replay.{replay_text};
 ghost use Rattle.et_replay.specs.Seats.{IsFinal, Sits, EachZip, Told, AllMayCome, told_line};
@@ -30,11 +30,11 @@ struct Seat {
 fn feed_model(model: &mut Box<dyn HeapModel>, item: &Item) -> Result<Option<Report>, NoMemory>
     requires { (policy : Policy)
         × (objects : ℕ) × (past : List Item) × stands_for model.old policy objects past
-        × HasRoom policy past × MayCome objects past item.now }
+        × HasItemRoom policy past × MayCome objects past item.now }
     ensures { (policy : Policy) (objects : ℕ) (past : List Item) →
         stands_for model.old policy objects past → IfOk result
         (λ report. MatchOption report (stands_for model.new policy objects (item.now ∷ past)
-        × HasRoom policy (item.now ∷ past)) (λ r. IsFinal r policy (item.now ∷ past))) }
+        × HasItemRoom policy (item.now ∷ past)) (λ r. IsFinal r policy (item.now ∷ past))) }
 {
     match model.feed(item) {
         Fed::Ok => Ok(None),
@@ -85,7 +85,7 @@ fn feed_items(seats: &mut [Seat], items: &[Item]) -> Result<(), NoMemory>
     requires made { MakesInOrder items.now }
     requires sit { (told : List Told) × EachZip
         (λ seat p. Sits (λ b. stands_for b) seat.model seat.report p.0 p.1 []) seats.old told
-        × All (λ p. length (made items.now) ≤ p.1) told }
+        × All (λ p. length (made_objects items.now) ≤ p.1) told }
     ensures { (told : List Told) → EachZip
         (λ seat p. Sits (λ b. stands_for b) seat.model seat.report p.0 p.1 []) seats.old told →
         OnOk result (EachZip (λ seat p. Sits
@@ -163,7 +163,7 @@ fn run(alloc: Global, seats: &mut [Seat], items: &[Item]) -> Result<Vec<u8>, NoM
     requires made { MakesInOrder items.now }
     requires sit { (told : List Told) × EachZip
         (λ seat p. Sits (λ b. stands_for b) seat.model seat.report p.0 p.1 []) seats.old told
-        × All (λ p. length (made items.now) ≤ p.1) told }
+        × All (λ p. length (made_objects items.now) ≤ p.1) told }
     ensures { (reached : Graph → ℕ → Bool) → Decides reached → (told : List Told) → EachZip
         (λ seat p. Sits (λ b. stands_for b) seat.model seat.report p.0 p.1 []) seats.old told →
         IfOk result (λ text. text.items ≡ flat_map (told_line reached (reverse items.now)) told) }
@@ -179,7 +179,7 @@ fn lines_of(
 ) -> Result<Vec<u8>, NoMemory>
     requires made { MakesInOrder items.now }
     requires told { (told : List Told) × EachZip (λ b p. stands_for b p.0 p.1 []) models.items told
-        × All (λ p. length (made items.now) ≤ p.1) told }
+        × All (λ p. length (made_objects items.now) ≤ p.1) told }
     ensures { (reached : Graph → ℕ → Bool) → Decides reached → (told : List Told) →
         EachZip (λ b p. stands_for b p.0 p.1 []) models.items told →
         IfOk result (λ text. text.items ≡ flat_map (told_line reached (reverse items.now)) told) }
@@ -201,7 +201,8 @@ pub fn replay<O: Sink>(
     sink: &mut O,
 ) -> Result<u32, RunFault>
     requires { (policies : List Policy) × AllZip (λ b policy. (objects : ℕ) × (length
-        (made timeline.now) ≤ objects) × stands_for b policy objects []) models.items policies }
+        (made_objects timeline.now) ≤ objects) × stands_for b policy objects []) models.items
+        policies }
     ensures ok { (reached : Graph → ℕ → Bool) → Decides reached → (policies : List Policy) →
         AllZip (λ b policy. (objects : ℕ) × stands_for b policy objects []) models.items policies →
         OnOk result (O.taken sink.new

@@ -21,9 +21,9 @@ use Rattle.et_loop.specs.Kept.{IsStepTo}
 use Rattle.et_loop.specs.Stamping.{StepsWhereDone}
 use Rattle.et_state.specs.Roots.{fresh_of}
 use Rattle.et_state.specs.Moves.{Led}
-use Rattle.et_run.specs.Telling.{HasElementClasses, IsTold}
+use Rattle.et_run.specs.Telling.{HasElementClasses, IsToldOf}
 use Rattle.et_history.specs.Changing.{LeadsToSound}
-use Rattle.et_history.specs.Settings.{names_of}
+use Rattle.et_history.specs.Settings.{names_of_program}
 
 led_steps : (s x : Kept) (m : MachineState) → Led s x m → IsStepTo (graph_of s) (graph_of (kept_of m)) m.lost
 led_steps s x m led = subst (λ (k : Kept). IsStepTo (graph_of s) (graph_of k) m.lost) (sym led.kept) (fresh_of s x, led.event.legal)
@@ -45,18 +45,18 @@ steps _ _ m m' out out' h = absurd h
 clock_is : (s next : Kept) (m : MachineState) → kept_of m ≡ next → next.guest.clock ≡ s.guest.clock + 1 → m.guest.clock ≡ s.guest.clock + 1
 clock_is s next m same is = ap (λ (k : Kept). k.guest.clock) same ∙ is
 
-pub ticks : (p : Linked) (o : Outcome Kept) (end : EventEnd) (m m' : MachineState) (out out' : List Record) → IsTold p (kept_of m) o → EventAnswers o end m m' out out' → TicksWhereDone end m.guest.clock m'.guest.clock
+pub ticks : (p : Linked) (o : Outcome Kept) (end : EventEnd) (m m' : MachineState) (out out' : List Record) → IsToldOf p (kept_of m) o → EventAnswers o end m m' out out' → TicksWhereDone end m.guest.clock m'.guest.clock
 ticks p (outcome.Goes next records) ends.Done m m' out out' told h = clock_is (kept_of m) next m' h.0.kept told.0
 ticks p (outcome.Waits next) ends.Waited m m' out out' told h = clock_is (kept_of m) next m' h.0.kept told
 ticks p (outcome.IllTyped method pc) (ends.IllTyped named at) m m' out out' told h = tt
 ticks p outcome.ObjectLimit ends.ObjectLimit m m' out out' told h = tt
 ticks p _ _ m m' out out' told h = absurd h
 
-pub named : (p : Linked) (o : Outcome Kept) (end : EventEnd) (m m' : MachineState) (out out' : List Record) → IsTold p (kept_of m) o → EventAnswers o end m m' out out' → All (IsNamed (names_of p)) out → All (IsNamed (names_of p)) out'
-named p (outcome.Goes next records) ends.Done m m' out out' told h before = subst (λ (rs : List Record). All (IsNamed (names_of p)) rs) (sym h.1) (All-append (IsNamed (names_of p)) out records before told.1)
-named p (outcome.Waits next) ends.Waited m m' out out' told h before = subst (λ (rs : List Record). All (IsNamed (names_of p)) rs) (sym h.1) before
-named p (outcome.IllTyped method pc) (ends.IllTyped there at) m m' out out' told h before = subst (λ (rs : List Record). All (IsNamed (names_of p)) rs) (sym h.3) before
-named p outcome.ObjectLimit ends.ObjectLimit m m' out out' told h before = subst (λ (rs : List Record). All (IsNamed (names_of p)) rs) (sym h.1) before
+pub named : (p : Linked) (o : Outcome Kept) (end : EventEnd) (m m' : MachineState) (out out' : List Record) → IsToldOf p (kept_of m) o → EventAnswers o end m m' out out' → All (IsNamed (names_of_program p)) out → All (IsNamed (names_of_program p)) out'
+named p (outcome.Goes next records) ends.Done m m' out out' told h before = subst (λ (rs : List Record). All (IsNamed (names_of_program p)) rs) (sym h.1) (All-append (IsNamed (names_of_program p)) out records before told.1)
+named p (outcome.Waits next) ends.Waited m m' out out' told h before = subst (λ (rs : List Record). All (IsNamed (names_of_program p)) rs) (sym h.1) before
+named p (outcome.IllTyped method pc) (ends.IllTyped there at) m m' out out' told h before = subst (λ (rs : List Record). All (IsNamed (names_of_program p)) rs) (sym h.3) before
+named p outcome.ObjectLimit ends.ObjectLimit m m' out out' told h before = subst (λ (rs : List Record). All (IsNamed (names_of_program p)) rs) (sym h.1) before
 named p _ _ m m' out out' told h before = absurd h
 
 -- what is left is sound, where the outcome is

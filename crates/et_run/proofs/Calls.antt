@@ -31,16 +31,16 @@ use Rattle.et_event.specs.declared.rows.CallRow.{CallRow}
 use Rattle.et_event.specs.declared.rows.CallRow.TheVariants as row
 use Rattle.et_event.specs.declared.rows.Operand.{Operand}
 use Rattle.et_event.specs.declared.errors.GuestError.TheVariants as errors
-use Rattle.et_event.specs.BuiltIns.{built_in_of, argument, answering, reference_in, with_referent_of, reference_of, starts, with_thread_for, has_ended, built_in_row, done_by, built_in_event}
-use Rattle.et_event.specs.Calls.{is_static_call, call_fits, with_type, with_method, taking, enters_method, is_of_owner, special_class, dispatched, is_as, invoke, with_returned, class_done_by, frame_returned, returned_by, return, call_event, entering, entry_arguments, enters_first, enters_run, entry_call}
-use Rattle.et_event.specs.Checks.{selected, ill_typed_unless, entries_of}
+use Rattle.et_event.specs.BuiltIns.{built_in_of, argument, answering, reference_in, with_referent_of, reference_of, starts_thread, with_thread_for, has_thread_ended, built_in_row, done_by, built_in_event}
+use Rattle.et_event.specs.Calls.{is_static_call, call_fits, with_type, with_method, taking, enters_method, is_of_owner, special_class, dispatched, is_as, invoke, with_returned, class_done_by, frame_returned, returned_by, return, call_event, entering_frame, entry_arguments, enters_first, enters_run, entry_call}
+use Rattle.et_event.specs.Checks.{after_selection, ill_typed_unless, entries_of}
 use Rattle.et_event.specs.Errors.{class_called, error_class}
 use Rattle.et_event.specs.Frames.{first_reference, receiver_of, frame_entered, method_frame, by_code, enters, frames_after_return}
 use Rattle.et_event.specs.Initialization.{with_state, prepared, is_ready, enters_clinit, step_by, initialization_step}
 use Rattle.et_event.specs.Kinds.{may_return}
-use Rattle.et_event.specs.Moments.{Moment, Doing, class_of, frame_of, thread_of, begins, told, with_frame, with_thread_state, next_object, instance_made, slot_written, ill_typed, ends, goes, throws}
+use Rattle.et_event.specs.Moments.{Moment, Doing, object_class, current_frame, thread_of, begins, told, with_frame, with_thread_state, next_object, instance_made, slot_written, ill_typed, ends_event, goes, throws}
 use Rattle.et_event.specs.Monitors.{Lock, lock_for, lock_in, may_enter_some, entered_some, owns, owns_some, left, left_some}
-use Rattle.et_event.specs.Sites.{Site, Member, member_of, names_interface, method_of, body_of}
+use Rattle.et_event.specs.Sites.{Site, Member, site_member, names_interface, running_method, present_body}
 use Rattle.et_event.specs.Sound.{IsStaged}
 use Rattle.et_event.specs.Throw.{caught, left_if_owned, dropped, is_error, replaced, failed, unwound, unwound_clinit, by_handler, handler_of, unwinds, unwinding_step}
 use Rattle.et_run.proofs.Members.{method_below, selected_method_below, special_method_below}
@@ -79,12 +79,12 @@ answering_told e at arguments values d h = frame_told e _ d h
 answered_told : (e : Moment) (at : Site) (arguments values : List Value) (d : Doing) → Tells e d → Told e (goes (answering e at arguments values d))
 answered_told e at arguments values d h = goes_told e (answering e at arguments values d) (answering_told e at arguments values d h)
 
-starts_told : (e : Moment) (d : Doing) (o : ℕ) (go : Outcome Kept) (k : Option ℕ) → Knows e → Tells e d → Told e go → Told e (starts e d o go k)
+starts_told : (e : Moment) (d : Doing) (o : ℕ) (go : Outcome Kept) (k : Option ℕ) → Knows e → Tells e d → Told e go → Told e (starts_thread e d o go k)
 starts_told e d o go (Some k) knows h g = throws_told e errors.IllegalThreadStateException d knows.makes h
 starts_told e d o go None knows h g = unless_thrown e d errors.OutOfMemoryError (nat_lt (length d.state.guest.threads) most_threads) go knows.makes h (λ few. g)
 
-on_told : (e : Moment) (d : Doing) (name : List ℕ) (o : ℕ) (go : Outcome Kept) → Told e go → Told e (ill_typed_unless e (is_subclass e.program (class_of d o) (class_called e.program name)) go)
-on_told e d name o go g = unless_ill_typed e (is_subclass e.program (class_of d o) (class_called e.program name)) go (λ is. g)
+on_told : (e : Moment) (d : Doing) (name : List ℕ) (o : ℕ) (go : Outcome Kept) → Told e go → Told e (ill_typed_unless e (is_subclass e.program (object_class d o) (class_called e.program name)) go)
+on_told e d name o go g = unless_ill_typed e (is_subclass e.program (object_class d o) (class_called e.program name)) go (λ is. g)
 
 built_in_told : (e : Moment) (at : Site) (d : Doing) (arguments : List Value) (o : ℕ) (b : BuiltIn) → Knows e → Tells e d → Told e (built_in_row e at d arguments o b)
 built_in_told e at d arguments o built.Nothing knows h = answered_told e at arguments [] d h
@@ -108,7 +108,7 @@ built_in_told e at d arguments o built.Start knows h =
     (starts_told e d o (goes (with_thread_for o x)) (thread_with d.state.guest.threads o) knows h
     (goes_told e (with_thread_for o x) (guest_told e (with_new_thread x.state.guest (new_thread None (Some o))) x refl there)))
 built_in_told e at d arguments o built.Join knows h =
-    unless_waiting e (has_ended d (thread_with d.state.guest.threads o)) _ (answered_told e at arguments [] d h)
+    unless_waiting e (has_thread_ended d (thread_with d.state.guest.threads o)) _ (answered_told e at arguments [] d h)
 built_in_told e at d arguments o built.SetReferent knows h =
     let x : Doing = answering e at arguments [] d in
     goes_told e (with_referent_of o (reference_of (argument arguments 1)) x) (referent_told e o (reference_of (argument arguments 1)) x (answering_told e at arguments [] d h))
@@ -134,7 +134,7 @@ method_told e at d arguments m knows lt h =
 
 -- INVOKES
 
-selected_told : (e : Moment) (at : Site) (arguments : List Value) (answer : Result ℕ LinkError) → Knows e → ((k : ℕ) → answer ≡ Ok k → k < length e.program.methods) → Told e (selected e (begins e) answer (enters_method e at (begins e) arguments))
+selected_told : (e : Moment) (at : Site) (arguments : List Value) (answer : Result ℕ LinkError) → Knows e → ((k : ℕ) → answer ≡ Ok k → k < length e.program.methods) → Told e (after_selection e (begins e) answer (enters_method e at (begins e) arguments))
 selected_told e at arguments answer knows below = where_resolved e (begins e) answer _ knows.makes (begun e) (λ k is. method_told e at (begins e) arguments k knows (below k is) (begun e))
 
 dispatched_told : (e : Moment) (at : Site) (kind : CallKind) (arguments : List Value) (named m : ℕ) → Knows e → m < length e.program.methods → Told e (dispatched e at kind arguments named m)
@@ -143,14 +143,14 @@ dispatched_told e at Static arguments named m knows lt =
 dispatched_told e at Virtual arguments named m knows lt =
     where_not_null e (begins e) (first_reference arguments) _ knows.makes (begun e) (λ o.
     unless_ill_typed e (is_of_owner e (begins e) m o) _ (λ is.
-    selected_told e at arguments (select e.program (class_of (begins e) o) m false) knows (λ k found. selected_method_below e.program (class_of (begins e) o) m false k lt found)))
+    selected_told e at arguments (select e.program (object_class (begins e) o) m false) knows (λ k found. selected_method_below e.program (object_class (begins e) o) m false k lt found)))
 dispatched_told e at Special arguments named m knows lt =
     where_not_null e (begins e) (first_reference arguments) _ knows.makes (begun e) (λ o.
     unless_ill_typed e (is_of_owner e (begins e) m o) _ (λ is.
     selected_told e at arguments (select_special e.program at.class (special_class e.program named) m) knows (λ k found. special_method_below e.program at.class (special_class e.program named) m k lt found)))
 dispatched_told e at Interface arguments named m knows lt =
     where_not_null e (begins e) (first_reference arguments) _ knows.makes (begun e) (λ o.
-    selected_told e at arguments (select e.program (class_of (begins e) o) m true) knows (λ k found. selected_method_below e.program (class_of (begins e) o) m true k lt found))
+    selected_told e at arguments (select e.program (object_class (begins e) o) m true) knows (λ k found. selected_method_below e.program (object_class (begins e) o) m true k lt found))
 
 type_told : (e : Moment) (t : Option MethodType) (go : MethodType → Outcome Kept) → ((x : MethodType) → Told e (go x)) → Told e (with_type e t go)
 type_told e None go h = tt
@@ -162,7 +162,7 @@ named_told e (Some m) go h = type_told e (method_type m.descriptor) (go m) (h m)
 
 invoke_told : (e : Moment) (at : Site) (kind : CallKind) → Knows e → Told e (invoke e at kind)
 invoke_told e at kind knows =
-    named_told e (member_of at) _ (λ m type.
+    named_told e (site_member at) _ (λ m type.
     unless_ill_typed e (call_fits e (is_static_call kind) type) _ (λ fits.
     where_resolved e (begins e) (resolve_class e.program m.owner) _ knows.makes (begun e) (λ owner is.
     where_resolved e (begins e) (resolve_method e.program owner (names_interface at) m.name m.descriptor) _ knows.makes (begun e) (λ method found.
@@ -190,10 +190,10 @@ class_done_told e Plain d h = h
 class_done_told e (Before c) d h = h
 class_done_told e (Clinit c) d h = state_told e c Done d h
 
-returned_told : (e : Moment) (values : List Value) → IsMethodOf e.program (unwrap_or (frame_of e).method 0) → Told e (goes (frame_returned e values (begins e)))
+returned_told : (e : Moment) (values : List Value) → IsMethodOf e.program (unwrap_or (current_frame e).method 0) → Told e (goes (frame_returned e values (begins e)))
 returned_told e values is =
-    let f : FrameState = frame_of e in
-    let lock : Option Lock = lock_in f.stage (method_of e.program f) f.lock in
+    let f : FrameState = current_frame e in
+    let lock : Option Lock = lock_in f.stage (running_method e.program f) f.lock in
     let x : Doing = class_done_by f.stage (left_some lock (begins e)) in
     let there : Tells e x = class_done_told e f.stage (left_some lock (begins e)) (left_some_told e lock (begins e) (begun e)) in
     let t : ThreadState = record (thread_of e) { frames = frames_after_return e.program f.stage values (rest_of (thread_of e).frames) } in
@@ -203,24 +203,24 @@ with_returned_told : (e : Moment) (kind : Option Operand) (ops : List Value) (go
 with_returned_told e None ops go h = h []
 with_returned_told e (Some kind) ops go h = any_value (Told e) (ill_typed e) tt (Some kind) ops (λ v below. go (entries_of v)) (λ v below. h (entries_of v))
 
-return_told : (e : Moment) (kind : Option Operand) → Knows e → IsMethodOf e.program (unwrap_or (frame_of e).method 0) → Told e (return e kind)
+return_told : (e : Moment) (kind : Option Operand) → Knows e → IsMethodOf e.program (unwrap_or (current_frame e).method 0) → Told e (return e kind)
 return_told e kind knows is =
     unless_ill_typed e (may_return kind (returned_by e)) _ (λ may.
-    with_returned_told e kind (frame_of e).operands _ (λ values.
-    unless_thrown e (begins e) errors.IllegalMonitorStateException (owns_some e (begins e) (lock_in (frame_of e).stage (method_of e.program (frame_of e)) (frame_of e).lock)) _ knows.makes (begun e) (λ owned. returned_told e values is)))
+    with_returned_told e kind (current_frame e).operands _ (λ values.
+    unless_thrown e (begins e) errors.IllegalMonitorStateException (owns_some e (begins e) (lock_in (current_frame e).stage (running_method e.program (current_frame e)) (current_frame e).lock)) _ knows.makes (begun e) (λ owned. returned_told e values is)))
 
-pub call_told : (e : Moment) (at : Site) (r : CallRow) → Knows e → IsMethodOf e.program (unwrap_or (frame_of e).method 0) → Told e (call_event e at r)
+pub call_told : (e : Moment) (at : Site) (r : CallRow) → Knows e → IsMethodOf e.program (unwrap_or (current_frame e).method 0) → Told e (call_event e at r)
 call_told e at (row.Invoke kind) knows is = invoke_told e at kind knows
 call_told e at (row.Return kind) knows is = return_told e kind knows is
 
 -- ENTRY
 
-entering_told : (e : Moment) (d : Doing) → Tells e d → Tells e (entering e d)
+entering_told : (e : Moment) (d : Doing) → Tells e d → Tells e (entering_frame e d)
 entering_told e d h = thread_told e (as_entered (thread_at d.state.guest e.thread)) d h
 
 first_told : (e : Moment) (d : Doing) (arguments : List Value) (m : ℕ) → Knows e → m < length e.program.methods → Tells e d → Told e (enters_first e d arguments m)
 first_told e d arguments m knows lt h =
-    enters_told e d (entering e) m arguments (throws e errors.AbstractMethodError d) knows lt h (λ x g. entering_told e x g) (throws_told e errors.AbstractMethodError d knows.makes h)
+    enters_told e d (entering_frame e) m arguments (throws e errors.AbstractMethodError d) knows lt h (λ x g. entering_told e x g) (throws_told e errors.AbstractMethodError d knows.makes h)
 
 run_told : (e : Moment) (o : Option ℕ) → Knows e → Told e (enters_run e o)
 run_told e None knows = tt
@@ -228,8 +228,8 @@ run_told e (Some o) knows =
     let thread : ℕ = class_called e.program (codes "java/lang/Thread") in
     where_resolved e (begins e) (resolve_method e.program thread false (codes "run") (codes "()V")) _ knows.makes (begun e) (λ m found.
     unless_ill_typed e (is_of_owner e (begins e) m o) _ (λ is.
-    where_resolved e (begins e) (select e.program (class_of (begins e) o) m false) _ knows.makes (begun e) (λ k selected.
-    first_told e (begins e) (Ref o ∷ []) k knows (selected_method_below e.program (class_of (begins e) o) m false k (method_below e.program thread false (codes "run") (codes "()V") m found) selected) (begun e))))
+    where_resolved e (begins e) (select e.program (object_class (begins e) o) m false) _ knows.makes (begun e) (λ k after_selection.
+    first_told e (begins e) (Ref o ∷ []) k knows (selected_method_below e.program (object_class (begins e) o) m false k (method_below e.program thread false (codes "run") (codes "()V") m found) after_selection) (begun e))))
 
 pub entry_told : (e : Moment) → Knows e → Told e (entry_call e)
 entry_told e knows =
@@ -260,35 +260,35 @@ failed_told e c o d knows h =
     if_case (Tells e) (is_error e o) x (replaced e o x) there (replaced_told e o x knows there)
 
 caught_told : (e : Moment) (o handler : ℕ) → Told e (caught e o handler)
-caught_told e o handler = unless_ill_typed e (nat_lt 0 (frame_of e).room) _ (λ fits. goes_told e (with_thread_state e (thread_of e) (begins e)) (thread_told e (thread_of e) (begins e) (begun e)))
+caught_told e o handler = unless_ill_typed e (nat_lt 0 (current_frame e).room) _ (λ fits. goes_told e (with_thread_state e (thread_of e) (begins e)) (thread_told e (thread_of e) (begins e) (begun e)))
 
 handler_told : (e : Moment) (o : ℕ) (other : Outcome Kept) (r : Option TableRow) → Told e other → Told e (by_handler e o other r)
 handler_told e o other (Some r) h = caught_told e o r.handler
 handler_told e o other None h = h
 
-plain_told : (e : Moment) (o : ℕ) → IsMethodOf e.program (unwrap_or (frame_of e).method 0) → Told e (unwound e o)
+plain_told : (e : Moment) (o : ℕ) → IsMethodOf e.program (unwrap_or (current_frame e).method 0) → Told e (unwound e o)
 plain_told e o is =
-    let f : FrameState = frame_of e in
-    let lock : Option Lock = lock_in f.stage (method_of e.program f) f.lock in
+    let f : FrameState = current_frame e in
+    let lock : Option Lock = lock_in f.stage (running_method e.program f) f.lock in
     let x : Doing = dropped e (left_if_owned e lock (begins e)) in
     goes_told e (told (Unwind (begins e).state.guest.clock e.thread (unwrap_or f.method 0) o) x)
     (record_told e _ x (unwind_named e.program _ _ (unwrap_or f.method 0) _ is) (dropped_told e (left_if_owned e lock (begins e)) (owned_told e lock (begins e) (begun e))))
 
-clinit_told : (e : Moment) (c o : ℕ) → Knows e → IsMethodOf e.program (unwrap_or (frame_of e).method 0) → Told e (unwound_clinit e c o)
+clinit_told : (e : Moment) (c o : ℕ) → Knows e → IsMethodOf e.program (unwrap_or (current_frame e).method 0) → Told e (unwound_clinit e c o)
 clinit_told e c o knows is =
-    let x : Doing = told (Unwind (begins e).state.guest.clock e.thread (unwrap_or (frame_of e).method 0) o) (dropped e (begins e)) in
-    ends_told e (failed e c o x) (failed_told e c o x knows (record_told e _ (dropped e (begins e)) (unwind_named e.program _ _ (unwrap_or (frame_of e).method 0) _ is) (dropped_told e (begins e) (begun e))))
+    let x : Doing = told (Unwind (begins e).state.guest.clock e.thread (unwrap_or (current_frame e).method 0) o) (dropped e (begins e)) in
+    ends_told e (failed e c o x) (failed_told e c o x knows (record_told e _ (dropped e (begins e)) (unwind_named e.program _ _ (unwrap_or (current_frame e).method 0) _ is) (dropped_told e (begins e) (begun e))))
 
-unwinds_told : (e : Moment) (o : ℕ) (stage : Stage) → Knows e → (IsInMethod stage → IsMethodOf e.program (unwrap_or (frame_of e).method 0)) → Told e (unwinds e o stage)
+unwinds_told : (e : Moment) (o : ℕ) (stage : Stage) → Knows e → (IsInMethod stage → IsMethodOf e.program (unwrap_or (current_frame e).method 0)) → Told e (unwinds e o stage)
 unwinds_told e o Plain knows is =
-    handler_told e o (unwound e o) (handler_of e.program (frame_of e) (class_of (begins e) o)) (plain_told e o (is tt))
+    handler_told e o (unwound e o) (handler_of e.program (current_frame e) (object_class (begins e) o)) (plain_told e o (is tt))
 unwinds_told e o (Before c) knows is = ends_told e (failed e c o (dropped e (begins e))) (failed_told e c o (dropped e (begins e)) knows (dropped_told e (begins e) (begun e)))
 unwinds_told e o (Clinit c) knows is =
-    handler_told e o (unwound_clinit e c o) (handler_of e.program (frame_of e) (class_of (begins e) o)) (clinit_told e c o knows (is tt))
+    handler_told e o (unwound_clinit e c o) (handler_of e.program (current_frame e) (object_class (begins e) o)) (clinit_told e c o knows (is tt))
 
-pub unwinding_told : (e : Moment) (o : Option ℕ) → Knows e → (IsInMethod (frame_of e).stage → IsMethodOf e.program (unwrap_or (frame_of e).method 0)) → Told e (unwinding_step e o)
+pub unwinding_told : (e : Moment) (o : Option ℕ) → Knows e → (IsInMethod (current_frame e).stage → IsMethodOf e.program (unwrap_or (current_frame e).method 0)) → Told e (unwinding_step e o)
 unwinding_told e None knows is = tt
-unwinding_told e (Some o) knows is = unwinds_told e o (frame_of e).stage knows is
+unwinding_told e (Some o) knows is = unwinds_told e o (current_frame e).stage knows is
 
 -- A STEP OF AN INITIALIZER
 
@@ -296,12 +296,12 @@ clinit_entered_told : (e : Moment) (c : ℕ) (m : Option ℕ) (d : Doing) → Kn
 clinit_entered_told e c None d knows lt h =
     ends_told e _ (thread_told e (without_top (thread_at d.state.guest e.thread)) (with_state c Done d) (state_told e c Done d h))
 clinit_entered_told e c (Some m) d knows lt h =
-    let body : Body = body_of (method_at e.program m).code in
-    let x : Doing = with_frame e (in_clinit m body.max_stack body.max_locals (frame_of e)) d in
+    let body : Body = present_body (method_at e.program m).code in
+    let x : Doing = with_frame e (in_clinit m body.max_stack body.max_locals (current_frame e)) d in
     ends_told e (told (Enter d.state.guest.clock e.thread m 0) x) (record_told e (Enter d.state.guest.clock e.thread m 0) x (enter_named e.program _ _ m _ (is_method e m knows lt)) (frame_told e _ d h))
 
 by_blocker_told : (e : Moment) (c : ℕ) (d : Doing) (blocker : Option ℕ) → Knows e → IfSome (class_at e.program c).info.clinit (λ k. k < length e.program.methods) → Tells e d → Told e (step_by e c d blocker)
-by_blocker_told e c d (Some k) knows lt h = initialized_told e d k ends knows.makes h (λ x g. ends_told e x g)
+by_blocker_told e c d (Some k) knows lt h = initialized_told e d k ends_event knows.makes h (λ x g. ends_told e x g)
 by_blocker_told e c d None knows lt h = clinit_entered_told e c (class_at e.program c).info.clinit d knows lt h
 
 clinit_within : (e : Moment) (c : ℕ) → Knows e → c < length e.program.classes → IfSome (class_at e.program c).info.clinit (λ k. k < length e.program.methods)

@@ -11,7 +11,7 @@ use Rattle.et_program.specs.Entries.{ClassEntry, no_class, class_at, field_at}
 use Rattle.et_program.specs.Members.{is_base_array, base_array, is_subclass}
 use Rattle.et_program.specs.Types.{passes}
 use Rattle.et_program.specs.Resolution.{resolve_class, resolve_field}
-use Rattle.et_program.specs.Tables.{IsWithin, IsTabled}
+use Rattle.et_program.specs.Tables.{IsWithinTables, IsTabled}
 use Rattle.et_program.specs.declared.info.Element.{Element}
 use Rattle.et_program.specs.declared.info.Element.TheVariants.{NoArray, Base, Class}
 use Rattle.et_program.proofs.PlaceLemmas.{position_within}
@@ -28,12 +28,12 @@ use Rattle.et_event.specs.declared.rows.Number.{Number}
 use Rattle.et_event.specs.declared.rows.Number.TheVariants as number
 use Rattle.et_event.specs.declared.errors.GuestError.TheVariants as errors
 use Rattle.et_event.specs.Checks.{Reference}
-use Rattle.et_event.specs.Heap.{naturals, field_fits, is_static_field, element_of, length_of, passes_element, may_be_made, leaving, with_field, with_class, with_holder, with_element, resolved_class, resolved_field, get_static, put_static, get_field, put_field, load_element, store_element, array_length, new_instance, new_array_of, new_array, new_reference_array, with_lengths, element_class, filled, arrays_made, new_multi_array, cast, tested, heap_event}
-use Rattle.et_event.specs.Moments.{Moment, Doing, class_of, frame_of, thread_of, begins, next_object, instance_made, array_made, slot_written, static_written, pending_now, with_frame, with_thread_state, ill_typed, ends, goes}
-use Rattle.et_event.specs.Kinds.{narrowed, are_elements, in_bounds, is_array, kept_element, kind_of_elements}
+use Rattle.et_event.specs.Heap.{naturals, field_fits, is_static_at, element_of_array, length_of, passes_element, may_be_made, leaving_values, with_field, with_class, with_holder, with_element, resolved_class, resolved_field, get_static, put_static, get_field, put_field, load_element, store_element, array_length, new_instance, new_array_of, new_array, new_reference_array, with_lengths, element_class, filled, arrays_made, new_multi_array, cast, type_tested, heap_event}
+use Rattle.et_event.specs.Moments.{Moment, Doing, object_class, current_frame, thread_of, begins, next_object, instance_made, array_made, slot_written, static_written, pending_now, with_frame, with_thread_state, ill_typed, ends_event, goes}
+use Rattle.et_event.specs.Kinds.{narrowed, are_elements, in_bounds, is_array_element, kept_element, kind_of_elements}
 use Rattle.et_event.specs.Monitors.{OfObject, may_enter, owns, entered, left}
 use Rattle.et_event.specs.Plain.{on_frame, constant, divided, quotient, divides, put}
-use Rattle.et_event.specs.Sites.{Site, Member, LoadedConstant, AnInt, ALong, AString, member_of, class_operand, natural}
+use Rattle.et_event.specs.Sites.{Site, Member, LoadedConstant, AnInt, ALong, AString, site_member, class_operand, natural_of}
 use Rattle.et_event.specs.Strings.{interned}
 use Rattle.et_event.specs.Sync.{monitor_event, end_of_thread}
 use Rattle.et_event.specs.Throw.{is_throwable, throw}
@@ -57,7 +57,7 @@ or_first (Some c) n some h = h
 
 array_within : (e : Moment) (class : ℕ) → Knows e → class < length e.program.classes → unwrap_or (class_at e.program class).array 0 < length e.program.classes
 array_within e class knows lt =
-    let within : IsWithin (length e.program.classes) (class_at e.program class) = All-get_or (IsWithin (length e.program.classes)) e.program.classes class no_class lt knows.tabled.classes in
+    let within : IsWithinTables (length e.program.classes) (class_at e.program class) = All-get_or (IsWithinTables (length e.program.classes)) e.program.classes class no_class lt knows.tabled.classes in
     or_first (class_at e.program class).array (length e.program.classes) (some_class e knows) within.array
 
 base_within : (e : Moment) (kind : ℕ) → Knows e → unwrap_or (base_array e.program kind) 0 < length e.program.classes
@@ -69,23 +69,23 @@ element_within e class NoArray knows lt is = some_class e knows
 element_within e class (Base kind) knows lt is = some_class e knows
 element_within e class (Class k) knows lt is = knows.elements class k lt is
 
-leaving_told : (e : Moment) (at : Site) (ops : List Value) (d : Doing) → Tells e d → Tells e (leaving e at ops d)
-leaving_told e at ops d h = frame_told e (record (frame_of e) { pc = at.next; operands = ops }) d h
+leaving_told : (e : Moment) (at : Site) (ops : List Value) (d : Doing) → Tells e d → Tells e (leaving_values e at ops d)
+leaving_told e at ops d h = frame_told e (record (current_frame e) { pc = at.next; operands = ops }) d h
 
-done_told : (e : Moment) (at : Site) (ops : List Value) → Told e (goes (leaving e at ops (begins e)))
-done_told e at ops = goes_told e (leaving e at ops (begins e)) (leaving_told e at ops (begins e) (begun e))
+done_told : (e : Moment) (at : Site) (ops : List Value) → Told e (goes (leaving_values e at ops (begins e)))
+done_told e at ops = goes_told e (leaving_values e at ops (begins e)) (leaving_told e at ops (begins e) (begun e))
 
-ended_told : (e : Moment) (at : Site) (ops : List Value) (d : Doing) → Tells e d → Told e (ends (leaving e at ops d))
-ended_told e at ops d h = ends_told e (leaving e at ops d) (leaving_told e at ops d h)
+ended_told : (e : Moment) (at : Site) (ops : List Value) (d : Doing) → Tells e d → Told e (ends_event (leaving_values e at ops d))
+ended_told e at ops d h = ends_told e (leaving_values e at ops d) (leaving_told e at ops d h)
 
-ended_frame_told : (e : Moment) (f : FrameState) (d : Doing) → Tells e d → Told e (ends (with_frame e f d))
+ended_frame_told : (e : Moment) (f : FrameState) (d : Doing) → Tells e d → Told e (ends_event (with_frame e f d))
 ended_frame_told e f d h = ends_told e (with_frame e f d) (frame_told e f d h)
 
-ended_static_told : (e : Moment) (at : Site) (i : ℕ) (v : Value) (ops : List Value) (d : Doing) → Tells e d → Told e (ends (static_written e i v (leaving e at ops d)))
-ended_static_told e at i v ops d h = ends_told e (static_written e i v (leaving e at ops d)) (static_told e i v (leaving e at ops d) (leaving_told e at ops d h))
+ended_static_told : (e : Moment) (at : Site) (i : ℕ) (v : Value) (ops : List Value) (d : Doing) → Tells e d → Told e (ends_event (static_written e i v (leaving_values e at ops d)))
+ended_static_told e at i v ops d h = ends_told e (static_written e i v (leaving_values e at ops d)) (static_told e i v (leaving_values e at ops d) (leaving_told e at ops d h))
 
-written_told : (e : Moment) (at : Site) (o i : ℕ) (v : Value) (ops : List Value) → Told e (goes (slot_written e o i v (leaving e at ops (begins e))))
-written_told e at o i v ops = goes_told e (slot_written e o i v (leaving e at ops (begins e))) (slot_told e o i v (leaving e at ops (begins e)) (leaving_told e at ops (begins e) (begun e)))
+written_told : (e : Moment) (at : Site) (o i : ℕ) (v : Value) (ops : List Value) → Told e (goes (slot_written e o i v (leaving_values e at ops (begins e))))
+written_told e at o i v ops = goes_told e (slot_written e o i v (leaving_values e at ops (begins e))) (slot_told e o i v (leaving_values e at ops (begins e)) (leaving_told e at ops (begins e) (begun e)))
 
 -- WHAT IS NAMED
 
@@ -108,39 +108,39 @@ field_resolved e m go knows h =
 
 get_static_told : (e : Moment) (at : Site) → Knows e → Told e (get_static e at)
 get_static_told e at knows =
-    field_told e (member_of at) _ (λ m.
-    unless_ill_typed e (field_fits e (frame_of e).operands m) _ (λ fits.
+    field_told e (site_member at) _ (λ m.
+    unless_ill_typed e (field_fits e (current_frame e).operands m) _ (λ fits.
     field_resolved e m _ knows (λ f.
-    unless_thrown e (begins e) errors.IncompatibleClassChangeError (is_static_field e.program f) _ knows.makes (begun e) (λ static.
+    unless_thrown e (begins e) errors.IncompatibleClassChangeError (is_static_at e.program f) _ knows.makes (begun e) (λ static.
     initialized_told e (begins e) (field_at e.program f).class _ knows.makes (begun e) (λ d h. ended_told e at _ d h)))))
 
 put_static_told : (e : Moment) (at : Site) → Knows e → Told e (put_static e at)
 put_static_told e at knows =
-    field_told e (member_of at) _ (λ m.
-    any_value (Told e) (ill_typed e) tt _ (frame_of e).operands _ (λ v below.
+    field_told e (site_member at) _ (λ m.
+    any_value (Told e) (ill_typed e) tt _ (current_frame e).operands _ (λ v below.
     field_resolved e m _ knows (λ f.
-    unless_thrown e (begins e) errors.IncompatibleClassChangeError (is_static_field e.program f) _ knows.makes (begun e) (λ static.
+    unless_thrown e (begins e) errors.IncompatibleClassChangeError (is_static_at e.program f) _ knows.makes (begun e) (λ static.
     initialized_told e (begins e) (field_at e.program f).class _ knows.makes (begun e) (λ d h. ended_static_told e at (field_at e.program f).slot (narrowed m.descriptor v) below d h)))))
 
 holder_told : (e : Moment) (f : ℕ) (r : Reference) (go : ℕ → Outcome Kept) → Knows e → ((o : ℕ) → Told e (go o)) → Told e (with_holder e (begins e) f r go)
-holder_told e f r go knows h = where_not_null e (begins e) r _ knows.makes (begun e) (λ o. unless_ill_typed e (is_subclass e.program (class_of (begins e) o) (field_at e.program f).class) (go o) (λ is. h o))
+holder_told e f r go knows h = where_not_null e (begins e) r _ knows.makes (begun e) (λ o. unless_ill_typed e (is_subclass e.program (object_class (begins e) o) (field_at e.program f).class) (go o) (λ is. h o))
 
 get_field_told : (e : Moment) (at : Site) → Knows e → Told e (get_field e at)
 get_field_told e at knows =
-    field_told e (member_of at) _ (λ m.
-    any_reference (Told e) (ill_typed e) tt (frame_of e).operands _ (λ r below.
+    field_told e (site_member at) _ (λ m.
+    any_reference (Told e) (ill_typed e) tt (current_frame e).operands _ (λ r below.
     unless_ill_typed e (field_fits e below m) _ (λ fits.
     field_resolved e m _ knows (λ f.
-    unless_thrown e (begins e) errors.IncompatibleClassChangeError (not (is_static_field e.program f)) _ knows.makes (begun e) (λ instance.
+    unless_thrown e (begins e) errors.IncompatibleClassChangeError (not (is_static_at e.program f)) _ knows.makes (begun e) (λ instance.
     holder_told e f r _ knows (λ o. done_told e at []))))))
 
 put_field_told : (e : Moment) (at : Site) → Knows e → Told e (put_field e at)
 put_field_told e at knows =
-    field_told e (member_of at) _ (λ m.
-    any_value (Told e) (ill_typed e) tt _ (frame_of e).operands _ (λ v more.
+    field_told e (site_member at) _ (λ m.
+    any_value (Told e) (ill_typed e) tt _ (current_frame e).operands _ (λ v more.
     any_reference (Told e) (ill_typed e) tt more _ (λ r below.
     field_resolved e m _ knows (λ f.
-    unless_thrown e (begins e) errors.IncompatibleClassChangeError (not (is_static_field e.program f)) _ knows.makes (begun e) (λ instance.
+    unless_thrown e (begins e) errors.IncompatibleClassChangeError (not (is_static_at e.program f)) _ knows.makes (begun e) (λ instance.
     holder_told e f r _ knows (λ o. written_told e at o (field_at e.program f).slot (narrowed m.descriptor v) below))))))
 
 -- ELEMENTS
@@ -148,35 +148,35 @@ put_field_told e at knows =
 element_told : (e : Moment) (kind : Elements) (r : Reference) (i : ℤ) (go : ℕ → Outcome Kept) → Knows e → ((o : ℕ) → Told e (go o)) → Told e (with_element e kind r i go)
 element_told e kind r i go knows h =
     where_not_null e (begins e) r _ knows.makes (begun e) (λ o.
-    unless_ill_typed e (are_elements kind (element_of e o)) _ (λ is.
+    unless_ill_typed e (are_elements kind (element_of_array e o)) _ (λ is.
     unless_thrown e (begins e) errors.ArrayIndexOutOfBoundsException (in_bounds i (length_of e o)) (go o) knows.makes (begun e) (λ within. h o)))
 
 load_element_told : (e : Moment) (at : Site) (kind : Elements) → Knows e → Told e (load_element e at kind)
 load_element_told e at kind knows =
-    any_int (Told e) (ill_typed e) tt (frame_of e).operands _ (λ i more.
+    any_int (Told e) (ill_typed e) tt (current_frame e).operands _ (λ i more.
     any_reference (Told e) (ill_typed e) tt more _ (λ r below.
     element_told e kind r i _ knows (λ o. done_told e at [])))
 
 store_element_told : (e : Moment) (at : Site) (kind : Elements) → Knows e → Told e (store_element e at kind)
 store_element_told e at kind knows =
-    any_value (Told e) (ill_typed e) tt (Some (kind_of_elements kind)) (frame_of e).operands _ (λ v most.
+    any_value (Told e) (ill_typed e) tt (Some (kind_of_elements kind)) (current_frame e).operands _ (λ v most.
     any_int (Told e) (ill_typed e) tt most _ (λ i more.
     any_reference (Told e) (ill_typed e) tt more _ (λ r below.
     element_told e kind r i _ knows (λ o.
-    unless_thrown e (begins e) errors.ArrayStoreException (passes_element e v (element_of e o)) (goes (slot_written e o (natural i) (kept_element kind v) (leaving e at below (begins e)))) knows.makes (begun e) (λ passed. written_told e at o (natural i) (kept_element kind v) below)))))
+    unless_thrown e (begins e) errors.ArrayStoreException (passes_element e v (element_of_array e o)) (goes (slot_written e o (natural_of i) (kept_element kind v) (leaving_values e at below (begins e)))) knows.makes (begun e) (λ passed. written_told e at o (natural_of i) (kept_element kind v) below)))))
 
 array_length_told : (e : Moment) (at : Site) → Knows e → Told e (array_length e at)
 array_length_told e at knows =
-    any_reference (Told e) (ill_typed e) tt (frame_of e).operands _ (λ r below.
+    any_reference (Told e) (ill_typed e) tt (current_frame e).operands _ (λ r below.
     where_not_null e (begins e) r _ knows.makes (begun e) (λ o.
-    unless_ill_typed e (is_array (element_of e o)) _ (λ is. done_told e at [])))
+    unless_ill_typed e (is_array_element (element_of_array e o)) _ (λ is. done_told e at [])))
 
 -- MAKING
 
 new_told : (e : Moment) (at : Site) → Knows e → Told e (new_instance e at)
 new_told e at knows =
     class_told e (class_operand at) _ (λ name.
-    unless_ill_typed e (nat_le (1 + length (frame_of e).operands) (frame_of e).room) _ (λ fits.
+    unless_ill_typed e (nat_le (1 + length (current_frame e).operands) (current_frame e).room) _ (λ fits.
     class_resolved e name _ knows (λ class lt.
     unless_thrown e (begins e) errors.InstantiationError (may_be_made e.program class) _ knows.makes (begun e) (λ may.
     initialized_told e (begins e) class _ knows.makes (begun e) (λ d h. ended_told e at _ (instance_made e class d) (instance_told e class d lt h))))))
@@ -184,16 +184,16 @@ new_told e at knows =
 array_of_told : (e : Moment) (at : Site) (class : ℕ) (elements : ℤ) (below : List Value) → Knows e → class < length e.program.classes → Told e (new_array_of e at class elements below)
 array_of_told e at class elements below knows lt =
     unless_thrown e (begins e) errors.NegativeArraySizeException (int_le (pos 0) elements) _ knows.makes (begun e) (λ fine.
-    ended_told e at _ (array_made e class (natural elements) (begins e)) (array_told e class (natural elements) (begins e) lt (begun e)))
+    ended_told e at _ (array_made e class (natural_of elements) (begins e)) (array_told e class (natural_of elements) (begins e) lt (begun e)))
 
 new_array_told : (e : Moment) (at : Site) → Knows e → Told e (new_array e at)
 new_array_told e at knows =
-    any_int (Told e) (ill_typed e) tt (frame_of e).operands _ (λ elements below. array_of_told e at (unwrap_or (base_array e.program (natural at.instr.first)) 0) elements below knows (base_within e (natural at.instr.first) knows))
+    any_int (Told e) (ill_typed e) tt (current_frame e).operands _ (λ elements below. array_of_told e at (unwrap_or (base_array e.program (natural_of at.instr.first)) 0) elements below knows (base_within e (natural_of at.instr.first) knows))
 
 new_reference_array_told : (e : Moment) (at : Site) → Knows e → Told e (new_reference_array e at)
 new_reference_array_told e at knows =
     class_told e (class_operand at) _ (λ name.
-    any_int (Told e) (ill_typed e) tt (frame_of e).operands _ (λ elements below.
+    any_int (Told e) (ill_typed e) tt (current_frame e).operands _ (λ elements below.
     class_resolved e name _ knows (λ class lt. array_of_told e at (unwrap_or (class_at e.program class).array 0) elements below knows (array_within e class knows lt))))
 
 lengths_told : {A : Type 0} (P : A → Type 0) (n : ℕ) (found : List ℤ) (refused : A) (ops : List Value) (go : List ℤ → List Value → A) → P refused → ((ls : List ℤ) (below : List Value) → P (go ls below)) → P (with_lengths n found refused ops go)
@@ -217,7 +217,7 @@ arrays_told e class (n ∷ m ∷ more) d knows lt h =
 new_multi_array_told : (e : Moment) (at : Site) → Knows e → Told e (new_multi_array e at)
 new_multi_array_told e at knows =
     class_told e (class_operand at) _ (λ name.
-    lengths_told (Told e) (natural at.instr.second) [] (ill_typed e) (frame_of e).operands _ tt (λ lengths below.
+    lengths_told (Told e) (natural_of at.instr.second) [] (ill_typed e) (current_frame e).operands _ tt (λ lengths below.
     class_resolved e name _ knows (λ class lt.
     unless_thrown e (begins e) errors.NegativeArraySizeException (list_all (int_le (pos 0)) lengths) _ knows.makes (begun e) (λ fine.
     ended_told e at (Ref (next_object (begins e)) ∷ below) (arrays_made e class (naturals lengths) (begins e)) (arrays_told e class (naturals lengths) (begins e) knows lt (begun e))))))
@@ -227,9 +227,9 @@ new_multi_array_told e at knows =
 cast_told : (e : Moment) (at : Site) (name : List ℕ) (below : List Value) (r : Reference) → Knows e → Told e (cast e at name below r)
 cast_told e at name below None knows = done_told e at []
 cast_told e at name below (Some o) knows =
-    class_resolved e name _ knows (λ class lt. unless_thrown e (begins e) errors.ClassCastException (passes e.program (class_of (begins e) o) class) _ knows.makes (begun e) (λ passed. done_told e at []))
+    class_resolved e name _ knows (λ class lt. unless_thrown e (begins e) errors.ClassCastException (passes e.program (object_class (begins e) o) class) _ knows.makes (begun e) (λ passed. done_told e at []))
 
-tested_told : (e : Moment) (at : Site) (name : List ℕ) (below : List Value) (r : Reference) → Knows e → Told e (tested e at name below r)
+tested_told : (e : Moment) (at : Site) (name : List ℕ) (below : List Value) (r : Reference) → Knows e → Told e (type_tested e at name below r)
 tested_told e at name below None knows = done_told e at []
 tested_told e at name below (Some o) knows = class_resolved e name _ knows (λ class lt. done_told e at [])
 
@@ -246,26 +246,26 @@ heap_told e at row.NewReferenceArray knows = new_reference_array_told e at knows
 heap_told e at row.NewMultiArray knows = new_multi_array_told e at knows
 heap_told e at row.ArrayLength knows = array_length_told e at knows
 heap_told e at row.CheckCast knows =
-    class_told e (class_operand at) _ (λ name. any_reference (Told e) (ill_typed e) tt (frame_of e).operands _ (λ r below. cast_told e at name below r knows))
+    class_told e (class_operand at) _ (λ name. any_reference (Told e) (ill_typed e) tt (current_frame e).operands _ (λ r below. cast_told e at name below r knows))
 heap_told e at row.InstanceOf knows =
-    class_told e (class_operand at) _ (λ name. any_reference (Told e) (ill_typed e) tt (frame_of e).operands _ (λ r below. tested_told e at name below r knows))
+    class_told e (class_operand at) _ (λ name. any_reference (Told e) (ill_typed e) tt (current_frame e).operands _ (λ r below. tested_told e at name below r knows))
 
 -- MONITORS, EXCEPTIONS, THE END OF A THREAD
 
 pub monitor_told : (e : Moment) (at : Site) (r : MonitorRow) → Knows e → Told e (monitor_event e at r)
 monitor_told e at monitor.Enter knows =
-    any_reference (Told e) (ill_typed e) tt (frame_of e).operands _ (λ r below.
+    any_reference (Told e) (ill_typed e) tt (current_frame e).operands _ (λ r below.
     where_not_null e (begins e) r _ knows.makes (begun e) (λ o.
-    unless_waiting e (may_enter e (begins e) (OfObject o)) _ (goes_told e (entered e (OfObject o) (leaving e at below (begins e))) (entered_told e (OfObject o) (leaving e at below (begins e)) (leaving_told e at below (begins e) (begun e))))))
+    unless_waiting e (may_enter e (begins e) (OfObject o)) _ (goes_told e (entered e (OfObject o) (leaving_values e at below (begins e))) (entered_told e (OfObject o) (leaving_values e at below (begins e)) (leaving_told e at below (begins e) (begun e))))))
 monitor_told e at monitor.Exit knows =
-    any_reference (Told e) (ill_typed e) tt (frame_of e).operands _ (λ r below.
+    any_reference (Told e) (ill_typed e) tt (current_frame e).operands _ (λ r below.
     where_not_null e (begins e) r _ knows.makes (begun e) (λ o.
     unless_thrown e (begins e) errors.IllegalMonitorStateException (owns e (begins e) (OfObject o)) _ knows.makes (begun e) (λ owned.
-    goes_told e (left (OfObject o) (leaving e at below (begins e))) (left_told e (OfObject o) (leaving e at below (begins e)) (leaving_told e at below (begins e) (begun e))))))
+    goes_told e (left (OfObject o) (leaving_values e at below (begins e))) (left_told e (OfObject o) (leaving_values e at below (begins e)) (leaving_told e at below (begins e) (begun e))))))
 
 pub throw_told : (e : Moment) → Knows e → Told e (throw e)
 throw_told e knows =
-    any_reference (Told e) (ill_typed e) tt (frame_of e).operands _ (λ r below.
+    any_reference (Told e) (ill_typed e) tt (current_frame e).operands _ (λ r below.
     where_not_null e (begins e) r _ knows.makes (begun e) (λ o.
     unless_ill_typed e (is_throwable e o) _ (λ is. goes_told e (pending_now e o (begins e)) (pending_told e o (begins e) (begun e)))))
 
@@ -280,18 +280,18 @@ on_frame_told e (Some f) = goes_told e (with_frame e f (begins e)) (frame_told e
 
 pub constant_told : (e : Moment) (at : Site) (k : Option LoadedConstant) → Knows e → Told e (constant e at k)
 constant_told e at None knows = tt
-constant_told e at (Some (AnInt n)) knows = on_frame_told e (put at.next (Int n ∷ (frame_of e).operands) (frame_of e))
-constant_told e at (Some (ALong n)) knows = on_frame_told e (put at.next (LongHigh ∷ Long n ∷ (frame_of e).operands) (frame_of e))
+constant_told e at (Some (AnInt n)) knows = on_frame_told e (put at.next (Int n ∷ (current_frame e).operands) (current_frame e))
+constant_told e at (Some (ALong n)) knows = on_frame_told e (put at.next (LongHigh ∷ Long n ∷ (current_frame e).operands) (current_frame e))
 constant_told e at (Some (AString bytes)) knows =
-    unless_ill_typed e (nat_lt (length (frame_of e).operands) (frame_of e).room) _ (λ fits.
+    unless_ill_typed e (nat_lt (length (current_frame e).operands) (current_frame e).room) _ (λ fits.
     ended_frame_told e _ (interned e bytes (begins e)) (interned_told e bytes (begins e) knows.makes.string (begun e)))
 
 quotient_told : (e : Moment) (at : Site) (o : Option ℤ) (operands : ℤ → List Value) → Knows e → Told e (quotient e at o operands)
 quotient_told e at None operands knows = throws_told e errors.ArithmeticException (begins e) knows.makes (begun e)
-quotient_told e at (Some n) operands knows = on_frame_told e (put at.next (operands n) (frame_of e))
+quotient_told e at (Some n) operands knows = on_frame_told e (put at.next (operands n) (current_frame e))
 
 pub divides_told : (e : Moment) (at : Site) (n : Number) (o : Division) → Knows e → Told e (divides e at n o)
 divides_told e at number.Int o knows =
-    any_int (Told e) (ill_typed e) tt (frame_of e).operands _ (λ b more. any_int (Told e) (ill_typed e) tt more _ (λ a below. quotient_told e at (divided w32 o a b) (λ n. Int n ∷ below) knows))
+    any_int (Told e) (ill_typed e) tt (current_frame e).operands _ (λ b more. any_int (Told e) (ill_typed e) tt more _ (λ a below. quotient_told e at (divided w32 o a b) (λ n. Int n ∷ below) knows))
 divides_told e at number.Long o knows =
-    any_long (Told e) (ill_typed e) tt (frame_of e).operands _ (λ b more. any_long (Told e) (ill_typed e) tt more _ (λ a below. quotient_told e at (divided w64 o a b) (λ n. LongHigh ∷ Long n ∷ below) knows))
+    any_long (Told e) (ill_typed e) tt (current_frame e).operands _ (λ b more. any_long (Told e) (ill_typed e) tt more _ (λ a below. quotient_told e at (divided w64 o a b) (λ n. LongHigh ∷ Long n ∷ below) knows))

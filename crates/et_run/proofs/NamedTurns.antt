@@ -9,25 +9,25 @@ use Rattle.et_state.specs.declared.stage.Stage.{Stage}
 use Rattle.et_state.specs.declared.stage.Stage.TheVariants.{Plain, Before, Clinit}
 use Rattle.et_state.specs.declared.stage.Turn.{Turn}
 use Rattle.et_state.specs.declared.stage.Turn.TheVariants.{Unwind, EndThread, Entry, Initialize, Instruction}
-use Rattle.et_state.specs.Threads.{FrameState, ThreadState, no_thread, first_frame, has_frame, is_before, top_of, turn_of}
+use Rattle.et_state.specs.Threads.{FrameState, ThreadState, no_thread, first_frame, has_frame, is_before_class, top_of, turn_of}
 use Rattle.et_state.specs.State.{Kept}
 use Rattle.et_event.specs.declared.rows.Row.{Row}
 use Rattle.et_event.specs.declared.rows.Row.TheVariants as row
 use Rattle.et_event.specs.Event.{does, by_row, by_instruction, initializes, does_turn, event}
-use Rattle.et_event.specs.Moments.{Moment, thread_of, frame_of}
-use Rattle.et_event.specs.Plain.{after}
+use Rattle.et_event.specs.Moments.{Moment, thread_of, current_frame}
+use Rattle.et_event.specs.Plain.{frame_after}
 use Rattle.et_event.specs.Sites.{Site, site_of, decoded_at, pool_index, constant_at}
 use Rattle.et_event.specs.Sound.{IsStaged, AreSoundFrames, IsSoundFor}
 use Rattle.et_event.specs.Table.{row_of}
 use Rattle.et_event.specs.Programs.{MakesSound}
-use Rattle.et_run.specs.Telling.{HasElementClasses, IsTold}
+use Rattle.et_run.specs.Telling.{HasElementClasses, IsToldOf}
 use Rattle.et_run.proofs.Words.{IsMethodOf}
 use Rattle.et_run.proofs.Ways.{KnowsErrors, Told}
 use Rattle.et_run.proofs.NamedRows.{Knows, heap_told, monitor_told, throw_told, end_told, on_frame_told, constant_told, divides_told}
 use Rattle.et_run.proofs.Calls.{IsInMethod, frame_method, call_told, entry_told, unwinding_told, step_told}
 
-does_told : (e : Moment) (at : Site) (r : Row) → Knows e → IsMethodOf e.program (unwrap_or (frame_of e).method 0) → Told e (does e at r)
-does_told e at (row.Frame r) knows is = on_frame_told e (after at r (frame_of e))
+does_told : (e : Moment) (at : Site) (r : Row) → Knows e → IsMethodOf e.program (unwrap_or (current_frame e).method 0) → Told e (does e at r)
+does_told e at (row.Frame r) knows is = on_frame_told e (frame_after at r (current_frame e))
 does_told e at row.PoolConstant knows is = constant_told e at (constant_at at.pool (pool_index at)) knows
 does_told e at (row.Divide n o) knows is = divides_told e at n o knows
 does_told e at (row.Heap r) knows is = heap_told e at r knows
@@ -35,13 +35,13 @@ does_told e at (row.Call r) knows is = call_told e at r knows is
 does_told e at row.Throw knows is = throw_told e knows
 does_told e at (row.Monitor r) knows is = monitor_told e at r knows
 
-row_told : (e : Moment) (at : Site) (r : Option Row) → Knows e → IsMethodOf e.program (unwrap_or (frame_of e).method 0) → Told e (by_row e at r)
+row_told : (e : Moment) (at : Site) (r : Option Row) → Knows e → IsMethodOf e.program (unwrap_or (current_frame e).method 0) → Told e (by_row e at r)
 row_told e at None knows is = tt
 row_told e at (Some r) knows is = does_told e at r knows is
 
-instruction_told : (e : Moment) (x : Result (Instr × ℕ) CodeFault) → Knows e → IsMethodOf e.program (unwrap_or (frame_of e).method 0) → Told e (by_instruction e x)
+instruction_told : (e : Moment) (x : Result (Instr × ℕ) CodeFault) → Knows e → IsMethodOf e.program (unwrap_or (current_frame e).method 0) → Told e (by_instruction e x)
 instruction_told e (Err fault) knows is = tt
-instruction_told e (Ok x) knows is = row_told e (site_of e.program (frame_of e) x) (row_of x.0.opcode) knows is
+instruction_told e (Ok x) knows is = row_told e (site_of e.program (current_frame e) x) (row_of x.0.opcode) knows is
 
 -- THE TOPMOST FRAME
 
@@ -69,7 +69,7 @@ staged_by p [] e h = absurd (no e)
     no q = cc
 staged_by p (f ∷ below) e h = h
 
-top_staged : (e : Moment) → IsSoundFor e.program e.before → has_frame (thread_of e).frames ≡ true → IsStaged e.program (frame_of e) (frame_of e).stage (frame_of e).method
+top_staged : (e : Moment) → IsSoundFor e.program e.before → has_frame (thread_of e).frames ≡ true → IsStaged e.program (current_frame e) (current_frame e).stage (current_frame e).method
 top_staged e sound has =
     let t = sound.threads e.thread (some_frames e.before.guest.threads e.thread has) in
     staged_by e.program (thread_of e).frames has (first_staged e.program (thread_of e).frames t.frames)
@@ -92,7 +92,7 @@ turn_says false true false entered = (refl, refl)
 turn_says false false before true = tt
 turn_says false false before false = tt
 
-in_method : (stage : Stage) → is_before stage ≡ false → IsInMethod stage
+in_method : (stage : Stage) → is_before_class stage ≡ false → IsInMethod stage
 in_method Plain e = tt
 in_method (Before c) e = absurd (no e)
   where
@@ -100,29 +100,29 @@ in_method (Before c) e = absurd (no e)
     no q = cc
 in_method (Clinit c) e = tt
 
-initializes_told : (e : Moment) (stage : Stage) → Knows e → IsStaged e.program (frame_of e) stage (frame_of e).method → is_before stage ≡ true → Told e (initializes e stage)
+initializes_told : (e : Moment) (stage : Stage) → Knows e → IsStaged e.program (current_frame e) stage (current_frame e).method → is_before_class stage ≡ true → Told e (initializes e stage)
 initializes_told e Plain knows h b = tt
-initializes_told e (Before c) knows h b = step_told e c knows (class_of_stage e.program (frame_of e) c (frame_of e).method h)
+initializes_told e (Before c) knows h b = step_told e c knows (class_of_stage e.program (current_frame e) c (current_frame e).method h)
   where
     class_of_stage : (p : Linked) (f : FrameState) (k : ℕ) (m : Option ℕ) → IsStaged p f (Before k) m → k < length p.classes
     class_of_stage p f k None s = s.0
     class_of_stage p f k (Some m) s = absurd s
 initializes_told e (Clinit c) knows h b = tt
 
-turn_told : (e : Moment) (turn : Turn) → IsSoundFor e.program e.before → Knows e → SaysOfFrame turn (has_frame (thread_of e).frames) (is_before (frame_of e).stage) → Told e (does_turn e turn)
+turn_told : (e : Moment) (turn : Turn) → IsSoundFor e.program e.before → Knows e → SaysOfFrame turn (has_frame (thread_of e).frames) (is_before_class (current_frame e).stage) → Told e (does_turn e turn)
 turn_told e Unwind sound knows says =
-    unwinding_told e (thread_of e).pending knows (λ runs. frame_method e (frame_of e) (frame_of e).stage (frame_of e).method knows (top_staged e sound says) runs)
+    unwinding_told e (thread_of e).pending knows (λ runs. frame_method e (current_frame e) (current_frame e).stage (current_frame e).method knows (top_staged e sound says) runs)
 turn_told e EndThread sound knows says = end_told e
 turn_told e Entry sound knows says = entry_told e knows
-turn_told e Initialize sound knows says = initializes_told e (frame_of e).stage knows (top_staged e sound says.0) says.1
+turn_told e Initialize sound knows says = initializes_told e (current_frame e).stage knows (top_staged e sound says.0) says.1
 turn_told e Instruction sound knows says =
-    instruction_told e (decoded_at e.program (frame_of e)) knows (frame_method e (frame_of e) (frame_of e).stage (frame_of e).method knows (top_staged e sound says.0) (in_method (frame_of e).stage says.1))
+    instruction_told e (decoded_at e.program (current_frame e)) knows (frame_method e (current_frame e) (current_frame e).stage (current_frame e).method knows (top_staged e sound says.0) (in_method (current_frame e).stage says.1))
 
-pub told_event : (p : Linked) (s : Kept) (t : ℕ) → IsSoundFor p s → IsTabled p → MakesSound p → HasElementClasses p → IsTold p s (event p s t)
+pub told_event : (p : Linked) (s : Kept) (t : ℕ) → IsSoundFor p s → IsTabled p → MakesSound p → HasElementClasses p → IsToldOf p s (event p s t)
 unfolding event
 told_event p s t sound tabled makes elements =
     let e : Moment = record { program = p; before = s; thread = t } in
     let x : ThreadState = thread_of e in
     let errors : KnowsErrors e = record { string = makes.string.class; errors = λ error. (makes.error error).class } in
     let knows : Knows e = record { makes = errors; tabled = tabled; elements = elements } in
-    turn_told e (turn_of x) sound knows (turn_says (is_some x.pending) (has_frame x.frames) (is_before (top_of x).stage) x.entered)
+    turn_told e (turn_of x) sound knows (turn_says (is_some x.pending) (has_frame x.frames) (is_before_class (top_of x).stage) x.entered)

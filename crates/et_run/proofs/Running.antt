@@ -22,7 +22,7 @@ use Rattle.et_history.specs.Whole.{whole_setting, whole_start, whole_visits_of}
 use Rattle.et_loop.specs.declared.options.Ran.{Ran}
 use Rattle.et_loop.specs.Traced.{WritesTrace, WritesPrefix}
 use Rattle.et_loop.specs.Visits.{allowed_visits, IsCut}
-use Rattle.et_state.specs.History.{IsLast}
+use Rattle.et_state.specs.History.{IsLastEvent}
 use Rattle.et_state.specs.State.{Kept}
 use Rattle.et_state.specs.declared.options.Options.{Options}
 use Rattle.et_state.specs.declared.records.Record.{Record}
@@ -66,7 +66,7 @@ module _ (reached : Graph → ℕ → Bool) (p : Linked) (options : Options) (s 
   whole_prefix before after (Err fault) same h = same.0 (from_first (λ x rs. WritesPrefix reached (setting p options) x rs before after) h)
 
   pub whole_visits : (before after : Option (List ℕ)) (old new : ℕ) (r : Result Ran RunFault)
-      → ((e : ℕ) (end : End) → IsLast reached (setting p options) (start p) (start_records p) e end
+      → ((e : ℕ) (end : End) → IsLastEvent reached (setting p options) (start p) (start_records p) e end
       → allowed_visits reached (setting p options) flush_visits_of (start p) (start_records p) e ≡ allowed_visits reached (whole_setting p options) whole_visits_of (whole_start p) (start_records p) e)
       → IfOk r (λ ran. WritesTrace reached (setting p options) s made ran before after) → IfOk r (λ ran. new ≤ old + allowed_visits reached (setting p options) flush_visits_of s made ran.event)
       → IfOk r (λ ran. new ≤ old + allowed_visits reached (whole_setting p options) whole_visits_of (whole_start p) (start_records p) ran.event)

@@ -19,7 +19,7 @@ use Rattle.et_state.specs.Naming.{IsNamed}
 use Rattle.et_state.specs.Start.{argument_class, start}
 use Rattle.et_event.specs.Start.{start_records}
 use Rattle.et_loop.specs.Kept.{IsStepTo}
-use Rattle.et_history.specs.Settings.{names_of}
+use Rattle.et_history.specs.Settings.{names_of_program}
 
 no_refs : (n : ℕ) → refs_of (replicate n Unset) ≡ []
 no_refs zero = refl
@@ -64,10 +64,10 @@ or_first : (o : Option ℕ) (n : ℕ) → 0 < n → IfSome o (λ c. c < n) → u
 or_first None n some h = some
 or_first (Some c) n some h = h
 
-pub records_named : (p : Linked) → IsTabled p → All (IsNamed (names_of p)) (start_records p)
+pub records_named : (p : Linked) → IsTabled p → All (IsNamed (names_of_program p)) (start_records p)
 records_named p tabled =
     let main = All-get_or (λ (m : MethodInfo). m.class < length p.classes) p.methods p.main no_method tabled.main tabled.methods in
     let some : 0 < length p.classes = omega (arith, main) in
     let lt : argument_class p < length p.classes = or_first (class_named p (codes "[Ljava/lang/String;")) (length p.classes) some (position_within (λ (c : ClassEntry). bytes_eq (codes "[Ljava/lang/String;") c.info.name) p.classes) in
-    let C = λ (c : ℕ). c < (names_of p).class_count in
-    All-cons (IsNamed (names_of p)) (Alloc 0 0 1 (argument_class p) 24 0) [] (record { classes = All-cons C (argument_class p) [] lt (All-nil C); methods = All-nil (λ m. m < (names_of p).method_count) }) (All-nil (IsNamed (names_of p)))
+    let C = λ (c : ℕ). c < (names_of_program p).class_count in
+    All-cons (IsNamed (names_of_program p)) (Alloc 0 0 1 (argument_class p) 24 0) [] (record { classes = All-cons C (argument_class p) [] lt (All-nil C); methods = All-nil (λ m. m < (names_of_program p).method_count) }) (All-nil (IsNamed (names_of_program p)))

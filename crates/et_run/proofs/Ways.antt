@@ -15,11 +15,11 @@ use Rattle.et_event.specs.declared.errors.GuestError.{GuestError}
 use Rattle.et_event.specs.declared.errors.GuestError.TheVariants.{NullPointerException, StackOverflowError, NoClassDefFoundError}
 use Rattle.et_event.specs.declared.rows.Operand.{Operand}
 use Rattle.et_event.specs.declared.rows.Operand.TheVariants as operand
-use Rattle.et_event.specs.Checks.{Reference, value_of, with_int, with_long, with_reference, with_value, ill_typed_unless, resolved, throws_unless, not_null, waits_unless, frame_fits}
+use Rattle.et_event.specs.Checks.{Reference, reference_value, with_int, with_long, with_reference, with_value, ill_typed_unless, resolved, throws_unless, not_null, waits_unless, frame_fits}
 use Rattle.et_event.specs.Errors.{class_called, error_class, error_of}
 use Rattle.et_event.specs.Initialization.{state_of, is_quiet, quietly_done, begun_by, begins_class, needed, initialized}
-use Rattle.et_event.specs.Moments.{Moment, Doing, next_object, instance_made, entry_given_up, pending_now, fits, goes, ends, throws, waits}
-use Rattle.et_run.specs.Telling.{IsTold}
+use Rattle.et_event.specs.Moments.{Moment, Doing, next_object, instance_made, entry_given_up, pending_now, fits_heap, goes, ends_event, throws, waits}
+use Rattle.et_run.specs.Telling.{IsToldOf}
 use Rattle.et_run.proofs.Words.{Tells, if_case, instance_told, pending_told, given_up_told, quietly_told, begun_by_told}
 
 -- what the machine itself makes is of classes of the program
@@ -28,13 +28,13 @@ pub record KnowsErrors (e : Moment) : Type 0 where
   pub errors : (error : GuestError) → error_class e.program error < length e.program.classes
 
 abbrev pub Told : Moment → Outcome Kept → Type 0
-Told e o = IsTold e.program e.before o
+Told e o = IsToldOf e.program e.before o
 
 pub goes_told : (e : Moment) (d : Doing) → Tells e d → Told e (goes d)
 goes_told e d h = (h.clock, h.records)
 
-pub ends_told : (e : Moment) (d : Doing) → Tells e d → Told e (ends d)
-ends_told e d h = if_case (Told e) (fits d.state.heap) (outcome.Goes d.state d.records) outcome.ObjectLimit (goes_told e d h) tt
+pub ends_told : (e : Moment) (d : Doing) → Tells e d → Told e (ends_event d)
+ends_told e d h = if_case (Told e) (fits_heap d.state.heap) (outcome.Goes d.state d.records) outcome.ObjectLimit (goes_told e d h) tt
 
 pub waits_told : (e : Moment) → Told e (waits e)
 waits_told e = refl
@@ -113,12 +113,12 @@ module _ {A : Type 0} (P : A → Type 0) (refused : A) (ill : P refused) where
   any_value None ops go h = ill
   any_value (Some operand.Int) ops go h = any_int ops (λ n. go (Int n)) (λ n below. h (Int n) below)
   any_value (Some operand.Long) ops go h = any_long ops (λ n. go (Long n)) (λ n below. h (Long n) below)
-  any_value (Some operand.Reference) ops go h = any_reference ops (λ r. go (value_of r)) (λ r below. h (value_of r) below)
+  any_value (Some operand.Reference) ops go h = any_reference ops (λ r. go (reference_value r)) (λ r below. h (reference_value r) below)
 
 -- A CLASS IS NEEDED
 
 pub begins_class_told : (e : Moment) (c : ℕ) (d : Doing) → KnowsErrors e → Tells e d → Told e (begins_class e c d)
-begins_class_told e c d knows h = where_frame_fits e d (ends (begun_by e c d)) knows h (ends_told e (begun_by e c d) (begun_by_told e knows.string c d h))
+begins_class_told e c d knows h = where_frame_fits e d (ends_event (begun_by e c d)) knows h (ends_told e (begun_by e c d) (begun_by_told e knows.string c d h))
 
 needed_told : (e : Moment) (d : Doing) (c : ℕ) (x : ClassState) (go : Doing → Outcome Kept) → KnowsErrors e → Tells e d → ((y : Doing) → Tells e y → Told e (go y)) → Told e (needed e d c x go)
 needed_told e d c Done go knows h g = g d h

@@ -20,25 +20,25 @@ use Rattle.et_event.specs.BuiltIns.{with_referent_of}
 use Rattle.et_event.specs.Errors.{class_called}
 use Rattle.et_event.specs.Initialization.{with_state, constant_set, field_set, constants_set, class_done, quietly_done, quietly_if_untouched, prepared, state_of, initializer_frame, begun_by}
 use Rattle.et_event.specs.Kinds.{narrowed}
-use Rattle.et_event.specs.Moments.{Moment, Doing, begins, with_guest, with_thread_state, with_frame, told, next_object, instance_made, array_made, updated, slot_written, static_written, pending_now, entry_given_up}
+use Rattle.et_event.specs.Moments.{Moment, Doing, begins, doing_with_guest, with_thread_state, with_frame, told, next_object, instance_made, array_made, updated, slot_written, static_written, pending_now, entry_given_up}
 use Rattle.et_event.specs.Monitors.{Lock, OfObject, OfClass, entered, left, entered_some, left_some}
-use Rattle.et_event.specs.Sites.{LoadedConstant, AnInt, ALong, AString, constant_at, pool_of}
+use Rattle.et_event.specs.Sites.{LoadedConstant, AnInt, ALong, AString, constant_at, pool_of_class}
 use Rattle.et_event.specs.Strings.{interned, string_object}
-use Rattle.et_history.specs.Settings.{names_of}
+use Rattle.et_history.specs.Settings.{names_of_program}
 
 -- so far the clock is one on, and what the records name is of the program
 pub record Tells (e : Moment) (d : Doing) : Type 0 where
   pub clock : d.state.guest.clock ≡ e.before.guest.clock + 1
-  pub records : All (IsNamed (names_of e.program)) d.records
+  pub records : All (IsNamed (names_of_program e.program)) d.records
 
 pub if_case : {A : Type 0} (P : A → Type 0) (b : Bool) (x y : A) → P x → P y → P (if b then x else y)
 if_case P true x y h i = h
 if_case P false x y h i = i
 
 pub begun : (e : Moment) → Tells e (begins e)
-begun e = record { clock = refl; records = All-nil (IsNamed (names_of e.program)) }
+begun e = record { clock = refl; records = All-nil (IsNamed (names_of_program e.program)) }
 
-pub guest_told : (e : Moment) (g : GuestState) (d : Doing) → g.clock ≡ d.state.guest.clock → Tells e d → Tells e (with_guest g d)
+pub guest_told : (e : Moment) (g : GuestState) (d : Doing) → g.clock ≡ d.state.guest.clock → Tells e d → Tells e (doing_with_guest g d)
 guest_told e g d same h = record { clock = same ∙ h.clock; records = h.records }
 
 pub thread_told : (e : Moment) (x : ThreadState) (d : Doing) → Tells e d → Tells e (with_thread_state e x d)
@@ -50,28 +50,28 @@ frame_told e f d h = record { clock = h.clock; records = h.records }
 pub state_told : (e : Moment) (c : ℕ) (x : ClassState) (d : Doing) → Tells e d → Tells e (with_state c x d)
 state_told e c x d h = record { clock = h.clock; records = h.records }
 
-pub record_told : (e : Moment) (r : Record) (d : Doing) → IsNamed (names_of e.program) r → Tells e d → Tells e (told r d)
+pub record_told : (e : Moment) (r : Record) (d : Doing) → IsNamed (names_of_program e.program) r → Tells e d → Tells e (told r d)
 record_told e r d named h =
-    record { clock = h.clock; records = All-append (IsNamed (names_of e.program)) d.records (r ∷ []) h.records (All-cons (IsNamed (names_of e.program)) r [] named (All-nil (IsNamed (names_of e.program)))) }
+    record { clock = h.clock; records = All-append (IsNamed (names_of_program e.program)) d.records (r ∷ []) h.records (All-cons (IsNamed (names_of_program e.program)) r [] named (All-nil (IsNamed (names_of_program e.program)))) }
 
 -- OBJECTS
 
-one_class : (p : Linked) (c : ℕ) → c < length p.classes → All (λ k. k < (names_of p).class_count) (c ∷ [])
-one_class p c lt = All-cons (λ k. k < (names_of p).class_count) c [] lt (All-nil (λ k. k < (names_of p).class_count))
+one_class : (p : Linked) (c : ℕ) → c < length p.classes → All (λ k. k < (names_of_program p).class_count) (c ∷ [])
+one_class p c lt = All-cons (λ k. k < (names_of_program p).class_count) c [] lt (All-nil (λ k. k < (names_of_program p).class_count))
 
-no_method : (p : Linked) → All (λ k. k < (names_of p).method_count) []
-no_method p = All-nil (λ k. k < (names_of p).method_count)
+no_method : (p : Linked) → All (λ k. k < (names_of_program p).method_count) []
+no_method p = All-nil (λ k. k < (names_of_program p).method_count)
 
-no_class : (p : Linked) → All (λ k. k < (names_of p).class_count) []
-no_class p = All-nil (λ k. k < (names_of p).class_count)
+no_class : (p : Linked) → All (λ k. k < (names_of_program p).class_count) []
+no_class p = All-nil (λ k. k < (names_of_program p).class_count)
 
-one_method : (p : Linked) (m : ℕ) → m < length p.methods → All (λ k. k < (names_of p).method_count) (m ∷ [])
-one_method p m lt = All-cons (λ k. k < (names_of p).method_count) m [] lt (All-nil (λ k. k < (names_of p).method_count))
+one_method : (p : Linked) (m : ℕ) → m < length p.methods → All (λ k. k < (names_of_program p).method_count) (m ∷ [])
+one_method p m lt = All-cons (λ k. k < (names_of_program p).method_count) m [] lt (All-nil (λ k. k < (names_of_program p).method_count))
 
-alloc_named : (p : Linked) (event thread object class size elements : ℕ) → class < length p.classes → IsNamed (names_of p) (Alloc event thread object class size elements)
+alloc_named : (p : Linked) (event thread object class size elements : ℕ) → class < length p.classes → IsNamed (names_of_program p) (Alloc event thread object class size elements)
 alloc_named p event thread object class size elements lt = record { classes = one_class p class lt; methods = no_method p }
 
-update_named : (p : Linked) (event thread object slot old new : ℕ) → IsNamed (names_of p) (Update event thread object slot old new)
+update_named : (p : Linked) (event thread object slot old new : ℕ) → IsNamed (names_of_program p) (Update event thread object slot old new)
 update_named p event thread object slot old new = record { classes = no_class p; methods = no_method p }
 
 -- a method of the program, and its class
@@ -79,13 +79,13 @@ pub record IsMethodOf (p : Linked) (m : ℕ) : Type 0 where
   pub method : m < length p.methods
   pub class : (method_at p m).class < length p.classes
 
-pub enter_named : (p : Linked) (event thread m receiver : ℕ) → IsMethodOf p m → IsNamed (names_of p) (Enter event thread m receiver)
+pub enter_named : (p : Linked) (event thread m receiver : ℕ) → IsMethodOf p m → IsNamed (names_of_program p) (Enter event thread m receiver)
 enter_named p event thread m receiver is = record { classes = one_class p (method_at p m).class is.class; methods = one_method p m is.method }
 
-pub exit_named : (p : Linked) (event thread m : ℕ) → IsMethodOf p m → IsNamed (names_of p) (Exit event thread m)
+pub exit_named : (p : Linked) (event thread m : ℕ) → IsMethodOf p m → IsNamed (names_of_program p) (Exit event thread m)
 exit_named p event thread m is = record { classes = one_class p (method_at p m).class is.class; methods = one_method p m is.method }
 
-pub unwind_named : (p : Linked) (event thread m exception : ℕ) → IsMethodOf p m → IsNamed (names_of p) (Unwind event thread m exception)
+pub unwind_named : (p : Linked) (event thread m exception : ℕ) → IsMethodOf p m → IsNamed (names_of_program p) (Unwind event thread m exception)
 unwind_named p event thread m exception is = record { classes = one_class p (method_at p m).class is.class; methods = one_method p m is.method }
 
 pub instance_told : (e : Moment) (class : ℕ) (d : Doing) → class < length e.program.classes → Tells e d → Tells e (instance_made e class d)
@@ -114,7 +114,7 @@ slot_told e o i v d h =
     updated_told e o i (slot_of x i) v (record { state = record { heap = with_object_at d.state.heap o (with_slot i v x); guest = d.state.guest }; records = d.records }) (record { clock = h.clock; records = h.records })
 
 pub static_told : (e : Moment) (i : ℕ) (v : Value) (d : Doing) → Tells e d → Tells e (static_written e i v d)
-static_told e i v d h = updated_told e 0 i (static_at d.state.guest i) v (with_guest (with_static d.state.guest i v) d) (record { clock = h.clock; records = h.records })
+static_told e i v d h = updated_told e 0 i (static_at d.state.guest i) v (doing_with_guest (with_static d.state.guest i v) d) (record { clock = h.clock; records = h.records })
 
 pub referent_told : (e : Moment) (o : ℕ) (r : Option ℕ) (d : Doing) → Tells e d → Tells e (with_referent_of o r d)
 referent_told e o r d h = record { clock = h.clock; records = h.records }
@@ -123,7 +123,7 @@ pub interned_told : (e : Moment) (bytes : List ℕ) (d : Doing) → class_called
 interned_told e bytes d lt h =
     let x : Doing = instance_made e (class_called e.program (codes "java/lang/String")) d in
     let there : Tells e x = instance_told e (class_called e.program (codes "java/lang/String")) d lt h in
-    if_case (Tells e) (is_some (object_of d.state.guest.interned bytes)) d (with_guest (with_string x.state.guest bytes (next_object d)) x) h (record { clock = there.clock; records = there.records })
+    if_case (Tells e) (is_some (object_of d.state.guest.interned bytes)) d (doing_with_guest (with_string x.state.guest bytes (next_object d)) x) h (record { clock = there.clock; records = there.records })
 
 -- MONITORS
 
@@ -170,7 +170,7 @@ module _ (e : Moment) (string : class_called e.program (codes "java/lang/String"
 
   pub constants_told : (c : ℕ) (d : Doing) → Tells e d → Tells e (constants_set e c d)
   constants_told c d h =
-      fold_told e (field_set e) (λ x f g. constant_told (field_at e.program f) (constant_at (pool_of e.program (field_at e.program f).class) (field_at e.program f).constant) x g) (class_at e.program c).info.constants d h
+      fold_told e (field_set e) (λ x f g. constant_told (field_at e.program f) (constant_at (pool_of_class e.program (field_at e.program f).class) (field_at e.program f).constant) x g) (class_at e.program c).info.constants d h
 
   class_done_told : (c : ℕ) (x : ClassState) (d : Doing) → Tells e d → Tells e (class_done e c x d)
   class_done_told c Untouched d h = constants_told c (with_state c Done d) (state_told e c Done d h)

@@ -2,7 +2,7 @@
 ghost use Rattle.std.specs.Prelude.{◌≡◌, ◌≤◌, OnOk};
 ghost use Rattle.et_graph.specs.Listing.{death_pairs};
 ghost use Rattle.et_event.specs.Event.{event};
-ghost use Rattle.et_history.specs.Settings.{IsSoundRun, flush_visits_of, unended_of, flushed_of};
+ghost use Rattle.et_history.specs.Settings.{IsSoundRun, flush_visits_of, unended_threads, flushed_of};
 ghost use Rattle.et_state.specs.Roots.{graph_of as graph_kept};
 ghost use Rattle.et_state.specs.State.{Kept, kept_of};
 
@@ -57,7 +57,7 @@ impl<'a> Guest for ProgramGuest<'a> {
 
     ghost event_of = { event };
 
-    ghost unended_of = { unended_of };
+    ghost unended_of = { unended_threads };
 
     ghost graph_of = { graph_kept };
 

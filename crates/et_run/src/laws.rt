@@ -7,11 +7,11 @@ ghost use Rattle.et_state.specs.State.{Kept};
 ghost use Rattle.et_event.specs.Event.{event};
 ghost use Rattle.et_event.specs.Sound.{IsSoundFor};
 ghost use Rattle.et_event.specs.Programs.{MakesSound};
-ghost use Rattle.et_run.specs.Telling.{HasElementClasses, IsTold};
+ghost use Rattle.et_run.specs.Telling.{HasElementClasses, IsToldOf};
 
 /// An event that is done, or in which a thread waits, takes the clock on by one; and each class and method that its records
 /// name is one of the program.
 pub fn events_are_told()
     ensures { (p : Linked) (s : Kept) (t : ℕ) → IsSoundFor p s →
-        IsTabled p → MakesSound p → HasElementClasses p → IsTold p s (event p s t) }
+        IsTabled p → MakesSound p → HasElementClasses p → IsToldOf p s (event p s t) }
 {}

@@ -1,6 +1,6 @@
 //! The names of a linked program.
 ghost use Rattle.std.specs.Prelude.{◌≡◌};
-ghost use Rattle.et_history.specs.Settings.{names_of};
+ghost use Rattle.et_history.specs.Settings.{names_of_program};
 
 use et_base::{ClassId, MethodId};
 use et_loop::Program;
@@ -38,7 +38,7 @@ impl<'a> NamedProgram<'a> {
 }
 
 impl<'a> Program for NamedProgram<'a> {
-    ghost names = { names_of };
+    ghost names = { names_of_program };
 
     fn class_name(&self, class: ClassId) -> &[u8] {
         self.program.class(class).name.as_slice()

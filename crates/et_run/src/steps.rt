@@ -2,7 +2,7 @@
 ghost use Rattle.std.specs.Prelude.{◌≡◌, ℕ, Bool, ◌+◌, ◌-◌, ◌<◌, ◌≤◌, ◌^◌, ◌↔◌, All, Contains, IfOk, IsTrue, OnOk, length, slice_index};
 ghost use Rattle.et_event.specs.Event.{event};
 ghost use Rattle.et_graph.specs.Graph.{IsReached};
-ghost use Rattle.et_history.specs.Settings.{IsSoundRun, flush_visits_of, unended_of, flushed_of, names_of};
+ghost use Rattle.et_history.specs.Settings.{IsSoundRun, flush_visits_of, unended_threads, flushed_of, names_of_program};
 ghost use Rattle.et_state.specs.Roots.{graph_of};
 ghost use Rattle.et_state.specs.State.{kept_of};
 ghost use Rattle.et_loop.specs.Stamping.{StepsWhereDone};
@@ -36,7 +36,7 @@ pub fn machine_event<L: Ledger>(
 ) -> Result<EventEnd, NoMemory>
     requires clock { machine.old.guest.clock < 2 ^ 40 }
     requires sound { IsSoundRun program.now (kept_of machine.old) }
-    requires thread { Contains (unended_of (kept_of machine.old)) thread }
+    requires thread { Contains (unended_threads (kept_of machine.old)) thread }
     ensures answers { IfOk result (λ end. Answers (event program.now (kept_of machine.old) thread)
         end (kept_of machine.old) (kept_of machine.new) out.old out.new) }
     ensures step { IfOk result (λ end. StepsWhereDone end
@@ -47,8 +47,8 @@ pub fn machine_event<L: Ledger>(
     ensures sound { OnOk result (IsSoundRun program.now (kept_of machine.new)) }
     ensures clock { IfOk result
         (λ end. TicksWhereDone end machine.old.guest.clock machine.new.guest.clock) }
-    ensures named { OnOk result (All (IsNamed (names_of program.now)) out.old →
-        All (IsNamed (names_of program.now)) out.new) }
+    ensures named { OnOk result (All (IsNamed (names_of_program program.now)) out.old →
+        All (IsNamed (names_of_program program.now)) out.new) }
 {
     // Laws: they tell the prover, and do nothing.
     events_are_told();

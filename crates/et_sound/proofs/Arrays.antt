@@ -21,14 +21,14 @@ use Rattle.et_event.specs.declared.rows.HeapRow.TheVariants.{NewArray, NewRefere
 use Rattle.et_event.specs.declared.rows.Row.TheVariants.{Heap}
 use Rattle.et_event.specs.declared.errors.GuestError.TheVariants.{NegativeArraySizeException}
 use Rattle.et_event.specs.Checks.{throws_unless}
-use Rattle.et_event.specs.Heap.{leaving, with_class, with_lengths, element_class, filled, arrays_made, naturals, resolved_class, new_array, new_reference_array, new_multi_array}
-use Rattle.et_event.specs.Moments.{Moment, Doing, frame_of, begins, class_of, next_object, array_made, slot_written, ill_typed, ends}
-use Rattle.et_event.specs.Sites.{Site, class_operand, site_of, pool_of, decoded_at, natural}
+use Rattle.et_event.specs.Heap.{leaving_values, with_class, with_lengths, element_class, filled, arrays_made, naturals, resolved_class, new_array, new_reference_array, new_multi_array}
+use Rattle.et_event.specs.Moments.{Moment, Doing, current_frame, begins, object_class, next_object, array_made, slot_written, ill_typed, ends_event}
+use Rattle.et_event.specs.Sites.{Site, class_operand, site_of, pool_of_class, decoded_at, natural_of}
 use Rattle.et_event.specs.Sound.{is_of_kind, kind_of_element}
 use Rattle.et_event.specs.Table.{row_of}
 use Rattle.et_sound.specs.Outcomes.{KeepsSound}
 use Rattle.et_event.specs.Programs.{HasSlots, IsArrayClass, NamesClass, HasDimensions, MayHold}
-use Rattle.et_sound.specs.WellFormed.{IsWellFormed, IsGoing, StandsAt}
+use Rattle.et_sound.specs.WellFormed.{IsWellFormed, IsUnderWayAt, StandsAt}
 use Rattle.et_sound.proofs.Classes.{new_array_keeps, new_reference_array_keeps}
 use Rattle.et_sound.proofs.Fields.{going, operands_there, leaving_well}
 use Rattle.et_sound.proofs.Objects.{heap_now}
@@ -46,7 +46,7 @@ record IsMore (p : Linked) (d x : Doing) : Type 0 where
   well : IsWellFormed p x.state
   threads : x.state.guest.threads ≡ d.state.guest.threads
   held : (o : ℕ) → IsHeld d.state.heap o → IsHeld x.state.heap o
-  class : (o : ℕ) → IsHeld d.state.heap o → class_of x o ≡ class_of d o
+  class : (o : ℕ) → IsHeld d.state.heap o → object_class x o ≡ object_class d o
 
 more_itself : (p : Linked) (d : Doing) → IsWellFormed p d.state → IsMore p d d
 more_itself p d h = record { well = h; threads = refl; held = λ o there. there; class = λ o there. refl }
@@ -101,7 +101,7 @@ set_still heap o q y held same there =
           record { held = subst (λ (x : Option ObjectState). is_there x) (sym other) there; class = ap (λ (x : Option ObjectState). (found x).class) other }
     ]
 
-written_more : (e : Moment) (o i : ℕ) (v : Value) (d : Doing) → IsWellFormed e.program d.state → IsHeld d.state.heap o → MayHold e.program (class_of d o) i v → IsMore e.program d (slot_written e o i v d)
+written_more : (e : Moment) (o i : ℕ) (v : Value) (d : Doing) → IsWellFormed e.program d.state → IsHeld d.state.heap o → MayHold e.program (object_class d o) i v → IsMore e.program d (slot_written e o i v d)
 written_more e o i v d h held may =
     let x : ObjectState = object_at d.state.heap o in
     let next : Doing = record { state = heap_now d.state (with_object_at d.state.heap o (with_slot i v x)); records = d.records } in
@@ -110,12 +110,12 @@ written_more e o i v d h held may =
       well = slot_well e.program e o i v d h held may;
       threads = sym (ap (λ (s : Kept). s.guest.threads) same);
       held = λ q there. subst (λ (s : Kept). IsHeld s.heap q) same (set_still d.state.heap o q (with_slot i v x) held refl there).held;
-      class = λ q there. subst (λ (s : Kept). (object_at s.heap q).class ≡ class_of d q) same (set_still d.state.heap o q (with_slot i v x) held refl there).class;
+      class = λ q there. subst (λ (s : Kept). (object_at s.heap q).class ≡ object_class d q) same (set_still d.state.heap o q (with_slot i v x) held refl there).class;
     }
 
 -- the elements of an array are made
 
-filled_more : (e : Moment) (o : ℕ) (make : Doing → Doing) (n : ℕ) (d : Doing) → ((x : Doing) → IsWellFormed e.program x.state → IsMore e.program x (make x)) → ((i r : ℕ) → MayHold e.program (class_of d o) i (Ref r)) → IsHeld d.state.heap o → IsWellFormed e.program d.state
+filled_more : (e : Moment) (o : ℕ) (make : Doing → Doing) (n : ℕ) (d : Doing) → ((x : Doing) → IsWellFormed e.program x.state → IsMore e.program x (make x)) → ((i r : ℕ) → MayHold e.program (object_class d o) i (Ref r)) → IsHeld d.state.heap o → IsWellFormed e.program d.state
     → IsMore e.program d (filled e o make n d)
 filled_more e o make zero d makes may held h = more_itself e.program d h
 filled_more e o make (suc i) d makes may held h =
@@ -123,7 +123,7 @@ filled_more e o make (suc i) d makes may held h =
     let x : Doing = filled e o make i d in
     let one : IsMore p d x = filled_more e o make i d makes may held h in
     let two : IsMore p d (make x) = more_then p d x (make x) one (makes x one.well) in
-    let holds : MayHold p (class_of (make x) o) i (Ref (next_object x)) = subst (λ (c : ℕ). MayHold p c i (Ref (next_object x))) (sym (two.class o held)) (may i (next_object x)) in
+    let holds : MayHold p (object_class (make x) o) i (Ref (next_object x)) = subst (λ (c : ℕ). MayHold p c i (Ref (next_object x))) (sym (two.class o held)) (may i (next_object x)) in
     more_then p d (make x) (slot_written e o i (Ref (next_object x)) (make x)) two (written_more e o i (Ref (next_object x)) (make x) two.well (two.held o held) holds)
 
 holds_references : (p : Linked) (c k i r : ℕ) → HasSlots p → IsArrayClass p c → (class_at p c).info.element ≡ Class k → MayHold p c i (Ref r)
@@ -141,7 +141,7 @@ arrays_more e class (n ∷ m ∷ more) d slots has h =
     let x : Doing = array_made e class n d in
     let made : IsMore p d x = made_more e class n d slots has.0 h in
     let last : IsLast d.state.heap (new_object class n n) = last_one d.state.heap (new_object class n n) in
-    let holds : (i r : ℕ) → MayHold p (class_of x o) i (Ref r) = λ i r. subst (λ (c : ℕ). MayHold p c i (Ref r)) (sym last.class) (holds_references p class k i r slots has.0 element) in
+    let holds : (i r : ℕ) → MayHold p (object_class x o) i (Ref r) = λ i r. subst (λ (c : ℕ). MayHold p c i (Ref r)) (sym last.class) (holds_references p class k i r slots has.0 element) in
     let make : Doing → Doing = arrays_made e (element_class (class_at p class).info.element) (m ∷ more) in
     more_then p d x (filled e o make n x) made
     (filled_more e o make n x (λ y well. arrays_more e (element_class (class_at p class).info.element) (m ∷ more) y slots inner well) holds last.held made.well)
@@ -162,42 +162,42 @@ pub length-naturals : (ns : List ℤ) → length (naturals ns) ≡ length ns
 length-naturals [] = refl
 length-naturals (n ∷ ns) = let h : length (naturals ns) ≡ length ns = length-naturals ns in omega arith
 
-pub names_class : (e : Moment) (x : Instr × ℕ) (s : StandsIn e x) (name : List ℕ) (class : ℕ) → class_operand (site_of e.program (frame_of e) x) ≡ Some name → resolve_class e.program name ≡ Ok class → NamesClass e.program s.method x class
+pub names_class : (e : Moment) (x : Instr × ℕ) (s : StandsIn e x) (name : List ℕ) (class : ℕ) → class_operand (site_of e.program (current_frame e) x) ≡ Some name → resolve_class e.program name ≡ Ok class → NamesClass e.program s.method x class
 names_class e x s name class named resolves =
     record {
       name = name;
-      operand = subst (λ (m : MethodInfo). class_name_at (pool_of e.program m.class) (natural x.0.first) ≡ Some name) s.named named;
+      operand = subst (λ (m : MethodInfo). class_name_at (pool_of_class e.program m.class) (natural_of x.0.first) ≡ Some name) s.named named;
       resolves = resolves;
     }
 
-multi_at : (e : Moment) (x : Instr × ℕ) → StandsAt e (site_of e.program (frame_of e) x) → IsRunnable e.program → decoded_at e.program (frame_of e) ≡ Ok x → row_of x.0.opcode ≡ Some (Heap NewMultiArray)
-    → KeepsSound e.program (new_multi_array e (site_of e.program (frame_of e) x))
-multi_at e x here may decoded row = by (class_operand (site_of e.program (frame_of e) x)) refl
+multi_at : (e : Moment) (x : Instr × ℕ) → StandsAt e (site_of e.program (current_frame e) x) → IsRunnable e.program → decoded_at e.program (current_frame e) ≡ Ok x → row_of x.0.opcode ≡ Some (Heap NewMultiArray)
+    → KeepsSound e.program (new_multi_array e (site_of e.program (current_frame e) x))
+multi_at e x here may decoded row = by (class_operand (site_of e.program (current_frame e) x)) refl
   where
-    g : IsGoing e (begins e)
-    g = going e (site_of e.program (frame_of e) x) here
+    g : IsUnderWayAt e (begins e)
+    g = going e (site_of e.program (current_frame e) x) here
 
     s : StandsIn e x
-    s = stands_in e x (runs_here e (site_of e.program (frame_of e) x) here) decoded
+    s = stands_in e x (runs_here e (site_of e.program (current_frame e) x) here) decoded
 
-    made : (class : ℕ) (lengths : List ℤ) (below : List Value) → HasDimensions e.program (natural x.0.second) class → length lengths ≡ natural x.0.second → length below + 1 ≤ (frame_of e).room
-        → KeepsSound e.program (ends (leaving e (site_of e.program (frame_of e) x) (Ref (next_object (begins e)) ∷ below) (arrays_made e class (naturals lengths) (begins e))))
+    made : (class : ℕ) (lengths : List ℤ) (below : List Value) → HasDimensions e.program (natural_of x.0.second) class → length lengths ≡ natural_of x.0.second → length below + 1 ≤ (current_frame e).room
+        → KeepsSound e.program (ends_event (leaving_values e (site_of e.program (current_frame e) x) (Ref (next_object (begins e)) ∷ below) (arrays_made e class (naturals lengths) (begins e))))
     made class lengths below has many few =
-        let count : natural x.0.second ≡ length (naturals lengths) = sym (length-naturals lengths ∙ many) in
+        let count : natural_of x.0.second ≡ length (naturals lengths) = sym (length-naturals lengths ∙ many) in
         let more : IsMore e.program (begins e) (arrays_made e class (naturals lengths) (begins e)) =
         arrays_more e class (naturals lengths) (begins e) may.slots (subst (λ (n : ℕ). HasDimensions e.program n class) count has) g.well in
         let operands : List Value = Ref (next_object (begins e)) ∷ below in
-        let few_operands : length operands ≤ (frame_of e).room = omega arith in
-        ends_sound e.program (leaving e (site_of e.program (frame_of e) x) operands (arrays_made e class (naturals lengths) (begins e)))
-        (leaving_well e (site_of e.program (frame_of e) x) operands (arrays_made e class (naturals lengths) (begins e)) here few_operands more.well more.threads)
+        let few_operands : length operands ≤ (current_frame e).room = omega arith in
+        ends_sound e.program (leaving_values e (site_of e.program (current_frame e) x) operands (arrays_made e class (naturals lengths) (begins e)))
+        (leaving_well e (site_of e.program (current_frame e) x) operands (arrays_made e class (naturals lengths) (begins e)) here few_operands more.well more.threads)
 
-    by : (o : Option (List ℕ)) → class_operand (site_of e.program (frame_of e) x) ≡ o
-        → KeepsSound e.program (with_class e o (λ name. with_lengths (natural x.0.second) [] (ill_typed e) (frame_of e).operands (λ lengths below. resolved_class e (begins e) name (λ class.
+    by : (o : Option (List ℕ)) → class_operand (site_of e.program (current_frame e) x) ≡ o
+        → KeepsSound e.program (with_class e o (λ name. with_lengths (natural_of x.0.second) [] (ill_typed e) (current_frame e).operands (λ lengths below. resolved_class e (begins e) name (λ class.
         throws_unless e (begins e) NegativeArraySizeException (list_all (int_le (pos 0)) lengths)
-        (ends (leaving e (site_of e.program (frame_of e) x) (Ref (next_object (begins e)) ∷ below) (arrays_made e class (naturals lengths) (begins e))))))))
+        (ends_event (leaving_values e (site_of e.program (current_frame e) x) (Ref (next_object (begins e)) ∷ below) (arrays_made e class (naturals lengths) (begins e))))))))
     by None q = tt
     by (Some name) q =
-        lengths_taken (KeepsSound e.program) (ill_typed e) tt e.before.heap (natural x.0.second) (frame_of e).room [] (frame_of e).operands _ (operands_there e (site_of e.program (frame_of e) x) here) (λ lengths below many few.
+        lengths_taken (KeepsSound e.program) (ill_typed e) tt e.before.heap (natural_of x.0.second) (current_frame e).room [] (current_frame e).operands _ (operands_there e (site_of e.program (current_frame e) x) here) (λ lengths below many few.
         where_resolved e (begins e) (resolve_class e.program name) _ may.makes g (λ class found.
         unless_thrown e (begins e) NegativeArraySizeException (list_all (int_le (pos 0)) lengths) _ may.makes g (λ fine.
         let has = may.arrays.multi s.method x class s.is row (names_class e x s name class q found) in
@@ -212,26 +212,26 @@ multi_array_sound e at here may =
 nothing : (o : Option ℕ) → o ≡ None → IsSome o → ⊥
 nothing o none some = cc
 
-array_at : (e : Moment) (x : Instr × ℕ) → StandsAt e (site_of e.program (frame_of e) x) → IsRunnable e.program → decoded_at e.program (frame_of e) ≡ Ok x → row_of x.0.opcode ≡ Some (Heap NewArray)
-    → KeepsSound e.program (new_array e (site_of e.program (frame_of e) x))
-array_at e x here may decoded row = by (base_array e.program (natural x.0.first)) refl (may.arrays.base s.method x s.is row)
+array_at : (e : Moment) (x : Instr × ℕ) → StandsAt e (site_of e.program (current_frame e) x) → IsRunnable e.program → decoded_at e.program (current_frame e) ≡ Ok x → row_of x.0.opcode ≡ Some (Heap NewArray)
+    → KeepsSound e.program (new_array e (site_of e.program (current_frame e) x))
+array_at e x here may decoded row = by (base_array e.program (natural_of x.0.first)) refl (may.arrays.base s.method x s.is row)
   where
     s : StandsIn e x
-    s = stands_in e x (runs_here e (site_of e.program (frame_of e) x) here) decoded
+    s = stands_in e x (runs_here e (site_of e.program (current_frame e) x) here) decoded
 
-    by : (o : Option ℕ) → base_array e.program (natural x.0.first) ≡ o → IsSome o → KeepsSound e.program (new_array e (site_of e.program (frame_of e) x))
+    by : (o : Option ℕ) → base_array e.program (natural_of x.0.first) ≡ o → IsSome o → KeepsSound e.program (new_array e (site_of e.program (current_frame e) x))
     by None q some = absurd (nothing None refl some)
-    by (Some c) q some = new_array_keeps e (site_of e.program (frame_of e) x) c here may.makes may.slots q
+    by (Some c) q some = new_array_keeps e (site_of e.program (current_frame e) x) c here may.makes may.slots q
 
 pub new_array_sound : (e : Moment) (at : Site) → IsAtRow e at (Heap NewArray) → IsRunnable e.program → KeepsSound e.program (new_array e at)
 new_array_sound e at here may =
     subst (λ (s : Site). KeepsSound e.program (new_array e s)) (sym here.site) (array_at e here.decoded (subst (λ (s : Site). StandsAt e s) here.site here.stands) may here.is here.row)
 
-reference_array_at : (e : Moment) (x : Instr × ℕ) → StandsAt e (site_of e.program (frame_of e) x) → IsRunnable e.program → decoded_at e.program (frame_of e) ≡ Ok x → row_of x.0.opcode ≡ Some (Heap NewReferenceArray)
-    → KeepsSound e.program (new_reference_array e (site_of e.program (frame_of e) x))
+reference_array_at : (e : Moment) (x : Instr × ℕ) → StandsAt e (site_of e.program (current_frame e) x) → IsRunnable e.program → decoded_at e.program (current_frame e) ≡ Ok x → row_of x.0.opcode ≡ Some (Heap NewReferenceArray)
+    → KeepsSound e.program (new_reference_array e (site_of e.program (current_frame e) x))
 reference_array_at e x here may decoded row =
-    let s : StandsIn e x = stands_in e x (runs_here e (site_of e.program (frame_of e) x) here) decoded in
-    new_reference_array_keeps e (site_of e.program (frame_of e) x) here may.makes may.slots (λ name class named found. may.arrays.single s.method x class s.is row (names_class e x s name class named found))
+    let s : StandsIn e x = stands_in e x (runs_here e (site_of e.program (current_frame e) x) here) decoded in
+    new_reference_array_keeps e (site_of e.program (current_frame e) x) here may.makes may.slots (λ name class named found. may.arrays.single s.method x class s.is row (names_class e x s name class named found))
 
 pub new_reference_array_sound : (e : Moment) (at : Site) → IsAtRow e at (Heap NewReferenceArray) → IsRunnable e.program → KeepsSound e.program (new_reference_array e at)
 new_reference_array_sound e at here may =

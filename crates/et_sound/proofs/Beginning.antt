@@ -20,15 +20,15 @@ use Rattle.et_state.specs.Threads.{FrameState, ThreadState, no_thread, as_entere
 use Rattle.et_state.specs.Words.{thread_at, IsUnended}
 use Rattle.et_state.proofs.Places.{ended_root}
 use Rattle.et_event.specs.declared.errors.GuestError.TheVariants.{AbstractMethodError, UnsatisfiedLinkError}
-use Rattle.et_event.specs.Calls.{entry_count, entering, entry_arguments, enters_first, enters_main, enters_run, entry_call, is_of_owner}
+use Rattle.et_event.specs.Calls.{entry_count, entering_frame, entry_arguments, enters_first, enters_main, enters_run, entry_call, is_of_owner}
 use Rattle.et_event.specs.Errors.{class_called}
 use Rattle.et_event.specs.Frames.{first_reference, receiver_of, method_frame, by_code}
-use Rattle.et_event.specs.Moments.{Moment, Doing, thread_of, begins, class_of, throws}
+use Rattle.et_event.specs.Moments.{Moment, Doing, thread_of, begins, object_class, throws}
 use Rattle.et_event.specs.Monitors.{lock_for}
 use Rattle.et_event.specs.Sound.{IsVoid, AreSoundFrames, IsSoundFor}
 use Rattle.et_sound.specs.Outcomes.{KeepsSound}
 use Rattle.et_event.specs.Programs.{is_initializing}
-use Rattle.et_sound.specs.WellFormed.{IsGoing, MayTake, MayEnter}
+use Rattle.et_sound.specs.WellFormed.{IsUnderWayAt, MayTake, MayEnter}
 use Rattle.et_sound.proofs.Frames.{first_frames}
 use Rattle.et_sound.proofs.Outcomes.{if_case, begins_well, throws_sound, unless_ill_typed, unless_thrown, where_resolved}
 use Rattle.et_sound.proofs.Threads.{with_thread_well, may_be_entered}
@@ -41,16 +41,16 @@ use Rattle.et_sound.proofs.Initialized.{IsReady, where_initialized}
 
 -- THE THREAD counts as entered
 
-entering_going : (e : Moment) (d : Doing) → IsGoing e d → IsGoing e (entering e d)
+entering_going : (e : Moment) (d : Doing) → IsUnderWayAt e d → IsUnderWayAt e (entering_frame e d)
 entering_going e d g =
     let x : ThreadState = as_entered (thread_at d.state.guest e.thread) in
-    let n : length (entering e d).state.guest.threads ≡ length d.state.guest.threads = length-set d.state.guest.threads e.thread x in
+    let n : length (entering_frame e d).state.guest.threads ≡ length d.state.guest.threads = length-set d.state.guest.threads e.thread x in
     record {
       well = with_thread_well e.program d.state e.thread x g.well g.thread (may_be_entered e.program d.state e.thread g.well g.thread);
       thread = subst (λ (k : ℕ). e.thread < k) (sym n) g.thread;
     }
 
-entering_frames : (e : Moment) (d : Doing) → IsGoing e d → (thread_at (entering e d).state.guest e.thread).frames ≡ (thread_at d.state.guest e.thread).frames
+entering_frames : (e : Moment) (d : Doing) → IsUnderWayAt e d → (thread_at (entering_frame e d).state.guest e.thread).frames ≡ (thread_at d.state.guest e.thread).frames
 entering_frames e d g = ap (λ (x : ThreadState). x.frames) (thread_now e (as_entered (thread_at d.state.guest e.thread)) d.state.guest.threads g.thread)
 
 -- ITS FIRST METHOD
@@ -71,7 +71,7 @@ record IsFirst (p : Linked) (m : ℕ) (arguments : List Value) : Type 0 where
   receiver : is_static p m ≡ false → IsSome (first_reference arguments)
   void : is_void type.returned ≡ true
 
-first_sound : (e : Moment) (d : Doing) (arguments : List Value) (m : ℕ) → IsRunnable e.program → IsEntry e → IsReady e d → IsFirst e.program m arguments → MayEnter (entering e d) (lock_for (method_at e.program m) (receiver_of e.program m arguments))
+first_sound : (e : Moment) (d : Doing) (arguments : List Value) (m : ℕ) → IsRunnable e.program → IsEntry e → IsReady e d → IsFirst e.program m arguments → MayEnter (entering_frame e d) (lock_for (method_at e.program m) (receiver_of e.program m arguments))
     → KeepsSound e.program (enters_first e d arguments m)
 first_sound e d arguments m may is ready first lock = by (method_at e.program m).code refl
   where
@@ -83,24 +83,24 @@ first_sound e d arguments m may is ready first lock = by (method_at e.program m)
         let room : entry_count (is_static e.program m || is_initializing e.program m) first.type ≤ body.max_locals = may.methods.arguments m body first.type first.within code first.typed in
         record { method = first.within; code = code; few = omega (arith, first.few); receiver = first.receiver }
 
-    no_frames : (thread_at (entering e d).state.guest e.thread).frames ≡ []
+    no_frames : (thread_at (entering_frame e d).state.guest e.thread).frames ≡ []
     no_frames = entering_frames e d ready.going ∙ (ap (λ (ts : List ThreadState). (slice_index_or ts e.thread no_thread).frames) ready.threads ∙ is.bare)
 
-    by : (o : Option Body) → (method_at e.program m).code ≡ o → KeepsSound e.program (by_code e d (entering e) m arguments (throws e AbstractMethodError d) o)
+    by : (o : Option Body) → (method_at e.program m).code ≡ o → KeepsSound e.program (by_code e d (entering_frame e) m arguments (throws e AbstractMethodError d) o)
     by (Some body) q =
-        let frames : AreSoundFrames e.program (method_frame e.program m body arguments ∷ (thread_at (entering e d).state.guest e.thread).frames) =
+        let frames : AreSoundFrames e.program (method_frame e.program m body arguments ∷ (thread_at (entering_frame e d).state.guest e.thread).frames) =
         subst (λ (fs : List FrameState). AreSoundFrames e.program (method_frame e.program m body arguments ∷ fs)) (sym no_frames) (first_frames e.program m body arguments (takes body q) (void body)) in
-        let entered : MayBeEntered e m body arguments d (entering e d) = record {
+        let entered : MayBeEntered e m body arguments d (entering_frame e d) = record {
           going = ready.going;
           left = entering_going e d ready.going;
           lock = lock;
           count = ap (λ (fs : List FrameState). length fs) (entering_frames e d ready.going);
           frames = frames;
         } in
-        code_sound e d (entering e) m arguments body is.sound is.clock may.makes entered
+        code_sound e d (entering_frame e) m arguments body is.sound is.clock may.makes entered
     by None q = unless_thrown e d UnsatisfiedLinkError (not (has (method_at e.program m).flags NATIVE)) _ may.makes ready.going (λ b. throws_sound e AbstractMethodError d may.makes ready.going)
 
-begins_going : (e : Moment) → IsEntry e → IsGoing e (begins e)
+begins_going : (e : Moment) → IsEntry e → IsUnderWayAt e (begins e)
 begins_going e is = record { well = begins_well e.program e is.sound is.clock; thread = is.unended.thread }
 
 -- MAIN
@@ -119,7 +119,7 @@ main_sound e may is =
     let m : ℕ = p.main in
     let args : List Value = entry_arguments (thread_of e).entry in
     where_initialized e (method_at p m).class _ is.sound is.clock may.initializers may.makes (may.owners m may.methods.main) (begins_going e is) (λ d ready.
-    let x : Doing = entering e d in
+    let x : Doing = entering_frame e d in
     let on : IsOnTime e x = record { clock = ready.on_time.clock; monitors = ready.on_time.monitors } in
     let lock : MayEnter x (lock_for (method_at p m) (receiver_of p m args)) = may_enter e x (lock_for (method_at p m) (receiver_of p m args)) is.sound on
     (λ o locked. let own : IsLockOf p m args o = lock_of p m args o locked in absurd (true≢false (sym may.methods.main_static ∙ own.instance))) in
@@ -155,16 +155,16 @@ run_sound : (e : Moment) (object : Option ℕ) → IsRunnable e.program → IsEn
 run_sound e None may is named = tt
 run_sound e (Some o) may is named =
     let p : Linked = e.program in
-    let g : IsGoing e (begins e) = begins_going e is in
+    let g : IsUnderWayAt e (begins e) = begins_going e is in
     let args : List Value = Ref o ∷ [] in
     let held : IsHeld e.before.heap o = object_held e o is named in
     where_resolved e (begins e) (resolve_method p (class_called p (codes "java/lang/Thread")) false (codes "run") (codes "()V")) _ may.makes g (λ m found.
     unless_ill_typed p e (is_of_owner e (begins e) m o) _ (λ own.
-    where_resolved e (begins e) (select p (class_of (begins e) o) m false) _ may.makes g (λ k chosen.
+    where_resolved e (begins e) (select p (object_class (begins e) o) m false) _ may.makes g (λ k chosen.
     let method : IsMethod p (codes "run") (codes "()V") m = resolved_method p (class_called p (codes "java/lang/Thread")) false (codes "run") (codes "()V") m found in
-    let selected : IsInstanceMethod p (method_at p m).name (method_at p m).descriptor k = selected_method p (class_of (begins e) o) m false k method.within (may.run m found) chosen in
+    let selected : IsInstanceMethod p (method_at p m).name (method_at p m).descriptor k = selected_method p (object_class (begins e) o) m false k method.within (may.run m found) chosen in
     let type : (method_at p k).descriptor ≡ codes "()V" = selected.method.descriptor ∙ method.descriptor in
-    let x : Doing = entering e (begins e) in
+    let x : Doing = entering_frame e (begins e) in
     let on : IsOnTime e x = record { clock = refl; monitors = refl } in
     let lock : MayEnter x (lock_for (method_at p k) (receiver_of p k args)) = may_enter e x (lock_for (method_at p k) (receiver_of p k args)) is.sound on
     (λ q locked.

@@ -23,18 +23,18 @@ use Rattle.et_event.specs.declared.rows.BuiltIn.{BuiltIn}
 use Rattle.et_event.specs.declared.rows.Operand.TheVariants as operand
 use Rattle.et_event.specs.declared.rows.BuiltIn.TheVariants as built_in
 use Rattle.et_event.specs.declared.errors.GuestError.TheVariants.{AbstractMethodError, IllegalThreadStateException, OutOfMemoryError}
-use Rattle.et_event.specs.BuiltIns.{built_ins, is_called, built_in_of, argument, answering, reference_in, with_referent_of, reference_of, starts, with_thread_for, has_ended, is_object_of, built_in_row, done_by, built_in_event}
+use Rattle.et_event.specs.BuiltIns.{built_ins, is_called, built_in_of, argument, answering, reference_in, with_referent_of, reference_of, starts_thread, with_thread_for, has_thread_ended, is_object_of_class, built_in_row, done_by, built_in_event}
 use Rattle.et_event.specs.Calls.{begin_with, is_empty, are_arguments}
-use Rattle.et_event.specs.Checks.{value_of, ill_typed_unless}
+use Rattle.et_event.specs.Checks.{reference_value, ill_typed_unless}
 use Rattle.et_event.specs.Errors.{class_called}
 use Rattle.et_event.specs.Frames.{first_reference}
-use Rattle.et_event.specs.Kinds.{kind_of, returned_width}
-use Rattle.et_event.specs.Moments.{Moment, Doing, frame_of, begins, class_of, slot_written, goes, fits}
+use Rattle.et_event.specs.Kinds.{operand_kind, returned_width}
+use Rattle.et_event.specs.Moments.{Moment, Doing, current_frame, begins, object_class, slot_written, goes, fits_heap}
 use Rattle.et_event.specs.Sites.{Site}
 use Rattle.et_event.specs.Sound.{is_of_kind, returned_of}
 use Rattle.et_sound.specs.Outcomes.{KeepsSound}
 use Rattle.et_event.specs.Programs.{KeepsFree, KeepFree, IsTarget, KeepsTarget, MayHold}
-use Rattle.et_sound.specs.WellFormed.{IsWellFormed, IsGoing, KeepsFrame, StandsAt}
+use Rattle.et_sound.specs.WellFormed.{IsWellFormed, IsUnderWayAt, KeepsFrame, StandsAt}
 use Rattle.et_sound.proofs.Fields.{going}
 use Rattle.et_sound.proofs.Monitors.{started_well}
 use Rattle.et_sound.proofs.Objects.{heap_now, object_is_sound}
@@ -194,7 +194,7 @@ target_holds p c v may lt below reference =
       fields = λ f within instance under e.
           let first : (field_at p f).slot < 1 = omega (arith, e) in
           let is : IsTarget p f = k.target f (record { within = within; instance = instance; below = under }) first in
-          subst (λ (d : List ℕ). is_of_kind (kind_of d) v ≡ true) (sym is.descriptor) reference;
+          subst (λ (d : List ℕ). is_of_kind (operand_kind d) v ≡ true) (sym is.descriptor) reference;
       elements = inr k.bare;
     }
 
@@ -205,7 +205,7 @@ pub record IsBuiltIn (e : Moment) (at : Site) (arguments : List Value) (o : ℕ)
   pub here : StandsAt e at
   pub run : IsRunnable e.program
   pub held : IsHeld e.before.heap o
-  pub room : length (drop (length arguments) (frame_of e).operands) + given b ≤ (frame_of e).room
+  pub room : length (drop (length arguments) (current_frame e).operands) + given b ≤ (current_frame e).room
   pub target : b ≡ built_in.SetTarget → IsReference (argument arguments 1)
 
 -- A SLOT OF THE OBJECT IS WRITTEN
@@ -213,10 +213,10 @@ pub record IsBuiltIn (e : Moment) (at : Site) (arguments : List Value) (o : ℕ)
 record IsAfter (p : Linked) (o c : ℕ) (x : Doing) : Type 0 where
   well : IsWellFormed p x.state
   held : IsHeld x.state.heap o
-  class : class_of x o ≡ c
-  fitting : fits x.state.heap ≡ true
+  class : object_class x o ≡ c
+  fitting : fits_heap x.state.heap ≡ true
 
-written : (e : Moment) (o i : ℕ) (v : Value) (d : Doing) → IsWellFormed e.program d.state → IsHeld d.state.heap o → fits d.state.heap ≡ true → MayHold e.program (class_of d o) i v → IsAfter e.program o (class_of d o) (slot_written e o i v d)
+written : (e : Moment) (o i : ℕ) (v : Value) (d : Doing) → IsWellFormed e.program d.state → IsHeld d.state.heap o → fits_heap d.state.heap ≡ true → MayHold e.program (object_class d o) i v → IsAfter e.program o (object_class d o) (slot_written e o i v d)
 written e o i v d h held fit may =
     let x : ObjectState = object_at d.state.heap o in
     let next : Doing = record { state = heap_now d.state (with_object_at d.state.heap o (with_slot i v x)); records = d.records } in
@@ -231,30 +231,30 @@ written e o i v d h held fit may =
 
 module _ (e : Moment) (at : Site) (arguments : List Value) (o : ℕ) where
   -- the frame goes on behind the call
-  going_on : (b : BuiltIn) (values : List Value) → IsBuiltIn e at arguments o b → length values ≤ given b → IsGoing e (answering e at arguments values (begins e))
+  going_on : (b : BuiltIn) (values : List Value) → IsBuiltIn e at arguments o b → length values ≤ given b → IsUnderWayAt e (answering e at arguments values (begins e))
   going_on b values is few =
-      let f : FrameState = record (frame_of e) { pc = at.next; operands = values ++ drop (length arguments) (frame_of e).operands } in
-      let keeps : KeepsFrame e.program (frame_of e) f = record { same = refl; runs = is.here.runs; pc = is.here.next; locals = refl; operands = omega (arith, length-append values (drop (length arguments) (frame_of e).operands), is.room) } in
+      let f : FrameState = record (current_frame e) { pc = at.next; operands = values ++ drop (length arguments) (current_frame e).operands } in
+      let keeps : KeepsFrame e.program (current_frame e) f = record { same = refl; runs = is.here.runs; pc = is.here.next; locals = refl; operands = omega (arith, length-append values (drop (length arguments) (current_frame e).operands), is.room) } in
       framed_going e at f (begins e) is.here keeps (going e at is.here).well refl
 
   answers : (b : BuiltIn) (values : List Value) → IsBuiltIn e at arguments o b → length values ≤ given b → KeepsSound e.program (goes (answering e at arguments values (begins e)))
   answers b values is few = goes_sound e.program (answering e at arguments values (begins e)) is.here.sound.fits (going_on b values is few).well
 
-  class_within : (b : BuiltIn) → IsBuiltIn e at arguments o b → class_of (begins e) o < length e.program.classes
+  class_within : (b : BuiltIn) → IsBuiltIn e at arguments o b → object_class (begins e) o < length e.program.classes
   class_within b is = (object_is_sound e.program (begins e).state o (going e at is.here).well is.held).0.class
 
   -- it is of this class
-  on_class : (name : List ℕ) (go : Outcome Kept) → (is_subclass e.program (class_of (begins e) o) (class_called e.program name) ≡ true → KeepsSound e.program go) → KeepsSound e.program (ill_typed_unless e (is_object_of e (begins e) o name) go)
-  on_class name go h = unless_ill_typed e.program e (is_subclass e.program (class_of (begins e) o) (class_called e.program name)) go h
+  on_class : (name : List ℕ) (go : Outcome Kept) → (is_subclass e.program (object_class (begins e) o) (class_called e.program name) ≡ true → KeepsSound e.program go) → KeepsSound e.program (ill_typed_unless e (is_object_of_class e (begins e) o name) go)
+  on_class name go h = unless_ill_typed e.program e (is_subclass e.program (object_class (begins e) o) (class_called e.program name)) go h
 
   -- a slot is written that the machine uses
-  writes : (b : BuiltIn) (name : List ℕ) (count i : ℕ) (v : Value) → IsBuiltIn e at arguments o b → KeepFree e.program name count → is_subclass e.program (class_of (begins e) o) (class_called e.program name) ≡ true → i < count
-      → IsAfter e.program o (class_of (begins e) o) (slot_written e o i v (answering e at arguments [] (begins e)))
+  writes : (b : BuiltIn) (name : List ℕ) (count i : ℕ) (v : Value) → IsBuiltIn e at arguments o b → KeepFree e.program name count → is_subclass e.program (object_class (begins e) o) (class_called e.program name) ≡ true → i < count
+      → IsAfter e.program o (object_class (begins e) o) (slot_written e o i v (answering e at arguments [] (begins e)))
   writes b name count i v is free below small =
-      written e o i v (answering e at arguments [] (begins e)) (going_on b [] is (no_entries b)).well is.held is.here.sound.fits (free_holds e.program name count (class_of (begins e) o) i v free (class_within b is) below small)
+      written e o i v (answering e at arguments [] (begins e)) (going_on b [] is (no_entries b)).well is.held is.here.sound.fits (free_holds e.program name count (object_class (begins e) o) i v free (class_within b is) below small)
 
-  starting : IsBuiltIn e at arguments o built_in.Start → is_subclass e.program (class_of (begins e) o) (class_called e.program (codes "java/lang/Thread")) ≡ true → (k : Option ℕ)
-      → KeepsSound e.program (starts e (begins e) o (goes (with_thread_for o (answering e at arguments [] (begins e)))) k)
+  starting : IsBuiltIn e at arguments o built_in.Start → is_subclass e.program (object_class (begins e) o) (class_called e.program (codes "java/lang/Thread")) ≡ true → (k : Option ℕ)
+      → KeepsSound e.program (starts_thread e (begins e) o (goes (with_thread_for o (answering e at arguments [] (begins e)))) k)
   starting is below (Some k) = throws_sound e IllegalThreadStateException (begins e) is.run.makes (going e at is.here)
   starting is below None =
       unless_thrown e (begins e) OutOfMemoryError (nat_lt (length e.before.guest.threads) most_threads) _ is.run.makes (going e at is.here) (λ few.
@@ -274,35 +274,35 @@ module _ (e : Moment) (at : Site) (arguments : List Value) (o : ℕ) where
   row_sound built_in.Nothing is = answers built_in.Nothing [] is (no_entries built_in.Nothing)
   row_sound built_in.SetMessage is =
       on_class (codes "java/lang/Throwable") _ (λ below.
-      let x : IsAfter e.program o (class_of (begins e) o) (slot_written e o 0 (argument arguments 1) (answering e at arguments [] (begins e))) = writes built_in.SetMessage (codes "java/lang/Throwable") 2 0 (argument arguments 1) is is.run.machine_slots.throwables below (omega arith) in
+      let x : IsAfter e.program o (object_class (begins e) o) (slot_written e o 0 (argument arguments 1) (answering e at arguments [] (begins e))) = writes built_in.SetMessage (codes "java/lang/Throwable") 2 0 (argument arguments 1) is is.run.machine_slots.throwables below (omega arith) in
       goes_sound e.program (slot_written e o 0 (argument arguments 1) (answering e at arguments [] (begins e))) x.fitting x.well)
   row_sound built_in.SetMessageAndCause is =
       on_class (codes "java/lang/Throwable") _ (λ below.
       let d : Doing = slot_written e o 0 (argument arguments 1) (answering e at arguments [] (begins e)) in
-      let x : IsAfter e.program o (class_of (begins e) o) d = writes built_in.SetMessageAndCause (codes "java/lang/Throwable") 2 0 (argument arguments 1) is is.run.machine_slots.throwables below (omega arith) in
-      let holds : MayHold e.program (class_of (begins e) o) 1 (argument arguments 2) =
-      free_holds e.program (codes "java/lang/Throwable") 2 (class_of (begins e) o) 1 (argument arguments 2) is.run.machine_slots.throwables (class_within built_in.SetMessageAndCause is) below (omega arith) in
-      let y : IsAfter e.program o (class_of d o) (slot_written e o 1 (argument arguments 2) d) = written e o 1 (argument arguments 2) d x.well x.held x.fitting (subst (λ (c : ℕ). MayHold e.program c 1 (argument arguments 2)) (sym x.class) holds) in
+      let x : IsAfter e.program o (object_class (begins e) o) d = writes built_in.SetMessageAndCause (codes "java/lang/Throwable") 2 0 (argument arguments 1) is is.run.machine_slots.throwables below (omega arith) in
+      let holds : MayHold e.program (object_class (begins e) o) 1 (argument arguments 2) =
+      free_holds e.program (codes "java/lang/Throwable") 2 (object_class (begins e) o) 1 (argument arguments 2) is.run.machine_slots.throwables (class_within built_in.SetMessageAndCause is) below (omega arith) in
+      let y : IsAfter e.program o (object_class d o) (slot_written e o 1 (argument arguments 2) d) = written e o 1 (argument arguments 2) d x.well x.held x.fitting (subst (λ (c : ℕ). MayHold e.program c 1 (argument arguments 2)) (sym x.class) holds) in
       goes_sound e.program (slot_written e o 1 (argument arguments 2) d) y.fitting y.well)
   row_sound built_in.GetMessage is = on_class (codes "java/lang/Throwable") _ (λ below. answers built_in.GetMessage (reference_in (begins e) o 0 ∷ []) is (omega arith))
   row_sound built_in.GetCause is = on_class (codes "java/lang/Throwable") _ (λ below. answers built_in.GetCause (reference_in (begins e) o 1 ∷ []) is (omega arith))
   row_sound built_in.SetTarget is =
       on_class (codes "java/lang/Thread") _ (λ below.
       let v : Value = argument arguments 1 in
-      let holds : MayHold e.program (class_of (begins e) o) 0 v = target_holds e.program (class_of (begins e) o) v is.run (class_within built_in.SetTarget is) below (is.target refl) in
-      let x : IsAfter e.program o (class_of (begins e) o) (slot_written e o 0 v (answering e at arguments [] (begins e))) =
+      let holds : MayHold e.program (object_class (begins e) o) 0 v = target_holds e.program (object_class (begins e) o) v is.run (class_within built_in.SetTarget is) below (is.target refl) in
+      let x : IsAfter e.program o (object_class (begins e) o) (slot_written e o 0 v (answering e at arguments [] (begins e))) =
       written e o 0 v (answering e at arguments [] (begins e)) (going_on built_in.SetTarget [] is (no_entries built_in.SetTarget)).well is.held is.here.sound.fits holds in
       goes_sound e.program (slot_written e o 0 v (answering e at arguments [] (begins e))) x.fitting x.well)
   row_sound built_in.Start is = on_class (codes "java/lang/Thread") _ (λ below. starting is below (thread_with e.before.guest.threads o))
   row_sound built_in.Join is =
-      unless_waiting e.program e (has_ended (begins e) (thread_with e.before.guest.threads o)) _ is.here.sound is.here.clock (λ ended. answers built_in.Join [] is (no_entries built_in.Join))
+      unless_waiting e.program e (has_thread_ended (begins e) (thread_with e.before.guest.threads o)) _ is.here.sound is.here.clock (λ ended. answers built_in.Join [] is (no_entries built_in.Join))
   row_sound built_in.SetReferent is = referring built_in.SetReferent (reference_of (argument arguments 1)) is
-  row_sound built_in.GetReferent is = answers built_in.GetReferent (value_of (object_at e.before.heap o).referent ∷ []) is (omega arith)
+  row_sound built_in.GetReferent is = answers built_in.GetReferent (reference_value (object_at e.before.heap o).referent ∷ []) is (omega arith)
   row_sound built_in.ClearReferent is = referring built_in.ClearReferent None is
 
 -- THE EVENT of a selected method without code
 pub built_in_sound : (e : Moment) (at : Site) (arguments : List Value) (m : MethodInfo) (type : MethodType) → StandsAt e at → IsRunnable e.program → ((o : ℕ) → first_reference arguments ≡ Some o → IsHeld e.before.heap o)
-    → method_type m.descriptor ≡ Some type → are_arguments false type arguments ≡ true → length (drop (length arguments) (frame_of e).operands) + returned_width (returned_of m) ≤ (frame_of e).room → KeepsSound e.program (built_in_event e at (begins e) arguments m)
+    → method_type m.descriptor ≡ Some type → are_arguments false type arguments ≡ true → length (drop (length arguments) (current_frame e).operands) + returned_width (returned_of m) ≤ (current_frame e).room → KeepsSound e.program (built_in_event e at (begins e) arguments m)
 built_in_sound e at arguments m type here run held typed are room = by (first_reference arguments) (built_in_of m) held (λ b is. gives m b is) (target_reference m type arguments typed are)
   where
     by : (r : Option ℕ) (b : Option BuiltIn) → ((o : ℕ) → r ≡ Some o → IsHeld e.before.heap o) → ((k : BuiltIn) → b ≡ Some k → given k ≤ returned_width (returned_of m)) → ((k : BuiltIn) → b ≡ Some k → k ≡ built_in.SetTarget → IsReference (argument arguments 1))

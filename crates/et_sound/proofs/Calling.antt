@@ -21,13 +21,13 @@ use Rattle.et_event.specs.declared.errors.GuestError.TheVariants.{UnsatisfiedLin
 use Rattle.et_event.specs.Calls.{entry_count, arguments_of, is_static_call, are_arguments, taking}
 use Rattle.et_event.specs.Frames.{first_reference, receiver_of, method_frame, by_code, enters}
 use Rattle.et_event.specs.Kinds.{returned_width}
-use Rattle.et_event.specs.Moments.{Moment, Doing, frame_of, thread_of}
+use Rattle.et_event.specs.Moments.{Moment, Doing, current_frame, thread_of}
 use Rattle.et_event.specs.Monitors.{lock_for}
-use Rattle.et_event.specs.Sites.{Site, Member, member_of}
+use Rattle.et_event.specs.Sites.{Site, Member, site_member}
 use Rattle.et_event.specs.Sound.{IsCaller, AreSoundFrames, returned_of}
 use Rattle.et_sound.specs.Outcomes.{KeepsSound}
 use Rattle.et_event.specs.Programs.{is_initializing}
-use Rattle.et_sound.specs.WellFormed.{IsGoing, MayTake, MayEnter}
+use Rattle.et_sound.specs.WellFormed.{IsUnderWayAt, MayTake, MayEnter}
 use Rattle.et_sound.proofs.Frames.{call_frames}
 use Rattle.et_sound.proofs.Outcomes.{unless_thrown}
 use Rattle.et_sound.specs.Methods.{IsMethod}
@@ -40,12 +40,12 @@ use Rattle.et_sound.proofs.Entering.{taking_going, taken_frames, caller_frames, 
 
 pub record IsCall (e : Moment) (at : Site) (kind : CallKind) (member : Member) (type : MethodType) : Type 0 where
   pub here : IsAtRow e at (Call (Invoke kind))
-  pub names : member_of at ≡ Some member
+  pub names : site_member at ≡ Some member
   pub typed : method_type member.descriptor ≡ Some type
   -- it doesn't name <clinit>
   pub called : bytes_eq member.name (codes "<clinit>") ≡ false
   pub passed : are_arguments (is_static_call kind) type (arguments_of e (entry_count (is_static_call kind) type)) ≡ true
-  pub fits : length (drop (entry_count (is_static_call kind) type) (frame_of e).operands) + returned_width type.returned ≤ (frame_of e).room
+  pub fits : length (drop (entry_count (is_static_call kind) type) (current_frame e).operands) + returned_width type.returned ≤ (current_frame e).room
 
 -- its arguments
 abbrev pub passed : Moment → CallKind → MethodType → List Value
@@ -73,16 +73,16 @@ either false b c e h = h ∙ e
 
 takes : (e : Moment) (at : Site) (kind : CallKind) (member : Member) (type : MethodType) (m : ℕ) (body : Body) → IsRunnable e.program → IsCall e at kind member type → IsCalled e kind member type m → (method_at e.program m).code ≡ Some body → MayTake e.program m body (passed e kind type)
 takes e at kind member type m body may call called code =
-    let args : AreArguments (frame_of e).operands (entry_count (is_static_call kind) type) (passed e kind type) = arguments_are (frame_of e).operands (entry_count (is_static_call kind) type) in
+    let args : AreArguments (current_frame e).operands (entry_count (is_static_call kind) type) (passed e kind type) = arguments_are (current_frame e).operands (entry_count (is_static_call kind) type) in
     let few : entry_count (is_static e.program m || is_initializing e.program m) type ≤ body.max_locals = may.methods.arguments m body type called.method.within code (typed_as e kind member type m call.typed called) in
     let flags : (is_static e.program m || is_initializing e.program m) ≡ is_static_call kind = either (is_static e.program m) (is_initializing e.program m) (is_static_call kind) called.static (not_initializing e kind member type m call.called called) in
     let same : entry_count (is_static e.program m || is_initializing e.program m) type ≡ entry_count (is_static_call kind) type = ap (λ (b : Bool). entry_count b type) flags in
     record { method = called.method.within; code = code; few = omega (arith, args.few); receiver = called.receiver }
 
 caller : (e : Moment) (at : Site) (kind : CallKind) (member : Member) (type : MethodType) (m : ℕ) (body : Body) → IsCall e at kind member type → IsCalled e kind member type m
-    → IsCaller e.program (popped (length (passed e kind type)) (frame_of e)) (method_frame e.program m body (passed e kind type))
+    → IsCaller e.program (popped (length (passed e kind type)) (current_frame e)) (method_frame e.program m body (passed e kind type))
 caller e at kind member type m body call called =
-    let args : AreArguments (frame_of e).operands (entry_count (is_static_call kind) type) (passed e kind type) = arguments_are (frame_of e).operands (entry_count (is_static_call kind) type) in
+    let args : AreArguments (current_frame e).operands (entry_count (is_static_call kind) type) (passed e kind type) = arguments_are (current_frame e).operands (entry_count (is_static_call kind) type) in
     let width : returned_width (returned_of (method_at e.program m)) ≡ returned_width type.returned = ap returned_width (returned_as e kind member type m call.typed called) in
     record {
       runs = call.here.stands.runs;
@@ -91,7 +91,7 @@ caller e at kind member type m body call called =
       kind = kind;
       call = call.here.row;
       member = member;
-      names = subst (λ (s : Site). member_of s ≡ Some member) call.here.site call.names;
+      names = subst (λ (s : Site). site_member s ≡ Some member) call.here.site call.names;
       descriptor = sym called.method.descriptor;
       fits = omega (arith, args.left, call.fits);
     }
@@ -99,7 +99,7 @@ caller e at kind member type m body call called =
 -- IT IS ENTERED, in a state with the threads before the event
 
 pub record IsCalledIn (e : Moment) (kind : CallKind) (type : MethodType) (m : ℕ) (d : Doing) : Type 0 where
-  pub going : IsGoing e d
+  pub going : IsUnderWayAt e d
   pub threads : d.state.guest.threads ≡ e.before.guest.threads
   pub lock : MayEnter (taking e (length (passed e kind type)) d) (lock_for (method_at e.program m) (receiver_of e.program m (passed e kind type)))
 
@@ -109,9 +109,9 @@ with_code e at kind member type m d body may call called is code =
     let p : Linked = e.program in
     let n : ℕ = length (passed e kind type) in
     let below : List FrameState = rest_of (thread_of e).frames in
-    let frames : (thread_at (taking e n d).state.guest e.thread).frames ≡ popped n (frame_of e) ∷ below = taken_frames e n d call.here.stands.frame.thread is.threads in
-    let there : AreSoundFrames p (method_frame p m body (passed e kind type) ∷ popped n (frame_of e) ∷ below) =
-    call_frames p m body (passed e kind type) (popped n (frame_of e)) below (takes e at kind member type m body may call called code) (caller e at kind member type m body call called) (caller_frames e at n call.here.stands) in
+    let frames : (thread_at (taking e n d).state.guest e.thread).frames ≡ popped n (current_frame e) ∷ below = taken_frames e n d call.here.stands.frame.thread is.threads in
+    let there : AreSoundFrames p (method_frame p m body (passed e kind type) ∷ popped n (current_frame e) ∷ below) =
+    call_frames p m body (passed e kind type) (popped n (current_frame e)) below (takes e at kind member type m body may call called code) (caller e at kind member type m body call called) (caller_frames e at n call.here.stands) in
     record {
       going = is.going;
       left = taking_going e at n d call.here.stands is.going.well is.threads;
@@ -124,7 +124,7 @@ with_code e at kind member type m d body may call called is code =
     one_less [] lt = absurd (omega arith)
     one_less (f ∷ fs) lt = omega arith
 
-    counted : (q : Moment) (n : ℕ) (x : Doing) → 0 < length (thread_of q).frames → x.state.guest.threads ≡ q.before.guest.threads → length (popped n (frame_of q) ∷ rest_of (thread_of q).frames) ≡ length (thread_at x.state.guest q.thread).frames
+    counted : (q : Moment) (n : ℕ) (x : Doing) → 0 < length (thread_of q).frames → x.state.guest.threads ≡ q.before.guest.threads → length (popped n (current_frame q) ∷ rest_of (thread_of q).frames) ≡ length (thread_at x.state.guest q.thread).frames
     counted q n x lt same =
         let a : 1 + length (rest_of (thread_of q).frames) ≡ length (thread_of q).frames = one_less (thread_of q).frames lt in
         let b : length (thread_at x.state.guest q.thread).frames ≡ length (thread_of q).frames = ap (λ (ts : List ThreadState). length (slice_index_or ts q.thread no_thread).frames) same in

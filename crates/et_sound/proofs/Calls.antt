@@ -17,12 +17,12 @@ use Rattle.et_state.proofs.Places.{top_root, lock_root}
 use Rattle.et_event.specs.Calls.{class_done_by, frame_returned}
 use Rattle.et_event.specs.Frames.{receiver_of, method_frame, frame_entered, frames_after_return}
 use Rattle.et_event.specs.Kinds.{returned_width}
-use Rattle.et_event.specs.Moments.{Moment, Doing, frame_of, thread_of, begins, goes, fits}
+use Rattle.et_event.specs.Moments.{Moment, Doing, current_frame, thread_of, begins, goes, fits_heap}
 use Rattle.et_event.specs.Monitors.{Lock, OfObject, OfClass, entered, lock_for, lock_in, entered_some, left_some}
-use Rattle.et_event.specs.Sites.{method_of}
+use Rattle.et_event.specs.Sites.{running_method}
 use Rattle.et_event.specs.Sound.{returned_of, IsStaged, AreSoundFrames, IsSoundFor}
 use Rattle.et_sound.specs.Outcomes.{KeepsSound}
-use Rattle.et_sound.specs.WellFormed.{IsWellFormed, IsGoing, MayBeThread, MayEnter}
+use Rattle.et_sound.specs.WellFormed.{IsWellFormed, IsUnderWayAt, MayBeThread, MayEnter}
 use Rattle.et_sound.proofs.Frames.{with_first, returned_frames, length-resumed}
 use Rattle.et_sound.proofs.Initializing.{not_done}
 use Rattle.et_sound.proofs.Monitors.{entered_well, left_well, left_fits, class_well}
@@ -39,11 +39,11 @@ record HasEntered (e : Moment) (d x : Doing) : Type 0 where
   well : IsWellFormed e.program x.state
   threads : x.state.guest.threads ≡ d.state.guest.threads
 
-some_entered : (e : Moment) (lock : Option Lock) (d : Doing) → IsGoing e d → MayEnter d lock → HasEntered e d (entered_some e lock d)
+some_entered : (e : Moment) (lock : Option Lock) (d : Doing) → IsUnderWayAt e d → MayEnter d lock → HasEntered e d (entered_some e lock d)
 some_entered e None d g may = record { well = g.well; threads = refl }
 some_entered e (Some lock) d g may = record { well = entered_well e.program e lock d g.well may.0 g.thread may.1; threads = threads_entered e lock d }
 
-pub frame_entered_well : (e : Moment) (m : ℕ) (body : Body) (arguments : List Value) (d : Doing) → IsGoing e d → MayEnter d (lock_for (method_at e.program m) (receiver_of e.program m arguments)) → length (thread_at d.state.guest e.thread).frames < most_frames
+pub frame_entered_well : (e : Moment) (m : ℕ) (body : Body) (arguments : List Value) (d : Doing) → IsUnderWayAt e d → MayEnter d (lock_for (method_at e.program m) (receiver_of e.program m arguments)) → length (thread_at d.state.guest e.thread).frames < most_frames
     → AreSoundFrames e.program (method_frame e.program m body arguments ∷ (thread_at d.state.guest e.thread).frames) → IsWellFormed e.program (frame_entered e m body arguments d).state
 frame_entered_well e m body arguments d g may few frames =
     let p : Linked = e.program in
@@ -63,7 +63,7 @@ frame_entered_well e m body arguments d g may few frames =
 record HasLeft (e : Moment) (x : Doing) : Type 0 where
   well : IsWellFormed e.program x.state
   threads : x.state.guest.threads ≡ e.before.guest.threads
-  fitting : fits x.state.heap ≡ true
+  fitting : fits_heap x.state.heap ≡ true
 
 some_left : (e : Moment) (lock : Option Lock) → IsSoundFor e.program e.before → IsWellFormed e.program (begins e).state → IsSomeThere e.before lock → HasLeft e (left_some lock (begins e))
 some_left e None sound h there = record { well = h; threads = refl; fitting = sound.fits }
@@ -79,16 +79,16 @@ class_is_done e f (Clinit c) d staged h = record { well = class_well e.program c
     class_of None s = absurd s
     class_of (Some m) s = s.0
 
-lock_of_frame : (s : Kept) (f : FrameState) (stage : Stage) (p : Linked) → ((o : ℕ) → f.lock ≡ Some o → IsHeld s.heap o) → IsSomeThere s (lock_in stage (method_of p f) f.lock)
-lock_of_frame s f Plain p held = lock_there s (method_of p f) f.lock held
+lock_of_frame : (s : Kept) (f : FrameState) (stage : Stage) (p : Linked) → ((o : ℕ) → f.lock ≡ Some o → IsHeld s.heap o) → IsSomeThere s (lock_in stage (running_method p f) f.lock)
+lock_of_frame s f Plain p held = lock_there s (running_method p f) f.lock held
 lock_of_frame s f (Before c) p held = tt
 lock_of_frame s f (Clinit c) p held = tt
 
-pub returned_sound : (e : Moment) (values : List Value) → IsSoundFor e.program e.before → e.before.guest.clock < 2 ^ 40 → HasFrame e.before.guest e.thread → ((frame_of e).stage ≡ Plain → length values ≤ returned_width (returned_of (method_of e.program (frame_of e))))
+pub returned_sound : (e : Moment) (values : List Value) → IsSoundFor e.program e.before → e.before.guest.clock < 2 ^ 40 → HasFrame e.before.guest e.thread → ((current_frame e).stage ≡ Plain → length values ≤ returned_width (returned_of (running_method e.program (current_frame e))))
     → KeepsSound e.program (goes (frame_returned e values (begins e)))
 returned_sound e values sound clock has few =
     let p : Linked = e.program in
-    let f : FrameState = frame_of e in
+    let f : FrameState = current_frame e in
     let t : ThreadState = thread_of e in
     let below : List FrameState = rest_of t.frames in
     let h : IsWellFormed p (begins e).state = begins_well p e sound clock in
@@ -97,8 +97,8 @@ returned_sound e values sound clock has few =
     let first : f ∷ below ≡ t.frames = with_first t.frames has.frame in
     let frames : AreSoundFrames p (f ∷ below) = subst (λ (fs : List FrameState). AreSoundFrames p fs) (sym first) was.frames in
     let few_frames : length (f ∷ below) ≤ most_frames = subst (λ (fs : List FrameState). length fs ≤ most_frames) (sym first) was.few_frames in
-    let d : Doing = left_some (lock_in f.stage (method_of p f) f.lock) (begins e) in
-    let left_it : HasLeft e d = some_left e (lock_in f.stage (method_of p f) f.lock) sound h (lock_of_frame e.before f f.stage p held) in
+    let d : Doing = left_some (lock_in f.stage (running_method p f) f.lock) (begins e) in
+    let left_it : HasLeft e d = some_left e (lock_in f.stage (running_method p f) f.lock) sound h (lock_of_frame e.before f f.stage p held) in
     let x : Doing = class_done_by f.stage d in
     let on : HasLeft e x = class_is_done e f f.stage d frames.0 left_it in
     let thread : e.thread < length x.state.guest.threads = subst (λ (ts : List ThreadState). e.thread < length ts) (sym on.threads) has.thread in

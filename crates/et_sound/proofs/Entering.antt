@@ -13,15 +13,15 @@ use Rattle.et_state.specs.Threads.{FrameState, ThreadState, no_thread, popped, r
 use Rattle.et_state.specs.Words.{thread_at, HasFrame}
 use Rattle.et_event.specs.Calls.{taking}
 use Rattle.et_event.specs.Frames.{receiver_of, method_frame, frame_entered, enters_code}
-use Rattle.et_event.specs.Moments.{Moment, Doing, frame_of, thread_of, begins, with_frame, ends}
+use Rattle.et_event.specs.Moments.{Moment, Doing, current_frame, thread_of, begins, with_frame, ends_event}
 use Rattle.et_event.specs.Monitors.{Lock, OfObject, OfClass, monitor_of, lock_for, may_enter_some}
-use Rattle.et_event.specs.Sites.{Site, method_of, decoded_at}
+use Rattle.et_event.specs.Sites.{Site, running_method, decoded_at}
 use Rattle.et_event.specs.Sound.{AreSoundFrames, IsSoundFor}
 use Rattle.et_parts.specs.Places.{Runs}
 use Rattle.et_parts.proofs.Placing.{method_runs, body_runs}
 use Rattle.et_sound.specs.Outcomes.{KeepsSound}
 use Rattle.et_event.specs.Programs.{MakesSound, IsInstruction}
-use Rattle.et_sound.specs.WellFormed.{IsWellFormed, IsGoing, KeepsFrame, MayEnter, StandsAt}
+use Rattle.et_sound.specs.WellFormed.{IsWellFormed, IsUnderWayAt, KeepsFrame, MayEnter, StandsAt}
 use Rattle.et_sound.proofs.Calls.{frame_entered_well}
 use Rattle.et_sound.proofs.Frames.{RunsSome, runs_some, starts_there, frames_still, popped_keeps, with_first, top_well}
 use Rattle.et_sound.proofs.Monitors.{monitor_count}
@@ -62,7 +62,7 @@ pub thread_now : (e : Moment) (x : ThreadState) (ts : List ThreadState) → e.th
 thread_now e x ts lt = get_or-set_same ts e.thread x no_thread lt
 
 -- the topmost frame became another one, where the threads are those before the event
-pub framed_going : (e : Moment) (at : Site) (f : FrameState) (d : Doing) → StandsAt e at → KeepsFrame e.program (frame_of e) f → IsWellFormed e.program d.state → d.state.guest.threads ≡ e.before.guest.threads → IsGoing e (with_frame e f d)
+pub framed_going : (e : Moment) (at : Site) (f : FrameState) (d : Doing) → StandsAt e at → KeepsFrame e.program (current_frame e) f → IsWellFormed e.program d.state → d.state.guest.threads ≡ e.before.guest.threads → IsUnderWayAt e (with_frame e f d)
 framed_going e at f d here keeps h same =
     let has : HasFrame d.state.guest e.thread = record {
       thread = subst (λ (ts : List ThreadState). e.thread < length ts) (sym same) here.frame.thread;
@@ -72,11 +72,11 @@ framed_going e at f d here keeps h same =
     let n : length (with_frame e f d).state.guest.threads ≡ length d.state.guest.threads = length-set d.state.guest.threads e.thread (with_top_of (thread_at d.state.guest e.thread) f) in
     record { well = top_well e.program d.state e.thread f h has now; thread = subst (λ (k : ℕ). e.thread < k) (sym n) has.thread }
 
-pub runs_here : (e : Moment) (at : Site) → StandsAt e at → RunsSome e.program (frame_of e)
+pub runs_here : (e : Moment) (at : Site) → StandsAt e at → RunsSome e.program (current_frame e)
 runs_here e at here =
     let was = here.sound.threads e.thread here.frame.thread in
-    let first : frame_of e ∷ rest_of (thread_of e).frames ≡ (thread_of e).frames = with_first (thread_of e).frames here.frame.frame in
-    runs_some e.program (frame_of e) (rest_of (thread_of e).frames) here.runs (subst (λ (fs : List FrameState). AreSoundFrames e.program fs) (sym first) was.frames)
+    let first : current_frame e ∷ rest_of (thread_of e).frames ≡ (thread_of e).frames = with_first (thread_of e).frames here.frame.frame in
+    runs_some e.program (current_frame e) (rest_of (thread_of e).frames) here.runs (subst (λ (fs : List FrameState). AreSoundFrames e.program fs) (sym first) was.frames)
 
 -- THE INSTRUCTION
 
@@ -86,13 +86,13 @@ runs_method p f r = record { method = r.method; named = r.named; runs = r.runs }
 -- the instruction of the code of its method at which a thread stands
 pub record StandsIn (e : Moment) (x : Instr × ℕ) : Type 0 where
   pub method : ℕ
-  pub named : method_of e.program (frame_of e) ≡ method_at e.program method
+  pub named : running_method e.program (current_frame e) ≡ method_at e.program method
   pub is : IsInstruction e.program method x
 
-pub stands_in : (e : Moment) (x : Instr × ℕ) → RunsSome e.program (frame_of e) → decoded_at e.program (frame_of e) ≡ Ok x → StandsIn e x
+pub stands_in : (e : Moment) (x : Instr × ℕ) → RunsSome e.program (current_frame e) → decoded_at e.program (current_frame e) ≡ Ok x → StandsIn e x
 stands_in e x some decoded =
     let p : Linked = e.program in
-    let f : FrameState = frame_of e in
+    let f : FrameState = current_frame e in
     let r : Runs p f = runs_method p f some in
     let there : instruction_at r.runs.body.code f.pc ≡ Ok x = subst (λ (b : Body). instruction_at b.code f.pc ≡ Ok x) (body_runs p f r) decoded in
     record {
@@ -103,31 +103,31 @@ stands_in e x some decoded =
 
 -- THE ARGUMENTS are taken
 
-pub taking_keeps : (e : Moment) (at : Site) (n : ℕ) → StandsAt e at → KeepsFrame e.program (frame_of e) (popped n (frame_of e))
-taking_keeps e at n here = popped_keeps e.program (frame_of e) n here.runs (runs_here e at here)
+pub taking_keeps : (e : Moment) (at : Site) (n : ℕ) → StandsAt e at → KeepsFrame e.program (current_frame e) (popped n (current_frame e))
+taking_keeps e at n here = popped_keeps e.program (current_frame e) n here.runs (runs_here e at here)
 
-pub taking_going : (e : Moment) (at : Site) (n : ℕ) (d : Doing) → StandsAt e at → IsWellFormed e.program d.state → d.state.guest.threads ≡ e.before.guest.threads → IsGoing e (taking e n d)
-taking_going e at n d here h same = framed_going e at (popped n (frame_of e)) d here (taking_keeps e at n here) h same
+pub taking_going : (e : Moment) (at : Site) (n : ℕ) (d : Doing) → StandsAt e at → IsWellFormed e.program d.state → d.state.guest.threads ≡ e.before.guest.threads → IsUnderWayAt e (taking e n d)
+taking_going e at n d here h same = framed_going e at (popped n (current_frame e)) d here (taking_keeps e at n here) h same
 
 -- the frames then
 pub taken_frames : (e : Moment) (n : ℕ) (d : Doing) → e.thread < length e.before.guest.threads → d.state.guest.threads ≡ e.before.guest.threads
-    → (thread_at (taking e n d).state.guest e.thread).frames ≡ popped n (frame_of e) ∷ rest_of (thread_of e).frames
+    → (thread_at (taking e n d).state.guest e.thread).frames ≡ popped n (current_frame e) ∷ rest_of (thread_of e).frames
 taken_frames e n d lt same =
     let inside : e.thread < length d.state.guest.threads = subst (λ (ts : List ThreadState). e.thread < length ts) (sym same) lt in
-    ap (λ (x : ThreadState). x.frames) (thread_now e (with_top_of (thread_at d.state.guest e.thread) (popped n (frame_of e))) d.state.guest.threads inside)
-    ∙ ap (λ (ts : List ThreadState). popped n (frame_of e) ∷ rest_of (slice_index_or ts e.thread no_thread).frames) same
+    ap (λ (x : ThreadState). x.frames) (thread_now e (with_top_of (thread_at d.state.guest e.thread) (popped n (current_frame e))) d.state.guest.threads inside)
+    ∙ ap (λ (ts : List ThreadState). popped n (current_frame e) ∷ rest_of (slice_index_or ts e.thread no_thread).frames) same
 
-pub caller_frames : (e : Moment) (at : Site) (n : ℕ) → StandsAt e at → AreSoundFrames e.program (popped n (frame_of e) ∷ rest_of (thread_of e).frames)
+pub caller_frames : (e : Moment) (at : Site) (n : ℕ) → StandsAt e at → AreSoundFrames e.program (popped n (current_frame e) ∷ rest_of (thread_of e).frames)
 caller_frames e at n here =
     let was = here.sound.threads e.thread here.frame.thread in
-    let first : frame_of e ∷ rest_of (thread_of e).frames ≡ (thread_of e).frames = with_first (thread_of e).frames here.frame.frame in
-    frames_still e.program (frame_of e) (popped n (frame_of e)) (rest_of (thread_of e).frames) (taking_keeps e at n here) (subst (λ (fs : List FrameState). AreSoundFrames e.program fs) (sym first) was.frames)
+    let first : current_frame e ∷ rest_of (thread_of e).frames ≡ (thread_of e).frames = with_first (thread_of e).frames here.frame.frame in
+    frames_still e.program (current_frame e) (popped n (current_frame e)) (rest_of (thread_of e).frames) (taking_keeps e at n here) (subst (λ (fs : List FrameState). AreSoundFrames e.program fs) (sym first) was.frames)
 
 -- THE METHOD IS ENTERED, after what `leave` does
 
 pub record MayBeEntered (e : Moment) (m : ℕ) (body : Body) (arguments : List Value) (d x : Doing) : Type 0 where
-  pub going : IsGoing e d
-  pub left : IsGoing e x
+  pub going : IsUnderWayAt e d
+  pub left : IsUnderWayAt e x
   pub lock : MayEnter x (lock_for (method_at e.program m) (receiver_of e.program m arguments))
   pub count : length (thread_at x.state.guest e.thread).frames ≡ length (thread_at d.state.guest e.thread).frames
   pub frames : AreSoundFrames e.program (method_frame e.program m body arguments ∷ (thread_at x.state.guest e.thread).frames)
@@ -136,6 +136,6 @@ pub code_sound : (e : Moment) (d : Doing) (leave : Doing → Doing) (m : ℕ) (a
     → MayBeEntered e m body arguments d (leave d) → KeepsSound e.program (enters_code e d leave m arguments body)
 code_sound e d leave m arguments body sound clock makes may =
     unless_waiting e.program e (may_enter_some e d (lock_for (method_at e.program m) (receiver_of e.program m arguments))) _ sound clock (λ free.
-    where_frame_fits e d (ends (frame_entered e m body arguments (leave d))) makes may.going (λ few.
+    where_frame_fits e d (ends_event (frame_entered e m body arguments (leave d))) makes may.going (λ few.
     let less : length (thread_at (leave d).state.guest e.thread).frames < most_frames = subst (λ (n : ℕ). n < most_frames) (sym may.count) few in
     ends_sound e.program (frame_entered e m body arguments (leave d)) (frame_entered_well e m body arguments (leave d) may.left may.lock less may.frames)))

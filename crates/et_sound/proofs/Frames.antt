@@ -22,10 +22,10 @@ use Rattle.et_state.specs.State.{Kept}
 use Rattle.et_state.specs.Words.{thread_at, top, with_top, HasFrame}
 use Rattle.et_event.specs.Frames.{first_reference, method_frame, behind_or, frames_after_return}
 use Rattle.et_event.specs.Initialization.{initializer_frame}
-use Rattle.et_event.specs.Sites.{body_of, code_of, decoded_at}
+use Rattle.et_event.specs.Sites.{present_body, code_of_frame, decoded_at}
 use Rattle.et_event.specs.Sound.{IsPc, RunsMethod, IsVoid, returned_of, IsStaged, IsCaller, IsAbove, AreSoundFrames}
 use Rattle.et_event.specs.Kinds.{returned_width}
-use Rattle.et_event.specs.Sites.{method_of}
+use Rattle.et_event.specs.Sites.{running_method}
 use Rattle.et_parts.proofs.Constants.{at_end}
 use Rattle.et_sound.specs.WellFormed.{IsWellFormed, KeepsFrame, MayTake}
 use Rattle.et_sound.proofs.Threads.{guest_now, with_thread_well, may_have_frames}
@@ -73,13 +73,13 @@ runs_still p f m pc locals operands r there same few =
     record { method = r.method; body = r.body; code = r.code; pc = there; room = r.room; locals = same ∙ r.locals; operands = few }
 
 -- the code of the frame is that of its method
-body_is : (p : Linked) (f : FrameState) (m : ℕ) → f.method ≡ Some m → (r : RunsMethod p f m) → code_of p f ≡ r.body
-body_is p f m named r = ap (λ (o : Option ℕ). body_of (method_at p (unwrap_or o 0)).code) named ∙ ap body_of r.code
+body_is : (p : Linked) (f : FrameState) (m : ℕ) → f.method ≡ Some m → (r : RunsMethod p f m) → code_of_frame p f ≡ r.body
+body_is p f m named r = ap (λ (o : Option ℕ). present_body (method_at p (unwrap_or o 0)).code) named ∙ ap present_body r.code
 
-pc_of_body : (p : Linked) (f : FrameState) (m pc : ℕ) → f.method ≡ Some m → (r : RunsMethod p f m) → IsPc (code_of p f) pc → IsPc r.body pc
+pc_of_body : (p : Linked) (f : FrameState) (m pc : ℕ) → f.method ≡ Some m → (r : RunsMethod p f m) → IsPc (code_of_frame p f) pc → IsPc r.body pc
 pc_of_body p f m pc named r there = subst (λ (b : Body). IsPc b pc) (body_is p f m named r) there
 
-staged_still : (p : Linked) (f : FrameState) (stage : Stage) (method : Option ℕ) (pc : ℕ) (locals operands : List Value) → f.method ≡ method → IsPc (code_of p f) pc → length locals ≡ length f.locals → length operands ≤ f.room
+staged_still : (p : Linked) (f : FrameState) (stage : Stage) (method : Option ℕ) (pc : ℕ) (locals operands : List Value) → f.method ≡ method → IsPc (code_of_frame p f) pc → length locals ≡ length f.locals → length operands ≤ f.room
     → IsStaged p f stage method → (method ≡ None → ⊥) → IsStaged p (with_parts f pc locals operands) stage method
 staged_still p f Plain (Some m) pc locals operands named there same few h some = (runs_still p f m pc locals operands h.0 (pc_of_body p f m pc named h.0 there) same few, h.1)
 staged_still p f Plain None pc locals operands named there same few h some = h
@@ -133,7 +133,7 @@ runs_by p f (Clinit c) None e some h = absurd h
 pub runs_some : (p : Linked) (f : FrameState) (below : List FrameState) → (f.method ≡ None → ⊥) → AreSoundFrames p (f ∷ below) → RunsSome p f
 runs_some p f below some h = runs_by p f f.stage f.method refl some h.0
 
-pub pc_there : (p : Linked) (f : FrameState) → RunsSome p f → IsPc (code_of p f) f.pc
+pub pc_there : (p : Linked) (f : FrameState) → RunsSome p f → IsPc (code_of_frame p f) f.pc
 pc_there p f r = subst (λ (b : Body). IsPc b f.pc) (sym (body_is p f r.method r.named r.runs)) r.runs.pc
 
 -- operands are taken from a frame that stays where it is
@@ -142,7 +142,7 @@ popped_keeps p f n some r = record { same = refl; runs = some; pc = pc_there p f
 
 -- .. and it goes on behind its instruction, with other operands
 pub behind_keeps : (p : Linked) (f : FrameState) (x : Instr × ℕ) (operands : List Value) → (f.method ≡ None → ⊥) → RunsSome p f → decoded_at p f ≡ Ok x → length operands ≤ f.room → KeepsFrame p f (record f { pc = x.1; operands = operands })
-behind_keeps p f x operands some r e few = record { same = refl; runs = some; pc = next_pc (code_of p f) f.pc x (pc_there p f r) e; locals = refl; operands = few }
+behind_keeps p f x operands some r e few = record { same = refl; runs = some; pc = next_pc (code_of_frame p f) f.pc x (pc_there p f r) e; locals = refl; operands = few }
 
 -- A FRAME IS ENTERED
 
@@ -201,7 +201,7 @@ fewer_frames [] n le = le
 fewer_frames (f ∷ below) n le = omega arith
 
 -- it returns: its caller, if any, runs a method, and what is returned has the width of its type
-returned_to : (p : Linked) (f : FrameState) (stage : Stage) (values : List Value) (below : List FrameState) → IsAbove p f stage below → (stage ≡ Plain → length values ≤ returned_width (returned_of (method_of p f)))
+returned_to : (p : Linked) (f : FrameState) (stage : Stage) (values : List Value) (below : List FrameState) → IsAbove p f stage below → (stage ≡ Plain → length values ≤ returned_width (returned_of (running_method p f)))
     → AreSoundFrames p below → AreSoundFrames p (frames_after_return p stage values below)
 returned_to p f Plain values [] above few h = tt
 returned_to p f Plain values (g ∷ below) above few h =
@@ -213,7 +213,7 @@ returned_to p f Plain values (g ∷ below) above few h =
 returned_to p f (Before c) values below above few h = h
 returned_to p f (Clinit c) values below above few h = h
 
-pub returned_frames : (p : Linked) (f : FrameState) (values : List Value) (below : List FrameState) → AreSoundFrames p (f ∷ below) → (f.stage ≡ Plain → length values ≤ returned_width (returned_of (method_of p f)))
+pub returned_frames : (p : Linked) (f : FrameState) (values : List Value) (below : List FrameState) → AreSoundFrames p (f ∷ below) → (f.stage ≡ Plain → length values ≤ returned_width (returned_of (running_method p f)))
     → AreSoundFrames p (frames_after_return p f.stage values below)
 returned_frames p f values below h few = returned_to p f f.stage values below h.1 few h.2
 

@@ -8,9 +8,9 @@ use Rattle.std.proofs.lemmas.Bool.{and_parts, ltb-false}
 use Rattle.et_code.specs.declared.instr.Instr.{Instr}
 use Rattle.et_code.specs.declared.instr.CodeFault.{CodeFault}
 use Rattle.et_code.specs.Bodies.{Body}
-use Rattle.et_code.specs.Decoding.{instruction_at, word_at, row_count}
-use Rattle.et_code.specs.Kept.{IsKept, HasInstruction}
-use Rattle.et_code.specs.Rules.{passes, is_branch, offsets}
+use Rattle.et_code.specs.Decoding.{instruction_at, code_word_at, row_count}
+use Rattle.et_code.specs.Kept.{IsKeptCode, HasInstruction}
+use Rattle.et_code.specs.Rules.{passes_test, is_branch, offsets}
 use Rattle.et_code.specs.Starts.{IsStart, is_start}
 use Rattle.et_code.specs.Switches.{rows_from, table_rows, lookup_pairs, table_target, lookup_target, target_of}
 use Rattle.et_code.proofs.Starting.{starts_are_all}
@@ -19,7 +19,7 @@ use Rattle.et_event.specs.declared.rows.Row.{Row}
 use Rattle.et_event.specs.declared.rows.Row.TheVariants as rows
 use Rattle.et_event.specs.declared.rows.FrameRow.{FrameRow}
 use Rattle.et_event.specs.declared.rows.FrameRow.TheVariants as row
-use Rattle.et_event.specs.Sites.{Site, natural, target}
+use Rattle.et_event.specs.Sites.{Site, natural_of, target}
 use Rattle.et_event.specs.Sound.{IsPc}
 use Rattle.et_event.specs.Table.{rows as all_rows, row_of}
 use Rattle.et_sound.proofs.Frames.{behind_pc}
@@ -45,7 +45,7 @@ opcode_of_branch opcode c e = among branches all_rows opcode (rows.Frame (row.Br
 
 -- PLACES
 
-start_passes : (b : Body) (z : ℤ) → passes (is_start b.code) z ≡ true → IsPc b (natural z)
+start_passes : (b : Body) (z : ℤ) → passes_test (is_start b.code) z ≡ true → IsPc b (natural_of z)
 start_passes b (pos n) e = let t : IsTrue (is_start b.code n) = search (rules, e) in inl ((starts_are_all b.code n).0 t)
 start_passes b (negsuc n) e = cc
 
@@ -57,15 +57,15 @@ rest_of p x xs h = (and_parts (p x) (list_all p xs) h).1
 
 -- .. in the rows of a table
 
-row_passes : (p : ℤ → Bool) (code : List ℕ) (n at k : ℕ) → list_all p (rows_from code n at) ≡ true → k < n → p (word_at code (at + k * 4)) ≡ true
+row_passes : (p : ℤ → Bool) (code : List ℕ) (n at k : ℕ) → list_all p (rows_from code n at) ≡ true → k < n → p (code_word_at code (at + k * 4)) ≡ true
 unfolding rows_from
 row_passes p code zero at k h lt = absurd (omega arith)
 row_passes p code (suc n) at zero h lt =
     let e : at ≡ at + 0 * 4 = omega arith in
-    subst (λ (j : ℕ). p (word_at code j) ≡ true) e (first_of p (word_at code at) (rows_from code n (at + 4)) h)
+    subst (λ (j : ℕ). p (code_word_at code j) ≡ true) e (first_of p (code_word_at code at) (rows_from code n (at + 4)) h)
 row_passes p code (suc n) at (suc k) h lt =
     let e : at + 4 + k * 4 ≡ at + suc k * 4 = omega arith in
-    subst (λ (j : ℕ). p (word_at code j) ≡ true) e (row_passes p code n (at + 4) k (rest_of p (word_at code at) (rows_from code n (at + 4)) h) (omega arith))
+    subst (λ (j : ℕ). p (code_word_at code j) ≡ true) e (row_passes p code n (at + 4) k (rest_of p (code_word_at code at) (rows_from code n (at + 4)) h) (omega arith))
 
 gap_within : (low key high : ℤ) → int_lt key low ≡ false → int_lt high key ≡ false → int_gap low key ≤ int_gap low high
 gap_within (pos l) (pos k) (pos h) a b = let le = ltb-false h k b in omega arith
@@ -81,13 +81,13 @@ table_case p true above x y h i = h
 table_case p false true x y h i = h
 table_case p false false x y h i = i refl refl
 
-table_passes : (p : ℤ → Bool) (code : List ℕ) (table : ℕ) (key : ℤ) → list_all p (word_at code table ∷ table_rows code table) ≡ true → p (table_target code table key) ≡ true
+table_passes : (p : ℤ → Bool) (code : List ℕ) (table : ℕ) (key : ℤ) → list_all p (code_word_at code table ∷ table_rows code table) ≡ true → p (table_target code table key) ≡ true
 table_passes p code table key h =
-    let low = word_at code (table + 4) in
-    let high = word_at code (table + 8) in
-    table_case p (int_lt key low) (int_lt high key) (word_at code table) (word_at code (table + 12 + int_gap low key * 4)) (first_of p (word_at code table) (table_rows code table) h)
+    let low = code_word_at code (table + 4) in
+    let high = code_word_at code (table + 8) in
+    table_case p (int_lt key low) (int_lt high key) (code_word_at code table) (code_word_at code (table + 12 + int_gap low key * 4)) (first_of p (code_word_at code table) (table_rows code table) h)
     (λ a b. let le : int_gap low key ≤ int_gap low high = gap_within low key high a b in
-    row_passes p code (row_count low high) (table + 12) (int_gap low key) (rest_of p (word_at code table) (table_rows code table) h) (omega arith))
+    row_passes p code (row_count low high) (table + 12) (int_gap low key) (rest_of p (code_word_at code table) (table_rows code table) h) (omega arith))
 
 -- .. and in the pairs of a lookup
 
@@ -99,9 +99,9 @@ find_passes : (p : ℤ → Bool) (test : ℕ × ℤ → Bool) (qs : List (ℕ ×
 find_passes p test [] d h i = h
 find_passes p test (q ∷ qs) d h i = find_step p (test q) q (find test qs) d (first_of p q.1 (map (λ q. q.1) qs) i) (find_passes p test qs d h (rest_of p q.1 (map (λ q. q.1) qs) i))
 
-lookup_passes : (p : ℤ → Bool) (code : List ℕ) (table : ℕ) (key : ℤ) → list_all p (word_at code table ∷ map (λ q. q.1) (lookup_pairs code table)) ≡ true → p (lookup_target code table key) ≡ true
+lookup_passes : (p : ℤ → Bool) (code : List ℕ) (table : ℕ) (key : ℤ) → list_all p (code_word_at code table ∷ map (λ q. q.1) (lookup_pairs code table)) ≡ true → p (lookup_target code table key) ≡ true
 lookup_passes p code table key h =
-    find_passes p (λ q. q.0 == cast_unsigned w32 key) (lookup_pairs code table) (word_at code table) (first_of p (word_at code table) (map (λ q. q.1) (lookup_pairs code table)) h) (rest_of p (word_at code table) (map (λ q. q.1) (lookup_pairs code table)) h)
+    find_passes p (λ q. q.0 == cast_unsigned w32 key) (lookup_pairs code table) (code_word_at code table) (first_of p (code_word_at code table) (map (λ q. q.1) (lookup_pairs code table)) h) (rest_of p (code_word_at code table) (map (λ q. q.1) (lookup_pairs code table)) h)
 
 -- TARGETS
 
@@ -117,10 +117,10 @@ branch_passes p code i e h = first_of p i.first [] (subst (λ (os : List ℤ). l
 
 switch_passes : (p : ℤ → Bool) (code : List ℕ) (i : Instr) (key : ℤ) → (i.opcode ≡ 0xaa) ⊎ (i.opcode ≡ 0xab) → list_all p (offsets code i) ≡ true → p (target_of code i key) ≡ true
 switch_passes p code i key (inl o) h =
-    let all : list_all p (word_at code i.table ∷ table_rows code i.table) ≡ true = subst (λ (k : ℕ). list_all p (offsets code (at_opcode i k)) ≡ true) o h in
+    let all : list_all p (code_word_at code i.table ∷ table_rows code i.table) ≡ true = subst (λ (k : ℕ). list_all p (offsets code (at_opcode i k)) ≡ true) o h in
     subst (λ (k : ℕ). p (target_of code (at_opcode i k) key) ≡ true) (sym o) (table_passes p code i.table key all)
 switch_passes p code i key (inr o) h =
-    let all : list_all p (word_at code i.table ∷ map (λ q. q.1) (lookup_pairs code i.table)) ≡ true = subst (λ (k : ℕ). list_all p (offsets code (at_opcode i k)) ≡ true) o h in
+    let all : list_all p (code_word_at code i.table ∷ map (λ q. q.1) (lookup_pairs code i.table)) ≡ true = subst (λ (k : ℕ). list_all p (offsets code (at_opcode i k)) ≡ true) o h in
     subst (λ (k : ℕ). p (target_of code (at_opcode i k) key) ≡ true) (sym o) (lookup_passes p code i.table key all)
 
 abbrev same_result : Instr × ℕ → Instr × ℕ → Type 0
@@ -129,11 +129,11 @@ same_result x y = let r : Result (Instr × ℕ) CodeFault = Ok x in r ≡ Ok y
 same_instruction : (x : Instr × ℕ) (i : Instr) (next : ℕ) (r : Result (Instr × ℕ) CodeFault) → r ≡ Ok x → r ≡ Ok (i, next) → i ≡ x.0
 same_instruction x i next r a b = let e : same_result (i, next) x = sym b ∙ a in cc
 
-pub may_go : (b : Body) (tags : List ℕ) (pc : ℕ) (x : Instr × ℕ) (at : Site) (r : FrameRow) → IsKept b tags → IsStart b.code pc → instruction_at b.code pc ≡ Ok x → row_of x.0.opcode ≡ Some (rows.Frame r)
+pub may_go : (b : Body) (tags : List ℕ) (pc : ℕ) (x : Instr × ℕ) (at : Site) (r : FrameRow) → IsKeptCode b tags → IsStart b.code pc → instruction_at b.code pc ≡ Ok x → row_of x.0.opcode ≡ Some (rows.Frame r)
     → at.instr ≡ x.0 → at.next ≡ x.1 → at.code ≡ b.code → MayGo b at r pc
 may_go b tags pc x at r kept s e here instr next code =
     let has : HasInstruction b tags pc = kept.instructions pc s in
-    let p : ℤ → Bool = λ offset. passes (is_start b.code) (pos pc +ℤ offset) in
+    let p : ℤ → Bool = λ offset. passes_test (is_start b.code) (pos pc +ℤ offset) in
     let all : list_all p (offsets b.code x.0) ≡ true = subst (λ (i : Instr). list_all p (offsets b.code i) ≡ true) (same_instruction x has.instruction has.next (instruction_at b.code pc) e has.decoded) has.keeps.targets in
     record {
       next = subst (λ (n : ℕ). IsPc b n) (sym next) (behind_pc b pc x s e);

@@ -12,8 +12,8 @@ use Rattle.et_state.specs.declared.class_state.ClassState.TheVariants.{Untouched
 use Rattle.et_state.specs.Words.{thread_at, HasFrame}
 use Rattle.et_state.specs.declared.records.Record.TheVariants.{Enter}
 use Rattle.et_event.specs.Initialization.{state_of, with_state, is_ready, quietly_if_untouched, prepared, enters_clinit, step_by, initialization_step}
-use Rattle.et_event.specs.Moments.{Moment, Doing, told, frame_of, begins, with_frame, with_thread_state, ends}
-use Rattle.et_event.specs.Sites.{body_of}
+use Rattle.et_event.specs.Moments.{Moment, Doing, told, current_frame, begins, with_frame, with_thread_state, ends_event}
+use Rattle.et_event.specs.Sites.{present_body}
 use Rattle.et_event.specs.Sound.{AreSoundFrames, IsSoundFor}
 use Rattle.et_sound.specs.Outcomes.{KeepsSound}
 use Rattle.et_event.specs.Programs.{MakesSound, HasInitializers, IsInitializer}
@@ -56,7 +56,7 @@ found_in P test (x ∷ xs) c all e = by (test x) e (found_in P test xs c (All-ta
 
 -- <clinit> IS ENTERED, or there is none and the class is done
 
-module _ (e : Moment) (c : ℕ) (d : Doing) (sound : IsSoundFor e.program e.before) (has : HasFrame e.before.guest e.thread) (stage : (frame_of e).stage ≡ Before c) (lt : c < length e.program.classes) (f : IsFurther e (begins e) d) where
+module _ (e : Moment) (c : ℕ) (d : Doing) (sound : IsSoundFor e.program e.before) (has : HasFrame e.before.guest e.thread) (stage : (current_frame e).stage ≡ Before c) (lt : c < length e.program.classes) (f : IsFurther e (begins e) d) where
   threads_are : d.state.guest.threads ≡ e.before.guest.threads
   threads_are = f.threads
 
@@ -72,12 +72,12 @@ module _ (e : Moment) (c : ℕ) (d : Doing) (sound : IsSoundFor e.program e.befo
   pub entered_sound : (m : ℕ) → IsInitializer e.program m → KeepsSound e.program (enters_clinit e c (Some m) d)
   entered_sound m is =
       let p : Linked = e.program in
-      let body : Body = body_of (method_at p m).code in
-      let same : is.body ≡ body = sym (ap body_of is.code) in
+      let body : Body = present_body (method_at p m).code in
+      let same : is.body ≡ body = sym (ap present_body is.code) in
       let t : ThreadState = thread_at d.state.guest e.thread in
       let before : ThreadState = thread_at e.before.guest e.thread in
       let eq : t ≡ before = ap (λ (ts : List ThreadState). slice_index_or ts e.thread no_thread) threads_are in
-      let g : FrameState = frame_of e in
+      let g : FrameState = current_frame e in
       let new : FrameState = in_clinit m body.max_stack body.max_locals g in
       let was = sound.threads e.thread has.thread in
       let first : first_frame before.frames ∷ rest_of before.frames ≡ before.frames = with_first before.frames has.frame in
@@ -90,7 +90,7 @@ module _ (e : Moment) (c : ℕ) (d : Doing) (sound : IsSoundFor e.program e.befo
       ends_sound p (told (Enter d.state.guest.clock e.thread m 0) (with_frame e new d)) (with_thread_well p d.state e.thread (with_top_of t new) f.well thread_there (may_have_frames p d.state e.thread (new ∷ rest_of t.frames) f.well thread_there there few))
 
 -- THE STEP
-pub step_sound : (e : Moment) (c : ℕ) → IsSoundFor e.program e.before → e.before.guest.clock < 2 ^ 40 → HasFrame e.before.guest e.thread → (frame_of e).stage ≡ Before c → c < length e.program.classes → HasInitializers e.program → MakesSound e.program → KeepsSound e.program (initialization_step e c)
+pub step_sound : (e : Moment) (c : ℕ) → IsSoundFor e.program e.before → e.before.guest.clock < 2 ^ 40 → HasFrame e.before.guest e.thread → (current_frame e).stage ≡ Before c → c < length e.program.classes → HasInitializers e.program → MakesSound e.program → KeepsSound e.program (initialization_step e c)
 step_sound e c sound clock has stage lt initializers makes =
     let cs : List ℕ = (class_at e.program c).info.prerequisites in
     let d : Doing = prepared e (take_while (is_ready e (begins e)) cs) (begins e) in
@@ -105,4 +105,4 @@ step_sound e c sound clock has stage lt initializers makes =
     by d f None q = enters d f (class_at e.program c).info.clinit refl
     by d f (Some k) q =
         let inside : k < length e.program.classes = found_in (λ j. j < length e.program.classes) (λ j. not (is_ready e (begins e) j)) (class_at e.program c).info.prerequisites k (initializers.prerequisites c lt) q in
-        initialized_sound e d k ends sound clock initializers makes inside (record { well = f.well; thread = subst (λ (ts : List ThreadState). e.thread < length ts) (sym f.threads) has.thread }) (λ x going further touched. ends_sound e.program x going.well)
+        initialized_sound e d k ends_event sound clock initializers makes inside (record { well = f.well; thread = subst (λ (ts : List ThreadState). e.thread < length ts) (sym f.threads) has.thread }) (λ x going further touched. ends_sound e.program x going.well)

@@ -19,14 +19,14 @@ use Rattle.et_event.specs.declared.rows.Operand.{Operand}
 use Rattle.et_event.specs.declared.rows.Operand.TheVariants as operand
 use Rattle.et_event.specs.Errors.{class_called}
 use Rattle.et_event.specs.Initialization.{state_of, with_state, constant_set, field_set, constants_set, is_quiet, class_done, quietly_done, initializer_frame, begun_by, begins_class, needed, initialized}
-use Rattle.et_event.specs.Kinds.{kind_of, narrowed}
-use Rattle.et_event.specs.Moments.{Moment, Doing, with_guest, next_object, instance_made, static_written, waits, ends}
-use Rattle.et_event.specs.Sites.{LoadedConstant, AnInt, ALong, AString, constant_at, pool_of}
+use Rattle.et_event.specs.Kinds.{operand_kind, narrowed}
+use Rattle.et_event.specs.Moments.{Moment, Doing, doing_with_guest, next_object, instance_made, static_written, waits, ends_event}
+use Rattle.et_event.specs.Sites.{LoadedConstant, AnInt, ALong, AString, constant_at, pool_of_class}
 use Rattle.et_event.specs.Strings.{interned, string_object}
 use Rattle.et_event.specs.Sound.{is_of_kind, IsSoundClassState, IsSoundFor}
 use Rattle.et_sound.specs.Outcomes.{KeepsSound}
 use Rattle.et_event.specs.Programs.{MakesSound, HasConstant, HasInitializers, value_like}
-use Rattle.et_sound.specs.WellFormed.{IsWellFormed, IsGoing, IsFurther}
+use Rattle.et_sound.specs.WellFormed.{IsWellFormed, IsUnderWayAt, IsFurther}
 use Rattle.et_sound.proofs.Frames.{initializer_frames}
 use Rattle.et_sound.proofs.Monitors.{class_well, untouched_before}
 use Rattle.et_sound.proofs.Outcomes.{if_case, interned_well, ends_sound, waits_sound, throws_sound, where_frame_fits}
@@ -49,14 +49,14 @@ beside_then d x y a b = record { threads = b.threads ∙ a.threads; classes = b.
 
 static_beside : (e : Moment) (i : ℕ) (v : Value) (d : Doing) → IsBeside d (static_written e i v d)
 static_beside e i v d =
-    let next : Doing = with_guest (with_static d.state.guest i v) d in
+    let next : Doing = doing_with_guest (with_static d.state.guest i v) d in
     let same : (static_written e i v d).state ≡ next.state = updated_state e 0 i (static_at d.state.guest i) v next in
     record { threads = ap (λ (s : Kept). s.guest.threads) same; classes = ap (λ (s : Kept). s.guest.classes) same }
 
 interned_beside : (e : Moment) (bytes : List ℕ) (d : Doing) → IsBeside d (interned e bytes d)
 interned_beside e bytes d =
     let x : Doing = instance_made e (class_called e.program (codes "java/lang/String")) d in
-    if_case (λ (y : Doing). IsBeside d y) (is_some (object_of d.state.guest.interned bytes)) d (with_guest (with_string x.state.guest bytes (next_object d)) x) (beside_itself d) (record { threads = refl; classes = refl })
+    if_case (λ (y : Doing). IsBeside d y) (is_some (object_of d.state.guest.interned bytes)) d (doing_with_guest (with_string x.state.guest bytes (next_object d)) x) (beside_itself d) (record { threads = refl; classes = refl })
 
 -- CONSTANTS are set, of a class that is no longer untouched
 
@@ -67,12 +67,12 @@ record IsSetting (e : Moment) (c : ℕ) (d x : Doing) : Type 0 where
 touched_still : (d x : Doing) (c : ℕ) → IsBeside d x → (state_of d c ≡ Untouched → ⊥) → state_of x c ≡ Untouched → ⊥
 touched_still d x c b touched u = touched (subst (λ (cs : List ClassState). slice_index_or cs c Untouched ≡ Untouched) b.classes u)
 
-written : (e : Moment) (c f : ℕ) (v : Value) (d : Doing) → HasConstant e.program c f → (state_of d c ≡ Untouched → ⊥) → IsWellFormed e.program d.state → is_of_kind (kind_of (field_at e.program f).descriptor) v ≡ true → IsSetting e c d (static_written e (field_at e.program f).slot v d)
+written : (e : Moment) (c f : ℕ) (v : Value) (d : Doing) → HasConstant e.program c f → (state_of d c ≡ Untouched → ⊥) → IsWellFormed e.program d.state → is_of_kind (operand_kind (field_at e.program f).descriptor) v ≡ true → IsSetting e c d (static_written e (field_at e.program f).slot v d)
 written e c f v d has touched h kind =
     let p : Linked = e.program in
     let i : ℕ = (field_at p f).slot in
     record {
-      well = static_well p e i v d h has.slot (subst (λ (k : ℕ). is_of_kind (kind_of (field_at p k).descriptor) v ≡ true) (sym has.place) kind)
+      well = static_well p e i v d h has.slot (subst (λ (k : ℕ). is_of_kind (operand_kind (field_at p k).descriptor) v ≡ true) (sym has.place) kind)
           (subst (λ (k : ℕ). class_state_at d.state.guest (field_at p k).class ≡ Untouched → ⊥) (sym has.place) (subst (λ (k : ℕ). class_state_at d.state.guest k ≡ Untouched → ⊥) (sym has.class) touched));
       beside = static_beside e i v d;
     }
@@ -83,17 +83,17 @@ any_reference (Some operand.Int) o h = h
 any_reference (Some operand.Long) o h = h
 any_reference (Some operand.Reference) o h = refl
 
-one_set : (e : Moment) (c f : ℕ) (k : Option LoadedConstant) (d : Doing) → MakesSound e.program → HasConstant e.program c f → ((x : LoadedConstant) → k ≡ Some x → is_of_kind (kind_of (field_at e.program f).descriptor) (value_like x) ≡ true) → (state_of d c ≡ Untouched → ⊥) → IsWellFormed e.program d.state
+one_set : (e : Moment) (c f : ℕ) (k : Option LoadedConstant) (d : Doing) → MakesSound e.program → HasConstant e.program c f → ((x : LoadedConstant) → k ≡ Some x → is_of_kind (operand_kind (field_at e.program f).descriptor) (value_like x) ≡ true) → (state_of d c ≡ Untouched → ⊥) → IsWellFormed e.program d.state
     → IsSetting e c d (constant_set e (field_at e.program f) k d)
 one_set e c f None d makes has typed touched h = record { well = h; beside = beside_itself d }
 one_set e c f (Some (AnInt n)) d makes has typed touched h =
-    written e c f (narrowed (field_at e.program f).descriptor (Int n)) d has touched h (narrowed_kind (kind_of (field_at e.program f).descriptor) (field_at e.program f).descriptor (Int n) (typed (AnInt n) refl))
+    written e c f (narrowed (field_at e.program f).descriptor (Int n)) d has touched h (narrowed_kind (operand_kind (field_at e.program f).descriptor) (field_at e.program f).descriptor (Int n) (typed (AnInt n) refl))
 one_set e c f (Some (ALong n)) d makes has typed touched h = written e c f (Long n) d has touched h (typed (ALong n) refl)
 one_set e c f (Some (AString bytes)) d makes has typed touched h =
     let x : Doing = interned e bytes d in
     let beside : IsBeside d x = interned_beside e bytes d in
     let set : IsSetting e c x (static_written e (field_at e.program f).slot (Ref (string_object bytes x)) x) =
-    written e c f (Ref (string_object bytes x)) x has (touched_still d x c beside touched) (interned_well e bytes d makes h) (any_reference (kind_of (field_at e.program f).descriptor) (string_object bytes x) (typed (AString bytes) refl)) in
+    written e c f (Ref (string_object bytes x)) x has (touched_still d x c beside touched) (interned_well e bytes d makes h) (any_reference (operand_kind (field_at e.program f).descriptor) (string_object bytes x) (typed (AString bytes) refl)) in
     record { well = set.well; beside = beside_then d x _ beside set.beside }
 
 all_set : (e : Moment) (c : ℕ) (fs : List ℕ) (d : Doing) → MakesSound e.program → All (HasConstant e.program c) fs → (state_of d c ≡ Untouched → ⊥) → IsWellFormed e.program d.state → IsSetting e c d (fold (field_set e) d fs)
@@ -101,7 +101,7 @@ all_set e c [] d makes all touched h = record { well = h; beside = beside_itself
 all_set e c (f ∷ fs) d makes all touched h =
     let has : HasConstant e.program c f = All-head (HasConstant e.program c) f fs all in
     let x : Doing = field_set e d f in
-    let one : IsSetting e c d x = one_set e c f (constant_at (pool_of e.program (field_at e.program f).class) (field_at e.program f).constant) d makes has has.typed touched h in
+    let one : IsSetting e c d x = one_set e c f (constant_at (pool_of_class e.program (field_at e.program f).class) (field_at e.program f).constant) d makes has has.typed touched h in
     let rest : IsSetting e c x (fold (field_set e) x fs) = all_set e c fs x makes (All-tail (HasConstant e.program c) f fs all) (touched_still d x c one.beside touched) one.well in
     record { well = rest.well; beside = beside_then d x _ one.beside rest.beside }
 
@@ -169,7 +169,7 @@ all_done e (c ∷ cs) d initializers makes all h =
     }
 
 -- AN INITIALIZER BEGINS
-pub begins_sound : (e : Moment) (c : ℕ) (d : Doing) → HasInitializers e.program → MakesSound e.program → c < length e.program.classes → IsGoing e d → KeepsSound e.program (begins_class e c d)
+pub begins_sound : (e : Moment) (c : ℕ) (d : Doing) → HasInitializers e.program → MakesSound e.program → c < length e.program.classes → IsUnderWayAt e d → KeepsSound e.program (begins_class e c d)
 begins_sound e c d initializers makes lt g =
     let p : Linked = e.program in
     let x : Doing = constants_set e c (with_state c (Begun e.thread) d) in
@@ -177,15 +177,15 @@ begins_sound e c d initializers makes lt g =
     let thread : e.thread < length x.state.guest.threads = subst (λ (ts : List ThreadState). e.thread < length ts) (sym on.further.threads) g.thread in
     let t : ThreadState = thread_at x.state.guest e.thread in
     let was = on.further.well.threads e.thread thread in
-    where_frame_fits e d (ends (begun_by e c d)) makes g (λ few.
+    where_frame_fits e d (ends_event (begun_by e c d)) makes g (λ few.
     let same : length t.frames ≡ length (thread_at d.state.guest e.thread).frames = ap (λ (ts : List ThreadState). length (slice_index_or ts e.thread no_thread).frames) on.further.threads in
     let room : length (initializer_frame c ∷ t.frames) ≤ most_frames = omega arith in
     ends_sound p (begun_by e c d)
     (with_thread_well p x.state e.thread (entered_by (initializer_frame c) t) on.further.well thread (may_have_frames p x.state e.thread (initializer_frame c ∷ t.frames) on.further.well thread (initializer_frames p c t.frames lt was.frames) room)))
 
 -- A CLASS IS NEEDED: the event goes on where it is done, begun by this thread, or quiet
-pub initialized_sound : (e : Moment) (d : Doing) (c : ℕ) (go : Doing → Outcome Kept) → IsSoundFor e.program e.before → e.before.guest.clock < 2 ^ 40 → HasInitializers e.program → MakesSound e.program → c < length e.program.classes → IsGoing e d
-    → ((x : Doing) → IsGoing e x → IsFurther e d x → (state_of x c ≡ Untouched → ⊥) → KeepsSound e.program (go x)) → KeepsSound e.program (initialized e d c go)
+pub initialized_sound : (e : Moment) (d : Doing) (c : ℕ) (go : Doing → Outcome Kept) → IsSoundFor e.program e.before → e.before.guest.clock < 2 ^ 40 → HasInitializers e.program → MakesSound e.program → c < length e.program.classes → IsUnderWayAt e d
+    → ((x : Doing) → IsUnderWayAt e x → IsFurther e d x → (state_of x c ≡ Untouched → ⊥) → KeepsSound e.program (go x)) → KeepsSound e.program (initialized e d c go)
 initialized_sound e d c go sound clock initializers makes lt g h = by (state_of d c) refl
   where
     by : (st : ClassState) → state_of d c ≡ st → KeepsSound e.program (needed e d c st go)
@@ -194,5 +194,5 @@ initialized_sound e d c go sound clock initializers makes lt g h = by (state_of 
     by Failed is = throws_sound e NoClassDefFoundError d makes g
     by Untouched is =
         let on : AllGoOn e (class_at e.program c).init_order d (quietly_done e c d) = all_done e (class_at e.program c).init_order d initializers makes (initializers.orders c) g.well in
-        let going : IsGoing e (quietly_done e c d) = record { well = on.further.well; thread = subst (λ (ts : List ThreadState). e.thread < length ts) (sym on.further.threads) g.thread } in
+        let going : IsUnderWayAt e (quietly_done e c d) = record { well = on.further.well; thread = subst (λ (ts : List ThreadState). e.thread < length ts) (sym on.further.threads) g.thread } in
         if_case (KeepsSound e.program) (is_quiet e d c) (go (quietly_done e c d)) (begins_class e c d) (h (quietly_done e c d) going on.further (on.touched c (initializers.own c lt))) (begins_sound e c d initializers makes lt g)

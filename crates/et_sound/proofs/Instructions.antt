@@ -3,7 +3,7 @@ use Rattle.std.proofs.Common.{◌≡◌, ℕ, true, List, Option, Some, None, If
 use Rattle.et_code.specs.declared.instr.Instr.{Instr}
 use Rattle.et_code.specs.declared.instr.CodeFault.{CodeFault}
 use Rattle.et_code.specs.Bodies.{Body}
-use Rattle.et_code.specs.Kept.{IsKept}
+use Rattle.et_code.specs.Kept.{IsKeptCode}
 use Rattle.et_code.specs.Rules.{KeepsRules}
 use Rattle.et_code.specs.Starts.{IsStart}
 use Rattle.et_code.proofs.Keeping.{kept_code}
@@ -19,8 +19,8 @@ use Rattle.et_event.specs.declared.rows.Row.TheVariants as rows
 use Rattle.et_event.specs.Calls.{call_event}
 use Rattle.et_event.specs.Event.{does, by_row, by_instruction, instruction}
 use Rattle.et_event.specs.Heap.{heap_event}
-use Rattle.et_event.specs.Moments.{Moment, frame_of}
-use Rattle.et_event.specs.Sites.{Site, site_of, method_of, code_of, decoded_at}
+use Rattle.et_event.specs.Moments.{Moment, current_frame}
+use Rattle.et_event.specs.Sites.{Site, site_of, running_method, code_of_frame, decoded_at}
 use Rattle.et_event.specs.Table.{row_of}
 use Rattle.et_parts.specs.Places.{Runs}
 use Rattle.et_parts.proofs.Placing.{method_runs, rules_found}
@@ -65,29 +65,29 @@ call_sound e at (call_rows.Return kind) here may = return_sound e at kind here.s
 
 -- THE CODE of a frame keeps the rules
 
-method_rules : (p : Linked) (f : FrameState) (r : Runs p f) → IsRunnable p → IfSome (method_of p f).code (λ body. KeepsRules body)
+method_rules : (p : Linked) (f : FrameState) (r : Runs p f) → IsRunnable p → IfSome (running_method p f).code (λ body. KeepsRules body)
 method_rules p f r may =
     subst (λ (m : MethodInfo). IfSome m.code (λ body. KeepsRules body)) (sym (method_runs p f r))
     (subst (λ (o : Option Body). IfSome o (λ body. KeepsRules body)) (sym r.runs.code) (may.rules r.method r.runs.body r.runs.method r.runs.code))
 
-pub kept_here : (p : Linked) (f : FrameState) → RunsSome p f → IsRunnable p → (tags : List ℕ) × IsKept (code_of p f) tags
+pub kept_here : (p : Linked) (f : FrameState) → RunsSome p f → IsRunnable p → (tags : List ℕ) × IsKeptCode (code_of_frame p f) tags
 kept_here p f r may =
-    let rules : KeepsRules (code_of p f) = rules_found p f (runs_method p f r) (method_rules p f (runs_method p f r) may) in
-    (rules.tags, kept_code (code_of p f) rules.tags rules.kept)
+    let rules : KeepsRules (code_of_frame p f) = rules_found p f (runs_method p f r) (method_rules p f (runs_method p f r) may) in
+    (rules.tags, kept_code (code_of_frame p f) rules.tags rules.kept)
 
 -- PLAIN INSTRUCTIONS
 
-plain_at : (e : Moment) (x : Instr × ℕ) (r : Row) → StandsAt e (site_of e.program (frame_of e) x) → IsRunnable e.program → decoded_at e.program (frame_of e) ≡ Ok x → row_of x.0.opcode ≡ Some r → is_plain r ≡ true
-    → KeepsSound e.program (does e (site_of e.program (frame_of e) x) r)
+plain_at : (e : Moment) (x : Instr × ℕ) (r : Row) → StandsAt e (site_of e.program (current_frame e) x) → IsRunnable e.program → decoded_at e.program (current_frame e) ≡ Ok x → row_of x.0.opcode ≡ Some r → is_plain r ≡ true
+    → KeepsSound e.program (does e (site_of e.program (current_frame e) x) r)
 plain_at e x r here may decoded row plain =
     let p : Linked = e.program in
-    let f : FrameState = frame_of e in
+    let f : FrameState = current_frame e in
     let some : RunsSome p f = runs_here e (site_of p f x) here in
-    let start : IsStart (code_of p f).code f.pc = starts_there (code_of p f) f.pc x (pc_there p f some) decoded in
+    let start : IsStart (code_of_frame p f).code f.pc = starts_there (code_of_frame p f) f.pc x (pc_there p f some) decoded in
     let kept = kept_here p f some may in
     let begins : Begins p e.before e.thread = record { sound = here.sound; clock = here.clock; has = here.frame; runs = here.runs; room = here.operands } in
     does_sound p e.before e.thread (site_of p f x) r begins may.makes plain here.next
-    (λ q same. may_go (code_of p f) kept.0 f.pc x (site_of p f x) q kept.1 start decoded (row ∙ ap (λ (z : Row). Some z) same) refl refl refl)
+    (λ q same. may_go (code_of_frame p f) kept.0 f.pc x (site_of p f x) q kept.1 start decoded (row ∙ ap (λ (z : Row). Some z) same) refl refl refl)
 
 pub plain_sound : (e : Moment) (at : Site) (r : Row) → IsAtRow e at r → IsRunnable e.program → is_plain r ≡ true → KeepsSound e.program (does e at r)
 plain_sound e at r here may plain =
@@ -106,13 +106,13 @@ row_sound e at (rows.Monitor x) here may = monitor_sound e at x here.stands may.
 
 -- THE INSTRUCTION at the pc
 
-pub instruction_sound : (e : Moment) → ((x : Instr × ℕ) → decoded_at e.program (frame_of e) ≡ Ok x → StandsAt e (site_of e.program (frame_of e) x)) → IsRunnable e.program → KeepsSound e.program (instruction e)
-instruction_sound e stands may = by (decoded_at e.program (frame_of e)) refl
+pub instruction_sound : (e : Moment) → ((x : Instr × ℕ) → decoded_at e.program (current_frame e) ≡ Ok x → StandsAt e (site_of e.program (current_frame e) x)) → IsRunnable e.program → KeepsSound e.program (instruction e)
+instruction_sound e stands may = by (decoded_at e.program (current_frame e)) refl
   where
-    by_its_row : (x : Instr × ℕ) → decoded_at e.program (frame_of e) ≡ Ok x → (o : Option Row) → row_of x.0.opcode ≡ o → KeepsSound e.program (by_row e (site_of e.program (frame_of e) x) o)
+    by_its_row : (x : Instr × ℕ) → decoded_at e.program (current_frame e) ≡ Ok x → (o : Option Row) → row_of x.0.opcode ≡ o → KeepsSound e.program (by_row e (site_of e.program (current_frame e) x) o)
     by_its_row x q None s = tt
-    by_its_row x q (Some r) s = row_sound e (site_of e.program (frame_of e) x) r (record { stands = stands x q; decoded = x; is = q; row = s; site = refl }) may
+    by_its_row x q (Some r) s = row_sound e (site_of e.program (current_frame e) x) r (record { stands = stands x q; decoded = x; is = q; row = s; site = refl }) may
 
-    by : (d : Result (Instr × ℕ) CodeFault) → decoded_at e.program (frame_of e) ≡ d → KeepsSound e.program (by_instruction e d)
+    by : (d : Result (Instr × ℕ) CodeFault) → decoded_at e.program (current_frame e) ≡ d → KeepsSound e.program (by_instruction e d)
     by (Err fault) q = tt
     by (Ok x) q = by_its_row x q (row_of x.0.opcode) refl

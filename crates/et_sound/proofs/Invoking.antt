@@ -20,12 +20,12 @@ use Rattle.et_event.specs.BuiltIns.{built_in_event}
 use Rattle.et_event.specs.Calls.{entry_count, arguments_of, is_static_call, call_fits, are_arguments, with_type, with_method, taking, enters_method, is_of_owner, special_class, dispatched, is_as, invoke}
 use Rattle.et_event.specs.Frames.{first_reference, receiver_of}
 use Rattle.et_event.specs.Kinds.{returned_width}
-use Rattle.et_event.specs.Moments.{Moment, Doing, frame_of, begins, class_of}
+use Rattle.et_event.specs.Moments.{Moment, Doing, current_frame, begins, object_class}
 use Rattle.et_event.specs.Monitors.{lock_for}
-use Rattle.et_event.specs.Sites.{Site, Member, member_of, names_interface, site_of, pool_of}
+use Rattle.et_event.specs.Sites.{Site, Member, site_member, names_interface, site_of, pool_of_class}
 use Rattle.et_event.specs.Sound.{returned_of}
 use Rattle.et_sound.specs.Outcomes.{KeepsSound}
-use Rattle.et_sound.specs.WellFormed.{IsGoing, MayEnter}
+use Rattle.et_sound.specs.WellFormed.{IsUnderWayAt, MayEnter}
 use Rattle.et_sound.proofs.Fields.{going, operands_there}
 use Rattle.et_sound.proofs.Outcomes.{unless_ill_typed, unless_thrown, where_resolved, where_not_null}
 use Rattle.et_sound.specs.Methods.{IsMethod, IsInstanceMethod}
@@ -64,13 +64,13 @@ instance_sound e at kind member type k o may call instance receiver is =
     let count : ℕ = entry_count (is_static_call kind) type in
     let here = call.here.stands in
     let called : IsCalled e kind member type k = record { method = is.method; static = is.instance ∙ sym instance; receiver = λ b. some_is (first_reference args) o receiver } in
-    let held : (q : ℕ) → first_reference args ≡ Some q → IsHeld e.before.heap q = λ q named. (operands_there e at here).held q (receiver_contained (frame_of e).operands count q named) in
+    let held : (q : ℕ) → first_reference args ≡ Some q → IsHeld e.before.heap q = λ q named. (operands_there e at here).held q (receiver_contained (current_frame e).operands count q named) in
     let x : Doing = taking e (length args) (begins e) in
     let on : IsOnTime e x = record { clock = refl; monitors = refl } in
     let lock : MayEnter x (lock_for (method_at p k) (receiver_of p k args)) =
     may_enter e x (lock_for (method_at p k) (receiver_of p k args)) here.sound on
     (λ q locked. let own : IsLockOf p k args q = lock_of p k args q locked in (held q own.receiver, object_count e q here.sound (held q own.receiver))) in
-    let are : AreArguments (frame_of e).operands count args = arguments_are (frame_of e).operands count in
+    let are : AreArguments (current_frame e).operands count args = arguments_are (current_frame e).operands count in
     let width : returned_width (returned_of (method_at p k)) ≡ returned_width type.returned = ap returned_width (returned_as e kind member type k call.typed called) in
     entered_sound e at kind member type k (begins e) (built_in_event e at (begins e) args (method_at p k)) may call called (record { going = going e at here; threads = refl; lock = lock })
     (λ none native. built_in_sound e at args (method_at p k) type here may held (typed_as e kind member type k call.typed called) (subst (λ (b : Bool). are_arguments b type args ≡ true) instance call.passed) (omega (arith, are.left, call.fits)))
@@ -89,24 +89,24 @@ dispatched_sound e at Static member type owner m may call is static =
     (λ d ready. static_sound e at member type m may call is static d ready)
 dispatched_sound e at Virtual member type owner m may call is instance =
     let p : Linked = e.program in
-    let g : IsGoing e (begins e) = going e at call.here.stands in
+    let g : IsUnderWayAt e (begins e) = going e at call.here.stands in
     where_not_null e (begins e) (first_reference (passed e Virtual type)) _ may.makes g (λ o receiver.
     unless_ill_typed p e (is_of_owner e (begins e) m o) _ (λ own.
-    where_resolved e (begins e) (select p (class_of (begins e) o) m false) _ may.makes g (λ k found.
-    instance_sound e at Virtual member type k o may call refl receiver (as_named p m k member.name member.descriptor is (selected_method p (class_of (begins e) o) m false k is.within instance found)))))
+    where_resolved e (begins e) (select p (object_class (begins e) o) m false) _ may.makes g (λ k found.
+    instance_sound e at Virtual member type k o may call refl receiver (as_named p m k member.name member.descriptor is (selected_method p (object_class (begins e) o) m false k is.within instance found)))))
 dispatched_sound e at Special member type owner m may call is instance =
     let p : Linked = e.program in
-    let g : IsGoing e (begins e) = going e at call.here.stands in
+    let g : IsUnderWayAt e (begins e) = going e at call.here.stands in
     where_not_null e (begins e) (first_reference (passed e Special type)) _ may.makes g (λ o receiver.
     unless_ill_typed p e (is_of_owner e (begins e) m o) _ (λ own.
     where_resolved e (begins e) (select_special p at.class (special_class p owner) m) _ may.makes g (λ k found.
     instance_sound e at Special member type k o may call refl receiver (as_named p m k member.name member.descriptor is (selected_special p at.class (special_class p owner) m k is.within instance found)))))
 dispatched_sound e at Interface member type owner m may call is instance =
     let p : Linked = e.program in
-    let g : IsGoing e (begins e) = going e at call.here.stands in
+    let g : IsUnderWayAt e (begins e) = going e at call.here.stands in
     where_not_null e (begins e) (first_reference (passed e Interface type)) _ may.makes g (λ o receiver.
-    where_resolved e (begins e) (select p (class_of (begins e) o) m true) _ may.makes g (λ k found.
-    instance_sound e at Interface member type k o may call refl receiver (as_named p m k member.name member.descriptor is (selected_method p (class_of (begins e) o) m true k is.within instance found))))
+    where_resolved e (begins e) (select p (object_class (begins e) o) m true) _ may.makes g (λ k found.
+    instance_sound e at Interface member type k o may call refl receiver (as_named p m k member.name member.descriptor is (selected_method p (object_class (begins e) o) m true k is.within instance found))))
 
 -- THE INSTRUCTION
 
@@ -123,24 +123,24 @@ as_wanted true c e = e
 as_wanted false c e = not-true c e
 
 -- no instruction names <clinit>
-not_clinit : (e : Moment) (at : Site) (kind : CallKind) (member : Member) → IsAtRow e at (Call (Invoke kind)) → member_of at ≡ Some member → IsRunnable e.program → bytes_eq member.name (codes "<clinit>") ≡ false
+not_clinit : (e : Moment) (at : Site) (kind : CallKind) (member : Member) → IsAtRow e at (Call (Invoke kind)) → site_member at ≡ Some member → IsRunnable e.program → bytes_eq member.name (codes "<clinit>") ≡ false
 not_clinit e at kind member here names may =
     let p : Linked = e.program in
-    let f : FrameState = frame_of e in
+    let f : FrameState = current_frame e in
     let s : StandsIn e here.decoded = stands_in e here.decoded (runs_here e at here.stands) here.is in
-    may.methods.calls s.method (site_of p f here.decoded) kind member s.is (ap (λ (m : MethodInfo). pool_of p m.class) s.named) here.row (subst (λ (q : Site). member_of q ≡ Some member) here.site names)
+    may.methods.calls s.method (site_of p f here.decoded) kind member s.is (ap (λ (m : MethodInfo). pool_of_class p m.class) s.named) here.row (subst (λ (q : Site). site_member q ≡ Some member) here.site names)
 
 pub invoke_sound : (e : Moment) (at : Site) (kind : CallKind) → IsAtRow e at (Call (Invoke kind)) → IsRunnable e.program → KeepsSound e.program (invoke e at kind)
 invoke_sound e at kind here may =
     let p : Linked = e.program in
-    let g : IsGoing e (begins e) = going e at here.stands in
-    method_named p e (member_of at) _ (λ member type names typed.
+    let g : IsUnderWayAt e (begins e) = going e at here.stands in
+    method_named p e (site_member at) _ (λ member type names typed.
     unless_ill_typed p e (call_fits e (is_static_call kind) type) _ (λ fits.
     where_resolved e (begins e) (resolve_class p member.owner) _ may.makes g (λ owner named.
     where_resolved e (begins e) (resolve_method p owner (names_interface at) member.name member.descriptor) _ may.makes g (λ m found.
     unless_thrown e (begins e) IncompatibleClassChangeError (is_as (is_static_call kind) (is_static p m)) _ may.makes g (λ wanted.
     let count : ℕ = entry_count (is_static_call kind) type in
-    let ops = (frame_of e).operands in
-    let parts = and_parts (are_arguments (is_static_call kind) type (arguments_of e count)) (nat_le (length (drop count ops) + returned_width type.returned) (frame_of e).room) fits in
-    let call : IsCall e at kind member type = record { here = here; names = names; typed = typed; called = not_clinit e at kind member here names may; passed = parts.0; fits = leb-true (length (drop count ops) + returned_width type.returned) (frame_of e).room parts.1 } in
+    let ops = (current_frame e).operands in
+    let parts = and_parts (are_arguments (is_static_call kind) type (arguments_of e count)) (nat_le (length (drop count ops) + returned_width type.returned) (current_frame e).room) fits in
+    let call : IsCall e at kind member type = record { here = here; names = names; typed = typed; called = not_clinit e at kind member here names may; passed = parts.0; fits = leb-true (length (drop count ops) + returned_width type.returned) (current_frame e).room parts.1 } in
     dispatched_sound e at kind member type owner m may call (resolved_method p owner (names_interface at) member.name member.descriptor m found) (as_wanted (is_static_call kind) (is_static p m) wanted))))))

@@ -18,7 +18,7 @@ use Rattle.et_event.specs.declared.rows.FrameRow.{FrameRow}
 use Rattle.et_event.specs.declared.rows.FrameRow.TheVariants as row
 use Rattle.et_event.specs.Checks.{Reference, with_int, with_long, with_reference}
 use Rattle.et_event.specs.Sites.{Site, local_index, target}
-use Rattle.et_event.specs.Plain.{put, put_some, with_locals, other_half_unset, freed, one_stored, long_stored, stored, increased, loaded, are_groups, groups_of, combined, negated, moved, converted, compared, tested, branched, switched, after}
+use Rattle.et_event.specs.Plain.{put, put_some, with_locals, other_half_unset, freed, one_stored, long_stored, stored, increased, loaded, are_groups, groups_of, combined, negated, values_moved, converted, compared, condition_tested, branched, switched, frame_after}
 use Rattle.et_event.specs.Sound.{IsPc}
 
 pub record Keeps (body : Body) (f f' : FrameState) : Type 0 where
@@ -134,7 +134,7 @@ kept_increased body f pc i by le at =
 abbrev IsShort : ℕ → Option (Bool × List Value) → Type 0
 IsShort k o = IfSome o (λ test. length test.1 ≤ k)
 
-short_tested : (c : Condition) (ops : List Value) (k : ℕ) → length ops ≤ k → IsShort k (tested c ops)
+short_tested : (c : Condition) (ops : List Value) (k : ℕ) → length ops ≤ k → IsShort k (condition_tested c ops)
 short_tested when.Always ops k le = le
 short_tested (when.WithZero c) ops k le = taken_int (IsShort k) None ops k _ tt le (λ a below few. few)
 short_tested (when.OfInts c) ops k le = taken_int (IsShort k) None ops k _ tt le (λ b more few. taken_int (IsShort k) None more k _ tt few (λ a below fewer. fewer))
@@ -164,7 +164,7 @@ pub record MayGo (body : Body) (at : Site) (r : FrameRow) (pc : ℕ) : Type 0 wh
   pub branch : (c : Condition) → r ≡ row.Branch c → IsPc body (target pc at.instr.first)
   pub switch : r ≡ row.Switch → (key : ℤ) → IsPc body (target pc (target_of at.code at.instr key))
 
-pub kept_after : (body : Body) (at : Site) (r : FrameRow) (f : FrameState) → length f.operands ≤ f.room → MayGo body at r f.pc → KeepsSome body f (after at r f)
+pub kept_after : (body : Body) (at : Site) (r : FrameRow) (f : FrameState) → length f.operands ≤ f.room → MayGo body at r f.pc → KeepsSome body f (frame_after at r f)
 kept_after body at row.Null f le may = kept_put body f at.next (Null ∷ f.operands) may.next
 kept_after body at (row.Int n) f le may = kept_put body f at.next (Int n ∷ f.operands) may.next
 kept_after body at (row.Long n) f le may = kept_put body f at.next (LongHigh ∷ Long n ∷ f.operands) may.next
@@ -175,8 +175,8 @@ kept_after body at row.Increment f le may = kept_increased body f at.next (local
 kept_after body at (row.Rearrange r) f le may = kept_if body f (are_groups (groups_of r) f.operands) _ (kept_put body f at.next _ may.next)
 kept_after body at (row.Arithmetic n o) f le may = kept_put_some body f at.next (combined n o f.operands) may.next
 kept_after body at (row.Negate n) f le may = kept_put_some body f at.next (negated n f.operands) may.next
-kept_after body at (row.Shift n s) f le may = kept_put_some body f at.next (moved n s f.operands) may.next
+kept_after body at (row.Shift n s) f le may = kept_put_some body f at.next (values_moved n s f.operands) may.next
 kept_after body at (row.Convert c) f le may = kept_put_some body f at.next (converted c f.operands) may.next
 kept_after body at row.CompareLongs f le may = kept_put_some body f at.next (compared f.operands) may.next
-kept_after body at (row.Branch c) f le may = kept_branched body at f (tested c f.operands) (short_tested c f.operands f.room le) may.next (may.branch c refl)
+kept_after body at (row.Branch c) f le may = kept_branched body at f (condition_tested c f.operands) (short_tested c f.operands f.room le) may.next (may.branch c refl)
 kept_after body at row.Switch f le may = kept_switched body at f le (may.switch refl)

@@ -15,7 +15,7 @@ use Rattle.et_state.specs.State.{GuestState, Kept}
 use Rattle.et_state.specs.Words.{thread_at, class_state_at, class_monitor_at, with_class_state, with_new_thread, with_string}
 use Rattle.et_event.specs.BuiltIns.{with_thread_for}
 use Rattle.et_event.specs.Initialization.{with_state}
-use Rattle.et_event.specs.Moments.{Moment, Doing, fits}
+use Rattle.et_event.specs.Moments.{Moment, Doing, fits_heap}
 use Rattle.et_event.specs.Monitors.{Lock, OfObject, OfClass, monitor_of, with_monitor_of, entered, left, left_once}
 use Rattle.et_event.specs.Sound.{AreSoundFrames, HasThreadObject, IsSoundMonitor, IsSoundClassState}
 use Rattle.et_sound.specs.WellFormed.{IsWellFormed, IsThere}
@@ -94,14 +94,14 @@ left_well p lock d h there = with_monitor_well p d lock (left_once (monitor_of d
 pub monitor_count : (p : Linked) (d : Doing) (lock : Lock) → IsWellFormed p d.state → IsThere d.state lock → (monitor_of d lock).count ≤ d.state.guest.clock
 monitor_count p d lock h there = (monitor_is_sound p d lock h there).count
 
-monitor_fits : (lock : Lock) (m : Monitor) (d : Doing) → IsThere d.state lock → fits d.state.heap ≡ true → fits (with_monitor_of lock m d).state.heap ≡ true
+monitor_fits : (lock : Lock) (m : Monitor) (d : Doing) → IsThere d.state lock → fits_heap d.state.heap ≡ true → fits_heap (with_monitor_of lock m d).state.heap ≡ true
 monitor_fits (OfObject o) m d there h = fits_still d.state.heap o (with_monitor m (object_at d.state.heap o)) there refl h
 monitor_fits (OfClass c) m d there h = h
 
-pub entered_fits : (e : Moment) (lock : Lock) (d : Doing) → IsThere d.state lock → fits d.state.heap ≡ true → fits (entered e lock d).state.heap ≡ true
+pub entered_fits : (e : Moment) (lock : Lock) (d : Doing) → IsThere d.state lock → fits_heap d.state.heap ≡ true → fits_heap (entered e lock d).state.heap ≡ true
 entered_fits e lock d there h = monitor_fits lock (record { owner = Some e.thread; count = (monitor_of d lock).count + 1 }) d there h
 
-pub left_fits : (lock : Lock) (d : Doing) → IsThere d.state lock → fits d.state.heap ≡ true → fits (left lock d).state.heap ≡ true
+pub left_fits : (lock : Lock) (d : Doing) → IsThere d.state lock → fits_heap d.state.heap ≡ true → fits_heap (left lock d).state.heap ≡ true
 left_fits lock d there h = monitor_fits lock (left_once (monitor_of d lock)) d there h
 
 -- A CLASS goes on

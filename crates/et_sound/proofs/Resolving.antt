@@ -8,7 +8,7 @@ use Rattle.std.proofs.lemmas.Bool.{and_parts, not-true}
 use Rattle.std.proofs.lemmas.List.Elements.{All-nil, All-cons, All-head}
 use Rattle.std.proofs.lemmas.Slice.Eq.{bytes_eq-Decides}
 use Rattle.et_program.specs.Entries.{Linked, no_method, class_at, method_at, is_interface, is_private, is_static, is_abstract}
-use Rattle.et_program.specs.Members.{lineage, is_method, method_in, first_in, kept, is_open, open_in, is_overridden, specific_in, specific_methods, amount, only, resolved_above, is_subclass}
+use Rattle.et_program.specs.Members.{lineage, is_method, method_in, first_in, kept, is_open_method, open_in, is_overridden, specific_in, specific_methods, amount, only, resolved_above, is_subclass}
 use Rattle.et_program.specs.Resolution.{resolve_method, selected_above, selected, is_selectable, selectable_in, select_from, select, special_start, select_special}
 use Rattle.et_program.specs.declared.errors.LinkError.{LinkError}
 use Rattle.et_program.specs.declared.errors.LinkError.TheVariants.{NoSuchMethod, IncompatibleClassChange, AbstractMethod}
@@ -52,9 +52,9 @@ weaker P Q (Some m) f h = f m h
 -- not private, and not static
 open_found : (p : Linked) (name descriptor : List ℕ) (c : ℕ) → IfSome (open_in p name descriptor c) (IsInstanceMethod p name descriptor)
 open_found p name descriptor c =
-    weaker (λ k. IsMethod p name descriptor k × (is_open p k ≡ true)) (IsInstanceMethod p name descriptor) (open_in p name descriptor c)
+    weaker (λ k. IsMethod p name descriptor k × (is_open_method p k ≡ true)) (IsInstanceMethod p name descriptor) (open_in p name descriptor c)
     (λ m h. record { method = h.0; instance = not-true (is_static p m) (and_parts (not (is_private p m)) (not (is_static p m)) h.1).1 })
-    (kept_found (IsMethod p name descriptor) (is_open p) (method_in p name descriptor c) (method_found p name descriptor c))
+    (kept_found (IsMethod p name descriptor) (is_open_method p) (method_in p name descriptor c) (method_found p name descriptor c))
 
 selectable_found : (p : Linked) (special : Bool) (name descriptor : List ℕ) (c : ℕ) → IfSome (selectable_in p special name descriptor c) (IsInstanceMethod p name descriptor)
 selectable_found p special name descriptor c =

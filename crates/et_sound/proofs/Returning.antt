@@ -11,10 +11,10 @@ use Rattle.et_event.specs.declared.rows.Operand.TheVariants as operand
 use Rattle.et_event.specs.declared.errors.GuestError.TheVariants.{IllegalMonitorStateException}
 use Rattle.et_event.specs.Calls.{return, returned_by, frame_returned}
 use Rattle.et_event.specs.Checks.{entries_of, throws_unless}
-use Rattle.et_event.specs.Kinds.{kind_of, kind_of_letter, is_kind, may_return, returned_width}
-use Rattle.et_event.specs.Moments.{Moment, frame_of, begins, ill_typed, goes}
+use Rattle.et_event.specs.Kinds.{operand_kind, kind_of_letter, is_kind, may_return, returned_width}
+use Rattle.et_event.specs.Moments.{Moment, current_frame, begins, ill_typed, goes}
 use Rattle.et_event.specs.Monitors.{lock_in, owns_some}
-use Rattle.et_event.specs.Sites.{Site, method_of}
+use Rattle.et_event.specs.Sites.{Site, running_method}
 use Rattle.et_event.specs.Sound.{is_of_kind}
 use Rattle.et_sound.specs.Outcomes.{KeepsSound}
 use Rattle.et_event.specs.Programs.{MakesSound}
@@ -73,25 +73,25 @@ not_void : (a : ℕ) (rest : List ℕ) (kind : Operand) (b : Bool) → (a == 86)
 not_void a rest kind true is e h = absurd (none_kind kind (kind_of_letter 86) refl (subst (λ (k : ℕ). kind_of_letter k ≡ Some kind) (eqb-true a 86 is) e))
 not_void a rest kind false is e h = h
 
-type_width : (returned : List ℕ) (kind : Operand) → kind_of returned ≡ Some kind → operand_width kind ≤ returned_width returned
+type_width : (returned : List ℕ) (kind : Operand) → operand_kind returned ≡ Some kind → operand_width kind ≤ returned_width returned
 type_width [] kind e = absurd (none_kind kind None refl e)
 type_width (a ∷ rest) kind e = not_void a rest kind (a == 86) refl e (letter_width a rest kind e)
 
-returned_few : (kind : Operand) (v : Value) (returned : List ℕ) → is_kind kind (kind_of returned) ≡ true → is_of_kind (Some kind) v ≡ true → length (entries_of v) ≤ returned_width returned
+returned_few : (kind : Operand) (v : Value) (returned : List ℕ) → is_kind kind (operand_kind returned) ≡ true → is_of_kind (Some kind) v ≡ true → length (entries_of v) ≤ returned_width returned
 returned_few kind v returned may is =
     let a : length (entries_of v) ≤ operand_width kind = value_width kind v is in
-    let b : operand_width kind ≤ returned_width returned = type_width returned kind (kind_is kind (kind_of returned) may) in
+    let b : operand_width kind ≤ returned_width returned = type_width returned kind (kind_is kind (operand_kind returned) may) in
     omega arith
 
 leaving_sound : (e : Moment) (at : Site) (values : List Value) → StandsAt e at → MakesSound e.program → length values ≤ returned_width (returned_by e)
-    → KeepsSound e.program (throws_unless e (begins e) IllegalMonitorStateException (owns_some e (begins e) (lock_in (frame_of e).stage (method_of e.program (frame_of e)) (frame_of e).lock)) (goes (frame_returned e values (begins e))))
+    → KeepsSound e.program (throws_unless e (begins e) IllegalMonitorStateException (owns_some e (begins e) (lock_in (current_frame e).stage (running_method e.program (current_frame e)) (current_frame e).lock)) (goes (frame_returned e values (begins e))))
 leaving_sound e at values here makes few =
-    unless_thrown e (begins e) IllegalMonitorStateException (owns_some e (begins e) (lock_in (frame_of e).stage (method_of e.program (frame_of e)) (frame_of e).lock)) _ makes (going e at here)
+    unless_thrown e (begins e) IllegalMonitorStateException (owns_some e (begins e) (lock_in (current_frame e).stage (running_method e.program (current_frame e)) (current_frame e).lock)) _ makes (going e at here)
     (λ owned. returned_sound e values here.sound here.clock here.frame (λ plain. few))
 
 pub return_sound : (e : Moment) (at : Site) (kind : Option Operand) → StandsAt e at → MakesSound e.program → KeepsSound e.program (return e kind)
 return_sound e at None here makes = unless_ill_typed e.program e (may_return None (returned_by e)) _ (λ may. leaving_sound e at [] here makes (omega arith))
 return_sound e at (Some kind) here makes =
     unless_ill_typed e.program e (may_return (Some kind) (returned_by e)) _ (λ may.
-    taken_value (KeepsSound e.program) (ill_typed e) e.before.heap (frame_of e).room (Some kind) (frame_of e).operands _ tt (operands_there e at here) (λ v below is ops few.
+    taken_value (KeepsSound e.program) (ill_typed e) e.before.heap (current_frame e).room (Some kind) (current_frame e).operands _ tt (operands_there e at here) (λ v below is ops few.
     leaving_sound e at (entries_of v) here makes (returned_few kind v (returned_by e) may is)))

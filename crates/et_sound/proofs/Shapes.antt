@@ -21,9 +21,9 @@ use Rattle.et_event.specs.declared.rows.Row.TheVariants as row
 use Rattle.et_event.specs.declared.errors.GuestError.TheVariants.{ArithmeticException}
 use Rattle.et_event.specs.Errors.{class_called, error_class}
 use Rattle.et_event.specs.Event.{does}
-use Rattle.et_event.specs.Moments.{Moment, Doing, ill_typed, with_guest, begins, with_frame, ends, throws, instance_made, pending_now, entry_given_up, next_object}
+use Rattle.et_event.specs.Moments.{Moment, Doing, ill_typed, doing_with_guest, begins, with_frame, ends_event, throws, instance_made, pending_now, entry_given_up, next_object}
 use Rattle.et_event.specs.Checks.{ill_typed_unless}
-use Rattle.et_event.specs.Plain.{put, after, on_frame, constant, divided, quotient, divides}
+use Rattle.et_event.specs.Plain.{put, frame_after, on_frame, constant, divided, quotient, divides}
 use Rattle.et_event.specs.Sites.{Site, constant_at, pool_index, LoadedConstant, AnInt, ALong, AString}
 use Rattle.et_event.specs.Strings.{interned, string_object}
 use Rattle.et_event.specs.PlainRows.{is_plain}
@@ -41,7 +41,7 @@ abbrev pub string_made : Linked → Kept → ℕ → List ℕ → Doing
 string_made p s t bytes =
     let e = moment p s t in
     let x : Doing = instance_made e (class_called p (codes "java/lang/String")) (begins e) in
-    with_guest (with_string x.state.guest bytes (next_object (begins e))) x
+    doing_with_guest (with_string x.state.guest bytes (next_object (begins e))) x
 
 -- P holds of the outcome of each shape, where K holds of the topmost frame after it
 pub record HoldsOfShapes (P : Outcome Kept → Type 0) (K : FrameState → Type 0) (p : Linked) (s : Kept) (t next : ℕ) : Type 0 where
@@ -49,9 +49,9 @@ pub record HoldsOfShapes (P : Outcome Kept → Type 0) (K : FrameState → Type 
   pub operands : (vs : List Value) → IfSome (put next vs (top s.guest t)) K
   pub pushed : (v : Value) → length (top s.guest t).operands < (top s.guest t).room → K (record (top s.guest t) { pc = next; operands = v ∷ (top s.guest t).operands })
   pub framed : (f : FrameState) → K f → P (on_frame (moment p s t) (Some f))
-  pub thrown : P (ends (error_thrown p s t))
-  pub known : (f : FrameState) → K f → P (ends (with_frame (moment p s t) f (begins (moment p s t))))
-  pub made : (bytes : List ℕ) (f : FrameState) → K f → P (ends (with_frame (moment p s t) f (string_made p s t bytes)))
+  pub thrown : P (ends_event (error_thrown p s t))
+  pub known : (f : FrameState) → K f → P (ends_event (with_frame (moment p s t) f (begins (moment p s t))))
+  pub made : (bytes : List ℕ) (f : FrameState) → K f → P (ends_event (with_frame (moment p s t) f (string_made p s t bytes)))
 
 has_first : (fs : List FrameState) → 0 < length fs → has_frame fs ≡ true
 has_first [] h = absurd (omega arith)
@@ -78,14 +78,14 @@ module _ (P : Outcome Kept → Type 0) (K : FrameState → Type 0) (p : Linked) 
   throwing =
       let e = moment p s t in
       let given : entry_given_up e (begins e) ≡ begins e = not_given_up (begins e) _ (has_frame (thread_at s.guest t).frames) (has_first (thread_at s.guest t).frames has.frame) in
-      subst (λ (x : Doing). P (ends (pending_now e (next_object (begins e)) (instance_made e (error_class p ArithmeticException) x)))) (sym given) holds.thrown
+      subst (λ (x : Doing). P (ends_event (pending_now e (next_object (begins e)) (instance_made e (error_class p ArithmeticException) x)))) (sym given) holds.thrown
 
   stringing : (bytes : List ℕ) → length (top s.guest t).operands < (top s.guest t).room
-      → P (ends (with_frame (moment p s t) (record (top s.guest t) { pc = at.next; operands = Ref (string_object bytes (interned (moment p s t) bytes (begins (moment p s t)))) ∷ (top s.guest t).operands }) (interned (moment p s t) bytes (begins (moment p s t)))))
+      → P (ends_event (with_frame (moment p s t) (record (top s.guest t) { pc = at.next; operands = Ref (string_object bytes (interned (moment p s t) bytes (begins (moment p s t)))) ∷ (top s.guest t).operands }) (interned (moment p s t) bytes (begins (moment p s t)))))
   stringing bytes lt =
       let e = moment p s t in
       let f = top s.guest t in
-      if_case (λ (d : Doing). P (ends (with_frame e (record f { pc = at.next; operands = Ref (string_object bytes d) ∷ f.operands }) d))) (is_some (object_of s.guest.interned bytes)) (begins e) (string_made p s t bytes)
+      if_case (λ (d : Doing). P (ends_event (with_frame e (record f { pc = at.next; operands = Ref (string_object bytes d) ∷ f.operands }) d))) (is_some (object_of s.guest.interned bytes)) (begins e) (string_made p s t bytes)
       (holds.known _ (holds.pushed (Ref (string_object bytes (begins e))) lt)) (holds.made bytes _ (holds.pushed (Ref (string_object bytes (string_made p s t bytes))) lt))
 
   of_constant : (o : Option LoadedConstant) → P (constant (moment p s t) at o)
@@ -110,8 +110,8 @@ module _ (P : Outcome Kept → Type 0) (K : FrameState → Type 0) (p : Linked) 
       taken_long P (ill_typed (moment p s t)) ops (length ops) _ holds.no_meaning (omega arith)
       (λ y more few. taken_long P (ill_typed (moment p s t)) more (length ops) _ holds.no_meaning few (λ x below fewer. of_quotient (divided w64 o x y) (λ n. LongHigh ∷ Long n ∷ below)))
 
-  pub by_shape : (r : Row) → is_plain r ≡ true → ((x : FrameRow) → r ≡ row.Frame x → IfSome (after at x (top s.guest t)) K) → P (does (moment p s t) at r)
-  by_shape (row.Frame x) plain kept = some_frame (after at x (top s.guest t)) (kept x refl)
+  pub by_shape : (r : Row) → is_plain r ≡ true → ((x : FrameRow) → r ≡ row.Frame x → IfSome (frame_after at x (top s.guest t)) K) → P (does (moment p s t) at r)
+  by_shape (row.Frame x) plain kept = some_frame (frame_after at x (top s.guest t)) (kept x refl)
   by_shape row.PoolConstant plain kept = of_constant (constant_at at.pool (pool_index at))
   by_shape (row.Divide n o) plain kept = of_division n o
   by_shape (row.Heap x) plain kept = cc

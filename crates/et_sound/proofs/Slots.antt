@@ -17,8 +17,8 @@ use Rattle.et_state.specs.declared.class_state.ClassState.TheVariants.{Untouched
 use Rattle.et_state.specs.State.{GuestState, Kept}
 use Rattle.et_state.specs.Words.{static_at, with_static, class_state_at}
 use Rattle.et_event.specs.declared.rows.Operand.{Operand}
-use Rattle.et_event.specs.Kinds.{kind_of}
-use Rattle.et_event.specs.Moments.{Moment, Doing, updated, slot_written, static_written, fits}
+use Rattle.et_event.specs.Kinds.{operand_kind}
+use Rattle.et_event.specs.Moments.{Moment, Doing, updated, slot_written, static_written, fits_heap}
 use Rattle.et_event.specs.BuiltIns.{with_referent_of}
 use Rattle.et_event.specs.Sound.{is_of_kind, kind_of_element, HasField, IsSoundObject, IsSoundStatic}
 use Rattle.et_sound.specs.WellFormed.{IsWellFormed}
@@ -60,12 +60,12 @@ value_now k x i slot v inside old new =
       | inr ne ↦ ap (λ (w : Value). is_of_kind k w) (get_or-set_other x.slots i slot v Unset ne) ∙ old
     ]
 
-field_now : (p : Linked) (x : ObjectState) (i : ℕ) (v : Value) (f : ℕ) → HasField p x f → ((field_at p f).slot ≡ i → is_of_kind (kind_of (field_at p f).descriptor) v ≡ true) → HasField p (with_slot i v x) f
+field_now : (p : Linked) (x : ObjectState) (i : ℕ) (v : Value) (f : ℕ) → HasField p x f → ((field_at p f).slot ≡ i → is_of_kind (operand_kind (field_at p f).descriptor) v ≡ true) → HasField p (with_slot i v x) f
 field_now p x i v f was may =
     let n : length (set x.slots i v) ≡ length x.slots = length-set x.slots i v in
     record {
       slot = subst (λ (k : ℕ). (field_at p f).slot < k) (sym n) was.slot;
-      value = value_now (kind_of (field_at p f).descriptor) x i (field_at p f).slot v was.slot was.value may;
+      value = value_now (operand_kind (field_at p f).descriptor) x i (field_at p f).slot v was.slot was.value may;
     }
 
 abbrev IsElement : Element → Value → Type 0
@@ -111,36 +111,36 @@ referent_well p o r d h held =
 slots_same : (heap : Objects) (o : ℕ) (y : Option ObjectState) → o < length heap → slots_in y ≡ slots_in (at heap o) → slot_count (set heap o y) ≡ slot_count heap
 slots_same heap o y lt e = let written = sum_by-set slots_in heap o y None lt in omega arith
 
-pub fits_as : (heap heap' : Objects) → length heap' ≡ length heap → slot_count heap' ≡ slot_count heap → fits heap ≡ true → fits heap' ≡ true
+pub fits_as : (heap heap' : Objects) → length heap' ≡ length heap → slot_count heap' ≡ slot_count heap → fits_heap heap ≡ true → fits_heap heap' ≡ true
 fits_as heap heap' n m h =
     ap (λ (k : ℕ). nat_le (k - 1) most_objects && nat_le (slot_count heap') most_slots) n ∙ (ap (λ (k : ℕ). nat_le (made_count heap) most_objects && nat_le k most_slots) m ∙ h)
 
-pub fits_still : (heap : Objects) (o : ℕ) (y : ObjectState) → IsHeld heap o → length y.slots ≡ length (object_at heap o).slots → fits heap ≡ true → fits (with_object_at heap o y) ≡ true
+pub fits_still : (heap : Objects) (o : ℕ) (y : ObjectState) → IsHeld heap o → length y.slots ≡ length (object_at heap o).slots → fits_heap heap ≡ true → fits_heap (with_object_at heap o y) ≡ true
 fits_still heap o y held same h =
     fits_as heap (with_object_at heap o y) (length-set heap o (Some y))
     (slots_same heap o (Some y) (held_within heap o held) (same ∙ sym (ap (λ (x : Option ObjectState). slots_in x) (found_there heap o held)))) h
 
-pub slot_fits : (e : Moment) (o i : ℕ) (v : Value) (d : Doing) → IsHeld d.state.heap o → fits d.state.heap ≡ true → fits (slot_written e o i v d).state.heap ≡ true
+pub slot_fits : (e : Moment) (o i : ℕ) (v : Value) (d : Doing) → IsHeld d.state.heap o → fits_heap d.state.heap ≡ true → fits_heap (slot_written e o i v d).state.heap ≡ true
 slot_fits e o i v d held h =
     let x : ObjectState = object_at d.state.heap o in
     let next : Doing = record { state = heap_now d.state (with_object_at d.state.heap o (with_slot i v x)); records = d.records } in
-    subst (λ (s : Kept). fits s.heap ≡ true) (sym (updated_state e o i (slot_of x i) v next)) (fits_still d.state.heap o (with_slot i v x) held (length-set x.slots i v) h)
+    subst (λ (s : Kept). fits_heap s.heap ≡ true) (sym (updated_state e o i (slot_of x i) v next)) (fits_still d.state.heap o (with_slot i v x) held (length-set x.slots i v) h)
 
 -- A STATIC SLOT
 
-static_now : (p : Linked) (g : GuestState) (i j : ℕ) (v : Value) → i < length g.statics → is_of_kind (kind_of (field_at p (slice_index_or p.statics i 0)).descriptor) v ≡ true → (class_state_at g (field_at p (slice_index_or p.statics i 0)).class ≡ Untouched → ⊥) → IsSoundStatic p g j → IsSoundStatic p (with_static g i v) j
+static_now : (p : Linked) (g : GuestState) (i j : ℕ) (v : Value) → i < length g.statics → is_of_kind (operand_kind (field_at p (slice_index_or p.statics i 0)).descriptor) v ≡ true → (class_state_at g (field_at p (slice_index_or p.statics i 0)).class ≡ Untouched → ⊥) → IsSoundStatic p g j → IsSoundStatic p (with_static g i v) j
 static_now p g i j v lt kind touched h =
     elim (cases_eq j i) [
       | inl e ↦
           let now : static_at (with_static g i v) i ≡ v = get_or-set_same g.statics i v Unset lt in
           subst (λ (k : ℕ). IsSoundStatic p (with_static g i v) k) (sym e)
-          (record { value = ap (λ (w : Value). is_of_kind (kind_of (field_at p (slice_index_or p.statics i 0)).descriptor) w) now ∙ kind; untouched = λ u. absurd (touched u) })
+          (record { value = ap (λ (w : Value). is_of_kind (operand_kind (field_at p (slice_index_or p.statics i 0)).descriptor) w) now ∙ kind; untouched = λ u. absurd (touched u) })
       | inr ne ↦
           let same : static_at (with_static g i v) j ≡ static_at g j = get_or-set_other g.statics i j v Unset ne in
-          record { value = ap (λ (w : Value). is_of_kind (kind_of (field_at p (slice_index_or p.statics j 0)).descriptor) w) same ∙ h.value; untouched = λ u. same ∙ h.untouched u }
+          record { value = ap (λ (w : Value). is_of_kind (operand_kind (field_at p (slice_index_or p.statics j 0)).descriptor) w) same ∙ h.value; untouched = λ u. same ∙ h.untouched u }
     ]
 
-pub with_static_well : (p : Linked) (s : Kept) (i : ℕ) (v : Value) → IsWellFormed p s → i < length p.statics → is_of_kind (kind_of (field_at p (slice_index_or p.statics i 0)).descriptor) v ≡ true → (class_state_at s.guest (field_at p (slice_index_or p.statics i 0)).class ≡ Untouched → ⊥)
+pub with_static_well : (p : Linked) (s : Kept) (i : ℕ) (v : Value) → IsWellFormed p s → i < length p.statics → is_of_kind (operand_kind (field_at p (slice_index_or p.statics i 0)).descriptor) v ≡ true → (class_state_at s.guest (field_at p (slice_index_or p.statics i 0)).class ≡ Untouched → ⊥)
     → IsWellFormed p (guest_now s (with_static s.guest i v))
 with_static_well p s i v h lt kind touched =
     let g : GuestState = with_static s.guest i v in
@@ -158,7 +158,7 @@ with_static_well p s i v h lt kind touched =
       statics = (length-set s.guest.statics i v ∙ n, λ j le. static_now p s.guest i j v (omega arith) kind touched (h.statics.1 j le));
     }
 
-pub static_well : (p : Linked) (e : Moment) (i : ℕ) (v : Value) (d : Doing) → IsWellFormed p d.state → i < length p.statics → is_of_kind (kind_of (field_at p (slice_index_or p.statics i 0)).descriptor) v ≡ true
+pub static_well : (p : Linked) (e : Moment) (i : ℕ) (v : Value) (d : Doing) → IsWellFormed p d.state → i < length p.statics → is_of_kind (operand_kind (field_at p (slice_index_or p.statics i 0)).descriptor) v ≡ true
     → (class_state_at d.state.guest (field_at p (slice_index_or p.statics i 0)).class ≡ Untouched → ⊥) → IsWellFormed p (static_written e i v d).state
 static_well p e i v d h lt kind touched =
     let next : Doing = record { state = guest_now d.state (with_static d.state.guest i v); records = d.records } in

@@ -13,7 +13,7 @@ use Rattle.et_event.specs.declared.errors.GuestError.TheVariants.{ArithmeticExce
 use Rattle.et_event.specs.Errors.{class_called, error_class}
 use Rattle.et_event.specs.Event.{does}
 use Rattle.et_event.specs.Moments.{begins, with_frame, next_object, instance_made}
-use Rattle.et_event.specs.Sites.{Site, code_of}
+use Rattle.et_event.specs.Sites.{Site, code_of_frame}
 use Rattle.et_event.specs.Sound.{IsPc, IsSoundFor}
 use Rattle.et_event.specs.PlainRows.{is_plain}
 use Rattle.et_sound.specs.Outcomes.{KeepsSound}
@@ -35,16 +35,16 @@ pub record Begins (p : Linked) (s : Kept) (t : ℕ) : Type 0 where
   pub room : length (top s.guest t).operands ≤ (top s.guest t).room
 
 -- what a frame keeps of its method is what the law of a changed frame asks
-keeps : (p : Linked) (s : Kept) (t : ℕ) (f' : FrameState) → Begins p s t → Keeps (code_of p (top s.guest t)) (top s.guest t) f' → KeepsFrame p (top s.guest t) f'
+keeps : (p : Linked) (s : Kept) (t : ℕ) (f' : FrameState) → Begins p s t → Keeps (code_of_frame p (top s.guest t)) (top s.guest t) f' → KeepsFrame p (top s.guest t) f'
 keeps p s t f' b k = record { same = k.same; runs = b.runs; pc = k.pc; locals = k.locals; operands = k.operands }
 
 -- THE ROWS
 
-shapes_sound : (p : Linked) (s : Kept) (t next : ℕ) → Begins p s t → MakesSound p → IsPc (code_of p (top s.guest t)) next → HoldsOfShapes (KeepsSound p) (Keeps (code_of p (top s.guest t)) (top s.guest t)) p s t next
+shapes_sound : (p : Linked) (s : Kept) (t next : ℕ) → Begins p s t → MakesSound p → IsPc (code_of_frame p (top s.guest t)) next → HoldsOfShapes (KeepsSound p) (Keeps (code_of_frame p (top s.guest t)) (top s.guest t)) p s t next
 shapes_sound p s t next b made there =
     let e = moment p s t in
     let f = top s.guest t in
-    let body : Body = code_of p f in
+    let body : Body = code_of_frame p f in
     let well : IsWellFormed p (begins e).state = begins_well p e b.sound b.clock in
     record {
       no_meaning = tt;
@@ -59,11 +59,11 @@ shapes_sound p s t next b made there =
           (record { thread = b.has.thread; frame = b.has.frame }) (keeps p s t g b k));
     }
   where
-    framed_well : (g : FrameState) → Keeps (code_of p (top s.guest t)) (top s.guest t) g → IsWellFormed p (with_frame (moment p s t) g (begins (moment p s t))).state
+    framed_well : (g : FrameState) → Keeps (code_of_frame p (top s.guest t)) (top s.guest t) g → IsWellFormed p (with_frame (moment p s t) g (begins (moment p s t))).state
     framed_well g k = top_well p (begins (moment p s t)).state t g (begins_well p (moment p s t) b.sound b.clock) (record { thread = b.has.thread; frame = b.has.frame }) (keeps p s t g b k)
 
-pub does_sound : (p : Linked) (s : Kept) (t : ℕ) (at : Site) (r : Row) → Begins p s t → MakesSound p → is_plain r ≡ true → IsPc (code_of p (top s.guest t)) at.next
-    → ((x : FrameRow) → r ≡ row.Frame x → MayGo (code_of p (top s.guest t)) at x (top s.guest t).pc) → KeepsSound p (does (moment p s t) at r)
+pub does_sound : (p : Linked) (s : Kept) (t : ℕ) (at : Site) (r : Row) → Begins p s t → MakesSound p → is_plain r ≡ true → IsPc (code_of_frame p (top s.guest t)) at.next
+    → ((x : FrameRow) → r ≡ row.Frame x → MayGo (code_of_frame p (top s.guest t)) at x (top s.guest t).pc) → KeepsSound p (does (moment p s t) at r)
 does_sound p s t at r b made plain there go =
     let f = top s.guest t in
-    by_shape (KeepsSound p) (Keeps (code_of p f) f) p s t b.has at (shapes_sound p s t at.next b made there) r plain (λ x e. kept_after (code_of p f) at x f b.room (go x e))
+    by_shape (KeepsSound p) (Keeps (code_of_frame p f) f) p s t b.has at (shapes_sound p s t at.next b made there) r plain (λ x e. kept_after (code_of_frame p f) at x f b.room (go x e))

@@ -14,7 +14,7 @@ use Rattle.et_event.specs.declared.rows.Elements.TheVariants as elements
 use Rattle.et_event.specs.declared.rows.Operand.{Operand}
 use Rattle.et_event.specs.declared.rows.Operand.TheVariants as operand
 use Rattle.et_event.specs.Checks.{entries_of}
-use Rattle.et_event.specs.Kinds.{kind_of, or_zero, narrowed, kind_of_elements, are_elements, is_array, kept_element}
+use Rattle.et_event.specs.Kinds.{operand_kind, or_zero, narrowed, kind_of_elements, are_elements, is_array_element, kept_element}
 use Rattle.et_event.specs.Sound.{is_of_kind, kind_of_base, kind_of_element}
 use Rattle.et_event.specs.Programs.{HasInstanceField, HasSlots, MayHold}
 
@@ -35,11 +35,11 @@ narrowed_kind k descriptor LongHigh h = h
 narrowed_kind k descriptor Null h = h
 narrowed_kind k descriptor (Ref o) h = h
 
-pub field_holds : (p : Linked) (c f : ℕ) (v : Value) → HasSlots p → HasInstanceField p c f → is_of_kind (kind_of (field_at p f).descriptor) v ≡ true → MayHold p c (field_at p f).slot v
+pub field_holds : (p : Linked) (c f : ℕ) (v : Value) → HasSlots p → HasInstanceField p c f → is_of_kind (operand_kind (field_at p f).descriptor) v ≡ true → MayHold p c (field_at p f).slot v
 field_holds p c f v slots has kind = record {
   fields = λ g lt static below e.
       let same : g ≡ f = slots.own c g f (record { within = lt; instance = static; below = below }) has e in
-      subst (λ (k : ℕ). is_of_kind (kind_of (field_at p k).descriptor) v ≡ true) (sym same) kind;
+      subst (λ (k : ℕ). is_of_kind (operand_kind (field_at p k).descriptor) v ≡ true) (sym same) kind;
   elements = inr (slots.bare c f has);
 }
 
@@ -69,7 +69,7 @@ element_kind elements.Short NoArray h = absurd (false≢true h)
 element_kind elements.Short (Base k) h = base_is k 9 h
 element_kind elements.Short (Class c) h = absurd (false≢true h)
 
-pub elements_are_array : (kind : Elements) (e : Element) → are_elements kind e ≡ true → is_array e ≡ true
+pub elements_are_array : (kind : Elements) (e : Element) → are_elements kind e ≡ true → is_array_element e ≡ true
 elements_are_array elements.Int NoArray h = h
 elements_are_array elements.Long NoArray h = h
 elements_are_array elements.Reference NoArray h = h
@@ -103,10 +103,10 @@ kept_kind elements.Short LongHigh h = h
 kept_kind elements.Short Null h = h
 kept_kind elements.Short (Ref o) h = h
 
-not_bare : (e : Element) → is_array e ≡ true → e ≡ NoArray → ⊥
-not_bare e h none = false≢true (sym (ap (λ (x : Element). is_array x) none) ∙ h)
+not_bare : (e : Element) → is_array_element e ≡ true → e ≡ NoArray → ⊥
+not_bare e h none = false≢true (sym (ap (λ (x : Element). is_array_element x) none) ∙ h)
 
-pub array_holds : (p : Linked) (c i : ℕ) (v : Value) → HasSlots p → is_array (class_at p c).info.element ≡ true → is_of_kind (kind_of_element (class_at p c).info.element) v ≡ true → MayHold p c i v
+pub array_holds : (p : Linked) (c i : ℕ) (v : Value) → HasSlots p → is_array_element (class_at p c).info.element ≡ true → is_of_kind (kind_of_element (class_at p c).info.element) v ≡ true → MayHold p c i v
 array_holds p c i v slots array kind = record {
   fields = λ g lt static below e. absurd (not_bare (class_at p c).info.element array (slots.bare c g (record { within = lt; instance = static; below = below })));
   elements = inl kind;
@@ -163,13 +163,13 @@ letter_width false true reference false = omega arith
 letter_width false false true double = some_width (double || false)
 letter_width false false false double = some_width (double || false)
 
-kind_width : (descriptor : List ℕ) → width (kind_of descriptor) ≤ width_of descriptor
+kind_width : (descriptor : List ℕ) → width (operand_kind descriptor) ≤ width_of descriptor
 kind_width [] = omega arith
 kind_width (a ∷ rest) = letter_width ((a == 66) || (a == 67) || (a == 73) || (a == 83) || (a == 90)) (a == 74) ((a == 76) || (a == 91)) (a == 68)
 
 -- what is read from a field takes no more entries than its type
-pub read_width : (descriptor : List ℕ) (v : Value) → is_of_kind (kind_of descriptor) v ≡ true → length (entries_of (or_zero (kind_of descriptor) v)) ≤ width_of descriptor
+pub read_width : (descriptor : List ℕ) (v : Value) → is_of_kind (operand_kind descriptor) v ≡ true → length (entries_of (or_zero (operand_kind descriptor) v)) ≤ width_of descriptor
 read_width descriptor v h =
-    let a = entries_width (kind_of descriptor) v h in
+    let a = entries_width (operand_kind descriptor) v h in
     let b = kind_width descriptor in
     omega arith

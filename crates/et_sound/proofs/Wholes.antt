@@ -10,7 +10,7 @@ use Rattle.et_state.specs.State.{GuestState, Kept}
 use Rattle.et_state.specs.Words.{thread_at, ticked}
 use Rattle.et_state.specs.Sound.{IsSound}
 use Rattle.et_state.proofs.Places.{ended_root}
-use Rattle.et_event.specs.Moments.{fits, later}
+use Rattle.et_event.specs.Moments.{fits_heap, later}
 use Rattle.et_event.specs.Sound.{HasThreadObject, IsSoundFor, IsSoundThread}
 use Rattle.et_sound.specs.WellFormed.{IsWellFormed}
 use Rattle.et_sound.proofs.Growing.{Grows, objects_grow, monitors_grow, classes_grow}
@@ -36,7 +36,7 @@ well_formed p s h = record {
   statics = h.statics;
 }
 
-pub sound : (p : Linked) (s : Kept) → IsSound s → fits s.heap ≡ true → IsWellFormed p s → IsSoundFor p s
+pub sound : (p : Linked) (s : Kept) → IsSound s → fits_heap s.heap ≡ true → IsWellFormed p s → IsSoundFor p s
 sound p s held fit h = record {
   held = held;
   clock = h.clock;

@@ -2,7 +2,7 @@
 use Rattle.std.specs.Prelude.{◌≡◌, ℕ, Some, Ok}
 use Rattle.et_code.specs.declared.instr.Instr.{Instr}
 use Rattle.et_event.specs.declared.rows.Row.{Row}
-use Rattle.et_event.specs.Moments.{Moment, frame_of}
+use Rattle.et_event.specs.Moments.{Moment, current_frame}
 use Rattle.et_event.specs.Sites.{Site, site_of, decoded_at}
 use Rattle.et_event.specs.Table.{row_of}
 use Rattle.et_sound.specs.WellFormed.{StandsAt}
@@ -11,6 +11,6 @@ use Rattle.et_sound.specs.WellFormed.{StandsAt}
 pub record IsAtRow (e : Moment) (at : Site) (r : Row) : Type 0 where
   pub stands : StandsAt e at
   pub decoded : Instr × ℕ
-  pub is : decoded_at e.program (frame_of e) ≡ Ok decoded
+  pub is : decoded_at e.program (current_frame e) ≡ Ok decoded
   pub row : row_of decoded.0.opcode ≡ Some r
-  pub site : at ≡ site_of e.program (frame_of e) decoded
+  pub site : at ≡ site_of e.program (current_frame e) decoded

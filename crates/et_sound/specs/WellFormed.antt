@@ -11,9 +11,9 @@ use Rattle.et_state.specs.State.{Kept}
 use Rattle.et_state.specs.Words.{thread_at, HasFrame}
 use Rattle.et_event.specs.Frames.{first_reference}
 use Rattle.et_event.specs.Initialization.{state_of}
-use Rattle.et_event.specs.Moments.{Moment, Doing, frame_of}
+use Rattle.et_event.specs.Moments.{Moment, Doing, current_frame}
 use Rattle.et_event.specs.Monitors.{Lock, OfObject, OfClass, monitor_of}
-use Rattle.et_event.specs.Sites.{Site, code_of}
+use Rattle.et_event.specs.Sites.{Site, code_of_frame}
 use Rattle.et_event.specs.Sound.{IsPc, AreSoundFrames, HasThreadObject, IsSoundObject, IsSoundMonitor, IsSoundThread, IsSoundClassState, IsSoundStatic, IsSoundFor}
 
 pub record IsWellFormed (p : Linked) (s : Kept) : Type 0 where
@@ -29,7 +29,7 @@ pub record IsWellFormed (p : Linked) (s : Kept) : Type 0 where
   pub statics : (length s.guest.statics ≡ length p.statics) × ((i : ℕ) → i < length p.statics → IsSoundStatic p s.guest i)
 
 -- so far an event has come to a well-formed state, and its thread was started
-pub record IsGoing (e : Moment) (d : Doing) : Type 0 where
+pub record IsUnderWayAt (e : Moment) (d : Doing) : Type 0 where
   pub well : IsWellFormed e.program d.state
   pub thread : e.thread < length d.state.guest.threads
 
@@ -44,9 +44,9 @@ pub record StandsAt (e : Moment) (at : Site) : Type 0 where
   pub sound : IsSoundFor e.program e.before
   pub clock : e.before.guest.clock < 2 ^ 40
   pub frame : HasFrame e.before.guest e.thread
-  pub runs : (frame_of e).method ≡ None → ⊥
-  pub operands : length (frame_of e).operands ≤ (frame_of e).room
-  pub next : IsPc (code_of e.program (frame_of e)) at.next
+  pub runs : (current_frame e).method ≡ None → ⊥
+  pub operands : length (current_frame e).operands ≤ (current_frame e).room
+  pub next : IsPc (code_of_frame e.program (current_frame e)) at.next
 
 -- thread t may become x
 pub record MayBeThread (p : Linked) (s : Kept) (t : ℕ) (x : ThreadState) : Type 0 where
@@ -61,7 +61,7 @@ pub record MayBeThread (p : Linked) (s : Kept) (t : ℕ) (x : ThreadState) : Typ
 pub record KeepsFrame (p : Linked) (f f' : FrameState) : Type 0 where
   pub same : f' ≡ record f { pc = f'.pc; locals = f'.locals; operands = f'.operands }
   pub runs : f.method ≡ None → ⊥
-  pub pc : IsPc (code_of p f) f'.pc
+  pub pc : IsPc (code_of_frame p f) f'.pc
   pub locals : length f'.locals ≡ length f.locals
   pub operands : length f'.operands ≤ f.room
 

@@ -10,7 +10,7 @@ ghost use Rattle.et_event.specs.declared.rows.Row.{Row};
 ghost use Rattle.et_event.specs.declared.rows.Row.TheVariants as rows;
 ghost use Rattle.et_event.specs.Event.{does, event};
 ghost use Rattle.et_event.specs.Heap.{new_array, new_reference_array, new_multi_array};
-ghost use Rattle.et_event.specs.Moments.{Moment, thread_of, frame_of};
+ghost use Rattle.et_event.specs.Moments.{Moment, thread_of, current_frame};
 ghost use Rattle.et_event.specs.Sites.{Site};
 ghost use Rattle.et_event.specs.Sound.{IsSoundFor};
 ghost use Rattle.et_state.specs.declared.stage.Turn.TheVariants as turns;
@@ -58,7 +58,7 @@ pub fn methods_are_of_classes()
 pub fn places_have_rows()
     ensures { (e : Moment) (place : Place) → IsSoundFor e.program e.before →
         e.before.guest.clock < 2 ^ 40 → turn_of (thread_of e) ≡ turns.Instruction →
-        IsPlace e.program (frame_of e) place → IsAtRow e (site_at place) place.row }
+        IsPlace e.program (current_frame e) place → IsAtRow e (site_at place) place.row }
 {}
 
 /// A call of each kind leaves a sound state, with what initializes the class, with the frame that is entered, and with what a

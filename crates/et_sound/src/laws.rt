@@ -4,7 +4,7 @@ ghost use Rattle.std.specs.Prelude.{◌≡◌, unwrap_or, ℤ, ◌+◌, Bool, fi
 ghost use Rattle.et_base.specs.declared.value.Value.{Value};
 ghost use Rattle.et_base.specs.declared.value.Value.TheVariants as values;
 ghost use Rattle.et_code.specs.declared.body.TableRow.{TableRow};
-ghost use Rattle.et_code.specs.Kept.{IsKept};
+ghost use Rattle.et_code.specs.Kept.{IsKeptCode};
 ghost use Rattle.et_code.specs.Bodies.{Body};
 ghost use Rattle.et_code.specs.Decoding.{instruction_at};
 ghost use Rattle.et_code.specs.declared.instr.Instr.{Instr};
@@ -20,11 +20,11 @@ ghost use Rattle.et_event.specs.Initialization.{state_of, initializer_frame, wit
 ghost use Rattle.et_event.specs.declared.rows.Elements.{Elements};
 ghost use Rattle.et_event.specs.declared.rows.Operand.{Operand};
 ghost use Rattle.et_event.specs.Checks.{entries_of};
-ghost use Rattle.et_event.specs.Kinds.{kind_of, or_zero, narrowed, kind_of_elements, are_elements, kept_element, returned_width};
+ghost use Rattle.et_event.specs.Kinds.{operand_kind, or_zero, narrowed, kind_of_elements, are_elements, kept_element, returned_width};
 ghost use Rattle.et_event.specs.declared.errors.GuestError.{GuestError};
-ghost use Rattle.et_event.specs.Moments.{Moment, Doing, frame_of, thread_of, begins, fits, later, instance_made, array_made, slot_written, static_written, ends, goes, waits, throws};
+ghost use Rattle.et_event.specs.Moments.{Moment, Doing, current_frame, thread_of, begins, fits_heap, later, instance_made, array_made, slot_written, static_written, ends_event, goes, waits, throws};
 ghost use Rattle.et_event.specs.Monitors.{Lock, monitor_of, entered, left, lock_for};
-ghost use Rattle.et_event.specs.Sites.{Site, method_of, code_of, class_operand, natural};
+ghost use Rattle.et_event.specs.Sites.{Site, running_method, code_of_frame, class_operand, natural_of};
 ghost use Rattle.et_event.specs.Sound.{is_of_kind, IsPc, IsCaller, IsVoid, returned_of, AreSoundFrames, HasThreadObject, IsSoundObject, IsSoundMonitor, IsSoundClassState, IsSoundFor};
 ghost use Rattle.et_event.specs.Strings.{interned};
 ghost use Rattle.et_event.specs.Sync.{monitor_event, end_of_thread};
@@ -49,7 +49,7 @@ ghost use Rattle.et_state.specs.Outcome.{Outcome};
 ghost use Rattle.et_sound.specs.Outcomes.{KeepsSound};
 ghost use Rattle.et_pool.specs.Descriptors.{width_of};
 ghost use Rattle.et_event.specs.Programs.{MakesSound, HasInstanceField, HasSlots, HasInitializers, IsArrayClass, MayHold};
-ghost use Rattle.et_sound.specs.WellFormed.{IsWellFormed, IsGoing, IsFurther, MayBeThread, IsThere, KeepsFrame, MayTake, MayEnter, StandsAt};
+ghost use Rattle.et_sound.specs.WellFormed.{IsWellFormed, IsUnderWayAt, IsFurther, MayBeThread, IsThere, KeepsFrame, MayTake, MayEnter, StandsAt};
 
 /// A sound state is well formed.
 pub fn sound_states_are_well_formed()
@@ -59,7 +59,7 @@ pub fn sound_states_are_well_formed()
 /// A well-formed state is sound where what it refers to is held, and its objects fit.
 pub fn well_formed_states_are_sound()
     ensures { (p : Linked) (s : Kept) →
-        IsSound s → fits s.heap ≡ true → IsWellFormed p s → IsSoundFor p s }
+        IsSound s → fits_heap s.heap ≡ true → IsWellFormed p s → IsSoundFor p s }
 {}
 
 /// The clock goes on.
@@ -125,14 +125,14 @@ pub fn slot_is_written()
         IsWellFormed p d.state → IsHeld d.state.heap o → MayHold p
         (object_at d.state.heap o).class i v → IsWellFormed p (slot_written e o i v d).state }
     ensures fits { (e : Moment) (o i : ℕ) (v : Value) (d : Doing) → IsHeld d.state.heap o →
-        fits d.state.heap ≡ true → fits (slot_written e o i v d).state.heap ≡ true }
+        fits_heap d.state.heap ≡ true → fits_heap (slot_written e o i v d).state.heap ≡ true }
 {}
 
 /// An object may hold a value of its type in the slot of a field (JVMS 2.4), also as the field keeps it, and an array of a
 /// kind may hold what an element keeps of a value of that kind.
 pub fn slots_may_be_written()
     ensures field { (p : Linked) (c f : ℕ) (v : Value) → HasSlots p →
-        HasInstanceField p c f → is_of_kind (kind_of (field_at p f).descriptor) v ≡ true →
+        HasInstanceField p c f → is_of_kind (operand_kind (field_at p f).descriptor) v ≡ true →
         MayHold p c (field_at p f).slot v }
     ensures narrowed { (k : Option Operand) (descriptor : List ℕ) (v : Value) →
         is_of_kind k v ≡ true → is_of_kind k (narrowed descriptor v) ≡ true }
@@ -143,8 +143,8 @@ pub fn slots_may_be_written()
 
 /// What is read from a field takes no more entries than its type.
 pub fn reads_have_width()
-    ensures { (descriptor : List ℕ) (v : Value) → is_of_kind (kind_of descriptor) v ≡ true →
-        length (entries_of (or_zero (kind_of descriptor) v)) ≤ width_of descriptor }
+    ensures { (descriptor : List ℕ) (v : Value) → is_of_kind (operand_kind descriptor) v ≡ true →
+        length (entries_of (or_zero (operand_kind descriptor) v)) ≤ width_of descriptor }
 {}
 
 /// What an object refers to weakly is set.
@@ -160,7 +160,7 @@ pub fn monitor_is_entered()
         IsWellFormed p d.state → IsThere d.state lock → e.thread < length d.state.guest.threads →
         (monitor_of d lock).count < d.state.guest.clock → IsWellFormed p (entered e lock d).state }
     ensures fits { (e : Moment) (lock : Lock) (d : Doing) → IsThere d.state lock →
-        fits d.state.heap ≡ true → fits (entered e lock d).state.heap ≡ true }
+        fits_heap d.state.heap ≡ true → fits_heap (entered e lock d).state.heap ≡ true }
     ensures count { (p : Linked) (d : Doing) (lock : Lock) → IsWellFormed p d.state →
         IsThere d.state lock → (monitor_of d lock).count ≤ d.state.guest.clock }
 {}
@@ -170,7 +170,8 @@ pub fn monitor_is_left()
     ensures well { (p : Linked) (lock : Lock) (d : Doing) →
         IsWellFormed p d.state → IsThere d.state lock → IsWellFormed p (left lock d).state }
     ensures fits { (lock : Lock) (d : Doing) →
-        IsThere d.state lock → fits d.state.heap ≡ true → fits (left lock d).state.heap ≡ true }
+        IsThere d.state lock → fits_heap d.state.heap ≡ true → fits_heap (left lock d).state.heap ≡
+        true }
 {}
 
 // CLASSES
@@ -179,7 +180,7 @@ pub fn monitor_is_left()
 pub fn static_slot_is_written()
     ensures { (p : Linked) (e : Moment) (i : ℕ) (v : Value) (d : Doing) →
         IsWellFormed p d.state → i < length p.statics →
-        is_of_kind (kind_of (field_at p (slice_index_or p.statics i 0)).descriptor) v ≡ true →
+        is_of_kind (operand_kind (field_at p (slice_index_or p.statics i 0)).descriptor) v ≡ true →
         (class_state_at d.state.guest (field_at p (slice_index_or p.statics i 0)).class
         ≡ classes.Untouched → ⊥) → IsWellFormed p (static_written e i v d).state }
 {}
@@ -260,7 +261,8 @@ pub fn frame_is_dropped()
 pub fn frame_returns()
     ensures { (p : Linked) (f : FrameState) (values : List Value) (below : List FrameState) →
         AreSoundFrames p (f ∷ below) →
-        (f.stage ≡ stages.Plain → length values ≤ returned_width (returned_of (method_of p f))) →
+        (f.stage ≡ stages.Plain → length values ≤ returned_width
+        (returned_of (running_method p f))) →
         AreSoundFrames p (frames_after_return p f.stage values below) }
 {}
 
@@ -287,13 +289,14 @@ pub fn events_begin_well_formed()
 /// An event that ends in a well-formed state leaves a sound one: where it is done and what it made fits, or made nothing;
 /// where the thread waits; and where an exception is thrown.
 pub fn events_end_sound()
-    ensures fits { (p : Linked) (d : Doing) → IsWellFormed p d.state → KeepsSound p (ends d) }
+    ensures fits { (p : Linked) (d : Doing) → IsWellFormed p d.state → KeepsSound p
+        (ends_event d) }
     ensures goes { (p : Linked) (d : Doing) →
-        fits d.state.heap ≡ true → IsWellFormed p d.state → KeepsSound p (goes d) }
+        fits_heap d.state.heap ≡ true → IsWellFormed p d.state → KeepsSound p (goes d) }
     ensures waits { (p : Linked) (e : Moment) →
         IsSoundFor p e.before → e.before.guest.clock < 2 ^ 40 → KeepsSound p (waits e) }
     ensures throws { (e : Moment) (error : GuestError) (d : Doing) →
-        MakesSound e.program → IsGoing e d → KeepsSound e.program (throws e error d) }
+        MakesSound e.program → IsUnderWayAt e d → KeepsSound e.program (throws e error d) }
 {}
 
 /// What a call that does an event leaves is sound, where the outcome of the event is.
@@ -307,7 +310,7 @@ pub fn answers_are_sound()
 pub fn instructions_stand_at_places()
     ensures { (e : Moment) (place : Place) → IsSoundFor e.program e.before →
         e.before.guest.clock < 2 ^ 40 → turn_of (thread_of e) ≡ turns.Instruction →
-        IsPlace e.program (frame_of e) place → StandsAt e (site_at place) }
+        IsPlace e.program (current_frame e) place → StandsAt e (site_at place) }
 {}
 
 // INSTRUCTIONS on fields and elements (JVMS 2.11.5)
@@ -335,7 +338,7 @@ pub fn type_rows_keep_sound()
     ensures new_array { (e : Moment) (at : Site) (class : ℕ) (elements : ℤ) (below : List Value) →
         StandsAt e at → MakesSound e.program →
         ((n : ℕ) → IsSoundObject e.program (new_object class n n)) → length below + 1
-        ≤ (frame_of e).room → KeepsSound e.program (new_array_of e at class elements below) }
+        ≤ (current_frame e).room → KeepsSound e.program (new_array_of e at class elements below) }
 {}
 
 // MONITORS, AND THE END OF A THREAD
@@ -363,9 +366,10 @@ pub fn throws_keep_sound()
 /// A handler of the code begins at an instruction, and is entered.
 pub fn handlers_keep_sound()
     ensures pc { (b : Body) (tags : List ℕ) (test : TableRow → Bool) (row : TableRow) →
-        IsKept b tags → find test b.table ≡ Some row → IsPc b row.handler }
+        IsKeptCode b tags → find test b.table ≡ Some row → IsPc b row.handler }
     ensures caught { (e : Moment) (at : Site) (o handler : ℕ) → StandsAt e at →
-        IsPc (code_of e.program (frame_of e)) handler → KeepsSound e.program (caught e o handler) }
+        IsPc (code_of_frame e.program (current_frame e)) handler → KeepsSound e.program
+        (caught e o handler) }
 {}
 
 /// A frame is dropped by an exception: that of a method, with its monitor; that of an initializer, which was not entered yet
@@ -373,15 +377,16 @@ pub fn handlers_keep_sound()
 pub fn unwinding_keeps_sound()
     ensures plain { (e : Moment) (o : ℕ) → IsSoundFor e.program e.before →
         e.before.guest.clock < 2 ^ 40 → HasFrame e.before.guest e.thread →
-        (frame_of e).stage ≡ stages.Plain → KeepsSound e.program (unwound e o) }
+        (current_frame e).stage ≡ stages.Plain → KeepsSound e.program (unwound e o) }
     ensures before { (e : Moment) (c o : ℕ) → MakesSound e.program →
         MayHold e.program (error_class e.program errors.ExceptionInInitializerError) 1
         (values.Ref o) → c < length e.program.classes →
-        IsGoing e (begins e) → KeepsSound e.program (ends (failed e c o (dropped e (begins e)))) }
+        IsUnderWayAt e (begins e) → KeepsSound e.program
+        (ends_event (failed e c o (dropped e (begins e)))) }
     ensures clinit { (e : Moment) (c o : ℕ) → MakesSound e.program →
         MayHold e.program (error_class e.program errors.ExceptionInInitializerError) 1
         (values.Ref o) → c < length e.program.classes →
-        IsGoing e (begins e) → KeepsSound e.program (unwound_clinit e c o) }
+        IsUnderWayAt e (begins e) → KeepsSound e.program (unwound_clinit e c o) }
 {}
 
 // INITIALIZATION (JVMS 5.5)
@@ -392,14 +397,14 @@ pub fn unwinding_keeps_sound()
 pub fn initialization_keeps_sound()
     ensures needed { (e : Moment) (d : Doing) (c : ℕ) (go : Doing → Outcome Kept) →
         IsSoundFor e.program e.before → e.before.guest.clock < 2 ^ 40 → HasInitializers e.program →
-        MakesSound e.program → c < length e.program.classes → IsGoing e d →
-        ((x : Doing) → IsGoing e x → IsFurther e d x → (state_of x c ≡ classes.Untouched → ⊥) →
+        MakesSound e.program → c < length e.program.classes → IsUnderWayAt e d →
+        ((x : Doing) → IsUnderWayAt e x → IsFurther e d x → (state_of x c ≡ classes.Untouched → ⊥) →
         KeepsSound e.program (go x)) → KeepsSound e.program (initialized e d c go) }
     ensures begins { (e : Moment) (c : ℕ) (d : Doing) →
         HasInitializers e.program → MakesSound e.program →
-        c < length e.program.classes → IsGoing e d → KeepsSound e.program (begins_class e c d) }
+        c < length e.program.classes → IsUnderWayAt e d → KeepsSound e.program (begins_class e c d) }
     ensures step { (e : Moment) (c : ℕ) → IsSoundFor e.program e.before →
-        e.before.guest.clock < 2 ^ 40 → HasFrame e.before.guest e.thread → (frame_of e).stage
+        e.before.guest.clock < 2 ^ 40 → HasFrame e.before.guest e.thread → (current_frame e).stage
         ≡ stages.Before c → c < length e.program.classes → HasInitializers e.program →
         MakesSound e.program → KeepsSound e.program (initialization_step e c) }
 {}
@@ -414,7 +419,7 @@ pub fn class_rows_keep_sound()
     ensures new { (e : Moment) (at : Site) → StandsAt e at → MakesSound e.program →
         HasSlots e.program → HasInitializers e.program → KeepsSound e.program (new_instance e at) }
     ensures new_array { (e : Moment) (at : Site) (c : ℕ) → StandsAt e at → MakesSound e.program →
-        HasSlots e.program → base_array e.program (natural at.instr.first) ≡ Some c →
+        HasSlots e.program → base_array e.program (natural_of at.instr.first) ≡ Some c →
         KeepsSound e.program (new_array e at) }
     ensures new_reference_array { (e : Moment) (at : Site) →
         StandsAt e at → MakesSound e.program → HasSlots e.program →
@@ -428,7 +433,7 @@ pub fn class_rows_keep_sound()
 /// The frame of a method is pushed, whose monitor is entered.
 pub fn entered_frames_keep_well_formed()
     ensures { (e : Moment) (m : ℕ) (body : Body) (arguments : List Value) (d : Doing) →
-        IsGoing e d →
+        IsUnderWayAt e d →
         MayEnter d (lock_for (method_at e.program m) (receiver_of e.program m arguments)) →
         length (thread_at d.state.guest e.thread).frames < most_frames → AreSoundFrames e.program
         (method_frame e.program m body arguments ∷ (thread_at d.state.guest e.thread).frames) →
@@ -440,7 +445,8 @@ pub fn entered_frames_keep_well_formed()
 pub fn returns_keep_sound()
     ensures { (e : Moment) (returned : List Value) →
         IsSoundFor e.program e.before → e.before.guest.clock < 2 ^ 40 →
-        HasFrame e.before.guest e.thread → ((frame_of e).stage ≡ stages.Plain →
-        length returned ≤ returned_width (returned_of (method_of e.program (frame_of e)))) →
+        HasFrame e.before.guest e.thread → ((current_frame e).stage ≡ stages.Plain →
+        length returned ≤ returned_width (returned_of
+        (running_method e.program (current_frame e)))) →
         KeepsSound e.program (goes (frame_returned e returned (begins e))) }
 {}

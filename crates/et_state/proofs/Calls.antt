@@ -13,7 +13,7 @@ use Rattle.et_state.specs.State.{GuestState, Kept, MachineState, kept_of}
 use Rattle.et_state.specs.Words.{thread_at, with_new_thread, top, HasFrame, IsUnended, static_at, with_static, with_class_state, with_class_monitor, with_string, with_guest, begun, losing, steps_guest, steps_thread, steps_top, steps_object, with_new_object, with_object}
 use Rattle.et_state.specs.Roots.{roots_of}
 use Rattle.et_state.specs.Sound.{IsSound}
-use Rattle.et_state.specs.Moves.{Moves, WasThere, MayBeTied, IsUnderWay, IsOnWay, AreHeld, WereThere}
+use Rattle.et_state.specs.Moves.{Moves, WasThere, MayBeTied, IsUnderWay, IsOnWay, AreInHeap, WereThere}
 use Rattle.et_state.proofs.Places.{moves_none, frame_push, frame_pop, frame_clear, frame_set_local, frame_in_clinit, guest_top, guest_dropped, guest_entered, guest_pending, guest_started, guest_ended, guest_set_entered, guest_static, guest_interned, moves_place, refs_of-unset}
 use Rattle.et_state.proofs.UnderWay.{start, law_guest, law_lose, law_object, law_slots, law_beside, law_make}
 
@@ -42,7 +42,7 @@ on_lose s m l w were = law_lose s (kept_of m) m.lost l w were
 pub on_set_pc : (s : Kept) (m : MachineState) (t pc : ℕ) → IsOnWay s m → HasFrame m.guest t → IsOnWay s (steps_top m t (at_pc pc (top m.guest t)) [])
 on_set_pc s m t pc w has = guest s m _ [] w (guest_top _ _ m.guest t (at_pc pc (top m.guest t)) [] has (moves_none _ _ (frame_roots (top m.guest t))))
 
-pub on_push : (s : Kept) (m : MachineState) (t : ℕ) (v : Value) → IsOnWay s m → HasFrame m.guest t → AreHeld m (refs_of_value v) → IsOnWay s (steps_top m t (pushed v (top m.guest t)) [])
+pub on_push : (s : Kept) (m : MachineState) (t : ℕ) (v : Value) → IsOnWay s m → HasFrame m.guest t → AreInHeap m (refs_of_value v) → IsOnWay s (steps_top m t (pushed v (top m.guest t)) [])
 on_push s m t v w has held = guest s m _ [] w (guest_top _ _ m.guest t (pushed v (top m.guest t)) [] has (frame_push (IsHeld m.heap) (WasThere s (kept_of m)) (top m.guest t) v held))
 
 pub on_pop : (s : Kept) (m : MachineState) (t : ℕ) → IsOnWay s m → HasFrame m.guest t → 0 < length (top m.guest t).operands → WereThere s m (refs_of_value (operand_of (top m.guest t) 0)) → IsOnWay s (steps_top m t (popped 1 (top m.guest t)) (refs_of_value (operand_of (top m.guest t) 0)))
@@ -51,11 +51,11 @@ on_pop s m t w has lt were = guest s m _ _ w (guest_top _ _ m.guest t (popped 1 
 pub on_clear_operands : (s : Kept) (m : MachineState) (t : ℕ) → IsOnWay s m → HasFrame m.guest t → WereThere s m (refs_of (top m.guest t).operands) → IsOnWay s (steps_top m t (without_operands (top m.guest t)) (refs_of (top m.guest t).operands))
 on_clear_operands s m t w has were = guest s m _ _ w (guest_top _ _ m.guest t (without_operands (top m.guest t)) _ has (frame_clear (IsHeld m.heap) (WasThere s (kept_of m)) (top m.guest t) were))
 
-pub on_set_local : (s : Kept) (m : MachineState) (t i : ℕ) (v : Value) → IsOnWay s m → HasFrame m.guest t → i < length (top m.guest t).locals → AreHeld m (refs_of_value v) → WereThere s m (refs_of_value (local_of (top m.guest t) i))
+pub on_set_local : (s : Kept) (m : MachineState) (t i : ℕ) (v : Value) → IsOnWay s m → HasFrame m.guest t → i < length (top m.guest t).locals → AreInHeap m (refs_of_value v) → WereThere s m (refs_of_value (local_of (top m.guest t) i))
     → IsOnWay s (steps_top m t (with_local i v (top m.guest t)) (refs_of_value (local_of (top m.guest t) i)))
 on_set_local s m t i v w has lt held were = guest s m _ _ w (guest_top _ _ m.guest t (with_local i v (top m.guest t)) _ has (frame_set_local (IsHeld m.heap) (WasThere s (kept_of m)) (top m.guest t) i v lt held were))
 
-pub on_enter_frame : (s : Kept) (m : MachineState) (t : ℕ) (f : FrameState) → IsOnWay s m → t < length m.guest.threads → AreHeld m (frame_roots f) → IsOnWay s (steps_thread m t (entered_by f (thread_at m.guest t)) [])
+pub on_enter_frame : (s : Kept) (m : MachineState) (t : ℕ) (f : FrameState) → IsOnWay s m → t < length m.guest.threads → AreInHeap m (frame_roots f) → IsOnWay s (steps_thread m t (entered_by f (thread_at m.guest t)) [])
 on_enter_frame s m t f w lt held = guest s m _ [] w (guest_entered (IsHeld m.heap) (WasThere s (kept_of m)) m.guest t f lt held)
 
 pub on_enter_clinit : (s : Kept) (m : MachineState) (t method room locals : ℕ) → IsOnWay s m → HasFrame m.guest t → (top m.guest t).locals ≡ [] → (top m.guest t).operands ≡ [] → IsOnWay s (steps_top m t (in_clinit method room locals (top m.guest t)) [])
@@ -85,7 +85,7 @@ on_start_thread s m o w held =
     lost_same s (kept_of (with_guest m (with_new_thread m.guest (new_thread None (Some o))))) m.lost
     (guest s m _ [] w (guest_started (IsHeld m.heap) (WasThere s (kept_of m)) m.guest (new_thread None (Some o)) (only_held (IsHeld m.heap) o held)))
 
-pub on_set_static : (s : Kept) (m : MachineState) (i : ℕ) (v : Value) → IsOnWay s m → i < length m.guest.statics → AreHeld m (refs_of_value v) → WereThere s m (refs_of_value (static_at m.guest i))
+pub on_set_static : (s : Kept) (m : MachineState) (i : ℕ) (v : Value) → IsOnWay s m → i < length m.guest.statics → AreInHeap m (refs_of_value v) → WereThere s m (refs_of_value (static_at m.guest i))
     → IsOnWay s (steps_guest m (with_static m.guest i v) (refs_of_value (static_at m.guest i)))
 on_set_static s m i v w lt held were = guest s m _ _ w (guest_static (IsHeld m.heap) (WasThere s (kept_of m)) m.guest i v lt held were)
 
@@ -100,7 +100,7 @@ on_intern s m text o w held =
     lost_same s (kept_of (with_guest m (with_string m.guest text o))) m.lost (guest s m _ [] w (guest_interned (IsHeld m.heap) (WasThere s (kept_of m)) m.guest text o held))
 
 pub on_set_slot : (s : Kept) (m : MachineState) (o i : ℕ) (v : Value) → IsOnWay s m → IsHeld m.heap o → WasThere s (kept_of m) o → i < length (object_at m.heap o).slots
-    → AreHeld m (refs_of_value v) → WereThere s m (refs_of_value v) → WereThere s m (refs_of_value (slot_of (object_at m.heap o) i))
+    → AreInHeap m (refs_of_value v) → WereThere s m (refs_of_value v) → WereThere s m (refs_of_value (slot_of (object_at m.heap o) i))
     → IsOnWay s (steps_object m o (with_slot i v (object_at m.heap o)) (refs_of_value (slot_of (object_at m.heap o) i)))
 on_set_slot s m o i v w held there lt new known were =
     let moves = moves_place (MayBeTied s (kept_of m)) (WasThere s (kept_of m)) (object_at m.heap o).slots i v lt (λ r c. (new r c, known r c)) were in
@@ -108,7 +108,7 @@ on_set_slot s m o i v w held there lt new known were =
 
 -- the old target is lost already
 pub on_heap_set_slot : (s : Kept) (m : MachineState) (o i : ℕ) (v : Value) → IsOnWay s m → IsHeld m.heap o → WasThere s (kept_of m) o → i < length (object_at m.heap o).slots
-    → AreHeld m (refs_of_value v) → WereThere s m (refs_of_value v) → ((r : ℕ) → Contains (refs_of_value (slot_of (object_at m.heap o) i)) r → Contains m.lost r)
+    → AreInHeap m (refs_of_value v) → WereThere s m (refs_of_value v) → ((r : ℕ) → Contains (refs_of_value (slot_of (object_at m.heap o) i)) r → Contains m.lost r)
     → IsOnWay s (with_object m o (with_slot i v (object_at m.heap o)))
 on_heap_set_slot s m o i v w held there lt new known lost =
     let old : Value = slot_of (object_at m.heap o) i in
@@ -117,7 +117,7 @@ on_heap_set_slot s m o i v w held there lt new known lost =
     (law_slots s (kept_of m) m.lost o (with_slot i v (object_at m.heap o)) [] w held there moves.on
     (λ r c. elim (moves.off r c) [ inl d ↦ inl d | inr d ↦ inr (Contains-append_left m.lost [] r (lost r d)) ]) (λ r c. absurd (Contains-none r c)) (λ r e. w.sound.referents o r e))
 
-pub on_set_referent : (s : Kept) (m : MachineState) (o : ℕ) (r : Option ℕ) → IsOnWay s m → IsHeld m.heap o → AreHeld m (option_to_list r) → IsOnWay s (with_object m o (with_referent r (object_at m.heap o)))
+pub on_set_referent : (s : Kept) (m : MachineState) (o : ℕ) (r : Option ℕ) → IsOnWay s m → IsHeld m.heap o → AreInHeap m (option_to_list r) → IsOnWay s (with_object m o (with_referent r (object_at m.heap o)))
 on_set_referent s m o r w held new = law_beside s (kept_of m) m.lost o (with_referent r (object_at m.heap o)) w held refl (λ p e. new p (listed r p e))
   where
     listed : (q : Option ℕ) (p : ℕ) → q ≡ Some p → Contains (option_to_list q) p

@@ -10,7 +10,7 @@ use Rattle.et_base.proofs.Lists.{Contains-none}
 use Rattle.et_heap.specs.Refs.{refs_of_value, refs_of}
 use Rattle.et_state.specs.Threads.{FrameState, ThreadState, no_thread, with_top_of, without_top, first_frame, rest_of, pushed, popped, without_operands, with_local, operand_of, local_of, locals_with, in_clinit, entered_by, with_pending, as_entered, as_ended, ended_roots}
 use Rattle.et_state.specs.ThreadRoots.{frame_roots, thread_roots}
-use Rattle.et_state.specs.Interned.{objects_of}
+use Rattle.et_state.specs.Interned.{interned_objects}
 use Rattle.et_state.specs.State.{GuestState}
 use Rattle.et_state.specs.Words.{thread_at, with_thread, with_new_thread, top, with_top, HasFrame, static_at, with_static, with_string}
 use Rattle.et_state.specs.Roots.{roots_of}
@@ -195,8 +195,8 @@ guest_static H R g i v lt h r =
 -- a string of a constant is added
 pub guest_interned : (H R : ℕ → Type 0) (g : GuestState) (text : List ℕ) (o : ℕ) → H o → Moves H R (roots_of g) (roots_of (with_string g text o)) []
 guest_interned H R g text o h =
-    let more : objects_of (g.interned ++ (text, o) ∷ []) ≡ objects_of g.interned ++ o ∷ [] = map-append (λ p. p.1) g.interned ((text, o) ∷ []) in
-    moves_right H R _ _ [] (flat_map thread_roots g.threads) (moves_right H R _ _ [] (refs_of g.statics) (subst (λ (os : List ℕ). Moves H R (objects_of g.interned) os []) (sym more) (moves_last H R (objects_of g.interned) (o ∷ []) (λ p c. one p c h))))
+    let more : interned_objects (g.interned ++ (text, o) ∷ []) ≡ interned_objects g.interned ++ o ∷ [] = map-append (λ p. p.1) g.interned ((text, o) ∷ []) in
+    moves_right H R _ _ [] (flat_map thread_roots g.threads) (moves_right H R _ _ [] (refs_of g.statics) (subst (λ (os : List ℕ). Moves H R (interned_objects g.interned) os []) (sym more) (moves_last H R (interned_objects g.interned) (o ∷ []) (λ p c. one p c h))))
   where
     only : (p : ℕ) → Contains (o ∷ []) p → o ≡ p
     only p (zero, lt, e) = e
@@ -272,10 +272,10 @@ pending_root g t o lt c =
     thread_root g t o lt (Contains-append_right (flat_map frame_roots (thread_at g t).frames) _ o (Contains-append_left (option_to_list (thread_at g t).pending) _ o c))
 
 pub static_root : (g : GuestState) (i o : ℕ) → i < length g.statics → Contains (refs_of_value (static_at g i)) o → Contains (roots_of g) o
-static_root g i o lt c = Contains-append_right (flat_map thread_roots g.threads) _ o (Contains-append_left (refs_of g.statics) (objects_of g.interned) o (part_contained refs_of_value Unset g.statics i o lt c))
+static_root g i o lt c = Contains-append_right (flat_map thread_roots g.threads) _ o (Contains-append_left (refs_of g.statics) (interned_objects g.interned) o (part_contained refs_of_value Unset g.statics i o lt c))
 
-pub string_root : (g : GuestState) (o : ℕ) → Contains (objects_of g.interned) o → Contains (roots_of g) o
-string_root g o c = Contains-append_right (flat_map thread_roots g.threads) _ o (Contains-append_right (refs_of g.statics) (objects_of g.interned) o c)
+pub string_root : (g : GuestState) (o : ℕ) → Contains (interned_objects g.interned) o → Contains (roots_of g) o
+string_root g o c = Contains-append_right (flat_map thread_roots g.threads) _ o (Contains-append_right (refs_of g.statics) (interned_objects g.interned) o c)
 
 pub lock_root : (f : FrameState) (o : ℕ) → Contains (option_to_list f.lock) o → Contains (frame_roots f) o
 lock_root f o c = Contains-append_right (refs_of f.locals) _ o (Contains-append_right (refs_of f.operands) (option_to_list f.lock) o c)

@@ -15,7 +15,7 @@ use Rattle.et_state.specs.State.{GuestState, Kept, MachineState, kept_of}
 use Rattle.et_state.specs.Words.{thread_at, with_thread, top, with_top, HasFrame, ticked, begun, steps_guest, steps_thread, steps_top, steps_object}
 use Rattle.et_state.specs.Roots.{roots_of, graph_of, numbers_from, fresh_of}
 use Rattle.et_state.specs.Sound.{IsSound}
-use Rattle.et_state.specs.Moves.{Moves, WasThere, IsOnWay, IsEvent, Led}
+use Rattle.et_state.specs.Moves.{Moves, WasThere, IsOnWay, IsEventOf, Led}
 use Rattle.et_state.proofs.Places.{moves_none, moves_then, frame_push, frame_pop, frame_clear, frame_set_local, frame_in_clinit, guest_top, top_root, operand_root, local_root, guest_dropped, part_contained, thread_root, guest_entered}
 use Rattle.et_state.proofs.UnderWay.{start, law_guest, law_make, finish, no_fresh, root_is_reached, slot_is_reached, slot_pair}
 use Rattle.et_state.proofs.Calls.{on_begin_event, on_set_slot}
@@ -126,7 +126,7 @@ did_on_way s b t f l m w has d =
 -- HOW AN EVENT ENDS
 
 pub led : (s x : Kept) (m : MachineState) → IsOnWay s m → ((o : ℕ) → Contains (fresh_of s (kept_of m)) o → IsReached (graph_of (kept_of m)) o) → kept_of m ≡ x → Led s x m
-led s x m w reached e = record { kept = e; event = subst (λ (y : Kept). IsEvent s y m.lost) e (finish s (kept_of m) m.lost w reached) }
+led s x m w reached e = record { kept = e; event = subst (λ (y : Kept). IsEventOf s y m.lost) e (finish s (kept_of m) m.lost w reached) }
 
 -- .. that made nothing
 pub led_plain : (s x : Kept) (m : MachineState) → IsOnWay s m → length m.heap ≡ length s.heap → kept_of m ≡ x → Led s x m

@@ -10,7 +10,7 @@ use Rattle.std.specs.Map.{lookup}
 use Rattle.std.specs.Str.{bytes_eq}
 use Rattle.std.specs.declared.vec.Vec.{Vec}
 use Rattle.std.specs.declared.alloc.Global.{Global}
-use Rattle.et_state.specs.Interned.{object_of, text_of, objects_of}
+use Rattle.et_state.specs.Interned.{object_of, interned_text, interned_objects}
 
 none_some : (i : ℕ) → None ≡ Some i → ⊥
 none_some i e = cc
@@ -39,9 +39,9 @@ absent_step true p i at r ih h = absurd (none_some i (sym h))
 absent_step false p i at r ih h = ih h
 
 -- an object that stands nowhere has no bytes
-pub text-absent : (o i : ℕ) (es : Entries) → position_from (λ k. o == k) i (objects_of (shown es)) ≡ None → text_of (shown es) o ≡ None
+pub text-absent : (o i : ℕ) (es : Entries) → position_from (λ k. o == k) i (interned_objects (shown es)) ≡ None → interned_text (shown es) o ≡ None
 text-absent o i [] h = refl
-text-absent o i (e ∷ es) h = absent_step (o == e.1) (e.0.items, e.1) i (position_from (λ k. o == k) (i + 1) (objects_of (shown es))) (find (λ p. o == p.1) (shown es)) (text-absent o (i + 1) es) h
+text-absent o i (e ∷ es) h = absent_step (o == e.1) (e.0.items, e.1) i (position_from (λ k. o == k) (i + 1) (interned_objects (shown es))) (find (λ p. o == p.1) (shown es)) (text-absent o (i + 1) es) h
 
 from_step : (b : Bool) (i j : ℕ) (at : Option ℕ) → (at ≡ Some j → i + 1 ≤ j) → cond b (Some i) at ≡ Some j → i ≤ j
 from_step true i j at ih h = let e : i ≡ j = some_inj i j h in omega arith
@@ -60,38 +60,38 @@ later_step true p i j at r t lt ih h = let e : i ≡ j = some_inj i j h in absur
 later_step false p i j at r t lt ih h = ih h
 
 -- an object that stands at a place has the bytes that stand there
-pub text-present : (o i k : ℕ) (es : Entries) (e : Vec ℕ Global × ℕ) → position_from (λ u. o == u) i (objects_of (shown es)) ≡ Some (i + k) → slice_get es k ≡ Some e → text_of (shown es) o ≡ Some e.0.items
+pub text-present : (o i k : ℕ) (es : Entries) (e : Vec ℕ Global × ℕ) → position_from (λ u. o == u) i (interned_objects (shown es)) ≡ Some (i + k) → slice_get es k ≡ Some e → interned_text (shown es) o ≡ Some e.0.items
 text-present o i k [] e h g = absurd (none_some (i + k) h)
 text-present o i zero (x ∷ es) e h g =
     let same : i + 0 ≡ i = omega arith in
-    let first = first_step (o == x.1) (x.0.items, x.1) i (position_from (λ u. o == u) (i + 1) (objects_of (shown es))) (find (λ p. o == p.1) (shown es))
-    (position_from-le o (i + 1) i (objects_of (shown es))) (h ∙ ap Some same) in
+    let first = first_step (o == x.1) (x.0.items, x.1) i (position_from (λ u. o == u) (i + 1) (interned_objects (shown es))) (find (λ p. o == p.1) (shown es))
+    (position_from-le o (i + 1) i (interned_objects (shown es))) (h ∙ ap Some same) in
     first ∙ ap (λ (y : Vec ℕ Global × ℕ). Some y.0.items) (some_entry x e g)
 text-present o i (suc k) (x ∷ es) e h g =
     let same : (i + 1) + k ≡ i + suc k = omega arith in
-    later_step (o == x.1) (x.0.items, x.1) i (i + suc k) (position_from (λ u. o == u) (i + 1) (objects_of (shown es))) (find (λ p. o == p.1) (shown es)) e.0.items (omega arith)
-    (λ (at : position_from (λ u. o == u) (i + 1) (objects_of (shown es)) ≡ Some (i + suc k)). text-present o (i + 1) k es e (at ∙ ap Some (sym same)) g) h
+    later_step (o == x.1) (x.0.items, x.1) i (i + suc k) (position_from (λ u. o == u) (i + 1) (interned_objects (shown es))) (find (λ p. o == p.1) (shown es)) e.0.items (omega arith)
+    (λ (at : position_from (λ u. o == u) (i + 1) (interned_objects (shown es)) ≡ Some (i + suc k)). text-present o (i + 1) k es e (at ∙ ap Some (sym same)) g) h
 
 none_step : (b : Bool) (p : List ℕ × ℕ) (r : Option (List ℕ × ℕ)) (c : Bool) → (option_map (λ q. q.0) r ≡ None → c ≡ false) → option_map (λ q. q.0) (cond b (Some p) r) ≡ None → (b || c) ≡ false
 none_step true p r c ih h = absurd (none_list p.0 (sym h))
 none_step false p r c ih h = ih h
 
 -- an object that has no bytes stands nowhere
-pub new-object : (o : ℕ) (es : Entries) → text_of (shown es) o ≡ None → list_any (λ k. o == k) (objects_of (shown es)) ≡ false
+pub new-object : (o : ℕ) (es : Entries) → interned_text (shown es) o ≡ None → list_any (λ k. o == k) (interned_objects (shown es)) ≡ false
 new-object o [] h = refl
-new-object o (e ∷ es) h = none_step (o == e.1) (e.0.items, e.1) (find (λ p. o == p.1) (shown es)) (list_any (λ k. o == k) (objects_of (shown es))) (new-object o es) h
+new-object o (e ∷ es) h = none_step (o == e.1) (e.0.items, e.1) (find (λ p. o == p.1) (shown es)) (list_any (λ k. o == k) (interned_objects (shown es))) (new-object o es) h
 
-found_at : (es : Entries) (ks : List ℕ) (o n : ℕ) → n ≡ o → ks ≡ objects_of (shown es) → position (λ k. n == k) ks ≡ position_from (λ k. o == k) 0 (objects_of (shown es))
-found_at es ks o n number keys = ap (λ m. position (λ k. m == k) ks) number ∙ (ap (position (λ k. o == k)) keys ∙ position_from-zero (λ k. o == k) (objects_of (shown es)))
+found_at : (es : Entries) (ks : List ℕ) (o n : ℕ) → n ≡ o → ks ≡ interned_objects (shown es) → position (λ k. n == k) ks ≡ position_from (λ k. o == k) 0 (interned_objects (shown es))
+found_at es ks o n number keys = ap (λ m. position (λ k. m == k) ks) number ∙ (ap (position (λ k. o == k)) keys ∙ position_from-zero (λ k. o == k) (interned_objects (shown es)))
 
-pub text-missing : (es : Entries) (m : List (List ℕ × ℕ)) (ks : List ℕ) (o n : ℕ) → n ≡ o → ks ≡ objects_of (shown es) → shown es ≡ m → None ≡ position (λ k. n == k) ks → text_of m o ≡ None
+pub text-missing : (es : Entries) (m : List (List ℕ × ℕ)) (ks : List ℕ) (o n : ℕ) → n ≡ o → ks ≡ interned_objects (shown es) → shown es ≡ m → None ≡ position (λ k. n == k) ks → interned_text m o ≡ None
 text-missing es m ks o n number keys view none =
-    subst (λ strings. text_of strings o ≡ None) view (text-absent o 0 es (sym (none ∙ found_at es ks o n number keys)))
+    subst (λ strings. interned_text strings o ≡ None) view (text-absent o 0 es (sym (none ∙ found_at es ks o n number keys)))
 
-pub text-found : (es : Entries) (m : List (List ℕ × ℕ)) (ks : List ℕ) (o n i : ℕ) (e : Vec ℕ Global × ℕ) → n ≡ o → ks ≡ objects_of (shown es) → shown es ≡ m → Some i ≡ position (λ k. n == k) ks → Some e ≡ slice_get es i → text_of m o ≡ Some e.0.items
+pub text-found : (es : Entries) (m : List (List ℕ × ℕ)) (ks : List ℕ) (o n i : ℕ) (e : Vec ℕ Global × ℕ) → n ≡ o → ks ≡ interned_objects (shown es) → shown es ≡ m → Some i ≡ position (λ k. n == k) ks → Some e ≡ slice_get es i → interned_text m o ≡ Some e.0.items
 text-found es m ks o n i e number keys view some entry =
     let zeroth : 0 + i ≡ i = omega arith in
-    subst (λ strings. text_of strings o ≡ Some e.0.items) view (text-present o 0 i es e (sym (some ∙ found_at es ks o n number keys) ∙ ap Some (sym zeroth)) (sym entry))
+    subst (λ strings. interned_text strings o ≡ Some e.0.items) view (text-present o 0 i es e (sym (some ∙ found_at es ks o n number keys) ∙ ap Some (sym zeroth)) (sym entry))
 
 abbrev pub same_text : Vec ℕ Global → Vec ℕ Global → Bool
 same_text x y = bytes_eq x.items y.items
@@ -111,10 +111,10 @@ strings-added es fs m k text o view items new is =
     subst (λ t. lookup (λ x. bytes_eq t x.items) es ≡ None) (sym items) (sym (object-shown text es) ∙ (ap (λ n. object_of n text) view ∙ new)) in
     ap shown (is ∙ inserted_last es k o none) ∙ (map-append (λ e. (e.0.items, e.1)) es ((k, o) ∷ []) ∙ (ap (λ n. n ++ (k.items, o) ∷ []) view ∙ ap (λ t. m ++ (t, o) ∷ []) items))
 
-pub objects-added : (es fs : Entries) (m : List (List ℕ × ℕ)) (text : List ℕ) (o n : ℕ) (ks new : List ℕ) → shown es ≡ m → shown fs ≡ m ++ (text, o) ∷ [] → n ≡ o → ks ≡ objects_of (shown es) → text_of m o ≡ None → new ≡ (if list_any (λ k. n == k) ks then ks else (ks ++ n ∷ [])) → new ≡ objects_of (shown fs)
+pub objects-added : (es fs : Entries) (m : List (List ℕ × ℕ)) (text : List ℕ) (o n : ℕ) (ks new : List ℕ) → shown es ≡ m → shown fs ≡ m ++ (text, o) ∷ [] → n ≡ o → ks ≡ interned_objects (shown es) → interned_text m o ≡ None → new ≡ (if list_any (λ k. n == k) ks then ks else (ks ++ n ∷ [])) → new ≡ interned_objects (shown fs)
 objects-added es fs m text o n ks new view added number keys fresh is =
     let none : list_any (λ k. n == k) ks ≡ false =
-    ap (λ p. list_any (λ k. p == k) ks) number ∙ (ap (list_any (λ k. o == k)) keys ∙ new-object o es (ap (λ strings. text_of strings o) view ∙ fresh)) in
+    ap (λ p. list_any (λ k. p == k) ks) number ∙ (ap (list_any (λ k. o == k)) keys ∙ new-object o es (ap (λ strings. interned_text strings o) view ∙ fresh)) in
     let last : new ≡ ks ++ n ∷ [] = is ∙ ap (λ b. if b then ks else (ks ++ n ∷ [])) none in
-    let same : ks ++ n ∷ [] ≡ objects_of m ++ o ∷ [] = ap (λ p. ks ++ p ∷ []) number ∙ ap (λ p. p ++ o ∷ []) (keys ∙ ap objects_of view) in
-    last ∙ (same ∙ sym (ap objects_of added ∙ map-append (λ p. p.1) m ((text, o) ∷ [])))
+    let same : ks ++ n ∷ [] ≡ interned_objects m ++ o ∷ [] = ap (λ p. ks ++ p ∷ []) number ∙ ap (λ p. p ++ o ∷ []) (keys ∙ ap interned_objects view) in
+    last ∙ (same ∙ sym (ap interned_objects added ∙ map-append (λ p. p.1) m ((text, o) ∷ [])))

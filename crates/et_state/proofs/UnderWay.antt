@@ -15,9 +15,9 @@ use Rattle.et_heap.specs.Refs.{refs_of, targets_of, pairs_from, pairs_of, gone_o
 use Rattle.et_heap.proofs.HeapLists.{pair_at, at_pair, held_within, pair_held, gone_at, gone_set, gone_push, pairs_push, held_set, set_held, held_push}
 use Rattle.et_state.specs.State.{GuestState, Kept}
 use Rattle.et_state.specs.Words.{ticked}
-use Rattle.et_state.specs.Roots.{roots_of, graph_of, numbers_from, fresh_of, step_of}
+use Rattle.et_state.specs.Roots.{roots_of, graph_of, numbers_from, fresh_of, state_step}
 use Rattle.et_state.specs.Sound.{IsSound}
-use Rattle.et_state.specs.Moves.{Moves, WasThere, MayBeTied, IsUnderWay, IsEvent}
+use Rattle.et_state.specs.Moves.{Moves, WasThere, MayBeTied, IsUnderWay, IsEventOf}
 
 held_positive : (s : Kept) (o : ℕ) → IsSound s → IsHeld s.heap o → 0 < o
 held_positive s zero sound h = absurd (sound.none h)
@@ -57,7 +57,7 @@ held_now s x lost w o h = (held_made x o w.sound h, λ c. (gone_at x.heap o (sub
 -- THE GUEST: a call that changes root places
 pub law_guest : (s x : Kept) (lost : List ℕ) (g : GuestState) (l : List ℕ) → IsUnderWay s x lost → Moves (IsHeld x.heap) (WasThere s x) (roots_of x.guest) (roots_of g) l → IsUnderWay s (record { heap = x.heap; guest = g }) (lost ++ l)
 law_guest s x lost g l w m =
-    let move : IsMove (graph_of s) (step_of s x lost) (step_of s (record { heap = x.heap; guest = g }) (lost ++ l)) = record {
+    let move : IsMove (graph_of s) (state_step s x lost) (state_step s (record { heap = x.heap; guest = g }) (lost ++ l)) = record {
       fresh = refl;
       made = refl;
       gone = refl;
@@ -70,7 +70,7 @@ law_guest s x lost g l w m =
     } in
     record {
       first = w.first;
-      draft = draft_move (graph_of s) (step_of s x lost) (step_of s (record { heap = x.heap; guest = g }) (lost ++ l)) (sound_graph s w.first) w.draft move;
+      draft = draft_move (graph_of s) (state_step s x lost) (state_step s (record { heap = x.heap; guest = g }) (lost ++ l)) (sound_graph s w.first) w.draft move;
       sound = record {
         room = w.sound.room;
         none = w.sound.none;
@@ -142,7 +142,7 @@ law_slots s x lost o y l w held known on off was refers =
     let lt : o < length x.heap = held_within x.heap o held in
     let len : length (with_object_at x.heap o y) ≡ length x.heap = length-set x.heap o (Some y) in
     let pairs = set_pair s x lost o y l held on in
-    let move : IsMove (graph_of s) (step_of s x lost) (step_of s (record { heap = with_object_at x.heap o y; guest = x.guest }) (lost ++ l)) = record {
+    let move : IsMove (graph_of s) (state_step s x lost) (state_step s (record { heap = with_object_at x.heap o y; guest = x.guest }) (lost ++ l)) = record {
       fresh = ap (λ (n : ℕ). numbers_from (length s.heap) (n - length s.heap)) len;
       made = ap (λ (n : ℕ). n - 1) len;
       gone = gone_set x.heap o y held;
@@ -166,7 +166,7 @@ law_slots s x lost o y l w held known on off was refers =
     } in
     record {
       first = w.first;
-      draft = draft_move (graph_of s) (step_of s x lost) (step_of s (record { heap = with_object_at x.heap o y; guest = x.guest }) (lost ++ l)) (sound_graph s w.first) w.draft move;
+      draft = draft_move (graph_of s) (state_step s x lost) (state_step s (record { heap = with_object_at x.heap o y; guest = x.guest }) (lost ++ l)) (sound_graph s w.first) w.draft move;
       sound = record {
         room = subst (λ (n : ℕ). 0 < n) (sym len) w.sound.room;
         none = λ h. w.sound.none (set_held x.heap o y 0 held h);
@@ -201,7 +201,7 @@ law_beside s x lost o y w held same refers =
     let lt : o < length x.heap = held_within x.heap o held in
     let len : length (with_object_at x.heap o y) ≡ length x.heap = length-set x.heap o (Some y) in
     let pairs : pairs_of (with_object_at x.heap o y) ≡ pairs_of x.heap = pairs_set_from 0 x.heap o y held same in
-    let move : IsMove (graph_of s) (step_of s x lost) (step_of s (record { heap = with_object_at x.heap o y; guest = x.guest }) lost) = record {
+    let move : IsMove (graph_of s) (state_step s x lost) (state_step s (record { heap = with_object_at x.heap o y; guest = x.guest }) lost) = record {
       fresh = ap (λ (n : ℕ). numbers_from (length s.heap) (n - length s.heap)) len;
       made = ap (λ (n : ℕ). n - 1) len;
       gone = gone_set x.heap o y held;
@@ -214,7 +214,7 @@ law_beside s x lost o y w held same refers =
     } in
     record {
       first = w.first;
-      draft = draft_move (graph_of s) (step_of s x lost) (step_of s (record { heap = with_object_at x.heap o y; guest = x.guest }) lost) (sound_graph s w.first) w.draft move;
+      draft = draft_move (graph_of s) (state_step s x lost) (state_step s (record { heap = with_object_at x.heap o y; guest = x.guest }) lost) (sound_graph s w.first) w.draft move;
       sound = record {
         room = subst (λ (n : ℕ). 0 < n) (sym len) w.sound.room;
         none = λ h. w.sound.none (set_held x.heap o y 0 held h);
@@ -253,7 +253,7 @@ law_make s x lost y w empty weak =
     let b : 0 < k = w.sound.room in
     let count : k + 1 - n ≡ k - n + 1 = omega arith in
     let last : n + (k - n) ≡ k - 1 + 1 = omega arith in
-    let making : IsMaking (step_of s x lost) (step_of s (record { heap = x.heap ++ Some y ∷ []; guest = x.guest }) lost) = record {
+    let making : IsMaking (state_step s x lost) (state_step s (record { heap = x.heap ++ Some y ∷ []; guest = x.guest }) lost) = record {
       fresh = ap (λ (m : ℕ). numbers_from n (m - n)) len ∙ (ap (λ (m : ℕ). numbers_from n m) count ∙ (numbers_more n (k - n) ∙ ap (λ (m : ℕ). numbers_from n (k - n) ++ m ∷ []) last));
       made = ap (λ (m : ℕ). m - 1) len ∙ omega arith;
       gone = gone_push x.heap y b;
@@ -263,7 +263,7 @@ law_make s x lost y w empty weak =
     } in
     record {
       first = w.first;
-      draft = draft_making (graph_of s) (step_of s x lost) (step_of s (record { heap = x.heap ++ Some y ∷ []; guest = x.guest }) lost) w.draft making;
+      draft = draft_making (graph_of s) (state_step s x lost) (state_step s (record { heap = x.heap ++ Some y ∷ []; guest = x.guest }) lost) w.draft making;
       sound = record {
         room = subst (λ (m : ℕ). 0 < m) (sym len) (omega arith);
         none = λ h. elim (at_push x.heap y 0) [
@@ -286,8 +286,8 @@ law_make s x lost y w empty weak =
       none_some o e = cc
 
 -- END
-pub finish : (s x : Kept) (lost : List ℕ) → IsUnderWay s x lost → ((o : ℕ) → Contains (fresh_of s x) o → IsReached (graph_of x) o) → IsEvent s x lost
-finish s x lost w reached = record { legal = draft_end (graph_of s) (step_of s x lost) w.draft reached; sound = w.sound }
+pub finish : (s x : Kept) (lost : List ℕ) → IsUnderWay s x lost → ((o : ℕ) → Contains (fresh_of s x) o → IsReached (graph_of x) o) → IsEventOf s x lost
+finish s x lost w reached = record { legal = draft_end (graph_of s) (state_step s x lost) w.draft reached; sound = w.sound }
 
 pub no_fresh : (s x : Kept) → length x.heap ≡ length s.heap → (o : ℕ) → Contains (fresh_of s x) o → ⊥
 no_fresh s x len o c =
@@ -295,7 +295,7 @@ no_fresh s x len o c =
     Contains-none o (subst (λ (n : ℕ). Contains (numbers_from (length s.heap) n) o) e c)
 
 -- an event that changes root places alone
-pub guest_event : (s : Kept) (g : GuestState) (l : List ℕ) → IsSound s → Moves (IsHeld s.heap) (WasThere s s) (roots_of (ticked s.guest)) (roots_of g) l → IsEvent s (record { heap = s.heap; guest = g }) l
+pub guest_event : (s : Kept) (g : GuestState) (l : List ℕ) → IsSound s → Moves (IsHeld s.heap) (WasThere s s) (roots_of (ticked s.guest)) (roots_of g) l → IsEventOf s (record { heap = s.heap; guest = g }) l
 guest_event s g l sound m =
     finish s (record { heap = s.heap; guest = g }) l (law_guest s (record { heap = s.heap; guest = ticked s.guest }) [] g l (start s sound) m) (λ o c. absurd (no_fresh s (record { heap = s.heap; guest = g }) refl o c))
 

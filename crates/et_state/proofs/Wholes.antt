@@ -10,7 +10,7 @@ use Rattle.et_heap.specs.Refs.{targets_of, pairs_of}
 use Rattle.et_heap.specs.Remaining.{kept_referent, left_place, remaining}
 use Rattle.et_heap.proofs.HeapLists.{IsPair, pair_at, at_pair, pair_held, targets_there}
 use Rattle.et_state.specs.State.{Kept}
-use Rattle.et_state.specs.Roots.{graph, graph_of, step_of, fresh_of}
+use Rattle.et_state.specs.Roots.{graph, graph_of, state_step, fresh_of}
 use Rattle.et_state.specs.Sound.{IsSound}
 use Rattle.et_state.specs.Past.{whole_step, first_of, reporting, IsPast}
 use Rattle.et_state.proofs.UnderWay.{root_is_reached}
@@ -20,7 +20,7 @@ reached_more : (g h : Graph) → g.roots ≡ h.roots → ((u x : ℕ) → Contai
 reached_more g h e more o r = (r.0, subst (λ (rs : List ℕ). Contains rs r.0) e r.1, (r.2.0, walk_more g.pairs h.pairs more r.0 r.2.0 o r.2.1))
 
 -- A step that is legal over what is kept is legal over all.
-pub legal_whole : (s x : Kept) (lost : List ℕ) (reported : Objects) → IsLegalStep (graph_of s) (step_of s x lost)
+pub legal_whole : (s x : Kept) (lost : List ℕ) (reported : Objects) → IsLegalStep (graph_of s) (state_step s x lost)
     → IsLegalStep (graph (record { kept = s; reported = reported })) (whole_step reported x (fresh_of s x) lost)
 legal_whole s x lost reported legal =
     let g : Graph = graph (record { kept = s; reported = reported }) in
@@ -28,13 +28,13 @@ legal_whole s x lost reported legal =
     let past : List (ℕ × ℕ) = pairs_of reported in
     let draft = legal.draft in
     let more : (o : ℕ) → IsReached (graph_of s) o → IsReached g o = reached_more (graph_of s) g refl (λ u z c. Contains-append_left (pairs_of s.heap) past (u, z) c) in
-    let known : (o : ℕ) → IsKnown (graph_of s) (step_of s x lost) o → IsKnown g (whole_step reported x (fresh_of s x) lost) o = λ o. elim [ inl r ↦ inl (more o r) | inr c ↦ inr c ] in
-    let removed : (u z : ℕ) → IsRemoved g (whole_step reported x (fresh_of s x) lost) u z → IsRemoved (graph_of s) (step_of s x lost) u z = λ u z r.
+    let known : (o : ℕ) → IsKnown (graph_of s) (state_step s x lost) o → IsKnown g (whole_step reported x (fresh_of s x) lost) o = λ o. elim [ inl r ↦ inl (more o r) | inr c ↦ inr c ] in
+    let removed : (u z : ℕ) → IsRemoved g (whole_step reported x (fresh_of s x) lost) u z → IsRemoved (graph_of s) (state_step s x lost) u z = λ u z r.
     elim (Contains-append_cases (pairs_of s.heap) past (u, z) r.0) [
       | inl c ↦ (c, λ d. r.1 (Contains-append_left (pairs_of x.heap) past (u, z) d))
       | inr c ↦ absurd (r.1 (Contains-append_right (pairs_of x.heap) past (u, z) c))
     ] in
-    let added : (u z : ℕ) → IsAdded g (whole_step reported x (fresh_of s x) lost) u z → IsAdded (graph_of s) (step_of s x lost) u z = λ u z a.
+    let added : (u z : ℕ) → IsAdded g (whole_step reported x (fresh_of s x) lost) u z → IsAdded (graph_of s) (state_step s x lost) u z = λ u z a.
     elim (Contains-append_cases (pairs_of x.heap) past (u, z) a.0) [
       | inl c ↦ (c, λ d. a.1 (Contains-append_left (pairs_of s.heap) past (u, z) d))
       | inr c ↦ absurd (a.1 (Contains-append_right (pairs_of s.heap) past (u, z) c))

@@ -55,18 +55,18 @@ how_of ObjectLimit = 3
 
 module _ {S : Type 0} where
   -- the thread that has the turn at event e, in the state before it
-  abbrev pub turn_of : Setting S → ℕ → S → ℕ
-  turn_of given e s = slice_index (given.rule.unended s) (given.pick e % length (given.rule.unended s))
+  abbrev pub picked_turn : Setting S → ℕ → S → ℕ
+  picked_turn given e s = slice_index (given.rule.unended s) (given.pick e % length (given.rule.unended s))
 
   -- what event e leads to from the state before it
-  abbrev pub step_of : Setting S → ℕ → S → Outcome S
-  step_of given e s = given.rule.event s (turn_of given e s)
+  abbrev pub outcome_step : Setting S → ℕ → S → Outcome S
+  outcome_step given e s = given.rule.event s (picked_turn given e s)
 
   -- how the history ends after event e in state s, if it does
   abbrev pub ending : Setting S → ℕ → S → Option End
   ending given e s =
       if length (given.rule.unended s) == 0 then Some Finished
-      else (if e == given.limit then Some EventLimit else end_by (turn_of given (suc e) s) (step_of given (suc e) s))
+      else (if e == given.limit then Some EventLimit else end_by (picked_turn given (suc e) s) (outcome_step given (suc e) s))
 
 module _ {S : Type 0} (reached : Graph → ℕ → Bool) (given : Setting S) where
   -- a state that event e left, after the flush there, if one is due
@@ -78,15 +78,15 @@ module _ {S : Type 0} (reached : Graph → ℕ → Bool) (given : Setting S) (st
   -- the state that event e left, before any flush there
   unfoldable pub left_by : ℕ → S
   left_by zero = start
-  left_by (suc e) = state_after (settled reached given e (left_by e)) (step_of given (suc e) (settled reached given e (left_by e)))
+  left_by (suc e) = state_after (settled reached given e (left_by e)) (outcome_step given (suc e) (settled reached given e (left_by e)))
 
   -- the records of event e, which leads from the state after event e - 1
   abbrev pub records_at : ℕ → List Record
   records_at zero = made
-  records_at (suc e) = records_of (step_of given (suc e) (settled reached given e (left_by e)))
+  records_at (suc e) = records_of (outcome_step given (suc e) (settled reached given e (left_by e)))
 
   -- event e is the last one, and the history ends so
-  pub record IsLast (e : ℕ) (end : End) : Type 0 where
+  pub record IsLastEvent (e : ℕ) (end : End) : Type 0 where
     pub ends : ending given e (settled reached given e (left_by e)) ≡ Some end
     pub first : (k : ℕ) → k < e → ending given k (settled reached given k (left_by k)) ≡ None
 

@@ -9,8 +9,8 @@ abbrev pub object_of : List (List ℕ × ℕ) → List ℕ → Option ℕ
 object_of strings text = lookup (bytes_eq text) strings
 
 -- the bytes of this object
-abbrev pub text_of : List (List ℕ × ℕ) → ℕ → Option (List ℕ)
-text_of strings o = option_map (λ p. p.0) (find (λ p. o == p.1) strings)
+abbrev pub interned_text : List (List ℕ × ℕ) → ℕ → Option (List ℕ)
+interned_text strings o = option_map (λ p. p.0) (find (λ p. o == p.1) strings)
 
-abbrev pub objects_of : List (List ℕ × ℕ) → List ℕ
-objects_of strings = map (λ p. p.1) strings
+abbrev pub interned_objects : List (List ℕ × ℕ) → List ℕ
+interned_objects strings = map (λ p. p.1) strings

@@ -17,20 +17,20 @@ pub record Names : Type 0 where
   pub method_descriptor : ℕ → List ℕ
 
 -- the methods that a record mentions: one or none
-abbrev pub methods_of : Record → List ℕ
-methods_of (Alloc event thread object class size length) = []
-methods_of (Update event thread object slot old new) = []
-methods_of (Enter event thread method receiver) = method ∷ []
-methods_of (Exit event thread method) = method ∷ []
-methods_of (Unwind event thread method exception) = method ∷ []
+abbrev pub methods_named_by : Record → List ℕ
+methods_named_by (Alloc event thread object class size length) = []
+methods_named_by (Update event thread object slot old new) = []
+methods_named_by (Enter event thread method receiver) = method ∷ []
+methods_named_by (Exit event thread method) = method ∷ []
+methods_named_by (Unwind event thread method exception) = method ∷ []
 
 -- the classes that a record mentions, by itself or by the line of its method
-abbrev pub classes_of : Names → Record → List ℕ
-classes_of names (Alloc event thread object class size length) = class ∷ []
-classes_of names (Update event thread object slot old new) = []
-classes_of names (Enter event thread method receiver) = names.method_class method ∷ []
-classes_of names (Exit event thread method) = names.method_class method ∷ []
-classes_of names (Unwind event thread method exception) = names.method_class method ∷ []
+abbrev pub classes_named_by : Names → Record → List ℕ
+classes_named_by names (Alloc event thread object class size length) = class ∷ []
+classes_named_by names (Update event thread object slot old new) = []
+classes_named_by names (Enter event thread method receiver) = names.method_class method ∷ []
+classes_named_by names (Exit event thread method) = names.method_class method ∷ []
+classes_named_by names (Unwind event thread method exception) = names.method_class method ∷ []
 
 -- the list with a number at its end, where it isn't there already
 abbrev pub with_new : List ℕ → ℕ → List ℕ
@@ -51,7 +51,7 @@ nothing_mentioned = record { classes = []; methods = [] }
 
 -- .. with what a record mentions
 abbrev pub with_mentions : Names → Mentions → Record → Mentions
-with_mentions names m r = record { classes = firsts_after m.classes (classes_of names r); methods = firsts_after m.methods (methods_of r) }
+with_mentions names m r = record { classes = firsts_after m.classes (classes_named_by names r); methods = firsts_after m.methods (methods_named_by r) }
 
 abbrev pub mentions_after : Names → Mentions → List Record → Mentions
 mentions_after names m [] = m
@@ -82,8 +82,8 @@ line_of m (Unwind event thread method exception) = line.Unwind event thread (num
 -- the lines that a record adds to a trace that mentioned m before
 abbrev pub record_lines : Names → Mentions → Record → List TraceLine
 record_lines names m r =
-    flat_map (class_line names m.classes) (classes_of names r)
-    ++ flat_map (method_line names (with_mentions names m r).classes m.methods) (methods_of r)
+    flat_map (class_line names m.classes) (classes_named_by names r)
+    ++ flat_map (method_line names (with_mentions names m r).classes m.methods) (methods_named_by r)
     ++ line_of (with_mentions names m r) r ∷ []
 
 abbrev pub lines_of : Names → Mentions → List Record → List TraceLine
@@ -92,5 +92,5 @@ lines_of names m (r ∷ rs) = record_lines names m r ++ lines_of names (with_men
 
 -- the classes and methods of a record are of the program
 pub record IsNamed (names : Names) (r : Record) : Type 0 where
-  pub classes : All (λ c. c < names.class_count) (classes_of names r)
-  pub methods : All (λ m. m < names.method_count) (methods_of r)
+  pub classes : All (λ c. c < names.class_count) (classes_named_by names r)
+  pub methods : All (λ m. m < names.method_count) (methods_named_by r)

@@ -6,12 +6,12 @@ use Rattle.et_graph.specs.Steps.{Step}
 use Rattle.et_heap.specs.Objects.{made_count}
 use Rattle.et_heap.specs.Refs.{refs_of, pairs_of, gone_of}
 use Rattle.et_state.specs.ThreadRoots.{thread_roots}
-use Rattle.et_state.specs.Interned.{objects_of}
+use Rattle.et_state.specs.Interned.{interned_objects}
 use Rattle.et_state.specs.State.{GuestState, Kept, State}
 
 -- the objects in root places: in those of the threads, in static slots, and the interned strings
 abbrev pub roots_of : GuestState → List ℕ
-roots_of g = flat_map thread_roots g.threads ++ (refs_of g.statics ++ objects_of g.interned)
+roots_of g = flat_map thread_roots g.threads ++ (refs_of g.statics ++ interned_objects g.interned)
 
 -- the graph of what is kept
 abbrev pub graph_of : Kept → Graph
@@ -30,5 +30,5 @@ abbrev pub fresh_of : Kept → Kept → List ℕ
 fresh_of s x = numbers_from (length s.heap) (length x.heap - length s.heap)
 
 -- the step from one state to another, with these objects lost
-abbrev pub step_of : Kept → Kept → List ℕ → Step
-step_of s x lost = record { after = graph_of x; fresh = fresh_of s x; lost = lost }
+abbrev pub state_step : Kept → Kept → List ℕ → Step
+state_step s x lost = record { after = graph_of x; fresh = fresh_of s x; lost = lost }

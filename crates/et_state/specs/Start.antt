@@ -15,11 +15,11 @@ argument_class p = unwrap_or (class_named p (codes "[Ljava/lang/String;")) 0
 
 -- a class of a file is untouched; a built-in class, or an array class, is done. The classes of the files stand behind the
 -- built-in ones, and only these two have pools
-abbrev pub is_of_file : Linked → ℕ → Bool
-is_of_file p c = nat_le (length boot_classes) c && nat_lt c (length p.pools)
+abbrev pub is_class_of_file : Linked → ℕ → Bool
+is_class_of_file p c = nat_le (length boot_classes) c && nat_lt c (length p.pools)
 
 abbrev pub first_class_state : Linked → ℕ → ClassState
-first_class_state p c = if is_of_file p c then Untouched else Done
+first_class_state p c = if is_class_of_file p c then Untouched else Done
 
 -- the first states of so many classes, the first of which has the number c
 abbrev pub class_states_from : Linked → ℕ → ℕ → List ClassState

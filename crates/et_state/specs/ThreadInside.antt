@@ -13,5 +13,5 @@ thread_in t = record {
   ended = t.ended;
 }
 
-abbrev pub IsThread : Inside → Type 0
-IsThread t = length t.frames.items ≤ most_frames
+abbrev pub IsThreadInside : Inside → Type 0
+IsThreadInside t = length t.frames.items ≤ most_frames

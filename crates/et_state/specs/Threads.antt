@@ -73,10 +73,10 @@ clinit_stage Plain = Plain
 clinit_stage (Before class) = Clinit class
 clinit_stage (Clinit class) = Clinit class
 
-abbrev pub is_before : Stage → Bool
-is_before Plain = false
-is_before (Before class) = true
-is_before (Clinit class) = false
+abbrev pub is_before_class : Stage → Bool
+is_before_class Plain = false
+is_before_class (Before class) = true
+is_before_class (Clinit class) = false
 
 abbrev pub in_clinit : ℕ → ℕ → ℕ → FrameState → FrameState
 in_clinit method room locals f = record {
@@ -135,7 +135,7 @@ ended_roots x = option_to_list x.pending ++ (option_to_list x.entry ++ option_to
 abbrev pub turn_of : ThreadState → Turn
 turn_of x =
     if is_some x.pending then (if has_frame x.frames then Unwind else EndThread)
-    else (if has_frame x.frames then (if is_before (top_of x).stage then Initialize else Instruction)
+    else (if has_frame x.frames then (if is_before_class (top_of x).stage then Initialize else Instruction)
     else (if x.entered then EndThread else Entry))
 
 -- the threads that have not ended, in order of start; the first of the list has the number k
@@ -147,12 +147,12 @@ abbrev pub unended_of : List ThreadState → List ℕ
 unended_of threads = unended_from 0 threads
 
 -- the Thread object of the thread is this one
-abbrev pub is_object_of : ℕ → ThreadState → Bool
-is_object_of o x = option_map_or (λ u. u == o) x.object false
+abbrev pub is_thread_object : ℕ → ThreadState → Bool
+is_thread_object o x = option_map_or (λ u. u == o) x.object false
 
 -- the first thread with this Thread object
 abbrev pub thread_with : List ThreadState → ℕ → Option ℕ
-thread_with threads o = position_from (is_object_of o) 0 threads
+thread_with threads o = position_from (is_thread_object o) 0 threads
 
 -- A thread has at most so many frames, and at most so many threads are ever started.
 abbrev pub most_frames : ℕ

@@ -1,7 +1,7 @@
 //! The strings of constants.
 ghost use Rattle.std.specs.Prelude.{◌≡◌, [], ◌∷◌, ◌++◌, OnOk, OnErr, None};
 ghost use Rattle.std.specs.Option.{option_copied};
-ghost use Rattle.et_state.specs.Interned.{object_of, text_of, objects_of};
+ghost use Rattle.et_state.specs.Interned.{object_of, interned_text, interned_objects};
 
 use et_base::{NoMemory, ObjectId};
 use et_heap::RootList;
@@ -52,7 +52,7 @@ impl Interned {
 
     /// The bytes of this object.
     pub(crate) fn text(&self, o: ObjectId) -> Option<&[u8]>
-        ensures { option_copied result ≡ text_of self.now o }
+        ensures { option_copied result ≡ interned_text self.now o }
     {
         let i = self.order.get_index_of(&o.number())?;
         let (text, _) = self.objects.get_index(i)?;
@@ -62,7 +62,7 @@ impl Interned {
     /// Adds bytes and an object, neither of which is there. After `NoMemory` all is as before.
     pub(crate) fn add(&mut self, text: &[u8], o: ObjectId) -> Result<(), NoMemory>
         requires text { object_of self.old text.now ≡ None }
-        requires object { text_of self.old o ≡ None }
+        requires object { interned_text self.old o ≡ None }
         ensures ok { OnOk result (self.new ≡ self.old ++ (text.now, o) ∷ []) }
         ensures err { OnErr result (self.new ≡ self.old) }
     {
@@ -78,7 +78,7 @@ impl Interned {
 
     /// Puts the objects at the end of the list, in order.
     pub(crate) fn list_roots(&self, room: &mut RootList) -> Result<(), NoMemory>
-        ensures { OnOk result (room.new ≡ room.old ++ objects_of self.now) }
+        ensures { OnOk result (room.new ≡ room.old ++ interned_objects self.now) }
     {
         let order = self.order.as_slice();
         for o in order {

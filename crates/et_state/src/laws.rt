@@ -17,9 +17,9 @@ ghost use Rattle.et_state.specs.ThreadRoots.{frame_roots};
 ghost use Rattle.et_state.specs.declared.class_state.ClassState.{ClassState};
 ghost use Rattle.et_state.specs.State.{GuestState, Kept, State, MachineState, kept_of};
 ghost use Rattle.et_state.specs.Words.{thread_at, with_new_thread, top, HasFrame, IsUnended, static_at, with_static, with_class_state, with_class_monitor, with_string, with_guest, begun, losing, steps_guest, steps_thread, steps_top, steps_object, with_new_object, with_object};
-ghost use Rattle.et_state.specs.Roots.{roots_of, graph_of, graph, fresh_of, step_of};
+ghost use Rattle.et_state.specs.Roots.{roots_of, graph_of, graph, fresh_of, state_step};
 ghost use Rattle.et_state.specs.Sound.{IsSound};
-ghost use Rattle.et_state.specs.Moves.{Moves, WasThere, MayBeTied, IsUnderWay, IsOnWay, AreHeld, WereThere, IsEvent};
+ghost use Rattle.et_state.specs.Moves.{Moves, WasThere, MayBeTied, IsUnderWay, IsOnWay, AreInHeap, WereThere, IsEventOf};
 ghost use Rattle.et_state.specs.Past.{whole_step, IsPast, remaining, reporting, flushed};
 
 /// `Machine::begin_event`: nothing but the clock has changed.
@@ -73,7 +73,7 @@ pub fn set_pc()
 /// `Machine::push`, of what is held.
 pub fn push()
     ensures { (s : Kept) (m : MachineState) (t : ℕ) (v : Value) → IsOnWay s m → HasFrame m.guest t →
-        AreHeld m (refs_of_value v) →
+        AreInHeap m (refs_of_value v) →
         IsOnWay s (steps_top m t (pushed v (top m.guest t)) []) }
 {}
 
@@ -95,7 +95,7 @@ pub fn clear_operands()
 /// `Machine::set_local`, to what is held, over what was reached or is new.
 pub fn set_local()
     ensures { (s : Kept) (m : MachineState) (t i : ℕ) (v : Value) → IsOnWay s m →
-        HasFrame m.guest t → i < length (top m.guest t).locals → AreHeld m (refs_of_value v) →
+        HasFrame m.guest t → i < length (top m.guest t).locals → AreInHeap m (refs_of_value v) →
         WereThere s m (refs_of_value (local_of (top m.guest t) i)) → IsOnWay s (steps_top m t
         (with_local i v (top m.guest t)) (refs_of_value (local_of (top m.guest t) i))) }
 {}
@@ -103,7 +103,7 @@ pub fn set_local()
 /// `Machine::enter_frame`, with what is held.
 pub fn enter_frame()
     ensures { (s : Kept) (m : MachineState) (t : ℕ) (f : FrameState) →
-        IsOnWay s m → t < length m.guest.threads → AreHeld m (frame_roots f) →
+        IsOnWay s m → t < length m.guest.threads → AreInHeap m (frame_roots f) →
         IsOnWay s (steps_thread m t (entered_by f (thread_at m.guest t)) []) }
 {}
 
@@ -160,7 +160,7 @@ pub fn start_thread()
 pub fn set_static()
     ensures { (s : Kept) (m : MachineState) (i : ℕ) (v : Value) →
         IsOnWay s m → i < length m.guest.statics →
-        AreHeld m (refs_of_value v) → WereThere s m (refs_of_value (static_at m.guest i)) →
+        AreInHeap m (refs_of_value v) → WereThere s m (refs_of_value (static_at m.guest i)) →
         IsOnWay s (steps_guest m (with_static m.guest i v) (refs_of_value (static_at m.guest i))) }
 {}
 
@@ -187,7 +187,7 @@ pub fn intern()
 pub fn set_slot()
     ensures { (s : Kept) (m : MachineState) (o i : ℕ) (v : Value) → IsOnWay s m →
         IsHeld m.heap o → WasThere s (kept_of m) o → i < length (object_at m.heap o).slots →
-        AreHeld m (refs_of_value v) → WereThere s m (refs_of_value v) →
+        AreInHeap m (refs_of_value v) → WereThere s m (refs_of_value v) →
         WereThere s m (refs_of_value (slot_of (object_at m.heap o) i)) → IsOnWay s (steps_object m o
         (with_slot i v (object_at m.heap o)) (refs_of_value (slot_of (object_at m.heap o) i))) }
 {}
@@ -196,7 +196,7 @@ pub fn set_slot()
 pub fn heap_set_slot()
     ensures { (s : Kept) (m : MachineState) (o i : ℕ) (v : Value) → IsOnWay s m →
         IsHeld m.heap o → WasThere s (kept_of m) o → i < length (object_at m.heap o).slots →
-        AreHeld m (refs_of_value v) → WereThere s m (refs_of_value v) →
+        AreInHeap m (refs_of_value v) → WereThere s m (refs_of_value v) →
         ((r : ℕ) → Contains (refs_of_value (slot_of (object_at m.heap o) i)) r →
         Contains m.lost r) → IsOnWay s (with_object m o (with_slot i v (object_at m.heap o))) }
 {}
@@ -204,7 +204,7 @@ pub fn heap_set_slot()
 /// `Heap::set_referent`, to what is held. A weak reference is no pair of the graph.
 pub fn set_referent()
     ensures { (s : Kept) (m : MachineState) (o : ℕ) (r : Option ℕ) → IsOnWay s m → IsHeld m.heap o →
-        AreHeld m (option_to_list r) →
+        AreInHeap m (option_to_list r) →
         IsOnWay s (with_object m o (with_referent r (object_at m.heap o))) }
 {}
 
@@ -217,13 +217,13 @@ pub fn set_monitor()
 /// An event under way whose new objects are all reached is a legal step, and leaves a sound state.
 pub fn end()
     ensures { (s x : Kept) (lost : List ℕ) → IsUnderWay s x lost →
-        ((o : ℕ) → Contains (fresh_of s x) o → IsReached (graph_of x) o) → IsEvent s x lost }
+        ((o : ℕ) → Contains (fresh_of s x) o → IsReached (graph_of x) o) → IsEventOf s x lost }
 {}
 
 /// A step that is legal over what is kept is legal over it and the reported objects.
 pub fn whole()
     ensures { (s x : Kept) (lost : List ℕ) (reported : Objects) → IsLegalStep (graph_of s)
-        (step_of s x lost) → IsLegalStep (graph (record { kept = s; reported = reported }))
+        (state_step s x lost) → IsLegalStep (graph (record { kept = s; reported = reported }))
         (whole_step reported x (fresh_of s x) lost) }
 {}
 

@@ -3,10 +3,10 @@ ghost use Rattle.std.specs.Prelude.{◌≡◌, ◌+◌, ◌<◌, ◌≤◌, ◌^
 ghost use Rattle.std.specs.Option.{option_copied};
 ghost use Rattle.et_heap.specs.Objects.{IsHeld, object_at, with_object_at, with_slot, slot_of};
 ghost use Rattle.et_heap.specs.Refs.{refs_of, refs_of_value};
-ghost use Rattle.et_state.specs.Threads.{at_pc, pushed, popped, without_operands, with_local, operand_of, local_of, in_clinit, is_before, without_top, entered_by, with_pending, as_entered, as_ended, ended_roots, new_thread, turn_of, unended_of, thread_with, most_frames, most_threads, lost_room};
+ghost use Rattle.et_state.specs.Threads.{at_pc, pushed, popped, without_operands, with_local, operand_of, local_of, in_clinit, is_before_class, without_top, entered_by, with_pending, as_entered, as_ended, ended_roots, new_thread, turn_of, unended_of, thread_with, most_frames, most_threads, lost_room};
 ghost use Rattle.et_state.specs.NewFrames.{frame_of};
 ghost use Rattle.et_state.specs.ThreadRoots.{frame_roots};
-ghost use Rattle.et_state.specs.Interned.{object_of, text_of as text_in};
+ghost use Rattle.et_state.specs.Interned.{object_of, interned_text as text_in};
 ghost use Rattle.et_state.specs.Roots.{roots_of};
 ghost use Rattle.et_state.specs.Words.{thread_at, with_new_thread, top, HasFrame, IsUnended, static_at, with_static, class_state_at, with_class_state, class_monitor_at, with_class_monitor, with_string, first_state, with_guest, begun, losing, steps_guest, steps_thread, steps_top, steps_object};
 
@@ -408,7 +408,7 @@ impl Machine {
         max_locals: u16,
     ) -> Result<(), NoMemory>
         requires frame { HasFrame self.old.guest thread }
-        requires before { IsTrue (is_before (top self.old.guest thread).stage) }
+        requires before { IsTrue (is_before_class (top self.old.guest thread).stage) }
         requires locals { (top self.old.guest thread).locals ≡ [] }
         requires operands { (top self.old.guest thread).operands ≡ [] }
         ensures ok { OnOk result (self.new ≡ steps_top self.old thread

@@ -28,11 +28,11 @@ impl Model for Thread {
 
     ghost Value = { ThreadState };
 
-    ghost use Rattle.et_state.specs.ThreadInside.{thread_in, IsThread};
+    ghost use Rattle.et_state.specs.ThreadInside.{thread_in, IsThreadInside};
 
     ghost view = { thread_in };
 
-    ghost invariant = { IsThread };
+    ghost invariant = { IsThreadInside };
 }
 
 impl Thread {

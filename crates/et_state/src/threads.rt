@@ -1,7 +1,7 @@
 //! Threads in order of start.
 ghost use Rattle.std.specs.Prelude.{◌≡◌, ◌≤◌, ◌++◌, length, slice_get, OnOk};
 ghost use Rattle.std.specs.List.{flat_map};
-ghost use Rattle.et_state.specs.Threads.{unended_of, is_object_of, thread_with, most_threads};
+ghost use Rattle.et_state.specs.Threads.{unended_of, is_thread_object, thread_with, most_threads};
 ghost use Rattle.et_state.specs.ThreadRoots.{thread_roots};
 
 use crate::thread::Thread;
@@ -28,7 +28,7 @@ pub(crate) fn unended(threads: &[Thread], k: u32) -> Option<ThreadId>
 
 /// Whether this is the Thread object of the thread.
 fn has_object(thread: &Thread, o: ObjectId) -> bool
-    ensures { result ≡ is_object_of o thread.now }
+    ensures { result ≡ is_thread_object o thread.now }
 {
     thread.object() == Some(o)
 }

@@ -16,13 +16,13 @@ use Rattle.et_event.specs.declared.rows.Row.TheVariants as row
 use Rattle.et_event.specs.BuiltIns.{built_in_event}
 use Rattle.et_event.specs.Calls.{arguments_of, invoke}
 use Rattle.et_event.specs.Families.{family_of, family_of_row, family_of_turn, row_at}
-use Rattle.et_event.specs.Moments.{Moment, begins, frame_of, moment}
+use Rattle.et_event.specs.Moments.{Moment, begins, current_frame, moment}
 use Rattle.et_event.specs.Sites.{Site, decoded_at}
 use Rattle.et_event.proofs.FamilyTurns.{family_at}
 use Rattle.et_parts.specs.Places.{IsPlace, site_at}
 use Rattle.et_parts.specs.declared.places.Place.{Place}
 use Rattle.et_builtins.specs.Deferred.{deferred_at, deferred_call, is_deferred, selected_method}
-use Rattle.et_builtins.specs.Plans.{entered_by, planned}
+use Rattle.et_builtins.specs.Plans.{method_entered, call_planned}
 use Rattle.et_builtins.specs.declared.plans.CallPlan.{CallPlan}
 use Rattle.et_builtins.specs.declared.plans.CallPlan.TheVariants.{Enters}
 use Rattle.et_builtins.proofs.ByCode.{built_in_called}
@@ -97,21 +97,21 @@ no_other p s t turn here (inr (inr is)) h = no_entry p s t Initialize (sym here 
 -- A PLAN OF A DEFERRED CALL enters the method, which is done at once
 
 abbrev pub Entering : Moment → Site → CallKind → CallPlan → Type 0
-Entering e at kind plan = kept (is_deferred e.program) (entered_by plan) ≡ kept (is_deferred e.program) (selected_method e at kind)
+Entering e at kind plan = kept (is_deferred e.program) (method_entered plan) ≡ kept (is_deferred e.program) (selected_method e at kind)
 
-pub nothing_entered : (e : Moment) (at : Site) (kind : CallKind) (plan : CallPlan) → Entering e at kind plan → IsSome (deferred_at e at (row.Call (Invoke kind))) → entered_by plan ≡ None → ⊥
+pub nothing_entered : (e : Moment) (at : Site) (kind : CallKind) (plan : CallPlan) → Entering e at kind plan → IsSome (deferred_at e at (row.Call (Invoke kind))) → method_entered plan ≡ None → ⊥
 nothing_entered e at kind plan enters some none =
     none_deferred (deferred_at e at (row.Call (Invoke kind))) (sym enters ∙ ap (λ (r : Option ℕ). kept (is_deferred e.program) r) none) some
 
 entered_deferred : (e : Moment) (at : Site) (kind : CallKind) (plan : CallPlan) (method count : ℕ) → Entering e at kind plan → IsSome (deferred_at e at (row.Call (Invoke kind))) → plan ≡ Enters method count → is_deferred e.program method ≡ true
 entered_deferred e at kind plan method count enters some named =
     kept_is e.program method
-    (subst (λ (r : Option ℕ). IsSome r) (sym enters ∙ ap (λ (q : CallPlan). kept (is_deferred e.program) (entered_by q)) named) some)
+    (subst (λ (r : Option ℕ). IsSome r) (sym enters ∙ ap (λ (q : CallPlan). kept (is_deferred e.program) (method_entered q)) named) some)
 
-pub invoke_is : (e : Moment) (at : Site) (kind : CallKind) (plan : CallPlan) (method count : ℕ) → Entering e at kind plan → IsSome (deferred_at e at (row.Call (Invoke kind))) → plan ≡ Enters method count → invoke e at kind ≡ planned e at plan
-    → count ≤ length (frame_of e).operands → invoke e at kind ≡ built_in_event e at (begins e) (arguments_of e count) (method_at e.program method)
+pub invoke_is : (e : Moment) (at : Site) (kind : CallKind) (plan : CallPlan) (method count : ℕ) → Entering e at kind plan → IsSome (deferred_at e at (row.Call (Invoke kind))) → plan ≡ Enters method count → invoke e at kind ≡ call_planned e at plan
+    → count ≤ length (current_frame e).operands → invoke e at kind ≡ built_in_event e at (begins e) (arguments_of e count) (method_at e.program method)
 invoke_is e at kind plan method count enters some named is le =
     let deferred : is_deferred e.program method ≡ true = entered_deferred e at kind plan method count enters some named in
     is
-    ∙ (ap (λ (q : CallPlan). planned e at q) named
+    ∙ (ap (λ (q : CallPlan). call_planned e at q) named
     ∙ built_in_called e at (begins e) count method le (deferred_codeless e.program method deferred) (deferred_not_native e.program method deferred))

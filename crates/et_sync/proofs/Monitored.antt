@@ -25,7 +25,7 @@ use Rattle.et_event.specs.declared.rows.MonitorRow.{MonitorRow}
 use Rattle.et_event.specs.declared.rows.MonitorRow.TheVariants.{Enter, Exit}
 use Rattle.et_event.specs.Answered.{EventAnswers}
 use Rattle.et_event.specs.Checks.{Reference, with_reference, not_null, throws_unless, waits_unless}
-use Rattle.et_event.specs.Heap.{leaving}
+use Rattle.et_event.specs.Heap.{leaving_values}
 use Rattle.et_event.specs.Moments.{Moment, moment, begins, ill_typed, goes, throws, waits}
 use Rattle.et_event.specs.Monitors.{OfObject, owns, may_enter, entered, left, left_once}
 use Rattle.et_event.specs.Sites.{Site}
@@ -34,12 +34,12 @@ use Rattle.et_event.specs.Sync.{monitor_event}
 use Rattle.et_parts.specs.Locks.{monitor_at, with_monitor_at, owns_at, may_enter_at}
 use Rattle.et_parts.proofs.Keeping.{monitor_on_way}
 use Rattle.et_parts.proofs.There.{few_times}
-use Rattle.et_parts.specs.Tops.{reference_of}
+use Rattle.et_parts.specs.Tops.{entry_reference}
 use Rattle.et_parts.proofs.Answering.{ill_typed_answers, ill_typed_end}
 
 -- THE REFERENCE ON TOP
 
-reference_taken : {A : Type 0} (refused : A) (go : Reference → List Value → A) (ops : List Value) (r : Reference) → reference_of (get_or ops 0 Unset) ≡ Some r → with_reference refused ops go ≡ go r (drop 1 ops)
+reference_taken : {A : Type 0} (refused : A) (go : Reference → List Value → A) (ops : List Value) (r : Reference) → entry_reference (get_or ops 0 Unset) ≡ Some r → with_reference refused ops go ≡ go r (drop 1 ops)
 reference_taken refused go [] r e = cc
 reference_taken refused go (Unset ∷ below) r e = cc
 reference_taken refused go (Int n ∷ below) r e = cc
@@ -48,7 +48,7 @@ reference_taken refused go (LongHigh ∷ below) r e = cc
 reference_taken refused go (Null ∷ below) r e = let same : None ≡ r = cc in ap (λ (x : Reference). go x below) same
 reference_taken refused go (Ref o ∷ below) r e = let same : Some o ≡ r = cc in ap (λ (x : Reference). go x below) same
 
-no_reference : {A : Type 0} (refused : A) (go : Reference → List Value → A) (ops : List Value) → reference_of (get_or ops 0 Unset) ≡ None → with_reference refused ops go ≡ refused
+no_reference : {A : Type 0} (refused : A) (go : Reference → List Value → A) (ops : List Value) → entry_reference (get_or ops 0 Unset) ≡ None → with_reference refused ops go ≡ refused
 no_reference refused go [] e = refl
 no_reference refused go (Unset ∷ below) e = refl
 no_reference refused go (Int n ∷ below) e = refl
@@ -57,7 +57,7 @@ no_reference refused go (LongHigh ∷ below) e = refl
 no_reference refused go (Null ∷ below) e = cc
 no_reference refused go (Ref o ∷ below) e = cc
 
-on_top : (ops : List Value) (o : ℕ) → reference_of (get_or ops 0 Unset) ≡ Some (Some o) → (0 < length ops) × (get_or ops 0 Unset ≡ Ref o)
+on_top : (ops : List Value) (o : ℕ) → entry_reference (get_or ops 0 Unset) ≡ Some (Some o) → (0 < length ops) × (get_or ops 0 Unset ≡ Ref o)
 on_top [] o e = cc
 on_top (Unset ∷ below) o e = cc
 on_top (Int n ∷ below) o e = cc
@@ -66,10 +66,10 @@ on_top (LongHigh ∷ below) o e = cc
 on_top (Null ∷ below) o e = cc
 on_top (Ref q ∷ below) o e = let same : q ≡ o = cc in (omega arith, ap (λ (k : ℕ). Ref k) same)
 
-pub operand_there_is : (m : MachineState) (t o : ℕ) → reference_of (operand_of (top m.guest t) 0) ≡ Some (Some o) → 0 < length (top m.guest t).operands
+pub operand_there_is : (m : MachineState) (t o : ℕ) → entry_reference (operand_of (top m.guest t) 0) ≡ Some (Some o) → 0 < length (top m.guest t).operands
 operand_there_is m t o e = (on_top (top m.guest t).operands o e).0
 
-pub reference_held : (m : MachineState) (t o : ℕ) → IsSound (kept_of m) → HasFrame m.guest t → reference_of (operand_of (top m.guest t) 0) ≡ Some (Some o) → IsHeld m.heap o
+pub reference_held : (m : MachineState) (t o : ℕ) → IsSound (kept_of m) → HasFrame m.guest t → entry_reference (operand_of (top m.guest t) 0) ≡ Some (Some o) → IsHeld m.heap o
 reference_held m t o sound has e =
     let h = on_top (top m.guest t).operands o e in
     operand_held m t 0 sound has h.0 o (subst (λ (v : Value). Contains (refs_of_value v) o) (sym h.1) (Contains-here o []))
@@ -116,16 +116,16 @@ heap_same m t next m₁ m₂ m₃ e₁ e₂ e₃ = ap (λ (n : MachineState). n.
 
 abbrev enters : Moment → Site → Reference → List Value → Outcome Kept
 enters e at r below =
-    not_null e (begins e) r (λ o. waits_unless e (may_enter e (begins e) (OfObject o)) (goes (entered e (OfObject o) (leaving e at below (begins e)))))
+    not_null e (begins e) r (λ o. waits_unless e (may_enter e (begins e) (OfObject o)) (goes (entered e (OfObject o) (leaving_values e at below (begins e)))))
 
 abbrev exits : Moment → Site → Reference → List Value → Outcome Kept
 exits e at r below =
-    not_null e (begins e) r (λ o. throws_unless e (begins e) IllegalMonitorStateException (owns e (begins e) (OfObject o)) (goes (left (OfObject o) (leaving e at below (begins e)))))
+    not_null e (begins e) r (λ o. throws_unless e (begins e) IllegalMonitorStateException (owns e (begins e) (OfObject o)) (goes (left (OfObject o) (leaving_values e at below (begins e)))))
 
-enters_it : (p : Linked) (m : MachineState) (t : ℕ) (at : Site) (r : Reference) → reference_of (operand_of (top m.guest t) 0) ≡ Some r → monitor_event (moment p m t) at Enter ≡ enters (moment p m t) at r (drop 1 (top m.guest t).operands)
+enters_it : (p : Linked) (m : MachineState) (t : ℕ) (at : Site) (r : Reference) → entry_reference (operand_of (top m.guest t) 0) ≡ Some r → monitor_event (moment p m t) at Enter ≡ enters (moment p m t) at r (drop 1 (top m.guest t).operands)
 enters_it p m t at r e = reference_taken (ill_typed (moment p m t)) (λ x below. enters (moment p m t) at x below) (top m.guest t).operands r e
 
-exits_it : (p : Linked) (m : MachineState) (t : ℕ) (at : Site) (r : Reference) → reference_of (operand_of (top m.guest t) 0) ≡ Some r → monitor_event (moment p m t) at Exit ≡ exits (moment p m t) at r (drop 1 (top m.guest t).operands)
+exits_it : (p : Linked) (m : MachineState) (t : ℕ) (at : Site) (r : Reference) → entry_reference (operand_of (top m.guest t) 0) ≡ Some r → monitor_event (moment p m t) at Exit ≡ exits (moment p m t) at r (drop 1 (top m.guest t).operands)
 exits_it p m t at r e = reference_taken (ill_typed (moment p m t)) (λ x below. exits (moment p m t) at x below) (top m.guest t).operands r e
 
 -- the state in which a frame has gone on, and a monitor has changed
@@ -136,48 +136,48 @@ gone_on change m t o next =
 abbrev pub once_more : ℕ → Monitor → Monitor
 once_more t y = record { owner = Some t; count = y.count + 1 }
 
-pub entered_answers : (p : Linked) (t o next : ℕ) (m m' : MachineState) (at : Site) (out : List Record) → at.next ≡ next → reference_of (operand_of (top m.guest t) 0) ≡ Some (Some o) → may_enter_at t (OfObject o) m ≡ true
+pub entered_answers : (p : Linked) (t o next : ℕ) (m m' : MachineState) (at : Site) (out : List Record) → at.next ≡ next → entry_reference (operand_of (top m.guest t) 0) ≡ Some (Some o) → may_enter_at t (OfObject o) m ≡ true
     → Led (kept_of m) (gone_on (once_more t) m t o next) m' → EventAnswers (monitor_event (moment p m t) at Enter) ends.Done m m' out out
 entered_answers p t o next m m' at out same e may led =
     let x : Moment = moment p m t in
     let here : Led (kept_of m) (gone_on (once_more t) m t o at.next) m' = subst (λ (k : ℕ). Led (kept_of m) (gone_on (once_more t) m t o k) m') (sym same) led in
     subst (λ (z : Outcome Kept). EventAnswers z ends.Done m m' out out) (sym (enters_it p m t at (Some o) e))
-    (subst (λ (b : Bool). EventAnswers (waits_unless x b (goes (entered x (OfObject o) (leaving x at (drop 1 (top m.guest t).operands) (begins x))))) ends.Done m m' out out) (sym may) (here, sym (append-nil out)))
+    (subst (λ (b : Bool). EventAnswers (waits_unless x b (goes (entered x (OfObject o) (leaving_values x at (drop 1 (top m.guest t).operands) (begins x))))) ends.Done m m' out out) (sym may) (here, sym (append-nil out)))
 
-pub waited_answers : (p : Linked) (t o : ℕ) (m m' : MachineState) (at : Site) (out : List Record) (end : EventEnd) → reference_of (operand_of (top m.guest t) 0) ≡ Some (Some o) → may_enter_at t (OfObject o) m ≡ false
+pub waited_answers : (p : Linked) (t o : ℕ) (m m' : MachineState) (at : Site) (out : List Record) (end : EventEnd) → entry_reference (operand_of (top m.guest t) 0) ≡ Some (Some o) → may_enter_at t (OfObject o) m ≡ false
     → EventAnswers (waits (moment p m t)) end m m' out out → EventAnswers (monitor_event (moment p m t) at Enter) end m m' out out
 waited_answers p t o m m' at out end e shut h =
     let x : Moment = moment p m t in
     subst (λ (z : Outcome Kept). EventAnswers z end m m' out out) (sym (enters_it p m t at (Some o) e))
-    (subst (λ (b : Bool). EventAnswers (waits_unless x b (goes (entered x (OfObject o) (leaving x at (drop 1 (top m.guest t).operands) (begins x))))) end m m' out out) (sym shut) h)
+    (subst (λ (b : Bool). EventAnswers (waits_unless x b (goes (entered x (OfObject o) (leaving_values x at (drop 1 (top m.guest t).operands) (begins x))))) end m m' out out) (sym shut) h)
 
-pub exited_answers : (p : Linked) (t o next : ℕ) (m m' : MachineState) (at : Site) (out : List Record) → at.next ≡ next → reference_of (operand_of (top m.guest t) 0) ≡ Some (Some o) → owns_at t (OfObject o) m ≡ true
+pub exited_answers : (p : Linked) (t o next : ℕ) (m m' : MachineState) (at : Site) (out : List Record) → at.next ≡ next → entry_reference (operand_of (top m.guest t) 0) ≡ Some (Some o) → owns_at t (OfObject o) m ≡ true
     → Led (kept_of m) (gone_on left_once m t o next) m' → EventAnswers (monitor_event (moment p m t) at Exit) ends.Done m m' out out
 exited_answers p t o next m m' at out same e owned led =
     let x : Moment = moment p m t in
     let here : Led (kept_of m) (gone_on left_once m t o at.next) m' = subst (λ (k : ℕ). Led (kept_of m) (gone_on left_once m t o k) m') (sym same) led in
     subst (λ (z : Outcome Kept). EventAnswers z ends.Done m m' out out) (sym (exits_it p m t at (Some o) e))
-    (subst (λ (b : Bool). EventAnswers (throws_unless x (begins x) IllegalMonitorStateException b (goes (left (OfObject o) (leaving x at (drop 1 (top m.guest t).operands) (begins x))))) ends.Done m m' out out) (sym owned) (here, sym (append-nil out)))
+    (subst (λ (b : Bool). EventAnswers (throws_unless x (begins x) IllegalMonitorStateException b (goes (left (OfObject o) (leaving_values x at (drop 1 (top m.guest t).operands) (begins x))))) ends.Done m m' out out) (sym owned) (here, sym (append-nil out)))
 
-pub unowned_answers : {E : Type 0} (p : Linked) (t o : ℕ) (m m' : MachineState) (at : Site) (out out' : List Record) (r : Result EventEnd E) → reference_of (operand_of (top m.guest t) 0) ≡ Some (Some o) → owns_at t (OfObject o) m ≡ false
+pub unowned_answers : {E : Type 0} (p : Linked) (t o : ℕ) (m m' : MachineState) (at : Site) (out out' : List Record) (r : Result EventEnd E) → entry_reference (operand_of (top m.guest t) 0) ≡ Some (Some o) → owns_at t (OfObject o) m ≡ false
     → IfOk r (λ end. EventAnswers (throws (moment p m t) IllegalMonitorStateException (begins (moment p m t))) end m m' out out') → IfOk r (λ end. EventAnswers (monitor_event (moment p m t) at Exit) end m m' out out')
 unowned_answers p t o m m' at out out' r e owned h =
     let x : Moment = moment p m t in
     subst (λ (z : Outcome Kept). IfOk r (λ end. EventAnswers z end m m' out out')) (sym (exits_it p m t at (Some o) e))
-    (subst (λ (b : Bool). IfOk r (λ end. EventAnswers (throws_unless x (begins x) IllegalMonitorStateException b (goes (left (OfObject o) (leaving x at (drop 1 (top m.guest t).operands) (begins x))))) end m m' out out')) (sym owned) h)
+    (subst (λ (b : Bool). IfOk r (λ end. EventAnswers (throws_unless x (begins x) IllegalMonitorStateException b (goes (left (OfObject o) (leaving_values x at (drop 1 (top m.guest t).operands) (begins x))))) end m m' out out')) (sym owned) h)
 
-pub null_answers : {E : Type 0} (p : Linked) (t : ℕ) (row : MonitorRow) (m m' : MachineState) (at : Site) (out out' : List Record) (r : Result EventEnd E) → reference_of (operand_of (top m.guest t) 0) ≡ Some None
+pub null_answers : {E : Type 0} (p : Linked) (t : ℕ) (row : MonitorRow) (m m' : MachineState) (at : Site) (out out' : List Record) (r : Result EventEnd E) → entry_reference (operand_of (top m.guest t) 0) ≡ Some None
     → IfOk r (λ end. EventAnswers (throws (moment p m t) NullPointerException (begins (moment p m t))) end m m' out out') → IfOk r (λ end. EventAnswers (monitor_event (moment p m t) at row) end m m' out out')
 null_answers p t Enter m m' at out out' r e h = subst (λ (z : Outcome Kept). IfOk r (λ end. EventAnswers z end m m' out out')) (sym (enters_it p m t at None e)) h
 null_answers p t Exit m m' at out out' r e h = subst (λ (z : Outcome Kept). IfOk r (λ end. EventAnswers z end m m' out out')) (sym (exits_it p m t at None e)) h
 
 -- at each place in front of the pc
-pub null_each : {E : Type 0} (p : Linked) (t next : ℕ) (row : MonitorRow) (m m' : MachineState) (out out' : List Record) (r : Result EventEnd E) → reference_of (operand_of (top m.guest t) 0) ≡ Some None
+pub null_each : {E : Type 0} (p : Linked) (t next : ℕ) (row : MonitorRow) (m m' : MachineState) (out out' : List Record) (r : Result EventEnd E) → entry_reference (operand_of (top m.guest t) 0) ≡ Some None
     → IfOk r (λ end. EventAnswers (throws (moment p m t) NullPointerException (begins (moment p m t))) end m m' out out') → IfOk r (λ end. (at : Site) → at.next ≡ next → EventAnswers (monitor_event (moment p m t) at row) end m m' out out')
 null_each {E} p t next row m m' out out' (Ok end) e h = λ at same. null_answers {E = E} p t row m m' at out out' (Ok end) e h
 null_each {E} p t next row m m' out out' (Err fault) e h = tt
 
-pub ill_typed_row : (p : Linked) (t : ℕ) (row : MonitorRow) (m m' : MachineState) (at : Site) (out : List Record) (end : EventEnd) → reference_of (operand_of (top m.guest t) 0) ≡ None → m' ≡ m → end ≡ ill_typed_end m' t
+pub ill_typed_row : (p : Linked) (t : ℕ) (row : MonitorRow) (m m' : MachineState) (at : Site) (out : List Record) (end : EventEnd) → entry_reference (operand_of (top m.guest t) 0) ≡ None → m' ≡ m → end ≡ ill_typed_end m' t
     → EventAnswers (monitor_event (moment p m t) at row) end m m' out out
 ill_typed_row p t Enter m m' at out end e same is =
     subst (λ (z : Outcome Kept). EventAnswers z end m m' out out) (sym (no_reference (ill_typed (moment p m t)) (λ x below. enters (moment p m t) at x below) (top m.guest t).operands e)) (ill_typed_answers p t m m' out end same is)

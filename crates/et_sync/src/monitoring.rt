@@ -13,7 +13,7 @@ ghost use Rattle.et_event.specs.Sites.{Site};
 ghost use Rattle.et_event.specs.Sound.{IsSoundFor};
 ghost use Rattle.et_event.specs.Sync.{monitor_event};
 ghost use Rattle.et_event.specs.declared.rows.MonitorRow.TheVariants as rows;
-ghost use Rattle.et_parts.specs.Tops.{reference_of};
+ghost use Rattle.et_parts.specs.Tops.{entry_reference};
 ghost use Rattle.et_event.specs.Moments.{moment};
 
 use et_base::{NoMemory, ObjectId, Steps, ThreadId};
@@ -42,8 +42,10 @@ fn enter_object<L: Ledger>(
     requires count { (object_at machine.old.heap object).monitor.count ≤ 2 ^ 40 }
     ensures led { Led (kept_of machine.old)
         (record {
-          heap = with_object_at machine.old.heap object (with_monitor (record
-              { owner = Some thread; count = (object_at machine.old.heap object).monitor.count + 1 })
+          heap = with_object_at machine.old.heap object (with_monitor (record {
+            owner = Some thread;
+            count = (object_at machine.old.heap object).monitor.count + 1;
+          })
               (object_at machine.old.heap object));
           guest = with_top (ticked machine.old.guest) thread (record (top machine.old.guest thread)
               { pc = next; operands = drop 1 (top machine.old.guest thread).operands });
@@ -97,7 +99,7 @@ fn monitorenter<L: Ledger>(
     requires sound { IsSoundFor program.now (kept_of machine.old) }
     requires frame { HasFrame machine.old.guest thread }
     requires clock { machine.old.guest.clock < 2 ^ 40 }
-    requires operand { reference_of (operand_of (top machine.old.guest thread) 0)
+    requires operand { entry_reference (operand_of (top machine.old.guest thread) 0)
         ≡ Some (Some object) }
     requires held { IsHeld machine.old.heap object }
     ensures ok { (at : Site) (out : List Record) → at.next ≡ next →
@@ -126,7 +128,7 @@ fn monitorexit<L: Ledger>(
     requires sound { IsSoundFor program.now (kept_of machine.old) }
     requires frame { HasFrame machine.old.guest thread }
     requires clock { machine.old.guest.clock < 2 ^ 40 }
-    requires operand { reference_of (operand_of (top machine.old.guest thread) 0)
+    requires operand { entry_reference (operand_of (top machine.old.guest thread) 0)
         ≡ Some (Some object) }
     requires held { IsHeld machine.old.heap object }
     ensures ok { IfOk result (λ end. (at : Site) → at.next ≡ next →

@@ -5,7 +5,8 @@ use Rattle.std.specs.List.{AllByRecursion}
 use Rattle.std.proofs.lemmas.Bool.{leb-true, le-leb, ltb-false, ltb-true, lt-ltb, le-ltb}
 use Rattle.std.proofs.lemmas.Bool.Decides.{nat_tests}
 use Rattle.et_text.specs.Spelling.{is_escaped, escape, escapes}
-use Rattle.et_text.specs.Reading.{◌>>=◌, is_digit, hex_value, escaped_at, byte_at, is_break, bytes_at, unless_empty, text_at}
+use Rattle.et_text.specs.Reading.{◌>>=◌, hex_value, escaped_at, byte_at, is_break, name_bytes_at, unless_empty, text_field_at}
+use Rattle.et_base.specs.Digits.{is_digit}
 use Rattle.et_text.proofs.Numbers.{bind_some, chosen, some_is, guard_some, both_true, digit_range, digit_is, eqb-yes}
 
 pub record IsHex (b v : ℕ) : Type 0 where
@@ -151,15 +152,15 @@ as_name bytes p = IsNameAt bytes p.0 p.1
 nothing : (bytes : List ℕ) → IsNameAt bytes [] bytes
 nothing bytes = record { parts = refl; small = tt }
 
-pub bytes_takes : (k : ℕ) (bytes name rest : List ℕ) → bytes_at k bytes ≡ Some (name, rest) → IsNameAt bytes name rest
-unfolding bytes_at
+pub bytes_takes : (k : ℕ) (bytes name rest : List ℕ) → name_bytes_at k bytes ≡ Some (name, rest) → IsNameAt bytes name rest
+unfolding name_bytes_at
 bytes_takes zero bytes name rest e = subst (as_name bytes) (some_is ([], bytes) (name, rest) e) (nothing bytes)
 bytes_takes (suc k) bytes name rest e =
-    elim (chosen (is_break bytes) (Some ([], bytes)) (byte_at bytes >>= λ x. bytes_at k x.1 >>= λ y. Some (x.0 ∷ y.0, y.1)) (Some (name, rest)) e) [
+    elim (chosen (is_break bytes) (Some ([], bytes)) (byte_at bytes >>= λ x. name_bytes_at k x.1 >>= λ y. Some (x.0 ∷ y.0, y.1)) (Some (name, rest)) e) [
       | inl z ↦ subst (as_name bytes) (some_is ([], bytes) (name, rest) z.1) (nothing bytes)
       | inr z ↦
-          let p = bind_some (byte_at bytes) (λ x. bytes_at k x.1 >>= λ y. Some (x.0 ∷ y.0, y.1)) (name, rest) z.1 in
-          let q = bind_some (bytes_at k p.0.1) (λ y. Some (p.0.0 ∷ y.0, y.1)) (name, rest) p.2 in
+          let p = bind_some (byte_at bytes) (λ x. name_bytes_at k x.1 >>= λ y. Some (x.0 ∷ y.0, y.1)) (name, rest) z.1 in
+          let q = bind_some (name_bytes_at k p.0.1) (λ y. Some (p.0.0 ∷ y.0, y.1)) (name, rest) p.2 in
           let b = byte_takes bytes p.0.0 p.0.1 p.1 in
           let ih = bytes_takes k p.0.1 q.0.0 q.0.1 q.1 in
           let one : IsNameAt bytes (p.0.0 ∷ q.0.0) q.0.1 = record {
@@ -169,8 +170,8 @@ bytes_takes (suc k) bytes name rest e =
           subst (as_name bytes) (some_is (p.0.0 ∷ q.0.0, q.0.1) (name, rest) q.2) one
     ]
 
-stop_again : (k : ℕ) (rest : List ℕ) → is_break rest ≡ true → bytes_at k rest ≡ Some ([], rest)
-unfolding bytes_at
+stop_again : (k : ℕ) (rest : List ℕ) → is_break rest ≡ true → name_bytes_at k rest ≡ Some ([], rest)
+unfolding name_bytes_at
 stop_again zero rest e = refl
 stop_again (suc k) rest e = rw e refl
 
@@ -181,8 +182,8 @@ length-escape b =
       | inr t ↦ subst (λ (x : List ℕ). 0 < length x) (sym (escape_no b t.0)) (omega arith)
     ]
 
-pub bytes_again : (name : List ℕ) (k : ℕ) (rest : List ℕ) → AreBytes name → length (escapes name ++ rest) ≤ k → is_break rest ≡ true → bytes_at k (escapes name ++ rest) ≡ Some (name, rest)
-unfolding bytes_at
+pub bytes_again : (name : List ℕ) (k : ℕ) (rest : List ℕ) → AreBytes name → length (escapes name ++ rest) ≤ k → is_break rest ≡ true → name_bytes_at k (escapes name ++ rest) ≡ Some (name, rest)
+unfolding name_bytes_at
 bytes_again [] k rest all le e = stop_again k rest e
 bytes_again (b ∷ name) zero rest all le e =
     let pos = length-escape b in
@@ -206,14 +207,14 @@ some_takes bytes ([], after) name rest h e = absurd cc
 some_takes bytes (b ∷ bs, after) name rest h e =
     subst (as_text (32 ∷ bytes)) (some_is (b ∷ bs, after) (name, rest) e) (record { parts = ap (λ (t : List ℕ). 32 ∷ t) h.parts; small = h.small; some = omega arith })
 
-pub text_takes : (bytes name rest : List ℕ) → text_at bytes ≡ Some (name, rest) → IsTextAt bytes name rest
-unfolding text_at
+pub text_takes : (bytes name rest : List ℕ) → text_field_at bytes ≡ Some (name, rest) → IsTextAt bytes name rest
+unfolding text_field_at
 text_takes [] name rest e = absurd cc
 text_takes (b ∷ bs) name rest e =
-    elim (chosen (eqb b 32) (bytes_at (length bs) bs >>= unless_empty) None (Some (name, rest)) e) [
+    elim (chosen (eqb b 32) (name_bytes_at (length bs) bs >>= unless_empty) None (Some (name, rest)) e) [
       | inl z ↦
           let is : b ≡ 32 = eqb-yes b 32 z.0 in
-          let p = bind_some (bytes_at (length bs) bs) unless_empty (name, rest) z.1 in
+          let p = bind_some (name_bytes_at (length bs) bs) unless_empty (name, rest) z.1 in
           subst (λ (x : ℕ). IsTextAt (x ∷ bs) name rest) (sym is) (some_takes bs p.0 name rest (bytes_takes (length bs) bs p.0.0 p.0.1 p.1) p.2)
       | inr z ↦ absurd (let f = z.1 in cc)
     ]
@@ -222,6 +223,6 @@ some_again : (name rest : List ℕ) → 0 < length name → unless_empty (name, 
 some_again [] rest lt = absurd (omega arith)
 some_again (b ∷ name) rest lt = refl
 
-pub text_again : (name rest : List ℕ) → AreBytes name → 0 < length name → is_break rest ≡ true → text_at (32 ∷ escapes name ++ rest) ≡ Some (name, rest)
-unfolding text_at
+pub text_again : (name rest : List ℕ) → AreBytes name → 0 < length name → is_break rest ≡ true → text_field_at (32 ∷ escapes name ++ rest) ≡ Some (name, rest)
+unfolding text_field_at
 text_again name rest all lt e = rw (bytes_again name (length (escapes name ++ rest)) rest all (omega arith) e) (some_again name rest lt)

@@ -6,15 +6,15 @@ use Rattle.et_base.specs.declared.line.TraceLine.TheVariants.{Header, Class, Met
 use Rattle.et_text.specs.Rules.{order, unknown, twice, after, has_ended, is_reported, is_open, is_timely, keeps_order, is_known, keeps_lives}
 use Rattle.et_text.specs.declared.standing.Standing.{Standing}
 use Rattle.et_text.specs.ByStanding.{is_open_in, is_timely_in, order_in, known_in, reported_in, lives_in, dies_once_in, fault_in}
-use Rattle.et_text.specs.StandsFor.{StandsFor}
+use Rattle.et_text.specs.StandsFor.{StandsForLines}
 
-pub open_is : (s : Standing) (past : List TraceLine) → StandsFor s past → is_open_in s ≡ is_open past
+pub open_is : (s : Standing) (past : List TraceLine) → StandsForLines s past → is_open_in s ≡ is_open past
 open_is s past h = rw (h.begun_is, h.awaited_is, h.interval_is, h.flushed_is) refl
 
-pub timely_is : (s : Standing) (past : List TraceLine) (event : ℕ) → StandsFor s past → is_timely_in s event ≡ is_timely past event
+pub timely_is : (s : Standing) (past : List TraceLine) (event : ℕ) → StandsForLines s past → is_timely_in s event ≡ is_timely past event
 timely_is s past event h = rw (open_is s past h, h.latest_is, h.interval_is, h.flushed_is) refl
 
-pub order_is : (s : Standing) (past : List TraceLine) (line : TraceLine) → StandsFor s past → order_in s line ≡ keeps_order past line
+pub order_is : (s : Standing) (past : List TraceLine) (line : TraceLine) → StandsForLines s past → order_in s line ≡ keeps_order past line
 order_is s past (Header v n) h = rw h.begun_is refl
 order_is s past (Class number name) h = rw (open_is s past h, h.classes_is) refl
 order_is s past (Method number class name descriptor) h = rw (open_is s past h, h.methods_is) refl
@@ -27,7 +27,7 @@ order_is s past (Flush event deaths) h = timely_is s past event h
 order_is s past (Death object time) h = rw (h.awaited_is, h.last_dead_is, h.flushed_is) refl
 order_is s past (Finish event how) h = rw (h.awaited_is, h.stands_is) refl
 
-pub known_is : (s : Standing) (past : List TraceLine) (line : TraceLine) → StandsFor s past → known_in s line ≡ is_known past line
+pub known_is : (s : Standing) (past : List TraceLine) (line : TraceLine) → StandsForLines s past → known_in s line ≡ is_known past line
 known_is s past (Header v n) h = refl
 known_is s past (Class number name) h = refl
 known_is s past (Method number class name descriptor) h = rw h.classes_is refl
@@ -40,11 +40,11 @@ known_is s past (Flush event deaths) h = refl
 known_is s past (Death object time) h = rw h.births_is refl
 known_is s past (Finish event how) h = refl
 
-pub reported_at : (s : Standing) (past : List TraceLine) (o : ℕ) → StandsFor s past → reported_in s o ≡ is_reported past o
+pub reported_at : (s : Standing) (past : List TraceLine) (o : ℕ) → StandsForLines s past → reported_in s o ≡ is_reported past o
 reported_at s past zero h = sym h.none_dead
 reported_at s past (suc o) h = let e : eqb (suc o) 0 ≡ false = grind (arith, nat_tests) in rw e (h.reported_is (suc o) (omega arith))
 
-pub lives_are : (s : Standing) (past : List TraceLine) (line : TraceLine) → StandsFor s past → lives_in s line ≡ keeps_lives past line
+pub lives_are : (s : Standing) (past : List TraceLine) (line : TraceLine) → StandsForLines s past → lives_in s line ≡ keeps_lives past line
 lives_are s past (Header v n) h = refl
 lives_are s past (Class number name) h = refl
 lives_are s past (Method number class name descriptor) h = refl
@@ -62,7 +62,7 @@ abbrev pub dies_once : List TraceLine → TraceLine → Bool
 dies_once past (Death object time) = not (is_reported past object)
 dies_once past _ = true
 
-pub dies_once_is : (s : Standing) (past : List TraceLine) (line : TraceLine) → StandsFor s past → dies_once_in s line ≡ dies_once past line
+pub dies_once_is : (s : Standing) (past : List TraceLine) (line : TraceLine) → StandsForLines s past → dies_once_in s line ≡ dies_once past line
 dies_once_is s past (Header v n) h = refl
 dies_once_is s past (Class number name) h = refl
 dies_once_is s past (Method number class name descriptor) h = refl
@@ -83,7 +83,7 @@ fault_but_names past line =
     (cond (not (keeps_lives past line)) (Some order)
     (cond (not (dies_once past line)) (Some twice) None))))
 
-pub fault_is : (s : Standing) (past : List TraceLine) (line : TraceLine) → StandsFor s past → fault_in s line ≡ fault_but_names past line
+pub fault_is : (s : Standing) (past : List TraceLine) (line : TraceLine) → StandsForLines s past → fault_in s line ≡ fault_but_names past line
 fault_is s past line h =
     subst (λ (b : Bool). fault_in s line ≡ cond b (Some after) (cond (not (keeps_order past line)) (Some order) (cond (not (is_known past line)) (Some unknown) (cond (not (keeps_lives past line)) (Some order) (cond (not (dies_once past line)) (Some twice) None))))) h.ended_is
     (subst (λ (b : Bool). fault_in s line ≡ cond s.ended (Some after) (cond (not b) (Some order) (cond (not (is_known past line)) (Some unknown) (cond (not (keeps_lives past line)) (Some order) (cond (not (dies_once past line)) (Some twice) None))))) (order_is s past line h)

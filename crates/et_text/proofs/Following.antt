@@ -8,7 +8,7 @@ use Rattle.et_text.specs.Ranges.{IsInRange}
 use Rattle.et_text.specs.Rules.{order, unknown, twice, after, has_ended, keeps_order, is_known, keeps_lives, is_new, next_fault}
 use Rattle.et_text.specs.declared.standing.Standing.{Standing}
 use Rattle.et_text.specs.ByStanding.{is_open_in, order_in, known_in, lives_in, dies_once_in, fault_in}
-use Rattle.et_text.specs.StandsFor.{StandsFor}
+use Rattle.et_text.specs.StandsFor.{StandsForLines}
 use Rattle.et_text.specs.Follows.{Notes}
 use Rattle.et_text.proofs.Faults.{dies_once, fault_but_names, fault_is}
 use Rattle.et_text.proofs.Standings.{stands_header, stands_class, stands_method, stands_object, stands_update, stands_enter, stands_exit, stands_unwind, stands_flush, stands_death, stands_finish, class_is_new, method_is_new}
@@ -55,13 +55,13 @@ new_falls past (Flush event deaths) e = absurd cc
 new_falls past (Death object time) e = e
 new_falls past (Finish event how) e = absurd cc
 
-pub some_found : (s : Standing) (past : List TraceLine) (line : TraceLine) (kind : ℕ) → StandsFor s past → Some kind ≡ fault_in s line → Some kind ≡ next_fault past line
+pub some_found : (s : Standing) (past : List TraceLine) (line : TraceLine) (kind : ℕ) → StandsForLines s past → Some kind ≡ fault_in s line → Some kind ≡ next_fault past line
 some_found s past line kind h e =
     let f : fault_but_names past line ≡ Some kind = sym (fault_is s past line h) ∙ sym e in
     sym (still (has_ended past) (keeps_order past line) (is_known past line) (keeps_lives past line) (dies_once past line) (is_new past line) kind (new_falls past line) f)
 
 -- whether the line is new
-new_by : (s s' : Standing) (past : List TraceLine) (line : TraceLine) (added : Bool) → Notes s s' line added → StandsFor s past → dies_once past line ≡ true → is_new past line ≡ added
+new_by : (s s' : Standing) (past : List TraceLine) (line : TraceLine) (added : Bool) → Notes s s' line added → StandsForLines s past → dies_once past line ≡ true → is_new past line ≡ added
 new_by s s' past (Header v every) added n h d = sym n.0
 new_by s s' past (Class number name) added n h d = sym (class_is_new s s' past number name added n h)
 new_by s s' past (Method number class name descriptor) added n h d = sym (method_is_new s s' past number class name descriptor added n h)
@@ -81,32 +81,32 @@ both_true false b e = absurd cc
 eqb-yes : (a b : ℕ) → eqb a b ≡ true → a ≡ b
 eqb-yes a b e = grind (arith, nat_tests)
 
-pub stands_on : (s s' : Standing) (past : List TraceLine) (line : TraceLine) (added : Bool) → s.ended ≡ false → order_in s line ≡ true → known_in s line ≡ true → IsInRange 1 line → Notes s s' line added → StandsFor s past → StandsFor s' (line ∷ past)
-stands_on s s' past (Header v every) added unended o k r n h = subst (λ (t : Standing). StandsFor t (Header v every ∷ past)) (sym n.1) (stands_header s past v every unended h)
+pub stands_on : (s s' : Standing) (past : List TraceLine) (line : TraceLine) (added : Bool) → s.ended ≡ false → order_in s line ≡ true → known_in s line ≡ true → IsInRange 1 line → Notes s s' line added → StandsForLines s past → StandsForLines s' (line ∷ past)
+stands_on s s' past (Header v every) added unended o k r n h = subst (λ (t : Standing). StandsForLines t (Header v every ∷ past)) (sym n.1) (stands_header s past v every unended h)
 stands_on s s' past (Class number name) added unended o k r n h = stands_class s s' past number name added unended (eqb-yes number (s.classes + 1) (both_true (is_open_in s) (eqb number (s.classes + 1)) o)) n h
 stands_on s s' past (Method number class name descriptor) added unended o k r n h = stands_method s s' past number class name descriptor added unended (eqb-yes number (s.methods + 1) (both_true (is_open_in s) (eqb number (s.methods + 1)) o)) n h
 stands_on s s' past (Alloc event thread object class size len) added unended o k r n h = stands_object s s' past event thread object class size len unended n.1 h
-stands_on s s' past (Update event thread object slot old new) added unended o k r n h = subst (λ (t : Standing). StandsFor t (Update event thread object slot old new ∷ past)) (sym n.1) (stands_update s past event thread object slot old new unended h)
-stands_on s s' past (Enter event thread method receiver) added unended o k r n h = subst (λ (t : Standing). StandsFor t (Enter event thread method receiver ∷ past)) (sym n.1) (stands_enter s past event thread method receiver unended h)
-stands_on s s' past (Exit event thread method) added unended o k r n h = subst (λ (t : Standing). StandsFor t (Exit event thread method ∷ past)) (sym n.1) (stands_exit s past event thread method unended h)
-stands_on s s' past (Unwind event thread method exception) added unended o k r n h = subst (λ (t : Standing). StandsFor t (Unwind event thread method exception ∷ past)) (sym n.1) (stands_unwind s past event thread method exception unended h)
-stands_on s s' past (Flush event deaths) added unended o k r n h = subst (λ (t : Standing). StandsFor t (Flush event deaths ∷ past)) (sym n.1) (stands_flush s past event deaths unended h)
+stands_on s s' past (Update event thread object slot old new) added unended o k r n h = subst (λ (t : Standing). StandsForLines t (Update event thread object slot old new ∷ past)) (sym n.1) (stands_update s past event thread object slot old new unended h)
+stands_on s s' past (Enter event thread method receiver) added unended o k r n h = subst (λ (t : Standing). StandsForLines t (Enter event thread method receiver ∷ past)) (sym n.1) (stands_enter s past event thread method receiver unended h)
+stands_on s s' past (Exit event thread method) added unended o k r n h = subst (λ (t : Standing). StandsForLines t (Exit event thread method ∷ past)) (sym n.1) (stands_exit s past event thread method unended h)
+stands_on s s' past (Unwind event thread method exception) added unended o k r n h = subst (λ (t : Standing). StandsForLines t (Unwind event thread method exception ∷ past)) (sym n.1) (stands_unwind s past event thread method exception unended h)
+stands_on s s' past (Flush event deaths) added unended o k r n h = subst (λ (t : Standing). StandsForLines t (Flush event deaths ∷ past)) (sym n.1) (stands_flush s past event deaths unended h)
 stands_on s s' past (Death object time) added unended o k r n h = let le : object ≤ length s.births.items = leb-true object (length s.births.items) k in let as_many = h.as_many in stands_death s s' past object time unended r.0.0 (omega arith) n.1 h
-stands_on s s' past (Finish event how) added unended o k r n h = subst (λ (t : Standing). StandsFor t (Finish event how ∷ past)) (sym n.1) (stands_finish s past event how unended h)
+stands_on s s' past (Finish event how) added unended o k r n h = subst (λ (t : Standing). StandsForLines t (Finish event how ∷ past)) (sym n.1) (stands_finish s past event how unended h)
 
-at_past : (s : Standing) (past : List TraceLine) (line : TraceLine) → StandsFor s past → None ≡ fault_in s line → ArePassed (has_ended past) (keeps_order past line) (is_known past line) (keeps_lives past line) (dies_once past line)
+at_past : (s : Standing) (past : List TraceLine) (line : TraceLine) → StandsForLines s past → None ≡ fault_in s line → ArePassed (has_ended past) (keeps_order past line) (is_known past line) (keeps_lives past line) (dies_once past line)
 at_past s past line h e = passed (has_ended past) (keeps_order past line) (is_known past line) (keeps_lives past line) (dies_once past line) (sym (fault_is s past line h) ∙ sym e)
 
-next_by : (s s' : Standing) (past : List TraceLine) (line : TraceLine) (added : Bool) → StandsFor s past → None ≡ fault_in s line → Notes s s' line added → next_fault past line ≡ cond (not added) (Some twice) None
+next_by : (s s' : Standing) (past : List TraceLine) (line : TraceLine) (added : Bool) → StandsForLines s past → None ≡ fault_in s line → Notes s s' line added → next_fault past line ≡ cond (not added) (Some twice) None
 next_by s s' past line added h e n =
     let p = at_past s past line h e in
     at_last (has_ended past) (keeps_order past line) (is_known past line) (keeps_lives past line) (dies_once past line) (is_new past line) p
     ∙ ap (λ (b : Bool). cond (not b) (Some twice) None) (new_by s s' past line added n h p.once)
 
-pub noted : (s s' : Standing) (past : List TraceLine) (line : TraceLine) (added : Bool) → None ≡ fault_in s line → Notes s s' line added → added ≡ true → StandsFor s past → IsInRange 1 line → (None ≡ next_fault past line) × StandsFor s' (line ∷ past)
+pub noted : (s s' : Standing) (past : List TraceLine) (line : TraceLine) (added : Bool) → None ≡ fault_in s line → Notes s s' line added → added ≡ true → StandsForLines s past → IsInRange 1 line → (None ≡ next_fault past line) × StandsForLines s' (line ∷ past)
 noted s s' past line added e n yes_added h r =
     let p = passed s.ended (order_in s line) (known_in s line) (lives_in s line) (dies_once_in s line) (sym e) in
     (sym (next_by s s' past line added h e n ∙ ap (λ (b : Bool). cond (not b) (Some twice) None) yes_added), stands_on s s' past line added p.goes_on p.ordered p.known r n h)
 
-pub refused : (s s' : Standing) (past : List TraceLine) (line : TraceLine) (added : Bool) → None ≡ fault_in s line → Notes s s' line added → added ≡ false → StandsFor s past → Some 4 ≡ next_fault past line
+pub refused : (s s' : Standing) (past : List TraceLine) (line : TraceLine) (added : Bool) → None ≡ fault_in s line → Notes s s' line added → added ≡ false → StandsForLines s past → Some 4 ≡ next_fault past line
 refused s s' past line added e n not_added h = sym (next_by s s' past line added h e n ∙ ap (λ (b : Bool). cond (not b) (Some twice) None) not_added)

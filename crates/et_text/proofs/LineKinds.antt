@@ -7,8 +7,8 @@ use Rattle.et_base.specs.declared.line.TraceLine.{TraceLine}
 use Rattle.et_base.specs.declared.line.TraceLine.TheVariants.{Header, Class, Method, Alloc, Update, Enter, Exit, Unwind, Flush, Death, Finish}
 use Rattle.et_text.specs.Ranges.{IsInRange}
 use Rattle.et_text.specs.Spelling.{escapes, fields, field_text, letter, line_body}
-use Rattle.et_text.specs.Text.{IsSpelled}
-use Rattle.et_text.specs.Reading.{◌>>=◌, is_break, number_in, text_at, done, turn_at, header_at, class_at, method_at, alloc_at, update_at, enter_at, exit_at, unwind_at, flush_at, death_at, finish_at, line_at}
+use Rattle.et_text.specs.Text.{IsLineSpelled}
+use Rattle.et_text.specs.Reading.{◌>>=◌, is_break, number_field_in, text_field_at, done, turn_at, header_line_at, class_line_at, method_line_at, alloc_at, update_at, enter_at, exit_at, unwind_at, flush_at, death_line_at, finish_at, line_at}
 use Rattle.et_text.proofs.Numbers.{bind_some, chosen, some_is, eqb-yes, in_takes, in_again}
 use Rattle.et_text.proofs.Escapes.{AreBytes, text_takes, text_again}
 
@@ -52,8 +52,8 @@ as_turn bytes p = IsTurn bytes p.0.0 p.0.1 p.1
 turn_takes : (bytes : List ℕ) (event thread : ℕ) (rest : List ℕ) → turn_at bytes ≡ Some ((event, thread), rest) → IsTurn bytes event thread rest
 unfolding turn_at
 turn_takes bytes event thread rest e =
-    let a = bind_some (number_in 0 (2 ^ 40) bytes) (λ event. number_in 0 63 event.1 >>= λ thread. Some ((event.0, thread.0), thread.1)) ((event, thread), rest) e in
-    let b = bind_some (number_in 0 63 a.0.1) (λ thread. Some ((a.0.0, thread.0), thread.1)) ((event, thread), rest) a.2 in
+    let a = bind_some (number_field_in 0 (2 ^ 40) bytes) (λ event. number_field_in 0 63 event.1 >>= λ thread. Some ((event.0, thread.0), thread.1)) ((event, thread), rest) e in
+    let b = bind_some (number_field_in 0 63 a.0.1) (λ thread. Some ((a.0.0, thread.0), thread.1)) ((event, thread), rest) a.2 in
     let p = in_takes 0 (2 ^ 40) bytes a.0.0 a.0.1 a.1 in
     let q = in_takes 0 63 a.0.1 b.0.0 b.0.1 b.1 in
     let one : IsTurn bytes a.0.0 b.0.0 b.0.1 = record { parts = p.0 ∙ ap (λ (t : List ℕ). 32 ∷ decimal a.0.0 ++ t) q.0; event_is = p.1.high_is; thread_is = q.1.high_is } in
@@ -63,35 +63,35 @@ turn_again : (event thread : ℕ) (rest : List ℕ) → event ≤ 2 ^ 40 → thr
 unfolding turn_at
 turn_again event thread rest a b e = rw (in_again 0 (2 ^ 40) event (32 ∷ decimal thread ++ rest) (omega arith) a (omega arith) refl, in_again 0 63 thread rest (omega arith) b (omega arith) e) refl
 
-header_takes : (bytes : List ℕ) (line : TraceLine) → header_at bytes ≡ Some line → IsTail 72 line bytes
-unfolding header_at
+header_takes : (bytes : List ℕ) (line : TraceLine) → header_line_at bytes ≡ Some line → IsTail 72 line bytes
+unfolding header_line_at
 header_takes bytes line e =
-    let s0 = bind_some (number_in 1 (1) bytes) (λ x0. number_in 0 (2 ^ 40) x0.1 >>= λ x1. done (Header x0.0 x1.0) x1.1) line e in
-    let s1 = bind_some (number_in 0 (2 ^ 40) s0.0.1) (λ x1. done (Header s0.0.0 x1.0) x1.1) line s0.2 in
+    let s0 = bind_some (number_field_in 1 (1) bytes) (λ x0. number_field_in 0 (2 ^ 40) x0.1 >>= λ x1. done (Header x0.0 x1.0) x1.1) line e in
+    let s1 = bind_some (number_field_in 0 (2 ^ 40) s0.0.1) (λ x1. done (Header s0.0.0 x1.0) x1.1) line s0.2 in
     let d = done_is (Header s0.0.0 s1.0.0) s1.0.1 line s1.2 in
     let t0 = in_takes 1 (1) bytes s0.0.0 s0.0.1 s0.1 in
     let t1 = in_takes 0 (2 ^ 40) s0.0.1 s1.0.0 s1.0.1 s1.1 in
     let one : IsTail 72 (Header s0.0.0 s1.0.0) bytes = record { range = omega arith; first_is = refl; spelled = (t0.0 ∙ ap (λ (t : List ℕ). 32 ∷ decimal s0.0.0 ++ t) (t1.0 ∙ ap (λ (t : List ℕ). 32 ∷ decimal s1.0.0 ++ t) d.empty)) } in
     subst (λ (l : TraceLine). IsTail 72 l bytes) d.same one
 
-class_takes : (bytes : List ℕ) (line : TraceLine) → class_at bytes ≡ Some line → IsTail 67 line bytes
-unfolding class_at
+class_takes : (bytes : List ℕ) (line : TraceLine) → class_line_at bytes ≡ Some line → IsTail 67 line bytes
+unfolding class_line_at
 class_takes bytes line e =
-    let s0 = bind_some (number_in 1 (2 ^ 32 - 1) bytes) (λ x0. text_at x0.1 >>= λ x1. done (Class x0.0 x1.0) x1.1) line e in
-    let s1 = bind_some (text_at s0.0.1) (λ x1. done (Class s0.0.0 x1.0) x1.1) line s0.2 in
+    let s0 = bind_some (number_field_in 1 (2 ^ 32 - 1) bytes) (λ x0. text_field_at x0.1 >>= λ x1. done (Class x0.0 x1.0) x1.1) line e in
+    let s1 = bind_some (text_field_at s0.0.1) (λ x1. done (Class s0.0.0 x1.0) x1.1) line s0.2 in
     let d = done_is (Class s0.0.0 s1.0.0) s1.0.1 line s1.2 in
     let t0 = in_takes 1 (2 ^ 32 - 1) bytes s0.0.0 s0.0.1 s0.1 in
     let t1 = text_takes s0.0.1 s1.0.0 s1.0.1 s1.1 in
     let one : IsTail 67 (Class s0.0.0 s1.0.0) bytes = record { range = (omega arith, (t1.some, all_bytes s1.0.0 t1.small)); first_is = refl; spelled = (t0.0 ∙ ap (λ (t : List ℕ). 32 ∷ decimal s0.0.0 ++ t) (t1.parts ∙ ap (λ (t : List ℕ). 32 ∷ escapes s1.0.0 ++ t) d.empty)) } in
     subst (λ (l : TraceLine). IsTail 67 l bytes) d.same one
 
-method_takes : (bytes : List ℕ) (line : TraceLine) → method_at bytes ≡ Some line → IsTail 78 line bytes
-unfolding method_at
+method_takes : (bytes : List ℕ) (line : TraceLine) → method_line_at bytes ≡ Some line → IsTail 78 line bytes
+unfolding method_line_at
 method_takes bytes line e =
-    let s0 = bind_some (number_in 1 (2 ^ 32 - 1) bytes) (λ x0. number_in 1 (2 ^ 32 - 1) x0.1 >>= λ x1. text_at x1.1 >>= λ x2. text_at x2.1 >>= λ x3. done (Method x0.0 x1.0 x2.0 x3.0) x3.1) line e in
-    let s1 = bind_some (number_in 1 (2 ^ 32 - 1) s0.0.1) (λ x1. text_at x1.1 >>= λ x2. text_at x2.1 >>= λ x3. done (Method s0.0.0 x1.0 x2.0 x3.0) x3.1) line s0.2 in
-    let s2 = bind_some (text_at s1.0.1) (λ x2. text_at x2.1 >>= λ x3. done (Method s0.0.0 s1.0.0 x2.0 x3.0) x3.1) line s1.2 in
-    let s3 = bind_some (text_at s2.0.1) (λ x3. done (Method s0.0.0 s1.0.0 s2.0.0 x3.0) x3.1) line s2.2 in
+    let s0 = bind_some (number_field_in 1 (2 ^ 32 - 1) bytes) (λ x0. number_field_in 1 (2 ^ 32 - 1) x0.1 >>= λ x1. text_field_at x1.1 >>= λ x2. text_field_at x2.1 >>= λ x3. done (Method x0.0 x1.0 x2.0 x3.0) x3.1) line e in
+    let s1 = bind_some (number_field_in 1 (2 ^ 32 - 1) s0.0.1) (λ x1. text_field_at x1.1 >>= λ x2. text_field_at x2.1 >>= λ x3. done (Method s0.0.0 x1.0 x2.0 x3.0) x3.1) line s0.2 in
+    let s2 = bind_some (text_field_at s1.0.1) (λ x2. text_field_at x2.1 >>= λ x3. done (Method s0.0.0 s1.0.0 x2.0 x3.0) x3.1) line s1.2 in
+    let s3 = bind_some (text_field_at s2.0.1) (λ x3. done (Method s0.0.0 s1.0.0 s2.0.0 x3.0) x3.1) line s2.2 in
     let d = done_is (Method s0.0.0 s1.0.0 s2.0.0 s3.0.0) s3.0.1 line s3.2 in
     let t0 = in_takes 1 (2 ^ 32 - 1) bytes s0.0.0 s0.0.1 s0.1 in
     let t1 = in_takes 1 (2 ^ 32 - 1) s0.0.1 s1.0.0 s1.0.1 s1.1 in
@@ -103,11 +103,11 @@ method_takes bytes line e =
 alloc_takes : (bytes : List ℕ) (line : TraceLine) → alloc_at bytes ≡ Some line → IsTail 65 line bytes
 unfolding alloc_at
 alloc_takes bytes line e =
-    let s0 = bind_some (turn_at bytes) (λ x0. number_in 1 (2 ^ 24 - 1) x0.1 >>= λ x1. number_in 1 (2 ^ 32 - 1) x1.1 >>= λ x2. number_in 16 (2 ^ 30) x2.1 >>= λ x3. number_in 0 (2 ^ 26) x3.1 >>= λ x4. done (Alloc x0.0.0 x0.0.1 x1.0 x2.0 x3.0 x4.0) x4.1) line e in
-    let s1 = bind_some (number_in 1 (2 ^ 24 - 1) s0.0.1) (λ x1. number_in 1 (2 ^ 32 - 1) x1.1 >>= λ x2. number_in 16 (2 ^ 30) x2.1 >>= λ x3. number_in 0 (2 ^ 26) x3.1 >>= λ x4. done (Alloc s0.0.0.0 s0.0.0.1 x1.0 x2.0 x3.0 x4.0) x4.1) line s0.2 in
-    let s2 = bind_some (number_in 1 (2 ^ 32 - 1) s1.0.1) (λ x2. number_in 16 (2 ^ 30) x2.1 >>= λ x3. number_in 0 (2 ^ 26) x3.1 >>= λ x4. done (Alloc s0.0.0.0 s0.0.0.1 s1.0.0 x2.0 x3.0 x4.0) x4.1) line s1.2 in
-    let s3 = bind_some (number_in 16 (2 ^ 30) s2.0.1) (λ x3. number_in 0 (2 ^ 26) x3.1 >>= λ x4. done (Alloc s0.0.0.0 s0.0.0.1 s1.0.0 s2.0.0 x3.0 x4.0) x4.1) line s2.2 in
-    let s4 = bind_some (number_in 0 (2 ^ 26) s3.0.1) (λ x4. done (Alloc s0.0.0.0 s0.0.0.1 s1.0.0 s2.0.0 s3.0.0 x4.0) x4.1) line s3.2 in
+    let s0 = bind_some (turn_at bytes) (λ x0. number_field_in 1 (2 ^ 24 - 1) x0.1 >>= λ x1. number_field_in 1 (2 ^ 32 - 1) x1.1 >>= λ x2. number_field_in 16 (2 ^ 30) x2.1 >>= λ x3. number_field_in 0 (2 ^ 26) x3.1 >>= λ x4. done (Alloc x0.0.0 x0.0.1 x1.0 x2.0 x3.0 x4.0) x4.1) line e in
+    let s1 = bind_some (number_field_in 1 (2 ^ 24 - 1) s0.0.1) (λ x1. number_field_in 1 (2 ^ 32 - 1) x1.1 >>= λ x2. number_field_in 16 (2 ^ 30) x2.1 >>= λ x3. number_field_in 0 (2 ^ 26) x3.1 >>= λ x4. done (Alloc s0.0.0.0 s0.0.0.1 x1.0 x2.0 x3.0 x4.0) x4.1) line s0.2 in
+    let s2 = bind_some (number_field_in 1 (2 ^ 32 - 1) s1.0.1) (λ x2. number_field_in 16 (2 ^ 30) x2.1 >>= λ x3. number_field_in 0 (2 ^ 26) x3.1 >>= λ x4. done (Alloc s0.0.0.0 s0.0.0.1 s1.0.0 x2.0 x3.0 x4.0) x4.1) line s1.2 in
+    let s3 = bind_some (number_field_in 16 (2 ^ 30) s2.0.1) (λ x3. number_field_in 0 (2 ^ 26) x3.1 >>= λ x4. done (Alloc s0.0.0.0 s0.0.0.1 s1.0.0 s2.0.0 x3.0 x4.0) x4.1) line s2.2 in
+    let s4 = bind_some (number_field_in 0 (2 ^ 26) s3.0.1) (λ x4. done (Alloc s0.0.0.0 s0.0.0.1 s1.0.0 s2.0.0 s3.0.0 x4.0) x4.1) line s3.2 in
     let d = done_is (Alloc s0.0.0.0 s0.0.0.1 s1.0.0 s2.0.0 s3.0.0 s4.0.0) s4.0.1 line s4.2 in
     let t0 = turn_takes bytes s0.0.0.0 s0.0.0.1 s0.0.1 s0.1 in
     let t1 = in_takes 1 (2 ^ 24 - 1) s0.0.1 s1.0.0 s1.0.1 s1.1 in
@@ -120,11 +120,11 @@ alloc_takes bytes line e =
 update_takes : (bytes : List ℕ) (line : TraceLine) → update_at bytes ≡ Some line → IsTail 85 line bytes
 unfolding update_at
 update_takes bytes line e =
-    let s0 = bind_some (turn_at bytes) (λ x0. number_in 0 (2 ^ 24 - 1) x0.1 >>= λ x1. number_in 0 (2 ^ 28 - 1) x1.1 >>= λ x2. number_in 0 (2 ^ 24 - 1) x2.1 >>= λ x3. number_in 0 (2 ^ 24 - 1) x3.1 >>= λ x4. done (Update x0.0.0 x0.0.1 x1.0 x2.0 x3.0 x4.0) x4.1) line e in
-    let s1 = bind_some (number_in 0 (2 ^ 24 - 1) s0.0.1) (λ x1. number_in 0 (2 ^ 28 - 1) x1.1 >>= λ x2. number_in 0 (2 ^ 24 - 1) x2.1 >>= λ x3. number_in 0 (2 ^ 24 - 1) x3.1 >>= λ x4. done (Update s0.0.0.0 s0.0.0.1 x1.0 x2.0 x3.0 x4.0) x4.1) line s0.2 in
-    let s2 = bind_some (number_in 0 (2 ^ 28 - 1) s1.0.1) (λ x2. number_in 0 (2 ^ 24 - 1) x2.1 >>= λ x3. number_in 0 (2 ^ 24 - 1) x3.1 >>= λ x4. done (Update s0.0.0.0 s0.0.0.1 s1.0.0 x2.0 x3.0 x4.0) x4.1) line s1.2 in
-    let s3 = bind_some (number_in 0 (2 ^ 24 - 1) s2.0.1) (λ x3. number_in 0 (2 ^ 24 - 1) x3.1 >>= λ x4. done (Update s0.0.0.0 s0.0.0.1 s1.0.0 s2.0.0 x3.0 x4.0) x4.1) line s2.2 in
-    let s4 = bind_some (number_in 0 (2 ^ 24 - 1) s3.0.1) (λ x4. done (Update s0.0.0.0 s0.0.0.1 s1.0.0 s2.0.0 s3.0.0 x4.0) x4.1) line s3.2 in
+    let s0 = bind_some (turn_at bytes) (λ x0. number_field_in 0 (2 ^ 24 - 1) x0.1 >>= λ x1. number_field_in 0 (2 ^ 28 - 1) x1.1 >>= λ x2. number_field_in 0 (2 ^ 24 - 1) x2.1 >>= λ x3. number_field_in 0 (2 ^ 24 - 1) x3.1 >>= λ x4. done (Update x0.0.0 x0.0.1 x1.0 x2.0 x3.0 x4.0) x4.1) line e in
+    let s1 = bind_some (number_field_in 0 (2 ^ 24 - 1) s0.0.1) (λ x1. number_field_in 0 (2 ^ 28 - 1) x1.1 >>= λ x2. number_field_in 0 (2 ^ 24 - 1) x2.1 >>= λ x3. number_field_in 0 (2 ^ 24 - 1) x3.1 >>= λ x4. done (Update s0.0.0.0 s0.0.0.1 x1.0 x2.0 x3.0 x4.0) x4.1) line s0.2 in
+    let s2 = bind_some (number_field_in 0 (2 ^ 28 - 1) s1.0.1) (λ x2. number_field_in 0 (2 ^ 24 - 1) x2.1 >>= λ x3. number_field_in 0 (2 ^ 24 - 1) x3.1 >>= λ x4. done (Update s0.0.0.0 s0.0.0.1 s1.0.0 x2.0 x3.0 x4.0) x4.1) line s1.2 in
+    let s3 = bind_some (number_field_in 0 (2 ^ 24 - 1) s2.0.1) (λ x3. number_field_in 0 (2 ^ 24 - 1) x3.1 >>= λ x4. done (Update s0.0.0.0 s0.0.0.1 s1.0.0 s2.0.0 x3.0 x4.0) x4.1) line s2.2 in
+    let s4 = bind_some (number_field_in 0 (2 ^ 24 - 1) s3.0.1) (λ x4. done (Update s0.0.0.0 s0.0.0.1 s1.0.0 s2.0.0 s3.0.0 x4.0) x4.1) line s3.2 in
     let d = done_is (Update s0.0.0.0 s0.0.0.1 s1.0.0 s2.0.0 s3.0.0 s4.0.0) s4.0.1 line s4.2 in
     let t0 = turn_takes bytes s0.0.0.0 s0.0.0.1 s0.0.1 s0.1 in
     let t1 = in_takes 0 (2 ^ 24 - 1) s0.0.1 s1.0.0 s1.0.1 s1.1 in
@@ -137,9 +137,9 @@ update_takes bytes line e =
 enter_takes : (bytes : List ℕ) (line : TraceLine) → enter_at bytes ≡ Some line → IsTail 77 line bytes
 unfolding enter_at
 enter_takes bytes line e =
-    let s0 = bind_some (turn_at bytes) (λ x0. number_in 1 (2 ^ 32 - 1) x0.1 >>= λ x1. number_in 0 (2 ^ 24 - 1) x1.1 >>= λ x2. done (Enter x0.0.0 x0.0.1 x1.0 x2.0) x2.1) line e in
-    let s1 = bind_some (number_in 1 (2 ^ 32 - 1) s0.0.1) (λ x1. number_in 0 (2 ^ 24 - 1) x1.1 >>= λ x2. done (Enter s0.0.0.0 s0.0.0.1 x1.0 x2.0) x2.1) line s0.2 in
-    let s2 = bind_some (number_in 0 (2 ^ 24 - 1) s1.0.1) (λ x2. done (Enter s0.0.0.0 s0.0.0.1 s1.0.0 x2.0) x2.1) line s1.2 in
+    let s0 = bind_some (turn_at bytes) (λ x0. number_field_in 1 (2 ^ 32 - 1) x0.1 >>= λ x1. number_field_in 0 (2 ^ 24 - 1) x1.1 >>= λ x2. done (Enter x0.0.0 x0.0.1 x1.0 x2.0) x2.1) line e in
+    let s1 = bind_some (number_field_in 1 (2 ^ 32 - 1) s0.0.1) (λ x1. number_field_in 0 (2 ^ 24 - 1) x1.1 >>= λ x2. done (Enter s0.0.0.0 s0.0.0.1 x1.0 x2.0) x2.1) line s0.2 in
+    let s2 = bind_some (number_field_in 0 (2 ^ 24 - 1) s1.0.1) (λ x2. done (Enter s0.0.0.0 s0.0.0.1 s1.0.0 x2.0) x2.1) line s1.2 in
     let d = done_is (Enter s0.0.0.0 s0.0.0.1 s1.0.0 s2.0.0) s2.0.1 line s2.2 in
     let t0 = turn_takes bytes s0.0.0.0 s0.0.0.1 s0.0.1 s0.1 in
     let t1 = in_takes 1 (2 ^ 32 - 1) s0.0.1 s1.0.0 s1.0.1 s1.1 in
@@ -150,8 +150,8 @@ enter_takes bytes line e =
 exit_takes : (bytes : List ℕ) (line : TraceLine) → exit_at bytes ≡ Some line → IsTail 69 line bytes
 unfolding exit_at
 exit_takes bytes line e =
-    let s0 = bind_some (turn_at bytes) (λ x0. number_in 1 (2 ^ 32 - 1) x0.1 >>= λ x1. done (Exit x0.0.0 x0.0.1 x1.0) x1.1) line e in
-    let s1 = bind_some (number_in 1 (2 ^ 32 - 1) s0.0.1) (λ x1. done (Exit s0.0.0.0 s0.0.0.1 x1.0) x1.1) line s0.2 in
+    let s0 = bind_some (turn_at bytes) (λ x0. number_field_in 1 (2 ^ 32 - 1) x0.1 >>= λ x1. done (Exit x0.0.0 x0.0.1 x1.0) x1.1) line e in
+    let s1 = bind_some (number_field_in 1 (2 ^ 32 - 1) s0.0.1) (λ x1. done (Exit s0.0.0.0 s0.0.0.1 x1.0) x1.1) line s0.2 in
     let d = done_is (Exit s0.0.0.0 s0.0.0.1 s1.0.0) s1.0.1 line s1.2 in
     let t0 = turn_takes bytes s0.0.0.0 s0.0.0.1 s0.0.1 s0.1 in
     let t1 = in_takes 1 (2 ^ 32 - 1) s0.0.1 s1.0.0 s1.0.1 s1.1 in
@@ -161,9 +161,9 @@ exit_takes bytes line e =
 unwind_takes : (bytes : List ℕ) (line : TraceLine) → unwind_at bytes ≡ Some line → IsTail 88 line bytes
 unfolding unwind_at
 unwind_takes bytes line e =
-    let s0 = bind_some (turn_at bytes) (λ x0. number_in 1 (2 ^ 32 - 1) x0.1 >>= λ x1. number_in 1 (2 ^ 24 - 1) x1.1 >>= λ x2. done (Unwind x0.0.0 x0.0.1 x1.0 x2.0) x2.1) line e in
-    let s1 = bind_some (number_in 1 (2 ^ 32 - 1) s0.0.1) (λ x1. number_in 1 (2 ^ 24 - 1) x1.1 >>= λ x2. done (Unwind s0.0.0.0 s0.0.0.1 x1.0 x2.0) x2.1) line s0.2 in
-    let s2 = bind_some (number_in 1 (2 ^ 24 - 1) s1.0.1) (λ x2. done (Unwind s0.0.0.0 s0.0.0.1 s1.0.0 x2.0) x2.1) line s1.2 in
+    let s0 = bind_some (turn_at bytes) (λ x0. number_field_in 1 (2 ^ 32 - 1) x0.1 >>= λ x1. number_field_in 1 (2 ^ 24 - 1) x1.1 >>= λ x2. done (Unwind x0.0.0 x0.0.1 x1.0 x2.0) x2.1) line e in
+    let s1 = bind_some (number_field_in 1 (2 ^ 32 - 1) s0.0.1) (λ x1. number_field_in 1 (2 ^ 24 - 1) x1.1 >>= λ x2. done (Unwind s0.0.0.0 s0.0.0.1 x1.0 x2.0) x2.1) line s0.2 in
+    let s2 = bind_some (number_field_in 1 (2 ^ 24 - 1) s1.0.1) (λ x2. done (Unwind s0.0.0.0 s0.0.0.1 s1.0.0 x2.0) x2.1) line s1.2 in
     let d = done_is (Unwind s0.0.0.0 s0.0.0.1 s1.0.0 s2.0.0) s2.0.1 line s2.2 in
     let t0 = turn_takes bytes s0.0.0.0 s0.0.0.1 s0.0.1 s0.1 in
     let t1 = in_takes 1 (2 ^ 32 - 1) s0.0.1 s1.0.0 s1.0.1 s1.1 in
@@ -174,19 +174,19 @@ unwind_takes bytes line e =
 flush_takes : (bytes : List ℕ) (line : TraceLine) → flush_at bytes ≡ Some line → IsTail 70 line bytes
 unfolding flush_at
 flush_takes bytes line e =
-    let s0 = bind_some (number_in 0 (2 ^ 40) bytes) (λ x0. number_in 0 (2 ^ 24 - 1) x0.1 >>= λ x1. done (Flush x0.0 x1.0) x1.1) line e in
-    let s1 = bind_some (number_in 0 (2 ^ 24 - 1) s0.0.1) (λ x1. done (Flush s0.0.0 x1.0) x1.1) line s0.2 in
+    let s0 = bind_some (number_field_in 0 (2 ^ 40) bytes) (λ x0. number_field_in 0 (2 ^ 24 - 1) x0.1 >>= λ x1. done (Flush x0.0 x1.0) x1.1) line e in
+    let s1 = bind_some (number_field_in 0 (2 ^ 24 - 1) s0.0.1) (λ x1. done (Flush s0.0.0 x1.0) x1.1) line s0.2 in
     let d = done_is (Flush s0.0.0 s1.0.0) s1.0.1 line s1.2 in
     let t0 = in_takes 0 (2 ^ 40) bytes s0.0.0 s0.0.1 s0.1 in
     let t1 = in_takes 0 (2 ^ 24 - 1) s0.0.1 s1.0.0 s1.0.1 s1.1 in
     let one : IsTail 70 (Flush s0.0.0 s1.0.0) bytes = record { range = omega arith; first_is = refl; spelled = (t0.0 ∙ ap (λ (t : List ℕ). 32 ∷ decimal s0.0.0 ++ t) (t1.0 ∙ ap (λ (t : List ℕ). 32 ∷ decimal s1.0.0 ++ t) d.empty)) } in
     subst (λ (l : TraceLine). IsTail 70 l bytes) d.same one
 
-death_takes : (bytes : List ℕ) (line : TraceLine) → death_at bytes ≡ Some line → IsTail 68 line bytes
-unfolding death_at
+death_takes : (bytes : List ℕ) (line : TraceLine) → death_line_at bytes ≡ Some line → IsTail 68 line bytes
+unfolding death_line_at
 death_takes bytes line e =
-    let s0 = bind_some (number_in 1 (2 ^ 24 - 1) bytes) (λ x0. number_in 0 (2 ^ 40) x0.1 >>= λ x1. done (Death x0.0 x1.0) x1.1) line e in
-    let s1 = bind_some (number_in 0 (2 ^ 40) s0.0.1) (λ x1. done (Death s0.0.0 x1.0) x1.1) line s0.2 in
+    let s0 = bind_some (number_field_in 1 (2 ^ 24 - 1) bytes) (λ x0. number_field_in 0 (2 ^ 40) x0.1 >>= λ x1. done (Death x0.0 x1.0) x1.1) line e in
+    let s1 = bind_some (number_field_in 0 (2 ^ 40) s0.0.1) (λ x1. done (Death s0.0.0 x1.0) x1.1) line s0.2 in
     let d = done_is (Death s0.0.0 s1.0.0) s1.0.1 line s1.2 in
     let t0 = in_takes 1 (2 ^ 24 - 1) bytes s0.0.0 s0.0.1 s0.1 in
     let t1 = in_takes 0 (2 ^ 40) s0.0.1 s1.0.0 s1.0.1 s1.1 in
@@ -196,8 +196,8 @@ death_takes bytes line e =
 finish_takes : (bytes : List ℕ) (line : TraceLine) → finish_at bytes ≡ Some line → IsTail 90 line bytes
 unfolding finish_at
 finish_takes bytes line e =
-    let s0 = bind_some (number_in 0 (2 ^ 40) bytes) (λ x0. number_in 0 (3) x0.1 >>= λ x1. done (Finish x0.0 x1.0) x1.1) line e in
-    let s1 = bind_some (number_in 0 (3) s0.0.1) (λ x1. done (Finish s0.0.0 x1.0) x1.1) line s0.2 in
+    let s0 = bind_some (number_field_in 0 (2 ^ 40) bytes) (λ x0. number_field_in 0 (3) x0.1 >>= λ x1. done (Finish x0.0 x1.0) x1.1) line e in
+    let s1 = bind_some (number_field_in 0 (3) s0.0.1) (λ x1. done (Finish s0.0.0 x1.0) x1.1) line s0.2 in
     let d = done_is (Finish s0.0.0 s1.0.0) s1.0.1 line s1.2 in
     let t0 = in_takes 0 (2 ^ 40) bytes s0.0.0 s0.0.1 s0.1 in
     let t1 = in_takes 0 (3) s0.0.1 s1.0.0 s1.0.1 s1.1 in
@@ -206,7 +206,7 @@ finish_takes bytes line e =
 
 -- each line in range is read again
 pub line_again : (line : TraceLine) → IsInRange 1 line → line_at (line_body line) ≡ Some line
-unfolding line_at header_at class_at method_at alloc_at update_at enter_at exit_at unwind_at flush_at death_at finish_at
+unfolding line_at header_line_at class_line_at method_line_at alloc_at update_at enter_at exit_at unwind_at flush_at death_line_at finish_at
 line_again (Header v n) r =
     rw (in_again 1 (1) v (32 ∷ decimal n ++ []) (omega arith) (omega arith) (omega arith) refl, in_again 0 (2 ^ 40) n [] (omega arith) (omega arith) (omega arith) refl) refl
 line_again (Class number name) r =
@@ -234,42 +234,42 @@ line_again (Finish event how) r =
 body : (b letter : ℕ) (rest tail : List ℕ) → b ≡ letter → rest ≡ tail → b ∷ rest ≡ letter ∷ tail
 body b letter rest tail e f = ap (λ (x : ℕ). x ∷ rest) e ∙ ap (λ (t : List ℕ). letter ∷ t) f
 
-spelled_by : (b first : ℕ) (rest : List ℕ) (line : TraceLine) → eqb b first ≡ true → IsTail first line rest → IsSpelled line (b ∷ rest)
+spelled_by : (b first : ℕ) (rest : List ℕ) (line : TraceLine) → eqb b first ≡ true → IsTail first line rest → IsLineSpelled line (b ∷ rest)
 spelled_by b first rest line e h = record { range = h.range; spelled = body b (letter line) rest (flat_map field_text (fields line)) (eqb-yes b first e ∙ h.first_is) h.spelled }
 
 -- what is read is spelled so
-pub line_takes : (bytes : List ℕ) (line : TraceLine) → line_at bytes ≡ Some line → IsSpelled line bytes
+pub line_takes : (bytes : List ℕ) (line : TraceLine) → line_at bytes ≡ Some line → IsLineSpelled line bytes
 unfolding line_at
 line_takes [] line e = absurd cc
 line_takes (b ∷ rest) line e =
-    elim (chosen (eqb b 72) (header_at rest) (cond (eqb b 67) (class_at rest) (cond (eqb b 78) (method_at rest) (cond (eqb b 65) (alloc_at rest) (cond (eqb b 85) (update_at rest) (cond (eqb b 77) (enter_at rest) (cond (eqb b 69) (exit_at rest) (cond (eqb b 88) (unwind_at rest) (cond (eqb b 70) (flush_at rest) (cond (eqb b 68) (death_at rest) (cond (eqb b 90) (finish_at rest) None)))))))))) (Some line) e) [
+    elim (chosen (eqb b 72) (header_line_at rest) (cond (eqb b 67) (class_line_at rest) (cond (eqb b 78) (method_line_at rest) (cond (eqb b 65) (alloc_at rest) (cond (eqb b 85) (update_at rest) (cond (eqb b 77) (enter_at rest) (cond (eqb b 69) (exit_at rest) (cond (eqb b 88) (unwind_at rest) (cond (eqb b 70) (flush_at rest) (cond (eqb b 68) (death_line_at rest) (cond (eqb b 90) (finish_at rest) None)))))))))) (Some line) e) [
       | inl z ↦ spelled_by b 72 rest line z.0 (header_takes rest line z.1)
       | inr z ↦
-          elim (chosen (eqb b 67) (class_at rest) (cond (eqb b 78) (method_at rest) (cond (eqb b 65) (alloc_at rest) (cond (eqb b 85) (update_at rest) (cond (eqb b 77) (enter_at rest) (cond (eqb b 69) (exit_at rest) (cond (eqb b 88) (unwind_at rest) (cond (eqb b 70) (flush_at rest) (cond (eqb b 68) (death_at rest) (cond (eqb b 90) (finish_at rest) None))))))))) (Some line) z.1) [
+          elim (chosen (eqb b 67) (class_line_at rest) (cond (eqb b 78) (method_line_at rest) (cond (eqb b 65) (alloc_at rest) (cond (eqb b 85) (update_at rest) (cond (eqb b 77) (enter_at rest) (cond (eqb b 69) (exit_at rest) (cond (eqb b 88) (unwind_at rest) (cond (eqb b 70) (flush_at rest) (cond (eqb b 68) (death_line_at rest) (cond (eqb b 90) (finish_at rest) None))))))))) (Some line) z.1) [
             | inl z ↦ spelled_by b 67 rest line z.0 (class_takes rest line z.1)
             | inr z ↦
-                elim (chosen (eqb b 78) (method_at rest) (cond (eqb b 65) (alloc_at rest) (cond (eqb b 85) (update_at rest) (cond (eqb b 77) (enter_at rest) (cond (eqb b 69) (exit_at rest) (cond (eqb b 88) (unwind_at rest) (cond (eqb b 70) (flush_at rest) (cond (eqb b 68) (death_at rest) (cond (eqb b 90) (finish_at rest) None)))))))) (Some line) z.1) [
+                elim (chosen (eqb b 78) (method_line_at rest) (cond (eqb b 65) (alloc_at rest) (cond (eqb b 85) (update_at rest) (cond (eqb b 77) (enter_at rest) (cond (eqb b 69) (exit_at rest) (cond (eqb b 88) (unwind_at rest) (cond (eqb b 70) (flush_at rest) (cond (eqb b 68) (death_line_at rest) (cond (eqb b 90) (finish_at rest) None)))))))) (Some line) z.1) [
                   | inl z ↦ spelled_by b 78 rest line z.0 (method_takes rest line z.1)
                   | inr z ↦
-                      elim (chosen (eqb b 65) (alloc_at rest) (cond (eqb b 85) (update_at rest) (cond (eqb b 77) (enter_at rest) (cond (eqb b 69) (exit_at rest) (cond (eqb b 88) (unwind_at rest) (cond (eqb b 70) (flush_at rest) (cond (eqb b 68) (death_at rest) (cond (eqb b 90) (finish_at rest) None))))))) (Some line) z.1) [
+                      elim (chosen (eqb b 65) (alloc_at rest) (cond (eqb b 85) (update_at rest) (cond (eqb b 77) (enter_at rest) (cond (eqb b 69) (exit_at rest) (cond (eqb b 88) (unwind_at rest) (cond (eqb b 70) (flush_at rest) (cond (eqb b 68) (death_line_at rest) (cond (eqb b 90) (finish_at rest) None))))))) (Some line) z.1) [
                         | inl z ↦ spelled_by b 65 rest line z.0 (alloc_takes rest line z.1)
                         | inr z ↦
-                            elim (chosen (eqb b 85) (update_at rest) (cond (eqb b 77) (enter_at rest) (cond (eqb b 69) (exit_at rest) (cond (eqb b 88) (unwind_at rest) (cond (eqb b 70) (flush_at rest) (cond (eqb b 68) (death_at rest) (cond (eqb b 90) (finish_at rest) None)))))) (Some line) z.1) [
+                            elim (chosen (eqb b 85) (update_at rest) (cond (eqb b 77) (enter_at rest) (cond (eqb b 69) (exit_at rest) (cond (eqb b 88) (unwind_at rest) (cond (eqb b 70) (flush_at rest) (cond (eqb b 68) (death_line_at rest) (cond (eqb b 90) (finish_at rest) None)))))) (Some line) z.1) [
                               | inl z ↦ spelled_by b 85 rest line z.0 (update_takes rest line z.1)
                               | inr z ↦
-                                  elim (chosen (eqb b 77) (enter_at rest) (cond (eqb b 69) (exit_at rest) (cond (eqb b 88) (unwind_at rest) (cond (eqb b 70) (flush_at rest) (cond (eqb b 68) (death_at rest) (cond (eqb b 90) (finish_at rest) None))))) (Some line) z.1) [
+                                  elim (chosen (eqb b 77) (enter_at rest) (cond (eqb b 69) (exit_at rest) (cond (eqb b 88) (unwind_at rest) (cond (eqb b 70) (flush_at rest) (cond (eqb b 68) (death_line_at rest) (cond (eqb b 90) (finish_at rest) None))))) (Some line) z.1) [
                                     | inl z ↦ spelled_by b 77 rest line z.0 (enter_takes rest line z.1)
                                     | inr z ↦
-                                        elim (chosen (eqb b 69) (exit_at rest) (cond (eqb b 88) (unwind_at rest) (cond (eqb b 70) (flush_at rest) (cond (eqb b 68) (death_at rest) (cond (eqb b 90) (finish_at rest) None)))) (Some line) z.1) [
+                                        elim (chosen (eqb b 69) (exit_at rest) (cond (eqb b 88) (unwind_at rest) (cond (eqb b 70) (flush_at rest) (cond (eqb b 68) (death_line_at rest) (cond (eqb b 90) (finish_at rest) None)))) (Some line) z.1) [
                                           | inl z ↦ spelled_by b 69 rest line z.0 (exit_takes rest line z.1)
                                           | inr z ↦
-                                              elim (chosen (eqb b 88) (unwind_at rest) (cond (eqb b 70) (flush_at rest) (cond (eqb b 68) (death_at rest) (cond (eqb b 90) (finish_at rest) None))) (Some line) z.1) [
+                                              elim (chosen (eqb b 88) (unwind_at rest) (cond (eqb b 70) (flush_at rest) (cond (eqb b 68) (death_line_at rest) (cond (eqb b 90) (finish_at rest) None))) (Some line) z.1) [
                                                 | inl z ↦ spelled_by b 88 rest line z.0 (unwind_takes rest line z.1)
                                                 | inr z ↦
-                                                    elim (chosen (eqb b 70) (flush_at rest) (cond (eqb b 68) (death_at rest) (cond (eqb b 90) (finish_at rest) None)) (Some line) z.1) [
+                                                    elim (chosen (eqb b 70) (flush_at rest) (cond (eqb b 68) (death_line_at rest) (cond (eqb b 90) (finish_at rest) None)) (Some line) z.1) [
                                                       | inl z ↦ spelled_by b 70 rest line z.0 (flush_takes rest line z.1)
                                                       | inr z ↦
-                                                          elim (chosen (eqb b 68) (death_at rest) (cond (eqb b 90) (finish_at rest) None) (Some line) z.1) [
+                                                          elim (chosen (eqb b 68) (death_line_at rest) (cond (eqb b 90) (finish_at rest) None) (Some line) z.1) [
                                                             | inl z ↦ spelled_by b 68 rest line z.0 (death_takes rest line z.1)
                                                             | inr z ↦
                                                                 elim (chosen (eqb b 90) (finish_at rest) None (Some line) z.1) [
@@ -288,18 +288,18 @@ line_takes (b ∷ rest) line e =
     ]
 
 -- one spelling is the spelling of one line
-pub one_line : (a b : TraceLine) (bytes : List ℕ) → IsSpelled a bytes → IsSpelled b bytes → a ≡ b
+pub one_line : (a b : TraceLine) (bytes : List ℕ) → IsLineSpelled a bytes → IsLineSpelled b bytes → a ≡ b
 one_line a b bytes p q =
     let x : line_at bytes ≡ Some a = rw p.spelled (line_again a p.range) in
     let y : line_at bytes ≡ Some b = rw q.spelled (line_again b q.range) in
     some_is a b (sym x ∙ y)
 
 -- where nothing is read, the bytes are no line
-pub no_line : (bytes : List ℕ) (line : TraceLine) → line_at bytes ≡ None → IsSpelled line bytes → ⊥
+pub no_line : (bytes : List ℕ) (line : TraceLine) → line_at bytes ≡ None → IsLineSpelled line bytes → ⊥
 no_line bytes line e p =
     let x : line_at bytes ≡ Some line = rw p.spelled (line_again line p.range) in
     absurd (let f : None ≡ Some line = sym e ∙ x in cc)
 
 -- what is spelled so is read
-pub line_again_at : (bytes : List ℕ) (line : TraceLine) → IsSpelled line bytes → line_at bytes ≡ Some line
+pub line_again_at : (bytes : List ℕ) (line : TraceLine) → IsLineSpelled line bytes → line_at bytes ≡ Some line
 line_again_at bytes line p = rw p.spelled (line_again line p.range)

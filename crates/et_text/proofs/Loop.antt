@@ -3,7 +3,7 @@ use Rattle.std.proofs.Common.{◌≡◌, ℕ, suc, ◌-◌, ◌+◌, ◌≤◌, 
 use Rattle.std.proofs.lemmas.List.{append-nil}
 use Rattle.et_text.specs.declared.fault.LineError.{LineError}
 use Rattle.et_text.specs.declared.fault.LineError.TheVariants as errors
-use Rattle.et_text.specs.Reading.{◌>>=◌, Fails, is_break, byte_at, bytes_at}
+use Rattle.et_text.specs.Reading.{◌>>=◌, FailsToRead, is_break, byte_at, name_bytes_at}
 
 -- what was read before, and what is still read
 abbrev pub with_front : List ℕ → Option (List ℕ × List ℕ) → Option (List ℕ × List ℕ)
@@ -14,32 +14,32 @@ regroup front n (Some x) = ap (λ (ns : List ℕ). Some (ns, x.1)) (simp append_
 regroup front n None = refl
 
 pub goes_on : (front : List ℕ) (count i : ℕ) (bytes : List ℕ) (n : ℕ) (after : List ℕ) (total : Option (List ℕ × List ℕ)) → i < count → is_break bytes ≡ false → byte_at bytes ≡ Some (n, after)
-    → with_front front (bytes_at (count - i) bytes) ≡ total → with_front (front ++ n ∷ []) (bytes_at (count - (i + 1)) after) ≡ total
-unfolding bytes_at
+    → with_front front (name_bytes_at (count - i) bytes) ≡ total → with_front (front ++ n ∷ []) (name_bytes_at (count - (i + 1)) after) ≡ total
+unfolding name_bytes_at
 goes_on front count i bytes n after total lt apart h so_far =
     let k : count - i ≡ suc (count - (i + 1)) = omega arith in
-    let one : with_front front (bytes_at (count - i) bytes) ≡ with_front (front ++ n ∷ []) (bytes_at (count - (i + 1)) after) = rw (k, apart, h) (regroup front n (bytes_at (count - (i + 1)) after)) in
+    let one : with_front front (name_bytes_at (count - i) bytes) ≡ with_front (front ++ n ∷ []) (name_bytes_at (count - (i + 1)) after) = rw (k, apart, h) (regroup front n (name_bytes_at (count - (i + 1)) after)) in
     sym one ∙ so_far
 
-pub ends : (e : LineError) (front : List ℕ) (count i : ℕ) (bytes : List ℕ) (total : Option (List ℕ × List ℕ)) → i < count → is_break bytes ≡ false → Fails e (byte_at bytes)
-    → with_front front (bytes_at (count - i) bytes) ≡ total → Fails e total
-unfolding bytes_at
+pub ends : (e : LineError) (front : List ℕ) (count i : ℕ) (bytes : List ℕ) (total : Option (List ℕ × List ℕ)) → i < count → is_break bytes ≡ false → FailsToRead e (byte_at bytes)
+    → with_front front (name_bytes_at (count - i) bytes) ≡ total → FailsToRead e total
+unfolding name_bytes_at
 ends errors.Memory front count i bytes total lt apart h so_far = tt
 ends errors.Form front count i bytes total lt apart h so_far =
     let k : count - i ≡ suc (count - (i + 1)) = omega arith in
-    let one : with_front front (bytes_at (count - i) bytes) ≡ None = rw (k, apart, h) refl in
+    let one : with_front front (name_bytes_at (count - i) bytes) ≡ None = rw (k, apart, h) refl in
     sym so_far ∙ one
 
-pub stops : (front : List ℕ) (count i : ℕ) (bytes : List ℕ) (total : Option (List ℕ × List ℕ)) → i < count → is_break bytes ≡ true → with_front front (bytes_at (count - i) bytes) ≡ total → total ≡ Some (front, bytes)
-unfolding bytes_at
+pub stops : (front : List ℕ) (count i : ℕ) (bytes : List ℕ) (total : Option (List ℕ × List ℕ)) → i < count → is_break bytes ≡ true → with_front front (name_bytes_at (count - i) bytes) ≡ total → total ≡ Some (front, bytes)
+unfolding name_bytes_at
 stops front count i bytes total lt here so_far =
     let k : count - i ≡ suc (count - (i + 1)) = omega arith in
-    let one : with_front front (bytes_at (count - i) bytes) ≡ Some (front, bytes) = rw (k, here) (ap (λ (ns : List ℕ). Some (ns, bytes)) (append-nil front)) in
+    let one : with_front front (name_bytes_at (count - i) bytes) ≡ Some (front, bytes) = rw (k, here) (ap (λ (ns : List ℕ). Some (ns, bytes)) (append-nil front)) in
     sym so_far ∙ one
 
-pub is_done : (front : List ℕ) (count i : ℕ) (bytes : List ℕ) (total : Option (List ℕ × List ℕ)) → count ≤ i → with_front front (bytes_at (count - i) bytes) ≡ total → total ≡ Some (front, bytes)
-unfolding bytes_at
+pub is_done : (front : List ℕ) (count i : ℕ) (bytes : List ℕ) (total : Option (List ℕ × List ℕ)) → count ≤ i → with_front front (name_bytes_at (count - i) bytes) ≡ total → total ≡ Some (front, bytes)
+unfolding name_bytes_at
 is_done front count i bytes total le so_far =
     let k : count - i ≡ 0 = omega arith in
-    let one : with_front front (bytes_at (count - i) bytes) ≡ Some (front, bytes) = rw k (ap (λ (ns : List ℕ). Some (ns, bytes)) (append-nil front)) in
+    let one : with_front front (name_bytes_at (count - i) bytes) ≡ Some (front, bytes) = rw k (ap (λ (ns : List ℕ). Some (ns, bytes)) (append-nil front)) in
     sym so_far ∙ one

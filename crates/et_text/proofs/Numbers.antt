@@ -6,7 +6,8 @@ use Rattle.std.proofs.lemmas.Bool.{leb-true, le-leb}
 use Rattle.std.proofs.lemmas.Bool.Decides.{nat_tests}
 use Rattle.std.proofs.lemmas.Fmt.{decimal_digit, decimal_step, decimal-digits_of}
 use Rattle.std.proofs.lemmas.Int.Digits.{number_after_ge, all_below_base_digits_of, first_digits_of, number_digits_of}
-use Rattle.et_text.specs.Reading.{◌>>=◌, is_digit, number_after, digits_at, number_at, number_in, is_break}
+use Rattle.et_text.specs.Reading.{◌>>=◌, number_after, digits_at, number_field_at, number_field_in, is_break}
+use Rattle.et_base.specs.Digits.{is_digit}
 
 pub bind_some : {A B : Type 0} (r : Option A) (f : A → Option B) (y : B) → (r >>= f) ≡ Some y → (x : A) × (r ≡ Some x) × (f x ≡ Some y)
 bind_some (Some x) f y e = (x, refl, e)
@@ -137,8 +138,8 @@ digits_again n rest small e =
           rw d (digits_from (digits_of 10 n) n rest (all_below_base_digits_of 10 n (omega arith)) (first_digits_of 10 n (omega arith) g) (number_digits_of 10 n (omega arith)) small e)
     ]
 
-pub number_takes : (bytes : List ℕ) (n : ℕ) (rest : List ℕ) → number_at bytes ≡ Some (n, rest) → bytes ≡ 32 ∷ decimal n ++ rest
-unfolding number_at
+pub number_takes : (bytes : List ℕ) (n : ℕ) (rest : List ℕ) → number_field_at bytes ≡ Some (n, rest) → bytes ≡ 32 ∷ decimal n ++ rest
+unfolding number_field_at
 number_takes [] n rest e = absurd cc
 number_takes (b ∷ bs) n rest e =
     elim (chosen (eqb b 32) (digits_at bs) None (Some (n, rest)) e) [
@@ -146,24 +147,24 @@ number_takes (b ∷ bs) n rest e =
       | inr z ↦ absurd (let f = z.1 in cc)
     ]
 
-pub number_again : (n : ℕ) (rest : List ℕ) → n ≤ 2 ^ 40 → is_break rest ≡ true → number_at (32 ∷ decimal n ++ rest) ≡ Some (n, rest)
-unfolding number_at
+pub number_again : (n : ℕ) (rest : List ℕ) → n ≤ 2 ^ 40 → is_break rest ≡ true → number_field_at (32 ∷ decimal n ++ rest) ≡ Some (n, rest)
+unfolding number_field_at
 number_again n rest small e = digits_again n rest small e
 
 pub record IsWithin (low high n : ℕ) : Type 0 where
   pub low_is : low ≤ n
   pub high_is : n ≤ high
 
-pub in_takes : (low high : ℕ) (bytes : List ℕ) (n : ℕ) (rest : List ℕ) → number_in low high bytes ≡ Some (n, rest) → (bytes ≡ 32 ∷ decimal n ++ rest) × IsWithin low high n
-unfolding number_in
+pub in_takes : (low high : ℕ) (bytes : List ℕ) (n : ℕ) (rest : List ℕ) → number_field_in low high bytes ≡ Some (n, rest) → (bytes ≡ 32 ∷ decimal n ++ rest) × IsWithin low high n
+unfolding number_field_in
 in_takes low high bytes n rest e =
-    let b = bind_some (number_at bytes) (λ x. cond (leb low x.0 && leb x.0 high) (Some x) None) (n, rest) e in
+    let b = bind_some (number_field_at bytes) (λ x. cond (leb low x.0 && leb x.0 high) (Some x) None) (n, rest) e in
     let x = b.0 in
     let g = guard_some (leb low x.0 && leb x.0 high) x (n, rest) b.2 in
     let p = both_true (leb low x.0) (leb x.0 high) g.0 in
     let t : (bytes ≡ 32 ∷ decimal x.0 ++ x.1) × IsWithin low high x.0 = (number_takes bytes x.0 x.1 b.1, record { low_is = leb-true low x.0 p.0; high_is = leb-true x.0 high p.1 }) in
     subst (λ (p : ℕ × List ℕ). (bytes ≡ 32 ∷ decimal p.0 ++ p.1) × IsWithin low high p.0) g.1 t
 
-pub in_again : (low high n : ℕ) (rest : List ℕ) → low ≤ n → n ≤ high → high ≤ 2 ^ 40 → is_break rest ≡ true → number_in low high (32 ∷ decimal n ++ rest) ≡ Some (n, rest)
-unfolding number_in
+pub in_again : (low high n : ℕ) (rest : List ℕ) → low ≤ n → n ≤ high → high ≤ 2 ^ 40 → is_break rest ≡ true → number_field_in low high (32 ∷ decimal n ++ rest) ≡ Some (n, rest)
+unfolding number_field_in
 in_again low high n rest lo hi most e = rw (number_again n rest (omega arith) e, le-leb low n lo, le-leb n high hi) refl

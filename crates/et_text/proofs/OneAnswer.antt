@@ -6,8 +6,8 @@ use Rattle.et_base.specs.declared.line.TraceLine.{TraceLine}
 use Rattle.et_text.specs.Ranges.{IsInRange}
 use Rattle.et_text.specs.Spelling.{line_body, text}
 use Rattle.et_text.specs.Rules.{has_ended, next_fault, AreFine}
-use Rattle.et_text.specs.Text.{IsSpelled, IsOneLine, Breaks, IsReadTo, ShowsFault, EndsWrong, EndsWithFault, IsTextOf, IsTraceFault}
-use Rattle.et_text.specs.Text.Breaks.{BreaksForm, BreaksRule, BreaksAfter}
+use Rattle.et_text.specs.Text.{IsLineSpelled, IsOneLine, BreaksText, IsReadTo, ShowsFault, EndsWrong, EndsWithFault, IsTextOf, IsTraceFault}
+use Rattle.et_text.specs.Text.BreaksText.{BreaksForm, BreaksRule, BreaksAfter}
 use Rattle.et_text.specs.Text.EndsWrong.{EndsEarly, EndsLate}
 use Rattle.et_text.proofs.LineKinds.{one_line, from_all}
 use Rattle.et_text.proofs.Splitting.{NoLf, InRange, first_lf, no_lf-line}
@@ -25,14 +25,14 @@ lf_in : (x y : List ℕ) → NoLf (x ++ 10 ∷ y) → ⊥
 lf_in [] y h = h.0 refl
 lf_in (b ∷ x) y h = lf_in x y h.1
 
-clash : (past : List TraceLine) (line : List ℕ) (kind : ℕ) (a : TraceLine) → Breaks past line kind → IsSpelled a line → next_fault past a ≡ None → ⊥
+clash : (past : List TraceLine) (line : List ℕ) (kind : ℕ) (a : TraceLine) → BreaksText past line kind → IsLineSpelled a line → next_fault past a ≡ None → ⊥
 clash past line kind a (BreaksForm h f) s e = f a s
 clash past line kind a (BreaksRule k l t g) s e =
     let x : next_fault past a ≡ Some k = subst (λ (z : TraceLine). next_fault past z ≡ Some k) (one_line l a line t s) g in absurd (cc)
 clash past line kind a (BreaksAfter h) s e =
     let x : next_fault past a ≡ Some 6 = rw h refl in absurd (cc)
 
-pub stuck_shown : (past : List TraceLine) (line behind : List ℕ) (kind : ℕ) → IsOneLine line → Breaks past line kind → IsStuck (reverse past) (line ++ 10 ∷ behind)
+pub stuck_shown : (past : List TraceLine) (line behind : List ℕ) (kind : ℕ) → IsOneLine line → BreaksText past line kind → IsStuck (reverse past) (line ++ 10 ∷ behind)
 stuck_shown past line behind kind o b = record {
   no_more = λ a more ra na e.
       let cut = first_lf line (line_body a) behind more (from_all (λ x. x ≢ 10) line o) (no_lf-line a ra) e in
@@ -50,7 +50,7 @@ back p q e = sym (reverse-reverse p) ∙ (ap reverse e ∙ reverse-reverse q)
 fine_back : (p : List TraceLine) → AreFine 1 p → AreFine 1 (reverse (reverse p))
 fine_back p h = subst (AreFine 1) (sym (reverse-reverse p)) h
 
-same_kind : (past : List TraceLine) (line : List ℕ) (k m : ℕ) → Breaks past line k → Breaks past line m → k ≡ m
+same_kind : (past : List TraceLine) (line : List ℕ) (k m : ℕ) → BreaksText past line k → BreaksText past line m → k ≡ m
 same_kind past line k m (BreaksForm h f) (BreaksForm i g) = refl
 same_kind past line k m (BreaksForm h f) (BreaksRule j l t g) = absurd (f l t)
 same_kind past line k m (BreaksForm h f) (BreaksAfter i) = absurd (cc)
@@ -69,7 +69,7 @@ shown_once bytes k n m o a b =
     (stuck_shown a.past a.line a.behind k a.one_line a.breaks) (stuck_shown b.past b.line b.behind m b.one_line b.breaks) (sym a.read.parts ∙ b.read.parts) in
     let past_is : a.past ≡ b.past = back a.past b.past s.lines in
     let cut = first_lf a.line b.line a.behind b.behind (from_all (λ x. x ≢ 10) a.line a.one_line) (from_all (λ x. x ≢ 10) b.line b.one_line) s.rests in (
-      same_kind b.past b.line k m (subst (λ (t : List ℕ). Breaks b.past t k) cut.front (subst (λ (t : List TraceLine). Breaks t a.line k) past_is a.breaks)) b.breaks,
+      same_kind b.past b.line k m (subst (λ (t : List ℕ). BreaksText b.past t k) cut.front (subst (λ (t : List TraceLine). BreaksText t a.line k) past_is a.breaks)) b.breaks,
       a.at ∙ (ap (λ (t : List TraceLine). length t + 1) past_is ∙ sym b.at),
     )
 

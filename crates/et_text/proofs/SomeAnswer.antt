@@ -7,8 +7,8 @@ use Rattle.std.proofs.lemmas.Grind.{flat_map-append}
 use Rattle.et_base.specs.declared.line.TraceLine.{TraceLine}
 use Rattle.et_text.specs.Spelling.{line_body, spelling, text}
 use Rattle.et_text.specs.Rules.{has_ended, next_fault, AreFine}
-use Rattle.et_text.specs.Text.{IsSpelled, IsReadTo, HasAnswer}
-use Rattle.et_text.specs.Text.Breaks.{BreaksForm, BreaksRule, BreaksAfter}
+use Rattle.et_text.specs.Text.{IsLineSpelled, IsReadTo, HasAnswer}
+use Rattle.et_text.specs.Text.BreaksText.{BreaksForm, BreaksRule, BreaksAfter}
 use Rattle.et_text.specs.Text.EndsWrong.{EndsEarly, EndsLate}
 use Rattle.et_text.specs.Text.HasAnswer.{IsTrace, IsRefused}
 use Rattle.et_text.specs.Reading.{line_at}
@@ -32,7 +32,7 @@ cut (b ∷ bytes) = cut_on b bytes (eqb b 10) refl (cut bytes)
 pub text_push : (lines : List TraceLine) (line : TraceLine) → text (lines ++ line ∷ []) ≡ text lines ++ (line_body line ++ 10 ∷ [])
 text_push lines line = flat_map-append spelling lines (line ∷ []) ∙ ap (λ (t : List ℕ). text lines ++ t) (append-nil (spelling line))
 
-reads_on : (bytes : List ℕ) (past : List TraceLine) (line behind : List ℕ) (l : TraceLine) → IsSpelled l line → next_fault past l ≡ None → IsReadTo past (line ++ 10 ∷ behind) bytes → IsReadTo (l ∷ past) behind bytes
+reads_on : (bytes : List ℕ) (past : List TraceLine) (line behind : List ℕ) (l : TraceLine) → IsLineSpelled l line → next_fault past l ≡ None → IsReadTo past (line ++ 10 ∷ behind) bytes → IsReadTo (l ∷ past) behind bytes
 reads_on bytes past line behind l s e r =
     let turned : reverse (l ∷ past) ≡ reverse past ++ l ∷ [] = reverse-append (l ∷ []) past in
     let so_far : text (reverse (l ∷ past)) ≡ text (reverse past) ++ (line ++ 10 ∷ []) = ap text turned ∙ (text_push (reverse past) l ∙ ap (λ (t : List ℕ). text (reverse past) ++ (t ++ 10 ∷ [])) (sym s.spelled)) in
@@ -41,7 +41,7 @@ reads_on bytes past line behind l s e r =
       parts = r.parts ∙ sym (ap (λ (t : List ℕ). t ++ behind) so_far ∙ (append_assoc (text (reverse past)) (line ++ 10 ∷ []) behind ∙ ap (λ (t : List ℕ). text (reverse past) ++ t) (append_assoc line (10 ∷ []) behind)));
     }
 
-by_rule : (bytes : List ℕ) (past : List TraceLine) (line behind : List ℕ) (l : TraceLine) (f : Option ℕ) → next_fault past l ≡ f → IsSpelled l line → NoLf line → IsReadTo past (line ++ 10 ∷ behind) bytes
+by_rule : (bytes : List ℕ) (past : List TraceLine) (line behind : List ℕ) (l : TraceLine) (f : Option ℕ) → next_fault past l ≡ f → IsLineSpelled l line → NoLf line → IsReadTo past (line ++ 10 ∷ behind) bytes
     → ((a : TraceLine) → IsReadTo (a ∷ past) behind bytes → HasAnswer bytes) → HasAnswer bytes
 by_rule bytes past line behind l (Some k) e s o r next =
     IsRefused k (length past + 1) (inl (record { past = past; line = line; behind = behind; read = r; one_line = to_all (λ b. b ≢ 10) line o; breaks = BreaksRule k l s e; at = refl }))

@@ -8,9 +8,9 @@ use Rattle.et_text.specs.Rules.{is_reported, has_class, has_method}
 use Rattle.std.specs.Prelude.{bytes_eq}
 use Rattle.et_text.specs.NameSets.{has_name, has_key, same_method}
 use Rattle.et_text.specs.declared.standing.Standing.{Standing}
-use Rattle.et_text.specs.StandsFor.{StandsFor, NotesObject, NotesDeath, NotesClass, NotesMethod}
+use Rattle.et_text.specs.StandsFor.{StandsForLines, NotesObject, NotesDeath, NotesClass, NotesMethod}
 
-pub stands_header : (s : Standing) (past : List TraceLine) (v n : ℕ) → s.ended ≡ false → StandsFor s past → StandsFor (record s { begun = true; interval = n; stands = false; awaited = 0; last_dead = 0 }) (Header v n ∷ past)
+pub stands_header : (s : Standing) (past : List TraceLine) (v n : ℕ) → s.ended ≡ false → StandsForLines s past → StandsForLines (record s { begun = true; interval = n; stands = false; awaited = 0; last_dead = 0 }) (Header v n ∷ past)
 stands_header s past v n unended h = record {
   begun_is = refl;
   ended_is = unended;
@@ -30,7 +30,7 @@ stands_header s past v n unended h = record {
   reported_is = h.reported_is;
 }
 
-pub stands_update : (s : Standing) (past : List TraceLine) (event thread object slot old new : ℕ) → s.ended ≡ false → StandsFor s past → StandsFor (record s { begun = true; latest = event; stands = false; awaited = 0; last_dead = 0 }) (Update event thread object slot old new ∷ past)
+pub stands_update : (s : Standing) (past : List TraceLine) (event thread object slot old new : ℕ) → s.ended ≡ false → StandsForLines s past → StandsForLines (record s { begun = true; latest = event; stands = false; awaited = 0; last_dead = 0 }) (Update event thread object slot old new ∷ past)
 stands_update s past event thread object slot old new unended h = record {
   begun_is = refl;
   ended_is = unended;
@@ -50,7 +50,7 @@ stands_update s past event thread object slot old new unended h = record {
   reported_is = h.reported_is;
 }
 
-pub stands_enter : (s : Standing) (past : List TraceLine) (event thread method receiver : ℕ) → s.ended ≡ false → StandsFor s past → StandsFor (record s { begun = true; latest = event; stands = false; awaited = 0; last_dead = 0 }) (Enter event thread method receiver ∷ past)
+pub stands_enter : (s : Standing) (past : List TraceLine) (event thread method receiver : ℕ) → s.ended ≡ false → StandsForLines s past → StandsForLines (record s { begun = true; latest = event; stands = false; awaited = 0; last_dead = 0 }) (Enter event thread method receiver ∷ past)
 stands_enter s past event thread method receiver unended h = record {
   begun_is = refl;
   ended_is = unended;
@@ -70,7 +70,7 @@ stands_enter s past event thread method receiver unended h = record {
   reported_is = h.reported_is;
 }
 
-pub stands_exit : (s : Standing) (past : List TraceLine) (event thread method : ℕ) → s.ended ≡ false → StandsFor s past → StandsFor (record s { begun = true; latest = event; stands = false; awaited = 0; last_dead = 0 }) (Exit event thread method ∷ past)
+pub stands_exit : (s : Standing) (past : List TraceLine) (event thread method : ℕ) → s.ended ≡ false → StandsForLines s past → StandsForLines (record s { begun = true; latest = event; stands = false; awaited = 0; last_dead = 0 }) (Exit event thread method ∷ past)
 stands_exit s past event thread method unended h = record {
   begun_is = refl;
   ended_is = unended;
@@ -90,7 +90,7 @@ stands_exit s past event thread method unended h = record {
   reported_is = h.reported_is;
 }
 
-pub stands_unwind : (s : Standing) (past : List TraceLine) (event thread method exception : ℕ) → s.ended ≡ false → StandsFor s past → StandsFor (record s { begun = true; latest = event; stands = false; awaited = 0; last_dead = 0 }) (Unwind event thread method exception ∷ past)
+pub stands_unwind : (s : Standing) (past : List TraceLine) (event thread method exception : ℕ) → s.ended ≡ false → StandsForLines s past → StandsForLines (record s { begun = true; latest = event; stands = false; awaited = 0; last_dead = 0 }) (Unwind event thread method exception ∷ past)
 stands_unwind s past event thread method exception unended h = record {
   begun_is = refl;
   ended_is = unended;
@@ -110,7 +110,7 @@ stands_unwind s past event thread method exception unended h = record {
   reported_is = h.reported_is;
 }
 
-pub stands_flush : (s : Standing) (past : List TraceLine) (event deaths : ℕ) → s.ended ≡ false → StandsFor s past → StandsFor (record s { begun = true; latest = event; flushed = Some event; stands = true; awaited = deaths; last_dead = 0 }) (Flush event deaths ∷ past)
+pub stands_flush : (s : Standing) (past : List TraceLine) (event deaths : ℕ) → s.ended ≡ false → StandsForLines s past → StandsForLines (record s { begun = true; latest = event; flushed = Some event; stands = true; awaited = deaths; last_dead = 0 }) (Flush event deaths ∷ past)
 stands_flush s past event deaths unended h = record {
   begun_is = refl;
   ended_is = unended;
@@ -130,7 +130,7 @@ stands_flush s past event deaths unended h = record {
   reported_is = h.reported_is;
 }
 
-pub stands_finish : (s : Standing) (past : List TraceLine) (event how : ℕ) → s.ended ≡ false → StandsFor s past → StandsFor (record s { begun = true; ended = true; stands = false; awaited = 0; last_dead = 0 }) (Finish event how ∷ past)
+pub stands_finish : (s : Standing) (past : List TraceLine) (event how : ℕ) → s.ended ≡ false → StandsForLines s past → StandsForLines (record s { begun = true; ended = true; stands = false; awaited = 0; last_dead = 0 }) (Finish event how ∷ past)
 stands_finish s past event how unended h = record {
   begun_is = refl;
   ended_is = refl;
@@ -157,7 +157,7 @@ get_or_grown [] (suc i) = refl
 get_or_grown (x ∷ xs) zero = refl
 get_or_grown (x ∷ xs) (suc i) = get_or_grown xs i
 
-pub stands_object : (s s' : Standing) (past : List TraceLine) (event thread object class size len : ℕ) → s.ended ≡ false → NotesObject s s' event → StandsFor s past → StandsFor s' (Alloc event thread object class size len ∷ past)
+pub stands_object : (s s' : Standing) (past : List TraceLine) (event thread object class size len : ℕ) → s.ended ≡ false → NotesObject s s' event → StandsForLines s past → StandsForLines s' (Alloc event thread object class size len ∷ past)
 stands_object s s' past event thread object class size len unended n h = record {
   begun_is = ap (λ (t : Standing). t.begun) n.others;
   ended_is = ap (λ (t : Standing). t.ended) n.others ∙ unended;
@@ -201,7 +201,7 @@ reported_now flags past object time o made known le so_far =
           rw t.0 (let e : get_or (set flags (object - 1) true) (o - 1) false ≡ get_or flags (o - 1) false = rw get_or-set_other refl in e ∙ so_far)
     ]
 
-pub stands_death : (s s' : Standing) (past : List TraceLine) (object time : ℕ) → s.ended ≡ false → 1 ≤ object → object ≤ length s.reported.items → NotesDeath s s' object → StandsFor s past → StandsFor s' (Death object time ∷ past)
+pub stands_death : (s s' : Standing) (past : List TraceLine) (object time : ℕ) → s.ended ≡ false → 1 ≤ object → object ≤ length s.reported.items → NotesDeath s s' object → StandsForLines s past → StandsForLines s' (Death object time ∷ past)
 stands_death s s' past object time unended made known n h = record {
   begun_is = ap (λ (t : Standing). t.begun) n.others;
   ended_is = ap (λ (t : Standing). t.ended) n.others ∙ unended;
@@ -225,7 +225,7 @@ or_is : (a b c : Bool) → b ≡ c → cond a true b ≡ (a || c)
 or_is true b c e = refl
 or_is false b c e = e
 
-pub stands_class : (s s' : Standing) (past : List TraceLine) (number : ℕ) (name : List ℕ) (added : Bool) → s.ended ≡ false → number ≡ s.classes + 1 → NotesClass s s' number name added → StandsFor s past → StandsFor s' (Class number name ∷ past)
+pub stands_class : (s s' : Standing) (past : List TraceLine) (number : ℕ) (name : List ℕ) (added : Bool) → s.ended ≡ false → number ≡ s.classes + 1 → NotesClass s s' number name added → StandsForLines s past → StandsForLines s' (Class number name ∷ past)
 stands_class s s' past number name added unended e n h = record {
   begun_is = ap (λ (t : Standing). t.begun) n.others;
   ended_is = ap (λ (t : Standing). t.ended) n.others ∙ unended;
@@ -245,10 +245,10 @@ stands_class s s' past number name added unended e n h = record {
   method_names_are = λ q. ap (λ (t : Standing). has_key t.method_names q) n.others ∙ h.method_names_are q;
 }
 
-pub class_is_new : (s s' : Standing) (past : List TraceLine) (number : ℕ) (name : List ℕ) (added : Bool) → NotesClass s s' number name added → StandsFor s past → added ≡ not (has_class past name)
+pub class_is_new : (s s' : Standing) (past : List TraceLine) (number : ℕ) (name : List ℕ) (added : Bool) → NotesClass s s' number name added → StandsForLines s past → added ≡ not (has_class past name)
 class_is_new s s' past number name added n h = n.added_is ∙ ap not (h.class_names_are n.key ∙ ap (λ (x : List ℕ). has_class past x) n.key_is)
 
-pub stands_method : (s s' : Standing) (past : List TraceLine) (number class : ℕ) (name descriptor : List ℕ) (added : Bool) → s.ended ≡ false → number ≡ s.methods + 1 → NotesMethod s s' number class name descriptor added → StandsFor s past → StandsFor s' (Method number class name descriptor ∷ past)
+pub stands_method : (s s' : Standing) (past : List TraceLine) (number class : ℕ) (name descriptor : List ℕ) (added : Bool) → s.ended ≡ false → number ≡ s.methods + 1 → NotesMethod s s' number class name descriptor added → StandsForLines s past → StandsForLines s' (Method number class name descriptor ∷ past)
 stands_method s s' past number class name descriptor added unended e n h = record {
   begun_is = ap (λ (t : Standing). t.begun) n.others;
   ended_is = ap (λ (t : Standing). t.ended) n.others ∙ unended;
@@ -271,6 +271,6 @@ stands_method s s' past number class name descriptor added unended e n h = recor
       ∙ ap (λ (x : List ℕ). (eqb class q.0 && bytes_eq name q.1.items && bytes_eq x q.2.items) || has_method past q.0 q.1.items q.2.items) n.descriptor_is)));
 }
 
-pub method_is_new : (s s' : Standing) (past : List TraceLine) (number class : ℕ) (name descriptor : List ℕ) (added : Bool) → NotesMethod s s' number class name descriptor added → StandsFor s past → added ≡ not (has_method past class name descriptor)
+pub method_is_new : (s s' : Standing) (past : List TraceLine) (number class : ℕ) (name descriptor : List ℕ) (added : Bool) → NotesMethod s s' number class name descriptor added → StandsForLines s past → added ≡ not (has_method past class name descriptor)
 method_is_new s s' past number class name descriptor added n h =
     n.added_is ∙ ap not (h.method_names_are n.key ∙ (ap (λ (x : ℕ). has_method past x n.key.1.items n.key.2.items) n.class_is ∙ (ap (λ (x : List ℕ). has_method past class x n.key.2.items) n.name_is ∙ ap (λ (x : List ℕ). has_method past class name x) n.descriptor_is)))

@@ -5,7 +5,7 @@ use Rattle.et_base.specs.declared.line.TraceLine.TheVariants.{Header, Class, Met
 use Rattle.et_text.specs.Ranges.{IsInRange}
 use Rattle.et_text.specs.Rules.{next_fault}
 use Rattle.et_text.specs.declared.standing.Standing.{Standing}
-use Rattle.et_text.specs.StandsFor.{StandsFor, NotesObject, NotesDeath, NotesClass, NotesMethod}
+use Rattle.et_text.specs.StandsFor.{StandsForLines, NotesObject, NotesDeath, NotesClass, NotesMethod}
 
 abbrev pub NotesEvent : Standing → Standing → ℕ → Bool → Type 0
 NotesEvent s s' event added = (added ≡ true) × (s' ≡ record s { begun = true; latest = event; stands = false; awaited = 0; last_dead = 0 })
@@ -25,9 +25,9 @@ Notes s s' (Finish event how) added = (added ≡ true) × (s' ≡ record s { beg
 
 -- what is left after a line that breaks no rule
 abbrev pub StandsOn : Standing → List TraceLine → TraceLine → Option ℕ → Type 0
-StandsOn s' past line None = StandsFor s' (line ∷ past)
+StandsOn s' past line None = StandsForLines s' (line ∷ past)
 StandsOn s' past line (Some kind) = Unit {0}
 
 -- the answer is the fault of the line by the lines so far, and where there is none, the line is noted
 abbrev pub Follows : Standing → Standing → List TraceLine → TraceLine → Option ℕ → Type 0
-Follows s s' past line found = StandsFor s past → IsInRange 1 line → (found ≡ next_fault past line) × StandsOn s' past line found
+Follows s s' past line found = StandsForLines s past → IsInRange 1 line → (found ≡ next_fault past line) × StandsOn s' past line found

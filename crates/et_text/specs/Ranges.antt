@@ -4,11 +4,11 @@ use Rattle.et_base.specs.declared.line.TraceLine.{TraceLine}
 use Rattle.et_base.specs.declared.line.TraceLine.TheVariants.{Header, Class, Method, Alloc, Update, Enter, Exit, Unwind, Flush, Death, Finish}
 
 -- an event, or the time of a death, which is the number of an event
-abbrev pub IsEvent : ℕ → Type 0
-IsEvent n = n ≤ 2 ^ 40
+abbrev pub IsEventNumber : ℕ → Type 0
+IsEventNumber n = n ≤ 2 ^ 40
 
-abbrev pub IsThread : ℕ → Type 0
-IsThread n = n < 64
+abbrev pub IsThreadNumber : ℕ → Type 0
+IsThreadNumber n = n < 64
 
 -- the number that a class or a method has in the trace
 abbrev pub IsNumber : ℕ → Type 0
@@ -30,11 +30,11 @@ abbrev pub IsInRange : ℕ → TraceLine → Type 0
 IsInRange version (Header v interval) = (v ≡ version) × (interval ≤ 2 ^ 40)
 IsInRange version (Class number name) = IsNumber number × IsText name
 IsInRange version (Method number class name descriptor) = IsNumber number × IsNumber class × IsText name × IsText descriptor
-IsInRange version (Alloc event thread object class size length) = IsEvent event × IsThread thread × IsObject object × IsNumber class × (16 ≤ size) × (size ≤ 2 ^ 30) × (length ≤ 2 ^ 26)
-IsInRange version (Update event thread object slot old new) = IsEvent event × IsThread thread × IsObjectOrNone object × (slot < 2 ^ 28) × IsObjectOrNone old × IsObjectOrNone new
-IsInRange version (Enter event thread method receiver) = IsEvent event × IsThread thread × IsNumber method × IsObjectOrNone receiver
-IsInRange version (Exit event thread method) = IsEvent event × IsThread thread × IsNumber method
-IsInRange version (Unwind event thread method exception) = IsEvent event × IsThread thread × IsNumber method × IsObject exception
-IsInRange version (Flush event deaths) = IsEvent event × (deaths < 2 ^ 24)
-IsInRange version (Death object time) = IsObject object × IsEvent time
-IsInRange version (Finish event how) = IsEvent event × (how ≤ 3)
+IsInRange version (Alloc event thread object class size length) = IsEventNumber event × IsThreadNumber thread × IsObject object × IsNumber class × (16 ≤ size) × (size ≤ 2 ^ 30) × (length ≤ 2 ^ 26)
+IsInRange version (Update event thread object slot old new) = IsEventNumber event × IsThreadNumber thread × IsObjectOrNone object × (slot < 2 ^ 28) × IsObjectOrNone old × IsObjectOrNone new
+IsInRange version (Enter event thread method receiver) = IsEventNumber event × IsThreadNumber thread × IsNumber method × IsObjectOrNone receiver
+IsInRange version (Exit event thread method) = IsEventNumber event × IsThreadNumber thread × IsNumber method
+IsInRange version (Unwind event thread method exception) = IsEventNumber event × IsThreadNumber thread × IsNumber method × IsObject exception
+IsInRange version (Flush event deaths) = IsEventNumber event × (deaths < 2 ^ 24)
+IsInRange version (Death object time) = IsObject object × IsEventNumber time
+IsInRange version (Finish event how) = IsEventNumber event × (how ≤ 3)

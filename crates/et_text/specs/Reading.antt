@@ -1,5 +1,6 @@
--- A line read from left to right. The contracts of private functions alone speak of it: that it is what `IsSpelled` says is proved of `read_line`.
+-- A line read from left to right. The contracts of private functions alone speak of it: that it is what `IsLineSpelled` says is proved of `read_line`.
 use Rattle.std.specs.Prelude.{◌≡◌, ℕ, zero, suc, ◌+◌, ◌-◌, ◌*◌, ◌^◌, Bool, true, ◌&&◌, ◌==◌, nat_le, if◌then◌else◌, List, [], ◌∷◌, length, Option, Some, None, Result, Ok, Err}
+use Rattle.et_base.specs.Digits.{is_digit}
 use Rattle.et_base.specs.declared.line.TraceLine.{TraceLine}
 use Rattle.et_base.specs.declared.line.TraceLine.TheVariants.{Header, Class, Method, Alloc, Update, Enter, Exit, Unwind, Flush, Death, Finish}
 use Rattle.et_text.specs.Spelling.{is_escaped}
@@ -12,16 +13,13 @@ abbrev pub ◌>>=◌ : {A B : Type 0} → Option A → (A → Option B) → Opti
 None >>= f = None
 
 -- What a function returned, seen by view, is what reading gives, unless memory ran out.
-abbrev pub Fails : {Y : Type 0} → LineError → Option Y → Type 0
-Fails errors.Memory read = Unit {0}
-Fails errors.Form read = read ≡ None
+abbrev pub FailsToRead : {Y : Type 0} → LineError → Option Y → Type 0
+FailsToRead errors.Memory read = Unit {0}
+FailsToRead errors.Form read = read ≡ None
 
-abbrev pub Gives : {X Y : Type 0} → (X → Y) → Result X LineError → Option Y → Type 0
-Gives view (Ok x) read = read ≡ Some (view x)
-Gives view (Err e) read = Fails e read
-
-abbrev pub is_digit : ℕ → Bool
-is_digit b = nat_le 48 b && nat_le b 57
+abbrev pub GivesWhereRead : {X Y : Type 0} → (X → Y) → Result X LineError → Option Y → Type 0
+GivesWhereRead view (Ok x) read = read ≡ Some (view x)
+GivesWhereRead view (Err e) read = FailsToRead e read
 
 -- the number whose digits so far stand for n, and the bytes after it
 unfoldable pub number_after : ℕ → List ℕ → Option (ℕ × List ℕ)
@@ -32,13 +30,13 @@ unfoldable pub digits_at : List ℕ → Option (ℕ × List ℕ)
 digits_at [] = None
 digits_at (b ∷ rest) = if b == 48 then Some (0, rest) else (if is_digit b then number_after (b - 48) rest else None)
 
-unfoldable pub number_at : List ℕ → Option (ℕ × List ℕ)
-number_at [] = None
-number_at (b ∷ rest) = if b == 32 then digits_at rest else None
+unfoldable pub number_field_at : List ℕ → Option (ℕ × List ℕ)
+number_field_at [] = None
+number_field_at (b ∷ rest) = if b == 32 then digits_at rest else None
 
-unfoldable pub number_in : ℕ → ℕ → List ℕ → Option (ℕ × List ℕ)
-number_in low high bytes = do
-  x ← number_at bytes
+unfoldable pub number_field_in : ℕ → ℕ → List ℕ → Option (ℕ × List ℕ)
+number_field_in low high bytes = do
+  x ← number_field_at bytes
   if nat_le low x.0 && nat_le x.0 high then Some x else None
 
 -- the number that an upper-case hexadecimal digit stands for
@@ -64,17 +62,17 @@ is_break [] = true
 is_break (b ∷ rest) = b == 32
 
 -- at most n bytes of a name
-unfoldable pub bytes_at : ℕ → List ℕ → Option (List ℕ × List ℕ)
-bytes_at zero bytes = Some ([], bytes)
-bytes_at (suc n) bytes = if is_break bytes then Some ([], bytes) else (byte_at bytes >>= λ x. bytes_at n x.1 >>= λ y. Some (x.0 ∷ y.0, y.1))
+unfoldable pub name_bytes_at : ℕ → List ℕ → Option (List ℕ × List ℕ)
+name_bytes_at zero bytes = Some ([], bytes)
+name_bytes_at (suc n) bytes = if is_break bytes then Some ([], bytes) else (byte_at bytes >>= λ x. name_bytes_at n x.1 >>= λ y. Some (x.0 ∷ y.0, y.1))
 
 abbrev pub unless_empty : List ℕ × List ℕ → Option (List ℕ × List ℕ)
 unless_empty ([], rest) = None
 unless_empty (b ∷ name, rest) = Some (b ∷ name, rest)
 
-unfoldable pub text_at : List ℕ → Option (List ℕ × List ℕ)
-text_at [] = None
-text_at (b ∷ rest) = if b == 32 then (bytes_at (length rest) rest >>= unless_empty) else None
+unfoldable pub text_field_at : List ℕ → Option (List ℕ × List ℕ)
+text_field_at [] = None
+text_field_at (b ∷ rest) = if b == 32 then (name_bytes_at (length rest) rest >>= unless_empty) else None
 
 abbrev pub done : TraceLine → List ℕ → Option TraceLine
 done line [] = Some line
@@ -83,98 +81,98 @@ done line (b ∷ rest) = None
 -- an event and a thread
 unfoldable pub turn_at : List ℕ → Option ((ℕ × ℕ) × List ℕ)
 turn_at bytes = do
-  event ← number_in 0 (2 ^ 40) bytes
-  thread ← number_in 0 63 event.1
+  event ← number_field_in 0 (2 ^ 40) bytes
+  thread ← number_field_in 0 63 event.1
   Some ((event.0, thread.0), thread.1)
 
-unfoldable pub header_at : List ℕ → Option TraceLine
-header_at bytes = do
-  version ← number_in 1 1 bytes
-  interval ← number_in 0 (2 ^ 40) version.1
+unfoldable pub header_line_at : List ℕ → Option TraceLine
+header_line_at bytes = do
+  version ← number_field_in 1 1 bytes
+  interval ← number_field_in 0 (2 ^ 40) version.1
   done (Header version.0 interval.0) interval.1
 
-unfoldable pub class_at : List ℕ → Option TraceLine
-class_at bytes = do
-  number ← number_in 1 (2 ^ 32 - 1) bytes
-  name ← text_at number.1
+unfoldable pub class_line_at : List ℕ → Option TraceLine
+class_line_at bytes = do
+  number ← number_field_in 1 (2 ^ 32 - 1) bytes
+  name ← text_field_at number.1
   done (Class number.0 name.0) name.1
 
-unfoldable pub method_at : List ℕ → Option TraceLine
-method_at bytes = do
-  number ← number_in 1 (2 ^ 32 - 1) bytes
-  class ← number_in 1 (2 ^ 32 - 1) number.1
-  name ← text_at class.1
-  descriptor ← text_at name.1
+unfoldable pub method_line_at : List ℕ → Option TraceLine
+method_line_at bytes = do
+  number ← number_field_in 1 (2 ^ 32 - 1) bytes
+  class ← number_field_in 1 (2 ^ 32 - 1) number.1
+  name ← text_field_at class.1
+  descriptor ← text_field_at name.1
   done (Method number.0 class.0 name.0 descriptor.0) descriptor.1
 
 unfoldable pub alloc_at : List ℕ → Option TraceLine
 alloc_at bytes = do
   turn ← turn_at bytes
-  object ← number_in 1 (2 ^ 24 - 1) turn.1
-  class ← number_in 1 (2 ^ 32 - 1) object.1
-  size ← number_in 16 (2 ^ 30) class.1
-  length ← number_in 0 (2 ^ 26) size.1
+  object ← number_field_in 1 (2 ^ 24 - 1) turn.1
+  class ← number_field_in 1 (2 ^ 32 - 1) object.1
+  size ← number_field_in 16 (2 ^ 30) class.1
+  length ← number_field_in 0 (2 ^ 26) size.1
   done (Alloc turn.0.0 turn.0.1 object.0 class.0 size.0 length.0) length.1
 
 unfoldable pub update_at : List ℕ → Option TraceLine
 update_at bytes = do
   turn ← turn_at bytes
-  object ← number_in 0 (2 ^ 24 - 1) turn.1
-  slot ← number_in 0 (2 ^ 28 - 1) object.1
-  old ← number_in 0 (2 ^ 24 - 1) slot.1
-  new ← number_in 0 (2 ^ 24 - 1) old.1
+  object ← number_field_in 0 (2 ^ 24 - 1) turn.1
+  slot ← number_field_in 0 (2 ^ 28 - 1) object.1
+  old ← number_field_in 0 (2 ^ 24 - 1) slot.1
+  new ← number_field_in 0 (2 ^ 24 - 1) old.1
   done (Update turn.0.0 turn.0.1 object.0 slot.0 old.0 new.0) new.1
 
 unfoldable pub enter_at : List ℕ → Option TraceLine
 enter_at bytes = do
   turn ← turn_at bytes
-  method ← number_in 1 (2 ^ 32 - 1) turn.1
-  receiver ← number_in 0 (2 ^ 24 - 1) method.1
+  method ← number_field_in 1 (2 ^ 32 - 1) turn.1
+  receiver ← number_field_in 0 (2 ^ 24 - 1) method.1
   done (Enter turn.0.0 turn.0.1 method.0 receiver.0) receiver.1
 
 unfoldable pub exit_at : List ℕ → Option TraceLine
 exit_at bytes = do
   turn ← turn_at bytes
-  method ← number_in 1 (2 ^ 32 - 1) turn.1
+  method ← number_field_in 1 (2 ^ 32 - 1) turn.1
   done (Exit turn.0.0 turn.0.1 method.0) method.1
 
 unfoldable pub unwind_at : List ℕ → Option TraceLine
 unwind_at bytes = do
   turn ← turn_at bytes
-  method ← number_in 1 (2 ^ 32 - 1) turn.1
-  exception ← number_in 1 (2 ^ 24 - 1) method.1
+  method ← number_field_in 1 (2 ^ 32 - 1) turn.1
+  exception ← number_field_in 1 (2 ^ 24 - 1) method.1
   done (Unwind turn.0.0 turn.0.1 method.0 exception.0) exception.1
 
 unfoldable pub flush_at : List ℕ → Option TraceLine
 flush_at bytes = do
-  event ← number_in 0 (2 ^ 40) bytes
-  deaths ← number_in 0 (2 ^ 24 - 1) event.1
+  event ← number_field_in 0 (2 ^ 40) bytes
+  deaths ← number_field_in 0 (2 ^ 24 - 1) event.1
   done (Flush event.0 deaths.0) deaths.1
 
-unfoldable pub death_at : List ℕ → Option TraceLine
-death_at bytes = do
-  object ← number_in 1 (2 ^ 24 - 1) bytes
-  time ← number_in 0 (2 ^ 40) object.1
+unfoldable pub death_line_at : List ℕ → Option TraceLine
+death_line_at bytes = do
+  object ← number_field_in 1 (2 ^ 24 - 1) bytes
+  time ← number_field_in 0 (2 ^ 40) object.1
   done (Death object.0 time.0) time.1
 
 unfoldable pub finish_at : List ℕ → Option TraceLine
 finish_at bytes = do
-  event ← number_in 0 (2 ^ 40) bytes
-  how ← number_in 0 3 event.1
+  event ← number_field_in 0 (2 ^ 40) bytes
+  how ← number_field_in 0 3 event.1
   done (Finish event.0 how.0) how.1
 
 unfoldable pub line_at : List ℕ → Option TraceLine
 line_at [] = None
 line_at (b ∷ rest) =
-    if b == 72 then header_at rest
-    else (if b == 67 then class_at rest
-    else (if b == 78 then method_at rest
+    if b == 72 then header_line_at rest
+    else (if b == 67 then class_line_at rest
+    else (if b == 78 then method_line_at rest
     else (if b == 65 then alloc_at rest
     else (if b == 85 then update_at rest
     else (if b == 77 then enter_at rest
     else (if b == 69 then exit_at rest
     else (if b == 88 then unwind_at rest
     else (if b == 70 then flush_at rest
-    else (if b == 68 then death_at rest
+    else (if b == 68 then death_line_at rest
     else (if b == 90 then finish_at rest
     else None))))))))))

@@ -82,10 +82,10 @@ latest (Flush event deaths ∷ past) = event
 latest (_ ∷ past) = latest past
 
 -- the event of the newest F line
-abbrev pub flushed : List TraceLine → Option ℕ
-flushed [] = None
-flushed (Flush event deaths ∷ past) = Some event
-flushed (_ ∷ past) = flushed past
+abbrev pub newest_flush : List TraceLine → Option ℕ
+newest_flush [] = None
+newest_flush (Flush event deaths ∷ past) = Some event
+newest_flush (_ ∷ past) = newest_flush past
 
 -- how many D lines have to follow before any other line
 abbrev pub awaited : List TraceLine → ℕ
@@ -142,11 +142,11 @@ is_before (Some e) event = nat_lt e event
 
 -- a line that is no H, D or Z may stand here
 abbrev pub is_open : List TraceLine → Bool
-is_open past = has_begun past && awaited past == 0 && not (is_final (interval past) (flushed past))
+is_open past = has_begun past && awaited past == 0 && not (is_final (interval past) (newest_flush past))
 
 -- .. and it may have this event
 abbrev pub is_timely : List TraceLine → ℕ → Bool
-is_timely past event = is_open past && nat_le (latest past) event && is_before (flushed past) event && misses_no_flush (interval past) (flushed past) event
+is_timely past event = is_open past && nat_le (latest past) event && is_before (newest_flush past) event && misses_no_flush (interval past) (newest_flush past) event
 
 abbrev pub stands_at : Option ℕ → ℕ → Bool
 stands_at None event = false
@@ -163,7 +163,7 @@ keeps_order past (Enter event thread method receiver) = is_timely past event
 keeps_order past (Exit event thread method) = is_timely past event
 keeps_order past (Unwind event thread method exception) = is_timely past event
 keeps_order past (Flush event deaths) = is_timely past event
-keeps_order past (Death object time) = nat_lt 0 (awaited past) && nat_lt (last_dead past) object && nat_le time (unwrap_or (flushed past) 0)
+keeps_order past (Death object time) = nat_lt 0 (awaited past) && nat_lt (last_dead past) object && nat_le time (unwrap_or (newest_flush past) 0)
 keeps_order past (Finish event how) = awaited past == 0 && stands_at (standing_flush past) event
 
 -- what the line mentions was defined; 0 stands for none

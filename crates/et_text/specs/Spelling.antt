@@ -18,9 +18,9 @@ abbrev pub escapes : List ℕ → List ℕ
 escapes name = flat_map escape name
 
 -- a field: a number, or the bytes of a name or descriptor
-pub data Field : Type 0 where
-  Number : (n : ℕ) → Field
-  Text : (name : List ℕ) → Field
+pub data SpelledField : Type 0 where
+  Number : (n : ℕ) → SpelledField
+  Text : (name : List ℕ) → SpelledField
 
 -- a number is decimal, and has no leading zero. Each field stands behind a space (32).
 abbrev pub number_field : ℕ → List ℕ
@@ -31,7 +31,7 @@ abbrev pub text_field : List ℕ → List ℕ
 text_field name = 32 ∷ escapes name
 
 -- any field
-abbrev pub field_text : Field → List ℕ
+abbrev pub field_text : SpelledField → List ℕ
 field_text (Number n) = number_field n
 field_text (Text name) = text_field name
 
@@ -50,7 +50,7 @@ letter (Death object time) = 68  -- D
 letter (Finish event how) = 90  -- Z
 
 -- .. and its fields
-abbrev pub fields : TraceLine → List Field
+abbrev pub fields : TraceLine → List SpelledField
 fields (Header v interval) = Number v ∷ Number interval ∷ []
 fields (Class number name) = Number number ∷ Text name ∷ []
 fields (Method number class name descriptor) = Number number ∷ Number class ∷ Text name ∷ Text descriptor ∷ []

@@ -1,11 +1,11 @@
 -- What is kept is what the lines so far say.
 use Rattle.std.specs.Prelude.{◌≡◌, ℕ, ◌-◌, ◌≤◌, Bool, true, false, not, bytes_eq, if◌then◌else◌, List, [], ◌∷◌, ◌++◌, length, slice_index_or, slice_set, None}
 use Rattle.et_base.specs.declared.line.TraceLine.{TraceLine}
-use Rattle.et_text.specs.Rules.{has_begun, has_ended, interval, classes, methods, births, latest, flushed, awaited, last_dead, standing_flush, is_reported, has_class, has_method}
+use Rattle.et_text.specs.Rules.{has_begun, has_ended, interval, classes, methods, births, latest, newest_flush, awaited, last_dead, standing_flush, is_reported, has_class, has_method}
 use Rattle.et_text.specs.NameSets.{Bytes, MethodKey, has_name, has_key, same_method}
 use Rattle.et_text.specs.declared.standing.Standing.{Standing}
 
-pub record StandsFor (s : Standing) (past : List TraceLine) : Type 0 where
+pub record StandsForLines (s : Standing) (past : List TraceLine) : Type 0 where
   pub begun_is : s.begun ≡ has_begun past
   pub ended_is : s.ended ≡ has_ended past
   pub interval_is : s.interval ≡ interval past
@@ -13,7 +13,7 @@ pub record StandsFor (s : Standing) (past : List TraceLine) : Type 0 where
   pub methods_is : s.methods ≡ methods past
   pub births_is : s.births.items ≡ births past
   pub latest_is : s.latest ≡ latest past
-  pub flushed_is : s.flushed ≡ flushed past
+  pub flushed_is : s.flushed ≡ newest_flush past
   pub stands_is : (if s.stands then s.flushed else None) ≡ standing_flush past
   pub awaited_is : s.awaited ≡ awaited past
   pub last_dead_is : s.last_dead ≡ last_dead past

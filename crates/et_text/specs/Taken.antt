@@ -5,7 +5,7 @@ use Rattle.et_text.specs.Rules.{next_fault, AreFine}
 use Rattle.et_text.specs.declared.fault.TraceFault.{TraceFault}
 use Rattle.et_text.specs.declared.fault.TraceFault.TheVariants as faults
 use Rattle.et_text.specs.declared.standing.Standing.{Standing}
-use Rattle.et_text.specs.StandsFor.{StandsFor}
+use Rattle.et_text.specs.StandsFor.{StandsForLines}
 
 -- the lines that were taken, the oldest first, and the fault that came, if one did
 pub record Taken : Type 0 where
@@ -14,15 +14,15 @@ pub record Taken : Type 0 where
 
 -- the lines break no rule, and what they say is kept
 pub record AreKept (standing : Standing) (lines : List TraceLine) : Type 0 where
-  pub stands : StandsFor standing (reverse lines)
+  pub stands : StandsForLines standing (reverse lines)
   pub fine : AreFine 1 (reverse lines)
 
 -- so it is while no fault came
-abbrev pub KeepsRules : Option TraceFault → Standing → List TraceLine → Type 0
-KeepsRules fault standing lines = fault ≡ None → AreKept standing lines
+abbrev pub KeepsTextRules : Option TraceFault → Standing → List TraceLine → Type 0
+KeepsTextRules fault standing lines = fault ≡ None → AreKept standing lines
 
 -- the line breaks no rule, and is taken
-pub record Takes (old new : Taken) (line : TraceLine) : Type 0 where
+pub record TakesLine (old new : Taken) (line : TraceLine) : Type 0 where
   pub unharmed : old.fault ≡ None
   pub follows : next_fault (reverse old.lines) line ≡ None
   pub taken : new ≡ record old { lines = old.lines ++ line ∷ [] }

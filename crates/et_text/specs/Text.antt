@@ -6,7 +6,7 @@ use Rattle.et_text.specs.Spelling.{line_body, text}
 use Rattle.et_text.specs.Rules.{form, after, unended, has_ended, next_fault, AreFine, IsGood}
 
 -- these bytes, without an LF, are the line
-pub record IsSpelled (line : TraceLine) (bytes : List ℕ) : Type 0 where
+pub record IsLineSpelled (line : TraceLine) (bytes : List ℕ) : Type 0 where
   pub range : IsInRange 1 line
   pub spelled : bytes ≡ line_body line
 
@@ -15,10 +15,10 @@ abbrev pub IsOneLine : List ℕ → Type 0
 IsOneLine bytes = All (λ b. b ≢ 10) bytes
 
 -- the bytes of a whole line break this rule after the lines so far: they are no line, or the line is refused
-pub data Breaks (past : List TraceLine) (bytes : List ℕ) : (kind : ℕ) → Type 0 where
-  BreaksForm : has_ended past ≡ false → ((line : TraceLine) → IsSpelled line bytes → ⊥) → Breaks past bytes form
-  BreaksRule : (kind : ℕ) (line : TraceLine) → IsSpelled line bytes → next_fault past line ≡ Some kind → Breaks past bytes kind
-  BreaksAfter : has_ended past ≡ true → Breaks past bytes after
+pub data BreaksText (past : List TraceLine) (bytes : List ℕ) : (kind : ℕ) → Type 0 where
+  BreaksForm : has_ended past ≡ false → ((line : TraceLine) → IsLineSpelled line bytes → ⊥) → BreaksText past bytes form
+  BreaksRule : (kind : ℕ) (line : TraceLine) → IsLineSpelled line bytes → next_fault past line ≡ Some kind → BreaksText past bytes kind
+  BreaksAfter : has_ended past ≡ true → BreaksText past bytes after
 
 -- the lines so far, the newest first, are fine, and the rest of the bytes stands behind them
 pub record IsReadTo (past : List TraceLine) (rest bytes : List ℕ) : Type 0 where
@@ -32,7 +32,7 @@ pub record ShowsFault (bytes : List ℕ) (kind number : ℕ) : Type 0 where
   pub behind : List ℕ
   pub read : IsReadTo past (line ++ 10 ∷ behind) bytes
   pub one_line : IsOneLine line
-  pub breaks : Breaks past line kind
+  pub breaks : BreaksText past line kind
   pub at : number ≡ length past + 1
 
 -- no whole line breaks a rule

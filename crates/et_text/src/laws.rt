@@ -2,17 +2,18 @@
 ghost use Rattle.std.specs.Prelude.{◌≡◌, ◌↔◌, ℕ, List, ◌++◌, Some};
 ghost use Rattle.et_base.specs.declared.line.TraceLine.{TraceLine};
 ghost use Rattle.et_text.specs.Reading.{line_at};
-ghost use Rattle.et_text.specs.Text.{IsSpelled, IsTextOf, ShowsFault, IsTraceFault, HasAnswer};
+ghost use Rattle.et_text.specs.Text.{IsLineSpelled, IsTextOf, ShowsFault, IsTraceFault, HasAnswer};
 
 /// Reading is the inverse of spelling: the line that is read from left to right is the one that the bytes spell.
 pub fn reading_inverts_spelling()
     ensures { (line : TraceLine) (bytes : List ℕ) →
-        (line_at bytes ≡ Some line) ↔ IsSpelled line bytes }
+        (line_at bytes ≡ Some line) ↔ IsLineSpelled line bytes }
 {}
 
 /// No two lines have one spelling.
 pub fn spellings_differ()
-    ensures { (a b : TraceLine) (bytes : List ℕ) → IsSpelled a bytes → IsSpelled b bytes → a ≡ b }
+    ensures { (a b : TraceLine) (bytes : List ℕ) → IsLineSpelled a bytes → IsLineSpelled b bytes →
+        a ≡ b }
 {}
 
 /// All bytes are the text of a good list or have a fault,

@@ -23,17 +23,17 @@ pub struct TextReader {
 }
 
 impl Model for TextReader {
-    ghost use Rattle.et_text.specs.Stream.{Reading, KeepsReading, bytes_of};
+    ghost use Rattle.et_text.specs.Stream.{Reading, KeepsReading, bytes_read};
 
     ghost Value = { Reading };
 
-    ghost view = { λ a. record { bytes = bytes_of a.rules a.rest.items; fault = a.fault } };
+    ghost view = { λ a. record { bytes = bytes_read a.rules a.rest.items; fault = a.fault } };
 
     ghost invariant = { λ a. KeepsReading a.fault a.rules a.ended a.rest.items };
 }
 
 impl TextReader {
-    ghost use Rattle.et_text.specs.Stream.{Reading, Grows, Stops, HasFault};
+    ghost use Rattle.et_text.specs.Stream.{Reading, GrowsBy, StopsReading, HasTextFault};
     ghost use Rattle.et_text.specs.declared.fault.TraceFault.{TraceFault};
     ghost use Rattle.et_text.specs.declared.fault.TraceFault.TheVariants.{NoMemory as OutOfMemory};
 
@@ -54,10 +54,11 @@ impl TextReader {
     /// line, and `Ok` while there is none. After any fault, want of memory too, each further call answers that fault
     /// and changes nothing.
     pub fn feed(&mut self, piece: &[u8]) -> Result<(), TraceFault>
-        ensures ok { OnOk result (Grows self.old self.new piece.now) }
+        ensures ok { OnOk result (GrowsBy self.old self.new piece.now) }
         ensures again { (fault : TraceFault) →
             self.old.fault ≡ Some fault → (result ≡ Err fault) × (self.new ≡ self.old) }
-        ensures err { self.old.fault ≡ None → IfErr result (Stops self.old self.new piece.now) }
+        ensures err { self.old.fault ≡ None → IfErr result
+            (StopsReading self.old self.new piece.now) }
     {
         match self.fault {
             Some(fault) => return Err(fault),
@@ -77,7 +78,7 @@ impl TextReader {
         ensures ok { IfOk result (λ trace. IsTextOf trace self.bytes) }
         ensures unharmed { OnOk result (self.fault ≡ None) }
         ensures again { (fault : TraceFault) → self.fault ≡ Some fault → result ≡ Err fault }
-        ensures err { self.fault ≡ None → IfErr result (HasFault self.bytes) }
+        ensures err { self.fault ≡ None → IfErr result (HasTextFault self.bytes) }
     {
         match self.fault {
             Some(fault) => return Err(fault),
@@ -102,7 +103,7 @@ impl TextReader {
         requires one_line { IsOneLine line.now }
         ensures ok { OnOk result
             (self.new ≡ record self.old { bytes = self.old.bytes ++ (line.now ++ 10 ∷ []) }) }
-        ensures err { IfErr result (Stops self.old self.new (line.now ++ 10 ∷ [])) }
+        ensures err { IfErr result (StopsReading self.old self.new (line.now ++ 10 ∷ [])) }
     {
         let taken = take_rest(
             self.alloc,
@@ -128,7 +129,7 @@ impl TextReader {
     fn hold(&mut self, front: &[u8]) -> Result<(), TraceFault>
         requires unharmed { self.old.fault ≡ None }
         requires one_line { IsOneLine front.now }
-        ensures ok { OnOk result (Grows self.old self.new front.now) }
+        ensures ok { OnOk result (GrowsBy self.old self.new front.now) }
         ensures err { IfErr result
             (λ fault. (fault ≡ OutOfMemory) × (self.new.fault ≡ Some OutOfMemory)) }
     {

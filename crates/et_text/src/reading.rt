@@ -1,8 +1,9 @@
 //! Reading a line, from left to right.
 ghost use Rattle.std.specs.Prelude.{◌≡◌, ℕ, ◌-◌, ◌<◌, ◌≤◌, ◌^◌, List, length, IfOk, IsErrOf};
 ghost use Rattle.et_base.specs.declared.line.TraceLine.{TraceLine};
-ghost use Rattle.et_text.specs.Text.{IsSpelled};
-ghost use Rattle.et_text.specs.Reading.{Gives, is_digit, number_after, digits_at, number_at, number_in, hex_value, escaped_at, byte_at, is_break, bytes_at, text_at, done, turn_at, header_at, class_at, method_at, alloc_at, update_at, enter_at, exit_at, unwind_at, flush_at, death_at, finish_at, line_at};
+ghost use Rattle.et_text.specs.Text.{IsLineSpelled};
+ghost use Rattle.et_text.specs.Reading.{GivesWhereRead, number_after, digits_at, number_field_at, number_field_in, hex_value, escaped_at, byte_at, is_break, name_bytes_at, text_field_at, done, turn_at, header_line_at, class_line_at, method_line_at, alloc_at, update_at, enter_at, exit_at, unwind_at, flush_at, death_line_at, finish_at, line_at};
+ghost use Rattle.et_base.specs.Digits.{is_digit};
 
 use crate::fault::LineError;
 use crate::writing::is_escaped;
@@ -28,7 +29,7 @@ fn is_digit(b: u8) -> bool
 #[tactic(auto, unfolding(crate::specs::Reading::number_after))]
 fn number_after(first: u64, bytes: &[u8]) -> Result<(u64, &[u8]), LineError>
     requires { first < 10 }
-    ensures { Gives (λ x. (x.0, x.1.now)) result (number_after first bytes.now) }
+    ensures { GivesWhereRead (λ x. (x.0, x.1.now)) result (number_after first bytes.now) }
 {
     let mut n = first;
     let mut rest = bytes;
@@ -48,7 +49,7 @@ fn number_after(first: u64, bytes: &[u8]) -> Result<(u64, &[u8]), LineError>
 /// The number at the front, without leading zeros, and the bytes behind it.
 #[tactic(auto, unfolding(crate::specs::Reading::digits_at))]
 fn digits_at(bytes: &[u8]) -> Result<(u64, &[u8]), LineError>
-    ensures { Gives (λ x. (x.0, x.1.now)) result (digits_at bytes.now) }
+    ensures { GivesWhereRead (λ x. (x.0, x.1.now)) result (digits_at bytes.now) }
 {
     match bytes {
         [] => Err(LineError::Form),
@@ -65,9 +66,9 @@ fn digits_at(bytes: &[u8]) -> Result<(u64, &[u8]), LineError>
 }
 
 /// A number behind a space.
-#[tactic(auto, unfolding(crate::specs::Reading::number_at))]
+#[tactic(auto, unfolding(crate::specs::Reading::number_field_at))]
 fn number_at(bytes: &[u8]) -> Result<(u64, &[u8]), LineError>
-    ensures { Gives (λ x. (x.0, x.1.now)) result (number_at bytes.now) }
+    ensures { GivesWhereRead (λ x. (x.0, x.1.now)) result (number_field_at bytes.now) }
 {
     match bytes {
         [] => Err(LineError::Form),
@@ -81,9 +82,10 @@ fn number_at(bytes: &[u8]) -> Result<(u64, &[u8]), LineError>
 }
 
 /// A number behind a space, from `low` to `high`.
-#[tactic(auto, unfolding(crate::specs::Reading::number_in))]
+#[tactic(auto, unfolding(crate::specs::Reading::number_field_in))]
 fn number_in(low: u64, high: u64, bytes: &[u8]) -> Result<(u64, &[u8]), LineError>
-    ensures gives { Gives (λ x. (x.0, x.1.now)) result (number_in low high bytes.now) }
+    ensures gives { GivesWhereRead (λ x. (x.0, x.1.now)) result
+        (number_field_in low high bytes.now) }
     ensures within { IfOk result (λ x. x.0 ≤ high) }
 {
     let (n, rest) = number_at(bytes)?;
@@ -97,14 +99,14 @@ fn number_in(low: u64, high: u64, bytes: &[u8]) -> Result<(u64, &[u8]), LineErro
 }
 
 fn u32_in(low: u32, high: u32, bytes: &[u8]) -> Result<(u32, &[u8]), LineError>
-    ensures { Gives (λ x. (x.0, x.1.now)) result (number_in low high bytes.now) }
+    ensures { GivesWhereRead (λ x. (x.0, x.1.now)) result (number_field_in low high bytes.now) }
 {
     let (n, rest) = number_in(u64::from(low), u64::from(high), bytes)?;
     Ok((n as u32, rest))
 }
 
 fn u8_in(high: u8, bytes: &[u8]) -> Result<(u8, &[u8]), LineError>
-    ensures { Gives (λ x. (x.0, x.1.now)) result (number_in 0 high bytes.now) }
+    ensures { GivesWhereRead (λ x. (x.0, x.1.now)) result (number_field_in 0 high bytes.now) }
 {
     let (n, rest) = number_in(0, u64::from(high), bytes)?;
     Ok((n as u8, rest))
@@ -113,7 +115,7 @@ fn u8_in(high: u8, bytes: &[u8]) -> Result<(u8, &[u8]), LineError>
 /// The value of an upper-case hexadecimal digit.
 #[tactic(auto, unfolding(crate::specs::Reading::hex_value))]
 fn hex_value(b: u8) -> Result<u8, LineError>
-    ensures gives { Gives (λ x. x) result (hex_value b) }
+    ensures gives { GivesWhereRead (λ x. x) result (hex_value b) }
     ensures small { IfOk result (λ x. x < 16) }
 {
     if is_digit(b) {
@@ -128,7 +130,7 @@ fn hex_value(b: u8) -> Result<u8, LineError>
 /// The byte of an escape, behind its `%`.
 #[tactic(auto, unfolding(crate::specs::Reading::escaped_at))]
 fn escaped_at(bytes: &[u8]) -> Result<(u8, &[u8]), LineError>
-    ensures { Gives (λ x. (x.0, x.1.now)) result (escaped_at bytes.now) }
+    ensures { GivesWhereRead (λ x. (x.0, x.1.now)) result (escaped_at bytes.now) }
 {
     match bytes {
         [] => Err(LineError::Form),
@@ -148,7 +150,7 @@ fn escaped_at(bytes: &[u8]) -> Result<(u8, &[u8]), LineError>
 /// A byte of a name, by itself or as an escape.
 #[tactic(auto, unfolding(crate::specs::Reading::byte_at))]
 fn byte_at(bytes: &[u8]) -> Result<(u8, &[u8]), LineError>
-    ensures { Gives (λ x. (x.0, x.1.now)) result (byte_at bytes.now) }
+    ensures { GivesWhereRead (λ x. (x.0, x.1.now)) result (byte_at bytes.now) }
 {
     match bytes {
         [] => Err(LineError::Form),
@@ -176,7 +178,8 @@ fn is_break(bytes: &[u8]) -> bool
 
 /// The bytes of a name up to the next space.
 fn bytes_at(alloc: Global, bytes: &[u8]) -> Result<(Name, &[u8]), LineError>
-    ensures { Gives (λ x. (x.0, x.1.now)) result (bytes_at (length bytes.now) bytes.now) }
+    ensures { GivesWhereRead (λ x. (x.0, x.1.now)) result
+        (name_bytes_at (length bytes.now) bytes.now) }
 {
     let mut name = Name::begin(alloc);
     let mut rest = bytes;
@@ -193,9 +196,9 @@ fn bytes_at(alloc: Global, bytes: &[u8]) -> Result<(Name, &[u8]), LineError>
 }
 
 /// A name or descriptor behind a space.
-#[tactic(auto, unfolding(crate::specs::Reading::text_at))]
+#[tactic(auto, unfolding(crate::specs::Reading::text_field_at))]
 fn text_at(alloc: Global, bytes: &[u8]) -> Result<(Name, &[u8]), LineError>
-    ensures { Gives (λ x. (x.0, x.1.now)) result (text_at bytes.now) }
+    ensures { GivesWhereRead (λ x. (x.0, x.1.now)) result (text_field_at bytes.now) }
 {
     match bytes {
         [] => Err(LineError::Form),
@@ -214,7 +217,7 @@ fn text_at(alloc: Global, bytes: &[u8]) -> Result<(Name, &[u8]), LineError>
 
 /// The line, where nothing is left.
 fn done(line: TraceLine, rest: &[u8]) -> Result<TraceLine, LineError>
-    ensures { Gives (λ x. x) result (done line rest.now) }
+    ensures { GivesWhereRead (λ x. x) result (done line rest.now) }
 {
     match rest {
         [] => Ok(line),
@@ -225,16 +228,16 @@ fn done(line: TraceLine, rest: &[u8]) -> Result<TraceLine, LineError>
 /// An event and a thread.
 #[tactic(auto, unfolding(crate::specs::Reading::turn_at))]
 fn turn_at(bytes: &[u8]) -> Result<((u64, u8), &[u8]), LineError>
-    ensures { Gives (λ x. (x.0, x.1.now)) result (turn_at bytes.now) }
+    ensures { GivesWhereRead (λ x. (x.0, x.1.now)) result (turn_at bytes.now) }
 {
     let (event, rest) = number_in(0, MOST, bytes)?;
     let (thread, rest) = u8_in(63, rest)?;
     Ok(((event, thread), rest))
 }
 
-#[tactic(auto, unfolding(crate::specs::Reading::header_at))]
+#[tactic(auto, unfolding(crate::specs::Reading::header_line_at))]
 fn header_at(bytes: &[u8]) -> Result<TraceLine, LineError>
-    ensures { Gives (λ x. x) result (header_at bytes.now) }
+    ensures { GivesWhereRead (λ x. x) result (header_line_at bytes.now) }
 {
     let (version, rest) = u32_in(1, 1, bytes)?;
     let (interval, rest) = number_in(0, MOST, rest)?;
@@ -242,9 +245,9 @@ fn header_at(bytes: &[u8]) -> Result<TraceLine, LineError>
     done(line, rest)
 }
 
-#[tactic(auto, unfolding(crate::specs::Reading::class_at))]
+#[tactic(auto, unfolding(crate::specs::Reading::class_line_at))]
 fn class_at(alloc: Global, bytes: &[u8]) -> Result<TraceLine, LineError>
-    ensures { Gives (λ x. x) result (class_at bytes.now) }
+    ensures { GivesWhereRead (λ x. x) result (class_line_at bytes.now) }
 {
     let (number, rest) = u32_in(1, MOST_NUMBER, bytes)?;
     let (name, rest) = text_at(alloc, rest)?;
@@ -252,9 +255,9 @@ fn class_at(alloc: Global, bytes: &[u8]) -> Result<TraceLine, LineError>
     done(line, rest)
 }
 
-#[tactic(auto, unfolding(crate::specs::Reading::method_at))]
+#[tactic(auto, unfolding(crate::specs::Reading::method_line_at))]
 fn method_at(alloc: Global, bytes: &[u8]) -> Result<TraceLine, LineError>
-    ensures { Gives (λ x. x) result (method_at bytes.now) }
+    ensures { GivesWhereRead (λ x. x) result (method_line_at bytes.now) }
 {
     let (number, rest) = u32_in(1, MOST_NUMBER, bytes)?;
     let (class, rest) = u32_in(1, MOST_NUMBER, rest)?;
@@ -271,7 +274,7 @@ fn method_at(alloc: Global, bytes: &[u8]) -> Result<TraceLine, LineError>
 
 #[tactic(auto, unfolding(crate::specs::Reading::alloc_at))]
 fn alloc_at(bytes: &[u8]) -> Result<TraceLine, LineError>
-    ensures { Gives (λ x. x) result (alloc_at bytes.now) }
+    ensures { GivesWhereRead (λ x. x) result (alloc_at bytes.now) }
 {
     let ((event, thread), rest) = turn_at(bytes)?;
     let (object, rest) = u32_in(1, MOST_OBJECT, rest)?;
@@ -291,7 +294,7 @@ fn alloc_at(bytes: &[u8]) -> Result<TraceLine, LineError>
 
 #[tactic(auto, unfolding(crate::specs::Reading::update_at))]
 fn update_at(bytes: &[u8]) -> Result<TraceLine, LineError>
-    ensures { Gives (λ x. x) result (update_at bytes.now) }
+    ensures { GivesWhereRead (λ x. x) result (update_at bytes.now) }
 {
     let ((event, thread), rest) = turn_at(bytes)?;
     let (object, rest) = u32_in(0, MOST_OBJECT, rest)?;
@@ -311,7 +314,7 @@ fn update_at(bytes: &[u8]) -> Result<TraceLine, LineError>
 
 #[tactic(auto, unfolding(crate::specs::Reading::enter_at))]
 fn enter_at(bytes: &[u8]) -> Result<TraceLine, LineError>
-    ensures { Gives (λ x. x) result (enter_at bytes.now) }
+    ensures { GivesWhereRead (λ x. x) result (enter_at bytes.now) }
 {
     let ((event, thread), rest) = turn_at(bytes)?;
     let (method, rest) = u32_in(1, MOST_NUMBER, rest)?;
@@ -327,7 +330,7 @@ fn enter_at(bytes: &[u8]) -> Result<TraceLine, LineError>
 
 #[tactic(auto, unfolding(crate::specs::Reading::exit_at))]
 fn exit_at(bytes: &[u8]) -> Result<TraceLine, LineError>
-    ensures { Gives (λ x. x) result (exit_at bytes.now) }
+    ensures { GivesWhereRead (λ x. x) result (exit_at bytes.now) }
 {
     let ((event, thread), rest) = turn_at(bytes)?;
     let (method, rest) = u32_in(1, MOST_NUMBER, rest)?;
@@ -341,7 +344,7 @@ fn exit_at(bytes: &[u8]) -> Result<TraceLine, LineError>
 
 #[tactic(auto, unfolding(crate::specs::Reading::unwind_at))]
 fn unwind_at(bytes: &[u8]) -> Result<TraceLine, LineError>
-    ensures { Gives (λ x. x) result (unwind_at bytes.now) }
+    ensures { GivesWhereRead (λ x. x) result (unwind_at bytes.now) }
 {
     let ((event, thread), rest) = turn_at(bytes)?;
     let (method, rest) = u32_in(1, MOST_NUMBER, rest)?;
@@ -357,7 +360,7 @@ fn unwind_at(bytes: &[u8]) -> Result<TraceLine, LineError>
 
 #[tactic(auto, unfolding(crate::specs::Reading::flush_at))]
 fn flush_at(bytes: &[u8]) -> Result<TraceLine, LineError>
-    ensures { Gives (λ x. x) result (flush_at bytes.now) }
+    ensures { GivesWhereRead (λ x. x) result (flush_at bytes.now) }
 {
     let (event, rest) = number_in(0, MOST, bytes)?;
     let (deaths, rest) = u32_in(0, MOST_OBJECT, rest)?;
@@ -365,9 +368,9 @@ fn flush_at(bytes: &[u8]) -> Result<TraceLine, LineError>
     done(line, rest)
 }
 
-#[tactic(auto, unfolding(crate::specs::Reading::death_at))]
+#[tactic(auto, unfolding(crate::specs::Reading::death_line_at))]
 fn death_at(bytes: &[u8]) -> Result<TraceLine, LineError>
-    ensures { Gives (λ x. x) result (death_at bytes.now) }
+    ensures { GivesWhereRead (λ x. x) result (death_line_at bytes.now) }
 {
     let (object, rest) = u32_in(1, MOST_OBJECT, bytes)?;
     let (time, rest) = number_in(0, MOST, rest)?;
@@ -377,7 +380,7 @@ fn death_at(bytes: &[u8]) -> Result<TraceLine, LineError>
 
 #[tactic(auto, unfolding(crate::specs::Reading::finish_at))]
 fn finish_at(bytes: &[u8]) -> Result<TraceLine, LineError>
-    ensures { Gives (λ x. x) result (finish_at bytes.now) }
+    ensures { GivesWhereRead (λ x. x) result (finish_at bytes.now) }
 {
     let (event, rest) = number_in(0, MOST, bytes)?;
     let (how, rest) = u8_in(3, rest)?;
@@ -388,7 +391,7 @@ fn finish_at(bytes: &[u8]) -> Result<TraceLine, LineError>
 /// The line that the bytes of a line, without their LF, are.
 #[tactic(auto, unfolding(crate::specs::Reading::line_at))]
 fn line_at(alloc: Global, bytes: &[u8]) -> Result<TraceLine, LineError>
-    ensures { Gives (λ x. x) result (line_at bytes.now) }
+    ensures { GivesWhereRead (λ x. x) result (line_at bytes.now) }
 {
     let [letter, rest @ ..] = bytes else {
         return Err(LineError::Form);
@@ -413,9 +416,9 @@ fn line_at(alloc: Global, bytes: &[u8]) -> Result<TraceLine, LineError>
 /// spelling: the letter, the number of fields, their ranges, a leading zero or the escape of a byte that is not
 /// escaped. It takes memory for names and descriptors alone.
 pub fn read_line(alloc: Global, bytes: &[u8]) -> Result<TraceLine, LineError>
-    ensures found { IfOk result (λ line. IsSpelled line bytes.now) }
+    ensures found { IfOk result (λ line. IsLineSpelled line bytes.now) }
     ensures form { IsErrOf result LineError.Form →
-        (line : TraceLine) → IsSpelled line bytes.now → ⊥ }
+        (line : TraceLine) → IsLineSpelled line bytes.now → ⊥ }
 {
     line_at(alloc, bytes)
 }

@@ -20,17 +20,17 @@ pub struct Rules {
 }
 
 impl Model for Rules {
-    ghost use Rattle.et_text.specs.Taken.{Taken, KeepsRules};
+    ghost use Rattle.et_text.specs.Taken.{Taken, KeepsTextRules};
 
     ghost Value = { Taken };
 
     ghost view = { λ a. record { lines = a.lines.items; fault = a.fault } };
 
-    ghost invariant = { λ a. KeepsRules a.fault a.standing a.lines.items };
+    ghost invariant = { λ a. KeepsTextRules a.fault a.standing a.lines.items };
 }
 
 impl Rules {
-    ghost use Rattle.et_text.specs.Taken.{Taken, Takes, Refuses};
+    ghost use Rattle.et_text.specs.Taken.{Taken, TakesLine, Refuses};
     ghost use Rattle.et_text.specs.declared.fault.TraceFault.{TraceFault};
 
     /// No line yet.
@@ -64,7 +64,7 @@ impl Rules {
     /// fault, want of memory too, each further call answers that fault and changes nothing.
     pub fn take(&mut self, line: TraceLine) -> Result<(), TraceFault>
         requires range { IsInRange 1 line }
-        ensures ok { OnOk result (Takes self.old self.new line) }
+        ensures ok { OnOk result (TakesLine self.old self.new line) }
         ensures fine { OnOk result (AreFine 1 (reverse self.new.lines)) }
         ensures again { (fault : TraceFault) →
             self.old.fault ≡ Some fault → (result ≡ Err fault) × (self.new ≡ self.old) }

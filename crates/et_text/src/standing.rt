@@ -1,6 +1,6 @@
 //! What the lines so far say, kept so that the next line is tried without a search.
 ghost use Rattle.std.specs.Prelude.{[]};
-ghost use Rattle.et_text.specs.StandsFor.{StandsFor};
+ghost use Rattle.et_text.specs.StandsFor.{StandsForLines};
 
 use std::alloc::Global;
 use std::collections::HashSet;
@@ -37,7 +37,7 @@ pub struct Standing {
 impl Standing {
     /// Before the first line.
     pub fn begin(alloc: Global) -> Standing
-        ensures { StandsFor result [] }
+        ensures { StandsForLines result [] }
     {
         Standing {
             begun: false,

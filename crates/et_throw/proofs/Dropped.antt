@@ -18,9 +18,9 @@ use Rattle.et_state.specs.declared.ends.EventEnd.TheVariants as ends
 use Rattle.et_event.specs.Answered.{EventAnswers}
 use Rattle.et_event.specs.Moments.{Moment, moment, Doing, begins, told, goes}
 use Rattle.et_event.specs.Monitors.{Lock, OfObject, OfClass, left, lock_in}
-use Rattle.et_event.specs.Sites.{method_of}
+use Rattle.et_event.specs.Sites.{running_method}
 use Rattle.et_event.specs.Throw.{left_if_owned, dropped, unwound}
-use Rattle.et_parts.specs.Locks.{HasSome, doing, owns_at, leaving}
+use Rattle.et_parts.specs.Locks.{HasSome, doing, owns_at, leaving_lock}
 use Rattle.et_parts.proofs.Keeping.{monitor_on_way, left_is}
 use Rattle.et_parts.proofs.There.{there_later}
 use Rattle.et_throw.specs.Unwinding.{leaving_if_owned}
@@ -29,7 +29,7 @@ use Rattle.et_throw.specs.Unwinding.{leaving_if_owned}
 
 leaves_owned : (e : Moment) (lock : Lock) (m : MachineState) → left_if_owned e (Some lock) (doing m) ≡ doing (leaving_if_owned e.thread (Some lock) m)
 leaves_owned e lock m =
-    elim (owns_at e.thread lock m) as (λ b. (if b then left lock (doing m) else doing m) ≡ doing (if b then leaving lock m else m)) [
+    elim (owns_at e.thread lock m) as (λ b. (if b then left lock (doing m) else doing m) ≡ doing (if b then leaving_lock lock m else m)) [
       | true ↦ left_is (Some lock) m []
       | false ↦ refl
     ]
@@ -40,7 +40,7 @@ leaves_is e (Some lock) m = leaves_owned e lock m
 
 leaves_on_way : (s : Kept) (m : MachineState) (t : ℕ) (lock : Option Lock) → IsOnWay s m → HasSome m lock → IsOnWay s (leaving_if_owned t lock m)
 leaves_on_way s m t None w has = w
-leaves_on_way s m t (Some lock) w has = elim (owns_at t lock m) as (λ b. IsOnWay s (if b then leaving lock m else m)) [ true ↦ monitor_on_way s m lock _ w has | false ↦ w ]
+leaves_on_way s m t (Some lock) w has = elim (owns_at t lock m) as (λ b. IsOnWay s (if b then leaving_lock lock m else m)) [ true ↦ monitor_on_way s m lock _ w has | false ↦ w ]
 
 -- nothing but the monitor has changed
 record SameBeside (m m' : MachineState) : Type 0 where
@@ -48,13 +48,13 @@ record SameBeside (m m' : MachineState) : Type 0 where
   objects : length m'.heap ≡ length m.heap
   lost : m'.lost ≡ m.lost
 
-leaving_beside : (lock : Lock) (m : MachineState) → SameBeside m (leaving lock m)
+leaving_beside : (lock : Lock) (m : MachineState) → SameBeside m (leaving_lock lock m)
 leaving_beside (OfObject o) m = record { threads = refl; objects = length-set m.heap o _; lost = refl }
 leaving_beside (OfClass c) m = record { threads = refl; objects = refl; lost = refl }
 
 leaves_beside : (t : ℕ) (lock : Option Lock) (m : MachineState) → SameBeside m (leaving_if_owned t lock m)
 leaves_beside t None m = record { threads = refl; objects = refl; lost = refl }
-leaves_beside t (Some lock) m = elim (owns_at t lock m) as (λ b. SameBeside m (if b then leaving lock m else m)) [ true ↦ leaving_beside lock m | false ↦ record { threads = refl; objects = refl; lost = refl } ]
+leaves_beside t (Some lock) m = elim (owns_at t lock m) as (λ b. SameBeside m (if b then leaving_lock lock m else m)) [ true ↦ leaving_beside lock m | false ↦ record { threads = refl; objects = refl; lost = refl } ]
 
 still_framed : (g g' : GuestState) (t : ℕ) → g'.threads ≡ g.threads → HasFrame g t → HasFrame g' t
 still_framed g g' t e has = record {
@@ -81,7 +81,7 @@ unwound_led m t lock m₁ m₂ m₃ sound has there e₁ e₂ e₃ p =
     led_plain s _ m₃ (subst (λ (n : MachineState). IsOnWay s n) (sym is) next) (ap (λ (n : MachineState). length n.heap) is ∙ beside.objects) (ap (λ (n : MachineState). kept_of n) is)
 
 pub unwound_answers : (p : Linked) (t o : ℕ) (lock : Option Lock) (m m₁ m₂ m₃ : MachineState) (out out' : List Record) → IsSound (kept_of m) → HasFrame m.guest t → HasSome m lock
-    → lock ≡ lock_in (top m.guest t).stage (method_of p (top m.guest t)) (top m.guest t).lock → m₁ ≡ begun m → m₂ ≡ leaving_if_owned t lock m₁
+    → lock ≡ lock_in (top m.guest t).stage (running_method p (top m.guest t)) (top m.guest t).lock → m₁ ≡ begun m → m₂ ≡ leaving_if_owned t lock m₁
     → m₃ ≡ steps_thread m₂ t (without_top (thread_at m₂.guest t)) (frame_roots (top m₂.guest t))
     → out' ≡ out ++ Unwind (m.guest.clock + 1) t (unwrap_or (top m.guest t).method 0) o ∷ []
     → EventAnswers (unwound (moment p m t) o) ends.Done m m₃ out out'

@@ -33,10 +33,10 @@ use Rattle.et_event.specs.declared.errors.GuestError.TheVariants.{ExceptionInIni
 use Rattle.et_event.specs.Answered.{EventAnswers}
 use Rattle.et_event.specs.Errors.{error_class}
 use Rattle.et_event.specs.Initialization.{with_state}
-use Rattle.et_event.specs.Moments.{moment, Doing, fits, number_of, ends as ending}
+use Rattle.et_event.specs.Moments.{moment, Doing, fits_heap, number_of_value, ends_event as ending}
 use Rattle.et_event.specs.Throw.{replaced}
 use Rattle.et_parts.proofs.Throwing.{ends_fit, ends_full}
-use Rattle.et_throw.specs.Unwinding.{initializer_left, initializer_dropped, unwind_records, IsMade}
+use Rattle.et_throw.specs.Unwinding.{initializer_left, initializer_dropped, unwind_records, IsThrowMade}
 use Rattle.et_throw.proofs.Caught.{roots_are_few}
 use Rattle.et_throw.proofs.Turning.{pending_held}
 
@@ -64,7 +64,7 @@ failed_led m m' t class sound has e =
     let w : IsOnWay s (initializer_dropped t class m) = dropped_on_way s m t class (on_begin_event m sound) has (λ o c. root_there s (kept_of (begun m)) o (top_root m.guest t o has c)) in
     led_plain s _ m' (subst (λ (n : MachineState). IsOnWay s n) (sym e) w) (ap (λ (n : MachineState). length n.heap) e) (ap (λ (n : MachineState). kept_of n) e)
 
-pub failed_answers : (p : Linked) (t class o : ℕ) (tells : Bool) (m m' : MachineState) (out out' : List Record) → IsSound (kept_of m) → HasFrame m.guest t → fits m.heap ≡ true → m' ≡ initializer_dropped t class m
+pub failed_answers : (p : Linked) (t class o : ℕ) (tells : Bool) (m m' : MachineState) (out out' : List Record) → IsSound (kept_of m) → HasFrame m.guest t → fits_heap m.heap ≡ true → m' ≡ initializer_dropped t class m
     → out' ≡ out ++ unwind_records m t tells o → EventAnswers (ending (failed_plainly p m t class o tells)) ends.Done m m' out out'
 failed_answers p t class o true m m' out out' sound has fit e told_is =
     subst (λ (x : Outcome Kept). EventAnswers x ends.Done m m' out out') (sym (ends_fit (failed_plainly p m t class o true) fit)) (failed_led m m' t class sound has e, told_is)
@@ -196,7 +196,7 @@ replaced_led m m' t class kind slots o sound has pending e =
 
 -- ITS ROOM
 
-fits_more : (heap : Objects) (x : ObjectState) → 0 < length heap → fits (heap ++ Some x ∷ []) ≡ has_room heap 1 (length x.slots)
+fits_more : (heap : Objects) (x : ObjectState) → 0 < length heap → fits_heap (heap ++ Some x ∷ []) ≡ has_room heap 1 (length x.slots)
 fits_more heap x lt =
     let pushed : length (heap ++ Some x ∷ []) ≡ length heap + 1 = length_push heap (Some x) in
     let objects : made_count (heap ++ Some x ∷ []) ≡ made_count heap + 1 = omega arith in
@@ -205,19 +205,19 @@ fits_more heap x lt =
     ∙ ap (λ (n : ℕ). nat_le (made_count heap + 1) most_objects && nat_le n most_slots) more
 
 fits_caused : (heap : Objects) (kind slots o : ℕ) → 0 < length heap
-    → fits (with_object_at (heap ++ Some (error_object kind slots) ∷ []) (length heap) (with_cause o (object_at (heap ++ Some (error_object kind slots) ∷ []) (length heap)))) ≡ has_room heap 1 slots
+    → fits_heap (with_object_at (heap ++ Some (error_object kind slots) ∷ []) (length heap) (with_cause o (object_at (heap ++ Some (error_object kind slots) ∷ []) (length heap)))) ≡ has_room heap 1 slots
 fits_caused heap kind slots o lt =
     let y : ObjectState = error_object kind slots in
     let many : length (with_cause o y).slots ≡ slots = length-set y.slots 1 (Ref o) ∙ length-replicate slots Unset in
-    ap (λ (x : ObjectState). fits (with_object_at (heap ++ Some y ∷ []) (length heap) (with_cause o x))) (newest heap y)
-    ∙ (ap (λ (h : Objects). fits h) (set-append_seam heap (Some y) [] (Some (with_cause o y)))
+    ap (λ (x : ObjectState). fits_heap (with_object_at (heap ++ Some y ∷ []) (length heap) (with_cause o x))) (newest heap y)
+    ∙ (ap (λ (h : Objects). fits_heap h) (set-append_seam heap (Some y) [] (Some (with_cause o y)))
     ∙ (fits_more heap (with_cause o y) lt
     ∙ ap (λ (n : ℕ). has_room heap 1 n) many))
 
 -- WHAT IT ANSWERS
 
 abbrev error_records : MachineState → ℕ → ℕ → ℕ → Value → ℕ → List Record
-error_records m t kind slots old o = Alloc (m.guest.clock + 1) t (length m.heap) kind (16 + 8 * slots) 0 ∷ Update (m.guest.clock + 1) t (length m.heap) 1 (number_of old) o ∷ []
+error_records m t kind slots old o = Alloc (m.guest.clock + 1) t (length m.heap) kind (16 + 8 * slots) 0 ∷ Update (m.guest.clock + 1) t (length m.heap) 1 (number_of_value old) o ∷ []
 
 abbrev kind_of : Linked → ℕ
 kind_of p = error_class p ExceptionInInitializerError
@@ -235,7 +235,7 @@ records_told p m t o tells out out' e =
     e ∙ (append_assoc out (unwind_records m t tells o) (error_records m t (kind_of p) (slots_of p) Unset o)
     ∙ ap (λ (v : Value). out ++ (unwind_records m t tells o ++ error_records m t (kind_of p) (slots_of p) v o)) (sym (first_cause m.heap (kind_of p) (slots_of p))))
 
-done_by : (p : Linked) (t class o : ℕ) (tells : Bool) (m m' : MachineState) (out out' : List Record) → fits (replaced_there p m t class o tells).state.heap ≡ true
+done_by : (p : Linked) (t class o : ℕ) (tells : Bool) (m m' : MachineState) (out out' : List Record) → fits_heap (replaced_there p m t class o tells).state.heap ≡ true
     → Led (kept_of m) (replaced_there p m t class o tells).state m' → out' ≡ out ++ (replaced_there p m t class o tells).records
     → EventAnswers (ending (replaced_there p m t class o tells)) ends.Done m m' out out'
 done_by p t class o tells m m' out out' fit led told_is =
@@ -250,7 +250,7 @@ replaced_answers p t class o true m m' out out' sound has pending room e told_is
 replaced_answers p t class o false m m' out out' sound has pending room e told_is =
     done_by p t class o false m m' out out' (fits_caused m.heap (kind_of p) (slots_of p) o sound.room ∙ room) (replaced_led m m' t class (kind_of p) (slots_of p) o sound has pending e) (records_told p m t o false out out' told_is)
 
-full_by : (p : Linked) (t class o : ℕ) (tells : Bool) (m m' : MachineState) (out : List Record) → fits (replaced_there p m t class o tells).state.heap ≡ false → m' ≡ m
+full_by : (p : Linked) (t class o : ℕ) (tells : Bool) (m m' : MachineState) (out : List Record) → fits_heap (replaced_there p m t class o tells).state.heap ≡ false → m' ≡ m
     → EventAnswers (ending (replaced_there p m t class o tells)) ends.ObjectLimit m m' out out
 full_by p t class o tells m m' out full same =
     subst (λ (x : Outcome Kept). EventAnswers x ends.ObjectLimit m m' out out) (sym (ends_full (replaced_there p m t class o tells) full)) (same, refl)
@@ -264,7 +264,7 @@ full_answers p t class o false m m' out sound full same = full_by p t class o fa
 abbrev told_error : MachineState → ℕ → ℕ → ℕ → ℕ → ℕ → List Record
 told_error m t n kind slots o = Alloc (m.guest.clock + 1) t n kind (16 + 8 * slots) 0 ∷ Update (m.guest.clock + 1) t n 1 0 o ∷ []
 
-error_is : (p : Linked) (m : MachineState) (t class kind slots n o : ℕ) (m₀ m₃ m₄ m' : MachineState) → kind ≡ kind_of p → slots ≡ slots_of p → IsMade kind slots (Some n) m m₀
+error_is : (p : Linked) (m : MachineState) (t class kind slots n o : ℕ) (m₀ m₃ m₄ m' : MachineState) → kind ≡ kind_of p → slots ≡ slots_of p → IsThrowMade kind slots (Some n) m m₀
     → m₃ ≡ initializer_dropped t class m₀ → m₄ ≡ caused m₃ n o → m' ≡ thrown m₄ t n → m' ≡ with_error m t class (kind_of p) (slots_of p) o
 error_is p m t class kind slots n o m₀ m₃ m₄ m' name many made e₃ e₄ e₅ =
     e₅ ∙ (ap (λ (z : MachineState). thrown z t n) e₄ ∙ (ap (λ (z : MachineState). thrown (caused z n o) t n) e₃
@@ -273,7 +273,7 @@ error_is p m t class kind slots n o m₀ m₃ m₄ m' name many made e₃ e₄ e
     ∙ (ap (λ (k : ℕ). with_error m t class k slots o) name
     ∙ ap (λ (k : ℕ). with_error m t class (kind_of p) k o) many)))))
 
-told_is_there : (p : Linked) (m : MachineState) (t kind slots n o : ℕ) (tells : Bool) (m₀ : MachineState) (out out₁ out' : List Record) → kind ≡ kind_of p → slots ≡ slots_of p → IsMade kind slots (Some n) m m₀
+told_is_there : (p : Linked) (m : MachineState) (t kind slots n o : ℕ) (tells : Bool) (m₀ : MachineState) (out out₁ out' : List Record) → kind ≡ kind_of p → slots ≡ slots_of p → IsThrowMade kind slots (Some n) m m₀
     → out₁ ≡ out ++ unwind_records m₀ t tells o → out' ≡ out₁ ++ told_error m₀ t n kind slots o
     → out' ≡ (out ++ unwind_records m t tells o) ++ error_records m t (kind_of p) (slots_of p) Unset o
 told_is_there p m t kind slots n o tells m₀ out out₁ out' name many made e₁ e₂ =
@@ -287,7 +287,7 @@ slots_by_name : (p : Linked) (kind slots : ℕ) → kind ≡ kind_of p → slots
 slots_by_name p kind slots name many = many ∙ ap (λ (k : ℕ). (class_at p k).info.slots) name
 
 pub replaced_by_name : (p : Linked) (t class kind slots n o : ℕ) (tells : Bool) (m m₀ m₃ m₄ m' : MachineState) (out out₁ out' : List Record) → IsSound (kept_of m) → HasFrame m.guest t → (thread_at m.guest t).pending ≡ Some o
-    → kind ≡ kind_of p → slots ≡ (class_at p kind).info.slots → IsMade kind slots (Some n) m m₀ → out₁ ≡ out ++ unwind_records m₀ t tells o → out' ≡ out₁ ++ told_error m₀ t n kind slots o
+    → kind ≡ kind_of p → slots ≡ (class_at p kind).info.slots → IsThrowMade kind slots (Some n) m m₀ → out₁ ≡ out ++ unwind_records m₀ t tells o → out' ≡ out₁ ++ told_error m₀ t n kind slots o
     → m₃ ≡ initializer_dropped t class m₀ → m₄ ≡ caused m₃ n o → m' ≡ thrown m₄ t n
     → EventAnswers (ending (replaced_there p m t class o tells)) ends.Done m m' out out'
 replaced_by_name p t class kind slots n o tells m m₀ m₃ m₄ m' out out₁ out' sound has pending name many made told₁ told₂ e₃ e₄ e₅ =
@@ -295,7 +295,7 @@ replaced_by_name p t class kind slots n o tells m m₀ m₃ m₄ m' out out₁ o
     replaced_answers p t class o tells m m' out out' sound has pending (ap (λ (k : ℕ). has_room m.heap 1 k) (sym all) ∙ made.0) (error_is p m t class kind slots n o m₀ m₃ m₄ m' name all made e₃ e₄ e₅)
     (told_is_there p m t kind slots n o tells m₀ out out₁ out' name all made told₁ told₂)
 
-pub full_by_name : (p : Linked) (t class kind slots o : ℕ) (tells : Bool) (m m₀ : MachineState) (out : List Record) → IsSound (kept_of m) → kind ≡ kind_of p → slots ≡ (class_at p kind).info.slots → IsMade kind slots None m m₀
+pub full_by_name : (p : Linked) (t class kind slots o : ℕ) (tells : Bool) (m m₀ : MachineState) (out : List Record) → IsSound (kept_of m) → kind ≡ kind_of p → slots ≡ (class_at p kind).info.slots → IsThrowMade kind slots None m m₀
     → EventAnswers (ending (replaced_there p m t class o tells)) ends.ObjectLimit m m₀ out out
 full_by_name p t class kind slots o tells m m₀ out sound name many made =
     full_answers p t class o tells m m₀ out sound (ap (λ (k : ℕ). has_room m.heap 1 k) (sym (slots_by_name p kind slots name many)) ∙ made.0) made.1

@@ -7,10 +7,10 @@ use Rattle.et_code.specs.declared.body.TableRow.{TableRow}
 use Rattle.et_program.specs.Entries.{Linked, class_at, is_interface}
 use Rattle.et_program.specs.Members.{is_above, is_subclass}
 use Rattle.et_state.specs.Threads.{FrameState}
-use Rattle.et_event.specs.Sites.{code_of, method_of, pool_of}
+use Rattle.et_event.specs.Sites.{code_of_frame, running_method, pool_of_class}
 use Rattle.et_event.specs.Throw.{is_above_or_same, catches, handler_of}
 use Rattle.et_parts.specs.Places.{Runs}
-use Rattle.et_parts.specs.Pools.{slots_of}
+use Rattle.et_parts.specs.Pools.{pool_slots}
 use Rattle.et_parts.proofs.Placing.{locals_found, pool_found}
 use Rattle.et_event.specs.Interfaces.{KnowsInterfaces}
 
@@ -27,14 +27,14 @@ by_kind false false false false a o = refl
 pub at_or_below : (p : Linked) (class above : ℕ) → KnowsInterfaces p → ((class == above) || (not (is_interface p above) && is_subclass p class above)) ≡ is_above_or_same p class (Some above)
 at_or_below p class above knows = by_kind (class == above) (list_any (λ k. k == above) (class_at p class).supers) (is_above p above class) (is_interface p above) (knows.supers class above) (knows.superinterfaces class above)
 
-pub small_frame : (p : Linked) (f : FrameState) → Runs p f → (code_of p f).max_locals < 2 ^ 16 → f.room < 2 ^ 16 → length f.locals + length f.operands < 2 ^ 17
+pub small_frame : (p : Linked) (f : FrameState) → Runs p f → (code_of_frame p f).max_locals < 2 ^ 16 → f.room < 2 ^ 16 → length f.locals + length f.operands < 2 ^ 17
 small_frame p f r few room =
     let locals : length f.locals < 2 ^ 16 = locals_found p f r few in
     omega (arith, r.runs.operands)
 
-pub handler_found : (p : Linked) (f : FrameState) (class k pc : ℕ) (pool : Option Constants) (rows : List TableRow) → pool ≡ slice_get p.pools k → k ≡ (method_of p f).class → pc ≡ f.pc → rows ≡ (code_of p f).table
-    → option_map (λ (row : TableRow). row.handler) (find (catches p (slots_of pool) pc class) rows) ≡ option_map (λ (row : TableRow). row.handler) (handler_of p f class)
+pub handler_found : (p : Linked) (f : FrameState) (class k pc : ℕ) (pool : Option Constants) (rows : List TableRow) → pool ≡ slice_get p.pools k → k ≡ (running_method p f).class → pc ≡ f.pc → rows ≡ (code_of_frame p f).table
+    → option_map (λ (row : TableRow). row.handler) (find (catches p (pool_slots pool) pc class) rows) ≡ option_map (λ (row : TableRow). row.handler) (handler_of p f class)
 handler_found p f class k pc pool rows e same at table =
-    ap (λ (items : List (Option Item)). option_map (λ (row : TableRow). row.handler) (find (catches p items pc class) rows)) (pool_found p k (method_of p f).class pool e same)
-    ∙ (ap (λ (n : ℕ). option_map (λ (row : TableRow). row.handler) (find (catches p (pool_of p (method_of p f).class) n class) rows)) at
-    ∙ ap (λ (xs : List TableRow). option_map (λ (row : TableRow). row.handler) (find (catches p (pool_of p (method_of p f).class) f.pc class) xs)) table)
+    ap (λ (items : List (Option Item)). option_map (λ (row : TableRow). row.handler) (find (catches p items pc class) rows)) (pool_found p k (running_method p f).class pool e same)
+    ∙ (ap (λ (n : ℕ). option_map (λ (row : TableRow). row.handler) (find (catches p (pool_of_class p (running_method p f).class) n class) rows)) at
+    ∙ ap (λ (xs : List TableRow). option_map (λ (row : TableRow). row.handler) (find (catches p (pool_of_class p (running_method p f).class) f.pc class) xs)) table)

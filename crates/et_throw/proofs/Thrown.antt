@@ -24,12 +24,12 @@ use Rattle.et_event.specs.Answered.{EventAnswers}
 use Rattle.et_event.specs.Checks.{Reference, with_reference, not_null, ill_typed_unless}
 use Rattle.et_event.specs.Moments.{Moment, moment, begins, ill_typed, goes, pending_now, throws}
 use Rattle.et_event.specs.Throw.{throw, is_throwable}
-use Rattle.et_parts.specs.Tops.{reference_of}
+use Rattle.et_parts.specs.Tops.{entry_reference}
 use Rattle.et_parts.proofs.Answering.{ill_typed_answers, ill_typed_end}
 
 -- THE REFERENCE ON TOP
 
-pub reference_taken : {A : Type 0} (refused : A) (go : Reference → List Value → A) (ops : List Value) (r : Reference) → reference_of (get_or ops 0 Unset) ≡ Some r → (below : List Value) × (with_reference refused ops go ≡ go r below)
+pub reference_taken : {A : Type 0} (refused : A) (go : Reference → List Value → A) (ops : List Value) (r : Reference) → entry_reference (get_or ops 0 Unset) ≡ Some r → (below : List Value) × (with_reference refused ops go ≡ go r below)
 reference_taken refused go [] r e = cc
 reference_taken refused go (Unset ∷ below) r e = cc
 reference_taken refused go (Int n ∷ below) r e = cc
@@ -38,7 +38,7 @@ reference_taken refused go (LongHigh ∷ below) r e = cc
 reference_taken {A} refused go (Null ∷ below) r e = let same : None ≡ r = cc in (below, ap (λ (x : Reference). go x below) same)
 reference_taken {A} refused go (Ref o ∷ below) r e = let same : Some o ≡ r = cc in (below, ap (λ (x : Reference). go x below) same)
 
-pub no_reference : {A : Type 0} (refused : A) (go : Reference → List Value → A) (ops : List Value) → reference_of (get_or ops 0 Unset) ≡ None → with_reference refused ops go ≡ refused
+pub no_reference : {A : Type 0} (refused : A) (go : Reference → List Value → A) (ops : List Value) → entry_reference (get_or ops 0 Unset) ≡ None → with_reference refused ops go ≡ refused
 no_reference refused go [] e = refl
 no_reference refused go (Unset ∷ below) e = refl
 no_reference refused go (Int n ∷ below) e = refl
@@ -47,7 +47,7 @@ no_reference refused go (LongHigh ∷ below) e = refl
 no_reference refused go (Null ∷ below) e = cc
 no_reference refused go (Ref o ∷ below) e = cc
 
-on_top : (ops : List Value) (o : ℕ) → reference_of (get_or ops 0 Unset) ≡ Some (Some o) → (0 < length ops) × (get_or ops 0 Unset ≡ Ref o)
+on_top : (ops : List Value) (o : ℕ) → entry_reference (get_or ops 0 Unset) ≡ Some (Some o) → (0 < length ops) × (get_or ops 0 Unset ≡ Ref o)
 on_top [] o e = cc
 on_top (Unset ∷ below) o e = cc
 on_top (Int n ∷ below) o e = cc
@@ -56,7 +56,7 @@ on_top (LongHigh ∷ below) o e = cc
 on_top (Null ∷ below) o e = cc
 on_top (Ref q ∷ below) o e = let same : q ≡ o = cc in (omega arith, ap (λ (k : ℕ). Ref k) same)
 
-pub reference_held : (m : MachineState) (t o : ℕ) → IsSound (kept_of m) → HasFrame m.guest t → reference_of (operand_of (top m.guest t) 0) ≡ Some (Some o) → IsHeld m.heap o
+pub reference_held : (m : MachineState) (t o : ℕ) → IsSound (kept_of m) → HasFrame m.guest t → entry_reference (operand_of (top m.guest t) 0) ≡ Some (Some o) → IsHeld m.heap o
 reference_held m t o sound has e =
     let h = on_top (top m.guest t).operands o e in
     operand_held m t 0 sound has h.0 o (subst (λ (v : Value). Contains (refs_of_value v) o) (sym h.1) (Contains-here o []))
@@ -79,14 +79,14 @@ thrown_led m t o m₁ m₂ sound has held e₁ e₂ =
 abbrev throws_reference : Moment → Reference → Outcome Kept
 throws_reference e r = not_null e (begins e) r (λ o. ill_typed_unless e (is_throwable e o) (goes (pending_now e o (begins e))))
 
-throws_it : (p : Linked) (m : MachineState) (t : ℕ) (r : Reference) → reference_of (operand_of (top m.guest t) 0) ≡ Some r → throw (moment p m t) ≡ throws_reference (moment p m t) r
+throws_it : (p : Linked) (m : MachineState) (t : ℕ) (r : Reference) → entry_reference (operand_of (top m.guest t) 0) ≡ Some r → throw (moment p m t) ≡ throws_reference (moment p m t) r
 throws_it p m t r e = (reference_taken (ill_typed (moment p m t)) (λ x below. throws_reference (moment p m t) x) (top m.guest t).operands r e).1
 
-pub thrown_by_null : {E : Type 0} (p : Linked) (t : ℕ) (m m' : MachineState) (out out' : List Record) (r : Result EventEnd E) → reference_of (operand_of (top m.guest t) 0) ≡ Some None
+pub thrown_by_null : {E : Type 0} (p : Linked) (t : ℕ) (m m' : MachineState) (out out' : List Record) (r : Result EventEnd E) → entry_reference (operand_of (top m.guest t) 0) ≡ Some None
     → IfOk r (λ end. EventAnswers (throws (moment p m t) NullPointerException (begins (moment p m t))) end m m' out out') → IfOk r (λ end. EventAnswers (throw (moment p m t)) end m m' out out')
 thrown_by_null p t m m' out out' r e h = subst (λ (x : Outcome Kept). IfOk r (λ end. EventAnswers x end m m' out out')) (sym (throws_it p m t None e)) h
 
-pub thrown_answers : (p : Linked) (t o : ℕ) (m m' : MachineState) (out : List Record) → reference_of (operand_of (top m.guest t) 0) ≡ Some (Some o) → is_throwable (moment p m t) o ≡ true
+pub thrown_answers : (p : Linked) (t o : ℕ) (m m' : MachineState) (out : List Record) → entry_reference (operand_of (top m.guest t) 0) ≡ Some (Some o) → is_throwable (moment p m t) o ≡ true
     → Led (kept_of m) (record { heap = m.heap; guest = with_thread (ticked m.guest) t (with_pending (Some o) (thread_at m.guest t)) }) m'
     → EventAnswers (throw (moment p m t)) ends.Done m m' out out
 thrown_answers p t o m m' out e throwable led =
@@ -94,14 +94,14 @@ thrown_answers p t o m m' out e throwable led =
     subst (λ (x : Outcome Kept). EventAnswers x ends.Done m m' out out) (sym (throws_it p m t (Some o) e))
     (subst (λ (b : Bool). EventAnswers (ill_typed_unless e₁ b (goes (pending_now e₁ o (begins e₁)))) ends.Done m m' out out) (sym throwable) (led, sym (append-nil out)))
 
-pub no_throwable : (p : Linked) (t o : ℕ) (m m' : MachineState) (out : List Record) (end : EventEnd) → reference_of (operand_of (top m.guest t) 0) ≡ Some (Some o) → is_throwable (moment p m t) o ≡ false → m' ≡ m → end ≡ ill_typed_end m' t
+pub no_throwable : (p : Linked) (t o : ℕ) (m m' : MachineState) (out : List Record) (end : EventEnd) → entry_reference (operand_of (top m.guest t) 0) ≡ Some (Some o) → is_throwable (moment p m t) o ≡ false → m' ≡ m → end ≡ ill_typed_end m' t
     → EventAnswers (throw (moment p m t)) end m m' out out
 no_throwable p t o m m' out end e throwable same is =
     let e₁ : Moment = moment p m t in
     subst (λ (x : Outcome Kept). EventAnswers x end m m' out out) (sym (throws_it p m t (Some o) e))
     (subst (λ (b : Bool). EventAnswers (ill_typed_unless e₁ b (goes (pending_now e₁ o (begins e₁)))) end m m' out out) (sym throwable) (ill_typed_answers p t m m' out end same is))
 
-pub nothing_thrown : (p : Linked) (t : ℕ) (m m' : MachineState) (out : List Record) (end : EventEnd) → reference_of (operand_of (top m.guest t) 0) ≡ None → m' ≡ m → end ≡ ill_typed_end m' t
+pub nothing_thrown : (p : Linked) (t : ℕ) (m m' : MachineState) (out : List Record) (end : EventEnd) → entry_reference (operand_of (top m.guest t) 0) ≡ None → m' ≡ m → end ≡ ill_typed_end m' t
     → EventAnswers (throw (moment p m t)) end m m' out out
 nothing_thrown p t m m' out end e same is =
     subst (λ (x : Outcome Kept). EventAnswers x end m m' out out) (sym (no_reference (ill_typed (moment p m t)) (λ x below. throws_reference (moment p m t) x) (top m.guest t).operands e)) (ill_typed_answers p t m m' out end same is)

@@ -8,7 +8,7 @@ use Rattle.et_heap.specs.Objects.{ObjectState, IsHeld, at, found, is_there, obje
 use Rattle.et_state.specs.declared.stage.Stage.{Stage}
 use Rattle.et_state.specs.declared.stage.Stage.TheVariants.{Plain, Before, Clinit}
 use Rattle.et_state.specs.declared.stage.Turn.TheVariants.{Unwind, EndThread, Entry, Initialize, Instruction}
-use Rattle.et_state.specs.Threads.{FrameState, ThreadState, no_thread, turn_of, has_frame, is_before, first_frame, top_of}
+use Rattle.et_state.specs.Threads.{FrameState, ThreadState, no_thread, turn_of, has_frame, is_before_class, first_frame, top_of}
 use Rattle.et_state.specs.State.{GuestState, Kept, MachineState, kept_of}
 use Rattle.et_state.specs.Words.{thread_at, top, HasFrame}
 use Rattle.et_state.specs.Sound.{IsSound}
@@ -41,7 +41,7 @@ started (x ∷ xs) (suc t) e = let h : t < length xs = started xs t e in omega a
 pub unwinds_frame : (g : GuestState) (t : ℕ) → turn_of (thread_at g t) ≡ Unwind → HasFrame g t
 unwinds_frame g t e =
     let x : ThreadState = thread_at g t in
-    let h : has_frame x.frames ≡ true = (by_parts (is_some x.pending) (has_frame x.frames) (is_before (top_of x).stage) x.entered e).1 in
+    let h : has_frame x.frames ≡ true = (by_parts (is_some x.pending) (has_frame x.frames) (is_before_class (top_of x).stage) x.entered e).1 in
     record { thread = started g.threads t h; frame = some_frame x.frames h }
 
 -- WHAT IT IS FOR
@@ -53,14 +53,14 @@ first_staged p (f ∷ fs) h sound = sound.0
 pub top_staged : (p : Linked) (s : Kept) (t : ℕ) → IsSoundFor p s → HasFrame s.guest t → IsStaged p (top s.guest t) (top s.guest t).stage (top s.guest t).method
 top_staged p s t sound has = first_staged p (thread_at s.guest t).frames has.frame (sound.threads t has.thread).frames
 
-runs_by : (p : Linked) (f : FrameState) (stage : Stage) (method : Option ℕ) → f.method ≡ method → is_before stage ≡ false → IsStaged p f stage method → Runs p f
+runs_by : (p : Linked) (f : FrameState) (stage : Stage) (method : Option ℕ) → f.method ≡ method → is_before_class stage ≡ false → IsStaged p f stage method → Runs p f
 runs_by p f Plain (Some m) e b h = record { method = m; named = e; runs = h.0 }
 runs_by p f Plain None e b h = absurd h
 runs_by p f (Before c) method e b h = cc
 runs_by p f (Clinit c) (Some m) e b h = record { method = m; named = e; runs = h.1 }
 runs_by p f (Clinit c) None e b h = absurd h
 
-pub runs_staged : (p : Linked) (s : Kept) (t : ℕ) → IsSoundFor p s → HasFrame s.guest t → is_before (top s.guest t).stage ≡ false → Runs p (top s.guest t)
+pub runs_staged : (p : Linked) (s : Kept) (t : ℕ) → IsSoundFor p s → HasFrame s.guest t → is_before_class (top s.guest t).stage ≡ false → Runs p (top s.guest t)
 runs_staged p s t sound has b = runs_by p (top s.guest t) (top s.guest t).stage (top s.guest t).method refl b (top_staged p s t sound has)
 
 -- WHAT IT PENDS

@@ -9,11 +9,11 @@ use Rattle.et_state.specs.State.{Kept, MachineState, kept_of}
 use Rattle.et_state.specs.Words.{HasFrame, thread_at, with_thread, top, ticked, begun, steps_guest, with_class_state, with_new_object}
 use Rattle.et_state.specs.declared.records.Record.{Record}
 use Rattle.et_state.specs.declared.records.Record.TheVariants.{Unwind}
-use Rattle.et_event.specs.Moments.{Moment, Doing, frame_of, begins, told}
+use Rattle.et_event.specs.Moments.{Moment, Doing, current_frame, begins, told}
 use Rattle.et_event.specs.Monitors as table
 use Rattle.et_event.specs.Sound.{IsSoundFor}
 use Rattle.et_event.specs.Throw.{dropped, handled}
-use Rattle.et_parts.specs.Locks.{owns_at, leaving}
+use Rattle.et_parts.specs.Locks.{owns_at, leaving_lock}
 
 -- a thread with a frame in which an exception is to be unwound, in a sound state
 pub record Unwinds (p : Linked) (m : MachineState) (t o : ℕ) : Type 0 where
@@ -26,11 +26,11 @@ pub record Unwinds (p : Linked) (m : MachineState) (t o : ℕ) : Type 0 where
 -- the monitor of a lock is left once, where the thread owns it
 abbrev pub leaving_if_owned : ℕ → Option table.Lock → MachineState → MachineState
 leaving_if_owned t None m = m
-leaving_if_owned t (Some lock) m = if owns_at t lock m then leaving lock m else m
+leaving_if_owned t (Some lock) m = if owns_at t lock m then leaving_lock lock m else m
 
 -- the frame of an initializer is dropped; one whose <clinit> was entered gives a record
 abbrev pub initializer_left : Moment → Bool → ℕ → Doing
-initializer_left e true o = told (Unwind (begins e).state.guest.clock e.thread (unwrap_or (frame_of e).method 0) o) (dropped e (begins e))
+initializer_left e true o = told (Unwind (begins e).state.guest.clock e.thread (unwrap_or (current_frame e).method 0) o) (dropped e (begins e))
 initializer_left e false o = dropped e (begins e)
 
 -- the state in which the handler at a pc has caught an exception
@@ -48,6 +48,6 @@ initializer_dropped t class m =
     steps_guest (begun m) (with_class_state (with_thread (ticked m.guest) t (without_top (thread_at m.guest t))) class Failed) (frame_roots (top m.guest t))
 
 -- an object is made where it fits, and nothing has changed where it does not
-abbrev pub IsMade : ℕ → ℕ → Option ℕ → MachineState → MachineState → Type 0
-IsMade class slots (Some o) m m' = (has_room m.heap 1 slots ≡ true) × (o ≡ length m.heap) × (m' ≡ with_new_object m (new_object class 0 slots))
-IsMade class slots None m m' = (has_room m.heap 1 slots ≡ false) × (m' ≡ m)
+abbrev pub IsThrowMade : ℕ → ℕ → Option ℕ → MachineState → MachineState → Type 0
+IsThrowMade class slots (Some o) m m' = (has_room m.heap 1 slots ≡ true) × (o ≡ length m.heap) × (m' ≡ with_new_object m (new_object class 0 slots))
+IsThrowMade class slots None m m' = (has_room m.heap 1 slots ≡ false) × (m' ≡ m)

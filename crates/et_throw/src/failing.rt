@@ -12,9 +12,9 @@ ghost use Rattle.et_event.specs.Answered.{EventAnswers};
 ghost use Rattle.et_event.specs.Errors.{class_called as called, error_class};
 ghost use Rattle.et_event.specs.declared.errors.GuestError.TheVariants as errors;
 ghost use Rattle.et_event.specs.Initialization.{with_state};
-ghost use Rattle.et_event.specs.Moments.{moment, fits, ends};
+ghost use Rattle.et_event.specs.Moments.{moment, fits_heap, ends_event};
 ghost use Rattle.et_event.specs.Throw.{failed, replaced};
-ghost use Rattle.et_throw.specs.Unwinding.{Unwinds, IsMade, initializer_left, initializer_dropped};
+ghost use Rattle.et_throw.specs.Unwinding.{Unwinds, IsThrowMade, initializer_left, initializer_dropped};
 
 use crate::records::{tell_error, tell_unwind};
 use et_base::{ClassId, NoMemory, ObjectId, Steps, ThreadId, Value};
@@ -67,12 +67,12 @@ fn fail_by_error(
     requires frame { HasFrame machine.old.guest thread }
     requires sound { IsSound (kept_of machine.old) }
     requires clock { machine.old.guest.clock < 2 ^ 40 }
-    requires fits { fits machine.old.heap ≡ true }
+    requires fits { fits_heap machine.old.heap ≡ true }
     requires small { length (top machine.old.guest thread).locals
         + length (top machine.old.guest thread).operands < 2 ^ 17 }
     requires class { initializer.class < length machine.old.guest.classes }
     ensures ok { IfOk result (λ end. (p : Linked) →
-        EventAnswers (ends (with_state initializer.class states.Failed
+        EventAnswers (ends_event (with_state initializer.class states.Failed
         (initializer_left (moment p machine.old thread) initializer.entered exception)))
         end machine.old machine.new out.old out.new) }
     ensures err { OnErr result (machine.new.guest ≡ machine.old.guest) }
@@ -95,7 +95,7 @@ fn slots_of(program: &Program, class: ClassId) -> u32
 
 /// Makes an object; `None`, and nothing is done, exactly where it doesn't fit. After `NoMemory` the machine is as before.
 fn make(machine: &mut Machine, class: ClassId, slots: u32) -> Result<Option<ObjectId>, NoMemory>
-    ensures ok { IfOk result (λ made. IsMade class slots made machine.old machine.new) }
+    ensures ok { IfOk result (λ made. IsThrowMade class slots made machine.old machine.new) }
     ensures err { OnErr result (machine.new ≡ machine.old) }
 {
     match machine.heap.make_object(class, slots) {
@@ -145,7 +145,7 @@ fn fail_by_exception<L: Ledger>(
         + length (top machine.old.guest thread).operands < 2 ^ 17 }
     requires class { initializer.class < length machine.old.guest.classes }
     requires pending { (thread_at machine.old.guest thread).pending ≡ Some exception }
-    ensures ok { IfOk result (λ end. EventAnswers (ends
+    ensures ok { IfOk result (λ end. EventAnswers (ends_event
         (replaced (moment program.now machine.old thread) exception
         (with_state initializer.class states.Failed (initializer_left
         (moment program.now machine.old thread) initializer.entered exception))))
@@ -186,7 +186,7 @@ pub(crate) fn fail_event<L: Ledger>(
     requires class { initializer.class < length program.now.classes }
     requires thrown { thrown.class ≡ (object_at machine.old.heap thrown.exception).class }
     requires known { thrown.class < length program.now.classes }
-    ensures ok { IfOk result (λ end. EventAnswers (ends (failed
+    ensures ok { IfOk result (λ end. EventAnswers (ends_event (failed
         (moment program.now machine.old thread) initializer.class thrown.exception (initializer_left
         (moment program.now machine.old thread) initializer.entered thrown.exception)))
         end machine.old machine.new out.old out.new) }

@@ -1,7 +1,7 @@
 //! How much the topmost frame of a thread has, and the exception table of its method.
 ghost use Rattle.std.specs.Prelude.{◌≡◌, ◌+◌, ◌<◌, ◌^◌, length};
 ghost use Rattle.et_state.specs.Words.{HasFrame, top};
-ghost use Rattle.et_event.specs.Sites.{body_of};
+ghost use Rattle.et_event.specs.Sites.{present_body};
 ghost use Rattle.et_parts.specs.Places.{Runs};
 
 use et_base::ThreadId;
@@ -19,7 +19,7 @@ fn table_in(code: &Code) -> &[TableRow]
 
 /// The exception table of a method; it is empty where the method has no code.
 pub(crate) fn table_of(method: &MethodInfo) -> &[TableRow]
-    ensures { result.now ≡ (body_of method.now.code).table }
+    ensures { result.now ≡ (present_body method.now.code).table }
 {
     match &method.code {
         Some(code) => table_in(code),
@@ -36,7 +36,7 @@ fn few_locals(code: &Code)
 
 /// .. and so has a method.
 fn locals_are_few(method: &MethodInfo)
-    ensures { (body_of method.now.code).max_locals < 2 ^ 16 }
+    ensures { (present_body method.now.code).max_locals < 2 ^ 16 }
 {
     match &method.code {
         Some(code) => few_locals(code),

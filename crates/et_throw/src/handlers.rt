@@ -6,7 +6,7 @@ ghost use Rattle.et_code.specs.declared.body.TableRow.{TableRow as Row};
 ghost use Rattle.et_state.specs.Words.{HasFrame, top};
 ghost use Rattle.et_event.specs.Throw.{is_above_or_same, catches_name, catches as catches_there, handler_of};
 ghost use Rattle.et_parts.specs.Places.{Runs};
-ghost use Rattle.et_parts.specs.Pools.{slots_of};
+ghost use Rattle.et_parts.specs.Pools.{pool_slots};
 ghost use Rattle.et_event.specs.Interfaces.{KnowsInterfaces};
 
 use crate::frames::table_of;
@@ -48,7 +48,7 @@ fn is_caught_by(program: &Program, class: ClassId, name: Option<&[u8]>) -> bool
 /// The name of a class in a pool.
 fn class_name(pool: Option<&Pool>, index: u16) -> Option<&[u8]>
     ensures { option_map (λ s. s.now) result
-        ≡ class_name_at (slots_of (option_copied pool.entry)) index }
+        ≡ class_name_at (pool_slots (option_copied pool.entry)) index }
 {
     match pool {
         Some(pool) => pool.class_name(index),
@@ -61,7 +61,7 @@ fn catches(program: &Program, pool: Option<&Pool>, pc: u32, class: ClassId, row:
     requires class { class < length program.now.classes }
     requires interfaces { KnowsInterfaces program.now }
     ensures { result
-        ≡ catches_there program.now (slots_of (option_copied pool.entry)) pc class row }
+        ≡ catches_there program.now (pool_slots (option_copied pool.entry)) pc class row }
 {
     row.start as u32 <= pc
         && pc < row.end as u32
@@ -79,7 +79,8 @@ fn first_handler(
     requires class { class < length program.now.classes }
     requires interfaces { KnowsInterfaces program.now }
     ensures { result ≡ option_map (λ (row : Row). row.handler)
-        (find (catches_there program.now (slots_of (option_copied pool.entry)) pc class) rows.now) }
+        (find (catches_there program.now (pool_slots (option_copied pool.entry)) pc class)
+        rows.now) }
 {
     let row = rows
         .iter()

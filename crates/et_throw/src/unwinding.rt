@@ -9,7 +9,7 @@ ghost use Rattle.et_state.specs.Words.{HasFrame, thread_at, top};
 ghost use Rattle.et_state.specs.Sound.{IsSound};
 ghost use Rattle.et_event.specs.Answered.{EventAnswers};
 ghost use Rattle.et_event.specs.Event.{event};
-ghost use Rattle.et_event.specs.Sites.{method_of as method_in};
+ghost use Rattle.et_event.specs.Sites.{running_method as method_in};
 ghost use Rattle.et_event.specs.Sound.{IsSoundFor};
 ghost use Rattle.et_event.specs.Throw.{unwound, unwinds};
 ghost use Rattle.et_event.specs.Monitors.{lock_in as lock_in_frame};

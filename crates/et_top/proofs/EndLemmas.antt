@@ -4,7 +4,7 @@ use Rattle.std.specs.Prelude.{IfOk}
 use Rattle.et_graph.specs.Graph.{Graph}
 use Rattle.et_top.specs.Faults.{Fault, Absent, TooLong, BadClass, BadText, BadTrace, LinkFault, status_of_fault}
 use Rattle.et_top.specs.Process.{is_whole, EndsAs}
-use Rattle.et_top.specs.Top.{Defined, Usage, Refused, Writes, Traces, Gives}
+use Rattle.et_top.specs.Top.{Defined, Usage, Refused, Writes, Traces, GivesDefined}
 use Rattle.et_top.specs.declared.status.Status.{Status}
 use Rattle.et_top.specs.declared.status.Status.TheVariants as status
 use Rattle.et_top.proofs.TopLemmas.{front_nothing}
@@ -20,7 +20,7 @@ never_whole (LinkFault kind class) e = absurd (cc e)
 
 module _ (reached : Graph → ℕ → Bool) (old new : ℕ) (read written : Type 0) where
   -- a write may fail at any time
-  pub loose_gives : (d : Defined) (answer : Status) → Gives reached None None old new read written d answer → Gives reached None None old new read (Unit {0}) d answer
+  pub loose_gives : (d : Defined) (answer : Status) → GivesDefined reached None None old new read written d answer → GivesDefined reached None None old new read (Unit {0}) d answer
   loose_gives Usage answer h = h
   loose_gives (Refused fault) answer h = h
   loose_gives (Writes text) status.Done h = h
@@ -51,7 +51,7 @@ module _ (reached : Graph → ℕ → Bool) (old new : ℕ) (read written : Type
   loose_gives (Traces program options) status.LinkFault h = absurd h
 
   -- a whole output of which the stream didn't take the rest; of the counter, which is dropped then, nothing is asked
-  pub cut_gives : (d : Defined) (came : Status) → is_whole came ≡ true → Gives reached None None old new read written d came → Gives reached None None 0 0 read (Unit {0}) d status.WriteFault
+  pub cut_gives : (d : Defined) (came : Status) → is_whole came ≡ true → GivesDefined reached None None old new read written d came → GivesDefined reached None None 0 0 read (Unit {0}) d status.WriteFault
   cut_gives Usage came whole (same, inl e) = absurd (cc (whole, e))
   cut_gives Usage came whole (same, inr e) = absurd (cc (whole, e))
   cut_gives (Refused fault) came whole (same, inl e) = absurd (never_whole fault (subst (λ s. is_whole s ≡ true) e whole))
@@ -61,9 +61,9 @@ module _ (reached : Graph → ℕ → Bool) (old new : ℕ) (read written : Type
   cut_gives (Traces program options) came whole h = (tt, record { wrote = λ e end last. front_nothing None _; visits = inl refl })
 
   -- so the status with which the process ends is given too
-  pub ends_gives : (d : Defined) (came end : Status) → EndsAs came end → Gives reached None None old new read written d came → (visits : ℕ) × ((old ≡ 0) → Gives reached None None 0 visits read (Unit {0}) d end)
-  ends_gives d came end (inl e) h = (new, λ first. subst (λ (n : ℕ). Gives reached None None n new read (Unit {0}) d end) first (subst (Gives reached None None old new read (Unit {0}) d) (sym e) (loose_gives d came h)))
-  ends_gives d came end (inr (e, whole)) h = (0, λ first. subst (Gives reached None None 0 0 read (Unit {0}) d) (sym e) (cut_gives d came whole h))
+  pub ends_gives : (d : Defined) (came end : Status) → EndsAs came end → GivesDefined reached None None old new read written d came → (visits : ℕ) × ((old ≡ 0) → GivesDefined reached None None 0 visits read (Unit {0}) d end)
+  ends_gives d came end (inl e) h = (new, λ first. subst (λ (n : ℕ). GivesDefined reached None None n new read (Unit {0}) d end) first (subst (GivesDefined reached None None old new read (Unit {0}) d) (sym e) (loose_gives d came h)))
+  ends_gives d came end (inr (e, whole)) h = (0, λ first. subst (GivesDefined reached None None 0 0 read (Unit {0}) d) (sym e) (cut_gives d came whole h))
 
 pub ok_more : {A E : Type 0} {P Q : A → Type 0} (r : Result A E) → ((a : A) → P a → Q a) → IfOk r P → IfOk r Q
 ok_more (Ok a) f h = f a h

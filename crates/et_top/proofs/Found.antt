@@ -5,14 +5,14 @@ use Rattle.std.specs.declared.string.String.{String}
 use Rattle.std.specs.declared.alloc.Global.{Global}
 use Rattle.et_io.specs.Files.{Held}
 use Rattle.std.specs.Prelude.{Option, None, Some}
-use Rattle.et_base.specs.Marks.{Mark, MarksAre, IsFirst, IsTheOne}
-use Rattle.et_asm.specs.Listings.{marks_of, bytes_of}
+use Rattle.et_base.specs.Marks.{Mark, MarksAre, IsFirstBroken, IsTheOne}
+use Rattle.et_asm.specs.Listings.{marks_of, assembled_bytes}
 use Rattle.et_base.specs.declared.line.TraceLine.{TraceLine}
 use Rattle.et_class.specs.Layout.{ClassOf}
-use Rattle.et_class.specs.Classes.{IsClassFile, HasFault, ClassIs, HasOneClass}
+use Rattle.et_class.specs.Classes.{IsClassFile, ShowsFirstFault, ClassIs, HasOneClass}
 use Rattle.et_text.specs.Text.{IsTextOf, IsTraceFault}
 use Rattle.et_top.specs.Faults.{Fault, BadClass, BadText, BadTrace}
-use Rattle.et_top.specs.Loaded.{IsClassOf, IsListingOf, IsTraceOf, AreFirstAnd, AreClassesOf, bytes_of as file_bytes, most_of_class, before}
+use Rattle.et_top.specs.Loaded.{IsClassOf, IsListingOf, IsTraceOf, AreFirstAnd, AreClassesOf, file_bytes, most_of_class, before}
 use Rattle.et_top.specs.Told.{Cause, File, Reading, Memory, Other, Tells, IsCause, IsOfBytes, IsFileRefusal, cause_of}
 use Rattle.et_top.specs.declared.refusal.Refusal.{Refusal}
 
@@ -32,7 +32,7 @@ module _ (bytes : List ℕ) (one : HasOneClass bytes) (class : Result ClassOf Fa
   same : (x y : Result ClassOf (ℕ × ℕ)) → ClassIs bytes x → ClassIs bytes y → x ≡ y
   same x y hx hy = one.only x hx ∙ sym (one.only y hy)
 
-  not_both : (c : ClassOf) (f : ℕ × ℕ) → IsClassFile bytes c → HasFault bytes f → ⊥
+  not_both : (c : ClassOf) (f : ℕ × ℕ) → IsClassFile bytes c → ShowsFirstFault bytes f → ⊥
   unfolding IsClass
   not_both c f is has = subst IsClass (same (Ok c) (Err f) is has) tt
 
@@ -41,7 +41,7 @@ module _ (bytes : List ℕ) (one : HasOneClass bytes) (class : Result ClassOf Fa
   class_found c is (inl (fault, has, e)) = absurd (not_both c fault is has)
   class_found c is (inr (other, was, e)) = e ∙ ap (λ x. Ok (or_class x c)) (same (Ok other) (Ok c) was is)
 
-  pub fault_found : (f : ℕ × ℕ) → HasFault bytes f → IsClassOf (Ok bytes) class → class ≡ Err (BadClass f.1 f.0)
+  pub fault_found : (f : ℕ × ℕ) → ShowsFirstFault bytes f → IsClassOf (Ok bytes) class → class ≡ Err (BadClass f.1 f.0)
   unfolding or_fault
   fault_found f has (inl (fault, had, e)) = e ∙ ap (λ x. Err (BadClass (or_fault x f).1 (or_fault x f).0)) (same (Err fault) (Err f) had has)
   fault_found f has (inr (c, is, e)) = absurd (not_both c f is has)
@@ -77,11 +77,11 @@ module _ (text : List ℕ) (one : (marks : List Mark) → IsTheOne marks) (class
   unfolding IsBroken
   not_broken x kept broken = subst IsBroken (one_answer (Some x) None broken kept) tt
 
-  pub listing_found : (bytes : List ℕ) → MarksAre (marks_of text) None → bytes ≡ bytes_of text → IsListingOf (Ok text) class → class ≡ Ok bytes
+  pub listing_found : (bytes : List ℕ) → MarksAre (marks_of text) None → bytes ≡ assembled_bytes text → IsListingOf (Ok text) class → class ≡ Ok bytes
   listing_found bytes kept are (inl (line, kind, first, e)) = absurd (not_broken (line, kind) kept first)
   listing_found bytes kept are (inr (kept', e)) = e ∙ ap (λ x. Ok x) (sym are)
 
-  pub listing_fault_found : (line kind : ℕ) → IsFirst (marks_of text) line kind → IsListingOf (Ok text) class → class ≡ Err (BadText kind line)
+  pub listing_fault_found : (line kind : ℕ) → IsFirstBroken (marks_of text) line kind → IsListingOf (Ok text) class → class ≡ Err (BadText kind line)
   unfolding or_place
   listing_fault_found line kind first (inl (l, k, other, e)) =
       let same = one_answer (Some (l, k)) (Some (line, kind)) other first in

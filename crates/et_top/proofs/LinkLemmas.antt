@@ -9,7 +9,7 @@ use Rattle.et_link.specs.Refusals.{LinkIs, RefusesLink}
 use Rattle.et_program.specs.declared.fault.LinkFaultKind.{LinkFaultKind}
 use Rattle.et_link.specs.declared.fault.LinkFault.TheVariants as link
 use Rattle.et_top.specs.Faults.{Fault, LinkFault}
-use Rattle.et_top.specs.Loaded.{IsLinked}
+use Rattle.et_top.specs.Loaded.{IsLinkedOf}
 use Rattle.et_top.specs.Told.{Cause, File, Reading, Memory, Other, IsCause}
 
 or_fault : Result Linked (LinkFaultKind × ℕ) → LinkFaultKind × ℕ → LinkFaultKind × ℕ
@@ -25,7 +25,7 @@ module _ (classes : List ClassOf) (one : (answer other : Result Linked (LinkFaul
   not_both kind name linkable (k, at, is) = linkable kind k at.inside at.shows
 
   -- classes that link have no fault, and one program
-  pub linked_found : (p : Linked) → IsLinkable (map loaded_class classes) → IsProgramOf (map loaded_class classes) p → IsLinked (Ok classes) program → program ≡ Ok p
+  pub linked_found : (p : Linked) → IsLinkable (map loaded_class classes) → IsProgramOf (map loaded_class classes) p → IsLinkedOf (Ok classes) program → program ≡ Ok p
   unfolding or_program
   linked_found p linkable of (inl (kind, (name, refuses, e))) = absurd (not_both kind name linkable refuses)
   linked_found p linkable of (inr (links, (q, its, e))) =
@@ -33,7 +33,7 @@ module _ (classes : List ClassOf) (one : (answer other : Result Linked (LinkFaul
       e ∙ ap (λ x. Ok x) same
 
   -- .. and classes with a fault have no other, and don't link
-  pub link_fault_found : (kind : LinkFaultKind) (name : List ℕ) → RefusesLink (map loaded_class classes) (link.At kind name) → IsLinked (Ok classes) program → program ≡ Err (LinkFault kind name)
+  pub link_fault_found : (kind : LinkFaultKind) (name : List ℕ) → RefusesLink (map loaded_class classes) (link.At kind name) → IsLinkedOf (Ok classes) program → program ≡ Err (LinkFault kind name)
   unfolding or_fault
   link_fault_found kind name (k, at, is) (inl (other, (its, (j, found, was), e))) =
       let same : ◌≡◌ {A = LinkFaultKind × ℕ} (other, j) (kind, k) = ap (λ x. or_fault x (kind, k)) (one (Err (other, j)) (Err (kind, k)) found at) in
@@ -44,8 +44,8 @@ module _ (classes : List ClassOf) (one : (answer other : Result Linked (LinkFaul
   link_fault_found kind name refuses (inr (linkable, e)) = absurd (not_both kind name linkable refuses)
 
 -- classes that were not read make no program
-pub program_not_read : (read : Type 0) (classes : Result (List ClassOf) Fault) (cause : Cause) (program : Result Linked Fault) → IsCause read classes cause → IsLinked classes program → IsCause read program cause
-program_not_read read classes (File fault) program e is = subst (λ c. IsLinked c program) e is
+pub program_not_read : (read : Type 0) (classes : Result (List ClassOf) Fault) (cause : Cause) (program : Result Linked Fault) → IsCause read classes cause → IsLinkedOf classes program → IsCause read program cause
+program_not_read read classes (File fault) program e is = subst (λ c. IsLinkedOf c program) e is
 program_not_read read classes Reading program h is = h
 program_not_read read classes Memory program h is = tt
 program_not_read read classes Other program h is = absurd h

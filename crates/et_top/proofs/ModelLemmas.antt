@@ -7,14 +7,14 @@ use Rattle.std.proofs.lemmas.List.{length-append}
 use Rattle.std.proofs.lemmas.List.Elements.{filter_map-append}
 use Rattle.et_replay.specs.declared.item.Item.{Item}
 use Rattle.et_replay.specs.declared.model.Policy.{Policy}
-use Rattle.et_replay.specs.Items.{made, object_made}
+use Rattle.et_replay.specs.Items.{made_objects, object_made}
 use Rattle.et_top.specs.Told.{IsPrepared}
 
 -- the items from here on make what the first makes, and what the others do
-pub made_next : (xs : List Item) (i : ℕ) (d : Item) → i < length xs → length (made (drop i xs)) ≡ length (made (get_or xs i d ∷ [])) + length (made (drop (i + 1) xs))
+pub made_next : (xs : List Item) (i : ℕ) (d : Item) → i < length xs → length (made_objects (drop i xs)) ≡ length (made_objects (get_or xs i d ∷ [])) + length (made_objects (drop (i + 1) xs))
 made_next xs i d lt =
-    rw add-one (ap (λ ys. length (made ys)) (drop-cons xs i d lt)
-    ∙ (ap length (filter_map-append object_made (get_or xs i d ∷ []) (drop (suc i) xs)) ∙ length-append (made (get_or xs i d ∷ [])) (made (drop (suc i) xs))))
+    rw add-one (ap (λ ys. length (made_objects ys)) (drop-cons xs i d lt)
+    ∙ (ap length (filter_map-append object_made (get_or xs i d ∷ []) (drop (suc i) xs)) ∙ length-append (made_objects (get_or xs i d ∷ [])) (made_objects (drop (suc i) xs))))
 
 zip_append : {B : Type 0} (R : B → Policy → Type 0) (bs : List B) (ps : List Policy) (b : B) (p : Policy) → AllZip R bs ps → R b p → AllZip R (bs ++ b ∷ []) (ps ++ p ∷ [])
 zip_append R [] [] b p z r = (r, tt)

@@ -5,7 +5,7 @@ use denote.Ref.{Bor}
 use Rattle.std.specs.List.{slice_split}
 use Rattle.std.proofs.lemmas.List.Splits.{length-slice_split}
 use Rattle.std.specs.Prelude.{◌==◌, fold, map, Option, option_map}
-use Rattle.et_top.specs.Numbers.{number, spelled, each}
+use Rattle.et_top.specs.Numbers.{number_within, spelled_number, each}
 
 -- a number grows with each digit
 abbrev pub onto : ℕ → List ℕ → ℕ
@@ -15,7 +15,7 @@ pub onto-grows : (n : ℕ) (digits : List ℕ) → n ≤ onto n digits
 onto-grows n [] = omega arith
 onto-grows n (d ∷ digits) = let h : n * 10 + (d - 48) ≤ onto (n * 10 + (d - 48)) digits = onto-grows (n * 10 + (d - 48)) digits in omega arith
 
-pub too_big : (n i high : ℕ) (digits : List ℕ) → i < length digits → onto n (drop i digits) ≡ spelled digits → high < n * 10 + (get_or digits i 0 - 48) → high < spelled digits
+pub too_big : (n i high : ℕ) (digits : List ℕ) → i < length digits → onto n (drop i digits) ≡ spelled_number digits → high < n * 10 + (get_or digits i 0 - 48) → high < spelled_number digits
 too_big n i high digits lt e h =
     let grows : n * 10 + (get_or digits i 0 - 48) ≤ onto (n * 10 + (get_or digits i 0 - 48)) (drop (suc i) digits) = onto-grows (n * 10 + (get_or digits i 0 - 48)) (drop (suc i) digits) in
     let same : onto n (drop i digits) ≡ onto (n * 10 + (get_or digits i 0 - 48)) (drop (suc i) digits) = ap (onto n) (drop-cons digits i 0 lt) in
@@ -29,12 +29,12 @@ pub each_next : {X : Type 0} (f : X → Option ℕ) (xs : List X) (i : ℕ) (d :
 each_next f xs i d lt = rw add-one (ap (λ ys. each (map f ys)) (drop-cons xs i d lt))
 
 -- what some texts spell, and what the references to them do
-pub shown : (xs : List (Bor (List ℕ))) (texts : List (List ℕ)) → map (λ piece. piece.now) xs ≡ texts → map (λ piece. number 0 63 piece.now) xs ≡ map (number 0 63) texts
-shown xs texts e = map_shown xs ∙ ap (map (number 0 63)) e
+pub shown : (xs : List (Bor (List ℕ))) (texts : List (List ℕ)) → map (λ piece. piece.now) xs ≡ texts → map (λ piece. number_within 0 63 piece.now) xs ≡ map (number_within 0 63) texts
+shown xs texts e = map_shown xs ∙ ap (map (number_within 0 63)) e
   where
-    map_shown : (ys : List (Bor (List ℕ))) → map (λ piece. number 0 63 piece.now) ys ≡ map (number 0 63) (map (λ piece. piece.now) ys)
+    map_shown : (ys : List (Bor (List ℕ))) → map (λ piece. number_within 0 63 piece.now) ys ≡ map (number_within 0 63) (map (λ piece. piece.now) ys)
     map_shown [] = refl
-    map_shown (y ∷ ys) = ap (λ zs. number 0 63 y.now ∷ zs) (map_shown ys)
+    map_shown (y ∷ ys) = ap (λ zs. number_within 0 63 y.now ∷ zs) (map_shown ys)
 
 pub shown_length : (xs : List (Bor (List ℕ))) (texts : List (List ℕ)) → map (λ piece. piece.now) xs ≡ texts → length xs ≡ length texts
 shown_length xs texts e = count xs ∙ ap length e

@@ -5,10 +5,10 @@ use Rattle.std.specs.Prelude.{bytes_eq, ◌||◌}
 use Rattle.std.specs.List.{list_any}
 use denote.Ref.{Bor}
 use Rattle.et_top.specs.Words.{Given}
-use Rattle.et_top.specs.Command.{value_of, are_options}
+use Rattle.et_top.specs.Command.{option_value, are_options}
 
-pub value_next : (name : List ℕ) (xs : List Given) (i : ℕ) (d : Given) → i < length xs → value_of name (drop i xs) ≡ value_of name (get_or xs i d ∷ drop (i + 1) xs)
-value_next name xs i d lt = rw add-one (ap (value_of name) (drop-cons xs i d lt))
+pub value_next : (name : List ℕ) (xs : List Given) (i : ℕ) (d : Given) → i < length xs → option_value name (drop i xs) ≡ option_value name (get_or xs i d ∷ drop (i + 1) xs)
+value_next name xs i d lt = rw add-one (ap (option_value name) (drop-cons xs i d lt))
 
 pub options_next : (names : List (List ℕ)) (xs : List Given) (i : ℕ) (d : Given) → i < length xs → are_options names (drop i xs) ≡ are_options names (get_or xs i d ∷ drop (i + 1) xs)
 options_next names xs i d lt = rw add-one (ap (are_options names) (drop-cons xs i d lt))

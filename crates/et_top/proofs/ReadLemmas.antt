@@ -10,11 +10,11 @@ use Rattle.std.specs.declared.alloc.Global.{Global}
 use Rattle.et_class.specs.Classes.{IsClassFile, class_of}
 use Rattle.et_class.specs.declared.class.ClassFile.{ClassFile}
 use Rattle.et_io.specs.Faults.{Rose, count_after}
-use Rattle.et_io.specs.Files.{Held, Finds, IsWithin, is_failed}
+use Rattle.et_io.specs.Files.{Held, Finds, IsWithin, is_read_failed}
 use Rattle.et_io.specs.declared.files.Found.{Found}
 use Rattle.et_io.specs.declared.files.Found.TheVariants as finds
 use Rattle.et_top.specs.Faults.{Fault, Absent, TooLong, BadClass, BadText, BadTrace, LinkFault}
-use Rattle.et_top.specs.Loaded.{bytes_of, most_of_class, IsClassOf}
+use Rattle.et_top.specs.Loaded.{file_bytes, most_of_class, IsClassOf}
 use Rattle.et_top.specs.Reads.{HoldsClass, ReadsInOrder, is_early}
 use Rattle.et_top.specs.Told.{Cause, File, Reading, Memory, Other, Tells, TellsFound, IsCause, IsFileRefusal, cause_of, is_read_cause, is_reading}
 use Rattle.et_top.specs.Refusals.{status_of}
@@ -26,25 +26,25 @@ use Rattle.et_top.proofs.FaultLemmas.{rose_one}
 -- WHAT A READ FOUND
 
 -- the bytes of a file that is not too long
-bytes_there : (most : ℕ) (file : Option (List ℕ)) (bytes : List ℕ) → file ≡ Some bytes → length bytes ≤ most → bytes_of most file ≡ Ok bytes
-bytes_there most file bytes is within = ap (bytes_of most) is ∙ first_of (search rules, grind (arith, nat_tests))
+bytes_there : (most : ℕ) (file : Option (List ℕ)) (bytes : List ℕ) → file ≡ Some bytes → length bytes ≤ most → file_bytes most file ≡ Ok bytes
+bytes_there most file bytes is within = ap (file_bytes most) is ∙ first_of (search rules, grind (arith, nat_tests))
 
 -- .. and of one that is
-too_long : (most : ℕ) (file : Option (List ℕ)) (found : Found) → found ≡ finds.TooLong → Finds found most file → bytes_of most file ≡ Err TooLong
+too_long : (most : ℕ) (file : Option (List ℕ)) (found : Found) → found ≡ finds.TooLong → Finds found most file → file_bytes most file ≡ Err TooLong
 too_long most None found is h = absurd (subst (λ f. Finds f most None) is h)
 too_long most (Some bytes) found is h = let long : most < length bytes = subst (λ f. Finds f most (Some bytes)) is h in first_of (search rules, grind (arith, nat_tests))
 
-pub found_tells : (old new most : ℕ) (file : Option (List ℕ)) (found : Found) (answer : Result (Vec ℕ Global) Refusal) → TellsFound found answer → Finds found most file → IsWithin found most → new ≡ count_after (is_failed (Ok found)) old
-    → Tells (Rose old new) (λ (bytes : Vec ℕ Global). bytes.items) (bytes_of most file) answer
-found_tells old new most file (finds.Bytes bytes) answer is there within count = subst (λ a. Tells (Rose old new) (λ (bytes : Vec ℕ Global). bytes.items) (bytes_of most file) a) (sym is) (bytes_there most file bytes.items there within)
+pub found_tells : (old new most : ℕ) (file : Option (List ℕ)) (found : Found) (answer : Result (Vec ℕ Global) Refusal) → TellsFound found answer → Finds found most file → IsWithin found most → new ≡ count_after (is_read_failed (Ok found)) old
+    → Tells (Rose old new) (λ (bytes : Vec ℕ Global). bytes.items) (file_bytes most file) answer
+found_tells old new most file (finds.Bytes bytes) answer is there within count = subst (λ a. Tells (Rose old new) (λ (bytes : Vec ℕ Global). bytes.items) (file_bytes most file) a) (sym is) (bytes_there most file bytes.items there within)
 found_tells old new most file finds.Absent (Ok bytes) is there within count = absurd is
-found_tells old new most file finds.Absent (Err r) is there within count = subst (IsCause (Rose old new) (bytes_of most file)) (sym is) (ap (bytes_of most) there)
+found_tells old new most file finds.Absent (Err r) is there within count = subst (IsCause (Rose old new) (file_bytes most file)) (sym is) (ap (file_bytes most) there)
 found_tells old new most file finds.TooLong (Ok bytes) is there within count = absurd is
-found_tells old new most file finds.TooLong (Err r) is there within count = subst (IsCause (Rose old new) (bytes_of most file)) (sym is) (too_long most file finds.TooLong refl there)
+found_tells old new most file finds.TooLong (Err r) is there within count = subst (IsCause (Rose old new) (file_bytes most file)) (sym is) (too_long most file finds.TooLong refl there)
 found_tells old new most file finds.Failed (Ok bytes) is there within count = absurd is
-found_tells old new most file finds.Failed (Err r) is there within count = subst (IsCause (Rose old new) (bytes_of most file)) (sym is) (rose_one old new count)
+found_tells old new most file finds.Failed (Err r) is there within count = subst (IsCause (Rose old new) (file_bytes most file)) (sym is) (rose_one old new count)
 
-pub found_reading : (found : Found) (answer : Result (Vec ℕ Global) Refusal) → TellsFound found answer → is_reading answer ≡ is_failed (Ok found)
+pub found_reading : (found : Found) (answer : Result (Vec ℕ Global) Refusal) → TellsFound found answer → is_reading answer ≡ is_read_failed (Ok found)
 found_reading (finds.Bytes bytes) answer is = ap is_reading is
 found_reading finds.Absent (Ok bytes) is = absurd is
 found_reading finds.Absent (Err r) is = ap is_read_cause is
@@ -99,7 +99,7 @@ found_early finds.Failed (Err r) is = early_one r (subst IsOfOne (sym is) tt)
 
 -- THE CLASS OF A FILE
 
-pub holds_class : (held : Held) (path bytes : List ℕ) (r : Result ClassFile Refusal) → bytes_of most_of_class (held path) ≡ Ok bytes → IfOk r (λ class. IsClassFile bytes (class_of class)) → OnOk r (HoldsClass held path)
+pub holds_class : (held : Held) (path bytes : List ℕ) (r : Result ClassFile Refusal) → file_bytes most_of_class (held path) ≡ Ok bytes → IfOk r (λ class. IsClassFile bytes (class_of class)) → OnOk r (HoldsClass held path)
 holds_class held path bytes (Ok class) is file = (class_of class, subst (λ (f : Result (List ℕ) Fault). IsClassOf f (Ok (class_of class))) (sym is) (inr (class_of class, file, refl)))
 holds_class held path bytes (Err r) is file = tt
 

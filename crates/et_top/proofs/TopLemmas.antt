@@ -20,7 +20,7 @@ use Rattle.et_top.specs.Command.{Asked}
 use Rattle.et_top.specs.Asked.{asked_by}
 use Rattle.et_top.specs.declared.command.Command.{Command}
 use Rattle.et_replay.specs.declared.model.Kind.{Kind}
-use Rattle.et_top.specs.Top.{IsAskedDefined, Defined, Usage, Refused, Writes, Traces, writes, traces, status_of_end, WritesHistory, Gives}
+use Rattle.et_top.specs.Top.{IsAskedDefined, Defined, Usage, Refused, Writes, Traces, defined_text, traces, status_of_end, WritesHistory, GivesDefined}
 use Rattle.et_top.specs.declared.status.Status.{Status}
 use Rattle.et_top.specs.declared.status.Status.TheVariants as status
 use Rattle.et_top.specs.declared.refusal.Refusal.{Refusal}
@@ -43,22 +43,22 @@ module _ (reached : Graph → ℕ → Bool) (before after : Option (List ℕ)) (
   history : (ran : Ran) (end : End) (answer : Status) → ran.end ≡ end → answer ≡ status_of_end end → WritesTrace reached (whole_setting program options) (whole_start program) (start_records program) ran before after → Counts ran → WritesHistory reached before after old new program options (status_of_end end)
   history ran end answer e is w v = record { ran = ran; ended = ap status_of_end (sym e); wrote = w; visits = v }
 
-  pub history_gives : (ran : Ran) (answer : Status) → answer ≡ status_of_end ran.end → WritesTrace reached (whole_setting program options) (whole_start program) (start_records program) ran before after → Counts ran → Gives reached before after old new read written (Traces program options) answer
-  history_gives ran answer is w v = subst (Gives reached before after old new read written (Traces program options)) (sym is) (by ran.end refl)
+  pub history_gives : (ran : Ran) (answer : Status) → answer ≡ status_of_end ran.end → WritesTrace reached (whole_setting program options) (whole_start program) (start_records program) ran before after → Counts ran → GivesDefined reached before after old new read written (Traces program options) answer
+  history_gives ran answer is w v = subst (GivesDefined reached before after old new read written (Traces program options)) (sym is) (by ran.end refl)
     where
-      by : (end : End) → ran.end ≡ end → Gives reached before after old new read written (Traces program options) (status_of_end end)
+      by : (end : End) → ran.end ≡ end → GivesDefined reached before after old new read written (Traces program options) (status_of_end end)
       by ends.Finished e = history ran ends.Finished status.Done e refl w v
       by ends.EventLimit e = history ran ends.EventLimit status.Done e refl w v
       by (ends.IllTyped t m p) e = history ran (ends.IllTyped t m p) status.IllTyped e refl w v
       by ends.ObjectLimit e = history ran ends.ObjectLimit status.ObjectLimit e refl w v
 
   -- a history that was not run to its end left a prefix of its trace
-  pub front_gives : (fault : RunFault) (answer : Status) → answer ≡ status_of (refusal_of fault) → WritesPrefix reached (whole_setting program options) (whole_start program) (start_records program) before after → IsCut reached (whole_setting program options) whole_visits_of (whole_start program) (start_records program) before after old new → ((fault ≡ write.Write) → written) → Gives reached before after old new read written (Traces program options) answer
-  front_gives write.Write answer is front cut rose = subst (Gives reached before after old new read written (Traces program options)) (sym is) (rose refl, record { wrote = front; visits = cut })
-  front_gives write.NoMemory answer is front cut rose = subst (Gives reached before after old new read written (Traces program options)) (sym is) (record { wrote = front; visits = cut })
+  pub front_gives : (fault : RunFault) (answer : Status) → answer ≡ status_of (refusal_of fault) → WritesPrefix reached (whole_setting program options) (whole_start program) (start_records program) before after → IsCut reached (whole_setting program options) whole_visits_of (whole_start program) (start_records program) before after old new → ((fault ≡ write.Write) → written) → GivesDefined reached before after old new read written (Traces program options) answer
+  front_gives write.Write answer is front cut rose = subst (GivesDefined reached before after old new read written (Traces program options)) (sym is) (rose refl, record { wrote = front; visits = cut })
+  front_gives write.NoMemory answer is front cut rose = subst (GivesDefined reached before after old new read written (Traces program options)) (sym is) (record { wrote = front; visits = cut })
 
   -- what is given where no read can fail is given where one can
-  pub history_more : (answer : Status) → Gives reached before after old new ⊥ written (Traces program options) answer → Gives reached before after old new read written (Traces program options) answer
+  pub history_more : (answer : Status) → GivesDefined reached before after old new ⊥ written (Traces program options) answer → GivesDefined reached before after old new read written (Traces program options) answer
   history_more status.Done h = h
   history_more status.IllTyped h = h
   history_more status.ObjectLimit h = h
@@ -77,19 +77,19 @@ module _ (reached : Graph → ℕ → Bool) (before after : Option (List ℕ)) (
 
 pub writing_gives : (reached : Graph → ℕ → Bool) (before after : Option (List ℕ)) (old new : ℕ) (read written : Type 0) (text : (Graph → ℕ → Bool) → List ℕ) (wrote : Result (Unit {0}) RunFault)
     → OnOk wrote (after ≡ with_more before (text reached)) → OnErr wrote (TakesPrefix before after (text reached)) → ((wrote ≡ Err write.Write) → written)
-    → Gives reached before after old new read written (Writes text) (status_of_writing wrote)
+    → GivesDefined reached before after old new read written (Writes text) (status_of_writing wrote)
 writing_gives reached before after old new read written text (Ok done) ok err rose = ok
 writing_gives reached before after old new read written text (Err write.Write) ok err rose = (rose refl, err)
 writing_gives reached before after old new read written text (Err write.NoMemory) ok err rose = err
 
 -- .. where that is what is defined
 pub text_gives : {A : Type 0} (reached : Graph → ℕ → Bool) (before after : Option (List ℕ)) (old new : ℕ) (read written : Type 0) (text : (Graph → ℕ → Bool) → A → List ℕ) (found : Result A Fault) (a : A) (d : Defined) (wrote : Result (Unit {0}) RunFault) (answer : Status)
-    → d ≡ writes text found → found ≡ Ok a → answer ≡ status_of_writing wrote
+    → d ≡ defined_text text found → found ≡ Ok a → answer ≡ status_of_writing wrote
     → OnOk wrote (after ≡ with_more before (text reached a)) → OnErr wrote (TakesPrefix before after (text reached a)) → ((wrote ≡ Err write.Write) → written)
-    → Gives reached before after old new read written d answer
+    → GivesDefined reached before after old new read written d answer
 text_gives reached before after old new read written text found a d wrote answer is was how ok err rose =
-    subst (λ x. Gives reached before after old new read written x answer) (sym (is ∙ ap (writes text) was))
-    (subst (Gives reached before after old new read written (Writes (λ test. text test a))) (sym how)
+    subst (λ x. GivesDefined reached before after old new read written x answer) (sym (is ∙ ap (defined_text text) was))
+    (subst (GivesDefined reached before after old new read written (Writes (λ test. text test a))) (sym how)
     (writing_gives reached before after old new read written (λ test. text test a) wrote ok err rose))
 
 -- WHAT WAS REFUSED BEFORE ANYTHING WAS WRITTEN
@@ -115,29 +115,29 @@ still visits (Writes text) = tt
 still visits (Traces program options) = refl
 
 module _ (reached : Graph → ℕ → Bool) (taken : Option (List ℕ)) (old new : ℕ) (read written : Type 0) where
-  reading_gives : (d : Defined) → IsLoaded d → read → Gives reached taken taken old new read written d status.ReadFault
+  reading_gives : (d : Defined) → IsLoaded d → read → GivesDefined reached taken taken old new read written d status.ReadFault
   reading_gives Usage loaded h = absurd loaded
   reading_gives (Refused fault) loaded h = (refl, inr (inl (refl, h)))
   reading_gives (Writes text) loaded h = (h, refl)
   reading_gives (Traces program options) loaded h = (h, refl)
 
-  pub memory_gives : (d : Defined) → IsStill old new d → Gives reached taken taken old new read written d status.NoMemory
+  pub memory_gives : (d : Defined) → IsStill old new d → GivesDefined reached taken taken old new read written d status.NoMemory
   memory_gives Usage none = (refl, inr refl)
   memory_gives (Refused fault) none = (refl, inr (inr refl))
   memory_gives (Writes text) none = front_nothing taken (text reached)
   memory_gives (Traces program options) none = record { wrote = λ e end last. front_nothing taken _; visits = inl none }
 
-  file_gives : (fault : Fault) (answer : Status) → answer ≡ status_of_fault fault → Gives reached taken taken old new read written (Refused fault) answer
+  file_gives : (fault : Fault) (answer : Status) → answer ≡ status_of_fault fault → GivesDefined reached taken taken old new read written (Refused fault) answer
   file_gives fault answer is = (refl, inl is)
 
   -- a file is refused for what it was found to have
-  by_cause : (d : Defined) (r : Refusal) → IsLoaded d → IsStill old new d → ((fault : Fault) → cause_of r ≡ File fault → d ≡ Refused fault) → (cause_of r ≡ Reading → read) → (cause_of r ≡ Other → ⊥) → Gives reached taken taken old new read written d (status_of r)
-  by_cause d (refusal.Absent path) loaded none file reads other = subst (λ x. Gives reached taken taken old new read written x status.Absent) (sym (file Absent refl)) (file_gives Absent status.Absent refl)
-  by_cause d (refusal.TooLong path) loaded none file reads other = subst (λ x. Gives reached taken taken old new read written x status.TooLong) (sym (file TooLong refl)) (file_gives TooLong status.TooLong refl)
-  by_cause d (refusal.BadClass path kind offset) loaded none file reads other = subst (λ x. Gives reached taken taken old new read written x status.BadClass) (sym (file (BadClass kind offset) refl)) (file_gives (BadClass kind offset) status.BadClass refl)
-  by_cause d (refusal.BadText path kind line) loaded none file reads other = subst (λ x. Gives reached taken taken old new read written x status.BadText) (sym (file (BadText kind line) refl)) (file_gives (BadText kind line) status.BadText refl)
-  by_cause d (refusal.BadTrace path kind line) loaded none file reads other = subst (λ x. Gives reached taken taken old new read written x status.BadTrace) (sym (file (BadTrace kind line) refl)) (file_gives (BadTrace kind line) status.BadTrace refl)
-  by_cause d (refusal.LinkFault kind class) loaded none file reads other = subst (λ x. Gives reached taken taken old new read written x status.LinkFault) (sym (file (LinkFault kind class) refl)) (file_gives (LinkFault kind class) status.LinkFault refl)
+  by_cause : (d : Defined) (r : Refusal) → IsLoaded d → IsStill old new d → ((fault : Fault) → cause_of r ≡ File fault → d ≡ Refused fault) → (cause_of r ≡ Reading → read) → (cause_of r ≡ Other → ⊥) → GivesDefined reached taken taken old new read written d (status_of r)
+  by_cause d (refusal.Absent path) loaded none file reads other = subst (λ x. GivesDefined reached taken taken old new read written x status.Absent) (sym (file Absent refl)) (file_gives Absent status.Absent refl)
+  by_cause d (refusal.TooLong path) loaded none file reads other = subst (λ x. GivesDefined reached taken taken old new read written x status.TooLong) (sym (file TooLong refl)) (file_gives TooLong status.TooLong refl)
+  by_cause d (refusal.BadClass path kind offset) loaded none file reads other = subst (λ x. GivesDefined reached taken taken old new read written x status.BadClass) (sym (file (BadClass kind offset) refl)) (file_gives (BadClass kind offset) status.BadClass refl)
+  by_cause d (refusal.BadText path kind line) loaded none file reads other = subst (λ x. GivesDefined reached taken taken old new read written x status.BadText) (sym (file (BadText kind line) refl)) (file_gives (BadText kind line) status.BadText refl)
+  by_cause d (refusal.BadTrace path kind line) loaded none file reads other = subst (λ x. GivesDefined reached taken taken old new read written x status.BadTrace) (sym (file (BadTrace kind line) refl)) (file_gives (BadTrace kind line) status.BadTrace refl)
+  by_cause d (refusal.LinkFault kind class) loaded none file reads other = subst (λ x. GivesDefined reached taken taken old new read written x status.LinkFault) (sym (file (LinkFault kind class) refl)) (file_gives (LinkFault kind class) status.LinkFault refl)
   by_cause d (refusal.ReadFault path) loaded none file reads other = reading_gives d loaded (reads refl)
   by_cause d refusal.NoMemory loaded none file reads other = memory_gives d none
   by_cause d refusal.Usage loaded none file reads other = absurd (other refl)
@@ -154,11 +154,11 @@ module _ (reached : Graph → ℕ → Bool) (taken : Option (List ℕ)) (old new
   cause_other : {A : Type 0} (found : Result A Fault) (cause : Cause) → IsCause read found cause → cause ≡ Other → ⊥
   cause_other found cause is e = subst (IsCause read found) e is
 
-  writes_loaded : {A : Type 0} (text : (Graph → ℕ → Bool) → A → List ℕ) (found : Result A Fault) → IsLoaded (writes text found)
+  writes_loaded : {A : Type 0} (text : (Graph → ℕ → Bool) → A → List ℕ) (found : Result A Fault) → IsLoaded (defined_text text found)
   writes_loaded text (Err fault) = tt
   writes_loaded text (Ok a) = tt
 
-  writes_still : {A : Type 0} (text : (Graph → ℕ → Bool) → A → List ℕ) (found : Result A Fault) → IsStill old new (writes text found)
+  writes_still : {A : Type 0} (text : (Graph → ℕ → Bool) → A → List ℕ) (found : Result A Fault) → IsStill old new (defined_text text found)
   writes_still text (Err fault) = tt
   writes_still text (Ok a) = tt
 
@@ -170,19 +170,19 @@ module _ (reached : Graph → ℕ → Bool) (taken : Option (List ℕ)) (old new
   traces_loaded options (Err fault) = tt
   traces_loaded options (Ok program) = tt
 
-  pub refused_text : {A : Type 0} (text : (Graph → ℕ → Bool) → A → List ℕ) (found : Result A Fault) (r : Refusal) (d : Defined) (answer : Status) → d ≡ writes text found → IsCause read found (cause_of r) → answer ≡ status_of r → Gives reached taken taken old new read written d answer
+  pub refused_text : {A : Type 0} (text : (Graph → ℕ → Bool) → A → List ℕ) (found : Result A Fault) (r : Refusal) (d : Defined) (answer : Status) → d ≡ defined_text text found → IsCause read found (cause_of r) → answer ≡ status_of r → GivesDefined reached taken taken old new read written d answer
   refused_text text found r d answer e is how =
-      subst (Gives reached taken taken old new read written d) (sym how)
-      (by_cause d r (subst IsLoaded (sym e) (writes_loaded text found)) (subst (IsStill old new) (sym e) (writes_still text found)) (λ fault c. e ∙ ap (writes text) (cause_file found (cause_of r) fault is c))
+      subst (GivesDefined reached taken taken old new read written d) (sym how)
+      (by_cause d r (subst IsLoaded (sym e) (writes_loaded text found)) (subst (IsStill old new) (sym e) (writes_still text found)) (λ fault c. e ∙ ap (defined_text text) (cause_file found (cause_of r) fault is c))
       (cause_reads found (cause_of r) is) (cause_other found (cause_of r) is))
 
-  pub refused_trace : (options : Options) (found : Result Linked Fault) (r : Refusal) (d : Defined) (answer : Status) → d ≡ traces options found → IsCause read found (cause_of r) → answer ≡ status_of r → new ≡ old → Gives reached taken taken old new read written d answer
+  pub refused_trace : (options : Options) (found : Result Linked Fault) (r : Refusal) (d : Defined) (answer : Status) → d ≡ traces options found → IsCause read found (cause_of r) → answer ≡ status_of r → new ≡ old → GivesDefined reached taken taken old new read written d answer
   refused_trace options found r d answer e is how none =
-      subst (Gives reached taken taken old new read written d) (sym how)
+      subst (GivesDefined reached taken taken old new read written d) (sym how)
       (by_cause d r (subst IsLoaded (sym e) (traces_loaded options found)) (subst (IsStill old new) (sym e) (traces_still options found none)) (λ fault c. e ∙ ap (traces options) (cause_file found (cause_of r) fault is c))
       (cause_reads found (cause_of r) is) (cause_other found (cause_of r) is))
 
-  pub usage_gives : (answer : Status) → answer ≡ status.Usage → Gives reached taken taken old new read written Usage answer
+  pub usage_gives : (answer : Status) → answer ≡ status.Usage → GivesDefined reached taken taken old new read written Usage answer
   usage_gives answer is = (refl, inl is)
 
 -- the command that was read is what the words ask for

@@ -7,7 +7,7 @@ use Rattle.et_state.specs.declared.options.Schedule.TheVariants.{Quantum, Words}
 use Rattle.et_top.specs.declared.command.Models.{Models}
 use Rattle.et_top.specs.declared.command.Generations.{Generations}
 use Rattle.et_top.specs.Words.{Given, Split, split}
-use Rattle.et_top.specs.Numbers.{number, numbers}
+use Rattle.et_top.specs.Numbers.{number_within, numbers}
 
 pub data Asked : Type 0 where
   -- the trace of the classes of these files
@@ -20,20 +20,20 @@ pub data Asked : Type 0 where
   Curve : (path : List ℕ) → Asked
 
 -- the value of the option of this name
-abbrev pub value_of : List ℕ → List Given → Option (List ℕ)
-value_of name [] = None
-value_of name (o ∷ options) = if bytes_eq name o.name then Some o.value else value_of name options
+abbrev pub option_value : List ℕ → List Given → Option (List ℕ)
+option_value name [] = None
+option_value name (o ∷ options) = if bytes_eq name o.name then Some o.value else option_value name options
 
 -- each option is one of these, and none stands twice
 abbrev pub are_options : List (List ℕ) → List Given → Bool
 are_options names [] = true
 are_options names (o ∷ options) =
-    list_any (λ name. bytes_eq name o.name) names && not (is_some (value_of o.name options)) && are_options names options
+    list_any (λ name. bytes_eq name o.name) names && not (is_some (option_value o.name options)) && are_options names options
 
 -- a number in a range, or the default where the option isn't there
 abbrev pub number_or : ℕ → ℕ → ℕ → Option (List ℕ) → Option ℕ
 number_or default low high None = Some default
-number_or default low high (Some text) = number low high text
+number_or default low high (Some text) = number_within low high text
 
 -- how the turns go: by a quantum, or by words, but not by both
 abbrev pub schedule_of : Option (List ℕ) → Option (List ℕ) → Option Schedule
@@ -46,15 +46,15 @@ trace_options options =
     if are_options (codes "flush" ∷ codes "limit" ∷ codes "quantum" ∷ codes "words" ∷ []) options
     then option_and_then (λ interval. option_and_then (λ limit. option_map (λ schedule.
     record { interval = interval; limit = limit; schedule = schedule })
-    (schedule_of (value_of (codes "quantum") options) (value_of (codes "words") options)))
-    (number_or 1000000000 0 (2 ^ 40) (value_of (codes "limit") options)))
-    (number_or 0 0 (2 ^ 40) (value_of (codes "flush") options))
+    (schedule_of (option_value (codes "quantum") options) (option_value (codes "words") options)))
+    (number_or 1000000000 0 (2 ^ 40) (option_value (codes "limit") options)))
+    (number_or 0 0 (2 ^ 40) (option_value (codes "flush") options))
     else None
 
 -- a capacity in bytes, where the option is there
 abbrev pub capacity : Option (List ℕ) → Option (Option ℕ)
 capacity None = Some None
-capacity (Some text) = option_map Some (number 1 (2 ^ 60) text)
+capacity (Some text) = option_map Some (number_within 1 (2 ^ 60) text)
 
 -- a nursery and an old space, or neither
 abbrev pub generations : Option ℕ → Option ℕ → Option (Option Generations)
@@ -77,10 +77,10 @@ replay_options options =
     if are_options (codes "mark-sweep" ∷ codes "semispace" ∷ codes "nursery" ∷ codes "old" ∷ []) options
     then option_and_then (λ mark_sweep. option_and_then (λ semispace. option_and_then (λ nursery. option_and_then (λ old.
     option_and_then (λ generational. models_of mark_sweep semispace generational) (generations nursery old))
-    (capacity (value_of (codes "old") options)))
-    (capacity (value_of (codes "nursery") options)))
-    (capacity (value_of (codes "semispace") options)))
-    (capacity (value_of (codes "mark-sweep") options))
+    (capacity (option_value (codes "old") options)))
+    (capacity (option_value (codes "nursery") options)))
+    (capacity (option_value (codes "semispace") options)))
+    (capacity (option_value (codes "mark-sweep") options))
     else None
 
 -- the one operand

@@ -3,10 +3,10 @@
 use Rattle.std.specs.Prelude.{◌≡◌, ℕ, ◌⊎◌, nat_lt, if◌then◌else◌, List, [], ◌∷◌, length, map, Option, None, Some, Result, Ok, Err}
 use Rattle.et_base.specs.declared.line.TraceLine.{TraceLine}
 use Rattle.et_class.specs.Layout.{ClassOf}
-use Rattle.et_class.specs.Classes.{IsClassFile, HasFault}
+use Rattle.et_class.specs.Classes.{IsClassFile, ShowsFirstFault}
 use Rattle.et_text.specs.Text.{IsTextOf, IsTraceFault}
-use Rattle.et_base.specs.Marks.{MarksAre, IsFirst}
-use Rattle.et_asm.specs.Listings.{marks_of, bytes_of as class_file_of}
+use Rattle.et_base.specs.Marks.{MarksAre, IsFirstBroken}
+use Rattle.et_asm.specs.Listings.{marks_of, assembled_bytes as class_file_of}
 use Rattle.et_program.specs.Loaded.{loaded_class}
 use Rattle.et_program.specs.LinkFaults.{IsLinkable}
 use Rattle.et_link.specs.Refusals.{RefusesLink}
@@ -24,15 +24,15 @@ abbrev pub most_of_trace : ℕ
 most_of_trace = 268435456
 
 -- the bytes of a file, if it is there and not too long
-abbrev pub bytes_of : ℕ → Option (List ℕ) → Result (List ℕ) Fault
-bytes_of most None = Err Absent
-bytes_of most (Some bytes) = if nat_lt most (length bytes) then Err TooLong else Ok bytes
+abbrev pub file_bytes : ℕ → Option (List ℕ) → Result (List ℕ) Fault
+file_bytes most None = Err Absent
+file_bytes most (Some bytes) = if nat_lt most (length bytes) then Err TooLong else Ok bytes
 
 -- the bytes are those of this class file, or they have this first fault; exactly one of the two is the case
 abbrev pub IsClassOf : Result (List ℕ) Fault → Result ClassOf Fault → Type 0
 IsClassOf (Err fault) class = class ≡ Err fault
 IsClassOf (Ok bytes) class =
-    ((fault : ℕ × ℕ) × HasFault bytes fault × (class ≡ Err (BadClass fault.1 fault.0)))
+    ((fault : ℕ × ℕ) × ShowsFirstFault bytes fault × (class ≡ Err (BadClass fault.1 fault.0)))
     ⊎ ((c : ClassOf) × IsClassFile bytes c × (class ≡ Ok c))
 
 -- the bytes are those of this trace, or they have this first fault; exactly one of the two is the case
@@ -46,7 +46,7 @@ IsTraceOf (Ok bytes) trace =
 abbrev pub IsListingOf : Result (List ℕ) Fault → Result (List ℕ) Fault → Type 0
 IsListingOf (Err fault) class = class ≡ Err fault
 IsListingOf (Ok text) class =
-    ((line kind : ℕ) × IsFirst (marks_of text) line kind × (class ≡ Err (BadText kind line)))
+    ((line kind : ℕ) × IsFirstBroken (marks_of text) line kind × (class ≡ Err (BadText kind line)))
     ⊎ (MarksAre (marks_of text) None × (class ≡ Ok (class_file_of text)))
 
 -- a class before others, where all are there
@@ -63,16 +63,16 @@ AreFirstAnd (Ok c) Others classes = (rest : Result (List ClassOf) Fault) × Othe
 abbrev pub AreClassesOf : List (Option (List ℕ)) → Result (List ClassOf) Fault → Type 0
 AreClassesOf [] classes = classes ≡ Ok []
 AreClassesOf (file ∷ files) classes =
-    (first : Result ClassOf Fault) × IsClassOf (bytes_of most_of_class file) first × AreFirstAnd first (AreClassesOf files) classes
+    (first : Result ClassOf Fault) × IsClassOf (file_bytes most_of_class file) first × AreFirstAnd first (AreClassesOf files) classes
 
 -- the classes link, and this is their program; or this is the fault that keeps them from being linked; exactly one of the
 -- two is the case (JVMS 5.3, 5.4)
-abbrev pub IsLinked : Result (List ClassOf) Fault → Result Linked Fault → Type 0
-IsLinked (Err fault) program = program ≡ Err fault
-IsLinked (Ok classes) program =
+abbrev pub IsLinkedOf : Result (List ClassOf) Fault → Result Linked Fault → Type 0
+IsLinkedOf (Err fault) program = program ≡ Err fault
+IsLinkedOf (Ok classes) program =
     ((kind : LinkFaultKind) × ((name : List ℕ) × RefusesLink (map loaded_class classes) (link.At kind name) × (program ≡ Err (LinkFault kind name))))
     ⊎ (IsLinkable (map loaded_class classes) × ((p : Linked) × IsLinkOf (map loaded_class classes) p × (program ≡ Ok p)))
 
 -- the program of the files: their classes, linked
-abbrev pub IsProgramOf : List (Option (List ℕ)) → Result Linked Fault → Type 0
-IsProgramOf files program = (classes : Result (List ClassOf) Fault) × AreClassesOf files classes × IsLinked classes program
+abbrev pub IsProgramOfFiles : List (Option (List ℕ)) → Result Linked Fault → Type 0
+IsProgramOfFiles files program = (classes : Result (List ClassOf) Fault) × AreClassesOf files classes × IsLinkedOf classes program

@@ -14,8 +14,8 @@ pub record IsOption (word : List ℕ) : Type 0 where
   pub goes_on : ends_options word ≡ false
 
 -- the first part of some words: operands from here on, an option without a value, or an option and what is behind it
-abbrev pub Begins : List (List ℕ) → Step → Type 0
-Begins words (steps.Operands operands) = split words ≡ only_operands (map string_bytes operands.now)
-Begins words steps.NoValue = split words ≡ None
-Begins words (steps.Option given behind) =
+abbrev pub IsAsStepBegins : List (List ℕ) → Step → Type 0
+IsAsStepBegins words (steps.Operands operands) = split words ≡ only_operands (map string_bytes operands.now)
+IsAsStepBegins words steps.NoValue = split words ≡ None
+IsAsStepBegins words (steps.Option given behind) =
     (split words ≡ with_option given (split (map string_bytes behind.now))) × (length behind.now < length words)

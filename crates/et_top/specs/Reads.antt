@@ -4,7 +4,7 @@ use Rattle.std.specs.Prelude.{◌≡◌, ℕ, ◌-◌, ◌≤◌, Bool, true, fa
 use Rattle.et_class.specs.Layout.{ClassOf}
 use Rattle.et_io.specs.Files.{Held}
 use Rattle.et_top.specs.Command.{Asked, Trace, Assemble, Replay, Curve}
-use Rattle.et_top.specs.Loaded.{bytes_of, most_of_class, IsClassOf}
+use Rattle.et_top.specs.Loaded.{file_bytes, most_of_class, IsClassOf}
 use Rattle.et_top.specs.declared.status.Status.{Status}
 use Rattle.et_top.specs.declared.status.Status.TheVariants as status
 
@@ -18,7 +18,7 @@ paths_of (Some (Curve path)) = path ∷ []
 
 -- the file at the path is there, is not too long, and is a class file
 abbrev pub HoldsClass : Held → List ℕ → Type 0
-HoldsClass held path = (c : ClassOf) × IsClassOf (bytes_of most_of_class (held path)) (Ok c)
+HoldsClass held path = (c : ClassOf) × IsClassOf (file_bytes most_of_class (held path)) (Ok c)
 
 -- the answer may come before all files are read: one of them is refused or cannot be read, or memory ran out
 abbrev pub is_early : Status → Bool

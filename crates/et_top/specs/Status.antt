@@ -4,20 +4,20 @@ use Rattle.et_top.specs.declared.status.Status.{Status}
 use Rattle.et_top.specs.declared.status.Status.TheVariants as status
 
 -- the number with which the process ends
-abbrev pub number_of : Status → ℕ
-number_of status.Done = 0
-number_of status.Usage = 2
-number_of status.Absent = 3
-number_of status.BadClass = 4
-number_of status.LinkFault = 5
-number_of status.ReadFault = 6
-number_of status.WriteFault = 7
-number_of status.NoMemory = 8
-number_of status.BadTrace = 9
-number_of status.IllTyped = 10
-number_of status.ObjectLimit = 11
-number_of status.BadText = 12
-number_of status.TooLong = 13
+abbrev pub status_number : Status → ℕ
+status_number status.Done = 0
+status_number status.Usage = 2
+status_number status.Absent = 3
+status_number status.BadClass = 4
+status_number status.LinkFault = 5
+status_number status.ReadFault = 6
+status_number status.WriteFault = 7
+status_number status.NoMemory = 8
+status_number status.BadTrace = 9
+status_number status.IllTyped = 10
+status_number status.ObjectLimit = 11
+status_number status.BadText = 12
+status_number status.TooLong = 13
 
 -- the answer is that a read failed
 abbrev pub is_read_status : Status → Bool

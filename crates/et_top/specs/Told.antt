@@ -82,8 +82,8 @@ IsOfBytes Reading = ⊥
 IsOfBytes Memory = Unit {0}
 IsOfBytes Other = ⊥
 
-abbrev pub classes_of : Vec ClassFile Global → List ClassOf
-classes_of classes = map class_of classes.items
+abbrev pub classes_read : Vec ClassFile Global → List ClassOf
+classes_read classes = map class_of classes.items
 
 -- the fault of the bytes; want of memory says nothing
 abbrev pub IsTraceAnswer : List ℕ → TraceFault → Type 0

@@ -22,7 +22,7 @@ use Rattle.et_run.specs.Start.{start_records}
 use Rattle.et_run.specs.Whole.{whole_setting, whole_start, whole_visits_of}
 use Rattle.et_loop.specs.Visits.{allowed_visits, IsCut}
 use Rattle.et_top.specs.Faults.{Fault, status_of_fault}
-use Rattle.et_top.specs.Loaded.{bytes_of, most_of_class, most_of_trace, IsListingOf, IsTraceOf, IsProgramOf}
+use Rattle.et_top.specs.Loaded.{file_bytes, most_of_class, most_of_trace, IsListingOf, IsTraceOf, IsProgramOfFiles}
 use Rattle.et_top.specs.declared.status.Status.{Status}
 use Rattle.et_top.specs.declared.status.Status.TheVariants as status
 
@@ -38,9 +38,9 @@ abbrev pub traces : Options → Result Linked Fault → Defined
 traces options (Err fault) = Refused fault
 traces options (Ok program) = Traces program options
 
-abbrev pub writes : {A : Type 0} → ((Graph → ℕ → Bool) → A → List ℕ) → Result A Fault → Defined
-writes text (Err fault) = Refused fault
-writes text (Ok a) = Writes (λ reached. text reached a)
+abbrev pub defined_text : {A : Type 0} → ((Graph → ℕ → Bool) → A → List ℕ) → Result A Fault → Defined
+defined_text text (Err fault) = Refused fault
+defined_text text (Ok a) = Writes (λ reached. text reached a)
 
 -- the policies of the models of these kinds, of which only those that are asked for are used
 abbrev pub policy_of : Models → Kind → Option Policy
@@ -55,14 +55,14 @@ policies_of asked kinds = filter_map (policy_of asked) kinds
 abbrev pub IsAskedDefined : List Kind → Option words.Asked → Held → Defined → Type 0
 IsAskedDefined kinds None held d = d ≡ Usage
 IsAskedDefined kinds (Some (words.Trace options paths)) held d =
-    (program : Result Linked Fault) × IsProgramOf (map held paths) program × (d ≡ traces options program)
+    (program : Result Linked Fault) × IsProgramOfFiles (map held paths) program × (d ≡ traces options program)
 IsAskedDefined kinds (Some (words.Assemble path)) held d =
-    (class : Result (List ℕ) Fault) × IsListingOf (bytes_of most_of_class (held path)) class × (d ≡ writes (λ reached bytes. bytes) class)
+    (class : Result (List ℕ) Fault) × IsListingOf (file_bytes most_of_class (held path)) class × (d ≡ defined_text (λ reached bytes. bytes) class)
 IsAskedDefined kinds (Some (words.Replay asked path)) held d =
-    (trace : Result (List TraceLine) Fault) × IsTraceOf (bytes_of most_of_trace (held path)) trace
-    × (d ≡ writes (λ reached lines. replay_text reached (timeline_items lines) (policies_of asked kinds)) trace)
+    (trace : Result (List TraceLine) Fault) × IsTraceOf (file_bytes most_of_trace (held path)) trace
+    × (d ≡ defined_text (λ reached lines. replay_text reached (timeline_items lines) (policies_of asked kinds)) trace)
 IsAskedDefined kinds (Some (words.Curve path)) held d =
-    (trace : Result (List TraceLine) Fault) × IsTraceOf (bytes_of most_of_trace (held path)) trace × (d ≡ writes (λ reached lines. curve_text lines) trace)
+    (trace : Result (List TraceLine) Fault) × IsTraceOf (file_bytes most_of_trace (held path)) trace × (d ≡ defined_text (λ reached lines. curve_text lines) trace)
 
 -- THE ONE THING that the words and the files that are held define
 abbrev pub IsDefined : List Kind → List (List ℕ) → Held → Defined → Type 0
@@ -94,19 +94,19 @@ module _ (reached : Graph → ℕ → Bool) (before after : Option (List ℕ)) (
   -- of the files and of out rose in this call. Each answer has what is defined; but a fault of reading or writing comes
   -- where its count rose, and want of memory anywhere. Where nothing is defined to be written nothing was taken; after
   -- a fault of writing and want of memory a prefix of what is. The visits of objects are counted in the run of a history.
-  abbrev pub Gives : (read written : Type 0) → Defined → Status → Type 0
-  Gives read written Usage answer = (after ≡ before) × ((answer ≡ status.Usage) ⊎ (answer ≡ status.NoMemory))
-  Gives read written (Refused fault) answer =
+  abbrev pub GivesDefined : (read written : Type 0) → Defined → Status → Type 0
+  GivesDefined read written Usage answer = (after ≡ before) × ((answer ≡ status.Usage) ⊎ (answer ≡ status.NoMemory))
+  GivesDefined read written (Refused fault) answer =
       (after ≡ before) × ((answer ≡ status_of_fault fault) ⊎ (((answer ≡ status.ReadFault) × read) ⊎ (answer ≡ status.NoMemory)))
-  Gives read written (Writes text) status.Done = after ≡ with_more before (text reached)
-  Gives read written (Writes text) status.ReadFault = read × (after ≡ before)
-  Gives read written (Writes text) status.WriteFault = written × TakesPrefix before after (text reached)
-  Gives read written (Writes text) status.NoMemory = TakesPrefix before after (text reached)
-  Gives read written (Writes text) answer = ⊥
-  Gives read written (Traces program options) status.Done = WritesHistory program options status.Done
-  Gives read written (Traces program options) status.IllTyped = WritesHistory program options status.IllTyped
-  Gives read written (Traces program options) status.ObjectLimit = WritesHistory program options status.ObjectLimit
-  Gives read written (Traces program options) status.ReadFault = read × (after ≡ before)
-  Gives read written (Traces program options) status.WriteFault = written × WritesCut program options
-  Gives read written (Traces program options) status.NoMemory = WritesCut program options
-  Gives read written (Traces program options) answer = ⊥
+  GivesDefined read written (Writes text) status.Done = after ≡ with_more before (text reached)
+  GivesDefined read written (Writes text) status.ReadFault = read × (after ≡ before)
+  GivesDefined read written (Writes text) status.WriteFault = written × TakesPrefix before after (text reached)
+  GivesDefined read written (Writes text) status.NoMemory = TakesPrefix before after (text reached)
+  GivesDefined read written (Writes text) answer = ⊥
+  GivesDefined read written (Traces program options) status.Done = WritesHistory program options status.Done
+  GivesDefined read written (Traces program options) status.IllTyped = WritesHistory program options status.IllTyped
+  GivesDefined read written (Traces program options) status.ObjectLimit = WritesHistory program options status.ObjectLimit
+  GivesDefined read written (Traces program options) status.ReadFault = read × (after ≡ before)
+  GivesDefined read written (Traces program options) status.WriteFault = written × WritesCut program options
+  GivesDefined read written (Traces program options) status.NoMemory = WritesCut program options
+  GivesDefined read written (Traces program options) answer = ⊥

@@ -8,7 +8,7 @@ ghost use Rattle.et_replay.specs.declared.model.Kind.{Kind};
 ghost use Rattle.et_top.specs.Command as words;
 ghost use Rattle.et_top.specs.Reads.{ReadsInOrder};
 ghost use Rattle.et_top.specs.Status.{is_read_status, is_write_status};
-ghost use Rattle.et_top.specs.Top.{Defined, IsAskedDefined, Gives};
+ghost use Rattle.et_top.specs.Top.{Defined, IsAskedDefined, GivesDefined};
 ghost use Rattle.et_top.specs.Visits.{IsBeforeRun};
 
 use crate::answers::{refuse, written};
@@ -40,7 +40,7 @@ pub fn trace<F: Files, O: Sink, E: Sink, L: Ledger>(
     ensures gives { (held : Held) →
         F.holds files.old ≡ Some held → (kinds : List Kind) (d : Defined) →
         IsAskedDefined kinds (Some (words.Trace options.now (map string_bytes paths.now))) held d →
-        (reached : Graph → ℕ → Bool) → Decides reached → Gives reached (O.taken out.old)
+        (reached : Graph → ℕ → Bool) → Decides reached → GivesDefined reached (O.taken out.old)
         (O.taken out.new) visits.old visits.new (Rose (F.faults files.old) (F.faults files.new))
         (Rose (O.faults out.old) (O.faults out.new)) d result }
     ensures usage { result ≡ Status.Usage → ⊥ }
@@ -68,7 +68,7 @@ pub fn assemble<F: Files, O: Sink, E: Sink>(
 ) -> Status
     ensures gives { (held : Held) → F.holds files.old ≡ Some held → (kinds : List Kind)
         (d : Defined) → IsAskedDefined kinds (Some (words.Assemble path.now)) held d →
-        (reached : Graph → ℕ → Bool) → Decides reached → (old new : ℕ) → Gives reached
+        (reached : Graph → ℕ → Bool) → Decides reached → (old new : ℕ) → GivesDefined reached
         (O.taken out.old) (O.taken out.new) old new (Rose (F.faults files.old) (F.faults files.new))
         (Rose (O.faults out.old) (O.faults out.new)) d result }
     ensures usage { result ≡ Status.Usage → ⊥ }
@@ -94,7 +94,7 @@ pub fn curve<F: Files, O: Sink, E: Sink>(
 ) -> Status
     ensures gives { (held : Held) → F.holds files.old ≡ Some held → (kinds : List Kind)
         (d : Defined) → IsAskedDefined kinds (Some (words.Curve path.now)) held d →
-        (reached : Graph → ℕ → Bool) → Decides reached → (old new : ℕ) → Gives reached
+        (reached : Graph → ℕ → Bool) → Decides reached → (old new : ℕ) → GivesDefined reached
         (O.taken out.old) (O.taken out.new) old new (Rose (F.faults files.old) (F.faults files.new))
         (Rose (O.faults out.old) (O.faults out.new)) d result }
     ensures usage { result ≡ Status.Usage → ⊥ }
@@ -123,7 +123,7 @@ pub fn replay<F: Files, O: Sink, E: Sink>(
     requires new { All (λ b. is_new b) models.items }
     ensures gives { (held : Held) → F.holds files.old ≡ Some held → (d : Defined) → IsAskedDefined
         (map (λ b. kind_of b) models.items) (Some (words.Replay asked.now path.now)) held d →
-        (reached : Graph → ℕ → Bool) → Decides reached → (old new : ℕ) → Gives reached
+        (reached : Graph → ℕ → Bool) → Decides reached → (old new : ℕ) → GivesDefined reached
         (O.taken out.old) (O.taken out.new) old new (Rose (F.faults files.old) (F.faults files.new))
         (Rose (O.faults out.old) (O.faults out.new)) d result }
     ensures usage { result ≡ Status.Usage → ⊥ }

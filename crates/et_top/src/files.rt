@@ -2,7 +2,7 @@
 ghost use Rattle.std.specs.Prelude.{◌≡◌, ◌≤◌, ◌++◌, ◌∷◌, [], true, Some, IfErr};
 ghost use Rattle.et_io.specs.Faults.{Rose, count_after};
 ghost use Rattle.et_io.specs.Files.{Held};
-ghost use Rattle.et_top.specs.Loaded.{bytes_of};
+ghost use Rattle.et_top.specs.Loaded.{file_bytes};
 ghost use Rattle.et_top.specs.Reads.{is_early};
 ghost use Rattle.et_top.specs.Refusals.{status_of};
 ghost use Rattle.et_top.specs.Told.{Tells, TellsFound, IsFileRefusal, cause_of, is_reading};
@@ -31,7 +31,7 @@ pub fn read_file<'a, F: Files>(
     files: &mut F,
 ) -> Result<Vec<u8>, Refusal<'a>>
     ensures tells { (held : Held) → F.holds files.old ≡ Some held → Tells (Rose (F.faults files.old)
-        (F.faults files.new)) (λ bytes. bytes.items) (bytes_of most (held path.now)) result }
+        (F.faults files.new)) (λ bytes. bytes.items) (file_bytes most (held path.now)) result }
     ensures faults { F.faults files.new ≡ count_after (is_reading result) (F.faults files.old) }
     ensures asked { F.asked files.new ≡ F.asked files.old ++ path.now ∷ [] }
     ensures early { IfErr result (λ refusal. is_early (status_of refusal) ≡ true) }

@@ -6,10 +6,10 @@ ghost use Rattle.et_class.specs.Layout.{ClassOf};
 ghost use Rattle.et_class.specs.Classes.{IsClassFile, class_of, HasItsParts};
 ghost use Rattle.et_top.specs.Faults.{Fault};
 ghost use Rattle.et_link.specs.Declaring.{HasItsFile};
-ghost use Rattle.et_top.specs.Loaded.{bytes_of, most_of_class, IsClassOf, AreClassesOf};
+ghost use Rattle.et_top.specs.Loaded.{file_bytes, most_of_class, IsClassOf, AreClassesOf};
 ghost use Rattle.et_top.specs.Reads.{ReadsInOrder, HoldsClass, is_early};
 ghost use Rattle.et_top.specs.Refusals.{status_of};
-ghost use Rattle.et_top.specs.Told.{Tells, IsFileRefusal, IsOfBytes, cause_of, classes_of, is_reading, status_of_result};
+ghost use Rattle.et_top.specs.Told.{Tells, IsFileRefusal, IsOfBytes, cause_of, classes_read, is_reading, status_of_result};
 
 use crate::files::read_file;
 use crate::refusal::Refusal;
@@ -47,7 +47,8 @@ fn load_class<'a, F: Files>(
     files: &mut F,
 ) -> Result<ClassFile, Refusal<'a>>
     ensures tells { (held : Held) → F.holds files.old ≡ Some held →
-        (class : Result ClassOf Fault) → IsClassOf (bytes_of most_of_class (held path.now)) class →
+        (class : Result ClassOf Fault) → IsClassOf (file_bytes most_of_class (held path.now)) class
+        →
         Tells (Rose (F.faults files.old) (F.faults files.new)) class_of class result }
     ensures parts { IfOk result HasItsParts }
     ensures of_file { IfOk result HasItsFile }
@@ -74,7 +75,7 @@ pub fn load_classes<'a, F: Files>(
 ) -> Result<Vec<ClassFile>, Refusal<'a>>
     ensures tells { (held : Held) → F.holds files.old ≡ Some held → (classes : Result
         (List ClassOf) Fault) → AreClassesOf (map held (map string_bytes paths.now)) classes →
-        Tells (Rose (F.faults files.old) (F.faults files.new)) classes_of classes result }
+        Tells (Rose (F.faults files.old) (F.faults files.new)) classes_read classes result }
     ensures parts { IfOk result (λ classes. All HasItsParts classes.items) }
     ensures of_files { IfOk result (λ classes. All HasItsFile classes.items) }
     ensures count { IfOk result (λ classes. length classes.items ≡ length paths.now) }

@@ -3,7 +3,7 @@ ghost use Rattle.std.specs.Prelude.{◌≡◌, ◌≤◌, ◌++◌, ◌∷◌, [
 ghost use Rattle.et_io.specs.Faults.{Rose, count_after};
 ghost use Rattle.et_io.specs.Files.{Held};
 ghost use Rattle.et_top.specs.Faults.{Fault};
-ghost use Rattle.et_top.specs.Loaded.{bytes_of, most_of_class, IsListingOf};
+ghost use Rattle.et_top.specs.Loaded.{file_bytes, most_of_class, IsListingOf};
 ghost use Rattle.et_top.specs.Told.{Tells, IsFileRefusal, IsOfBytes, cause_of, is_reading};
 
 use crate::files::read_file;
@@ -38,7 +38,7 @@ pub fn load_listing<'a, F: Files>(
     files: &mut F,
 ) -> Result<Vec<u8>, Refusal<'a>>
     ensures tells { (held : Held) → F.holds files.old ≡ Some held → (class : Result
-        (List ℕ) Fault) → IsListingOf (bytes_of most_of_class (held path.now)) class →
+        (List ℕ) Fault) → IsListingOf (file_bytes most_of_class (held path.now)) class →
         Tells (Rose (F.faults files.old) (F.faults files.new)) (λ bytes. bytes.items) class result }
     ensures faults { F.faults files.new ≡ count_after (is_reading result) (F.faults files.old) }
     ensures asked { F.asked files.new ≡ F.asked files.old ++ path.now ∷ [] }

@@ -5,7 +5,7 @@ ghost use Rattle.et_io.specs.Faults.{Rose, count_after};
 ghost use Rattle.et_io.specs.Files.{Held};
 ghost use Rattle.et_text.specs.Text.{IsTextOf};
 ghost use Rattle.et_top.specs.Faults.{Fault};
-ghost use Rattle.et_top.specs.Loaded.{bytes_of, most_of_trace, IsTraceOf};
+ghost use Rattle.et_top.specs.Loaded.{file_bytes, most_of_trace, IsTraceOf};
 ghost use Rattle.et_top.specs.Told.{Tells, IsFileRefusal, IsOfBytes, cause_of, is_reading, IsTraceAnswer};
 
 use crate::files::read_file;
@@ -52,7 +52,7 @@ pub fn load_trace<'a, F: Files>(
     files: &mut F,
 ) -> Result<Trace, Refusal<'a>>
     ensures tells { (held : Held) → F.holds files.old ≡ Some held → (trace : Result
-        (List TraceLine) Fault) → IsTraceOf (bytes_of most_of_trace (held path.now)) trace →
+        (List TraceLine) Fault) → IsTraceOf (file_bytes most_of_trace (held path.now)) trace →
         Tells (Rose (F.faults files.old) (F.faults files.new)) (λ lines. lines) trace result }
     ensures faults { F.faults files.new ≡ count_after (is_reading result) (F.faults files.old) }
     ensures asked { F.asked files.new ≡ F.asked files.old ++ path.now ∷ [] }

@@ -6,7 +6,7 @@ ghost use Rattle.et_io.specs.Faults.{count_after, is_write_fault};
 ghost use Rattle.et_io.specs.Sink.{with_more, TakesPrefix};
 ghost use Rattle.et_replay.specs.Replay.{replay_text};
 ghost use Rattle.et_replay.specs.Timeline.{timeline_items};
-ghost use Rattle.et_replay.specs.Items.{made};
+ghost use Rattle.et_replay.specs.Items.{made_objects};
 ghost use Rattle.et_top.specs.Told.{IsPrepared};
 ghost use Rattle.et_top.specs.Top.{policy_of, policies_of};
 
@@ -39,7 +39,7 @@ fn policy_of(asked: &Models, kind: Kind) -> Option<Policy>
 
 /// How many objects the item makes: one, or none.
 fn makes(item: &Item) -> u32
-    ensures { result ≡ length (made (item.now ∷ [])) }
+    ensures { result ≡ length (made_objects (item.now ∷ [])) }
 {
     match item {
         Item::Alloc { .. } => 1,
@@ -50,8 +50,8 @@ fn makes(item: &Item) -> u32
 /// How many objects the items make.
 #[tactic(auto, using(crate::proofs::ModelLemmas::made_next))]
 fn count_made(items: &[Item]) -> u32
-    requires { length (made items.now) < 2 ^ 24 }
-    ensures { result ≡ length (made items.now) }
+    requires { length (made_objects items.now) < 2 ^ 24 }
+    ensures { result ≡ length (made_objects items.now) }
 {
     let mut count = 0;
     'items: for item in items {

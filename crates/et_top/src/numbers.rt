@@ -1,6 +1,7 @@
 //! Numbers on the command line.
 ghost use Rattle.std.specs.Prelude.{◌≡◌, ◌≤◌, ◌<◌, ◌^◌, ◌==◌, true, nat_le, length, map, All, IfSome, IfOk, Some, None, if◌then◌else◌};
-ghost use Rattle.et_top.specs.Numbers.{is_digit, is_number, spelled, number, each, numbers};
+ghost use Rattle.et_top.specs.Numbers.{is_number, spelled_number, number_within, each, numbers};
+ghost use Rattle.et_base.specs.Digits.{is_digit};
 ghost use Rattle.std.specs.List.{list_all, slice_split};
 
 use et_base::{NoMemory, WordList};
@@ -44,7 +45,8 @@ fn spelled(digits: &[u8], high: u64) -> Option<u64>
     requires digits { list_all is_digit digits.now ≡ true }
     requires high { high ≤ 2 ^ 60 }
     ensures { result
-        ≡ (if nat_le (spelled digits.now) high then Some (spelled digits.now) else None) }
+        ≡ (if nat_le (spelled_number digits.now) high then Some (spelled_number digits.now) else
+        None) }
 {
     let mut number = 0;
     'digits: for digit in digits {
@@ -59,7 +61,7 @@ fn spelled(digits: &[u8], high: u64) -> Option<u64>
 /// The number that the text spells, where it is in the range.
 pub fn number(text: &[u8], low: u64, high: u64) -> Option<u64>
     requires { high ≤ 2 ^ 60 }
-    ensures number { result ≡ number low high text.now }
+    ensures number { result ≡ number_within low high text.now }
     ensures range { IfSome result (λ n. (low ≤ n) × (n ≤ high)) }
 {
     if !is_number(text) {
@@ -83,7 +85,7 @@ fn pieces(alloc: Global, text: &[u8]) -> Result<Vec<&[u8]>, AllocError>
 #[tactic(auto, using(crate::proofs::NumberLemmas::each_next))]
 fn each_number(alloc: Global, pieces: &[&[u8]]) -> Result<Option<WordList>, NoMemory>
     ensures numbers { IfOk result
-        (λ words. words ≡ each (map (λ piece. number 0 63 piece.now) pieces.now)) }
+        (λ words. words ≡ each (map (λ piece. number_within 0 63 piece.now) pieces.now)) }
     ensures count { IfOk result (λ words. IfSome words (λ list. length list ≡ length pieces.now)) }
     ensures range { IfOk result (λ words. IfSome words (λ list. All (λ word. word < 64) list)) }
 {

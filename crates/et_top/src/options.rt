@@ -1,7 +1,7 @@
 //! The options that a command was given.
 ghost use Rattle.std.specs.Prelude.{◌≡◌, ◌≤◌, ◌^◌, map, option_map, bytes_eq, IfSome};
 ghost use Rattle.std.specs.List.{list_any};
-ghost use Rattle.et_top.specs.Command.{value_of, are_options, number_or, capacity};
+ghost use Rattle.et_top.specs.Command.{option_value, are_options, number_or, capacity};
 
 use crate::numbers::number;
 use crate::split::Given;
@@ -9,7 +9,7 @@ use crate::split::Given;
 /// The value of the option of this name, if it was given.
 #[tactic(auto, using(crate::proofs::OptionLemmas::value_next))]
 pub fn value_of<'a>(name: &[u8], options: &[Given<'a>]) -> Option<&'a [u8]>
-    ensures { option_map (λ value. value.now) result ≡ value_of name.now options.now }
+    ensures { option_map (λ value. value.now) result ≡ option_value name.now options.now }
 {
     'options: for option in options {
         if name == option.name() {

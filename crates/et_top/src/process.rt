@@ -7,7 +7,7 @@ ghost use Rattle.et_top.specs.Command.{command};
 ghost use Rattle.et_top.specs.Process.{model_kinds, status_of_words, EndsAs};
 ghost use Rattle.et_top.specs.Reads.{ReadsInOrder, paths_of};
 ghost use Rattle.et_top.specs.Status.{is_read_status, is_write_status};
-ghost use Rattle.et_top.specs.Top.{Defined, IsDefined, Gives};
+ghost use Rattle.et_top.specs.Top.{Defined, IsDefined, GivesDefined};
 
 use crate::answers::refuse;
 use crate::refusal::Refusal;
@@ -62,7 +62,7 @@ fn with_models<F: Files, O: Sink, E: Sink, L: Ledger>(
     requires counts { 0 < L.parts }
     ensures answers { IfOk result (λ status. (held : Held) → F.holds files.old ≡ Some held →
         (d : Defined) → IsDefined model_kinds (map string_bytes words.now) held d →
-        (reached : Graph → ℕ → Bool) → Decides reached → (visits : ℕ) × Gives reached
+        (reached : Graph → ℕ → Bool) → Decides reached → (visits : ℕ) × GivesDefined reached
         (O.taken out.old) (O.taken out.new) 0 visits (Rose (F.faults files.old)
         (F.faults files.new)) (Rose (O.faults out.old) (O.faults out.new)) d status) }
     ensures usage { IfOk result
@@ -100,7 +100,7 @@ pub fn run_elephant<F: Files, O: Sink, E: Sink>(
 ) -> Status
     ensures answers { IfOk words (λ some. (held : Held) → F.holds files.old ≡ Some held →
         (d : Defined) → IsDefined model_kinds (map string_bytes some.items) held d →
-        (reached : Graph → ℕ → Bool) → Decides reached → (visits : ℕ) × Gives reached
+        (reached : Graph → ℕ → Bool) → Decides reached → (visits : ℕ) × GivesDefined reached
         (O.taken out.old) (O.taken out.new) 0 visits (Rose (F.faults files.old)
         (F.faults files.new)) (Rose (O.faults out.old) (O.faults out.new)) d result) }
     ensures usage { IfOk words
@@ -163,7 +163,8 @@ pub fn run_process<F: Files, W: Write + Drop, E: Sink>(
 ) -> Status
     ensures answers { IfOk words (λ some. (held : Held) → F.holds files.old ≡ Some held →
         (d : Defined) → IsDefined model_kinds (map string_bytes some.items) held d →
-        (reached : Graph → ℕ → Bool) → Decides reached → (visits : ℕ) × Gives reached None None
+        (reached : Graph → ℕ → Bool) → Decides reached → (visits : ℕ) × GivesDefined reached None
+        None
         0 visits (Rose (F.faults files.old) (F.faults files.new)) (Unit {0}) d result) }
     ensures usage { IfOk words
         (λ some. result ≡ Status.Usage → command (map string_bytes some.items) ≡ None) }

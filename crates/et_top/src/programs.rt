@@ -8,11 +8,11 @@ ghost use Rattle.et_class.specs.Classes.{class_of, HasItsParts};
 ghost use Rattle.et_program.specs.Entries.{Linked, method_at};
 ghost use Rattle.et_top.specs.Faults.{Fault};
 ghost use Rattle.et_link.specs.Declaring.{HasItsFile};
-ghost use Rattle.et_top.specs.Loaded.{IsLinked, IsProgramOf};
+ghost use Rattle.et_top.specs.Loaded.{IsLinkedOf, IsProgramOfFiles};
 ghost use Rattle.et_top.specs.Reads.{ReadsInOrder};
 ghost use Rattle.et_top.specs.Status.{is_read_status, is_write_status};
 ghost use Rattle.et_top.specs.Told.{Tells, IsFileRefusal, IsOfBytes, cause_of, is_reading, status_of_result};
-ghost use Rattle.et_top.specs.Top.{Traces, Gives, status_of_end};
+ghost use Rattle.et_top.specs.Top.{Traces, GivesDefined, status_of_end};
 ghost use Rattle.et_top.specs.Visits.{IsBeforeRun};
 
 use crate::answers::{of_fault, refuse};
@@ -34,7 +34,7 @@ fn program<'a>(alloc: Global, classes: Vec<ClassFile>) -> Result<Program, Refusa
     requires parts { All HasItsParts classes.items }
     requires of_files { All HasItsFile classes.items }
     ensures tells { (program : Result Linked Fault) →
-        IsLinked (Ok (map class_of classes.items)) program → Tells ⊥ (λ p. p) program result }
+        IsLinkedOf (Ok (map class_of classes.items)) program → Tells ⊥ (λ p. p) program result }
     ensures bytes { IfErr result (λ refusal. IsOfBytes (cause_of refusal)) }
 {
     // Laws: they tell the prover, and do nothing.
@@ -56,7 +56,7 @@ pub fn load_program<'a, F: Files>(
     requires some { 0 < length paths.now }
     ensures tells { (held : Held) →
         F.holds files.old ≡ Some held → (program : Result Linked Fault) →
-        IsProgramOf (map held (map string_bytes paths.now)) program →
+        IsProgramOfFiles (map held (map string_bytes paths.now)) program →
         Tells (Rose (F.faults files.old) (F.faults files.new)) (λ p. p) program result }
     ensures faults { F.faults files.new ≡ count_after (is_reading result) (F.faults files.old) }
     ensures reads { ReadsInOrder (F.holds files.old) (F.asked files.old) (F.asked files.new)
@@ -114,7 +114,8 @@ pub fn run<O: Sink, E: Sink, L: Ledger>(
 ) -> Status
     requires options { AreOptions options.now }
     ensures gives { (reached : Graph → ℕ → Bool) →
-        Decides reached → Gives reached (O.taken out.old) (O.taken out.new) visits.old visits.new ⊥
+        Decides reached → GivesDefined reached (O.taken out.old) (O.taken out.new) visits.old
+        visits.new ⊥
         (Rose (O.faults out.old) (O.faults out.new)) (Traces program.now options.now) result }
     ensures write_fault { O.faults out.new
         ≡ count_after (is_write_status result) (O.faults out.old) }

@@ -1,7 +1,7 @@
 //! Options and operands.
 ghost use Rattle.std.specs.Prelude.{◌≡◌, ◌∷◌, ◌<◌, map, string_bytes, option_map, position, length, IfOk, IfSome};
 ghost use Rattle.et_top.specs.Words.{split, is_equals, cut_at};
-ghost use Rattle.et_top.specs.Parts.{IsOption, split_of, Begins};
+ghost use Rattle.et_top.specs.Parts.{IsOption, split_of, IsAsStepBegins};
 
 use et_base::NoMemory;
 use std::alloc::Global;
@@ -83,7 +83,7 @@ fn cut<'a>(body: &'a [u8], place: usize) -> Given<'a>
 #[tactic(auto, unfolding(crate::specs::Words::split))]
 fn option<'a>(word: &'a [u8], behind: &'a [String]) -> Step<'a>
     requires { IsOption word.now }
-    ensures { Begins (word.now ∷ map string_bytes behind.now) result }
+    ensures { IsAsStepBegins (word.now ∷ map string_bytes behind.now) result }
 {
     let body = &word[2..];
     match first_equals(body) {
@@ -98,7 +98,7 @@ fn option<'a>(word: &'a [u8], behind: &'a [String]) -> Step<'a>
 /// The first part of the words.
 #[tactic(auto, unfolding(crate::specs::Words::split))]
 fn first_part<'a>(words: &'a [String]) -> Step<'a>
-    ensures { Begins (map string_bytes words.now) result }
+    ensures { IsAsStepBegins (map string_bytes words.now) result }
 {
     match words {
         [] => Step::Operands(words),

@@ -1,6 +1,6 @@
 //! How the program ends.
 ghost use Rattle.std.specs.Prelude.{◌≡◌};
-ghost use Rattle.et_top.specs.Status.{number_of};
+ghost use Rattle.et_top.specs.Status.{status_number};
 
 /// How the program ended.
 #[derive(Clone, Copy, Debug, PartialEq, Eq)]
@@ -36,7 +36,7 @@ pub enum Status {
 impl Status {
     /// The number with which the process ends.
     pub fn number(&self) -> u8
-        ensures { result ≡ number_of self.now }
+        ensures { result ≡ status_number self.now }
     {
         match self {
             Status::Done => 0,

@@ -7,7 +7,7 @@ ghost use Rattle.et_top.specs.Command.{command};
 ghost use Rattle.et_top.specs.Asked.{asked_by, AreInRange};
 ghost use Rattle.et_top.specs.Reads.{ReadsInOrder, paths_of};
 ghost use Rattle.et_top.specs.Status.{is_read_status, is_write_status};
-ghost use Rattle.et_top.specs.Top.{Defined, IsAskedDefined, IsDefined, Gives};
+ghost use Rattle.et_top.specs.Top.{Defined, IsAskedDefined, IsDefined, GivesDefined};
 ghost use Rattle.et_top.specs.Visits.{IsWithoutRun};
 
 use crate::answers::refuse;
@@ -35,7 +35,7 @@ fn perform<F: Files, O: Sink, E: Sink, L: Ledger>(
     requires range { AreInRange command.now }
     ensures gives { (held : Held) → F.holds files.old ≡ Some held → (d : Defined) →
         IsAskedDefined (map (λ b. kind_of b) models.items) (Some (asked_by command.now)) held d →
-        (reached : Graph → ℕ → Bool) → Decides reached → Gives reached (O.taken out.old)
+        (reached : Graph → ℕ → Bool) → Decides reached → GivesDefined reached (O.taken out.old)
         (O.taken out.new) visits.old visits.new (Rose (F.faults files.old) (F.faults files.new))
         (Rose (O.faults out.old) (O.faults out.new)) d result }
     ensures usage { result ≡ Status.Usage → ⊥ }
@@ -88,7 +88,7 @@ pub fn elephant<F: Files, O: Sink, E: Sink, L: Ledger>(
     requires new { All (λ b. is_new b) models.items }
     ensures answers { (held : Held) → F.holds files.old ≡ Some held → (d : Defined) →
         IsDefined (map (λ b. kind_of b) models.items) (map string_bytes words.now) held d →
-        (reached : Graph → ℕ → Bool) → Decides reached → Gives reached (O.taken out.old)
+        (reached : Graph → ℕ → Bool) → Decides reached → GivesDefined reached (O.taken out.old)
         (O.taken out.new) visits.old visits.new (Rose (F.faults files.old) (F.faults files.new))
         (Rose (O.faults out.old) (O.faults out.new)) d result }
     ensures usage { result ≡ Status.Usage → command (map string_bytes words.now) ≡ None }

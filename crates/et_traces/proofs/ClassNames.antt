@@ -9,14 +9,14 @@ use Rattle.std.proofs.lemmas.List.Folds.{list_any_at}
 use Rattle.et_pool.specs.Descriptors.{is_array}
 use Rattle.et_pool.specs.Entries.{Constants}
 use Rattle.et_hierarchy.specs.Ancestry.{Ancestry}
-use Rattle.et_hierarchy.specs.Outline.{no_outline, outline_at, place_of}
+use Rattle.et_hierarchy.specs.Outline.{no_outline, outline_at, class_place}
 use Rattle.et_hierarchy.proofs.Names.{same_name, name_itself}
-use Rattle.et_program.specs.ArrayTypes.{arrays_met, is_known, name_added, names_added, with_elements}
+use Rattle.et_program.specs.ArrayTypes.{arrays_met, is_type_known, name_added, names_added, with_element_types}
 use Rattle.et_program.specs.Entries.{ClassEntry, Linked, class_at}
 use Rattle.et_program.specs.Files.{set_of}
 use Rattle.et_program.specs.LinkFaults.{IsLinkable}
 use Rattle.et_program.specs.Loaded.{LoadedClass}
-use Rattle.et_program.specs.ProgramOf.{IsProgramOf, names_of, program_with}
+use Rattle.et_program.specs.ProgramOf.{IsProgramOf, class_names_of, program_with}
 use Rattle.et_program.specs.declared.fault.LinkFaultKind.TheVariants.{Duplicate}
 use Rattle.et_linked.specs.ClassNames.{HasClassName}
 use Rattle.et_linked.proofs.ArrayNames.{all_names}
@@ -62,10 +62,10 @@ module _ (files : List LoadedClass) (rows : List Ancestry) (pools : List Constan
   set_name : (c : ℕ) → c < length (set_of files) → name_at c ≡ (outline_at (set_of files) c).name
   set_name c lt = ap (λ (x : ClassEntry). x.info.name) (class_in files rows pools c lt)
 
-  array_name : (c : ℕ) → length (set_of files) ≤ c → c < length program.classes → name_at c ≡ slice_index_or (names_of files) (c - length (set_of files)) []
+  array_name : (c : ℕ) → length (set_of files) ≤ c → c < length program.classes → name_at c ≡ slice_index_or (class_names_of files) (c - length (set_of files)) []
   array_name c le lt = ap (λ (x : ClassEntry). x.info.name) (array_in files rows pools c le lt)
 
-  place_within : (c : ℕ) → length (set_of files) ≤ c → c < length program.classes → c - length (set_of files) < length (names_of files)
+  place_within : (c : ℕ) → length (set_of files) ≤ c → c < length program.classes → c - length (set_of files) < length (class_names_of files)
   place_within c le lt = let all = length_all files rows pools in omega (arith, all, le, lt)
 
   set_apart : (c d : ℕ) → c < d → d < length (set_of files) → name_at c ≡ name_at d → ⊥
@@ -76,7 +76,7 @@ module _ (files : List LoadedClass) (rows : List Ancestry) (pools : List Constan
   kinds_apart : (c d : ℕ) → c < length (set_of files) → length (set_of files) ≤ d → d < length program.classes → name_at c ≡ name_at d → ⊥
   kinds_apart c d inside le lt same =
       let none : is_array (name_at c) ≡ false = ap (λ (n : List ℕ). is_array n) (set_name c inside) ∙ set_plain files named c no_outline inside in
-      let array : is_array (slice_index_or (names_of files) (d - length (set_of files)) []) ≡ true = (all_names (place_of (set_of files)) (arrays_met files) (d - length (set_of files)) [] (place_within d le lt)).array in
+      let array : is_array (slice_index_or (class_names_of files) (d - length (set_of files)) []) ≡ true = (all_names (class_place (set_of files)) (arrays_met files) (d - length (set_of files)) [] (place_within d le lt)).array in
       absurd (true≢false (sym array ∙ (ap (λ (n : List ℕ). is_array n) (sym (same ∙ array_name d le lt)) ∙ none)))
 
   ordered_apart : (c d : ℕ) → c < d → d < length program.classes → name_at c ≡ name_at d → ⊥
@@ -88,7 +88,7 @@ module _ (files : List LoadedClass) (rows : List Ancestry) (pools : List Constan
               | inl inside ↦ kinds_apart c d inside le within same
               | inr above ↦
                   let c_within : c < length program.classes = omega (arith, lt, within) in
-                  all_apart [] (flat_map with_elements (filter (is_known (place_of (set_of files))) (arrays_met files))) (λ i j less short e. absurd (omega (arith, short))) (c - length (set_of files)) (d - length (set_of files)) (omega (arith, lt, above, le)) (place_within d le within)
+                  all_apart [] (flat_map with_element_types (filter (is_type_known (class_place (set_of files))) (arrays_met files))) (λ i j less short e. absurd (omega (arith, short))) (c - length (set_of files)) (d - length (set_of files)) (omega (arith, lt, above, le)) (place_within d le within)
                   (sym (array_name c above c_within) ∙ (same ∙ array_name d le within))
             ]
       ]

@@ -12,7 +12,7 @@ use Rattle.et_graph.specs.Graph.{Graph}
 use Rattle.et_state.specs.declared.records.Record.{Record}
 use Rattle.et_state.specs.declared.records.Record.TheVariants.{Alloc, Update, Enter, Exit, Unwind}
 use Rattle.et_state.specs.History.{Setting, is_flush_point, flush_lines, lines_to, mentions_to, records_at, deaths, trace_of, how_of}
-use Rattle.et_state.specs.Naming.{Names, Mentions, nothing_mentioned, with_mentions, class_line, method_line, classes_of, methods_of, number_in, line_of, record_lines, lines_of}
+use Rattle.et_state.specs.Naming.{Names, Mentions, nothing_mentioned, with_mentions, class_line, method_line, classes_named_by, methods_named_by, number_in, line_of, record_lines, lines_of}
 use Rattle.et_replay.specs.Curve.{tells_before, dies_before}
 
 -- a choice, of which both sides are known
@@ -54,11 +54,11 @@ module _ (e o : ℕ) where
   none_lines names m [] = refl
   none_lines names m (r ∷ rs) =
       let now : Mentions = with_mentions names m r in
-      let cs : List TraceLine = flat_map (class_line names m.classes) (classes_of names r) in
-      let ms : List TraceLine = flat_map (method_line names now.classes m.methods) (methods_of r) in
+      let cs : List TraceLine = flat_map (class_line names m.classes) (classes_named_by names r) in
+      let ms : List TraceLine = flat_map (method_line names now.classes m.methods) (methods_named_by r) in
       none_both (record_lines names m r) (lines_of names now rs)
       (none_both (cs ++ ms) (line_of now r ∷ [])
-      (none_both cs ms (none_classes names m.classes (classes_of names r)) (none_methods names now.classes m.methods (methods_of r)))
+      (none_both cs ms (none_classes names m.classes (classes_named_by names r)) (none_methods names now.classes m.methods (methods_named_by r)))
       (none_line now r))
       (none_lines names now rs)
 

@@ -11,7 +11,7 @@ use Rattle.et_base.specs.declared.line.TraceLine.{TraceLine}
 use Rattle.et_base.specs.declared.line.TraceLine.TheVariants.{Flush, Death, Finish}
 use Rattle.et_state.specs.History.{deaths_to, flush_lines}
 use Rattle.et_state.specs.Naming.{Names, Mentions}
-use Rattle.et_text.specs.Rules.{AreFine, awaited, births, classes, flushed, has_begun, has_class, has_ended, has_method, interval, is_before, is_flush_point, is_reported, last_dead, latest, methods, misses_no_flush, standing_flush, stands_at}
+use Rattle.et_text.specs.Rules.{AreFine, awaited, births, classes, newest_flush, has_begun, has_class, has_ended, has_method, interval, is_before, is_flush_point, is_reported, last_dead, latest, methods, misses_no_flush, standing_flush, stands_at}
 use Rattle.et_traces.proofs.Numbering.{AreNamed}
 use Rattle.et_traces.proofs.Standing.{behind, Stands, fault_free, timely}
 
@@ -114,7 +114,7 @@ pub record Flushing (names : Names) (every e next : ℕ) (live : ℕ → Type 0)
   pub dead : last_dead past ≡ low
   pub interval_is : interval past ≡ every
   pub latest_within : latest past ≤ e
-  pub newest : flushed past ≡ Some e
+  pub newest : newest_flush past ≡ Some e
   pub standing : standing_flush past ≡ Some e
   pub named : AreNamed names m (classes past) (methods past) (λ name. has_class past name) (λ c name descriptor. has_method past c name descriptor)
   pub made : length (births past) + 1 ≡ next
@@ -159,7 +159,7 @@ module _ (names : Names) (every e next : ℕ) (event_within : e ≤ 2 ^ 40) (liv
       let none : is_reported past o ≡ false = h.unreported o above d.here in
       let more : nat_lt 0 (awaited past) ≡ true = lt-ltb 0 (awaited past) (let a = h.awaited_is in omega arith) in
       let rises : nat_lt (last_dead past) o ≡ true = lt-ltb (last_dead past) o (let a = h.dead in omega arith) in
-      let timed : nat_le time (unwrap_or (flushed past) 0) ≡ true = subst (λ (x : Option ℕ). nat_le time (unwrap_or x 0) ≡ true) (sym h.newest) (le-leb time e d.within) in
+      let timed : nat_le time (unwrap_or (newest_flush past) 0) ≡ true = subst (λ (x : Option ℕ). nat_le time (unwrap_or x 0) ≡ true) (sym h.newest) (le-leb time e d.within) in
       let known : nat_le o (length (births past)) ≡ true = le-leb o (length (births past)) (omega arith) in
       let lives : nat_le (slice_index (births past) (o - 1)) time ≡ true = le-leb (slice_index (births past) (o - 1)) time (let a = h.births_within o some made in let b = d.born in omega arith) in
       let within : time ≤ e = d.within in
@@ -279,9 +279,9 @@ no_flush names every e next live last m past out h = record {
   flows = record {
     interval_is = h.flows.interval_is;
     latest_within = (let a = h.flows.latest_within in omega arith);
-    later = still_before (flushed past) e h.flows.later;
+    later = still_before (newest_flush past) e h.flows.later;
     not_final = h.flows.not_final;
-    none_missing = still_none every e (flushed past) out h.flows.none_missing;
+    none_missing = still_none every e (newest_flush past) out h.flows.none_missing;
   };
   named = h.named;
   objects_are = h.objects_are;

@@ -23,7 +23,7 @@ use Rattle.et_history.specs.Histories.{whole_picked}
 use Rattle.et_history.specs.Same.{IsHere}
 use Rattle.et_history.specs.Whole.{whole_start}
 use Rattle.et_replay.specs.Curve.{dies_before, live, live_size}
-use Rattle.et_traces.specs.LiveBytes.{size_in, is_reached_from, bytes_reached}
+use Rattle.et_traces.specs.LiveBytes.{object_size, is_reached_from, bytes_reached}
 use Rattle.et_traces.proofs.DeathLines.{IsListed, told_trace, trace_told, trace_ends}
 use Rattle.et_traces.proofs.Reported.{now, made_by, Knows, found_before, flushed_out}
 use Rattle.et_traces.proofs.LiveSums.{rest_told, end_none, told_bytes, late_none}
@@ -214,13 +214,13 @@ module _ (reached : Graph → ℕ → Bool) (p : Linked) (options : Options) (pi
   -- THE SUM
   module _ (e : ℕ) (le : e ≤ last) where
     abbrev term : ℕ → ℕ
-    term o = if from o e (last - e) then size_in p (state e) o else 0
+    term o = if from o e (last - e) then object_size p (state e) o else 0
 
     one_term : (born object size elements : ℕ) → 0 < object → IsMadeAt p state e born object size elements → (if nat_le born e && not (dies_before trace e object) then size else 0) ≡ term object
     one_term born object size elements some made_at =
         let below = here_below e object le made_at.here in
         let is : object ≤ made e = omega (arith, below) in
-        chosen (nat_le born e) (dies_before trace e object) (from object e (last - e)) size (size_in p (state e) object) (le-leb born e made_at.within) (lives_when e object le some is) (dies_when e object le some is) made_at.size_is
+        chosen (nat_le born e) (dies_before trace e object) (from object e (last - e)) size (object_size p (state e) object) (le-leb born e made_at.within) (lives_when e object le some is) (dies_when e object le some is) made_at.size_is
 
     -- the A lines after those of event e are of later events
     late : 0 < next_number (state e) → (born object size elements : ℕ) → next_number (state e) ≤ object → IsMadeAt p state last born object size elements → e < born
@@ -233,7 +233,7 @@ module _ (reached : Graph → ℕ → Bool) (p : Linked) (options : Options) (pi
           absurd (omega (arith, below, above))
     ]
 
-    pub live_is : live trace e ≡ bytes_reached reached (whole_picked p options pick) (whole_start p) (start_records p) (size_in p) e last
+    pub live_is : live trace e ≡ bytes_reached reached (whole_picked p options pick) (whole_start p) (start_records p) (object_size p) e last
     live_is =
         let m : ℕ = last - e in
         let same : e + m ≡ last = omega (arith, le) in

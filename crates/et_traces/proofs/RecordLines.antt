@@ -4,7 +4,7 @@ use Rattle.std.specs.Prelude.{if◌then◌else◌}
 use Rattle.std.specs.List.{list_any, flat_map}
 use Rattle.et_base.specs.declared.line.TraceLine.{TraceLine}
 use Rattle.et_base.specs.declared.line.TraceLine.TheVariants as line
-use Rattle.et_state.specs.Naming.{Names, Mentions, number_in, with_new, class_line, method_line, classes_of, methods_of, with_mentions, mentions_after, line_of, record_lines, lines_of}
+use Rattle.et_state.specs.Naming.{Names, Mentions, number_in, with_new, class_line, method_line, classes_named_by, methods_named_by, with_mentions, mentions_after, line_of, record_lines, lines_of}
 use Rattle.et_state.specs.Naming as naming
 use Rattle.et_state.specs.declared.records.Record.{Record}
 use Rattle.et_state.specs.declared.records.Record.TheVariants.{Alloc, Update, Enter, Exit, Unwind}

@@ -151,7 +151,7 @@ module _ (reached : Graph → ℕ → Bool) (p : Linked) (options : Options) (pi
   unfolding left_by
   reported_next f =
       let t : State = whole_settled_at reached p options pick f in
-      after_reported t (event p t.kept (history.turn_of (whole_picked p options pick) (suc f) t))
+      after_reported t (event p t.kept (history.picked_turn (whole_picked p options pick) (suc f) t))
 
   reported_first : (o : ℕ) → IsHeld (now 0).reported o → ⊥
   unfolding left_by

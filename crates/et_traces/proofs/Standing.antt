@@ -8,7 +8,7 @@ use Rattle.std.proofs.Math.Seq.{get_or-append_seam}
 use Rattle.et_base.specs.declared.line.TraceLine.{TraceLine}
 use Rattle.et_base.specs.declared.line.TraceLine.TheVariants as line
 use Rattle.et_state.specs.Naming.{Names, Mentions, number_in, with_new, class_line, method_line}
-use Rattle.et_text.specs.Rules.{AreFine, awaited, births, classes, flushed, has_begun, has_class, has_ended, has_method, interval, is_before, is_final, is_known, is_new, is_open, is_reported, is_timely, keeps_lives, keeps_order, latest, methods, misses_no_flush, next_fault, objects}
+use Rattle.et_text.specs.Rules.{AreFine, awaited, births, classes, newest_flush, has_begun, has_class, has_ended, has_method, interval, is_before, is_final, is_known, is_new, is_open, is_reported, is_timely, keeps_lives, keeps_order, latest, methods, misses_no_flush, next_fault, objects}
 use Rattle.et_traces.proofs.Numbering.{AreTellable, IsIn, AreNamed, number_within, class_is_new, class_in_range, named_class, class_number, method_is_new, method_in_range, named_method, method_number}
 
 -- LINES BEHIND THE LINES SO FAR, of which the newest stands first
@@ -47,7 +47,7 @@ pub record AreObjects (next : ℕ) (live : ℕ → Type 0) (last : ℕ → ℕ) 
 pub record Stands (names : Names) (every e next : ℕ) (live : ℕ → Type 0) (last : ℕ → ℕ) (m : Mentions) (past : List TraceLine) : Type 0 where
   pub fine : AreFine 1 past
   pub rests : Rests past
-  pub flows : Flows every e (interval past) (latest past) (flushed past)
+  pub flows : Flows every e (interval past) (latest past) (newest_flush past)
   pub named : AreNamed names m (classes past) (methods past) (λ name. has_class past name) (λ c name descriptor. has_method past c name descriptor)
   pub objects_are : AreObjects next live last (births past) (λ o. is_reported past o)
 
@@ -62,15 +62,15 @@ negates b e = rw e refl
 pub fault_free : (past : List TraceLine) (l : TraceLine) → has_ended past ≡ false → keeps_order past l ≡ true → is_known past l ≡ true → keeps_lives past l ≡ true → is_new past l ≡ true → next_fault past l ≡ None
 fault_free past l unended order known lives new = rw (unended, order, known, lives, new) refl
 
-pub open_is : (every e : ℕ) (past : List TraceLine) → Rests past → Flows every e (interval past) (latest past) (flushed past) → is_open past ≡ true
+pub open_is : (every e : ℕ) (past : List TraceLine) → Rests past → Flows every e (interval past) (latest past) (newest_flush past) → is_open past ≡ true
 open_is every e past rests flows =
     both (both rests.0 (eq-eqb (awaited past) 0 rests.2))
-    (negates (is_final (interval past) (flushed past)) (subst (λ (n : ℕ). is_final n (flushed past) ≡ false) (sym flows.interval_is) flows.not_final))
+    (negates (is_final (interval past) (newest_flush past)) (subst (λ (n : ℕ). is_final n (newest_flush past) ≡ false) (sym flows.interval_is) flows.not_final))
 
-pub timely : (every e : ℕ) (past : List TraceLine) → Rests past → Flows every e (interval past) (latest past) (flushed past) → is_timely past e ≡ true
+pub timely : (every e : ℕ) (past : List TraceLine) → Rests past → Flows every e (interval past) (latest past) (newest_flush past) → is_timely past e ≡ true
 timely every e past rests flows =
     both (both (both (open_is every e past rests flows) (le-leb (latest past) e flows.latest_within)) flows.later)
-    (subst (λ (n : ℕ). misses_no_flush n (flushed past) e ≡ true) (sym flows.interval_is) flows.none_missing)
+    (subst (λ (n : ℕ). misses_no_flush n (newest_flush past) e ≡ true) (sym flows.interval_is) flows.none_missing)
 
 -- .. and behind a line of this event
 pub flows_on : (every e within latest : ℕ) (newest : Option ℕ) → Flows every e within latest newest → Flows every e within e newest

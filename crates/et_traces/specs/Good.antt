@@ -9,7 +9,7 @@ use Rattle.et_text.specs.Ranges.{IsText}
 use Rattle.et_event.specs.Event.{event}
 use Rattle.et_event.specs.Sound.{IsSoundFor}
 use Rattle.et_history.specs.Records.{HasPlainStrings}
-use Rattle.et_history.specs.Settings.{names_of}
+use Rattle.et_history.specs.Settings.{names_of_program}
 
 -- the names of a program are apart: each is one that a line can tell, and no two are alike
 pub record AreNamesApart (names : Names) : Type 0 where
@@ -31,8 +31,8 @@ NamesOnly names outcome.ObjectLimit = Unit {0}
 
 -- THE PROGRAM is one that a trace can tell of
 pub record IsTraceable (p : Linked) : Type 0 where
-  pub names : AreNamesApart (names_of p)
+  pub names : AreNamesApart (names_of_program p)
   -- in every sound state, what an event names is of the program
-  pub own : (s : Kept) (t : ℕ) → IsSoundFor p s → NamesOnly (names_of p) (event p s t)
+  pub own : (s : Kept) (t : ℕ) → IsSoundFor p s → NamesOnly (names_of_program p) (event p s t)
   pub few_statics : length p.statics < 2 ^ 28
   pub strings : HasPlainStrings p

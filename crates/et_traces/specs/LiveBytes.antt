@@ -24,5 +24,5 @@ module _ {S : Type 0} (reached : Graph → ℕ → Bool) (given : Setting S) (st
       sum_by (λ o. if is_reached_from o e (last - e) then size s o else 0) (numbers_from 1 (given.rule.graph s).made)
 
 -- the bytes of an object that was made, held or reported
-abbrev pub size_in : Linked → State → ℕ → ℕ
-size_in p s o = size_of p (object_in s o)
+abbrev pub object_size : Linked → State → ℕ → ℕ
+object_size p s o = size_of p (object_in s o)

@@ -10,7 +10,7 @@ ghost use Rattle.et_program.specs.LinkFaults.{IsLinkable};
 ghost use Rattle.et_program.specs.Loaded.{LoadedClass};
 ghost use Rattle.et_program.specs.ProgramOf.{IsProgramOf};
 ghost use Rattle.et_state.specs.declared.options.Options.{Options};
-ghost use Rattle.et_state.specs.History.{IsLast, trace_of};
+ghost use Rattle.et_state.specs.History.{IsLastEvent, trace_of};
 ghost use Rattle.et_state.specs.Options.{AreOptions};
 ghost use Rattle.et_state.specs.Start.{start};
 ghost use Rattle.et_text.specs.Rules.{IsGood};
@@ -32,7 +32,8 @@ pub fn traces_are_good()
     ensures { (reached : Graph → ℕ → Bool) (p : Linked) (options : Options) (pick : ℕ → ℕ)
         (last : ℕ) (end : End) → Decides reached → IsSoundRun p (start p) →
         IsTraceable p → AreOptions options →
-        IsLast reached (whole_picked p options pick) (whole_start p) (start_records p) last end →
+        IsLastEvent reached (whole_picked p options pick) (whole_start p) (start_records p) last
+        end →
         IsGood 1 (trace_of reached (whole_picked p options pick) (whole_start p)
         (start_records p) last end) }
 {
@@ -48,14 +49,16 @@ pub fn traces_are_read()
     ensures lines { (reached : Graph → ℕ → Bool) (p : Linked) (options : Options) (pick : ℕ → ℕ)
         (last : ℕ) (end : End) (lines : List TraceLine) → Decides reached →
         IsSoundRun p (start p) → IsTraceable p → AreOptions options →
-        IsLast reached (whole_picked p options pick) (whole_start p) (start_records p) last end →
+        IsLastEvent reached (whole_picked p options pick) (whole_start p) (start_records p) last
+        end →
         IsTextOf lines (text (trace_of reached (whole_picked p options pick) (whole_start p)
         (start_records p) last end)) ↔ (lines ≡ trace_of reached (whole_picked p options pick)
         (whole_start p) (start_records p) last end) }
     ensures none { (reached : Graph → ℕ → Bool) (p : Linked) (options : Options) (pick : ℕ → ℕ)
         (last : ℕ) (end : End) (kind number : ℕ) → Decides reached →
         IsSoundRun p (start p) → IsTraceable p → AreOptions options →
-        IsLast reached (whole_picked p options pick) (whole_start p) (start_records p) last end →
+        IsLastEvent reached (whole_picked p options pick) (whole_start p) (start_records p) last
+        end →
         IsTraceFault (text (trace_of reached (whole_picked p options pick) (whole_start p)
         (start_records p) last end)) kind number → ⊥ }
 {

@@ -7,7 +7,7 @@ ghost use Rattle.et_graph.specs.Graph.{Graph, Decides};
 ghost use Rattle.et_program.specs.Entries.{Linked};
 ghost use Rattle.et_program.specs.Linking.{IsLinked};
 ghost use Rattle.et_program.specs.Tables.{IsTabled};
-ghost use Rattle.et_state.specs.History.{IsLast, trace_of};
+ghost use Rattle.et_state.specs.History.{IsLastEvent, trace_of};
 ghost use Rattle.et_state.specs.Options.{AreOptions};
 ghost use Rattle.et_state.specs.Start.{start};
 ghost use Rattle.et_state.specs.declared.options.Options.{Options};
@@ -17,7 +17,7 @@ ghost use Rattle.et_history.specs.Records.{HasPlainStrings};
 ghost use Rattle.et_history.specs.Settings.{IsSoundRun};
 ghost use Rattle.et_history.specs.Whole.{whole_setting, whole_start};
 ghost use Rattle.et_replay.specs.Curve.{live};
-ghost use Rattle.et_traces.specs.LiveBytes.{bytes_reached, size_in};
+ghost use Rattle.et_traces.specs.LiveBytes.{bytes_reached, object_size};
 
 use et_history::laws::{histories_tell_the_same, nothing_is_freed};
 use et_history::object_laws::objects_are_reached_as_made;
@@ -32,11 +32,12 @@ use et_linked::start_laws::first_state_is_sound;
 pub fn live_is_reached()
     ensures live { (reached : Graph → ℕ → Bool) (p : Linked) (options : Options) (e last : ℕ)
         (end : End) → Decides reached → IsSoundRun p (start p) → HasPlainStrings p →
-        HasArguments p → AreOptions options → IsLast reached (whole_setting p options)
+        HasArguments p → AreOptions options → IsLastEvent reached (whole_setting p options)
         (whole_start p) (start_records p) last end → e ≤ last →
-        live (trace_of reached (whole_setting p options) (whole_start p) (start_records p) last end) e
+        live (trace_of reached (whole_setting p options) (whole_start p) (start_records p) last
+        end) e
         ≡ bytes_reached reached (whole_setting p options) (whole_start p) (start_records p)
-        (size_in p) e last }
+        (object_size p) e last }
     ensures linked { (p : Linked) → IsTabled p → IsLinked p →
         IsSoundRun p (start p) × HasPlainStrings p × HasArguments p }
 {

@@ -7,7 +7,7 @@ ghost use Rattle.et_state.specs.Words.{IsUnended, thread_at};
 ghost use Rattle.et_event.specs.Answered.{EventAnswers};
 ghost use Rattle.et_event.specs.Event.{event};
 ghost use Rattle.et_event.specs.Sound.{IsSoundFor};
-ghost use Rattle.et_event.specs.Programs.{HasMethods};
+ghost use Rattle.et_event.specs.Programs.{HasBuiltInMethods};
 ghost use Rattle.et_event.specs.InitializationOrder.{IsInOrder};
 
 use crate::entry::mains::main_event;
@@ -34,7 +34,7 @@ pub fn entry_event<L: Ledger>(
     requires thread { IsUnended machine.old.guest thread }
     requires turn { turn_of (thread_at machine.old.guest thread) ≡ turns.Entry }
     requires order { IsInOrder program.now }
-    requires methods { HasMethods program.now }
+    requires methods { HasBuiltInMethods program.now }
     ensures ok { IfOk result (λ end. EventAnswers (event program.now
         (kept_of machine.old) thread) end machine.old machine.new out.old out.new) }
     ensures visits { visits.new ≤ visits.old + 6 }

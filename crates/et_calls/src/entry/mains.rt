@@ -8,7 +8,7 @@ ghost use Rattle.et_event.specs.Calls.{enters_first, enters_main, entry_argument
 ghost use Rattle.et_event.specs.Initialization.{is_ready as ready, prepared};
 ghost use Rattle.et_event.specs.Moments.{moment, begins};
 ghost use Rattle.et_event.specs.Sound.{IsSoundFor};
-ghost use Rattle.et_event.specs.Programs.{HasMethods};
+ghost use Rattle.et_event.specs.Programs.{HasBuiltInMethods};
 ghost use Rattle.et_event.specs.InitializationOrder.{IsInOrder};
 ghost use Rattle.et_calls.specs.Fresh.{IsFresh};
 
@@ -36,7 +36,7 @@ fn enter_main<L: Ledger>(
     visits: &mut Steps<L>,
 ) -> Result<EventEnd, NoMemory>
     requires order { IsInOrder program.now }
-    requires methods { HasMethods program.now }
+    requires methods { HasBuiltInMethods program.now }
     requires sound { IsSoundFor program.now (kept_of machine.old) }
     requires clock { machine.old.guest.clock < 2 ^ 40 }
     requires fresh { IsFresh machine.old.guest thread }
@@ -78,7 +78,7 @@ pub(crate) fn main_event<L: Ledger>(
     visits: &mut Steps<L>,
 ) -> Result<EventEnd, NoMemory>
     requires order { IsInOrder program.now }
-    requires methods { HasMethods program.now }
+    requires methods { HasBuiltInMethods program.now }
     requires sound { IsSoundFor program.now (kept_of machine.old) }
     requires clock { machine.old.guest.clock < 2 ^ 40 }
     requires fresh { IsFresh machine.old.guest thread }

@@ -9,7 +9,7 @@ ghost use Rattle.et_event.specs.Sound.{IsSoundFor};
 ghost use Rattle.et_event.specs.Moments.{begins, moment};
 ghost use Rattle.et_event.specs.InitializationOrder.{IsInOrder};
 ghost use Rattle.et_calls.specs.Fresh.{IsFresh};
-ghost use Rattle.et_calls.specs.Runs.{planned, IsPlan};
+ghost use Rattle.et_calls.specs.Runs.{run_planned, IsRunPlan};
 
 use crate::called::codeless_error;
 use crate::entering::enter_code;
@@ -56,8 +56,8 @@ fn run_plan<L: Ledger>(
     requires fresh { IsFresh machine.now.guest thread }
     ensures plan { enters_run
         (moment program.now machine.now thread) (thread_at machine.now.guest thread).object
-        ≡ planned (moment program.now machine.now thread) result }
-    ensures within { IsPlan (moment program.now machine.now thread) result }
+        ≡ run_planned (moment program.now machine.now thread) result }
+    ensures within { IsRunPlan (moment program.now machine.now thread) result }
     ensures visits { visits.new ≤ visits.old + 1 }
 {
     let Some(object) = machine.object_of(thread) else {

@@ -1,10 +1,10 @@
 use Rattle.std.proofs.Common.{◌≡◌, ◌+◌, ◌-◌, ◌≤◌, ◌∷◌, [], cond, refl, sym, ap, ◌∙◌, length, take, drop, None, arith, rules}
 use Rattle.std.proofs.lemmas.Grind.{common_steps}
-use Rattle.et_base.specs.Marks.{marked, first_from}
+use Rattle.et_base.specs.Marks.{marked, first_from, mark}
 use Rattle.et_asm.specs.declared.fault.TheConstants.{ORDER}
-use Rattle.et_asm.specs.Along.{along}
+use Rattle.et_asm.specs.Along.{along_lines}
 use Rattle.et_asm.specs.Order.{stage_of, is_finished}
-use Rattle.et_asm.specs.Listings.{count, is_interface, is_field, is_method, mark, line_marks, end_mark}
+use Rattle.et_asm.specs.Listings.{count, is_interface_line, is_field_line, is_method_line, line_marks, end_mark}
 use Rattle.et_asm.proofs.Stages.{stage_more, stage_all, count_more, few_more}
 use Rattle.et_asm.proofs.Marked.{loop_more, loop_end, marks_more, marks_none}
 use Rattle.et_asm.proofs.Checked.{line_step, few_is, mark_then}
@@ -20,9 +20,9 @@ loop-i-preserved c =
     let is = c.index-lines-i.is in
     let more = take (length lines - (i + 1)) (drop (i + 1) lines) in
     let behind : more ≡ drop (i + 1) lines = grind (arith, common_steps) in
-    let interfaces = count_more is_interface lines i p c.loop-i.counts.interfaces c.with-counts.result.interfaces lt is c.with-counts.ensures.interfaces c.loop-i.invariant.interfaces in
-    let fields = count_more is_field lines i p c.loop-i.counts.fields c.with-counts.result.fields lt is c.with-counts.ensures.fields c.loop-i.invariant.fields in
-    let methods = count_more is_method lines i p c.loop-i.counts.methods c.with-counts.result.methods lt is c.with-counts.ensures.methods c.loop-i.invariant.methods in
+    let interfaces = count_more is_interface_line lines i p c.loop-i.counts.interfaces c.with-counts.result.interfaces lt is c.with-counts.ensures.interfaces c.loop-i.invariant.interfaces in
+    let fields = count_more is_field_line lines i p c.loop-i.counts.fields c.with-counts.result.fields lt is c.with-counts.ensures.fields c.loop-i.invariant.fields in
+    let methods = count_more is_method_line lines i p c.loop-i.counts.methods c.with-counts.result.methods lt is c.with-counts.ensures.methods c.loop-i.invariant.methods in
     let few = few_is (take (i + 1) lines) _ _ _ c.are_few.result c.are_few.ensures interfaces fields methods in
     record {
       found = loop_more (line_marks entries) lines i p c.loop-i.found c.in_ok-found.found _ lt is
@@ -32,9 +32,9 @@ loop-i-preserved c =
       interfaces = interfaces;
       fields = fields;
       methods = methods;
-      few_interfaces = few_more c.loop-i.counts.interfaces c.with-counts.result.interfaces i (is_interface p.line) c.with-counts.ensures.interfaces c.loop-i.invariant.few_interfaces;
-      few_fields = few_more c.loop-i.counts.fields c.with-counts.result.fields i (is_field p.line) c.with-counts.ensures.fields c.loop-i.invariant.few_fields;
-      few_methods = few_more c.loop-i.counts.methods c.with-counts.result.methods i (is_method p.line) c.with-counts.ensures.methods c.loop-i.invariant.few_methods;
+      few_interfaces = few_more c.loop-i.counts.interfaces c.with-counts.result.interfaces i (is_interface_line p.line) c.with-counts.ensures.interfaces c.loop-i.invariant.few_interfaces;
+      few_fields = few_more c.loop-i.counts.fields c.with-counts.result.fields i (is_field_line p.line) c.with-counts.ensures.fields c.loop-i.invariant.few_fields;
+      few_methods = few_more c.loop-i.counts.methods c.with-counts.result.methods i (is_method_line p.line) c.with-counts.ensures.methods c.loop-i.invariant.few_methods;
     }
 
 pub returns : goal.returns
@@ -48,6 +48,6 @@ returns c =
     c.mark.ensures
     ∙ (ap (λ b. marked c.loop-i.found (mark (length lines + 1) ORDER b)) (c.is_finished.ensures ∙ ap is_finished stage)
     ∙ (ap (λ f. marked f end) found
-    ∙ (marks_none (marked (first_from None (along (line_marks entries) lines)) end)
-    ∙ (mark_then (first_from None (along (line_marks entries) lines)) end []
-    ∙ marks_more None (along (line_marks entries) lines) (end ∷ [])))))
+    ∙ (marks_none (marked (first_from None (along_lines (line_marks entries) lines)) end)
+    ∙ (mark_then (first_from None (along_lines (line_marks entries) lines)) end []
+    ∙ marks_more None (along_lines (line_marks entries) lines) (end ∷ [])))))

@@ -1,12 +1,13 @@
 use Rattle.std.proofs.Common.{◌≡◌, ◌++◌, ap, ◌∙◌}
 use Rattle.std.specs.List.{flat_map}
-use Rattle.et_asm.specs.Pool.{u2, u4, pool_bytes}
-use Rattle.et_asm.specs.Listings.{count, is_interface, is_field, is_method, header_bytes, interface_bytes, field_bytes, methods_bytes, class_bytes}
+use Rattle.et_asm.specs.Pool.{entry_pool_bytes}
+use Rattle.et_class.specs.Layout.{u4, u2}
+use Rattle.et_asm.specs.Listings.{count, is_interface_line, is_field_line, is_method_line, header_bytes, interface_bytes, field_bytes, methods_bytes, listed_class_bytes}
 use Rattle.et_asm.proofs.Loops.{chain}
 use Rattle.et_asm.proofs.class.class_bytes.Goals as goal
 
 pub returns : goal.returns
-unfolding class_bytes
+unfolding listed_class_bytes
 returns c =
     let entries = c.args.symbols.now.entries.keys in
     let ps = c.args.lines.now in
@@ -26,13 +27,13 @@ returns c =
     let b1 = u4 0xCAFEBABE in
     let b2 = u2 0 in
     let b3 = u2 52 in
-    let b4 = pool_bytes entries in
+    let b4 = entry_pool_bytes entries in
     let b5 = flat_map (λ p. header_bytes entries p.line) ps in
-    let b6 = u2 (count is_interface ps) in
+    let b6 = u2 (count is_interface_line ps) in
     let b7 = flat_map (λ p. interface_bytes entries p.line) ps in
-    let b8 = u2 (count is_field ps) in
+    let b8 = u2 (count is_field_line ps) in
     let b9 = flat_map (λ p. field_bytes entries p.line) ps in
-    let b10 = u2 (count is_method ps) in
+    let b10 = u2 (count is_method_line ps) in
     let b11 = methods_bytes entries ps in
     let b12 = u2 0 in
     let whole : o12 ≡ start ++ (b1 ++ (b2 ++ (b3 ++ (b4 ++ (b5 ++ (b6 ++ (b7 ++ (b8 ++ (b9 ++ (b10 ++ (b11 ++ b12))))))))))) = chain start o1 o12 b1 (b2 ++ (b3 ++ (b4 ++ (b5 ++ (b6 ++ (b7 ++ (b8 ++ (b9 ++ (b10 ++ (b11 ++ b12)))))))))) c.in_ok-put_u4.ensures

@@ -1,6 +1,6 @@
 use Rattle.std.proofs.Common.{◌≡◌, ◌+◌, ◌-◌, ◌++◌, length, take, drop, ap, ◌∙◌, refl, arith, rules}
 use Rattle.std.proofs.lemmas.Grind.{common_steps}
-use Rattle.et_asm.specs.Listings.{method_at}
+use Rattle.et_asm.specs.Listings.{method_bytes_at}
 use Rattle.et_asm.specs.Symbols.{stage_method}
 use Rattle.et_asm.proofs.Stages.{stage_more}
 use Rattle.et_asm.proofs.Loops.{along_more, along_end}
@@ -20,10 +20,10 @@ loop-i-preserved c =
     let behind : more ≡ drop (i + 1) lines = grind (arith, common_steps) in
     record {
       stage = stage_more lines i p c.loop-i.stage _ c.loop-i-test.true c.index-lines-i.is c.step-stage.ensures c.loop-i.invariant.stage;
-      put = along_more (method_at entries) lines i p out _ _ c.loop-i-test.true c.index-lines-i.is
+      put = along_more (method_bytes_at entries) lines i p out _ _ c.loop-i-test.true c.index-lines-i.is
           (c.in_ok-put_method_at.ensures ∙ (ap (λ ps. out ++ stage_method entries c.loop-i.stage p.line ps) behind ∙ ap (λ s. out ++ stage_method entries s p.line (drop (i + 1) lines)) c.loop-i.invariant.stage))
           c.loop-i.invariant.put;
     }
 
 pub returns : goal.returns
-returns c = along_end (method_at c.args.symbols.now.entries.keys) c.args.lines.now c.loop-i.i c.loop-i.out.items _ c.loop-i-test.false c.loop-i.invariant.put
+returns c = along_end (method_bytes_at c.args.symbols.now.entries.keys) c.args.lines.now c.loop-i.i c.loop-i.out.items _ c.loop-i-test.false c.loop-i.invariant.put

@@ -1,6 +1,6 @@
 use Rattle.std.proofs.Common.{◌≡◌, ◌++◌, ap, ◌∙◌}
 use Rattle.std.specs.List.{flat_map}
-use Rattle.et_asm.specs.Pool.{u2}
+use Rattle.et_class.specs.Layout.{u2}
 use Rattle.et_asm.specs.Code.{row_bytes, catch_count}
 use Rattle.et_asm.specs.Symbols.{places}
 use Rattle.et_asm.proofs.Loops.{chain, on_ok}

@@ -2,7 +2,7 @@ use Rattle.std.proofs.Common.{◌≡◌, ◌+◌, ◌-◌, length, take, drop, a
 use Rattle.std.proofs.lemmas.Grind.{common_steps}
 use Rattle.et_asm.specs.Order.{stage_of}
 use Rattle.et_asm.specs.Pool.{line_uses, uses, pool}
-use Rattle.et_asm.specs.Symbols.{added, stage_uses}
+use Rattle.et_asm.specs.Symbols.{entry_added, stage_uses}
 use Rattle.et_asm.proofs.Stages.{stage_more}
 use Rattle.et_asm.proofs.Added.{lines_more, lines_end}
 use Rattle.et_asm.proofs.Once.{pool_once}
@@ -11,7 +11,7 @@ use Rattle.et_asm.proofs.uses.pool.Goals as goal
 pub loop-i-init : goal.loop-i-init
 loop-i-init c = record {
   stage = search rules;
-  keys = ap (λ k. added k (uses c.args.lines.now)) c.new-pool.ensures.empty;
+  keys = ap (λ k. entry_added k (uses c.args.lines.now)) c.new-pool.ensures.empty;
 }
 
 pub loop-i-preserved : goal.loop-i-preserved
@@ -24,7 +24,7 @@ loop-i-preserved c =
     record {
       stage = stage_more lines i p c.loop-i.stage _ c.loop-i-test.true c.index-lines-i.is c.step-stage.ensures c.loop-i.invariant.stage;
       keys = lines_more line_uses lines i p c.loop-i.pool.keys _ _ c.loop-i-test.true c.index-lines-i.is
-          (c.in_ok-add_line.ensures ∙ (ap (λ ps. added c.loop-i.pool.keys (stage_uses c.loop-i.stage p.line ps)) behind ∙ ap (λ s. added c.loop-i.pool.keys (stage_uses s p.line (drop (i + 1) lines))) c.loop-i.invariant.stage))
+          (c.in_ok-add_line.ensures ∙ (ap (λ ps. entry_added c.loop-i.pool.keys (stage_uses c.loop-i.stage p.line ps)) behind ∙ ap (λ s. entry_added c.loop-i.pool.keys (stage_uses s p.line (drop (i + 1) lines))) c.loop-i.invariant.stage))
           c.loop-i.invariant.keys;
     }
 

@@ -3,7 +3,7 @@ use Rattle.std.specs.Prelude.{Result}
 use Rattle.et_program.specs.declared.errors.LinkError.{LinkError}
 use Rattle.et_program.specs.Resolution.{select_special}
 use Rattle.et_event.specs.Calls.{arguments_of, enters_method, is_of_owner, special_class}
-use Rattle.et_event.specs.Checks.{selected}
+use Rattle.et_event.specs.Checks.{after_selection}
 use Rattle.et_event.specs.Moments.{moment, begins}
 use Rattle.et_builtins.proofs.Choosing.{special_room}
 use Rattle.et_builtins.proofs.Planning.{special_selected}
@@ -19,7 +19,7 @@ returns-clause-plan g c = λ at same.
     ap (λ (k : ℕ). select_special p k (special_class p c.args.callee.named) c.args.callee.method) same
     ∙ (ap (λ (k : ℕ). select_special p c.args.callee.current k c.args.callee.method) (sym c.special_class-from.ensures.value) ∙ sym c.select_special.ensures.value) in
     special_selected e at args c.args.callee.named c.args.callee.method c.in-Some.receiver (sym c.in-Some.ensures.value) owner
-    ∙ (ap (λ (r : Result ℕ LinkError). selected e (begins e) r (enters_method e at (begins e) args)) answer ∙ c.selected.ensures.plan e at)
+    ∙ (ap (λ (r : Result ℕ LinkError). after_selection e (begins e) r (enters_method e at (begins e) args)) answer ∙ c.selected.ensures.plan e at)
 
 pub returns-clause-within : goal.returns-clause-within
 returns-clause-within g c =

@@ -1,8 +1,7 @@
 use Rattle.std.proofs.Common.{◌≡◌, ◌+◌, ◌||◌, length, map, take, sym, ap, subst, ◌∙◌, Bool, arith, [], ◌∷◌}
 use Rattle.std.specs.List.{list_any}
-use Rattle.et_base.specs.Marks.{first_from}
+use Rattle.et_base.specs.Marks.{first_from, mark}
 use Rattle.et_class.specs.declared.fault.TheConstants.{ATTRIBUTE}
-use Rattle.et_class.specs.Along.{mark}
 use Rattle.et_class.specs.Layout.{attribute_of, attribute_bytes, member_of}
 use Rattle.et_class.specs.Fields.{field_attribute_marks, is_field_attribute, is_constant_value}
 use Rattle.et_class.proofs.Along.{Looked, looked_more, looked_end, any_more}

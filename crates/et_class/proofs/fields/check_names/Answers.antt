@@ -1,7 +1,6 @@
 use Rattle.std.proofs.Common.{◌≡◌, ◌+◌, length, ap, subst, ◌∙◌, Bool, arith, [], ◌∷◌}
-use Rattle.et_base.specs.Marks.{first_from}
+use Rattle.et_base.specs.Marks.{first_from, mark}
 use Rattle.et_class.specs.declared.fault.TheConstants.{ATTRIBUTE}
-use Rattle.et_class.specs.Along.{mark}
 use Rattle.et_class.specs.Layout.{attribute_of, attribute_bytes}
 use Rattle.et_class.specs.Fields.{attribute_marks}
 use Rattle.et_class.proofs.Along.{Looked, looked_more, looked_end}

@@ -1,8 +1,8 @@
 use Rattle.std.proofs.Common.{ℕ, List, get_or, ap, ◌∙◌, Bool, [], ◌∷◌}
 use Rattle.std.proofs.lemmas.List.{get_or_default, map-id}
-use Rattle.et_base.specs.Marks.{first_from}
+use Rattle.et_base.specs.Marks.{first_from, mark}
 use Rattle.et_class.specs.declared.fault.TheConstants.{POOL}
-use Rattle.et_class.specs.Along.{along, mark}
+use Rattle.et_class.specs.Along.{along}
 use Rattle.et_class.specs.Layout.{u2}
 use Rattle.et_class.specs.Rules.{interface_marks}
 use Rattle.et_class.proofs.Along.{looked_more, looked_end}

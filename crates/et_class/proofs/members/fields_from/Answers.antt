@@ -3,7 +3,7 @@ use Rattle.std.proofs.lemmas.List.{map_push}
 use Rattle.std.proofs.lemmas.Result.{err_from_is_err_and}
 use Rattle.et_base.specs.Marks.{first_from}
 use Rattle.et_class.specs.declared.member.Member.{Member}
-use Rattle.et_class.specs.Layout.{member_of, members_of}
+use Rattle.et_class.specs.Layout.{member_of, member_list}
 use Rattle.et_class.specs.Fields.{field_marks, field_marks_if, constant_of}
 use Rattle.et_class.proofs.Spelt.{member_reads}
 use Rattle.et_class.proofs.Keyed.{HasKeys, keys_start, keys_more, new_is}
@@ -13,7 +13,7 @@ use Rattle.et_class.proofs.members.fields_from.Goals as goal
 pub loop-init : goal.loop-init
 loop-init c = record {
   so_far = subst (λ ms. SoFar (field_marks c.args.pool.now.slots c.args.interface) c.args.bytes.now c.args.first c.args.count c.args.start c.args.first 0 c.args.start ms) (sym c.new-fields.ensures.items) (so_far_start (field_marks c.args.pool.now.slots c.args.interface) c.args.bytes.now c.args.first c.args.count c.args.start);
-  keyed = subst (λ ms. HasKeys c.args.pool.now.slots c.new-keys.result (members_of ms)) (sym c.new-fields.ensures.items) (keys_start c.args.pool.now.slots c.new-keys.result c.new-keys.ensures.empty);
+  keyed = subst (λ ms. HasKeys c.args.pool.now.slots c.new-keys.result (member_list ms)) (sym c.new-fields.ensures.items) (keys_start c.args.pool.now.slots c.new-keys.result c.new-keys.ensures.empty);
   constants = rw c.new-fields.ensures.items refl;
   no_code = rw c.new-fields.ensures.items refl;
 }
@@ -31,13 +31,13 @@ check_field-found-requires c =
 pub loop-preserved : goal.loop-preserved
 loop-preserved c =
     let m : Member = record { access_flags = c.in_ok-field.field.access_flags; name_index = c.in_ok-field.field.name_index; descriptor_index = c.in_ok-field.field.descriptor_index; attributes = c.in_ok-field.field.attributes; constant = c.constant_index.result; code = c.in_ok-field.field.code } in
-    let new = new_is c.args.pool.now.slots c.loop.keys (members_of c.loop.fields.items) (member_of c.in_ok-field.field) c.in_ok-new.new c.loop.invariant.keyed c.in_ok-new.ensures.added in
+    let new = new_is c.args.pool.now.slots c.loop.keys (member_list c.loop.fields.items) (member_of c.in_ok-field.field) c.in_ok-new.new c.loop.invariant.keyed c.in_ok-new.ensures.added in
     record {
       so_far = subst (λ ms. SoFar (field_marks c.args.pool.now.slots c.args.interface) c.args.bytes.now c.args.first c.args.count c.args.start c.check_field-found.result (c.loop.counter + 1) c.in_ok-field.after ms) (sym c.in_ok-push.ensures.items)
           (so_far_more (field_marks c.args.pool.now.slots c.args.interface) c.args.bytes.now c.args.first c.args.count c.args.start (λ i. (c.type_inv.bytes i).fits) c.loop.found c.check_field-found.result c.loop.counter c.loop.at c.loop.fields.items m c.in_ok-field.after c.loop.invariant.so_far c.loop-test.true c.in_ok-field.ensures.items
           (c.check_field-found.ensures ∙ ap (λ (b : Bool). first_from c.loop.found (field_marks_if c.args.pool.now.slots c.args.interface b c.loop.at (member_of c.in_ok-field.field))) new));
-      keyed = subst (λ ms. HasKeys c.args.pool.now.slots c.add_member.new.keys ms) (sym (ap members_of c.in_ok-push.ensures.items ∙ map_push member_of c.loop.fields.items m))
-          (keys_more c.args.pool.now.slots c.loop.keys c.add_member.new.keys (members_of c.loop.fields.items) (member_of m) c.loop.invariant.keyed c.in_ok-new.ensures.keeps);
+      keyed = subst (λ ms. HasKeys c.args.pool.now.slots c.add_member.new.keys ms) (sym (ap member_list c.in_ok-push.ensures.items ∙ map_push member_of c.loop.fields.items m))
+          (keys_more c.args.pool.now.slots c.loop.keys c.add_member.new.keys (member_list c.loop.fields.items) (member_of m) c.loop.invariant.keyed c.in_ok-new.ensures.keeps);
       constants = rw c.in_ok-push.ensures.items (same_push (λ (f : Member). f.constant) (constant_of c.args.pool.now.slots) member_of c.loop.fields.items m c.loop.invariant.constants c.constant_index.ensures);
       no_code = rw c.in_ok-push.ensures.items (same_push' (λ (f : Member). f.code) (λ (f : Member). None) c.loop.fields.items m c.loop.invariant.no_code c.in_ok-field.ensures.rest.1);
     }

@@ -3,7 +3,7 @@ use Rattle.std.proofs.lemmas.List.{map_push}
 use Rattle.std.proofs.lemmas.Result.{err_from_is_err_and}
 use Rattle.et_base.specs.Marks.{first_from}
 use Rattle.et_class.specs.declared.member.Member.{Member}
-use Rattle.et_class.specs.Layout.{member_of, members_of}
+use Rattle.et_class.specs.Layout.{member_of, member_list}
 use Rattle.et_class.specs.Methods.{method_marks, method_marks_if}
 use Rattle.et_class.specs.Kept.{kept_code}
 use Rattle.et_class.proofs.Spelt.{member_reads}
@@ -14,7 +14,7 @@ use Rattle.et_class.proofs.members.methods_from.Goals as goal
 pub loop-init : goal.loop-init
 loop-init c = record {
   so_far = subst (λ ms. SoFar (method_marks c.args.pool.now.slots) c.args.bytes.now c.args.first c.args.count c.args.start c.args.first 0 c.args.start ms) (sym c.new-methods.ensures.items) (so_far_start (method_marks c.args.pool.now.slots) c.args.bytes.now c.args.first c.args.count c.args.start);
-  keyed = subst (λ ms. HasKeys c.args.pool.now.slots c.new-keys.result (members_of ms)) (sym c.new-methods.ensures.items) (keys_start c.args.pool.now.slots c.new-keys.result c.new-keys.ensures.empty);
+  keyed = subst (λ ms. HasKeys c.args.pool.now.slots c.new-keys.result (member_list ms)) (sym c.new-methods.ensures.items) (keys_start c.args.pool.now.slots c.new-keys.result c.new-keys.ensures.empty);
   codes = rw c.new-methods.ensures.items refl;
   no_constants = rw c.new-methods.ensures.items refl;
 }
@@ -32,13 +32,13 @@ check_method-requires-clause-room c =
 pub loop-preserved : goal.loop-preserved
 loop-preserved c =
     let m : Member = record { access_flags = c.in_ok-method.method.access_flags; name_index = c.in_ok-method.method.name_index; descriptor_index = c.in_ok-method.method.descriptor_index; attributes = c.in_ok-method.method.attributes; constant = c.in_ok-method.method.constant; code = c.in_ok-next.code } in
-    let new = new_is c.args.pool.now.slots c.loop.keys (members_of c.loop.methods.items) (member_of c.in_ok-method.method) c.in_ok-new.new c.loop.invariant.keyed c.in_ok-new.ensures.added in
+    let new = new_is c.args.pool.now.slots c.loop.keys (member_list c.loop.methods.items) (member_of c.in_ok-method.method) c.in_ok-new.new c.loop.invariant.keyed c.in_ok-new.ensures.added in
     record {
       so_far = subst (λ ms. SoFar (method_marks c.args.pool.now.slots) c.args.bytes.now c.args.first c.args.count c.args.start c.in_ok-next.next (c.loop.counter + 1) c.in_ok-method.after ms) (sym c.in_ok-push.ensures.items)
           (so_far_more (method_marks c.args.pool.now.slots) c.args.bytes.now c.args.first c.args.count c.args.start (λ i. (c.type_inv.bytes i).fits) c.loop.found c.in_ok-next.next c.loop.counter c.loop.at c.loop.methods.items m c.in_ok-method.after c.loop.invariant.so_far c.loop-test.true c.in_ok-method.ensures.items
           (c.in_ok-next.ensures.0 ∙ ap (λ (b : Bool). first_from c.loop.found (method_marks_if c.args.pool.now.slots b c.loop.at (member_of c.in_ok-method.method))) new));
-      keyed = subst (λ ms. HasKeys c.args.pool.now.slots c.add_member.new.keys ms) (sym (ap members_of c.in_ok-push.ensures.items ∙ map_push member_of c.loop.methods.items m))
-          (keys_more c.args.pool.now.slots c.loop.keys c.add_member.new.keys (members_of c.loop.methods.items) (member_of m) c.loop.invariant.keyed c.in_ok-new.ensures.keeps);
+      keyed = subst (λ ms. HasKeys c.args.pool.now.slots c.add_member.new.keys ms) (sym (ap member_list c.in_ok-push.ensures.items ∙ map_push member_of c.loop.methods.items m))
+          (keys_more c.args.pool.now.slots c.loop.keys c.add_member.new.keys (member_list c.loop.methods.items) (member_of m) c.loop.invariant.keyed c.in_ok-new.ensures.keeps);
       codes = rw c.in_ok-push.ensures.items (same_push (λ (f : Member). f.code) (kept_code c.args.pool.now.slots) member_of c.loop.methods.items m c.loop.invariant.codes c.in_ok-next.ensures.1);
       no_constants = rw c.in_ok-push.ensures.items (same_push' (λ (f : Member). f.constant) (λ (f : Member). 0) c.loop.methods.items m c.loop.invariant.no_constants c.in_ok-method.ensures.rest.0);
     }

@@ -2,16 +2,16 @@ use Rattle.std.proofs.Common.{◌≡◌, ℕ, ◌+◌, List, [], ◌∷◌, Opti
 use Rattle.std.proofs.lemmas.Result.{IfOk-weaker}
 use Rattle.et_pool.specs.Entries.{Item}
 use Rattle.et_pool.specs.declared.descriptor.MethodShape.{MethodShape}
-use Rattle.et_base.specs.Marks.{first_of_two, first_from}
+use Rattle.et_base.specs.Marks.{first_of_two, first_from, mark}
 use Rattle.et_base.proofs.Firsts.{first_from-append}
 use Rattle.et_code.specs.declared.body.TheConstants.{CODE}
 use Rattle.et_code.specs.Bodies.{Body, body_of}
 use Rattle.et_class.specs.declared.fault.TheConstants.{ATTRIBUTE}
-use Rattle.et_class.specs.Along.{mark, along}
+use Rattle.et_class.specs.Along.{along}
 use Rattle.et_class.specs.Layout.{AttributeOf, attribute_bytes}
 use Rattle.et_class.specs.Fields.{attribute_marks}
 use Rattle.et_class.specs.Codes.{CodeOf, code_body_at, code_at, body_marks}
-use Rattle.et_class.specs.Methods.{fits_locals, code_attribute_marks}
+use Rattle.et_class.specs.Methods.{arguments_fit_locals, code_attribute_marks}
 use Rattle.et_class.specs.Kept.{kept_body, kept_attribute}
 use Rattle.et_class.proofs.Coded.{IsNoCode, no_body, no_attributes, passed, too_long, is_code, code_size}
 use Rattle.et_class.proofs.methods.check_code_attribute.Goals as goal
@@ -31,12 +31,12 @@ by_code : (slots : List (Option Item)) (receiver : ℕ) (shape : Option MethodSh
     → code ≡ Ok (record { body = b; first = at + 2; attributes = attributes })
     → found ≡ first_from first (along attribute_bytes (attribute_marks slots) [] (place + 6 + (at + 2)) attributes)
     → (x : Option (ℕ × ℕ) × Option Body)
-    → (x.0 ≡ first_from found (mark (place + 10) CODE (fits_locals receiver b.max_locals shape) ∷ body_marks slots (place + 10) b)) × (x.1 ≡ kept_body slots b)
+    → (x.0 ≡ first_from found (mark (place + 10) CODE (arguments_fit_locals receiver b.max_locals shape) ∷ body_marks slots (place + 10) b)) × (x.1 ≡ kept_body slots b)
     → (x.0 ≡ first_from first (code_attribute_marks slots receiver shape place code)) × (x.1 ≡ kept_attribute slots code)
 by_code slots receiver shape place at first found b attributes code h e x p =
     rw h (
-      p.0 ∙ (ap (λ acc. first_from acc (mark (place + 10) CODE (fits_locals receiver b.max_locals shape) ∷ body_marks slots (place + 10) b)) e
-          ∙ sym (first_from-append first (along attribute_bytes (attribute_marks slots) [] (place + 6 + (at + 2)) attributes) (mark (place + 10) CODE (fits_locals receiver b.max_locals shape) ∷ body_marks slots (place + 10) b))),
+      p.0 ∙ (ap (λ acc. first_from acc (mark (place + 10) CODE (arguments_fit_locals receiver b.max_locals shape) ∷ body_marks slots (place + 10) b)) e
+          ∙ sym (first_from-append first (along attribute_bytes (attribute_marks slots) [] (place + 6 + (at + 2)) attributes) (mark (place + 10) CODE (arguments_fit_locals receiver b.max_locals shape) ∷ body_marks slots (place + 10) b))),
       p.1,
     )
 

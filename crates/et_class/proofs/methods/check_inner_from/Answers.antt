@@ -1,7 +1,6 @@
 use Rattle.std.proofs.Common.{◌+◌, ap, ◌∙◌, Bool}
-use Rattle.et_base.specs.Marks.{marked}
+use Rattle.et_base.specs.Marks.{marked, mark}
 use Rattle.et_class.specs.declared.fault.TheConstants.{ATTRIBUTE}
-use Rattle.et_class.specs.Along.{mark}
 use Rattle.et_class.proofs.Inner.{inner_more, inner_cut, inner_done}
 use Rattle.et_class.proofs.methods.check_inner_from.Goals as goal
 

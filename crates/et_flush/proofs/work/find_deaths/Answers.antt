@@ -2,7 +2,7 @@ use Rattle.std.proofs.Common.{ℕ, List, length, sym, ap, subst, arith}
 use Rattle.std.specs.List.Sorted.{IsStrictlyIncreasing}
 use Rattle.et_graph.specs.Listing.{death_pairs}
 use Rattle.et_graph.specs.Times.{AreWithin}
-use Rattle.et_flush.specs.Searches.{AreAllHeld, AreBelow}
+use Rattle.et_flush.specs.Searches.{AreAllHeld, AreDyingIn}
 use Rattle.et_flush.proofs.Holding.{held_are_within, held_few}
 use Rattle.et_flush.proofs.Working.{settled_long}
 use Rattle.et_flush.proofs.work.find_deaths.Goals as goal
@@ -21,7 +21,7 @@ list_deaths-requires-clause-room g c = omega (arith, ap length c.deref.ensures.v
 
 pub returns-clause-deaths : goal.returns-clause-deaths
 returns-clause-deaths g c =
-    subst (λ (ts : List ℕ). AreBelow c.args.heap.now ts (death_pairs c.list_deaths.new.deaths.items)) c.deref-2.ensures.value
+    subst (λ (ts : List ℕ). AreDyingIn c.args.heap.now ts (death_pairs c.list_deaths.new.deaths.items)) c.deref-2.ensures.value
     (c.list_deaths.ensures.deaths c.args.heap.now (subst (λ (xs : List ℕ). AreAllHeld c.args.heap.now xs) (sym c.deref.ensures.value) c.settle.ensures.held))
 
 pub returns-clause-places : goal.returns-clause-places

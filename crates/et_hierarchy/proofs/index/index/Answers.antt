@@ -1,6 +1,6 @@
 use Rattle.std.proofs.Common.{◌≡◌, ◌<◌, length, is_some, sym, ◌∙◌, ap, take, arith, below_more}
 use Rattle.std.proofs.lemmas.List.{take_all}
-use Rattle.et_hierarchy.specs.Outline.{place_of}
+use Rattle.et_hierarchy.specs.Outline.{class_place}
 use Rattle.et_hierarchy.specs.Faults.{IsRepeated}
 use Rattle.et_hierarchy.proofs.Names.{first_repeat, repeats_not, none_of}
 use Rattle.et_hierarchy.proofs.Maps.{indexed_under}
@@ -26,6 +26,6 @@ loop-i-preserved c =
 pub returns : goal.returns
 returns c =
     let all : take c.loop-i.i c.args.set.now ≡ c.args.set.now = take_all c.loop-i.i c.args.set.now (omega arith) in (
-      λ name. c.loop-i.invariant.indexed name ∙ ap (λ s. place_of s name) all,
+      λ name. c.loop-i.invariant.indexed name ∙ ap (λ s. class_place s name) all,
       λ k lt. c.loop-i.invariant.apart k (omega arith),
     )

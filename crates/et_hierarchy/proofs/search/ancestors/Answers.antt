@@ -1,7 +1,7 @@
 use Rattle.std.proofs.Common.{◌<◌, ◌≡◌, length, refl, sym, subst, [], replicate, false, rules}
 use Rattle.std.specs.Prelude.{All}
 use Rattle.et_hierarchy.specs.Links.{LinkEntry, parents_of}
-use Rattle.et_hierarchy.specs.Search.{Visits}
+use Rattle.et_hierarchy.specs.Search.{VisitsLinks}
 use Rattle.et_hierarchy.proofs.Marks.{Searching, searching_begun, searching_taken, taken_within, searching_end, read_links}
 use Rattle.et_hierarchy.proofs.search.ancestors.Goals as goal
 
@@ -9,7 +9,7 @@ pub loop-u-init : goal.loop-u-init
 loop-u-init c =
     let m : c.in_ok-marks.marks.items ≡ replicate (length c.args.table.now) false = search rules in
     searching_begun c.args.table.now c.args.class (length c.args.table.now) _ _ _ _ refl m c.new-work.ensures.items
-    (subst (λ os. Visits os c.in_ok-marks.marks.items c.new-work.result.items c.visit_parents.new.marks.items c.visit_parents.new.work.items) (sym (read_links c.args.table.now c.args.class _ c.requires.class c.index-table-class.is)) c.in_ok-visit_parents.ensures)
+    (subst (λ os. VisitsLinks os c.in_ok-marks.marks.items c.new-work.result.items c.visit_parents.new.marks.items c.visit_parents.new.work.items) (sym (read_links c.args.table.now c.args.class _ c.requires.class c.index-table-class.is)) c.in_ok-visit_parents.ensures)
 
 pub bounds-table-u : goal.bounds-table-u
 bounds-table-u c = taken_within c.args.table.now c.args.class _ _ _ c.in-Some.u c.loop-u.invariant c.in-Some.ensures.items

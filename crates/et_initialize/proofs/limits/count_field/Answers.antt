@@ -4,7 +4,7 @@ use Rattle.std.specs.List.{list_any}
 use Rattle.et_state.specs.Interned.{object_of}
 use Rattle.et_event.specs.Moments.{Moment}
 use Rattle.et_event.specs.Initialization.{field_set}
-use Rattle.et_initialize.specs.Texts.{text_of, has_text, Counted}
+use Rattle.et_initialize.specs.Texts.{constant_text, has_text, Counted}
 use Rattle.et_initialize.proofs.Counting.{counted_new}
 use Rattle.et_initialize.proofs.limits.count_field.Goals as goal
 
@@ -12,7 +12,7 @@ pub returns-in_ok-push-clause-counted : goal.returns-in_ok-push-clause-counted
 returns-in_ok-push-clause-counted c =
     let p = c.args.program.now in
     let m = c.args.machine.now in
-    let text : text_of p c.args.field ≡ Some c.in-Some.text.now = search rules in
+    let text : constant_text p c.args.field ≡ Some c.in-Some.text.now = search rules in
     let new : (is_some (object_of m.guest.interned c.in-Some.text.now) || list_any (has_text p c.in-Some.text.now) c.args.seen.now.items) ≡ false = search rules in
     λ before thread d h. let e : Moment = record { program = p; before = before; thread = thread } in
     subst (λ (fs : List ℕ). Counted p m fs (field_set e d c.args.field)) (sym c.in_ok-push.ensures.items)

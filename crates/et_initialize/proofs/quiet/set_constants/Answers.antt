@@ -3,7 +3,7 @@ use Rattle.std.specs.Prelude.{fold}
 use Rattle.et_state.specs.Threads.{lost_room}
 use Rattle.et_state.specs.State.{MachineState}
 use Rattle.et_program.specs.Entries.{ClassInfoOf, class_at}
-use Rattle.et_event.specs.Moments.{moment, fits}
+use Rattle.et_event.specs.Moments.{moment, fits_heap}
 use Rattle.et_event.specs.Initialization.{field_set}
 use Rattle.et_initialize.specs.Under.{so_far}
 use Rattle.et_initialize.proofs.Running.{field_can, field_has_room, field_came}
@@ -34,7 +34,7 @@ pub set_field-requires-clause-fits : goal.set_field-requires-clause-fits
 set_field-requires-clause-fits c =
     let fs : c.as_slice-constants.result.now ≡ (class_at c.args.program.now c.args.class).info.constants = c.as_slice-constants.ensures.value ∙ ap (λ (i : ClassInfoOf). i.constants) c.class.ensures.value in
     field_has_room c.args.program.now c.args.thread c.args.machine.now c.loop-k.machine c.args.out.now c.loop-k.out c.as_slice-constants.result.now c.loop-k.k c.index-constants-k.result c.loop-k-test.true c.index-constants-k.is
-    (subst (λ (l : List _). fits (fold (field_set (moment c.args.program.now c.args.machine.now c.args.thread)) (so_far c.args.machine.now c.args.out.now) l).state.heap ≡ true) (sym fs) c.requires.fits) c.loop-k.invariant
+    (subst (λ (l : List _). fits_heap (fold (field_set (moment c.args.program.now c.args.machine.now c.args.thread)) (so_far c.args.machine.now c.args.out.now) l).state.heap ≡ true) (sym fs) c.requires.fits) c.loop-k.invariant
 
 pub loop-k-preserved : goal.loop-k-preserved
 loop-k-preserved c =

@@ -6,7 +6,7 @@ use Rattle.et_link.specs.declared.classes.Known.{Known}
 use Rattle.et_program.specs.Files.{set_of}
 use Rattle.et_program.specs.Loaded.{loaded_class}
 use Rattle.et_program.specs.MembersOf.{HasPools}
-use Rattle.et_program.specs.ProgramOf.{program_with, names_of}
+use Rattle.et_program.specs.ProgramOf.{program_with, class_names_of}
 use Rattle.et_link.proofs.LinkingLemmas.{below_set, own_along, fields_along, tabled_program}
 use Rattle.et_link.proofs.BuildLemmas.{built, built_names}
 use Rattle.et_link.proofs.linking.build.Goals as goal
@@ -30,7 +30,7 @@ assemble-requires-clause-tabled c =
     let x : Known = c.in_ok-known.known in
     let e = built (map loaded_class c.requires.0) d x c.args.main c.as_slice-set.result.now c.as_slice-methods.result.now c.as_slice-fields.result.now c.as_slice.result.now c.requires.1.declared c.requires.1.main_is c.as_slice-set.ensures.value c.as_slice-methods.ensures.value c.as_slice-fields.ensures.value c.as_slice.ensures.value
     k.table k.rows k.flags k.own k.above k.needs k.clinit k.constants k.place k.names k.index in
-    let names : x.arrays.names.items ≡ names_of (map loaded_class c.requires.0) = built_names (map loaded_class c.requires.0) d x c.as_slice-set.result.now c.as_slice.result.now c.requires.1.declared c.as_slice-set.ensures.value c.as_slice.ensures.value k.place k.names in
+    let names : x.arrays.names.items ≡ class_names_of (map loaded_class c.requires.0) = built_names (map loaded_class c.requires.0) d x c.as_slice-set.result.now c.as_slice.result.now c.requires.1.declared c.as_slice-set.ensures.value c.as_slice.ensures.value k.place k.names in
     let set : c.as_slice-set.result.now ≡ set_of (map loaded_class c.requires.0) = c.as_slice-set.ensures.value ∙ c.requires.1.declared.set_is in
     let a = ap length names in
     let b = ap length set in

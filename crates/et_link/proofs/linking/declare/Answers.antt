@@ -4,7 +4,7 @@ use Rattle.et_hierarchy.specs.Faults.{IsFaultless}
 use Rattle.et_hierarchy.specs.Ancestry.{IsAncestry}
 use Rattle.et_hierarchy.proofs.LinkLemmas.{table_within}
 use Rattle.et_program.specs.Loaded.{loaded_file}
-use Rattle.et_program.specs.Files.{set_of, flags_of}
+use Rattle.et_program.specs.Files.{set_of, file_flags}
 use Rattle.et_program.specs.MembersOf.{fields_of}
 use Rattle.et_program.specs.ArrayTypes.{arrays_met}
 use Rattle.et_link.proofs.LinkingLemmas.{set_refused, acyclic_along, rows_within}
@@ -31,7 +31,7 @@ returns c =
       table_is = table;
       ancestry = subst (λ (t : List LinkEntry). IsAncestry t c.in_ok-rows.rows.items) whole c.in_ok-rows.ensures.rows;
       rows_are = rows_within (map loaded_file c.args.files.items) c.as_slice-links.result.now c.in_ok-rows.rows.items whole c.in_ok-rows.ensures.below;
-      flags_are = c.in_ok-flags.ensures ∙ ap (λ l. flags_of (map loaded_file l)) read;
+      flags_are = c.in_ok-flags.ensures ∙ ap (λ l. file_flags (map loaded_file l)) read;
       methods_are = c.in_ok-methods.ensures.methods;
       fields_are = c.in_ok-fields.ensures ∙ ap (λ l. fields_of (map loaded_file l)) read;
       pools_are = c.in_ok-methods.ensures.pools;

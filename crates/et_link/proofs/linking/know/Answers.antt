@@ -1,5 +1,5 @@
 use Rattle.std.proofs.Common.{◌∙◌, sym, ap, subst, ℕ, length, ◌<◌}
-use Rattle.et_hierarchy.specs.Links.{AreWithin}
+use Rattle.et_hierarchy.specs.Links.{HasLinksWithin}
 use Rattle.et_hierarchy.specs.Ancestry.{ancestry_at, IsBelow}
 use Rattle.et_link.proofs.LinkingLemmas.{rows_below, above_known}
 use Rattle.et_link.proofs.linking.know.Goals as goal
@@ -21,6 +21,6 @@ returns-clause-sized c =
       above = c.in_ok-above.ensures.length ∙ (ap length c.as_slice-2.ensures.value ∙ (c.requires.rows ∙ t));
       initializers = c.in_ok-initializers.ensures.length ∙ t;
       constants = c.in_ok-constants.ensures.length ∙ t;
-      within = subst (λ n. AreWithin n c.args.hierarchy.table.items) t c.requires.within;
+      within = subst (λ n. HasLinksWithin n c.args.hierarchy.table.items) t c.requires.within;
       below = subst (λ n. (k : ℕ) → k < n → IsBelow n (ancestry_at c.args.hierarchy.rows.items k)) t c.requires.below;
     }

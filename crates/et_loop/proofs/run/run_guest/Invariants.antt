@@ -3,7 +3,7 @@ use Rattle.et_graph.specs.Graph.{Graph, Decides}
 use Rattle.et_loop.specs.Options.{setting_of}
 use Rattle.et_loop.proofs.RunLemmas.{Running, noted_before}
 use Rattle.et_loop.specs.Stamping.{HasStamps}
-use Rattle.et_loop.specs.Told.{IsTold}
+use Rattle.et_loop.specs.Told.{IsToldByStamps}
 use Rattle.et_loop.proofs.Counts.{AreSoFar}
 use Rattle.et_loop.proofs.Joins.{graphs}
 use Rattle.et_loop.proofs.run.run_guest.Given as goal
@@ -14,7 +14,7 @@ invariant-events g l =
     let given = setting_of (G.event_of l.code) G.unended_of G.graph_of G.flushed_of (g.G.Code.Program.names l.code) l.options in
     record {
       runs : (reached : Graph → ℕ → Bool) → Decides reached → Running reached given (G.state l.fn.machine) l.made l.e (G.state l.machine) (λ o. noted_before reached given (G.state l.fn.machine) l.made o l.e) l.tracer.numbering (g.O.Sink.taken l.fn.sink) (g.O.Sink.taken l.sink);
-      told : (reached : Graph → ℕ → Bool) → (decides : Decides reached) → IsTold (graphs reached decides given (G.state l.fn.machine) l.made) l.e (G.graph_of (G.state l.machine)) (λ o. get_or l.tracer.stamps o 0);
+      told : (reached : Graph → ℕ → Bool) → (decides : Decides reached) → IsToldByStamps (graphs reached decides given (G.state l.fn.machine) l.made) l.e (G.graph_of (G.state l.machine)) (λ o. get_or l.tracer.stamps o 0);
       visits : (reached : Graph → ℕ → Bool) → Decides reached → AreSoFar reached given G.flush_visits_of (G.state l.fn.machine) l.made l.e (G.state l.machine) l.fn.visits l.visits;
       stamps : HasStamps (G.graph_of (G.state l.machine)) l.tracer.stamps;
       room : G.has_places l.tracer.room (G.graph_of (G.state l.machine)).made;

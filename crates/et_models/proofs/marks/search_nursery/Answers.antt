@@ -1,7 +1,7 @@
 use Rattle.std.proofs.Common.{◌≡◌, ◌∙◌, ◌++◌, ℕ, List, filter, sym, subst, ap}
 use Rattle.std.proofs.lemmas.List.Elements.{filter-append}
 use Rattle.et_models.specs.Places.{place_at, is_old}
-use Rattle.et_models.specs.Marking.{Marks, IsSeed}
+use Rattle.et_models.specs.Marking.{MarksFrom, IsSeed}
 use Rattle.et_models.proofs.Going.{going_first, going_last}
 use Rattle.et_models.proofs.marks.search_nursery.Goals as goal
 
@@ -19,6 +19,6 @@ returns c = λ g space b.
     ∙ (ap (λ (w : List ℕ). w ++ filter test early) (c.in_ok-push_old.ensures ∙ ap (λ (w : List ℕ). w ++ filter test remembered) c.clear.ensures.items)
     ∙ sym (filter-append test remembered early)) in
     let s = c.in_ok-seed.ensures in
-    let m : Marks (IsSeed nursery dead) start (filter test (remembered ++ early)) c.seed.new.places c.seed.new.work.items = subst (λ (w : List ℕ). Marks (IsSeed nursery dead) start w c.seed.new.places c.seed.new.work.items) all s.0 in
+    let m : MarksFrom (IsSeed nursery dead) start (filter test (remembered ++ early)) c.seed.new.places c.seed.new.work.items = subst (λ (w : List ℕ). MarksFrom (IsSeed nursery dead) start w c.seed.new.places c.seed.new.work.items) all s.0 in
     let first = going_first g nursery space (remembered ++ early) dead slots start c.seed.new.places c.seed.new.work.items b m s.1 in
     going_last g nursery space (remembered ++ early) dead slots start c.follow.new.places b (c.in_ok-follow.ensures g space start b.draws first))

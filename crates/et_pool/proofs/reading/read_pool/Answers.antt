@@ -4,12 +4,12 @@ use Rattle.et_pool.specs.Entries.{view_slots}
 use Rattle.std.proofs.lemmas.Result.{err_from_is_err_and}
 use Rattle.et_pool.specs.declared.fault.PoolFault.{PoolFault}
 use Rattle.et_pool.specs.declared.fault.PoolFault.TheVariants as fault
-use Rattle.et_pool.specs.Reading.{number, IsFault}
+use Rattle.et_pool.specs.Reading.{pool_number, IsPoolFaultOf}
 use Rattle.et_pool.specs.Pools.{IsPool, BreaksEntries, BreaksPool, NoCount, InEntry}
 use Rattle.et_pool.proofs.Spelled.{pool_end}
 use Rattle.et_pool.proofs.reading.read_pool.Goals as goal
 
-entry_broken : (bytes : List ℕ) (at count start : ℕ) (f : PoolFault) → number w16 bytes at ≡ Ok (count, start) → 0 < count → IsFault f (BreaksEntries bytes (count - 1) start) → IsFault f (BreaksPool bytes at)
+entry_broken : (bytes : List ℕ) (at count start : ℕ) (f : PoolFault) → pool_number w16 bytes at ≡ Ok (count, start) → 0 < count → IsPoolFaultOf f (BreaksEntries bytes (count - 1) start) → IsPoolFaultOf f (BreaksPool bytes at)
 entry_broken bytes at count start (fault.Tag p) h some b = InEntry count start h some b
 entry_broken bytes at count start (fault.Utf8 p) h some b = InEntry count start h some b
 entry_broken bytes at count start (fault.Index p) h some b = b

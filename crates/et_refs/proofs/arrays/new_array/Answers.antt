@@ -3,7 +3,7 @@ use Rattle.std.specs.Int.{w32}
 use Rattle.et_state.specs.Words.{top}
 use Rattle.et_program.specs.Members.{base_array}
 use Rattle.et_event.specs.Heap.{new_array_of}
-use Rattle.et_event.specs.Sites.{natural}
+use Rattle.et_event.specs.Sites.{natural_of}
 use Rattle.et_parts.specs.Places.{site_at}
 use Rattle.et_event.specs.Moments.{moment}
 use Rattle.et_refs.specs.Changes.{new_array_outcome}
@@ -24,7 +24,7 @@ returns-clause-is c =
     let n = c.in_ok-elements.elements in
     let below = drop 1 (top c.args.machine.now.guest c.args.thread).operands in
     let number : to_z w32 (of_z w32 n) ≡ n = search rules in
-    let class : unwrap_or (base_array c.args.program.now (natural c.args.place.now.instr.first)) 0 ≡ c.array_of_base-array.result = search rules in
+    let class : unwrap_or (base_array c.args.program.now (natural_of c.args.place.now.instr.first)) 0 ≡ c.array_of_base-array.result = search rules in
     c.in_ok-elements.ensures.is e (makes_base e at)
     ∙ (ap (λ (k : ℕ). new_array_of e at k n below) class
     ∙ (ap (λ (k : ℤ). new_array_of e at c.array_of_base-array.result k below) (sym number) ∙ c.sized.ensures e at))

@@ -4,7 +4,7 @@ use Rattle.et_base.specs.declared.value.Value.{Value}
 use Rattle.et_state.specs.Words.{top}
 use Rattle.et_event.specs.Moments.{moment, begins, goes}
 use Rattle.et_event.specs.Checks.{entries_of}
-use Rattle.et_event.specs.Heap.{leaving}
+use Rattle.et_event.specs.Heap.{leaving_values}
 use Rattle.et_refs.specs.Changes.{exchange_outcome}
 use Rattle.et_refs.proofs.Chains.{refusing, loads_index, loads, loaded}
 use Rattle.et_refs.proofs.May.{may_put}
@@ -44,7 +44,7 @@ returns-clause-is g c =
     let below = drop 2 (top c.args.machine.now.guest c.args.thread).operands in
     λ at. c.in_ok-index.ensures.is e (loads_index e at c.args.elements) ∙ (c.in_ok-reference.ensures.is e (loads e at c.args.elements i)
     ∙ (ap (λ (n : ℤ). loads e at c.args.elements n r below) (sym number) ∙ (c.in_ok-at.ensures.is (loaded e at c.args.elements below)
-    ∙ ap (λ (v : Value). goes (leaving e at (entries_of v ++ below) (begins e))) (sym c.element_value-value.ensures.value))))
+    ∙ ap (λ (v : Value). goes (leaving_values e at (entries_of v ++ below) (begins e))) (sym c.element_value-value.ensures.value))))
 
 pub returns-clause-may : goal.returns-clause-may
 returns-clause-may g c =

@@ -3,8 +3,8 @@ use Rattle.et_base.specs.declared.value.Value.{Value}
 use Rattle.et_state.specs.Words.{top}
 use Rattle.et_event.specs.Moments.{moment, begins, goes}
 use Rattle.et_event.specs.Checks.{entries_of, ill_typed_unless}
-use Rattle.et_event.specs.Heap.{leaving, element_of}
-use Rattle.et_event.specs.Kinds.{is_array}
+use Rattle.et_event.specs.Heap.{leaving_values, element_of_array}
+use Rattle.et_event.specs.Kinds.{is_array_element}
 use Rattle.et_refs.specs.Changes.{exchange_outcome}
 use Rattle.et_refs.proofs.Chains.{refusing, measures, measures_array, measured}
 use Rattle.et_refs.proofs.May.{may_put}
@@ -29,7 +29,7 @@ returns-in_err-ill_typed_unless-clause-is g c =
     let o = c.in_ok-object.object in
     let below = drop 1 (top c.args.machine.now.guest c.args.thread).operands in
     let same : c.from_residual-in_err-ill_typed_unless.result ≡ Err c.in_err-ill_typed_unless.field-0.0 = search rules in
-    let array : is_array (element_of e o) ≡ c.is_array.result = search rules in
+    let array : is_array_element (element_of_array e o) ≡ c.is_array.result = search rules in
     λ at. refusing e _ _ c.in_err-ill_typed_unless.field-0.0 (exchange_outcome e at)
     (c.in_ok-reference.ensures.is e (measures e at) ∙ (c.in_ok-object.ensures.is e (measures_array e at below)
     ∙ (ap (λ (b : Bool). ill_typed_unless e b (measured e at below o)) array ∙ c.in_err-ill_typed_unless.ensures.is e (measured e at below o)))) same
@@ -39,10 +39,10 @@ returns-clause-is g c =
     let e = moment c.args.program.now c.args.machine.now c.args.thread in
     let o = c.in_ok-object.object in
     let below = drop 1 (top c.args.machine.now.guest c.args.thread).operands in
-    let array : is_array (element_of e o) ≡ true = search rules in
+    let array : is_array_element (element_of_array e o) ≡ true = search rules in
     λ at. c.in_ok-reference.ensures.is e (measures e at) ∙ (c.in_ok-object.ensures.is e (measures_array e at below)
     ∙ (ap (λ (b : Bool). ill_typed_unless e b (measured e at below o)) array
-    ∙ ap (λ (v : Value). goes (leaving e at (entries_of v ++ below) (begins e))) (sym c.length_value-value.ensures.value)))
+    ∙ ap (λ (v : Value). goes (leaving_values e at (entries_of v ++ below) (begins e))) (sym c.length_value-value.ensures.value)))
 
 pub returns-clause-may : goal.returns-clause-may
 returns-clause-may g c =

@@ -7,7 +7,7 @@ use Rattle.et_state.proofs.Places.{top_root}
 use Rattle.et_event.specs.declared.errors.GuestError.TheVariants.{ArrayStoreException}
 use Rattle.et_event.specs.Moments.{moment, begins, slot_written, goes}
 use Rattle.et_event.specs.Checks.{throws_unless}
-use Rattle.et_event.specs.Heap.{leaving, passes_element, element_of}
+use Rattle.et_event.specs.Heap.{leaving_values, passes_element, element_of_array}
 use Rattle.et_refs.specs.Changes.{store_outcome}
 use Rattle.et_refs.proofs.Chains.{refusing, stores_value, stores_index, stores, stores_tested, kept}
 use Rattle.et_refs.proofs.Reading.{element_refers}
@@ -63,7 +63,7 @@ returns-in_err-throws_unless-clause-is g c =
     let number : to_z w32 (of_z w32 i) ≡ i = search rules in
     let below = drop (c.in_ok-taken.taken.width + 1 + 1) (top c.args.machine.now.guest c.args.thread).operands in
     let x = c.in_ok-at.at in
-    let eq : passes_element e v (element_of e x.object) ≡ c.passes_element-may_be.result = search rules in
+    let eq : passes_element e v (element_of_array e x.object) ≡ c.passes_element-may_be.result = search rules in
     let same : c.from_residual-in_err-throws_unless.result ≡ Err c.in_err-throws_unless.field-0.0 = search rules in
     λ at. refusing e _ _ c.in_err-throws_unless.field-0.0 (store_outcome e at) (c.in_ok-taken.ensures.is e (stores_value e at kind) ∙ (c.in_ok-index.ensures.is e (stores_index e at kind v) ∙ (c.in_ok-reference.ensures.is e (stores e at kind v i) ∙ (ap (λ (n : ℤ). stores e at kind v n r below) (sym number) ∙ (c.in_ok-at.ensures.is (stores_tested e at kind v below) ∙ (ap (λ (b : Bool). throws_unless e (begins e) ArrayStoreException b (kept e at kind v below x.object x.slot)) eq ∙ c.in_err-throws_unless.ensures.is e (kept e at kind v below x.object x.slot))))))) same
 
@@ -77,13 +77,13 @@ returns-clause-is g c =
     let number : to_z w32 (of_z w32 i) ≡ i = search rules in
     let below = drop (c.in_ok-taken.taken.width + 1 + 1) (top c.args.machine.now.guest c.args.thread).operands in
     let x = c.in_ok-at.at in
-    let eq : passes_element e v (element_of e x.object) ≡ true = search rules in
+    let eq : passes_element e v (element_of_array e x.object) ≡ true = search rules in
     let f = top c.args.machine.now.guest c.args.thread in
     let w = c.in_ok-taken.taken.width in
     let two : w + 1 + 1 ≡ w + 2 = omega arith in
     λ at. c.in_ok-taken.ensures.is e (stores_value e at kind) ∙ (c.in_ok-index.ensures.is e (stores_index e at kind v) ∙ (c.in_ok-reference.ensures.is e (stores e at kind v i) ∙ (ap (λ (n : ℤ). stores e at kind v n r below) (sym number) ∙ (c.in_ok-at.ensures.is (stores_tested e at kind v below) ∙ (ap (λ (b : Bool). throws_unless e (begins e) ArrayStoreException b (kept e at kind v below x.object x.slot)) eq
-    ∙ (ap (λ (u : Value). goes (slot_written e x.object x.slot u (leaving e at below (begins e)))) (sym c.kept_element.ensures)
-    ∙ ap (λ (n : ℕ). goes (slot_written e x.object x.slot c.kept_element.result (leaving e at (drop n f.operands) (begins e)))) two))))))
+    ∙ (ap (λ (u : Value). goes (slot_written e x.object x.slot u (leaving_values e at below (begins e)))) (sym c.kept_element.ensures)
+    ∙ ap (λ (n : ℕ). goes (slot_written e x.object x.slot c.kept_element.result (leaving_values e at (drop n f.operands) (begins e)))) two))))))
 
 pub returns-clause-may : goal.returns-clause-may
 returns-clause-may g c = record {

@@ -4,7 +4,7 @@ use Rattle.et_state.specs.State.{kept_of}
 use Rattle.et_state.specs.Words.{top}
 use Rattle.et_parts.specs.Places.{site_at}
 use Rattle.et_event.specs.Moments.{moment}
-use Rattle.et_event.specs.Sites.{natural}
+use Rattle.et_event.specs.Sites.{natural_of}
 use Rattle.et_refs.specs.Events.{new_arrays_outcome}
 use Rattle.et_refs.proofs.Answering.{answers_as, visits_as, as_many, taken_ok, taken_err}
 use Rattle.et_refs.proofs.Placed.{some_dimension, with_name}
@@ -22,9 +22,9 @@ returns-in-Err-clause-ok g c =
 
 pub add_arrays-requires-clause-some : goal.add_arrays-requires-clause-some
 add_arrays-requires-clause-some g c =
-    let some : 0 < natural c.args.place.now.instr.second =
+    let some : 0 < natural_of c.args.place.now.instr.second =
     some_dimension c.args.program.now c.args.machine.now c.args.thread c.args.place.now c.in-Some.name.now c.in-Ok-class_wanted.class c.requires.sound c.requires.arrays c.requires.turn c.requires.place c.requires.row c.in-Some.ensures c.in-Ok-class_wanted.ensures.resolves in
-    let same : c.dimensions.result ≡ natural c.args.place.now.instr.second = c.dimensions.ensures in
+    let same : c.dimensions.result ≡ natural_of c.args.place.now.instr.second = c.dimensions.ensures in
     let many : length c.deref-in-Ok-class_wanted.result.now ≡ c.dimensions.result =
     as_many c.in_ok-lengths.field-0 (λ x. x.items) c.dimensions.result c.in-Ok.lengths c.deref-in-Ok-class_wanted.result.now c.in-Ok.is c.deref-in-Ok-class_wanted.ensures.value c.in_ok-lengths.ensures.count in
     omega (arith, some, same, many)

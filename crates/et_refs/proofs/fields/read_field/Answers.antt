@@ -3,7 +3,7 @@ use Rattle.et_base.specs.declared.value.Value.{Value}
 use Rattle.et_state.specs.Words.{top}
 use Rattle.et_event.specs.Moments.{moment, begins, goes}
 use Rattle.et_event.specs.Checks.{entries_of}
-use Rattle.et_event.specs.Heap.{leaving}
+use Rattle.et_event.specs.Heap.{leaving_values}
 use Rattle.et_parts.specs.Members.{shown_member}
 use Rattle.et_parts.specs.Places.{site_at}
 use Rattle.et_refs.specs.Changes.{exchange_outcome}
@@ -48,7 +48,7 @@ returns-clause-is g c =
     let r = c.in_ok-reference.reference in
     let below = drop 1 (top c.args.machine.now.guest c.args.thread).operands in
     c.in_ok-member.ensures.is e (gets e at) ∙ (c.in_ok-reference.ensures.is e (gets_fitting e at m) ∙ (c.in_ok-type_fits.ensures.is e (gets_slot e at m r below) ∙ (c.in_ok-at.ensures.is (got e at m below)
-    ∙ ap (λ (v : Value). goes (leaving e at (entries_of v ++ below) (begins e))) (sym c.field_value-value.ensures.value))))
+    ∙ ap (λ (v : Value). goes (leaving_values e at (entries_of v ++ below) (begins e))) (sym c.field_value-value.ensures.value))))
 
 pub returns-clause-may : goal.returns-clause-may
 returns-clause-may g c = record {

@@ -3,7 +3,7 @@ use Rattle.et_base.specs.declared.value.Value.{Value}
 use Rattle.et_heap.specs.Refs.{refs_of_value}
 use Rattle.et_state.specs.Words.{top}
 use Rattle.et_event.specs.Moments.{moment, begins, slot_written, goes}
-use Rattle.et_event.specs.Heap.{leaving}
+use Rattle.et_event.specs.Heap.{leaving_values}
 use Rattle.et_parts.specs.Members.{shown_member}
 use Rattle.et_parts.specs.Places.{site_at}
 use Rattle.et_refs.specs.Changes.{store_outcome}
@@ -49,7 +49,7 @@ returns-clause-is g c =
     let x = c.in_ok-at.at in
     let below = drop (c.in_ok-taken.taken.width + 1) (top c.args.machine.now.guest c.args.thread).operands in
     c.in_ok-member.ensures.is e (puts e at) ∙ (c.in_ok-taken.ensures.is e (puts_value e at m) ∙ (c.in_ok-reference.ensures.is e (puts_slot e at m v) ∙ (c.in_ok-at.ensures.is (put e at m v below)
-    ∙ ap (λ (w : Value). goes (slot_written e x.object x.slot w (leaving e at below (begins e)))) (sym c.narrowed.ensures))))
+    ∙ ap (λ (w : Value). goes (slot_written e x.object x.slot w (leaving_values e at below (begins e)))) (sym c.narrowed.ensures))))
 
 pub returns-clause-may : goal.returns-clause-may
 returns-clause-may g c = record {

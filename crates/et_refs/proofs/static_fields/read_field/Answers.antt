@@ -5,7 +5,7 @@ use Rattle.et_state.specs.Words.{top}
 use Rattle.et_program.specs.declared.info.FieldInfo.{FieldInfo}
 use Rattle.et_event.specs.declared.rows.Operand.{Operand}
 use Rattle.et_event.specs.Checks.{ill_typed_unless}
-use Rattle.et_event.specs.Kinds.{kind_of}
+use Rattle.et_event.specs.Kinds.{operand_kind}
 use Rattle.et_parts.specs.Members.{shown_member}
 use Rattle.et_parts.specs.Places.{site_at}
 use Rattle.et_event.specs.Moments.{moment}
@@ -37,7 +37,7 @@ returns-clause-is c =
     let room = (top c.args.machine.now.guest c.args.thread).room in
     c.in_ok-member.ensures.is e (gets e at) ∙ (ap (λ (w : ℕ). ill_typed_unless e (nat_le (w + length ops) room) (gets_field e at m)) (sym c.width_of.ensures.value)
     ∙ (c.in_ok-width_fits.ensures.is e (gets_field e at m) ∙ (c.in_ok-field.ensures.is (kept_of c.args.machine.now) c.args.thread (got e at m)
-    ∙ (ap (λ (x : FieldInfo). wanted_outcome e at (record { class = x.class; access = access.Read (record { slot = x.slot; kind = kind_of m.descriptor }) })) (sym c.field-info.ensures.value)
+    ∙ (ap (λ (x : FieldInfo). wanted_outcome e at (record { class = x.class; access = access.Read (record { slot = x.slot; kind = operand_kind m.descriptor }) })) (sym c.field-info.ensures.value)
     ∙ ap (λ (k : Option Operand). wanted_outcome e at (record { class = c.field-info.result.now.class; access = access.Read (record { slot = c.field-info.result.now.slot; kind = k }) })) (sym c.kind_of.ensures)))))
 
 pub returns-clause-may : goal.returns-clause-may

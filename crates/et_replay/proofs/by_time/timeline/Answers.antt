@@ -6,7 +6,7 @@ use Rattle.std.proofs.lemmas.List.Sorted.{IsNonDecreasingBy-from_sort_by_key, an
 use Rattle.et_base.specs.declared.line.TraceLine.{TraceLine}
 use Rattle.et_replay.specs.declared.item.Item.{Item}
 use Rattle.et_replay.specs.Lives.{died_by}
-use Rattle.et_replay.specs.Parts.{item_of, moment, deaths_from}
+use Rattle.et_replay.specs.Parts.{item_of, item_event, deaths_from}
 use Rattle.et_replay.proofs.Living.{lives}
 use Rattle.et_replay.proofs.Timing.{unordered, sort_orders, are_timeline, makes_in_order}
 use Rattle.et_replay.proofs.by_time.timeline.Goals as goal
@@ -29,8 +29,8 @@ of-requires c =
     c.in_ok-push_deaths.ensures
     ∙ (ap (λ (t : List Item). t ++ deaths_from 0 c.deref.result.now) (c.in_ok-items.ensures ∙ ap (λ (t : List TraceLine). filter_map item_of t) c.lines-lines.ensures.value)
     ∙ ap (λ t. filter_map item_of lines ++ deaths_from 0 t) (c.deref.ensures.value ∙ (c.in_ok-lives.ensures.died ∙ ap (λ (t : List TraceLine). died_by (reverse t)) c.lines-lines.ensures.value))) in
-    let sorted = IsNonDecreasingBy-from_sort_by_key moment xs c.in_ok-sort_by_key.ensures.sorted (λ a r f k. search rules) in
-    let stable : IsStableByKey moment nat_cmp (unordered lines) xs = subst (λ (t : List Item). IsStableByKey moment nat_cmp t xs) all (c.in_ok-sort_by_key.ensures.stable moment (answers_always _ _ _ (λ f a r g h. search rules))) in
+    let sorted = IsNonDecreasingBy-from_sort_by_key item_event xs c.in_ok-sort_by_key.ensures.sorted (λ a r f k. search rules) in
+    let stable : IsStableByKey item_event nat_cmp (unordered lines) xs = subst (λ (t : List Item). IsStableByKey item_event nat_cmp t xs) all (c.in_ok-sort_by_key.ensures.stable item_event (answers_always _ _ _ (λ f a r g h. search rules))) in
     let perm : IsPermutation (unordered lines) xs = subst (λ (t : List Item). IsPermutation t xs) all c.in_ok-sort_by_key.ensures.permutation in
     makes_in_order lines xs fine (sort_orders lines xs fine sorted perm stable)
 
@@ -43,7 +43,7 @@ returns c =
     c.in_ok-push_deaths.ensures
     ∙ (ap (λ (t : List Item). t ++ deaths_from 0 c.deref.result.now) (c.in_ok-items.ensures ∙ ap (λ (t : List TraceLine). filter_map item_of t) c.lines-lines.ensures.value)
     ∙ ap (λ t. filter_map item_of lines ++ deaths_from 0 t) (c.deref.ensures.value ∙ (c.in_ok-lives.ensures.died ∙ ap (λ (t : List TraceLine). died_by (reverse t)) c.lines-lines.ensures.value))) in
-    let sorted = IsNonDecreasingBy-from_sort_by_key moment xs c.in_ok-sort_by_key.ensures.sorted (λ a r f k. search rules) in
-    let stable : IsStableByKey moment nat_cmp (unordered lines) xs = subst (λ (t : List Item). IsStableByKey moment nat_cmp t xs) all (c.in_ok-sort_by_key.ensures.stable moment (answers_always _ _ _ (λ f a r g h. search rules))) in
+    let sorted = IsNonDecreasingBy-from_sort_by_key item_event xs c.in_ok-sort_by_key.ensures.sorted (λ a r f k. search rules) in
+    let stable : IsStableByKey item_event nat_cmp (unordered lines) xs = subst (λ (t : List Item). IsStableByKey item_event nat_cmp t xs) all (c.in_ok-sort_by_key.ensures.stable item_event (answers_always _ _ _ (λ f a r g h. search rules))) in
     let perm : IsPermutation (unordered lines) xs = subst (λ (t : List Item). IsPermutation t xs) all c.in_ok-sort_by_key.ensures.permutation in
     c.of.ensures ∙ are_timeline lines xs fine (sort_orders lines xs fine sorted perm stable)

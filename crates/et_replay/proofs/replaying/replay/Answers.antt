@@ -2,7 +2,7 @@ use Rattle.std.proofs.Common.{◌≡◌, ◌∙◌, List, ℕ, Result, Ok, Err, 
 use Rattle.std.specs.Prelude.{OnErr}
 use Rattle.std.specs.List.{flat_map}
 use Rattle.et_io.specs.Sink.{with_more, TakesPrefix}
-use Rattle.et_replay.specs.Items.{made}
+use Rattle.et_replay.specs.Items.{made_objects}
 use Rattle.et_replay.specs.Replay.{replay_text}
 use Rattle.et_replay.specs.Seats.{told_line}
 use Rattle.et_replay.proofs.Seating.{told_of, told_many, text_is, none_taken}
@@ -10,7 +10,7 @@ use Rattle.et_replay.proofs.replaying.replay.Goals as goal
 
 pub lines_of-requires-clause-told : goal.lines_of-requires-clause-told
 lines_of-requires-clause-told g c =
-    let t = told_many _ (length (made c.args.timeline.now)) c.args.models.items c.requires.0 c.requires.1 in
+    let t = told_many _ (length (made_objects c.args.timeline.now)) c.args.models.items c.requires.0 c.requires.1 in
     rw c.items.ensures.value (t.told, t.zip, t.many)
 
 pub returns-in_default-clause-err : goal.returns-in_default-clause-err

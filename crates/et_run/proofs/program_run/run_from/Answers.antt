@@ -9,7 +9,7 @@ use Rattle.et_state.specs.Naming.{IsNamed}
 use Rattle.et_loop.specs.Kept.{IsStepTo}
 use Rattle.et_loop.specs.Visits.{allowed_visits, IsCut}
 use Rattle.et_loop.specs.Traced.{WritesTrace, WritesPrefix}
-use Rattle.et_history.specs.Settings.{flush_visits_of, setting, names_of}
+use Rattle.et_history.specs.Settings.{flush_visits_of, setting, names_of_program}
 use Rattle.et_run.proofs.Starting.{first_step, records_named}
 use Rattle.et_run.proofs.program_run.run_from.Goals as goal
 
@@ -20,8 +20,8 @@ run_guest-requires-clause-first g c =
 
 pub run_guest-requires-clause-named : goal.run_guest-requires-clause-named
 run_guest-requires-clause-named g c =
-    subst (λ (p : Linked). All (IsNamed (names_of p)) c.args.made.now) (sym c.of-code.ensures)
-    (subst (λ (rs : List Record). All (IsNamed (names_of c.args.program.now)) rs) (sym c.requires.records) (records_named c.args.program.now c.requires.tabled))
+    subst (λ (p : Linked). All (IsNamed (names_of_program p)) c.args.made.now) (sym c.of-code.ensures)
+    (subst (λ (rs : List Record). All (IsNamed (names_of_program c.args.program.now)) rs) (sym c.requires.records) (records_named c.args.program.now c.requires.tabled))
 
 pub returns-clause-trace : goal.returns-clause-trace
 returns-clause-trace g c reached decides =

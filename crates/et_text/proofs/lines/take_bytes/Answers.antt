@@ -1,6 +1,6 @@
 use Rattle.std.proofs.Common.{◌∙◌, sym}
 use Rattle.std.proofs.lemmas.Result.{err_from_is_err_and}
-use Rattle.et_text.specs.Text.Breaks.{BreaksForm, BreaksAfter}
+use Rattle.et_text.specs.Text.BreaksText.{BreaksForm, BreaksAfter}
 use Rattle.et_text.proofs.Pieces.{refused_by}
 use Rattle.et_text.proofs.lines.take_bytes.Goals as goal
 

@@ -1,7 +1,7 @@
 use Rattle.std.proofs.Common.{sym, ◌∙◌, ap}
 use Rattle.et_state.specs.declared.stage.Stage.{Stage}
 use Rattle.et_state.specs.declared.stage.Stage.TheVariants.{Plain, Before, Clinit}
-use Rattle.et_state.specs.Threads.{is_before}
+use Rattle.et_state.specs.Threads.{is_before_class}
 use Rattle.et_state.specs.State.{kept_of}
 use Rattle.et_throw.proofs.Turning.{class_known, runs_staged, before_there, clinit_there}
 use Rattle.et_throw.proofs.Turns.{stage_answers}
@@ -9,7 +9,7 @@ use Rattle.et_throw.proofs.unwinding.unwind_event.Goals as goal
 
 pub unwind_method-requires-clause-runs : goal.unwind_method-requires-clause-runs
 unwind_method-requires-clause-runs g c =
-    runs_staged c.args.program.now (kept_of c.args.machine.now) c.args.thread c.requires.unwinds.sound c.requires.unwinds.frame (ap (λ (s : Stage). is_before s) (sym c.stage.ensures ∙ c.in-Plain.is))
+    runs_staged c.args.program.now (kept_of c.args.machine.now) c.args.thread c.requires.unwinds.sound c.requires.unwinds.frame (ap (λ (s : Stage). is_before_class s) (sym c.stage.ensures ∙ c.in-Plain.is))
 
 pub unwind_method-requires-clause-known : goal.unwind_method-requires-clause-known
 unwind_method-requires-clause-known g c = class_known c.args.program.now c.args.machine.now c.args.thread c.args.exception c.class_of-class.result c.requires.unwinds c.class_of-class.ensures.class
@@ -25,7 +25,7 @@ fail_event-requires-clause-known g c = class_known c.args.program.now c.args.mac
 
 pub unwind_clinit-requires-clause-runs : goal.unwind_clinit-requires-clause-runs
 unwind_clinit-requires-clause-runs g c =
-    runs_staged c.args.program.now (kept_of c.args.machine.now) c.args.thread c.requires.unwinds.sound c.requires.unwinds.frame (ap (λ (s : Stage). is_before s) (sym c.stage.ensures ∙ c.in-Clinit.is))
+    runs_staged c.args.program.now (kept_of c.args.machine.now) c.args.thread c.requires.unwinds.sound c.requires.unwinds.frame (ap (λ (s : Stage). is_before_class s) (sym c.stage.ensures ∙ c.in-Clinit.is))
 
 pub unwind_clinit-requires-clause-class : goal.unwind_clinit-requires-clause-class
 unwind_clinit-requires-clause-class g c = clinit_there c.args.program.now (kept_of c.args.machine.now) c.args.thread c.in-Clinit.class c.requires.unwinds.sound c.requires.unwinds.frame (sym c.stage.ensures ∙ c.in-Clinit.is)

@@ -7,7 +7,7 @@ use Rattle.et_top.specs.Status.{is_read_status, is_write_status}
 use Rattle.et_top.specs.Told.{cause_of, is_read_cause}
 use Rattle.et_top.proofs.FaultLemmas.{same_count, counted_as, read_status, no_write_status}
 use Rattle.et_top.proofs.ReadLemmas.{reads_whole}
-use Rattle.et_top.specs.Top.{traces, Gives}
+use Rattle.et_top.specs.Top.{traces, GivesDefined}
 use Rattle.et_top.proofs.TopLemmas.{history_more, refused_trace}
 use Rattle.et_top.proofs.commands.trace.Goals as goal
 
@@ -20,7 +20,7 @@ returns-in-Ok-clause-gives g c held told kinds d defined reached decides =
     let read = Rose (g.F.Files.faults c.args.files.now) (g.F.Files.faults c.load_program.new.files) in
     let written = Rose (g.O.Sink.faults c.args.out.now) (g.O.Sink.faults c.run.new.out) in
     let is = defined.2 ∙ ap (traces c.args.options.now) (c.in-Ok.ensures.tells held told defined.0 defined.1) in
-    subst (λ x. Gives reached before after old new read written x c.run.result) (sym is)
+    subst (λ x. GivesDefined reached before after old new read written x c.run.result) (sym is)
     (history_more reached before after old new read written c.in-Ok.program c.args.options.now c.run.result (c.run.ensures.gives reached decides))
 
 pub returns-in-Err-clause-gives : goal.returns-in-Err-clause-gives

@@ -1,5 +1,5 @@
 use Rattle.std.proofs.Common.{None, refl, sym, subst}
-use Rattle.et_top.specs.Top.{Gives}
+use Rattle.et_top.specs.Top.{GivesDefined}
 use Rattle.et_top.proofs.EndLemmas.{ends_gives, ok_more, any_ok}
 use Rattle.et_top.proofs.TopLemmas.{memory_gives, still}
 use Rattle.et_top.proofs.process.run_process.Goals as goal
@@ -13,4 +13,4 @@ returns-in-Ok-clause-answers g c =
 
 pub returns-in-Err-clause-answers : goal.returns-in-Err-clause-answers
 returns-in-Err-clause-answers g c =
-    any_ok c.args.words (λ some held told d defined reached decides. (0, subst (Gives reached None None 0 0 _ _ d) (sym c.refuse.ensures) (memory_gives reached None 0 0 _ _ d (still 0 d))))
+    any_ok c.args.words (λ some held told d defined reached decides. (0, subst (GivesDefined reached None None 0 0 _ _ d) (sym c.refuse.ensures) (memory_gives reached None 0 0 _ _ d (still 0 d))))

@@ -5,7 +5,7 @@ use Rattle.et_io.specs.Faults.{Rose}
 use Rattle.et_replay.specs.declared.model.Kind.{Kind}
 use Rattle.et_replay.specs.declared.model.HeapModel.{Ghosts}
 use Rattle.et_models.proofs.Boxes.{three_all}
-use Rattle.et_top.specs.Top.{IsDefined, Gives}
+use Rattle.et_top.specs.Top.{IsDefined, GivesDefined}
 use Rattle.et_top.proofs.KindLemmas.{map_three}
 use Rattle.et_top.proofs.process.with_models.OwnLists.{own-1}
 use Rattle.et_top.proofs.process.with_models.Goals as goal
@@ -31,4 +31,4 @@ returns-clause-answers g c held told d defined reached decides =
     let at = subst (λ (of : List Kind). IsDefined of (map string_bytes c.args.words.now) held d) (sym kinds) defined in
     let read = Rose (g.F.Files.faults c.args.files.now) (g.F.Files.faults c.elephant.new.files) in
     let written = Rose (g.O.Sink.faults c.args.out.now) (g.O.Sink.faults c.elephant.new.out) in
-    (c.elephant.new.visits, subst (λ (old : ℕ). Gives reached (g.O.Sink.taken c.args.out.now) (g.O.Sink.taken c.elephant.new.out) old c.elephant.new.visits read written d c.elephant.result) c.begin-visits.ensures (c.elephant.ensures.answers held told d at reached decides))
+    (c.elephant.new.visits, subst (λ (old : ℕ). GivesDefined reached (g.O.Sink.taken c.args.out.now) (g.O.Sink.taken c.elephant.new.out) old c.elephant.new.visits read written d c.elephant.result) c.begin-visits.ensures (c.elephant.ensures.answers held told d at reached decides))

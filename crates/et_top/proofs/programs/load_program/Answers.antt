@@ -1,6 +1,6 @@
 use Rattle.std.proofs.Common.{refl, subst}
 use Rattle.et_top.specs.declared.status.Status.TheVariants as status
-use Rattle.et_top.specs.Loaded.{IsLinked}
+use Rattle.et_top.specs.Loaded.{IsLinkedOf}
 use Rattle.et_top.specs.Told.{cause_of, is_reading}
 use Rattle.et_top.proofs.FaultLemmas.{same_count, not_reading}
 use Rattle.et_top.proofs.Found.{tells_more, file_refusal}
@@ -10,7 +10,7 @@ use Rattle.et_top.proofs.programs.load_program.Goals as goal
 
 pub returns-in-Ok-clause-tells : goal.returns-in-Ok-clause-tells
 returns-in-Ok-clause-tells g c held told program is =
-    tells_more _ _ program c.program.result (c.program.ensures.tells program (subst (λ classes. IsLinked classes program) (c.in-Ok.ensures.tells held told is.0 is.1) is.2))
+    tells_more _ _ program c.program.result (c.program.ensures.tells program (subst (λ classes. IsLinkedOf classes program) (c.in-Ok.ensures.tells held told is.0 is.1) is.2))
 
 pub returns-in-Ok-clause-faults : goal.returns-in-Ok-clause-faults
 returns-in-Ok-clause-faults g c = same_count (is_reading c.program.result) _ _ c.in-Ok.ensures.faults (not_reading c.program.result c.program.ensures.bytes)

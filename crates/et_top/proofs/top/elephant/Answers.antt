@@ -1,7 +1,7 @@
 use Rattle.std.proofs.Common.{◌∙◌, refl, ap, sym, subst, map, string_bytes}
 use Rattle.et_io.specs.Faults.{Rose}
 use Rattle.et_top.specs.Command.{Asked}
-use Rattle.et_top.specs.Top.{Gives}
+use Rattle.et_top.specs.Top.{GivesDefined}
 use Rattle.et_top.specs.Reads.{ReadsInOrder, paths_of, is_early}
 use Rattle.et_top.specs.Command.{command}
 use Rattle.et_top.specs.Visits.{IsWithoutRun}
@@ -24,7 +24,7 @@ returns-in-Err-clause-answers g c held told d defined reached decides =
     let read = Rose (g.F.Files.faults c.args.files.now) (g.F.Files.faults c.args.files.now) in
     let written = Rose (g.O.Sink.faults c.args.out.now) (g.O.Sink.faults c.args.out.now) in
     let visits = c.args.visits.now in
-    subst (Gives reached taken taken visits visits read written d) (sym c.refuse.ensures) (memory_gives reached taken visits visits read written d (still visits d))
+    subst (GivesDefined reached taken taken visits visits read written d) (sym c.refuse.ensures) (memory_gives reached taken visits visits read written d (still visits d))
 
 pub returns-in-Some-clause-no_visits : goal.returns-in-Some-clause-no_visits
 returns-in-Some-clause-no_visits g c without =

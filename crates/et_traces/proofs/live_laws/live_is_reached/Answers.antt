@@ -3,7 +3,7 @@ use Rattle.std.proofs.lemmas.List.{length-map}
 use Rattle.et_program.specs.Loaded.{LoadedClass, loaded_class}
 use Rattle.et_state.specs.Options.{pick_of}
 use Rattle.et_state.specs.Start.{start}
-use Rattle.et_history.specs.Histories.{GoesOn, WholeGoesOn}
+use Rattle.et_history.specs.Histories.{HistoryGoesOn, WholeGoesOn}
 use Rattle.et_history.specs.Settings.{IsSoundRun}
 use Rattle.et_traces.proofs.Reported.{Knows}
 use Rattle.et_traces.proofs.LiveReached.{live_is}
@@ -14,7 +14,7 @@ returns-clause-live c reached p options e last end decides run plain arguments a
     let pick : ℕ → ℕ = pick_of options.schedule in
     let goes : (n : ℕ) → n ≤ last → (k : ℕ) → k < n → WholeGoesOn reached p options pick k = λ n le k lt. is.first k (omega (arith, le, lt)) in
     let kept = (c.histories_tell_the_same.ensures.ends reached p options pick last end decides run are).1 is in
-    let goes_kept : (n : ℕ) → n ≤ last → (k : ℕ) → k < n → GoesOn reached p options pick k = λ n le k lt. kept.first k (omega (arith, le, lt)) in
+    let goes_kept : (n : ℕ) → n ≤ last → (k : ℕ) → k < n → HistoryGoesOn reached p options pick k = λ n le k lt. kept.first k (omega (arith, le, lt)) in
     let knows : Knows reached p options pick last = record {
       first = λ o some within. c.objects_are_reached_as_made.ensures.first reached p options pick o decides some within;
       told = λ n within. c.allocations_are_told.ensures reached p options pick n decides run plain arguments are (goes n within);

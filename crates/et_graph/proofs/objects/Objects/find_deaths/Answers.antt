@@ -2,7 +2,7 @@ use Rattle.std.proofs.Common.{◌≡◌, ◌||◌, ◌<◌, ℕ, Bool, false, na
 use Rattle.std.specs.Vec.{with_items}
 use Rattle.std.proofs.lemmas.List.{with_items_is}
 use Rattle.et_graph.specs.Times.{set_each, AreWithin, ArePairsWithin, Carries}
-use Rattle.et_graph.specs.Order.{HasRoom}
+use Rattle.et_graph.specs.Order.{HasSearchRoom}
 use Rattle.et_graph.specs.Listing.{listed}
 use Rattle.et_graph.proofs.objects.Objects.find_deaths.Goals as goal
 
@@ -47,6 +47,6 @@ returns c =
         times = omega (arith, c.requires.places.times, c.args.self.now.stamps.ok.0, c.clear.ensures.capacity, c.extend.ensures.grows);
         deaths =
             omega (arith, c.list_deaths.ensures.room, ap (λ (xs : List ℕ). length xs) c.deref-2.ensures.value, ap (λ (xs : List ℕ). length xs) times_is, c.carry.auto.times, long);
-        room = subst (λ (n : ℕ). HasRoom n c.carry.new.room) long c.carry.ensures.room;
+        room = subst (λ (n : ℕ). HasSearchRoom n c.carry.new.room) long c.carry.ensures.room;
       };
     }

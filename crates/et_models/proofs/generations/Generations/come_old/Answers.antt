@@ -1,6 +1,6 @@
 use Rattle.std.proofs.Common.{◌≡◌, ◌∙◌, sym, subst, ap, arith}
 use Rattle.et_replay.specs.declared.item.Item.TheVariants.{Alloc}
-use Rattle.et_models.specs.Generations.{Both, both_of, Steps, swept, placed_old, left_out}
+use Rattle.et_models.specs.Generations.{Both, both_of, StepsBoth, swept, placed_old, left_out}
 use Rattle.et_models.proofs.Stepping.{IsLow, stable_low, swept_low, old_at_once, old_after, old_not}
 use Rattle.et_models.proofs.generations.Generations.come_old.Goals as goal
 
@@ -13,7 +13,7 @@ place_old-requires c = let s = c.requires.ready in let l = stable_low (both_of c
 pub returns-then-self-bytes : goal.returns-then-self-bytes
 returns-then-self-bytes c =
     let t = c.if-self-bytes.true in let e = c.from-bytes.ensures in
-    subst (λ (u : Both). Steps (Alloc c.args.event c.args.object c.args.size) (both_of c.args.self.now) u) (sym c.in_ok-place_old.ensures)
+    subst (λ (u : Both). StepsBoth (Alloc c.args.event c.args.object c.args.size) (both_of c.args.self.now) u) (sym c.in_ok-place_old.ensures)
     (old_at_once (both_of c.args.self.now) c.args.event c.args.object c.args.size c.requires.large (omega (arith, t, e)))
 
 pub sweep-requires-clause-bytes : goal.sweep-requires-clause-bytes
@@ -38,7 +38,7 @@ returns-then-self-bytes-2 c =
     let w = c.sweep.ensures in
     let x : c.sweep.new.self.space_bytes ≡ (swept v).old_bytes = ap (λ (u : Both). u.old_bytes) w in
     let y : c.sweep.new.self.second ≡ v.second = ap (λ (u : Both). u.second) w in
-    subst (λ (u : Both). Steps (Alloc c.args.event c.args.object c.args.size) v u) (sym (c.leave_out.ensures ∙ ap (λ (u : Both). left_out c.args.event c.args.object c.args.size u) w))
+    subst (λ (u : Both). StepsBoth (Alloc c.args.event c.args.object c.args.size) v u) (sym (c.leave_out.ensures ∙ ap (λ (u : Both). left_out c.args.event c.args.object c.args.size u) w))
     (old_not v c.args.event c.args.object c.args.size c.requires.large (omega (arith, t, e)) (omega (arith, f, e, x, y)))
 
 pub place_old-requires-2 : goal.place_old-requires-2
@@ -54,5 +54,5 @@ returns c =
     let w = c.sweep.ensures in
     let x : c.sweep.new.self.space_bytes ≡ (swept v).old_bytes = ap (λ (u : Both). u.old_bytes) w in
     let y : c.sweep.new.self.second ≡ v.second = ap (λ (u : Both). u.second) w in
-    subst (λ (u : Both). Steps (Alloc c.args.event c.args.object c.args.size) v u) (sym (c.in_ok-place_old-2.ensures ∙ ap (λ (u : Both). placed_old c.args.object c.args.size u) w))
+    subst (λ (u : Both). StepsBoth (Alloc c.args.event c.args.object c.args.size) v u) (sym (c.in_ok-place_old-2.ensures ∙ ap (λ (u : Both). placed_old c.args.object c.args.size u) w))
     (old_after v c.args.event c.args.object c.args.size c.requires.large (omega (arith, t, e)) (omega (arith, f, e, x, y)))

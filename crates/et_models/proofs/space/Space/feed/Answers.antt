@@ -3,7 +3,7 @@ use Rattle.et_replay.specs.Feeding.{MayCome}
 use Rattle.et_replay.specs.Tally.{space_after}
 use Rattle.et_replay.specs.declared.item.Item.{Item}
 use Rattle.et_replay.specs.declared.item.Item.TheVariants.{Alloc}
-use Rattle.et_models.specs.Spaces.{View, view_of, roomy, placed, IsHeap, IsSpaceOf}
+use Rattle.et_models.specs.Spaces.{View, view_of, roomy, object_placed, IsReplayedHeap, IsSpaceOf}
 use Rattle.et_models.proofs.Totals.{CanTake, can_take, CanPlace, can_place, came_is, may_come, placed_capacity}
 use Rattle.et_models.proofs.space.Space.feed.Goals as goal
 
@@ -54,13 +54,13 @@ returns-in-Alloc-clause-stands c = λ objects past t.
     let first = subst (λ (i : Item). MayCome s.0 s.1 i) c.in-Alloc.is s.4 in
     let may = may_come s.0 objects s.1 past v (space_after v.capacity s.1) (space_after v.capacity past) item s.2.heap t.heap first in
     let came = came_is objects past v c.in-Alloc.event c.in-Alloc.object c.in-Alloc.size t.few t.fed may s.3 t.heap in
-    let now : view_of c.place.new.self ≡ placed c.in-Alloc.event c.in-Alloc.object c.in-Alloc.size (roomy c.in-Alloc.size v) = c.place.ensures.view ∙ ap (λ (u : View). placed c.in-Alloc.event c.in-Alloc.object c.in-Alloc.size u) c.make_room.ensures.view in
-    let heap : IsHeap (view_of c.place.new.self) objects (item ∷ past) (space_after v.capacity (item ∷ past)) = subst (λ (u : View). IsHeap u objects (item ∷ past) (space_after v.capacity (item ∷ past))) (sym now) came in
+    let now : view_of c.place.new.self ≡ object_placed c.in-Alloc.event c.in-Alloc.object c.in-Alloc.size (roomy c.in-Alloc.size v) = c.place.ensures.view ∙ ap (λ (u : View). object_placed c.in-Alloc.event c.in-Alloc.object c.in-Alloc.size u) c.make_room.ensures.view in
+    let heap : IsReplayedHeap (view_of c.place.new.self) objects (item ∷ past) (space_after v.capacity (item ∷ past)) = subst (λ (u : View). IsReplayedHeap u objects (item ∷ past) (space_after v.capacity (item ∷ past))) (sym now) came in
     let cap : c.place.new.self.capacity ≡ v.capacity = ap (λ (u : View). u.capacity) now ∙ placed_capacity c.in-Alloc.event c.in-Alloc.object c.in-Alloc.size v in
     let stands : IsSpaceOf c.place.new.self objects (item ∷ past) = record {
       fed = (t.fed, may);
       few = t.few;
-      heap = subst (λ (k : ℕ). IsHeap (view_of c.place.new.self) objects (item ∷ past) (space_after k (item ∷ past))) (sym cap) heap;
+      heap = subst (λ (k : ℕ). IsReplayedHeap (view_of c.place.new.self) objects (item ∷ past) (space_after k (item ∷ past))) (sym cap) heap;
       room = (let a = t.room in let b = c.make_room.ensures.room in let d = c.place.ensures.room in omega (arith, a, b, d));
     } in
     subst (λ (i : Item). IsSpaceOf c.place.new.self objects (i ∷ past)) (sym c.in-Alloc.is) stands)
