@@ -1,8 +1,9 @@
-//! What every crate of the workspace speaks of: the numbers of things, values, the lines of a trace, names, and the counter of
-//! visits; big-endian numbers at a place of a list of bytes, and rules that are marked at the items that they speak of; vectors
-//! that grow within the room that was reserved for them.
+//! What every crate of the workspace speaks of: the numbers of things, values, the lines of a trace and how they are spelled,
+//! names, and the counter of visits; big-endian numbers at a place of a list of bytes, and rules that are marked at the items
+//! that they speak of; vectors that grow within the room that was reserved for them.
 #![tactic(auto)]
 
+mod format;
 mod ids;
 mod integers;
 pub mod laws;
@@ -16,6 +17,7 @@ mod value;
 pub mod within;
 mod words;
 
+pub use format::Format;
 pub use ids::{ClassId, FieldId, MethodId, ObjectId, ThreadId};
 pub use integers::{
     add32, add64, and32, and64, cmp64, div32, div64, mul32, mul64, neg32, neg64, or32, or64, rem32,
