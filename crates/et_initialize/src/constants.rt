@@ -6,7 +6,7 @@ ghost use Rattle.et_heap.specs.Objects.{has_room, new_object};
 ghost use Rattle.et_state.specs.declared.records.Record.TheVariants.{Alloc};
 ghost use Rattle.et_state.specs.Words.{static_at, with_static, steps_guest, with_new_object};
 ghost use Rattle.et_state.specs.Interned.{object_of, interned_objects};
-ghost use Rattle.et_program.specs.Entries.{class_at, field_at};
+ghost use Rattle.et_program.specs.Entries.{field_at};
 ghost use Rattle.et_event.specs.Errors.{class_called};
 ghost use Rattle.et_event.specs.Kinds.{narrowed_int};
 ghost use Rattle.et_event.specs.Moments.{moment, fits_heap};
@@ -17,7 +17,7 @@ ghost use Rattle.et_initialize.specs.Under.{so_far, with_kept, InitializesTo};
 
 use et_base::{ClassId, FieldId, NoMemory, ObjectId, ThreadId, Value, to_byte, to_char, to_short};
 use et_heap::MakeFault;
-use et_parts::class_called;
+use et_parts::{class_called, slots_of};
 use et_pool::Pool;
 use et_program::{FieldInfo, Program};
 use et_state::{Lines, Machine, Record};
@@ -31,17 +31,6 @@ fn narrowed(descriptor: &[u8], n: i32) -> i32
         Some(b'S') => to_short(n),
         Some(b'C') => to_char(n),
         _ => n,
-    }
-}
-
-/// How many slots an instance of a class has.
-pub(crate) fn slots_of(program: &Program, class: ClassId) -> u32
-    ensures { result ≡ (class_at program.now class).info.slots }
-{
-    if class.number() < program.class_count() {
-        program.class(class).slots
-    } else {
-        0
     }
 }
 

@@ -13,10 +13,9 @@ ghost use Rattle.et_event.specs.Moments.{moment, Doing, begins, fits_heap as all
 ghost use Rattle.et_event.specs.Initialization.{state_of, field_set, constants_set, with_state, class_done, quietly_done, is_ready, prepared};
 ghost use Rattle.et_initialize.specs.Texts.{constant_text as text_in, has_text, string_slots as slots_of_string, has_room_for as room_for, Counted, CountedAll};
 
-use crate::constants::slots_of;
 use et_base::{ClassId, FieldId, NoMemory};
 use et_heap::{MOST_OBJECTS, MOST_SLOTS};
-use et_parts::class_called;
+use et_parts::{class_called, slots_of};
 use et_program::Program;
 use et_state::{ClassState, Machine};
 use std::alloc::Global;

@@ -18,13 +18,13 @@ ghost use Rattle.et_event.specs.InitializationOrder.{IsInOrder};
 ghost use Rattle.et_initialize.specs.Under.{so_far, InitializesTo, IsInitializing};
 
 use crate::begins::{MOST_FRAMES, initializer};
-use crate::constants::{make_object, slots_of};
+use crate::constants::make_object;
 use crate::limits::{prepared_class_fits, prepared_fit};
 use crate::needs::{Need, need_of};
 use crate::quiet::{set_constants, set_quietly};
 use et_base::{ClassId, MethodId, NoMemory, ThreadId};
 use et_event::GuestError;
-use et_parts::{class_called, wait_event};
+use et_parts::{class_called, slots_of, wait_event};
 use et_program::{MethodInfo, Program};
 use et_state::{ClassState, EventEnd, Lines, Machine, Record};
 use std::alloc::Global;

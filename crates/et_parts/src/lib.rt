@@ -25,7 +25,7 @@ pub use monitors::{
     enter_monitor, enter_some, leave_monitor, leave_some, may_enter, may_enter_some, owns,
     owns_some,
 };
-pub use objects::{class_called, make_instance};
+pub use objects::{class_called, make_instance, slots_of};
 pub use operands::{give, put, replace, take};
 pub use places::{Place, place_of};
 pub use throws::throw_error;

@@ -19,8 +19,8 @@ pub fn class_called(program: &Program, name: &[u8]) -> ClassId
     program.resolve_class(name).unwrap_or(ClassId::new(0))
 }
 
-/// How many slots an instance of a class has.
-fn slots_of(program: &Program, class: ClassId) -> u32
+/// How many slots an instance of a class has; 0 for a number that no class has.
+pub fn slots_of(program: &Program, class: ClassId) -> u32
     ensures { result ≡ (class_at program.now class).info.slots }
 {
     if class.number() < program.class_count() {

@@ -12,7 +12,7 @@ use crate::kinds::or_zero;
 use et_base::{ClassId, NoMemory, ObjectId, ThreadId, Value};
 use et_event::Operand;
 use et_heap::MakeFault;
-use et_parts::{Place, take};
+use et_parts::{Place, slots_of, take};
 use et_program::Program;
 use et_state::{Lines, Machine, Record};
 
@@ -45,14 +45,6 @@ pub enum Access {
 pub struct Wanted {
     pub class: ClassId,
     pub access: Access,
-}
-
-/// How many slots an instance of a class has.
-pub(crate) fn slots_of(program: &Program, class: ClassId) -> u32
-    requires { class < length program.now.classes }
-    ensures { result ≡ (class_at program.now class).info.slots }
-{
-    program.class(class).slots
 }
 
 /// How many objects an access makes.

@@ -7,7 +7,7 @@ ghost use Rattle.et_state.specs.State.{kept_of};
 ghost use Rattle.et_state.specs.Words.{HasFrame, thread_at, top, steps_object};
 ghost use Rattle.et_state.specs.Sound.{IsSound};
 ghost use Rattle.et_state.specs.declared.class_state.ClassState.TheVariants as states;
-ghost use Rattle.et_program.specs.Entries.{Linked, class_at};
+ghost use Rattle.et_program.specs.Entries.{Linked};
 ghost use Rattle.et_event.specs.Answered.{EventAnswers};
 ghost use Rattle.et_event.specs.Errors.{class_called as called, error_class};
 ghost use Rattle.et_event.specs.declared.errors.GuestError.TheVariants as errors;
@@ -20,7 +20,7 @@ use crate::records::{tell_error, tell_unwind};
 use et_base::{ClassId, NoMemory, ObjectId, Steps, ThreadId, Value};
 use et_event::GuestError;
 use et_heap::MakeFault;
-use et_parts::class_called;
+use et_parts::{class_called, slots_of};
 use et_program::Program;
 use et_state::{ClassState, EventEnd, Lines, Machine};
 use std::sync::ledger::Ledger;
@@ -80,17 +80,6 @@ fn fail_by_error(
     tell_unwind(machine, thread, exception, initializer.entered, out)?;
     drop_initializer(machine, thread, initializer.class);
     Ok(EventEnd::Done)
-}
-
-/// How many slots an instance of a class has.
-fn slots_of(program: &Program, class: ClassId) -> u32
-    ensures { result ≡ (class_at program.now class).info.slots }
-{
-    if class.number() < program.class_count() {
-        program.class(class).slots
-    } else {
-        0
-    }
 }
 
 /// Makes an object; `None`, and nothing is done, exactly where it doesn't fit. After `NoMemory` the machine is as before.
