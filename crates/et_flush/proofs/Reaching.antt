@@ -4,7 +4,7 @@ use Rattle.std.specs.Prelude.{if◌then◌else◌, not, ◌&&◌}
 use Rattle.std.proofs.lemmas.Bool.{cases_Bool, leb-true, le-leb}
 use Rattle.std.proofs.lemmas.List.Sums.{sum_by-cons}
 use Rattle.et_graph.specs.Graph.{IsWalk, Leads, IsReached, IsDead}
-use Rattle.et_graph.specs.Times.{set_each, unset_count}
+use Rattle.et_graph.specs.Times.{AreSeenAmong, set_each, unset_count}
 use Rattle.et_graph.proofs.Walks.{cases_reached}
 use Rattle.et_graph.proofs.Carrying.{carried_greatest, set_each_in, set_each_out}
 use Rattle.et_heap.specs.Objects.{ObjectState, Objects, IsHeld, is_there, found, object_at, held_count, ones_in}
@@ -13,7 +13,7 @@ use Rattle.et_heap.specs.Remaining.{kept_referent, left_place, remaining}
 use Rattle.et_heap.proofs.HeapLists.{pair_at, pair_held, held_within, gone_at, at_gone}
 use Rattle.et_graph.specs.Listed.{IsGreatest, AreListed}
 use Rattle.et_flush.specs.declared.times.TheConstants.{NOW}
-use Rattle.et_flush.specs.Searches.{AreSeenHeld, AreDyingIn}
+use Rattle.et_flush.specs.Searches.{AreDyingIn}
 use Rattle.et_flush.specs.Sweeps.{is_now, clears, visits_of, visits_from}
 use Rattle.et_flush.specs.Works.{IsSettled}
 use Rattle.et_flush.specs.Flushes.{heap_graph, is_cleared, cleared_in, cleared_from}
@@ -204,13 +204,13 @@ seen_few (b ∷ before) (a ∷ after) (x ∷ xs) long seen =
 flag_at : (flags : List Bool) (j : ℕ) → get_or flags j false ≡ get_or flags (suc j - 1) false
 flag_at flags j = ap (λ (i : ℕ). get_or flags i false) (let e : j ≡ suc j - 1 = omega arith in e)
 
-seen_at : (before after : List Bool) (xs : Objects) (j : ℕ) → AreSeenHeld xs before after → get_or after j false ≡ true → (get_or before j false ≡ true) ⊎ IsHeld xs (suc j)
+seen_at : (before after : List Bool) (xs : Objects) (j : ℕ) → AreSeenAmong (IsHeld xs) before after → get_or after j false ≡ true → (get_or before j false ≡ true) ⊎ IsHeld xs (suc j)
 seen_at before after xs j are s =
     elim (are (suc j) (omega arith) (sym (flag_at after j) ∙ s)) [
       | inl was ↦ inl (flag_at before j ∙ was)
       | inr held ↦ inr held
     ]
 
-pub few_visits : (heap : Objects) (before after : List Bool) → length before ≡ length after → AreSeenHeld heap before after → unset_count before ≤ unset_count after + held_count heap
+pub few_visits : (heap : Objects) (before after : List Bool) → length before ≡ length after → AreSeenAmong (IsHeld heap) before after → unset_count before ≤ unset_count after + held_count heap
 few_visits [] before after long are = seen_few before after [] long (λ j s. seen_at before after [] j are s)
 few_visits (x ∷ xs) before after long are = omega (arith, seen_few before after xs long (λ j s. seen_at before after (x ∷ xs) j are s), sum_by-cons ones_in x xs)

@@ -1,7 +1,6 @@
 -- What a search over a heap keeps to.
-use Rattle.std.specs.Prelude.{◌≡◌, ℕ, ◌+◌, ◌-◌, ◌<◌, ◌≤◌, ◌⊎◌, ◌↔◌, Bool, List, length, map, Contains, slice_index}
+use Rattle.std.specs.Prelude.{◌≡◌, ℕ, ◌+◌, ◌-◌, ◌<◌, ◌≤◌, ◌↔◌, List, length, map, Contains, slice_index}
 use Rattle.std.specs.List.Sorted.{IsStrictlyIncreasing}
-use Rattle.et_graph.specs.Times.{IsSet}
 use Rattle.et_heap.specs.Objects.{Objects, IsHeld}
 use Rattle.et_heap.specs.Refs.{pairs_of}
 use Rattle.et_flush.specs.declared.times.TheConstants.{NOW}
@@ -10,13 +9,6 @@ use Rattle.et_graph.specs.declared.search.Source.{Source}
 -- what stands in a slot is held
 abbrev pub ArePairsHeld : Objects → Type 0
 ArePairsHeld heap = (u o : ℕ) → Contains (pairs_of heap) (u, o) → IsHeld heap o
-
-abbrev pub AreHeld : Objects → List ℕ → Type 0
-AreHeld heap objects = (o : ℕ) → Contains objects o → IsHeld heap o
-
--- what was seen since is held
-abbrev pub AreSeenHeld : Objects → List Bool → List Bool → Type 0
-AreSeenHeld heap before seen = (o : ℕ) → 0 < o → IsSet seen o → IsSet before o ⊎ IsHeld heap o
 
 -- the objects that are held, in rising order
 pub record AreAllHeld (heap : Objects) (held : List ℕ) : Type 0 where

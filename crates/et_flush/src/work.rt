@@ -7,10 +7,11 @@ ghost use Rattle.et_flush.specs.Works.{HasWorkPlaces, IsWorkPrepared, IsSettled}
 
 use crate::deaths::list_deaths;
 use crate::held::list_held;
-use crate::order::{order_sources, spread_all};
+use crate::order::order_sources;
+use crate::search::HeldReferences;
 use crate::times::{NOW, write_roots, write_times};
 use et_base::{ObjectId, Steps, within};
-use et_graph::{Death, Source};
+use et_graph::{Death, Source, spread_all};
 use et_heap::Heap;
 use std::alloc::{AllocError, Global};
 use std::sync::ledger::Ledger;
@@ -110,7 +111,7 @@ pub(crate) fn settle<L: Ledger>(
     prepare(heap, roots, stamps, work);
     work.waiting.clear();
     spread_all(
-        heap,
+        &HeldReferences { heap },
         &work.order,
         &mut work.times,
         &mut work.seen,

@@ -9,6 +9,7 @@ pub mod Cuts
 pub mod Carrying
 pub mod Spreading
 pub mod Between
+pub mod Among
 pub mod Visiting
 pub mod Rounds
 pub mod Sources

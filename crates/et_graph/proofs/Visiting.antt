@@ -2,15 +2,18 @@
 use Rattle.std.proofs.Common.{◌≡◌, ℕ, ◌+◌, ◌-◌, ◌<◌, ◌≤◌, ◌↔◌, ◌⊎◌, Bool, true, List, [], ◌∷◌, ◌++◌, length, get_or, set, Contains, refl, sym, ◌∙◌, ap, subst, inl, inr, arith, length-append}
 use Rattle.std.proofs.lemmas.Bool.{cases_lt}
 use Rattle.std.proofs.lemmas.List.{get_or_default}
-use Rattle.std.proofs.lemmas.List.Elements.{Contains-append_left, Contains-append_right}
-use Rattle.et_graph.specs.Times.{ArePairsWithin, IsSet, unset_count, IsSpread, AreFollowed, Visits}
+use Rattle.std.proofs.lemmas.List.Elements.{Contains-append_left, Contains-append_right, Contains-push_cases}
+use Rattle.et_graph.specs.Times.{ArePairsWithin, AreSeenAmong, IsSet, unset_count, IsSpread, AreFollowed, Visits}
 use Rattle.et_base.proofs.Lists.{Contains-here}
+use Rattle.et_graph.proofs.Among.{seen_mark}
 use Rattle.et_graph.proofs.Spreading.{set_keeps, unset_less, mark_spread, mark_followed, carry_pair, visited_followed, other_time}
 
 pub record IsVisiting (pairs : List (ℕ × ℕ)) (o t : ℕ) (times : List ℕ) (seen : List Bool) (work : List ℕ) (times' : List ℕ) (seen' : List Bool) (work' : List ℕ) : Type 0 where
   pub grows : (x : ℕ) → IsSet seen x → IsSet seen' x
   pub spent : length work' + unset_count seen' ≡ length work + unset_count seen
   pub fewer : unset_count seen' ≤ unset_count seen
+  pub seen_since : AreSeenAmong (λ x. Contains pairs (o, x)) seen seen'
+  pub waits_since : (x : ℕ) → Contains work' x → Contains work x ⊎ Contains pairs (o, x)
   pub spreads : (start : List ℕ) → IsSpread pairs start t times seen work → IsSet seen o → get_or times (o - 1) 0 ≡ t
       → AreFollowed pairs times seen (λ v. Contains work v ⊎ (v ≡ o))
       → IsSpread pairs start t times' seen' work' × AreFollowed pairs times' seen' (λ v. Contains work' v ⊎ (v ≡ o)) × (get_or times' (o - 1) 0 ≡ t)
@@ -20,6 +23,8 @@ visiting_none pairs o t times seen work = record {
   grows = λ x s. s;
   spent = refl;
   fewer = omega arith;
+  seen_since = λ x positive s. inl s;
+  waits_since = λ x c. inl c;
   spreads = λ start spread s time followed. (spread, followed, time);
 }
 
@@ -36,6 +41,12 @@ visiting_mark pairs o t n times seen work times' seen' work' x pairs_within c lo
       grows = λ y s. set_keeps seen' x seen_within y (visiting.grows y s);
       spent = omega (arith, visiting.spent, less, length-append work' (x ∷ []));
       fewer = omega (arith, visiting.fewer, less);
+      seen_since = seen_mark (λ y. Contains pairs (o, y)) seen seen' x seen_within at.2 c visiting.seen_since;
+      waits_since = λ y d.
+          elim (Contains-push_cases work' x y d) [
+            | inl before ↦ visiting.waits_since y before
+            | inr e ↦ inr (subst (λ (z : ℕ). Contains pairs (o, z)) e c)
+          ];
       spreads = λ start spread s time followed.
           let now = visiting.spreads start spread s time followed in
           let carry = carry_pair pairs start t n times' seen' work' o x pairs_within c within now.2 unseen now.0 in (
@@ -55,6 +66,8 @@ visiting_all pairs o t times seen work times' seen' work' targets visiting = rec
   grows = visiting.grows;
   spent = visiting.spent;
   fewer = visiting.fewer;
+  seen_since = visiting.seen_since;
+  waits_since = visiting.waits_since;
   spreads = λ start spread s time followed.
       let now = visiting.spreads start spread s time followed in
       (now.0, visited_followed pairs start t o times' seen' work' now.0 now.2 targets now.1);

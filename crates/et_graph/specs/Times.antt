@@ -19,6 +19,10 @@ AreWithin n objects = (o : ℕ) → Contains objects o → (0 < o) × (o ≤ n)
 abbrev pub ArePairsWithin : ℕ → List (ℕ × ℕ) → Type 0
 ArePairsWithin n pairs = (u x : ℕ) → Contains pairs (u, x) → (0 < u) × (u ≤ n) × (0 < x) × (x ≤ n)
 
+-- each pair joins objects of which P holds
+abbrev pub ArePairsAmong : (ℕ → Type 0) → List (ℕ × ℕ) → Type 0
+ArePairsAmong P pairs = (u x : ℕ) → Contains pairs (u, x) → P u × P x
+
 -- the new entries are old ones that came along the pairs, and none is less than it was
 pub record Carries (pairs : List (ℕ × ℕ)) (old new : List ℕ) : Type 0 where
   pub kept_length : length new ≡ length old
@@ -34,6 +38,10 @@ AreSettled pairs entries =
 -- the object's flag is set
 abbrev pub IsSet : List Bool → ℕ → Type 0
 IsSet flags o = slice_index_or flags (o - 1) false ≡ true
+
+-- P holds of each object that was seen since
+abbrev pub AreSeenAmong : (ℕ → Type 0) → List Bool → List Bool → Type 0
+AreSeenAmong P before seen = (o : ℕ) → 0 < o → IsSet seen o → IsSet before o ⊎ P o
 
 -- how many flags aren't
 abbrev pub unset_count : List Bool → ℕ
@@ -61,12 +69,14 @@ AreFollowed pairs times seen P =
     (u x : ℕ) → Contains pairs (u, x) → IsSet seen u
     → P u ⊎ (IsSet seen x × (slice_index times (u - 1) ≤ slice_index times (x - 1)))
 
--- The pairs of object o, which has the time t, are followed.
+-- The pairs of object o, which has the time t, are followed: what is seen since, and what waits since, is what they lead to.
 pub record Visits (pairs : List (ℕ × ℕ)) (o t : ℕ) (times : List ℕ) (seen : List Bool) (work : List ℕ)
     (times' : List ℕ) (seen' : List Bool) (work' : List ℕ) : Type 0 where
   pub grows : (x : ℕ) → IsSet seen x → IsSet seen' x
   pub spent : length work' + unset_count seen' ≡ length work + unset_count seen
   pub fewer : unset_count seen' ≤ unset_count seen
+  pub seen_since : AreSeenAmong (λ x. Contains pairs (o, x)) seen seen'
+  pub waits_since : (x : ℕ) → Contains work' x → Contains work x ⊎ Contains pairs (o, x)
   pub spreads : (start : List ℕ) → IsSpread pairs start t times seen work → IsSet seen o → slice_index times (o - 1) ≡ t
       → AreFollowed pairs times seen (λ v. Contains work v ⊎ (v ≡ o))
       → IsSpread pairs start t times' seen' work' × AreFollowed pairs times' seen' (λ v. Contains work' v)

@@ -2,11 +2,12 @@
 
 ghost use Rattle.std.specs.Prelude.{◌≡◌, ℕ, ◌+◌, ◌-◌, ◌^◌, ◌<◌, ◌≤◌, ◌++◌, [], ◌∷◌, true, length, slice_index, slice_set, All, OnOk, vec_capacity};
 ghost use Rattle.std.specs.List.Sorted.{IsNonDecreasingBy};
-ghost use Rattle.et_graph.specs.Times.{ArePairsWithin, Carries, AreSettled, IsSet, IsReady, Visits, Spreads};
+ghost use Rattle.et_graph.specs.Times.{ArePairsWithin, ArePairsAmong, AreSeenAmong, Carries, AreSettled, IsSet, IsReady, Spreads, unset_count};
 ghost use Rattle.et_graph.specs.Order.{sources, IsOneOf, IsOrder, HasSearchRoom};
 
-use crate::pairs::pairs_of;
 use crate::places::place_of;
+use crate::references::References;
+use crate::sorted::SortedPairs;
 use et_base::{ObjectId, within};
 use std::alloc::AllocError;
 
@@ -60,46 +61,29 @@ pub fn mark(
     within::push(work, object);
 }
 
-/// Follows the pairs of an object to those that weren't seen yet, which get its time.
-fn visit(
-    pairs: &[(ObjectId, ObjectId)],
-    object: ObjectId,
-    time: u64,
-    times: &mut [u64],
-    seen: &mut [bool],
-    work: &mut Vec<ObjectId>,
-)
-    requires sorted { IsNonDecreasingBy (λ (p : ℕ × ℕ). p.0) pairs.now }
-    requires within { ArePairsWithin (length times.old) pairs.now }
-    requires ready { IsReady times.old seen.old work.old }
-    ensures ready { IsReady times.new seen.new work.new }
-    ensures visits { Visits
-        pairs.now object time times.old seen.old work.old.items times.new seen.new work.new.items }
-{
-    for pair in pairs_of(pairs, object) {
-        if !seen[place_of(pair.1)] {
-            mark(pair.1, time, times, seen, work);
-        }
-    }
-}
-
-/// Carries the time of an object as far as it goes, where the object wasn't seen yet.
-fn spread(
-    pairs: &[(ObjectId, ObjectId)],
+/// Carries the time of an object as far as it goes, where the object wasn't seen yet. Each object that it sees is visited
+/// once.
+fn spread<C, R: References<C>>(
+    references: &R,
     source: ObjectId,
     times: &mut [u64],
     seen: &mut [bool],
     work: &mut Vec<ObjectId>,
+    count: &mut C,
 )
-    requires sorted { IsNonDecreasingBy (λ (p : ℕ × ℕ). p.0) pairs.now }
-    requires within { ArePairsWithin (length times.old) pairs.now }
-    requires first { 0 < source }
-    requires last { source ≤ length times.old }
+    requires within { (o : ℕ) → R.has_object references.now o → IsOneOf (length times.old) o }
+    requires pairs { ArePairsAmong (R.has_object references.now) (R.pairs_in references.now) }
+    requires source { R.has_object references.now source }
     requires ready { IsReady times.old seen.old work.old }
     requires empty { work.old.items ≡ [] }
     ensures ready { IsReady times.new seen.new work.new }
     ensures empty { work.new.items ≡ [] }
-    ensures spreads { Spreads pairs.now source times.old seen.old times.new seen.new }
+    ensures spreads { Spreads
+        (R.pairs_in references.now) source times.old seen.old times.new seen.new }
+    ensures seen { AreSeenAmong (R.has_object references.now) seen.old seen.new }
+    ensures counted { R.count_of count.new + unset_count seen.new
+        ≤ R.count_of count.old + unset_count seen.old }
+    ensures grows { vec_capacity work.old ≤ vec_capacity work.new }
 {
     let place = place_of(source);
     if seen[place] {
@@ -108,30 +92,37 @@ fn spread(
     let time = times[place];
     mark(source, time, times, seen, work);
     while let Some(object) = work.pop() {
-        visit(pairs, object, time, times, seen, work);
+        references.visit(object, time, times, seen, work, count);
     }
 }
 
-/// Carries the times of all objects, the greatest first.
-fn spread_all(
-    pairs: &[(ObjectId, ObjectId)],
+/// Carries the times of all objects as far as references lead, where those with the greatest time come first. The entry of
+/// object `o` is at `o - 1` of `times` and of `seen`, and none of the objects was seen before. Each is visited once at most.
+/// It takes no memory.
+pub fn spread_all<C, R: References<C>>(
+    references: &R,
     order: &[Source],
     times: &mut [u64],
     seen: &mut [bool],
     work: &mut Vec<ObjectId>,
+    count: &mut C,
 )
-    requires sorted { IsNonDecreasingBy (λ (p : ℕ × ℕ). p.0) pairs.now }
-    requires within { ArePairsWithin (length times.old) pairs.now }
-    requires order { IsOrder (IsOneOf (length times.old)) times.old order.now }
+    requires within { (o : ℕ) → R.has_object references.now o → IsOneOf (length times.old) o }
+    requires pairs { ArePairsAmong (R.has_object references.now) (R.pairs_in references.now) }
+    requires order { IsOrder (R.has_object references.now) times.old order.now }
     requires ready { IsReady times.old seen.old work.old }
     requires empty { work.old.items ≡ [] }
-    requires unseen { (o : ℕ) → ¬ IsSet seen.old o }
+    requires unseen { (o : ℕ) → R.has_object references.now o → ¬ IsSet seen.old o }
     ensures ready { IsReady times.new seen.new work.new }
-    ensures carries { Carries pairs.now times.old times.new }
-    ensures settled { AreSettled pairs.now times.new }
+    ensures carries { Carries (R.pairs_in references.now) times.old times.new }
+    ensures settled { AreSettled (R.pairs_in references.now) times.new }
+    ensures seen { AreSeenAmong (R.has_object references.now) seen.old seen.new }
+    ensures counted { R.count_of count.new + unset_count seen.new
+        ≤ R.count_of count.old + unset_count seen.old }
+    ensures grows { vec_capacity work.old ≤ vec_capacity work.new }
 {
     for source in order {
-        spread(pairs, source.object, times, seen, work);
+        spread(references, source.object, times, seen, work, count);
     }
 }
 
@@ -183,5 +174,16 @@ pub fn settle(pairs: &[(ObjectId, ObjectId)], top: u64, times: &mut [u64], room:
     room.work.clear();
     room.seen.clear();
     within::resize(&mut room.seen, times.len(), false);
-    spread_all(pairs, &room.order, times, &mut room.seen, &mut room.work);
+    let references = SortedPairs {
+        pairs,
+        count: times.len(),
+    };
+    spread_all(
+        &references,
+        &room.order,
+        times,
+        &mut room.seen,
+        &mut room.work,
+        &mut (),
+    );
 }

@@ -10,10 +10,17 @@ use Rattle.et_graph.specs.Order.{IsOrder}
 use Rattle.et_heap.specs.Objects.{IsHeld}
 use Rattle.et_flush.proofs.Working.{unset_within}
 use Rattle.et_flush.proofs.Reaching.{few_visits}
+use Rattle.et_flush.proofs.Targets.{held_one_of, held_pairs}
 use Rattle.et_flush.proofs.work.settle.Goals as goal
 
-pub spread_all-requires-clause-long : goal.spread_all-requires-clause-long
-spread_all-requires-clause-long g c = omega (arith, ap length c.deref_mut.ensures.value, ap length c.prepare.ensures.prepared.times, length-set_each c.args.roots.now NOW c.prepare.ensures.prepared.first, c.prepare.ensures.prepared.begins.long)
+pub spread_all-requires-clause-within : goal.spread_all-requires-clause-within
+spread_all-requires-clause-within g c =
+    held_one_of c.args.heap.now (length c.deref_mut.result.now)
+    (omega (arith, ap length c.deref_mut.ensures.value, ap length c.prepare.ensures.prepared.times, length-set_each c.args.roots.now NOW c.prepare.ensures.prepared.first, c.prepare.ensures.prepared.begins.long))
+    c.requires.none
+
+pub spread_all-requires-clause-pairs : goal.spread_all-requires-clause-pairs
+spread_all-requires-clause-pairs g c = held_pairs c.args.heap.now c.requires.pairs
 
 pub spread_all-requires-clause-order : goal.spread_all-requires-clause-order
 spread_all-requires-clause-order g c =
@@ -63,4 +70,4 @@ returns-clause-places g c = λ n h.
     }
 
 pub returns-clause-visits : goal.returns-clause-visits
-returns-clause-visits g c = omega (arith, c.spread_all.ensures.visits, few_visits c.args.heap.now c.deref_mut-2.result.now c.spread_all.new.seen (sym c.spread_all.auto.seen) c.spread_all.ensures.seen)
+returns-clause-visits g c = omega (arith, c.spread_all.ensures.counted, few_visits c.args.heap.now c.deref_mut-2.result.now c.spread_all.new.seen (sym c.spread_all.auto.seen) c.spread_all.ensures.seen)
