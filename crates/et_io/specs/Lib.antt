@@ -1,6 +1,7 @@
 pub mod Calls
 pub mod Faults
 pub mod Files
+pub mod GatheringMemSink
 pub mod MemFiles
 pub mod MemSink
 pub mod Sink

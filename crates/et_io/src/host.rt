@@ -5,6 +5,7 @@ ghost use Rattle.et_io.specs.Faults.{count_after};
 ghost use Rattle.et_io.specs.Files.{IsWithin};
 
 use crate::files::{Files, Found};
+use crate::gathering::GatheringSink;
 use crate::reads::{Read as Asked, Reads};
 use crate::sink::{Put, Sink};
 use et_base::NoMemory;
@@ -95,19 +96,6 @@ impl<W: Write + Drop> HostSink<BufWriter<W>> {
             Err(_) => Err(NoMemory),
         }
     }
-
-    /// Hands on to the stream what was gathered, and says whether the stream took it all. Where it didn't, one fault is
-    /// counted.
-    pub fn hand_on(&mut self) -> bool
-        ensures taken { result ≡ true → writer_buffer self.new.stream ≡ [] }
-        ensures faults { self.new.faults ≡ count_after (not result) self.old.faults }
-    {
-        let is_taken = self.stream.flush().is_ok();
-        if !is_taken {
-            self.faults = self.faults.saturating_add(1);
-        }
-        is_taken
-    }
 }
 
 impl<W: Write> Sink for HostSink<W> {
@@ -125,6 +113,24 @@ impl<W: Write> Sink for HostSink<W> {
                 Put::Failed
             }
         }
+    }
+}
+
+impl<W: Write + Drop> GatheringSink for HostSink<BufWriter<W>> {
+    ghost use Rattle.std.specs.Prelude.{None};
+
+    ghost handed = { λ _. None };
+
+    /// Hands on to the stream what was gathered, and says whether the stream took it all.
+    fn hand_on(&mut self) -> bool
+        ensures emptied { result ≡ true → writer_buffer self.new.stream ≡ [] }
+        ensures faults { self.new.faults ≡ count_after (not result) self.old.faults }
+    {
+        let is_taken = self.stream.flush().is_ok();
+        if !is_taken {
+            self.faults = self.faults.saturating_add(1);
+        }
+        is_taken
     }
 }
 

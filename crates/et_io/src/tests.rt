@@ -71,3 +71,29 @@ fn gathers_what_is_put(rt: HostRuntime) -> Result<(), Fail> {
     fs::remove_file(&rt, path)?;
     Ok(())
 }
+
+#[test]
+fn gathering_fails_as_told(rt: HostRuntime) -> Result<(), Fail> {
+    let mut sink = GatheringMemSink::begin(rt.alloc());
+    sink.fail_at(3)?;
+    assert_eq!(rt; put_all(&mut sink, b"ab"), Ok(()));
+    assert!(rt; sink.hand_on());
+    assert_eq!(rt; sink.put(b"xyz"), Put::Failed);
+    assert_eq!(rt; put_all(&mut sink, b"cde"), Ok(()));
+    assert_eq!(rt; sink.handed(), b"ab".as_slice());
+    assert!(rt; sink.hand_on());
+    assert_eq!(rt; sink.handed(), b"abcde".as_slice());
+    Ok(())
+}
+
+#[test]
+fn handing_on_fails_as_told(rt: HostRuntime) -> Result<(), Fail> {
+    let mut sink = GatheringMemSink::begin(rt.alloc());
+    sink.fail_at(2)?;
+    assert_eq!(rt; sink.put(b"ab"), Put::Took(2));
+    assert!(rt; !sink.hand_on());
+    assert_eq!(rt; sink.handed().len(), 0);
+    assert!(rt; sink.hand_on());
+    assert_eq!(rt; sink.handed(), b"ab".as_slice());
+    Ok(())
+}

@@ -1,0 +1,13 @@
+-- A sink in memory that gathers.
+use Rattle.std.specs.Prelude.{ℕ, List, take}
+use Rattle.et_io.specs.Calls.{Calls}
+
+-- the bytes taken so far, how many of them were handed on, and the calls
+pub record GatheringSinkInMemory : Type 0 where
+  pub taken : List ℕ
+  pub count_handed : ℕ
+  pub calls : Calls
+
+-- the bytes handed on so far
+abbrev pub handed_bytes : GatheringSinkInMemory → List ℕ
+handed_bytes sink = take sink.count_handed sink.taken

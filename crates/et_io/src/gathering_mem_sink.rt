@@ -1,0 +1,120 @@
+//! A sink in memory that gathers.
+ghost use Rattle.std.specs.Prelude.{◌≡◌, ◌<◌, ◌≤◌, ◌^◌, ◌↔◌, [], ◌∷◌, length, Some, IsTrue, OnOk, OnErr, true, not};
+ghost use Rattle.std.specs.Ordering.{nat_cmp};
+ghost use Rattle.std.specs.BTreeSet.{insert_key};
+ghost use Rattle.et_io.specs.Calls.{next_fails, after_call};
+ghost use Rattle.et_io.specs.Faults.{count_after};
+ghost use Rattle.et_io.specs.GatheringMemSink.{handed_bytes};
+ghost use Rattle.et_io.specs.MemSink.{TakesMost};
+ghost use Rattle.et_io.specs.Sink.{Takes, is_put_failed};
+
+use crate::calls::CallBook;
+use crate::gathering::GatheringSink;
+use crate::sink::{Put, Sink};
+use et_base::NoMemory;
+use std::alloc::Global;
+use std::marker::Model;
+
+/// A sink that keeps what it takes, knows how much of it was handed on, and fails at the calls that it was told to fail
+/// at: puts and handings on, numbered together. A put takes its whole piece, and a handing on that fails hands on
+/// nothing. It tells all.
+#[derive(Drop)]
+pub struct GatheringMemSink {
+    taken: Vec<u8>,
+    count_handed: usize,
+    calls: CallBook,
+}
+
+impl Model for GatheringMemSink {
+    ghost use Rattle.std.specs.Prelude.{◌≤◌, length};
+    ghost use Rattle.et_io.specs.GatheringMemSink.{GatheringSinkInMemory};
+
+    ghost Value = { GatheringSinkInMemory };
+
+    ghost view = { λ s.
+        record { taken = s.taken.items; count_handed = s.count_handed; calls = s.calls } };
+
+    ghost invariant = { λ s. s.count_handed ≤ length s.taken.items };
+}
+
+impl GatheringMemSink {
+    /// A sink that took nothing and handed on nothing, and has no call made, none to fail and no faults.
+    pub fn begin(alloc: Global) -> GatheringMemSink
+        ensures { result ≡ record {
+          taken = [];
+          count_handed = 0;
+          calls = record { made = 0; failing = []; faults = 0 };
+        } }
+    {
+        GatheringMemSink {
+            taken: Vec::new(alloc),
+            count_handed: 0,
+            calls: CallBook::begin(alloc),
+        }
+    }
+
+    /// Lets the call of this number fail; the first is 1. After `NoMemory` all is as before.
+    pub fn fail_at(&mut self, call: u64) -> Result<(), NoMemory>
+        requires { call < 2 ^ 63 }
+        ensures ok { OnOk result (self.new ≡ record self.old {
+          calls = record self.old.calls
+              { failing = insert_key nat_cmp self.old.calls.failing call };
+        }) }
+        ensures err { OnErr result (self.new ≡ self.old) }
+    {
+        self.calls.fail_at(call)
+    }
+
+    /// The bytes handed on so far.
+    pub fn handed(&self) -> &[u8]
+        ensures { result.now ≡ handed_bytes self.now }
+    {
+        &self.taken[..self.count_handed]
+    }
+}
+
+impl Sink for GatheringMemSink {
+    ghost taken = { λ s. Some s.taken };
+
+    ghost faults = { λ s. s.calls.faults };
+
+    /// Takes the whole piece, and hands on nothing. Fails exactly at the calls that are to fail.
+    fn put(&mut self, piece: &[u8]) -> Put
+        ensures takes { Takes result (Some self.old.taken) (Some self.new.taken) piece.now }
+        ensures failed { self.new.calls.faults
+            ≡ count_after (is_put_failed result) self.old.calls.faults }
+        ensures never_falls { self.old.calls.faults ≤ self.new.calls.faults }
+        ensures fails { (result ≡ Put.Failed) ↔ IsTrue (next_fails self.old.calls) }
+        ensures takes_all { TakesMost result piece.now (length piece.now) }
+        ensures calls { self.new.calls ≡ after_call self.old.calls }
+        ensures gathers { handed_bytes self.new ≡ handed_bytes self.old }
+    {
+        if self.calls.next_call() {
+            return Put::Failed;
+        }
+        match self.taken.extend_from_slice(piece) {
+            Ok(()) => Put::Took(piece.len()),
+            Err(_) => Put::NoMemory,
+        }
+    }
+}
+
+impl GatheringSink for GatheringMemSink {
+    ghost handed = { λ s. Some (handed_bytes s) };
+
+    /// Fails exactly at the calls that are to fail, and hands on nothing then.
+    fn hand_on(&mut self) -> bool
+        ensures taken { Some self.new.taken ≡ Some self.old.taken }
+        ensures handed { result ≡ true → Some (handed_bytes self.new) ≡ Some self.new.taken }
+        ensures faults { self.new.calls.faults ≡ count_after (not result) self.old.calls.faults }
+        ensures fails { not result ≡ next_fails self.old.calls }
+        ensures calls { self.new.calls ≡ after_call self.old.calls }
+        ensures nothing { not result ≡ true → handed_bytes self.new ≡ handed_bytes self.old }
+    {
+        if self.calls.next_call() {
+            return false;
+        }
+        self.count_handed = self.taken.len();
+        true
+    }
+}
