@@ -34,25 +34,25 @@ total-push d e k (x ∷ b) p =
     let ih = total-push d e (k + 1) b p in
     subst (λ (j : ℕ). total d e k (x ∷ b ++ p ∷ []) ≡ total d e k (x ∷ b) + part (d j) e p) q (omega (arith, ih))
 
-size_on : (lines : List TraceLine) (e : ℕ) (past : List TraceLine) (line : TraceLine) → Tells line → AreFine 1 (line ∷ past) → sum_by (live_size lines e) past ≡ total (dies_before lines e) e 0 (born_by past)
+size_on : (version : ℕ) (lines : List TraceLine) (e : ℕ) (past : List TraceLine) (line : TraceLine) → Tells line → AreFine version (line ∷ past) → sum_by (live_size lines e) past ≡ total (dies_before lines e) e 0 (born_by past)
     → live_size lines e line + sum_by (live_size lines e) past ≡ total (dies_before lines e) e 0 (born_by (line ∷ past))
-size_on lines e past line (Born event thread object class size len) f ih =
+size_on version lines e past line (Born event thread object class size len) f ih =
     let g = follows past (Alloc event thread object class size len) f.2 in
     let o = both_true (is_timely past event) (eqb object (objects past + 1)) g.ordered in
     let next : object ≡ objects past + 1 = eqb-yes object (objects past + 1) o.1 in
-    let h = lives past f.0 in
+    let h = lives version past f.0 in
     let many = h.many in
     let place : 0 + length (born_by past) + 1 ≡ object = omega (arith, many, next) in
     let one : part (dies_before lines e (0 + length (born_by past) + 1)) e (event, size) ≡ part (dies_before lines e object) e (event, size) = ap (λ (k : ℕ). part (dies_before lines e k) e (event, size)) place in
     omega (arith, ih, one, total-push (dies_before lines e) e 0 (born_by past) (event, size))
-size_on lines e past line (Died object time) f ih = omega (arith, ih)
-size_on lines e past line (Other other s) f ih =
+size_on version lines e past line (Died object time) f ih = omega (arith, ih)
+size_on version lines e past line (Other other s) f ih =
     let n : live_size lines e other ≡ 0 = s.size lines e in
     subst (λ (b : Sizes). live_size lines e other + sum_by (live_size lines e) past ≡ total (dies_before lines e) e 0 b) (sym (s.born (born_by past))) (omega (arith, n, ih))
 
-size_sum : (lines : List TraceLine) (e : ℕ) (past : List TraceLine) → AreFine 1 past → sum_by (live_size lines e) past ≡ total (dies_before lines e) e 0 (born_by past)
-size_sum lines e [] f = refl
-size_sum lines e (line ∷ past) f = sum_by-cons (live_size lines e) line past ∙ size_on lines e past line (tells line) f (size_sum lines e past f.0)
+size_sum : (version : ℕ) (lines : List TraceLine) (e : ℕ) (past : List TraceLine) → AreFine version past → sum_by (live_size lines e) past ≡ total (dies_before lines e) e 0 (born_by past)
+size_sum version lines e [] f = refl
+size_sum version lines e (line ∷ past) f = sum_by-cons (live_size lines e) line past ∙ size_on version lines e past line (tells line) f (size_sum version lines e past f.0)
 
 and_false : (v : Bool) → (v && false) ≡ false
 and_false true = refl
@@ -94,21 +94,21 @@ adds d e k (p ∷ b) (x ∷ t) same f g h =
     let rest = adds d e (k + 1) b t (omega (arith, same)) (λ i lt. (let q : k + suc i + 1 ≡ k + 1 + i + 1 = omega arith in subst (λ (j : ℕ). d j ≡ ltb (at t i).0 e) q (f (suc i) (omega (arith, lt))))) (λ i. g (suc i)) (λ i lt. h (suc i) (omega (arith, lt))) in
     omega (arith, one, rest, sum_by-cons (size_below e) x t, sum_by-cons (size_below (e + 1)) p b)
 
-pub live_is : (lines : List TraceLine) (e : ℕ) → AreFine 1 (reverse lines) → e ≤ never → live lines e + sum_below e (died_by (reverse lines)) ≡ sum_below (e + 1) (born_by (reverse lines))
-live_is lines e f le =
-    let h = lives (reverse lines) f in
+pub live_is : (version : ℕ) (lines : List TraceLine) (e : ℕ) → AreFine version (reverse lines) → e ≤ never → live lines e + sum_below e (died_by (reverse lines)) ≡ sum_below (e + 1) (born_by (reverse lines))
+live_is version lines e f le =
+    let h = lives version (reverse lines) f in
     let turned = sum_by-IsPermutation (live_size lines e) lines (reverse lines) (IsPermutation-reverse lines) in
-    let sizes = size_sum lines e (reverse lines) f in
+    let sizes = size_sum version lines e (reverse lines) f in
     let sums = adds (dies_before lines e) e 0 (born_by (reverse lines)) (died_by (reverse lines)) h.as_many
     (λ i lt. list_any-IsPermutation (tells_before e (0 + i + 1)) lines (reverse lines) (IsPermutation-reverse lines) ∙ (let q : 0 + i + 1 - 1 ≡ i = omega arith in sym (subst (λ (j : ℕ). ltb (at (died_by (reverse lines)) j).0 e ≡ dies_before (reverse lines) e (0 + i + 1)) q (h.times e (0 + i + 1) le (omega arith)))))
     h.sizes h.after in
     omega (arith, turned, sizes, sums)
 
-pub born_small : (lines : List TraceLine) → AreFine 1 (reverse lines) → sum_by (λ (p : ℕ × ℕ). p.1) (born_by (reverse lines)) ≤ 2 ^ 54
-born_small lines f = let h = lives (reverse lines) f in sum_small (born_by (reverse lines)) h.few h.small
+pub born_small : (version : ℕ) (lines : List TraceLine) → AreFine version (reverse lines) → sum_by (λ (p : ℕ × ℕ). p.1) (born_by (reverse lines)) ≤ 2 ^ 54
+born_small version lines f = let h = lives version (reverse lines) f in sum_small (born_by (reverse lines)) h.few h.small
 
-pub died_small : (lines : List TraceLine) → AreFine 1 (reverse lines) → sum_by (λ (p : ℕ × ℕ). p.1) (died_by (reverse lines)) ≤ 2 ^ 54
-died_small lines f =
-    let h = lives (reverse lines) f in
+pub died_small : (version : ℕ) (lines : List TraceLine) → AreFine version (reverse lines) → sum_by (λ (p : ℕ × ℕ). p.1) (died_by (reverse lines)) ≤ 2 ^ 54
+died_small version lines f =
+    let h = lives version (reverse lines) f in
     let few : length (died_by (reverse lines)) < 2 ^ 24 = (let a = h.as_many in let b = h.few in omega (arith, a, b)) in
     sum_small (died_by (reverse lines)) few (λ i. (let s = h.sizes i in let b = h.small i in omega (arith, s, b)))

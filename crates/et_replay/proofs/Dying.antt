@@ -62,29 +62,29 @@ told_died past object time e d low lt once h o ge = elim (cases_eqb object o) [
       ap (λ (x : ℕ × ℕ). eqb x.0 e) (set_there d (object - 1) (o - 1) time apart) ∙ (h o ge ∙ sym other)
 ]
 
-told_on : (past : List TraceLine) (line : TraceLine) (e : ℕ) → AreFine 1 (line ∷ past) → IsTold past (died_by past) e → IsTold (line ∷ past) (died_by (line ∷ past)) e
-told_on past (Header v n) e f h = h
-told_on past (Class number name) e f h = h
-told_on past (Method number class name descriptor) e f h = h
-told_on past (Alloc event thread object class size len) e f h = λ o ge. ap (λ (t : ℕ). eqb t e) (times_push (died_by past) size (o - 1)) ∙ h o ge
-told_on past (Update event thread object slot old new) e f h = h
-told_on past (Enter event thread method receiver) e f h = h
-told_on past (Exit event thread method) e f h = h
-told_on past (Unwind event thread method exception) e f h = h
-told_on past (Flush event deaths) e f h = h
-told_on past (Death object time) e f h =
+told_on : (version : ℕ) (past : List TraceLine) (line : TraceLine) (e : ℕ) → AreFine version (line ∷ past) → IsTold past (died_by past) e → IsTold (line ∷ past) (died_by (line ∷ past)) e
+told_on version past (Header v n) e f h = h
+told_on version past (Class number name) e f h = h
+told_on version past (Method number class name descriptor) e f h = h
+told_on version past (Alloc event thread object class size len) e f h = λ o ge. ap (λ (t : ℕ). eqb t e) (times_push (died_by past) size (o - 1)) ∙ h o ge
+told_on version past (Update event thread object slot old new) e f h = h
+told_on version past (Enter event thread method receiver) e f h = h
+told_on version past (Exit event thread method) e f h = h
+told_on version past (Unwind event thread method exception) e f h = h
+told_on version past (Flush event deaths) e f h = h
+told_on version past (Death object time) e f h =
     let g = follows past (Death object time) f.2 in
-    let l = lives past f.0 in
+    let l = lives version past f.0 in
     let known : object ≤ objects past = leb-yes object (objects past) g.known in
     let many = l.many in
     let as_many = l.as_many in
     let low : 1 ≤ object = (let r = f.1 in omega arith) in
     told_died past object time e (died_by past) low (omega (arith, known, many, as_many, low)) (not_true (is_reported past object) g.new) h
-told_on past (Finish event how) e f h = h
+told_on version past (Finish event how) e f h = h
 
-told : (past : List TraceLine) (e : ℕ) → e ≢ never → AreFine 1 past → IsTold past (died_by past) e
-told [] e ne f = λ o ge. (let n : eqb never e ≡ false = grind (arith, nat_tests) in n)
-told (line ∷ past) e ne f = told_on past line e f (told past e ne f.0)
+told : (version : ℕ) (past : List TraceLine) (e : ℕ) → e ≢ never → AreFine version past → IsTold past (died_by past) e
+told version [] e ne f = λ o ge. (let n : eqb never e ≡ false = grind (arith, nat_tests) in n)
+told version (line ∷ past) e ne f = told_on version past line e f (told version past e ne f.0)
 
 -- THE DEATHS OF A TIME
 
@@ -141,11 +141,11 @@ by_none lines past line e xs n ih = by_line lines past line e ∙ (let empty : f
 one_death : (lines : List TraceLine) (e event thread object class size len : ℕ) → filter_map (death_at lines e) (Alloc event thread object class size len ∷ []) ≡ here (dies_at lines e) e object
 one_death lines e event thread object class size len = elim (dies_at lines e object) as (λ v. filter_map (λ (u : TraceLine). cond v (Some (items.Death object e)) None) (Alloc event thread object class size len ∷ []) ≡ cond v (items.Death object e ∷ []) []) [ true ↦ refl | false ↦ refl ]
 
-deaths_on : (lines past : List TraceLine) (line : TraceLine) (e : ℕ) → AreFine 1 (line ∷ past) → filter_map (death_at lines e) (reverse past) ≡ dying (dies_at lines e) e 0 (objects past) → filter_map (death_at lines e) (reverse (line ∷ past)) ≡ dying (dies_at lines e) e 0 (objects (line ∷ past))
-deaths_on lines past (Header v n) e f ih = by_none lines past (Header v n) e _ refl ih
-deaths_on lines past (Class number name) e f ih = by_none lines past (Class number name) e _ refl ih
-deaths_on lines past (Method number class name descriptor) e f ih = by_none lines past (Method number class name descriptor) e _ refl ih
-deaths_on lines past (Alloc event thread object class size len) e f ih =
+deaths_on : (version : ℕ) (lines past : List TraceLine) (line : TraceLine) (e : ℕ) → AreFine version (line ∷ past) → filter_map (death_at lines e) (reverse past) ≡ dying (dies_at lines e) e 0 (objects past) → filter_map (death_at lines e) (reverse (line ∷ past)) ≡ dying (dies_at lines e) e 0 (objects (line ∷ past))
+deaths_on version lines past (Header v n) e f ih = by_none lines past (Header v n) e _ refl ih
+deaths_on version lines past (Class number name) e f ih = by_none lines past (Class number name) e _ refl ih
+deaths_on version lines past (Method number class name descriptor) e f ih = by_none lines past (Method number class name descriptor) e _ refl ih
+deaths_on version lines past (Alloc event thread object class size len) e f ih =
     let g = follows past (Alloc event thread object class size len) f.2 in
     let o = both_true (is_timely past event) (eqb object (objects past + 1)) g.ordered in
     let next : object ≡ 0 + objects past + 1 = (let n = eqb-yes object (objects past + 1) o.1 in omega arith) in
@@ -154,27 +154,27 @@ deaths_on lines past (Alloc event thread object class size len) e f ih =
     ∙ (ap (λ (t : List Item). t ++ filter_map (death_at lines e) (Alloc event thread object class size len ∷ [])) ih
     ∙ (ap (λ (t : List Item). dying (dies_at lines e) e 0 (objects past) ++ t) (one_death lines e event thread object class size len ∙ ap (λ (j : ℕ). here (dies_at lines e) e j) next)
     ∙ (sym (dying-push (dies_at lines e) e 0 (objects past)) ∙ ap (λ (n : ℕ). dying (dies_at lines e) e 0 n) many)))
-deaths_on lines past (Update event thread object slot old new) e f ih = by_none lines past (Update event thread object slot old new) e _ refl ih
-deaths_on lines past (Enter event thread method receiver) e f ih = by_none lines past (Enter event thread method receiver) e _ refl ih
-deaths_on lines past (Exit event thread method) e f ih = by_none lines past (Exit event thread method) e _ refl ih
-deaths_on lines past (Unwind event thread method exception) e f ih = by_none lines past (Unwind event thread method exception) e _ refl ih
-deaths_on lines past (Flush event deaths) e f ih = by_none lines past (Flush event deaths) e _ refl ih
-deaths_on lines past (Death object time) e f ih = by_none lines past (Death object time) e _ refl ih
-deaths_on lines past (Finish event how) e f ih = by_none lines past (Finish event how) e _ refl ih
+deaths_on version lines past (Update event thread object slot old new) e f ih = by_none lines past (Update event thread object slot old new) e _ refl ih
+deaths_on version lines past (Enter event thread method receiver) e f ih = by_none lines past (Enter event thread method receiver) e _ refl ih
+deaths_on version lines past (Exit event thread method) e f ih = by_none lines past (Exit event thread method) e _ refl ih
+deaths_on version lines past (Unwind event thread method exception) e f ih = by_none lines past (Unwind event thread method exception) e _ refl ih
+deaths_on version lines past (Flush event deaths) e f ih = by_none lines past (Flush event deaths) e _ refl ih
+deaths_on version lines past (Death object time) e f ih = by_none lines past (Death object time) e _ refl ih
+deaths_on version lines past (Finish event how) e f ih = by_none lines past (Finish event how) e _ refl ih
 
-deaths_are : (lines past : List TraceLine) (e : ℕ) → AreFine 1 past → filter_map (death_at lines e) (reverse past) ≡ dying (dies_at lines e) e 0 (objects past)
-deaths_are lines [] e f = refl
-deaths_are lines (line ∷ past) e f = deaths_on lines past line e f (deaths_are lines past e f.0)
+deaths_are : (version : ℕ) (lines past : List TraceLine) (e : ℕ) → AreFine version past → filter_map (death_at lines e) (reverse past) ≡ dying (dies_at lines e) e 0 (objects past)
+deaths_are version lines [] e f = refl
+deaths_are version lines (line ∷ past) e f = deaths_on version lines past line e f (deaths_are version lines past e f.0)
 
 -- the deaths of a time are those that the lines tell
-pub deaths_told : (lines : List TraceLine) (e : ℕ) → AreFine 1 (reverse lines) → e ≢ never → equal item_event (2 * e + 1) (deaths_from 0 (died_by (reverse lines))) ≡ filter_map (death_at lines e) lines
-deaths_told lines e f ne =
-    let l = lives (reverse lines) f in
+pub deaths_told : (version : ℕ) (lines : List TraceLine) (e : ℕ) → AreFine version (reverse lines) → e ≢ never → equal item_event (2 * e + 1) (deaths_from 0 (died_by (reverse lines))) ≡ filter_map (death_at lines e) lines
+deaths_told version lines e f ne =
+    let l = lives version (reverse lines) f in
     let many = l.many in
     let as_many = l.as_many in
     let count : length (died_by (reverse lines)) ≡ objects (reverse lines) = omega (arith, many, as_many) in
-    let tests = told (reverse lines) e ne f in
+    let tests = told version (reverse lines) e ne f in
     equal_deaths (dies_at lines e) e 0 (died_by (reverse lines)) ne
     (λ i lt. (let z : 0 + i + 1 - 1 ≡ i = omega arith in subst (λ (j : ℕ). eqb (at (died_by (reverse lines)) j).0 e ≡ dies_at (reverse lines) e (0 + i + 1)) z (tests (0 + i + 1) (omega arith))) ∙ sym (list_any-IsPermutation (tells_at e (0 + i + 1)) lines (reverse lines) (IsPermutation-reverse lines)))
     ∙ (ap (λ (n : ℕ). dying (dies_at lines e) e 0 n) count
-    ∙ (sym (deaths_are lines (reverse lines) e f) ∙ ap (λ (t : List TraceLine). filter_map (death_at lines e) t) (reverse-reverse lines)))
+    ∙ (sym (deaths_are version lines (reverse lines) e f) ∙ ap (λ (t : List TraceLine). filter_map (death_at lines e) t) (reverse-reverse lines)))

@@ -244,20 +244,20 @@ leb-yes a b e = grind (arith, nat_tests)
 pub eqb-yes : (a b : ℕ) → eqb a b ≡ true → a ≡ b
 eqb-yes a b e = grind (arith, nat_tests)
 
-lives_on : (past : List TraceLine) (line : TraceLine) → Tells line → AreFine 1 (line ∷ past) → AreLives past (born_by past) (died_by past) → AreLives (line ∷ past) (born_by (line ∷ past)) (died_by (line ∷ past))
-lives_on past line (Born event thread object class size len) f h =
+lives_on : (version : ℕ) (past : List TraceLine) (line : TraceLine) → Tells line → AreFine version (line ∷ past) → AreLives past (born_by past) (died_by past) → AreLives (line ∷ past) (born_by (line ∷ past)) (died_by (line ∷ past))
+lives_on version past line (Born event thread object class size len) f h =
     let g = follows past (Alloc event thread object class size len) f.2 in
     let o = both_true (is_timely past event) (eqb object (objects past + 1)) g.ordered in
     lives_born past event thread object class size len (born_by past) (died_by past) (eqb-yes object (objects past + 1) o.1) (let r = f.1 in omega arith) (let r = f.1 in omega arith) (let r = f.1 in omega arith) h
-lives_on past line (Died object time) f h =
+lives_on version past line (Died object time) f h =
     let g = follows past (Death object time) f.2 in
     lives_died past object time (born_by past) (died_by past) (let r = f.1 in omega arith) (leb-yes object (objects past) g.known) (leb-yes (birth past object) time g.lives) (not_true (is_reported past object) g.new) h
-lives_on past line (Other other s) f h =
+lives_on version past line (Other other s) f h =
     subst (λ (b : Sizes). AreLives (other ∷ past) b (died_by (other ∷ past))) (sym (s.born (born_by past)))
     (subst (λ (d : Sizes). AreLives (other ∷ past) (born_by past) d) (sym (s.died (died_by past))) (lives_other past other (born_by past) (died_by past) s h))
 
-pub lives : (past : List TraceLine) → AreFine 1 past → AreLives past (born_by past) (died_by past)
-lives [] f = record {
+pub lives : (version : ℕ) (past : List TraceLine) → AreFine version past → AreLives past (born_by past) (died_by past)
+lives version [] f = record {
   many = refl;
   as_many = refl;
   births_are = λ i lt. absurd (omega (arith, lt));
@@ -267,4 +267,4 @@ lives [] f = record {
   small = λ i. omega arith;
   few = omega arith;
 }
-lives (line ∷ past) f = lives_on past line (tells line) f (lives past f.0)
+lives version (line ∷ past) f = lives_on version past line (tells line) f (lives version past f.0)

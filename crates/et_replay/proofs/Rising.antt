@@ -44,18 +44,18 @@ pub data Moves (past : List TraceLine) (line : TraceLine) : Type 0 where
   Happens : (e : ℕ) → happens_at line ≡ Some e → latest (line ∷ past) ≡ e → latest past ≤ e → e ≤ 2 ^ 40 → Moves past line
   Rests : happens_at line ≡ None → latest past ≤ latest (line ∷ past) → Moves past line
 
-pub moves : (past : List TraceLine) (line : TraceLine) → AreFine 1 (line ∷ past) → Moves past line
-moves past (Header v n) f = Rests refl (omega arith)
-moves past (Class number name) f = Rests refl (omega arith)
-moves past (Method number class name descriptor) f = Rests refl (omega arith)
-moves past (Alloc event thread object class size len) f = Happens event refl refl (timely past event (both_true (is_timely past event) (eqb object (objects past + 1)) (follows past (Alloc event thread object class size len) f.2).ordered).0) (let r = f.1 in omega arith)
-moves past (Update event thread object slot old new) f = Happens event refl refl (timely past event (follows past (Update event thread object slot old new) f.2).ordered) (let r = f.1 in omega arith)
-moves past (Enter event thread method receiver) f = Happens event refl refl (timely past event (follows past (Enter event thread method receiver) f.2).ordered) (let r = f.1 in omega arith)
-moves past (Exit event thread method) f = Happens event refl refl (timely past event (follows past (Exit event thread method) f.2).ordered) (let r = f.1 in omega arith)
-moves past (Unwind event thread method exception) f = Happens event refl refl (timely past event (follows past (Unwind event thread method exception) f.2).ordered) (let r = f.1 in omega arith)
-moves past (Flush event deaths) f = Rests refl (timely past event (follows past (Flush event deaths) f.2).ordered)
-moves past (Death object time) f = Rests refl (omega arith)
-moves past (Finish event how) f = Rests refl (omega arith)
+pub moves : (version : ℕ) (past : List TraceLine) (line : TraceLine) → AreFine version (line ∷ past) → Moves past line
+moves version past (Header v n) f = Rests refl (omega arith)
+moves version past (Class number name) f = Rests refl (omega arith)
+moves version past (Method number class name descriptor) f = Rests refl (omega arith)
+moves version past (Alloc event thread object class size len) f = Happens event refl refl (timely past event (both_true (is_timely past event) (eqb object (objects past + 1)) (follows past (Alloc event thread object class size len) f.2).ordered).0) (let r = f.1 in omega arith)
+moves version past (Update event thread object slot old new) f = Happens event refl refl (timely past event (follows past (Update event thread object slot old new) f.2).ordered) (let r = f.1 in omega arith)
+moves version past (Enter event thread method receiver) f = Happens event refl refl (timely past event (follows past (Enter event thread method receiver) f.2).ordered) (let r = f.1 in omega arith)
+moves version past (Exit event thread method) f = Happens event refl refl (timely past event (follows past (Exit event thread method) f.2).ordered) (let r = f.1 in omega arith)
+moves version past (Unwind event thread method exception) f = Happens event refl refl (timely past event (follows past (Unwind event thread method exception) f.2).ordered) (let r = f.1 in omega arith)
+moves version past (Flush event deaths) f = Rests refl (timely past event (follows past (Flush event deaths) f.2).ordered)
+moves version past (Death object time) f = Rests refl (omega arith)
+moves version past (Finish event how) f = Rests refl (omega arith)
 
 abbrev events : List TraceLine → List ℕ
 events past = filter_map happens_at (reverse past)
@@ -88,21 +88,21 @@ rise_on past line (Happens e h l le fits) r =
 rise_on past line (Rests h le) r =
     subst (λ (t : List ℕ). RiseTo t (latest (line ∷ past))) (sym (no_more past line h)) (record { sorted = r.sorted; last = λ d lt. (let l = r.last d lt in omega (arith, l, le)); low = r.low })
 
-rise : (past : List TraceLine) → AreFine 1 past → RiseTo (events past) (latest past)
-rise [] f = record { sorted = λ k d low lt. absurd (omega (arith, lt)); last = λ d lt. absurd (omega (arith, lt)); low = λ k d lt. absurd (omega (arith, lt)) }
-rise (line ∷ past) f = rise_on past line (moves past line f) (rise past f.0)
+rise : (version : ℕ) (past : List TraceLine) → AreFine version past → RiseTo (events past) (latest past)
+rise version [] f = record { sorted = λ k d low lt. absurd (omega (arith, lt)); last = λ d lt. absurd (omega (arith, lt)); low = λ k d lt. absurd (omega (arith, lt)) }
+rise version (line ∷ past) f = rise_on past line (moves version past line f) (rise version past f.0)
 
 -- the events of the curve are low
-pub events_low : (lines : List TraceLine) → AreFine 1 (reverse lines) → All (λ (x : ℕ). x ≤ 2 ^ 40) (curve_events lines)
-events_low lines f =
-    let r = rise (reverse lines) f in
+pub events_low : (version : ℕ) (lines : List TraceLine) → AreFine version (reverse lines) → All (λ (x : ℕ). x ≤ 2 ^ 40) (curve_events lines)
+events_low version lines f =
+    let r = rise version (reverse lines) f in
     let same : events (reverse lines) ≡ filter_map happens_at lines = ap (λ (t : List TraceLine). filter_map happens_at t) (reverse-reverse lines) in
     All-dedup eqb (λ (x : ℕ). x ≤ 2 ^ 40) (filter_map happens_at lines) (subst (λ (t : List ℕ). All (λ (x : ℕ). x ≤ 2 ^ 40) t) same r.low)
 
 -- .. and rise
-pub events_rise : (lines : List TraceLine) → AreFine 1 (reverse lines) → AllPairs (λ (x y : ℕ). x < y) (curve_events lines)
-events_rise lines f =
-    let r = rise (reverse lines) f in
+pub events_rise : (version : ℕ) (lines : List TraceLine) → AreFine version (reverse lines) → AllPairs (λ (x y : ℕ). x < y) (curve_events lines)
+events_rise version lines f =
+    let r = rise version (reverse lines) f in
     let same : events (reverse lines) ≡ filter_map happens_at lines = ap (λ (t : List TraceLine). filter_map happens_at t) (reverse-reverse lines) in
     AllPairs-from_increasing (curve_events lines) (IsStrictlyIncreasing-dedup (filter_map happens_at lines) (subst (λ (t : List ℕ). IsSorted nat_cmp t) same r.sorted))
 

@@ -123,8 +123,8 @@ gives past (Flush event deaths) = GivesNone refl
 gives past (Death object time) = GivesNone refl
 gives past (Finish event how) = GivesNone refl
 
-pub grows : (past : List TraceLine) (line : TraceLine) → AreFine 1 (line ∷ past) → latest past ≤ latest (line ∷ past)
-grows past line f = elim (moves past line f) [
+pub grows : (version : ℕ) (past : List TraceLine) (line : TraceLine) → AreFine version (line ∷ past) → latest past ≤ latest (line ∷ past)
+grows version past line f = elim (moves version past line f) [
   | Happens e h l le fits ↦ omega (arith, l, le)
   | Rests h le ↦ le
 ]
@@ -151,25 +151,25 @@ timed_on past line le (GivesNone h) t =
     let is : happening (line ∷ past) ≡ xs = more_happening past line ∙ (ap (λ (t : List Item). xs ++ t) (rw h refl) ∙ append-nil xs) in
     subst (λ (t : List Item). AreTimed t (latest (line ∷ past))) (sym is) (record { sorted = t.sorted; low = λ k d lt. (let l = low k d lt in omega (arith, l, le)) })
 
-timed : (past : List TraceLine) → AreFine 1 past → AreTimed (happening past) (latest past)
-timed [] f = record { sorted = λ i j d le lt. absurd (omega (arith, lt)); low = λ k d lt. absurd (omega (arith, lt)) }
-timed (line ∷ past) f = timed_on past line (grows past line f) (gives past line) (timed past f.0)
+timed : (version : ℕ) (past : List TraceLine) → AreFine version past → AreTimed (happening past) (latest past)
+timed version [] f = record { sorted = λ i j d le lt. absurd (omega (arith, lt)); low = λ k d lt. absurd (omega (arith, lt)) }
+timed version (line ∷ past) f = timed_on past line (grows version past line f) (gives past line) (timed version past f.0)
 
 -- TIMES ARE LOW
 
-flushed_low : (past : List TraceLine) → AreFine 1 past → unwrap_or (newest_flush past) 0 ≤ latest past
-flushed_low [] f = omega arith
-flushed_low (Header v n ∷ past) f = flushed_low past f.0
-flushed_low (Class number name ∷ past) f = flushed_low past f.0
-flushed_low (Method number class name descriptor ∷ past) f = flushed_low past f.0
-flushed_low (Alloc event thread object class size len ∷ past) f = let le = grows past (Alloc event thread object class size len) f in let ih = flushed_low past f.0 in omega (arith, le, ih)
-flushed_low (Update event thread object slot old new ∷ past) f = let le = grows past (Update event thread object slot old new) f in let ih = flushed_low past f.0 in omega (arith, le, ih)
-flushed_low (Enter event thread method receiver ∷ past) f = let le = grows past (Enter event thread method receiver) f in let ih = flushed_low past f.0 in omega (arith, le, ih)
-flushed_low (Exit event thread method ∷ past) f = let le = grows past (Exit event thread method) f in let ih = flushed_low past f.0 in omega (arith, le, ih)
-flushed_low (Unwind event thread method exception ∷ past) f = let le = grows past (Unwind event thread method exception) f in let ih = flushed_low past f.0 in omega (arith, le, ih)
-flushed_low (Flush event deaths ∷ past) f = omega arith
-flushed_low (Death object time ∷ past) f = flushed_low past f.0
-flushed_low (Finish event how ∷ past) f = flushed_low past f.0
+flushed_low : (version : ℕ) (past : List TraceLine) → AreFine version past → unwrap_or (newest_flush past) 0 ≤ latest past
+flushed_low version [] f = omega arith
+flushed_low version (Header v n ∷ past) f = flushed_low version past f.0
+flushed_low version (Class number name ∷ past) f = flushed_low version past f.0
+flushed_low version (Method number class name descriptor ∷ past) f = flushed_low version past f.0
+flushed_low version (Alloc event thread object class size len ∷ past) f = let le = grows version past (Alloc event thread object class size len) f in let ih = flushed_low version past f.0 in omega (arith, le, ih)
+flushed_low version (Update event thread object slot old new ∷ past) f = let le = grows version past (Update event thread object slot old new) f in let ih = flushed_low version past f.0 in omega (arith, le, ih)
+flushed_low version (Enter event thread method receiver ∷ past) f = let le = grows version past (Enter event thread method receiver) f in let ih = flushed_low version past f.0 in omega (arith, le, ih)
+flushed_low version (Exit event thread method ∷ past) f = let le = grows version past (Exit event thread method) f in let ih = flushed_low version past f.0 in omega (arith, le, ih)
+flushed_low version (Unwind event thread method exception ∷ past) f = let le = grows version past (Unwind event thread method exception) f in let ih = flushed_low version past f.0 in omega (arith, le, ih)
+flushed_low version (Flush event deaths ∷ past) f = omega arith
+flushed_low version (Death object time ∷ past) f = flushed_low version past f.0
+flushed_low version (Finish event how ∷ past) f = flushed_low version past f.0
 
 last_true : (a b c : Bool) → (a && b && c) ≡ true → c ≡ true
 last_true true true c e = e
@@ -183,24 +183,24 @@ IsLow most p = p.0 ≢ never → p.0 ≤ most
 low_on : (most most' : ℕ) (d : Sizes) → most ≤ most' → All (IsLow most) d → All (IsLow most') d
 low_on most most' d le h k e lt ne = let l = h k e lt ne in omega (arith, l, le)
 
-times_low : (past : List TraceLine) → AreFine 1 past → All (IsLow (latest past)) (died_by past)
-times_low [] f = λ k e lt. absurd (omega (arith, lt))
-times_low (Header v n ∷ past) f = times_low past f.0
-times_low (Class number name ∷ past) f = times_low past f.0
-times_low (Method number class name descriptor ∷ past) f = times_low past f.0
-times_low (Alloc event thread object class size len ∷ past) f = All-push (IsLow event) (died_by past) (never, size) (low_on (latest past) event (died_by past) (grows past (Alloc event thread object class size len) f) (times_low past f.0)) (λ ne. absurd (ne refl))
-times_low (Update event thread object slot old new ∷ past) f = low_on (latest past) event (died_by past) (grows past (Update event thread object slot old new) f) (times_low past f.0)
-times_low (Enter event thread method receiver ∷ past) f = low_on (latest past) event (died_by past) (grows past (Enter event thread method receiver) f) (times_low past f.0)
-times_low (Exit event thread method ∷ past) f = low_on (latest past) event (died_by past) (grows past (Exit event thread method) f) (times_low past f.0)
-times_low (Unwind event thread method exception ∷ past) f = low_on (latest past) event (died_by past) (grows past (Unwind event thread method exception) f) (times_low past f.0)
-times_low (Flush event deaths ∷ past) f = low_on (latest past) event (died_by past) (grows past (Flush event deaths) f) (times_low past f.0)
-times_low (Death object time ∷ past) f =
+times_low : (version : ℕ) (past : List TraceLine) → AreFine version past → All (IsLow (latest past)) (died_by past)
+times_low version [] f = λ k e lt. absurd (omega (arith, lt))
+times_low version (Header v n ∷ past) f = times_low version past f.0
+times_low version (Class number name ∷ past) f = times_low version past f.0
+times_low version (Method number class name descriptor ∷ past) f = times_low version past f.0
+times_low version (Alloc event thread object class size len ∷ past) f = All-push (IsLow event) (died_by past) (never, size) (low_on (latest past) event (died_by past) (grows version past (Alloc event thread object class size len) f) (times_low version past f.0)) (λ ne. absurd (ne refl))
+times_low version (Update event thread object slot old new ∷ past) f = low_on (latest past) event (died_by past) (grows version past (Update event thread object slot old new) f) (times_low version past f.0)
+times_low version (Enter event thread method receiver ∷ past) f = low_on (latest past) event (died_by past) (grows version past (Enter event thread method receiver) f) (times_low version past f.0)
+times_low version (Exit event thread method ∷ past) f = low_on (latest past) event (died_by past) (grows version past (Exit event thread method) f) (times_low version past f.0)
+times_low version (Unwind event thread method exception ∷ past) f = low_on (latest past) event (died_by past) (grows version past (Unwind event thread method exception) f) (times_low version past f.0)
+times_low version (Flush event deaths ∷ past) f = low_on (latest past) event (died_by past) (grows version past (Flush event deaths) f) (times_low version past f.0)
+times_low version (Death object time ∷ past) f =
     let g = follows past (Death object time) f.2 in
     let c = last_true (ltb 0 (awaited past)) (ltb (last_dead past) object) (leb time (unwrap_or (newest_flush past) 0)) g.ordered in
     let a = leb-yes time (unwrap_or (newest_flush past) 0) c in
-    let b = flushed_low past f.0 in
-    All-set (IsLow (latest past)) (died_by past) (object - 1) (time, (get_or (died_by past) (object - 1) no_size).1) (λ ne. omega (arith, a, b)) (times_low past f.0)
-times_low (Finish event how ∷ past) f = times_low past f.0
+    let b = flushed_low version past f.0 in
+    All-set (IsLow (latest past)) (died_by past) (object - 1) (time, (get_or (died_by past) (object - 1) no_size).1) (λ ne. omega (arith, a, b)) (times_low version past f.0)
+times_low version (Finish event how ∷ past) f = times_low version past f.0
 
 deaths_low : (most k : ℕ) (d : Sizes) → All (IsLow most) d → All (λ x. item_event x ≤ 2 * most + 1) (deaths_from k d)
 deaths_low most k [] h = λ i e lt. absurd (omega (arith, lt))
@@ -223,12 +223,12 @@ unordered lines = filter_map item_of lines ++ deaths_from 0 (died_by (reverse li
 happening_is : (lines : List TraceLine) → happening (reverse lines) ≡ filter_map item_of lines
 happening_is lines = ap (λ (t : List TraceLine). filter_map item_of t) (reverse-reverse lines)
 
-all_low : (lines : List TraceLine) → AreFine 1 (reverse lines) → All (λ x. item_event x < 2 * suc (latest (reverse lines))) (unordered lines)
-all_low lines f =
+all_low : (version : ℕ) (lines : List TraceLine) → AreFine version (reverse lines) → All (λ x. item_event x < 2 * suc (latest (reverse lines))) (unordered lines)
+all_low version lines f =
     let most = latest (reverse lines) in
-    let t = timed (reverse lines) f in
+    let t = timed version (reverse lines) f in
     let low = t.low in
-    let late = deaths_low most 0 (died_by (reverse lines)) (times_low (reverse lines) f) in
+    let late = deaths_low most 0 (died_by (reverse lines)) (times_low version (reverse lines) f) in
     All-append (λ x. item_event x < 2 * suc most) (filter_map item_of lines) (deaths_from 0 (died_by (reverse lines)))
     (subst (λ (xs : List Item). All (λ x. item_event x < 2 * suc most) xs) (happening_is lines) (λ k d lt. (let l = low k d lt in omega (arith, l))))
     (λ k d lt. (let l = late k d lt in omega (arith, l)))
@@ -240,11 +240,11 @@ even_part lines e =
     ∙ (ap (λ (t : List Item). t ++ equal item_event (2 * e) (deaths_from 0 (died_by (reverse lines)))) (all_at e lines)
     ∙ (ap (λ (t : List Item). filter_map (item_at e) lines ++ t) (none_even e 0 (died_by (reverse lines))) ∙ append-nil (filter_map (item_at e) lines)))
 
-odd_part : (lines : List TraceLine) (e : ℕ) → AreFine 1 (reverse lines) → e ≢ never → equal item_event (2 * e + 1) (unordered lines) ≡ filter_map (death_at lines e) lines
-odd_part lines e f ne =
+odd_part : (version : ℕ) (lines : List TraceLine) (e : ℕ) → AreFine version (reverse lines) → e ≢ never → equal item_event (2 * e + 1) (unordered lines) ≡ filter_map (death_at lines e) lines
+odd_part version lines e f ne =
     filter-append (λ x. eqb (item_event x) (2 * e + 1)) (filter_map item_of lines) (deaths_from 0 (died_by (reverse lines)))
     ∙ (ap (λ (t : List Item). t ++ equal item_event (2 * e + 1) (deaths_from 0 (died_by (reverse lines)))) (none_odd e lines)
-    ∙ deaths_told lines e f ne)
+    ∙ deaths_told version lines e f ne)
 
 -- IN ORDER OF TIME
 
@@ -253,46 +253,46 @@ pub record InOrder (lines : List TraceLine) (xs : List Item) : Type 0 where
   pub same : (m : ℕ) → equal item_event m xs ≡ equal item_event m (unordered lines)
   pub low : All (λ x. item_event x < 2 * suc (latest (reverse lines))) xs
 
-at_both : (lines : List TraceLine) (xs : List Item) (e : ℕ) → AreFine 1 (reverse lines) → e ≤ 2 ^ 40 → InOrder lines xs → below item_event (suc (suc (2 * e))) xs ≡ below item_event (2 * e) xs ++ items_at lines e
-at_both lines xs e f le o =
+at_both : (version : ℕ) (lines : List TraceLine) (xs : List Item) (e : ℕ) → AreFine version (reverse lines) → e ≤ 2 ^ 40 → InOrder lines xs → below item_event (suc (suc (2 * e))) xs ≡ below item_event (2 * e) xs ++ items_at lines e
+at_both version lines xs e f le o =
     let a : equal item_event (2 * e) xs ≡ filter_map (item_at e) lines = o.same (2 * e) ∙ even_part lines e in
     let next : suc (2 * e) ≡ 2 * e + 1 = omega arith in
     let ne : e ≢ never = omega (arith, le) in
-    let b : equal item_event (suc (2 * e)) xs ≡ filter_map (death_at lines e) lines = ap (λ (m : ℕ). equal item_event m xs) next ∙ (o.same (2 * e + 1) ∙ odd_part lines e f ne) in
+    let b : equal item_event (suc (2 * e)) xs ≡ filter_map (death_at lines e) lines = ap (λ (m : ℕ). equal item_event m xs) next ∙ (o.same (2 * e + 1) ∙ odd_part version lines e f ne) in
     below-suc item_event (suc (2 * e)) xs o.sorted
     ∙ (ap (λ (t : List Item). t ++ equal item_event (suc (2 * e)) xs) (below-suc item_event (2 * e) xs o.sorted)
     ∙ (append_assoc (below item_event (2 * e) xs) (equal item_event (2 * e) xs) (equal item_event (suc (2 * e)) xs)
     ∙ (ap (λ (t : List Item). below item_event (2 * e) xs ++ (t ++ equal item_event (suc (2 * e)) xs)) a
     ∙ ap (λ (t : List Item). below item_event (2 * e) xs ++ (filter_map (item_at e) lines ++ t)) b)))
 
-up_to : (lines : List TraceLine) (xs : List Item) (e : ℕ) → AreFine 1 (reverse lines) → e ≤ 2 ^ 40 → InOrder lines xs → below item_event (suc (suc (2 * e))) xs ≡ items_to lines e
-up_to lines xs zero f le o = at_both lines xs 0 f le o ∙ ap (λ (t : List Item). t ++ items_at lines 0) (below-zero item_event xs)
-up_to lines xs (suc e) f le o =
+up_to : (version : ℕ) (lines : List TraceLine) (xs : List Item) (e : ℕ) → AreFine version (reverse lines) → e ≤ 2 ^ 40 → InOrder lines xs → below item_event (suc (suc (2 * e))) xs ≡ items_to lines e
+up_to version lines xs zero f le o = at_both version lines xs 0 f le o ∙ ap (λ (t : List Item). t ++ items_at lines 0) (below-zero item_event xs)
+up_to version lines xs (suc e) f le o =
     let twice : 2 * suc e ≡ suc (suc (2 * e)) = omega arith in
-    at_both lines xs (suc e) f le o
+    at_both version lines xs (suc e) f le o
     ∙ (ap (λ (m : ℕ). below item_event m xs ++ items_at lines (suc e)) twice
-    ∙ ap (λ (t : List Item). t ++ items_at lines (suc e)) (up_to lines xs e f (omega (arith, le)) o))
+    ∙ ap (λ (t : List Item). t ++ items_at lines (suc e)) (up_to version lines xs e f (omega (arith, le)) o))
 
-latest_fits : (past : List TraceLine) → AreFine 1 past → latest past ≤ 2 ^ 40
-latest_fits [] f = omega arith
-latest_fits (Header v n ∷ past) f = latest_fits past f.0
-latest_fits (Class number name ∷ past) f = latest_fits past f.0
-latest_fits (Method number class name descriptor ∷ past) f = latest_fits past f.0
-latest_fits (Alloc event thread object class size len ∷ past) f = let r = f.1 in omega arith
-latest_fits (Update event thread object slot old new ∷ past) f = let r = f.1 in omega arith
-latest_fits (Enter event thread method receiver ∷ past) f = let r = f.1 in omega arith
-latest_fits (Exit event thread method ∷ past) f = let r = f.1 in omega arith
-latest_fits (Unwind event thread method exception ∷ past) f = let r = f.1 in omega arith
-latest_fits (Flush event deaths ∷ past) f = let r = f.1 in omega arith
-latest_fits (Death object time ∷ past) f = latest_fits past f.0
-latest_fits (Finish event how ∷ past) f = latest_fits past f.0
+latest_fits : (version : ℕ) (past : List TraceLine) → AreFine version past → latest past ≤ 2 ^ 40
+latest_fits version [] f = omega arith
+latest_fits version (Header v n ∷ past) f = latest_fits version past f.0
+latest_fits version (Class number name ∷ past) f = latest_fits version past f.0
+latest_fits version (Method number class name descriptor ∷ past) f = latest_fits version past f.0
+latest_fits version (Alloc event thread object class size len ∷ past) f = let r = f.1 in omega arith
+latest_fits version (Update event thread object slot old new ∷ past) f = let r = f.1 in omega arith
+latest_fits version (Enter event thread method receiver ∷ past) f = let r = f.1 in omega arith
+latest_fits version (Exit event thread method ∷ past) f = let r = f.1 in omega arith
+latest_fits version (Unwind event thread method exception ∷ past) f = let r = f.1 in omega arith
+latest_fits version (Flush event deaths ∷ past) f = let r = f.1 in omega arith
+latest_fits version (Death object time ∷ past) f = latest_fits version past f.0
+latest_fits version (Finish event how ∷ past) f = latest_fits version past f.0
 
 -- .. they are the timeline
-pub are_timeline : (lines : List TraceLine) (xs : List Item) → AreFine 1 (reverse lines) → InOrder lines xs → xs ≡ timeline_items lines
-are_timeline lines xs f o =
+pub are_timeline : (version : ℕ) (lines : List TraceLine) (xs : List Item) → AreFine version (reverse lines) → InOrder lines xs → xs ≡ timeline_items lines
+are_timeline version lines xs f o =
     let most = latest (reverse lines) in
     let twice : 2 * suc most ≡ suc (suc (2 * most)) = omega arith in
-    sym (below-all item_event (2 * suc most) xs o.low) ∙ (ap (λ (m : ℕ). below item_event m xs) twice ∙ up_to lines xs most f (latest_fits (reverse lines) f) o)
+    sym (below-all item_event (2 * suc most) xs o.low) ∙ (ap (λ (m : ℕ). below item_event m xs) twice ∙ up_to version lines xs most f (latest_fits version (reverse lines) f) o)
 
 -- what a stable sort gives
 tie_test : (a b : ℕ) → (not (is_lt (nat_cmp a b)) && not (is_lt (nat_cmp b a))) ≡ eqb b a
@@ -317,11 +317,11 @@ has_item m = elim (halves m) [
 equal_parts : (xs ys : List Item) → IsStableByKey item_event nat_cmp xs ys → (m : ℕ) → equal item_event m ys ≡ equal item_event m xs
 equal_parts xs ys s m = elim (has_item m) [ Has x e ↦ sym (by_tie ys x m e) ∙ (s x ∙ by_tie xs x m e) ]
 
-pub sort_orders : (lines : List TraceLine) (xs : List Item) → AreFine 1 (reverse lines) → IsNonDecreasingBy item_event xs → IsPermutation (unordered lines) xs → IsStableByKey item_event nat_cmp (unordered lines) xs → InOrder lines xs
-sort_orders lines xs f sorted perm stable = record {
+pub sort_orders : (version : ℕ) (lines : List TraceLine) (xs : List Item) → AreFine version (reverse lines) → IsNonDecreasingBy item_event xs → IsPermutation (unordered lines) xs → IsStableByKey item_event nat_cmp (unordered lines) xs → InOrder lines xs
+sort_orders version lines xs f sorted perm stable = record {
   sorted = sorted;
   same = equal_parts (unordered lines) xs stable;
-  low = All-permutation (λ x. item_event x < 2 * suc (latest (reverse lines))) (unordered lines) xs perm (all_low lines f);
+  low = All-permutation (λ x. item_event x < 2 * suc (latest (reverse lines))) (unordered lines) xs perm (all_low version lines f);
 }
 
 -- WHAT IS MADE
@@ -357,11 +357,11 @@ no_alloc k (q ∷ d) =
     ∙ no_alloc (k + 1) d)
 
 -- the objects that are made stand in the order of the lines
-allocs_stay : (lines : List TraceLine) (xs : List Item) → AreFine 1 (reverse lines) → InOrder lines xs → filter is_alloc xs ≡ filter is_alloc (filter_map item_of lines)
-allocs_stay lines xs f o =
+allocs_stay : (version : ℕ) (lines : List TraceLine) (xs : List Item) → AreFine version (reverse lines) → InOrder lines xs → filter is_alloc xs ≡ filter is_alloc (filter_map item_of lines)
+allocs_stay version lines xs f o =
     let ys = filter_map item_of lines in
     let ds = deaths_from 0 (died_by (reverse lines)) in
-    let t = timed (reverse lines) f in
+    let t = timed version (reverse lines) f in
     let low = subst (λ (v : List Item). All (λ x. item_event x ≤ 2 * latest (reverse lines)) v) (happening_is lines) t.low in
     same_by_key item_event is_alloc (2 * suc (latest (reverse lines))) xs ys o.sorted (subst (λ (v : List Item). IsNonDecreasingBy item_event v) (happening_is lines) t.sorted) o.low
     (λ k d lt. (let l = low k d lt in omega (arith, l)))
@@ -416,39 +416,39 @@ made_more past event thread object class size len next fits a =
       small = subst (λ (t : List ℕ). All (λ s. s ≤ 2 ^ 30) t) (sym sizes_is) (All-push (λ s. s ≤ 2 ^ 30) (sizes xs) size a.small fits);
     }
 
-made_on : (past : List TraceLine) (line : TraceLine) → AreFine 1 (line ∷ past) → AreMade past (happening past) → AreMade (line ∷ past) (happening (line ∷ past))
-made_on past (Header v n) f a = made_same past (Header v n) (record { no_made = refl; no_sizes = refl; as_many = refl }) a
-made_on past (Class number name) f a = made_same past (Class number name) (record { no_made = refl; no_sizes = refl; as_many = refl }) a
-made_on past (Method number class name descriptor) f a = made_same past (Method number class name descriptor) (record { no_made = refl; no_sizes = refl; as_many = refl }) a
-made_on past (Alloc event thread object class size len) f a =
+made_on : (version : ℕ) (past : List TraceLine) (line : TraceLine) → AreFine version (line ∷ past) → AreMade past (happening past) → AreMade (line ∷ past) (happening (line ∷ past))
+made_on version past (Header v n) f a = made_same past (Header v n) (record { no_made = refl; no_sizes = refl; as_many = refl }) a
+made_on version past (Class number name) f a = made_same past (Class number name) (record { no_made = refl; no_sizes = refl; as_many = refl }) a
+made_on version past (Method number class name descriptor) f a = made_same past (Method number class name descriptor) (record { no_made = refl; no_sizes = refl; as_many = refl }) a
+made_on version past (Alloc event thread object class size len) f a =
     let g = follows past (Alloc event thread object class size len) f.2 in
     let o = both_true (is_timely past event) (eqb object (objects past + 1)) g.ordered in
     made_more past event thread object class size len (eqb-yes object (objects past + 1) o.1) (let r = f.1 in omega arith) a
-made_on past (Update event thread object slot old new) f a = made_same past (Update event thread object slot old new) (record {
+made_on version past (Update event thread object slot old new) f a = made_same past (Update event thread object slot old new) (record {
   no_made = elim (eqb object 0) as (λ v. made_objects (filter_map (λ (u : TraceLine). cond v None (Some (items.Write event object slot new))) (Update event thread object slot old new ∷ [])) ≡ []) [ true ↦ refl | false ↦ refl ];
   no_sizes = elim (eqb object 0) as (λ v. sizes (filter_map (λ (u : TraceLine). cond v None (Some (items.Write event object slot new))) (Update event thread object slot old new ∷ [])) ≡ []) [ true ↦ refl | false ↦ refl ];
   as_many = refl;
 }) a
-made_on past (Enter event thread method receiver) f a = made_same past (Enter event thread method receiver) (record { no_made = refl; no_sizes = refl; as_many = refl }) a
-made_on past (Exit event thread method) f a = made_same past (Exit event thread method) (record { no_made = refl; no_sizes = refl; as_many = refl }) a
-made_on past (Unwind event thread method exception) f a = made_same past (Unwind event thread method exception) (record { no_made = refl; no_sizes = refl; as_many = refl }) a
-made_on past (Flush event deaths) f a = made_same past (Flush event deaths) (record { no_made = refl; no_sizes = refl; as_many = refl }) a
-made_on past (Death object time) f a = made_same past (Death object time) (record { no_made = refl; no_sizes = refl; as_many = refl }) a
-made_on past (Finish event how) f a = made_same past (Finish event how) (record { no_made = refl; no_sizes = refl; as_many = refl }) a
+made_on version past (Enter event thread method receiver) f a = made_same past (Enter event thread method receiver) (record { no_made = refl; no_sizes = refl; as_many = refl }) a
+made_on version past (Exit event thread method) f a = made_same past (Exit event thread method) (record { no_made = refl; no_sizes = refl; as_many = refl }) a
+made_on version past (Unwind event thread method exception) f a = made_same past (Unwind event thread method exception) (record { no_made = refl; no_sizes = refl; as_many = refl }) a
+made_on version past (Flush event deaths) f a = made_same past (Flush event deaths) (record { no_made = refl; no_sizes = refl; as_many = refl }) a
+made_on version past (Death object time) f a = made_same past (Death object time) (record { no_made = refl; no_sizes = refl; as_many = refl }) a
+made_on version past (Finish event how) f a = made_same past (Finish event how) (record { no_made = refl; no_sizes = refl; as_many = refl }) a
 
-are_made : (past : List TraceLine) → AreFine 1 past → AreMade past (happening past)
-are_made [] f = record { many = refl; numbered = λ k lt. absurd (omega (arith, lt)); small = λ k d lt. absurd (omega (arith, lt)) }
-are_made (line ∷ past) f = made_on past line f (are_made past f.0)
+are_made : (version : ℕ) (past : List TraceLine) → AreFine version past → AreMade past (happening past)
+are_made version [] f = record { many = refl; numbered = λ k lt. absurd (omega (arith, lt)); small = λ k d lt. absurd (omega (arith, lt)) }
+are_made version (line ∷ past) f = made_on version past line f (are_made version past f.0)
 
 -- .. as a timeline keeps them
-pub makes_in_order : (lines : List TraceLine) (xs : List Item) → AreFine 1 (reverse lines) → InOrder lines xs → MakesInOrder xs
-makes_in_order lines xs f o =
-    let a = are_made (reverse lines) f in
-    let l = lives (reverse lines) f in
+pub makes_in_order : (version : ℕ) (lines : List TraceLine) (xs : List Item) → AreFine version (reverse lines) → InOrder lines xs → MakesInOrder xs
+makes_in_order version lines xs f o =
+    let a = are_made version (reverse lines) f in
+    let l = lives version (reverse lines) f in
     let few = l.few in
     let lives_many = l.many in
     let same = sym (ap (λ (t : List Item). filter is_alloc t) (happening_is lines)) in
-    let stay = allocs_stay lines xs f o ∙ same in
+    let stay = allocs_stay version lines xs f o ∙ same in
     let made_is : made_objects xs ≡ made_objects (happening (reverse lines)) = sym (of_allocs object_made no_object xs) ∙ (ap (λ (t : List Item). made_objects t) stay ∙ of_allocs object_made no_object (happening (reverse lines))) in
     let sizes_is : sizes xs ≡ sizes (happening (reverse lines)) = sym (of_allocs size_made no_size_made xs) ∙ (ap (λ (t : List Item). sizes t) stay ∙ of_allocs size_made no_size_made (happening (reverse lines))) in
     let many = a.many in

@@ -5,7 +5,7 @@ ghost use Rattle.std.specs.List.{filter_map};
 ghost use Rattle.et_io.specs.Faults.{count_after, is_write_fault};
 ghost use Rattle.et_io.specs.Sink.{with_more, TakesPrefix};
 ghost use Rattle.et_replay.specs.Curve.{happens_at, curve_events, curve_row, curve_text};
-ghost use Rattle.et_text.specs.Rules.{IsGood};
+ghost use Rattle.et_text.specs.Rules.{IsGoodTrace};
 
 use crate::lives::lives_of;
 use crate::sizes::Sizes;
@@ -63,7 +63,7 @@ fn put_row(text: &mut Vec<u8>, event: u64, live: u64) -> Result<(), NoMemory>
 }
 
 fn curve_text(alloc: Global, lines: &[TraceLine]) -> Result<Vec<u8>, NoMemory>
-    requires good { IsGood 1 lines.now }
+    requires good { IsGoodTrace lines.now }
     ensures { IfOk result (λ text. text.items ≡ curve_text lines.now) }
 {
     let events = curve_events(alloc, lines)?;

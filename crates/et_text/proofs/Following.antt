@@ -81,18 +81,18 @@ both_true false b e = absurd cc
 eqb-yes : (a b : ℕ) → eqb a b ≡ true → a ≡ b
 eqb-yes a b e = grind (arith, nat_tests)
 
-pub stands_on : (s s' : Standing) (past : List TraceLine) (line : TraceLine) (added : Bool) → s.ended ≡ false → order_in s line ≡ true → known_in s line ≡ true → IsInRange 1 line → Notes s s' line added → StandsForLines s past → StandsForLines s' (line ∷ past)
-stands_on s s' past (Header v every) added unended o k r n h = subst (λ (t : Standing). StandsForLines t (Header v every ∷ past)) (sym n.1) (stands_header s past v every unended h)
-stands_on s s' past (Class number name) added unended o k r n h = stands_class s s' past number name added unended (eqb-yes number (s.classes + 1) (both_true (is_open_in s) (eqb number (s.classes + 1)) o)) n h
-stands_on s s' past (Method number class name descriptor) added unended o k r n h = stands_method s s' past number class name descriptor added unended (eqb-yes number (s.methods + 1) (both_true (is_open_in s) (eqb number (s.methods + 1)) o)) n h
-stands_on s s' past (Alloc event thread object class size len) added unended o k r n h = stands_object s s' past event thread object class size len unended n.1 h
-stands_on s s' past (Update event thread object slot old new) added unended o k r n h = subst (λ (t : Standing). StandsForLines t (Update event thread object slot old new ∷ past)) (sym n.1) (stands_update s past event thread object slot old new unended h)
-stands_on s s' past (Enter event thread method receiver) added unended o k r n h = subst (λ (t : Standing). StandsForLines t (Enter event thread method receiver ∷ past)) (sym n.1) (stands_enter s past event thread method receiver unended h)
-stands_on s s' past (Exit event thread method) added unended o k r n h = subst (λ (t : Standing). StandsForLines t (Exit event thread method ∷ past)) (sym n.1) (stands_exit s past event thread method unended h)
-stands_on s s' past (Unwind event thread method exception) added unended o k r n h = subst (λ (t : Standing). StandsForLines t (Unwind event thread method exception ∷ past)) (sym n.1) (stands_unwind s past event thread method exception unended h)
-stands_on s s' past (Flush event deaths) added unended o k r n h = subst (λ (t : Standing). StandsForLines t (Flush event deaths ∷ past)) (sym n.1) (stands_flush s past event deaths unended h)
-stands_on s s' past (Death object time) added unended o k r n h = let le : object ≤ length s.births.items = leb-true object (length s.births.items) k in let as_many = h.as_many in stands_death s s' past object time unended r.0.0 (omega arith) n.1 h
-stands_on s s' past (Finish event how) added unended o k r n h = subst (λ (t : Standing). StandsForLines t (Finish event how ∷ past)) (sym n.1) (stands_finish s past event how unended h)
+pub stands_on : (version : ℕ) (s s' : Standing) (past : List TraceLine) (line : TraceLine) (added : Bool) → s.ended ≡ false → order_in s line ≡ true → known_in s line ≡ true → IsInRange version line → Notes s s' line added → StandsForLines s past → StandsForLines s' (line ∷ past)
+stands_on version s s' past (Header v every) added unended o k r n h = subst (λ (t : Standing). StandsForLines t (Header v every ∷ past)) (sym n.1) (stands_header s past v every unended h)
+stands_on version s s' past (Class number name) added unended o k r n h = stands_class s s' past number name added unended (eqb-yes number (s.classes + 1) (both_true (is_open_in s) (eqb number (s.classes + 1)) o)) n h
+stands_on version s s' past (Method number class name descriptor) added unended o k r n h = stands_method s s' past number class name descriptor added unended (eqb-yes number (s.methods + 1) (both_true (is_open_in s) (eqb number (s.methods + 1)) o)) n h
+stands_on version s s' past (Alloc event thread object class size len) added unended o k r n h = stands_object s s' past event thread object class size len unended n.1 h
+stands_on version s s' past (Update event thread object slot old new) added unended o k r n h = subst (λ (t : Standing). StandsForLines t (Update event thread object slot old new ∷ past)) (sym n.1) (stands_update s past event thread object slot old new unended h)
+stands_on version s s' past (Enter event thread method receiver) added unended o k r n h = subst (λ (t : Standing). StandsForLines t (Enter event thread method receiver ∷ past)) (sym n.1) (stands_enter s past event thread method receiver unended h)
+stands_on version s s' past (Exit event thread method) added unended o k r n h = subst (λ (t : Standing). StandsForLines t (Exit event thread method ∷ past)) (sym n.1) (stands_exit s past event thread method unended h)
+stands_on version s s' past (Unwind event thread method exception) added unended o k r n h = subst (λ (t : Standing). StandsForLines t (Unwind event thread method exception ∷ past)) (sym n.1) (stands_unwind s past event thread method exception unended h)
+stands_on version s s' past (Flush event deaths) added unended o k r n h = subst (λ (t : Standing). StandsForLines t (Flush event deaths ∷ past)) (sym n.1) (stands_flush s past event deaths unended h)
+stands_on version s s' past (Death object time) added unended o k r n h = let le : object ≤ length s.births.items = leb-true object (length s.births.items) k in let as_many = h.as_many in stands_death s s' past object time unended r.0.0 (omega arith) n.1 h
+stands_on version s s' past (Finish event how) added unended o k r n h = subst (λ (t : Standing). StandsForLines t (Finish event how ∷ past)) (sym n.1) (stands_finish s past event how unended h)
 
 at_past : (s : Standing) (past : List TraceLine) (line : TraceLine) → StandsForLines s past → None ≡ fault_in s line → ArePassed (has_ended past) (keeps_order past line) (is_known past line) (keeps_lives past line) (dies_once past line)
 at_past s past line h e = passed (has_ended past) (keeps_order past line) (is_known past line) (keeps_lives past line) (dies_once past line) (sym (fault_is s past line h) ∙ sym e)
@@ -103,10 +103,10 @@ next_by s s' past line added h e n =
     at_last (has_ended past) (keeps_order past line) (is_known past line) (keeps_lives past line) (dies_once past line) (is_new past line) p
     ∙ ap (λ (b : Bool). cond (not b) (Some twice) None) (new_by s s' past line added n h p.once)
 
-pub noted : (s s' : Standing) (past : List TraceLine) (line : TraceLine) (added : Bool) → None ≡ fault_in s line → Notes s s' line added → added ≡ true → StandsForLines s past → IsInRange 1 line → (None ≡ next_fault past line) × StandsForLines s' (line ∷ past)
-noted s s' past line added e n yes_added h r =
+pub noted : (version : ℕ) (s s' : Standing) (past : List TraceLine) (line : TraceLine) (added : Bool) → None ≡ fault_in s line → Notes s s' line added → added ≡ true → StandsForLines s past → IsInRange version line → (None ≡ next_fault past line) × StandsForLines s' (line ∷ past)
+noted version s s' past line added e n yes_added h r =
     let p = passed s.ended (order_in s line) (known_in s line) (lives_in s line) (dies_once_in s line) (sym e) in
-    (sym (next_by s s' past line added h e n ∙ ap (λ (b : Bool). cond (not b) (Some twice) None) yes_added), stands_on s s' past line added p.goes_on p.ordered p.known r n h)
+    (sym (next_by s s' past line added h e n ∙ ap (λ (b : Bool). cond (not b) (Some twice) None) yes_added), stands_on version s s' past line added p.goes_on p.ordered p.known r n h)
 
 pub refused : (s s' : Standing) (past : List TraceLine) (line : TraceLine) (added : Bool) → None ≡ fault_in s line → Notes s s' line added → added ≡ false → StandsForLines s past → Some 4 ≡ next_fault past line
 refused s s' past line added e n not_added h = sym (next_by s s' past line added h e n ∙ ap (λ (b : Bool). cond (not b) (Some twice) None) not_added)

@@ -12,3 +12,4 @@ pub mod Readers
 pub mod SomeAnswer
 pub mod Splitting
 pub mod Standings
+pub mod Versions

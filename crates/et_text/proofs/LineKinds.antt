@@ -82,7 +82,7 @@ class_takes bytes line e =
     let d = done_is (Class s0.0.0 s1.0.0) s1.0.1 line s1.2 in
     let t0 = in_takes 1 (2 ^ 32 - 1) bytes s0.0.0 s0.0.1 s0.1 in
     let t1 = text_takes s0.0.1 s1.0.0 s1.0.1 s1.1 in
-    let one : IsTail 67 (Class s0.0.0 s1.0.0) bytes = record { range = (omega arith, (t1.some, all_bytes s1.0.0 t1.small)); first_is = refl; spelled = (t0.0 ∙ ap (λ (t : List ℕ). 32 ∷ decimal s0.0.0 ++ t) (t1.parts ∙ ap (λ (t : List ℕ). 32 ∷ escapes s1.0.0 ++ t) d.empty)) } in
+    let one : IsTail 67 (Class s0.0.0 s1.0.0) bytes = record { range = (omega arith, (t1.some, all_bytes s1.0.0 t1.small), λ e. absurd (omega arith)); first_is = refl; spelled = (t0.0 ∙ ap (λ (t : List ℕ). 32 ∷ decimal s0.0.0 ++ t) (t1.parts ∙ ap (λ (t : List ℕ). 32 ∷ escapes s1.0.0 ++ t) d.empty)) } in
     subst (λ (l : TraceLine). IsTail 67 l bytes) d.same one
 
 method_takes : (bytes : List ℕ) (line : TraceLine) → method_line_at bytes ≡ Some line → IsTail 78 line bytes
@@ -97,7 +97,7 @@ method_takes bytes line e =
     let t1 = in_takes 1 (2 ^ 32 - 1) s0.0.1 s1.0.0 s1.0.1 s1.1 in
     let t2 = text_takes s1.0.1 s2.0.0 s2.0.1 s2.1 in
     let t3 = text_takes s2.0.1 s3.0.0 s3.0.1 s3.1 in
-    let one : IsTail 78 (Method s0.0.0 s1.0.0 s2.0.0 s3.0.0) bytes = record { range = (omega arith, omega arith, (t2.some, all_bytes s2.0.0 t2.small), (t3.some, all_bytes s3.0.0 t3.small)); first_is = refl; spelled = (t0.0 ∙ ap (λ (t : List ℕ). 32 ∷ decimal s0.0.0 ++ t) (t1.0 ∙ ap (λ (t : List ℕ). 32 ∷ decimal s1.0.0 ++ t) (t2.parts ∙ ap (λ (t : List ℕ). 32 ∷ escapes s2.0.0 ++ t) (t3.parts ∙ ap (λ (t : List ℕ). 32 ∷ escapes s3.0.0 ++ t) d.empty)))) } in
+    let one : IsTail 78 (Method s0.0.0 s1.0.0 s2.0.0 s3.0.0) bytes = record { range = (omega arith, omega arith, (t2.some, all_bytes s2.0.0 t2.small), (t3.some, all_bytes s3.0.0 t3.small), λ e. absurd (omega arith), λ e. absurd (omega arith)); first_is = refl; spelled = (t0.0 ∙ ap (λ (t : List ℕ). 32 ∷ decimal s0.0.0 ++ t) (t1.0 ∙ ap (λ (t : List ℕ). 32 ∷ decimal s1.0.0 ++ t) (t2.parts ∙ ap (λ (t : List ℕ). 32 ∷ escapes s2.0.0 ++ t) (t3.parts ∙ ap (λ (t : List ℕ). 32 ∷ escapes s3.0.0 ++ t) d.empty)))) } in
     subst (λ (l : TraceLine). IsTail 78 l bytes) d.same one
 
 alloc_takes : (bytes : List ℕ) (line : TraceLine) → alloc_at bytes ≡ Some line → IsTail 65 line bytes

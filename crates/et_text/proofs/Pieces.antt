@@ -1,13 +1,14 @@
 -- A text in pieces.
-use Rattle.std.proofs.Common.{◌≡◌, ◌≢◌, ℕ, ◌+◌, ◌<◌, Bool, true, false, Option, Some, None, List, [], ◌∷◌, ◌++◌, length, sym, ap, subst, ◌∙◌, append_assoc, inr}
-use Rattle.std.specs.Prelude.{reverse}
-use Rattle.std.proofs.lemmas.List.{length-reverse, reverse-reverse}
+use Rattle.std.proofs.Common.{◌≡◌, ◌≢◌, ℕ, ◌+◌, ◌<◌, Bool, true, false, Option, Some, None, Result, Ok, Err, List, [], ◌∷◌, ◌++◌, length, refl, sym, ap, subst, ◌∙◌, append_assoc, arith, inr}
+use Rattle.std.specs.Prelude.{reverse, IfOk, IfErr, OnOk}
+use Rattle.std.proofs.lemmas.List.{append-nil, length-reverse, reverse-reverse}
 use Rattle.et_base.specs.declared.line.TraceLine.{TraceLine}
 use Rattle.et_text.specs.Spelling.{line_body, text}
-use Rattle.et_text.specs.Text.{IsOneLine, IsReadTo, ShowsFault, ShowsNone, IsTraceFault}
+use Rattle.et_text.specs.Rules.{has_ended}
+use Rattle.et_text.specs.Text.{IsOneLine, IsReadTo, IsTextOf, ShowsFault, ShowsNone, IsTraceFault}
 use Rattle.et_text.specs.Text.EndsWrong.{EndsEarly, EndsLate}
-use Rattle.et_text.specs.Taken.{Taken}
-use Rattle.et_text.specs.Stream.{Reading, GrowsBy, StopsReading, AreRead, TakesBytes, RefusesBytes, RefusesLine, bytes_read}
+use Rattle.et_text.specs.Taken.{Taken, LacksEnd}
+use Rattle.et_text.specs.Stream.{Reading, GrowsBy, StopsReading, HasTextFault, AreRead, TakesBytes, RefusesBytes, RefusesLine, bytes_read}
 use Rattle.et_text.specs.Text.{IsLineSpelled}
 use Rattle.et_text.specs.Text.BreaksText.{BreaksRule}
 use Rattle.et_text.specs.Taken.{Refuses}
@@ -136,3 +137,28 @@ stops_in (faults.At kind number) old mid new piece rest line behind e p s h =
       shows = subst (λ (t : List ℕ). ShowsFault t kind number) whole (shows_more (mid.bytes ++ (line ++ 10 ∷ [])) behind kind number h.shows);
       kept = h.kept;
     }
+
+-- where the rules say that the lines are a whole trace, the bytes are its text
+pub whole_by : (r : Result (List TraceLine) TraceFault) (taken : Taken) (ended : Bool) (rest : List ℕ) (f : Option TraceFault) (old : Reading) → reading (bytes_read taken rest) f ≡ old → AreRead taken ended rest → (ended ≡ true → rest ≡ [])
+    → IfOk r (λ trace. trace ≡ taken.lines) → OnOk r ((taken.fault ≡ None) × (has_ended (reverse taken.lines) ≡ true)) → IfOk r (λ trace. IsTextOf trace old.bytes)
+whole_by (Err e) taken ended rest f old is a empty same ends = tt
+whole_by (Ok trace) taken ended rest f old is a empty same ends =
+    let none : rest ≡ [] = empty (a.ended_is ∙ ends.1) in
+    subst (λ (t : List TraceLine). IsTextOf t old.bytes) (sym same) (record {
+      good = record { fine = a.fine; ended = ends.1 };
+      whole = ap (λ (r : Reading). r.bytes) (sym is) ∙ (ap (λ (t : List ℕ). text taken.lines ++ t) none ∙ append-nil (text taken.lines));
+    })
+
+-- .. and where they lack an end, the bytes do
+lacks : (fault : TraceFault) (taken : Taken) (ended : Bool) (rest : List ℕ) (f : Option TraceFault) (old : Reading) → reading (bytes_read taken rest) f ≡ old → AreRead taken ended rest → LacksEnd taken.lines fault → HasTextFault old.bytes fault
+lacks fault taken ended rest f old is a l =
+    subst (λ (x : TraceFault). HasTextFault old.bytes x) (sym l.1)
+    (subst (λ (r : Reading). IsTraceFault r.bytes 5 (length taken.lines + 1)) is (early taken ended rest (length taken.lines + 1) a (a.ended_is ∙ l.0) refl))
+
+pub lacks_by : (r : Result (List TraceLine) TraceFault) (taken : Taken) (ended : Bool) (rest : List ℕ) (f : Option TraceFault) (old : Reading) → reading (bytes_read taken rest) f ≡ old → AreRead taken ended rest → IfErr r (LacksEnd taken.lines) → IfErr r (HasTextFault old.bytes)
+lacks_by (Ok trace) taken ended rest f old is a l = tt
+lacks_by (Err fault) taken ended rest f old is a l = lacks fault taken ended rest f old is a l
+
+pub none_where_empty : (bytes : List ℕ) → length bytes ≡ 0 → bytes ≡ []
+none_where_empty [] e = refl
+none_where_empty (b ∷ bytes) e = absurd (omega arith)

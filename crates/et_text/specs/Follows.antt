@@ -29,5 +29,5 @@ StandsOn s' past line None = StandsForLines s' (line ∷ past)
 StandsOn s' past line (Some kind) = Unit {0}
 
 -- the answer is the fault of the line by the lines so far, and where there is none, the line is noted
-abbrev pub Follows : Standing → Standing → List TraceLine → TraceLine → Option ℕ → Type 0
-Follows s s' past line found = StandsForLines s past → IsInRange 1 line → (found ≡ next_fault past line) × StandsOn s' past line found
+abbrev pub Follows : Standing → Standing → ℕ → List TraceLine → TraceLine → Option ℕ → Type 0
+Follows s s' version past line found = StandsForLines s past → IsInRange version line → (found ≡ next_fault past line) × StandsOn s' past line found

@@ -2,7 +2,7 @@
 use Rattle.std.specs.Prelude.{◌≡◌, ℕ, ◌+◌, ◌-◌, ◌/◌, ◌%◌, Bool, true, false, not, ◌&&◌, ◌||◌, ◌==◌, nat_lt, nat_le, bytes_eq, if◌then◌else◌, List, [], ◌∷◌, ◌++◌, length, reverse, slice_index, Option, Some, None, unwrap_or}
 use Rattle.et_base.specs.declared.line.TraceLine.{TraceLine}
 use Rattle.et_base.specs.declared.line.TraceLine.TheVariants.{Header, Class, Method, Alloc, Update, Enter, Exit, Unwind, Flush, Death, Finish}
-use Rattle.et_text.specs.Ranges.{IsInRange}
+use Rattle.et_text.specs.Ranges.{IsVersion, IsInRange}
 
 -- THE KINDS OF FAULT, by their numbers
 
@@ -39,6 +39,12 @@ has_begun (line ∷ past) = true
 abbrev pub has_ended : List TraceLine → Bool
 has_ended (Finish event how ∷ past) = true
 has_ended _ = false
+
+-- the version that the header says, or 0 where there is no header yet
+abbrev pub version_of : List TraceLine → ℕ
+version_of [] = 0
+version_of (Header v n ∷ past) = v
+version_of (_ ∷ past) = version_of past
 
 -- the flush interval of the header
 abbrev pub interval : List TraceLine → ℕ
@@ -214,3 +220,9 @@ AreFine version (line ∷ past) = AreFine version past × IsInRange version line
 pub record IsGood (version : ℕ) (lines : List TraceLine) : Type 0 where
   pub fine : AreFine version (reverse lines)
   pub ended : has_ended (reverse lines) ≡ true
+
+-- .. of either version
+pub record IsGoodTrace (lines : List TraceLine) : Type 0 where
+  pub version : ℕ
+  pub known : IsVersion version
+  pub good : IsGood version lines

@@ -1,5 +1,5 @@
 //! A line tried against the rules, and noted.
-ghost use Rattle.std.specs.Prelude.{IfOk, List};
+ghost use Rattle.std.specs.Prelude.{IfOk, List, ℕ};
 ghost use Rattle.et_base.specs.declared.line.TraceLine.{TraceLine};
 ghost use Rattle.et_text.specs.Follows.{Notes, Follows};
 
@@ -57,8 +57,8 @@ fn note(alloc: Global, s: &mut Standing, line: &TraceLine) -> Result<bool, NoMem
 
 /// The kind of the first rule that the line breaks after those so far; where it breaks none, it is noted.
 pub fn follow(alloc: Global, s: &mut Standing, line: &TraceLine) -> Result<Option<u8>, NoMemory>
-    ensures { (past : List TraceLine) →
-        IfOk result (λ found. Follows s.old s.new past line.now found) }
+    ensures { (version : ℕ) (past : List TraceLine) →
+        IfOk result (λ found. Follows s.old s.new version past line.now found) }
 {
     match fault_of(s, line) {
         Some(kind) => Ok(Some(kind)),

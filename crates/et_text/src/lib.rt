@@ -1,4 +1,5 @@
-//! The text of a trace. A line is a letter and its fields, each behind a space, with LF at the end.
+//! The rules of a trace in either spelling, and its text. A line of the text is a letter and its fields, each behind a space, with
+//! LF at the end.
 #![tactic(auto, using(crate::proofs::Extending::extends_on))]
 
 mod breaking;
@@ -18,5 +19,6 @@ mod writing;
 pub use breaking::is_flush_point;
 pub use fault::TraceFault;
 pub use reader::TextReader;
+pub use rules::Rules;
 pub use trace::Trace;
 pub use writing::write_line;

@@ -1,6 +1,6 @@
 //! One line of a text.
 ghost use Rattle.std.specs.Prelude.{◌≡◌, ◌++◌, reverse, None, IfSome, IfNone, IfOk, IfErr};
-ghost use Rattle.et_text.specs.Rules.{has_ended};
+ghost use Rattle.et_text.specs.Rules.{has_ended, AreFine};
 ghost use Rattle.et_text.specs.Stream.{FirstLine, TakesBytes, RefusesLine};
 ghost use Rattle.et_text.specs.Text.{IsOneLine};
 
@@ -31,6 +31,7 @@ fn take_bytes(
 ) -> Result<bool, TraceFault>
     requires ended { ended ≡ has_ended (reverse rules.old.lines) }
     requires unharmed { rules.old.fault ≡ None }
+    requires fine { AreFine 1 (reverse rules.old.lines) }
     ensures ok { IfOk result (TakesBytes rules.old rules.new bytes.now) }
     ensures err { IfErr result (RefusesLine rules.old bytes.now) }
 {
@@ -64,6 +65,7 @@ pub fn take_rest(
 ) -> Result<bool, TraceFault>
     requires ended { ended ≡ has_ended (reverse rules.old.lines) }
     requires unharmed { rules.old.fault ≡ None }
+    requires fine { AreFine 1 (reverse rules.old.lines) }
     ensures ok { IfOk result (TakesBytes rules.old rules.new (held.old.items ++ bytes.now)) }
     ensures err { IfErr result (RefusesLine rules.old (held.old.items ++ bytes.now)) }
 {

@@ -2,7 +2,7 @@
 ghost use Rattle.std.specs.Prelude.{◌≡◌, ◌++◌, ◌∷◌, [], None, Some, Err, OnOk, IfOk, IfErr};
 ghost use Rattle.et_text.specs.Text.{IsOneLine, IsTextOf};
 
-use crate::fault::{AFTER, TraceFault, UNENDED};
+use crate::fault::{AFTER, TraceFault};
 use crate::lines::{first_line, take_rest};
 use crate::rules::Rules;
 use crate::trace::Trace;
@@ -84,17 +84,11 @@ impl TextReader {
             Some(fault) => return Err(fault),
             None => {}
         }
-        let line = self.rules.next_number();
-        if !self.ended {
-            return Err(TraceFault::At {
-                kind: UNENDED,
-                line,
-            });
-        }
-        if !self.rest.is_empty() {
+        if self.ended && !self.rest.is_empty() {
+            let line = self.rules.next_number();
             return Err(TraceFault::At { kind: AFTER, line });
         }
-        Ok(Trace::of(self.rules.into_lines()))
+        self.rules.finish()
     }
 
     /// Takes the end of a line, without its LF.

@@ -1,16 +1,17 @@
 //! The lines of a trace, taken one by one.
-ghost use Rattle.std.specs.Prelude.{◌≡◌, ◌+◌, [], ◌∷◌, ◌++◌, length, reverse, None, Some, Err, IfErr, OnOk};
-ghost use Rattle.et_text.specs.Ranges.{IsInRange};
-ghost use Rattle.et_text.specs.Rules.{AreFine};
+ghost use Rattle.std.specs.Prelude.{◌≡◌, ◌+◌, [], length, reverse, true, None, Some, Err, IfOk, IfErr, OnOk};
+ghost use Rattle.et_text.specs.Rules.{has_ended};
 
-use crate::fault::TraceFault;
+use crate::fault::{TraceFault, UNENDED};
 use crate::follow::follow;
 use crate::standing::Standing;
+use crate::trace::Trace;
 use et_base::TraceLine;
 use std::alloc::Global;
 use std::marker::Model;
 
-/// The lines so far, and what the next one is tried against.
+/// Tries the lines of a trace of version 1 or 2 against the rules, whichever way they are spelled. A contract sees the
+/// lines that were taken, the oldest first, and the fault that came, if one did.
 #[derive(Drop)]
 pub struct Rules {
     alloc: Global,
@@ -30,7 +31,7 @@ impl Model for Rules {
 }
 
 impl Rules {
-    ghost use Rattle.et_text.specs.Taken.{Taken, TakesLine, Refuses};
+    ghost use Rattle.et_text.specs.Taken.{Taken, IsInSomeRange, IsShortBehind, TakesLine, Refuses, LacksEnd};
     ghost use Rattle.et_text.specs.declared.fault.TraceFault.{TraceFault};
 
     /// No line yet.
@@ -52,20 +53,15 @@ impl Rules {
         self.lines.len() as u64 + 1
     }
 
-    /// The lines that were taken.
-    pub fn into_lines(self) -> Vec<TraceLine>
-        ensures { result.items ≡ self.lines }
-    {
-        self.lines
-    }
-
     /// Takes the next line, or says which rule it is the first to break: 6 the last line was taken before, 2 it may not
-    /// stand here, 3 it mentions what no line before it defines, 4 it names again or reports dead again. After any
-    /// fault, want of memory too, each further call answers that fault and changes nothing.
+    /// stand here, 3 it mentions what no line before it defines, 4 it names again or reports dead again. Its numbers are
+    /// in their ranges, the version of a header is 1 or 2, and no name or descriptor is empty, nor longer than 2^32 - 1
+    /// bytes behind a header of version 2. After any fault, want of memory too, each further call answers that fault and
+    /// changes nothing.
     pub fn take(&mut self, line: TraceLine) -> Result<(), TraceFault>
-        requires range { IsInRange 1 line }
+        requires range { IsInSomeRange line }
+        requires short { IsShortBehind self.old.lines line }
         ensures ok { OnOk result (TakesLine self.old self.new line) }
-        ensures fine { OnOk result (AreFine 1 (reverse self.new.lines)) }
         ensures again { (fault : TraceFault) →
             self.old.fault ≡ Some fault → (result ≡ Err fault) × (self.new ≡ self.old) }
         ensures err { self.old.fault ≡ None → IfErr result (Refuses self.old self.new line) }
@@ -90,5 +86,27 @@ impl Rules {
                 Ok(())
             }
         }
+    }
+
+    /// No line comes any more. The lines are a trace exactly where no fault came and the last line was taken; where only
+    /// that line lacks, the fault is 5 at the number behind the lines. It takes no memory.
+    pub fn finish(self) -> Result<Trace, TraceFault>
+        ensures ok { IfOk result (λ trace. trace ≡ self.lines) }
+        ensures ended { OnOk result
+            ((self.fault ≡ None) × (has_ended (reverse self.lines) ≡ true)) }
+        ensures again { (fault : TraceFault) → self.fault ≡ Some fault → result ≡ Err fault }
+        ensures err { self.fault ≡ None → IfErr result (LacksEnd self.lines) }
+    {
+        match self.fault {
+            Some(fault) => return Err(fault),
+            None => {}
+        }
+        if !self.standing.ended {
+            return Err(TraceFault::At {
+                kind: UNENDED,
+                line: self.next_number(),
+            });
+        }
+        Ok(Trace::of(self.lines))
     }
 }

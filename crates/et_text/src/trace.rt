@@ -1,11 +1,11 @@
 //! A good trace.
 ghost use Rattle.std.specs.Prelude.{◌≡◌};
-ghost use Rattle.et_text.specs.Rules.{IsGood};
+ghost use Rattle.et_text.specs.Rules.{IsGoodTrace};
 
 use et_base::TraceLine;
 use std::marker::Model;
 
-/// The lines of a trace that keeps every rule. A contract sees it as their list.
+/// The lines of a trace of version 1 or 2 that keeps every rule. A contract sees it as their list.
 #[derive(Drop)]
 pub struct Trace {
     lines: Vec<TraceLine>,
@@ -14,19 +14,19 @@ pub struct Trace {
 impl Model for Trace {
     ghost use Rattle.std.specs.Prelude.{List};
     ghost use Rattle.et_base.specs.declared.line.TraceLine.{TraceLine};
-    ghost use Rattle.et_text.specs.Rules.{IsGood};
+    ghost use Rattle.et_text.specs.Rules.{IsGoodTrace};
 
     ghost Value = { List TraceLine };
 
     ghost view = { λ t. t.lines.items };
 
-    ghost invariant = { λ t. IsGood 1 t.lines.items };
+    ghost invariant = { λ t. IsGoodTrace t.lines.items };
 }
 
 impl Trace {
     /// The trace of these lines.
     pub fn of(lines: Vec<TraceLine>) -> Trace
-        requires good { IsGood 1 lines.items }
+        requires good { IsGoodTrace lines.items }
         ensures { result ≡ lines.items }
     {
         Trace { lines }
@@ -35,7 +35,7 @@ impl Trace {
     /// The lines, in order.
     pub fn lines(&self) -> &[TraceLine]
         ensures value { result.now ≡ self.now }
-        ensures good { IsGood 1 self.now }
+        ensures good { IsGoodTrace self.now }
     {
         self.lines.as_slice()
     }

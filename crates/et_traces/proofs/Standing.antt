@@ -119,7 +119,7 @@ module _ (names : Names) (fit : AreTellable names) (every e : ℕ) (within : e �
           let none : has_class past (names.class_name c) ≡ false = class_is_new names fit m _ _ _ _ n c inside new in
           let free : next_fault past l ≡ None = fault_free past l h.rests.1 (both (open_is every e past h.rests h.flows) number) refl refl (negates (has_class past (names.class_name c)) none) in
           record {
-            fine = (h.fine, (class_in_range names fit m _ _ _ _ n c inside new, fit.apart.class_texts c inside), free);
+            fine = (h.fine, (class_in_range names fit m _ _ _ _ n c inside new, fit.apart.class_texts c inside, λ e. absurd (omega arith)), free);
             rests = (refl, refl, refl);
             flows = h.flows;
             named = named_class names fit m _ _ _ _ n c inside new;
@@ -144,7 +144,7 @@ module _ (names : Names) (fit : AreTellable names) (every e : ℕ) (within : e �
           let none : has_method past c (names.method_name k) (names.method_descriptor k) ≡ false = method_is_new names fit m _ _ _ _ n k inside new owner in
           let free : next_fault past l ≡ None = fault_free past l h.rests.1 (both (open_is every e past h.rests h.flows) number) known refl (negates (has_method past c (names.method_name k) (names.method_descriptor k)) none) in
           record {
-            fine = (h.fine, (method_in_range names fit m _ _ _ _ n k inside new owner, class_number names fit m _ _ _ _ n (names.method_class k) owner, fit.apart.method_texts k inside, fit.apart.descriptor_texts k inside), free);
+            fine = (h.fine, (method_in_range names fit m _ _ _ _ n k inside new owner, class_number names fit m _ _ _ _ n (names.method_class k) owner, fit.apart.method_texts k inside, fit.apart.descriptor_texts k inside, λ e. absurd (omega arith), λ e. absurd (omega arith)), free);
             rests = (refl, refl, refl);
             flows = h.flows;
             named = named_method names fit m _ _ _ _ n k inside new owner;

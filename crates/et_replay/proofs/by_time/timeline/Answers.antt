@@ -13,7 +13,7 @@ use Rattle.et_replay.proofs.by_time.timeline.Goals as goal
 
 pub push_deaths-requires : goal.push_deaths-requires
 push_deaths-requires c =
-    let l = lives (reverse c.args.trace.now) c.lines-lines.ensures.good.fine in
+    let l = lives c.lines-lines.ensures.good.version (reverse c.args.trace.now) c.lines-lines.ensures.good.good.fine in
     let few = l.few in
     let as_many = l.as_many in
     let is = c.deref.ensures.value ∙ (c.in_ok-lives.ensures.died ∙ ap (λ (t : List TraceLine). died_by (reverse t)) c.lines-lines.ensures.value) in
@@ -23,7 +23,7 @@ push_deaths-requires c =
 pub of-requires : goal.of-requires
 of-requires c =
     let lines = c.args.trace.now in
-    let fine = c.lines-lines.ensures.good.fine in
+    let fine = c.lines-lines.ensures.good.good.fine in
     let xs = c.sort_by_key.new.self.items in
     let all : c.push_deaths.new.items.items ≡ unordered lines =
     c.in_ok-push_deaths.ensures
@@ -32,12 +32,12 @@ of-requires c =
     let sorted = IsNonDecreasingBy-from_sort_by_key item_event xs c.in_ok-sort_by_key.ensures.sorted (λ a r f k. search rules) in
     let stable : IsStableByKey item_event nat_cmp (unordered lines) xs = subst (λ (t : List Item). IsStableByKey item_event nat_cmp t xs) all (c.in_ok-sort_by_key.ensures.stable item_event (answers_always _ _ _ (λ f a r g h. search rules))) in
     let perm : IsPermutation (unordered lines) xs = subst (λ (t : List Item). IsPermutation t xs) all c.in_ok-sort_by_key.ensures.permutation in
-    makes_in_order lines xs fine (sort_orders lines xs fine sorted perm stable)
+    makes_in_order c.lines-lines.ensures.good.version lines xs fine (sort_orders c.lines-lines.ensures.good.version lines xs fine sorted perm stable)
 
 pub returns : goal.returns
 returns c =
     let lines = c.args.trace.now in
-    let fine = c.lines-lines.ensures.good.fine in
+    let fine = c.lines-lines.ensures.good.good.fine in
     let xs = c.sort_by_key.new.self.items in
     let all : c.push_deaths.new.items.items ≡ unordered lines =
     c.in_ok-push_deaths.ensures
@@ -46,4 +46,4 @@ returns c =
     let sorted = IsNonDecreasingBy-from_sort_by_key item_event xs c.in_ok-sort_by_key.ensures.sorted (λ a r f k. search rules) in
     let stable : IsStableByKey item_event nat_cmp (unordered lines) xs = subst (λ (t : List Item). IsStableByKey item_event nat_cmp t xs) all (c.in_ok-sort_by_key.ensures.stable item_event (answers_always _ _ _ (λ f a r g h. search rules))) in
     let perm : IsPermutation (unordered lines) xs = subst (λ (t : List Item). IsPermutation t xs) all c.in_ok-sort_by_key.ensures.permutation in
-    c.of.ensures ∙ are_timeline lines xs fine (sort_orders lines xs fine sorted perm stable)
+    c.of.ensures ∙ are_timeline c.lines-lines.ensures.good.version lines xs fine (sort_orders c.lines-lines.ensures.good.version lines xs fine sorted perm stable)

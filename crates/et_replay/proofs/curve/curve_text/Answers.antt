@@ -10,10 +10,10 @@ abbrev bytes : Sizes → ℕ
 bytes sizes = sum_by (λ (p : ℕ × ℕ). p.1) sizes
 
 pub begin-born-requires : goal.begin-born-requires
-begin-born-requires c = record { fits = let small = born_small c.args.lines.now c.requires.good.fine in let same = ap bytes c.in_ok-lives.ensures.born in omega (arith, small, same) }
+begin-born-requires c = record { fits = let small = born_small c.requires.good.version c.args.lines.now c.requires.good.good.fine in let same = ap bytes c.in_ok-lives.ensures.born in omega (arith, small, same) }
 
 pub begin-died-requires : goal.begin-died-requires
-begin-died-requires c = record { fits = let small = died_small c.args.lines.now c.requires.good.fine in let same = ap bytes c.in_ok-lives.ensures.died in omega (arith, small, same) }
+begin-died-requires c = record { fits = let small = died_small c.requires.good.version c.args.lines.now c.requires.good.good.fine in let same = ap bytes c.in_ok-lives.ensures.died in omega (arith, small, same) }
 
 pub loop-event-init : goal.loop-event-init
 loop-event-init c = record {
@@ -35,14 +35,14 @@ loop-event-init c = record {
 pub overflow_add-event : goal.overflow_add-event
 overflow_add-event c =
     let is = c.deref-event-items.ensures.value ∙ c.in_ok-events.ensures in
-    let fits = low c.args.lines.now c.deref-event-items.result.now c.loop-event.event-index c.requires.good.fine is c.loop-event-test.true in
+    let fits = low c.requires.good.version c.args.lines.now c.deref-event-items.result.now c.loop-event.event-index c.requires.good.good.fine is c.loop-event-test.true in
     omega (arith, fits)
 
 pub below-made-requires-clause-counts : goal.below-made-requires-clause-counts
 below-made-requires-clause-counts c =
     let is = c.deref-event-items.ensures.value ∙ c.in_ok-events.ensures in
     let s = c.loop-event.born in
-    adds_call s.sizes.items s.at s.sum (born_by (reverse c.args.lines.now)) c.deref-event-items.result.now c.loop-event.event-index 1 (rising c.args.lines.now c.deref-event-items.result.now c.requires.good.fine is) c.loop-event-test.true c.loop-event.invariant.born
+    adds_call s.sizes.items s.at s.sum (born_by (reverse c.args.lines.now)) c.deref-event-items.result.now c.loop-event.event-index 1 (rising c.requires.good.version c.args.lines.now c.deref-event-items.result.now c.requires.good.good.fine is) c.loop-event-test.true c.loop-event.invariant.born
 
 pub below-gone-requires-clause-counts : goal.below-gone-requires-clause-counts
 below-gone-requires-clause-counts c =
@@ -51,14 +51,14 @@ below-gone-requires-clause-counts c =
     let e = get_or c.deref-event-items.result.now c.loop-event.event-index 0 in
     let plain : e + 0 ≡ e = omega arith in
     subst (λ (k : ℕ). CountsTo s.sizes.items s.at s.sum k) plain
-    (adds_call s.sizes.items s.at s.sum (died_by (reverse c.args.lines.now)) c.deref-event-items.result.now c.loop-event.event-index 0 (rising c.args.lines.now c.deref-event-items.result.now c.requires.good.fine is) c.loop-event-test.true c.loop-event.invariant.died)
+    (adds_call s.sizes.items s.at s.sum (died_by (reverse c.args.lines.now)) c.deref-event-items.result.now c.loop-event.event-index 0 (rising c.requires.good.version c.args.lines.now c.deref-event-items.result.now c.requires.good.good.fine is) c.loop-event-test.true c.loop-event.invariant.died)
 
 pub overflow_sub-made : goal.overflow_sub-made
 overflow_sub-made c =
     let is = c.deref-event-items.ensures.value ∙ c.in_ok-events.ensures in
     let e = get_or c.deref-event-items.result.now c.loop-event.event-index 0 in
-    let fits = low c.args.lines.now c.deref-event-items.result.now c.loop-event.event-index c.requires.good.fine is c.loop-event-test.true in
-    (left c.args.lines.now e c.below-made.result c.below-gone.result c.requires.good.fine fits (c.below-made.ensures.sum ∙ c.loop-event.invariant.born.same (e + 1)) (c.below-gone.ensures.sum ∙ c.loop-event.invariant.died.same e)).fits
+    let fits = low c.requires.good.version c.args.lines.now c.deref-event-items.result.now c.loop-event.event-index c.requires.good.good.fine is c.loop-event-test.true in
+    (left c.requires.good.version c.args.lines.now e c.below-made.result c.below-gone.result c.requires.good.good.fine fits (c.below-made.ensures.sum ∙ c.loop-event.invariant.born.same (e + 1)) (c.below-gone.ensures.sum ∙ c.loop-event.invariant.died.same e)).fits
 
 pub loop-event-preserved : goal.loop-event-preserved
 loop-event-preserved c =
@@ -71,8 +71,8 @@ loop-event-preserved c =
     let b' = c.below-made.new.self in
     let d' = c.below-gone.new.self in
     let plain : e ≡ e + 0 = omega arith in
-    let fits = low c.args.lines.now es n c.requires.good.fine is c.loop-event-test.true in
-    let l = left c.args.lines.now e c.below-made.result c.below-gone.result c.requires.good.fine fits (c.below-made.ensures.sum ∙ c.loop-event.invariant.born.same (e + 1)) (c.below-gone.ensures.sum ∙ c.loop-event.invariant.died.same e) in
+    let fits = low c.requires.good.version c.args.lines.now es n c.requires.good.good.fine is c.loop-event-test.true in
+    let l = left c.requires.good.version c.args.lines.now e c.below-made.result c.below-gone.result c.requires.good.good.fine fits (c.below-made.ensures.sum ∙ c.loop-event.invariant.born.same (e + 1)) (c.below-gone.ensures.sum ∙ c.loop-event.invariant.died.same e) in
     record {
       born = adds_next b.sizes.items b'.sizes.items b.at b.sum b'.at b'.sum (born_by (reverse c.args.lines.now)) es n 1 (ap (λ v. v.items) c.below-made.ensures.same) c.below-made.ensures.counts c.loop-event.invariant.born;
       died = adds_next d.sizes.items d'.sizes.items d.at d.sum d'.at d'.sum (died_by (reverse c.args.lines.now)) es n 0 (ap (λ v. v.items) c.below-gone.ensures.same) (subst (λ (k : ℕ). CountsTo d'.sizes.items d'.at d'.sum k) plain c.below-gone.ensures.counts) c.loop-event.invariant.died;
