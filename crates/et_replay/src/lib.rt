@@ -4,6 +4,7 @@
 mod by_time;
 mod curve;
 mod item;
+mod live;
 mod lives;
 mod model;
 mod replaying;
@@ -13,5 +14,6 @@ mod sizes;
 pub use by_time::timeline;
 pub use curve::curve_lines;
 pub use item::{Item, Timeline};
+pub use live::live_bytes;
 pub use model::{Fed, HeapModel, Kind, Policy, Report};
 pub use replaying::replay;
