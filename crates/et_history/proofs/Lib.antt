@@ -33,3 +33,10 @@ mod Allocations
 mod LinkedSizes
 mod Ends
 mod Runs
+pub mod ElementClasses
+mod NamedMembers
+mod NamedWords
+mod NamedWays
+mod NamedRows
+mod NamedCalls
+mod NamedTurns

@@ -8,3 +8,4 @@ pub mod Reaching
 pub mod Records
 pub mod Allocations
 pub mod Ends
+pub mod Telling

@@ -1,8 +1,9 @@
-//! The histories of a program: no two threads hold one monitor, nothing is freed, what a machine keeps tells the same, and
-//! what is made is reached then.
+//! The histories of a program: no two threads hold one monitor, nothing is freed, what a machine keeps tells the same, what
+//! is made is reached then, and what an event tells names what the program has.
 #![tactic(auto)]
 
 pub mod laws;
 pub mod object_laws;
 pub mod record_laws;
 pub mod run_laws;
+pub mod telling_laws;

@@ -1,11 +1,8 @@
 -- What an event call answers, as the run asks it.
-use Rattle.std.proofs.Common.{◌≡◌, ℕ, ◌+◌, ◌<◌, Result, Ok, Err, List, length, sym, ap, subst, ◌∙◌}
+use Rattle.std.proofs.Common.{◌≡◌, ℕ, ◌+◌, Result, Ok, Err, List, sym, ap, subst, ◌∙◌}
 use Rattle.std.specs.Prelude.{All, IfOk, OnOk}
 use Rattle.std.proofs.lemmas.List.Elements.{All-append}
-use Rattle.et_program.specs.Entries.{Linked, class_at}
-use Rattle.et_program.specs.declared.info.Element.{Element}
-use Rattle.et_program.specs.declared.info.Element.TheVariants.{Class}
-use Rattle.et_event.specs.Programs.{IsElementWithin, AreElementsWithin}
+use Rattle.et_program.specs.Entries.{Linked}
 use Rattle.et_state.specs.Roots.{graph_of}
 use Rattle.et_state.specs.State.{Kept, MachineState, kept_of}
 use Rattle.et_state.specs.declared.records.Record.{Record}
@@ -21,7 +18,7 @@ use Rattle.et_loop.specs.Kept.{IsStepTo}
 use Rattle.et_loop.specs.Stamping.{StepsWhereDone}
 use Rattle.et_state.specs.Roots.{fresh_of}
 use Rattle.et_state.specs.Moves.{Led}
-use Rattle.et_run.specs.Telling.{HasElementClasses, IsToldOf}
+use Rattle.et_history.specs.Telling.{IsToldOf}
 use Rattle.et_history.specs.Changing.{LeadsToSound}
 use Rattle.et_history.specs.Settings.{names_of_program}
 
@@ -75,9 +72,3 @@ on_ok (Err e) P Q h go = tt
 pub if_ok : {A E : Type 0} (r : Result A E) (P Q : A → Type 0) → IfOk r P → ((a : A) → P a → Q a) → IfOk r Q
 if_ok (Ok a) P Q h go = go a h
 if_ok (Err e) P Q h go = tt
-
-class_is : (p : Linked) (k : ℕ) (element : Element) → element ≡ Class k → IsElementWithin (length p.classes) element → k < length p.classes
-class_is p k element e h = subst (λ (x : Element). IsElementWithin (length p.classes) x) e h
-
-pub element_classes : (p : Linked) → AreElementsWithin p → HasElementClasses p
-element_classes p h c k lt e = class_is p k (class_at p c).info.element e (h c lt)

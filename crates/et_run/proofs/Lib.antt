@@ -2,10 +2,4 @@ mod Answering
 mod Counting
 mod Flushing
 mod Starting
-mod Words
-mod Ways
-mod Members
-mod NamedRows
-mod Calls
-mod NamedTurns
 mod Running

@@ -1,3 +1,2 @@
-pub mod Telling
 pub use Rattle.et_history.specs.Whole
 pub use Rattle.et_event.specs.Start

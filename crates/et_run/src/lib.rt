@@ -3,7 +3,6 @@
 
 mod first;
 mod guest;
-pub mod laws;
 mod named;
 mod program_run;
 mod room;

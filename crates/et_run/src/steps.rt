@@ -12,13 +12,13 @@ ghost use Rattle.et_state.specs.Answers.{Answers, TicksWhereDone};
 ghost use Rattle.et_state.specs.Naming.{IsNamed};
 ghost use Rattle.et_state.specs.Outcome.{state_after};
 
-use crate::laws::events_are_told;
 use crate::turns::turn_event;
 use et_base::{NoMemory, Steps, ThreadId};
 use et_flush::{FlushRoom, flush_machine};
 use et_graph::Stamps;
 use et_graph::laws::reaching_is_decided;
 use et_heap::RootList;
+use et_history::telling_laws::events_are_told;
 use et_linked::start_laws::flush_keeps_sound;
 use et_program::Program;
 use et_state::{EventEnd, Lines, Machine};

@@ -1,9 +1,10 @@
 use Rattle.et_state.specs.State.{Kept, kept_of}
 use Rattle.et_event.specs.Event.{event}
-use Rattle.et_run.specs.Telling.{IsToldOf}
+use Rattle.et_history.specs.Telling.{IsToldOf}
 use Rattle.std.proofs.Common.{arith}
 use Rattle.et_run.proofs.Flushing.{on_ok_map}
-use Rattle.et_run.proofs.Answering.{on_ok, if_ok, answers, steps, ticks, named, element_classes}
+use Rattle.et_run.proofs.Answering.{on_ok, if_ok, answers, steps, ticks, named}
+use Rattle.et_history.proofs.ElementClasses.{element_classes}
 use Rattle.et_history.proofs.Unended.{unended_thread}
 use Rattle.et_run.proofs.steps.machine_event.Goals as goal
 

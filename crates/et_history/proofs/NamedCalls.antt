@@ -43,10 +43,10 @@ use Rattle.et_event.specs.Monitors.{Lock, lock_for, lock_in, may_enter_some, ent
 use Rattle.et_event.specs.Sites.{Site, Member, site_member, names_interface, running_method, present_body}
 use Rattle.et_event.specs.Sound.{IsStaged}
 use Rattle.et_event.specs.Throw.{caught, left_if_owned, dropped, is_error, replaced, failed, unwound, unwound_clinit, by_handler, handler_of, unwinds, unwinding_step}
-use Rattle.et_run.proofs.Members.{method_below, selected_method_below, special_method_below}
-use Rattle.et_run.proofs.Words.{Tells, IsMethodOf, if_case, begun, guest_told, thread_told, frame_told, state_told, record_told, enter_named, exit_named, unwind_named, instance_told, slot_told, referent_told, entered_some_told, left_told, left_some_told, pending_told, prepared_told}
-use Rattle.et_run.proofs.Ways.{Told, goes_told, ends_told, throws_told, unless_ill_typed, unless_thrown, where_resolved, where_not_null, unless_waiting, where_frame_fits, any_value, initialized_told}
-use Rattle.et_run.proofs.NamedRows.{Knows}
+use Rattle.et_history.proofs.NamedMembers.{method_below, selected_method_below, special_method_below}
+use Rattle.et_history.proofs.NamedWords.{Tells, IsMethodOf, if_case, begun, guest_told, thread_told, frame_told, state_told, record_told, enter_named, exit_named, unwind_named, instance_told, slot_told, referent_told, entered_some_told, left_told, left_some_told, pending_told, prepared_told}
+use Rattle.et_history.proofs.NamedWays.{Told, goes_told, ends_told, throws_told, unless_ill_typed, unless_thrown, where_resolved, where_not_null, unless_waiting, where_frame_fits, any_value, initialized_told}
+use Rattle.et_history.proofs.NamedRows.{Knows}
 
 is_method : (e : Moment) (m : ℕ) → Knows e → m < length e.program.methods → IsMethodOf e.program m
 is_method e m knows lt = record { method = lt; class = All-get_or (λ (x : MethodInfo). x.class < length e.program.classes) e.program.methods m no_method lt knows.tabled.methods }

@@ -7,7 +7,7 @@ ghost use Rattle.et_state.specs.State.{Kept};
 ghost use Rattle.et_event.specs.Event.{event};
 ghost use Rattle.et_event.specs.Sound.{IsSoundFor};
 ghost use Rattle.et_event.specs.Programs.{MakesSound};
-ghost use Rattle.et_run.specs.Telling.{HasElementClasses, IsToldOf};
+ghost use Rattle.et_history.specs.Telling.{HasElementClasses, IsToldOf};
 
 /// An event that is done, or in which a thread waits, takes the clock on by one; and each class and method that its records
 /// name is one of the program.

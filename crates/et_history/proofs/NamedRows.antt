@@ -37,10 +37,10 @@ use Rattle.et_event.specs.Sites.{Site, Member, LoadedConstant, AnInt, ALong, ASt
 use Rattle.et_event.specs.Strings.{interned}
 use Rattle.et_event.specs.Sync.{monitor_event, end_of_thread}
 use Rattle.et_event.specs.Throw.{is_throwable, throw}
-use Rattle.et_run.specs.Telling.{HasElementClasses}
-use Rattle.et_run.proofs.Members.{class_below}
-use Rattle.et_run.proofs.Words.{Tells, begun, frame_told, thread_told, instance_told, array_told, slot_told, static_told, interned_told, entered_told, left_told, pending_told}
-use Rattle.et_run.proofs.Ways.{KnowsErrors, Told, goes_told, ends_told, unless_ill_typed, unless_thrown, where_resolved, where_not_null, unless_waiting, any_int, any_long, any_reference, any_value, initialized_told, throws_told}
+use Rattle.et_history.specs.Telling.{HasElementClasses}
+use Rattle.et_history.proofs.NamedMembers.{class_below}
+use Rattle.et_history.proofs.NamedWords.{Tells, begun, frame_told, thread_told, instance_told, array_told, slot_told, static_told, interned_told, entered_told, left_told, pending_told}
+use Rattle.et_history.proofs.NamedWays.{KnowsErrors, Told, goes_told, ends_told, unless_ill_typed, unless_thrown, where_resolved, where_not_null, unless_waiting, any_int, any_long, any_reference, any_value, initialized_told, throws_told}
 
 -- what is known of the program
 pub record Knows (e : Moment) : Type 0 where

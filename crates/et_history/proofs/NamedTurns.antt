@@ -20,11 +20,11 @@ use Rattle.et_event.specs.Sites.{Site, site_of, decoded_at, pool_index, constant
 use Rattle.et_event.specs.Sound.{IsStaged, AreSoundFrames, IsSoundFor}
 use Rattle.et_event.specs.Table.{row_of}
 use Rattle.et_event.specs.Programs.{MakesSound}
-use Rattle.et_run.specs.Telling.{HasElementClasses, IsToldOf}
-use Rattle.et_run.proofs.Words.{IsMethodOf}
-use Rattle.et_run.proofs.Ways.{KnowsErrors, Told}
-use Rattle.et_run.proofs.NamedRows.{Knows, heap_told, monitor_told, throw_told, end_told, on_frame_told, constant_told, divides_told}
-use Rattle.et_run.proofs.Calls.{IsInMethod, frame_method, call_told, entry_told, unwinding_told, step_told}
+use Rattle.et_history.specs.Telling.{HasElementClasses, IsToldOf}
+use Rattle.et_history.proofs.NamedWords.{IsMethodOf}
+use Rattle.et_history.proofs.NamedWays.{KnowsErrors, Told}
+use Rattle.et_history.proofs.NamedRows.{Knows, heap_told, monitor_told, throw_told, end_told, on_frame_told, constant_told, divides_told}
+use Rattle.et_history.proofs.NamedCalls.{IsInMethod, frame_method, call_told, entry_told, unwinding_told, step_told}
 
 does_told : (e : Moment) (at : Site) (r : Row) → Knows e → IsMethodOf e.program (unwrap_or (current_frame e).method 0) → Told e (does e at r)
 does_told e at (row.Frame r) knows is = on_frame_told e (frame_after at r (current_frame e))

@@ -19,8 +19,8 @@ use Rattle.et_event.specs.Checks.{Reference, reference_value, with_int, with_lon
 use Rattle.et_event.specs.Errors.{class_called, error_class, error_of}
 use Rattle.et_event.specs.Initialization.{state_of, is_quiet, quietly_done, begun_by, begins_class, needed, initialized}
 use Rattle.et_event.specs.Moments.{Moment, Doing, next_object, instance_made, entry_given_up, pending_now, fits_heap, goes, ends_event, throws, waits}
-use Rattle.et_run.specs.Telling.{IsToldOf}
-use Rattle.et_run.proofs.Words.{Tells, if_case, instance_told, pending_told, given_up_told, quietly_told, begun_by_told}
+use Rattle.et_history.specs.Telling.{IsToldOf}
+use Rattle.et_history.proofs.NamedWords.{Tells, if_case, instance_told, pending_told, given_up_told, quietly_told, begun_by_told}
 
 -- what the machine itself makes is of classes of the program
 pub record KnowsErrors (e : Moment) : Type 0 where
