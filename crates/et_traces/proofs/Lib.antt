@@ -6,6 +6,13 @@ mod FlushLines
 mod EventLines
 mod TraceLines
 mod ClassNames
+mod PoolTexts
+mod ApartMethods
+mod FileNames
+mod ArrayTexts
+mod ProgramTexts
+mod FewStatics
+mod Traceable
 mod DeathLines
 mod Reported
 mod LiveSums

@@ -8,7 +8,9 @@ ghost use Rattle.et_linked.specs.ClassNames.{HasClassName};
 ghost use Rattle.et_program.specs.Entries.{Linked, class_at};
 ghost use Rattle.et_program.specs.LinkFaults.{IsLinkable};
 ghost use Rattle.et_program.specs.Loaded.{LoadedClass};
+ghost use Rattle.et_program.specs.Linking.{IsLinked};
 ghost use Rattle.et_program.specs.ProgramOf.{IsProgramOf};
+ghost use Rattle.et_program.specs.Tables.{IsTabled};
 ghost use Rattle.et_state.specs.declared.options.Options.{Options};
 ghost use Rattle.et_state.specs.History.{IsLastEvent, trace_of};
 ghost use Rattle.et_state.specs.Options.{AreOptions};
@@ -24,20 +26,30 @@ ghost use Rattle.et_traces.specs.Good.{IsTraceable};
 
 use et_history::laws::{events_keep_monitors, histories_tell_the_same};
 use et_history::object_laws::objects_are_reached_as_made;
-use et_history::record_laws::events_tell_objects;
+use et_history::record_laws::{events_tell_objects, programs_have_sizes};
+use et_history::run_laws::linked_programs_run_soundly;
+use et_history::telling_laws::events_are_told;
+use et_linked::run_laws::files_keep_rules;
 use et_text::laws::{good_lists_differ, good_texts_have_no_fault};
 
-/// The trace of every history of a program that a trace can tell of is a good list, over every list of picks.
+/// The trace of every history of a program that a trace can tell of is a good list, over every list of picks. Every program
+/// that was linked is one.
 pub fn traces_are_good()
-    ensures { (reached : Graph → ℕ → Bool) (p : Linked) (options : Options) (pick : ℕ → ℕ)
+    ensures good { (reached : Graph → ℕ → Bool) (p : Linked) (options : Options) (pick : ℕ → ℕ)
         (last : ℕ) (end : End) → Decides reached → IsSoundRun p (start p) →
         IsTraceable p → AreOptions options →
         IsLastEvent reached (whole_picked p options pick) (whole_start p) (start_records p) last
         end →
         IsGood 1 (trace_of reached (whole_picked p options pick) (whole_start p)
         (start_records p) last end) }
+    ensures linked { (p : Linked) → IsTabled p → IsLinked p →
+        IsSoundRun p (start p) × IsTraceable p }
 {
     // Laws: they tell the prover, and do nothing.
+    files_keep_rules();
+    linked_programs_run_soundly();
+    programs_have_sizes();
+    events_are_told();
     events_tell_objects();
     events_keep_monitors();
     histories_tell_the_same();

@@ -11,11 +11,11 @@ use Rattle.et_traces.proofs.good_laws.traces_are_read.Goals as goal
 pub returns-clause-lines : goal.returns-clause-lines
 returns-clause-lines c reached p options pick last end lines decides run able are is =
     let trace : List TraceLine = trace_of reached (whole_picked p options pick) (whole_start p) (start_records p) last end in
-    let own : IsTextOf trace (text trace) = record { good = c.traces_are_good.ensures reached p options pick last end decides run able are is; whole = refl } in
+    let own : IsTextOf trace (text trace) = record { good = c.traces_are_good.ensures.good reached p options pick last end decides run able are is; whole = refl } in
     (λ h. c.good_lists_differ.ensures lines trace (text trace) h own, λ same. subst (λ (ls : List TraceLine). IsTextOf ls (text trace)) (sym same) own)
 
 pub returns-clause-none : goal.returns-clause-none
 returns-clause-none c reached p options pick last end kind number decides run able are is fault =
     let trace : List TraceLine = trace_of reached (whole_picked p options pick) (whole_start p) (start_records p) last end in
-    let own : IsTextOf trace (text trace) = record { good = c.traces_are_good.ensures reached p options pick last end decides run able are is; whole = refl } in
+    let own : IsTextOf trace (text trace) = record { good = c.traces_are_good.ensures.good reached p options pick last end decides run able are is; whole = refl } in
     c.good_texts_have_no_fault.ensures trace (text trace) kind number own fault

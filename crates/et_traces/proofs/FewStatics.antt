@@ -1,0 +1,60 @@
+-- A linked program has fewer than 2^28 static fields: it is of at most 4,096 files, of at most 65,535 fields each.
+use Rattle.std.proofs.Common.{◌≡◌, ℕ, ◌+◌, ◌*◌, ◌<◌, ◌≤◌, ◌^◌, Bool, true, false, List, [], ◌∷◌, ◌++◌, length, map, refl, sym, ap, subst, inl, inr, arith, length-append}
+use Rattle.std.specs.Prelude.{All, if◌then◌else◌}
+use Rattle.std.proofs.lemmas.Bool.{cases_lt}
+use Rattle.std.proofs.lemmas.List.{length-map}
+use Rattle.std.proofs.lemmas.List.Elements.{All-head, All-tail}
+use Rattle.et_hierarchy.specs.Outline.{Outline}
+use Rattle.et_program.specs.BootClasses.{BootClassOf}
+use Rattle.et_program.specs.declared.fault.LinkFaultKind.TheVariants.{TooMany}
+use Rattle.et_program.specs.Files.{boots, boot_outline, file_outline, set_of}
+use Rattle.et_program.specs.LinkFaults.{IsLinkable}
+use Rattle.et_program.specs.Loaded.{LoadedClass}
+use Rattle.et_program.specs.MembersOf.{numbered, boot_fields, file_field, file_fields, fields_of}
+use Rattle.et_program.specs.Slots.{is_static_field, places_from}
+
+-- at most as many places as elements
+few_places : {X : Type 0} (t : X → Bool) (n : ℕ) (xs : List X) → length (places_from t n xs) ≤ length xs
+few_places t n [] = omega arith
+few_places t n (x ∷ xs) = by (t x) (few_places t (n + 1) xs)
+  where
+    by : (b : Bool) → length (places_from t (n + 1) xs) ≤ length xs → length (if b then n ∷ places_from t (n + 1) xs else places_from t (n + 1) xs) ≤ length (x ∷ xs)
+    by true le = omega (arith, le)
+    by false le = omega (arith, le)
+
+-- only Thread has a field among the built-in classes
+boot_field_count : length (numbered boot_fields 0 boots) ≡ 1
+unfolding boots
+boot_field_count = refl
+
+file_field_count : (k : ℕ) (files : List LoadedClass) → All (λ (c : LoadedClass). length c.fields < 65536) files → length (numbered file_fields k files) ≤ 65535 * length files
+file_field_count k [] few = omega arith
+file_field_count k (c ∷ files) few =
+    let both : length (file_fields k c ++ numbered file_fields (k + 1) files) ≡ length (file_fields k c) + length (numbered file_fields (k + 1) files) = length-append (file_fields k c) (numbered file_fields (k + 1) files) in
+    let own : length (file_fields k c) ≡ length c.fields = length-map c.fields (file_field c.pool.slots k) in
+    let first : length c.fields < 65536 = All-head (λ (x : LoadedClass). length x.fields < 65536) c files few in
+    let rest : length (numbered file_fields (k + 1) files) ≤ 65535 * length files = file_field_count (k + 1) files (All-tail (λ (x : LoadedClass). length x.fields < 65536) c files few) in
+    omega (arith, both, own, first, rest)
+
+set_length : (files : List LoadedClass) → length (set_of files) ≡ length boots + length files
+set_length files =
+    let both = length-append (map boot_outline boots) (map file_outline files) in
+    let front = length-map boots boot_outline in
+    let back = length-map files file_outline in
+    omega (arith, both, front, back)
+
+few_files : (files : List LoadedClass) → IsLinkable files → length files ≤ 4096
+few_files files linkable =
+    elim (cases_lt 4096 (length files)) [
+      | inl many ↦ let all = set_length files in absurd (linkable TooMany (length boots + 4096) (omega (arith, all, many)) refl)
+      | inr few ↦ few
+    ]
+
+pub few_statics : (files : List LoadedClass) → IsLinkable files → All (λ (c : LoadedClass). length c.fields < 65536) files → length (places_from is_static_field 0 (fields_of files)) < 268435456
+few_statics files linkable few =
+    let places = few_places is_static_field 0 (fields_of files) in
+    let both = length-append (numbered boot_fields 0 boots) (numbered file_fields (length boots) files) in
+    let built_in = boot_field_count in
+    let each = file_field_count (length boots) files few in
+    let count = few_files files linkable in
+    omega (arith, places, both, built_in, each, count)
