@@ -1,5 +1,5 @@
 -- What an event call answers, as the run asks it.
-use Rattle.std.proofs.Common.{◌≡◌, ℕ, ◌+◌, Result, Ok, Err, List, sym, ap, subst, ◌∙◌}
+use Rattle.std.proofs.Common.{◌≡◌, ◌+◌, Result, Ok, Err, List, sym, ap, subst, ◌∙◌}
 use Rattle.std.specs.Prelude.{All, IfOk, OnOk}
 use Rattle.std.proofs.lemmas.List.Elements.{All-append}
 use Rattle.et_program.specs.Entries.{Linked}

@@ -1,8 +1,8 @@
 -- No two methods of a class have one name and descriptor.
-use Rattle.std.proofs.Common.{◌≡◌, ℕ, zero, suc, ◌+◌, ◌<◌, ◌≤◌, ◌&&◌, Bool, true, false, not, List, [], ◌∷◌, ◌++◌, length, map, Option, None, Some, refl, sym, ◌∙◌, ap, subst, inl, inr, arith, Contains}
+use Rattle.std.proofs.Common.{◌≡◌, ℕ, zero, suc, ◌+◌, ◌<◌, ◌≤◌, ◌&&◌, Bool, true, false, not, List, [], ◌∷◌, ◌++◌, length, map, Option, Some, refl, sym, ◌∙◌, ap, subst, inl, inr, arith, Contains}
 use Rattle.std.specs.Prelude.{All, bytes_eq, option_and_then, option_map}
 use Rattle.std.specs.List.{list_all, list_any, slice_index_or}
-use Rattle.std.proofs.lemmas.Bool.{and_parts, and_from, not-true, both_ways, false≢true, true≢false, false_from_ne_true, cases_eq, cases_lt}
+use Rattle.std.proofs.lemmas.Bool.{and_parts, and_from, not-true, both_ways, true≢false, false_from_ne_true, cases_eq, cases_lt}
 use Rattle.std.proofs.lemmas.List.Elements.{All-nil, All-cons, All-head, All-tail, All-append, All-map, All-weaker, Contains-append_left, Contains-push}
 use Rattle.et_base.specs.Marks.{Mark}
 use Rattle.et_base.proofs.Lists.{contains_any}
@@ -11,7 +11,7 @@ use Rattle.et_pool.specs.Looks.{utf8_at}
 use Rattle.et_class.specs.Along.{along}
 use Rattle.et_class.specs.Layout.{MemberOf, member_bytes}
 use Rattle.et_class.specs.Methods.{method_marks}
-use Rattle.et_class.specs.Names.{same_key, key_of, share, is_member_new, has_member_name}
+use Rattle.et_class.specs.Names.{key_of, share, is_member_new, has_member_name}
 use Rattle.et_hierarchy.proofs.Names.{same_name, name_itself}
 use Rattle.et_program.specs.BootClasses.{BootClassOf, BootMethodOf}
 use Rattle.et_program.specs.declared.info.MethodInfo.{MethodInfo}

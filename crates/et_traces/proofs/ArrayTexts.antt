@@ -1,7 +1,7 @@
 -- The names of the array classes of a program are bytes.
 use Rattle.std.proofs.Common.{◌≡◌, ℕ, ◌<◌, ◌-◌, ◌==◌, Bool, true, false, List, [], ◌∷◌, ◌++◌, filter, Option, None, Some, Result, Ok, Err, refl, arith}
 use Rattle.std.specs.Prelude.{All, bytes_eq, codes, if◌then◌else◌, nat_lt, option_map, flat_map, filter_map}
-use Rattle.std.specs.List.{cons_option, list_all, list_any}
+use Rattle.std.specs.List.{cons_option, list_any}
 use Rattle.std.specs.Option.{option_to_list}
 use Rattle.std.proofs.lemmas.Bool.{ltb-true}
 use Rattle.std.proofs.lemmas.List.Elements.{All-nil, All-cons, All-head, All-tail, All-append, All-filter, All-push}
@@ -17,12 +17,12 @@ use Rattle.et_class.specs.Instructions.Instr.{Instr}
 use Rattle.et_class.specs.Opcodes.TheConstants.{NEWARRAY, ANEWARRAY}
 use Rattle.et_class.specs.Starts.{is_start}
 use Rattle.et_hierarchy.specs.Outline.{class_place}
-use Rattle.et_program.specs.ArrayTypes.{base_letters, base_letter, array_over, if_array, named_arrays, made_by, made_if, made_in, made_in_method, file_arrays, arrays_met, is_type_known, with_element_types, name_added, names_added}
+use Rattle.et_program.specs.ArrayTypes.{base_letters, base_letter, array_over, if_array, named_arrays, made_by, made_if, made_in_method, file_arrays, arrays_met, is_type_known, with_element_types, name_added, names_added}
 use Rattle.et_program.specs.Files.{set_of}
 use Rattle.et_program.specs.Loaded.{LoadedMember, LoadedClass}
 use Rattle.et_program.specs.ProgramOf.{class_names_of}
 use Rattle.et_linked.proofs.Making.{numbered_all}
-use Rattle.et_traces.proofs.PoolTexts.{AreSmall, no_more, and_more, nothing, some_same, each_at, each_passes, named_small}
+use Rattle.et_traces.proofs.PoolTexts.{AreSmall, no_more, and_more, nothing, each_at, each_passes, named_small}
 use Rattle.et_traces.proofs.FileNames.{HasTexts}
 
 abbrev AreAllSmall : List (List ℕ) → Type 0

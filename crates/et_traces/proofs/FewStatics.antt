@@ -1,11 +1,9 @@
 -- A linked program has fewer than 2^28 static fields: it is of at most 4,096 files, of at most 65,535 fields each.
-use Rattle.std.proofs.Common.{◌≡◌, ℕ, ◌+◌, ◌*◌, ◌<◌, ◌≤◌, ◌^◌, Bool, true, false, List, [], ◌∷◌, ◌++◌, length, map, refl, sym, ap, subst, inl, inr, arith, length-append}
+use Rattle.std.proofs.Common.{◌≡◌, ℕ, ◌+◌, ◌*◌, ◌<◌, ◌≤◌, Bool, true, false, List, [], ◌∷◌, ◌++◌, length, map, refl, inl, inr, arith, length-append}
 use Rattle.std.specs.Prelude.{All, if◌then◌else◌}
 use Rattle.std.proofs.lemmas.Bool.{cases_lt}
 use Rattle.std.proofs.lemmas.List.{length-map}
 use Rattle.std.proofs.lemmas.List.Elements.{All-head, All-tail}
-use Rattle.et_hierarchy.specs.Outline.{Outline}
-use Rattle.et_program.specs.BootClasses.{BootClassOf}
 use Rattle.et_program.specs.declared.fault.LinkFaultKind.TheVariants.{TooMany}
 use Rattle.et_program.specs.Files.{boots, boot_outline, file_outline, set_of}
 use Rattle.et_program.specs.LinkFaults.{IsLinkable}

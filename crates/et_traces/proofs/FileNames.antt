@@ -1,15 +1,14 @@
 -- What the names of a class file are: bytes, and not empty.
-use Rattle.std.proofs.Common.{◌≡◌, ℕ, ◌+◌, ◌<◌, ◌^◌, Bool, true, false, not, ◌==◌, ◌&&◌, List, [], ◌∷◌, ◌++◌, length, map, Option, None, Some, refl, sym, ◌∙◌, ap, subst, arith}
+use Rattle.std.proofs.Common.{◌≡◌, ℕ, ◌+◌, ◌<◌, ◌^◌, Bool, true, List, [], ◌∷◌, ◌++◌, length, map, Option, None, Some, refl, sym, subst, arith}
 use Rattle.std.specs.Prelude.{All}
 use Rattle.std.proofs.lemmas.Bool.{and_parts, false≢true}
 use Rattle.std.proofs.lemmas.List.{length-map}
 use Rattle.std.proofs.lemmas.List.Elements.{All-map}
 use Rattle.et_base.specs.Marks.{Mark}
-use Rattle.et_base.specs.Numbers.{AreBytes}
 use Rattle.et_text.specs.Ranges.{IsText}
 use Rattle.et_pool.specs.Descriptors.{MethodType, method_type}
 use Rattle.et_pool.specs.Entries.{Item}
-use Rattle.et_pool.specs.Looks.{end_of, utf8_at, class_name_at, slot_at}
+use Rattle.et_pool.specs.Looks.{end_of, utf8_at, class_name_at}
 use Rattle.et_class.specs.declared.flags.TheConstants.{INTERFACE}
 use Rattle.et_class.specs.Along.{along}
 use Rattle.et_class.specs.Classes.{IsClassFile}
@@ -28,7 +27,7 @@ use Rattle.et_linked.specs.Rules.{KeepsMethodRules}
 use Rattle.et_linked.proofs.Marks.{AreWell, well_before, well_behind, well_first, well_rest, along_each}
 use Rattle.et_linked.proofs.Places.{at_mapped}
 use Rattle.et_linked.proofs.PromisedFiles.{keeps_method_rules}
-use Rattle.et_traces.proofs.PoolTexts.{AreSmall, nothing, some_same, texts_small, named_small, classes_named}
+use Rattle.et_traces.proofs.PoolTexts.{AreSmall, nothing, texts_small, classes_named}
 use Rattle.et_traces.proofs.ApartMethods.{HasKey, HasApartMethods, file_apart}
 
 -- a text of a pool

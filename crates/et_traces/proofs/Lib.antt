@@ -15,5 +15,6 @@ mod FewStatics
 mod Traceable
 mod DeathLines
 mod Reported
+mod CurveEvents
 mod LiveSums
 mod LiveReached

@@ -1,14 +1,13 @@
 -- The texts of a pool are bytes, and the names of its Class entries are not empty.
-use Rattle.std.proofs.Common.{◌≡◌, ℕ, zero, suc, ◌+◌, ◌<◌, ◌≤◌, ◌==◌, ◌&&◌, ◌||◌, nat_le, Bool, true, false, List, [], ◌∷◌, ◌++◌, length, Option, Some, None, refl, sym, subst, inl, inr, arith}
+use Rattle.std.proofs.Common.{◌≡◌, ℕ, zero, suc, ◌+◌, ◌<◌, ◌==◌, ◌&&◌, ◌||◌, nat_le, Bool, true, false, List, [], ◌∷◌, ◌++◌, length, Option, Some, None, refl, sym, subst, inl, inr, arith}
 use Rattle.std.specs.Prelude.{All, if◌then◌else◌}
 use Rattle.std.specs.List.{flat_map, list_all, slice_index_or}
 use Rattle.std.proofs.lemmas.Bool.{and_parts, or_cases, leb-true, eqb-true, false≢true}
 use Rattle.std.proofs.lemmas.List.Elements.{All-nil, All-cons, All-head, All-tail, All-append}
 use Rattle.et_base.specs.Marks.{Mark, mark}
 use Rattle.et_pool.specs.declared.tags.TheConstants.{UTF8, CLASS}
-use Rattle.et_pool.specs.Descriptors.{is_class_name}
 use Rattle.et_pool.specs.Entries.{Item, Text, Word, Wide, Name, Pair, Handle, slots_of_item, slots_of}
-use Rattle.et_pool.specs.Looks.{slot_at, text_of_slot, utf8_at, tag_at, named_by, class_name_at, is_name, is_fit_slot, slot_bytes, end_of}
+use Rattle.et_pool.specs.Looks.{text_of_slot, utf8_at, tag_at, named_by, class_name_at, is_name, is_fit_slot, slot_bytes, end_of}
 use Rattle.et_pool.specs.Spelling.{IsEntry}
 use Rattle.et_pool.specs.Text.{is_modified, is_one_byte, is_more, is_two, is_three}
 use Rattle.et_class.specs.declared.fault.TheConstants.{POOL}

@@ -1,20 +1,20 @@
 -- The names of the classes and methods of a linked program are texts that a line can tell.
-use Rattle.std.proofs.Common.{◌≡◌, ℕ, ◌+◌, ◌-◌, ◌<◌, ◌≤◌, ◌&&◌, Bool, true, false, List, [], ◌∷◌, ◌++◌, length, map, Option, None, Some, refl, sym, ◌∙◌, ap, subst, inl, inr, arith}
+use Rattle.std.proofs.Common.{◌≡◌, ℕ, ◌+◌, ◌-◌, ◌<◌, ◌&&◌, Bool, true, List, [], ◌∷◌, length, map, Option, None, Some, refl, sym, subst, inl, inr, arith}
 use Rattle.std.specs.Prelude.{All, nat_lt}
 use Rattle.std.specs.List.{list_all, slice_index_or}
 use Rattle.std.proofs.lemmas.Bool.{and_parts, cases_lt, false≢true, ltb-true}
-use Rattle.std.proofs.lemmas.List.Elements.{All-get_or, All-append, All-map}
+use Rattle.std.proofs.lemmas.List.Elements.{All-append, All-map}
 use Rattle.et_text.specs.Ranges.{IsText}
 use Rattle.et_pool.specs.Descriptors.{is_array}
 use Rattle.et_pool.specs.Entries.{Constants}
 use Rattle.et_pool.specs.Looks.{class_name_at, slot_at}
 use Rattle.et_class.specs.Names.{is_plain_name}
 use Rattle.et_hierarchy.specs.Ancestry.{Ancestry}
-use Rattle.et_hierarchy.specs.Outline.{Outline, no_outline, outline_at, class_place}
+use Rattle.et_hierarchy.specs.Outline.{Outline, no_outline, class_place}
 use Rattle.et_program.specs.ArrayTypes.{arrays_met}
 use Rattle.et_program.specs.BootClasses.{BootClassOf, BootMethodOf}
 use Rattle.et_program.specs.declared.info.MethodInfo.{MethodInfo}
-use Rattle.et_program.specs.Entries.{ClassEntry, Linked, class_at}
+use Rattle.et_program.specs.Entries.{ClassEntry, class_at}
 use Rattle.et_program.specs.Files.{boots, boot_outline, file_outline, or_empty, set_of}
 use Rattle.et_program.specs.Loaded.{LoadedClass}
 use Rattle.et_program.specs.MembersOf.{numbered, boot_method, boot_methods, file_method, file_methods, methods_of}
@@ -24,7 +24,7 @@ use Rattle.et_linked.proofs.ArrayNames.{all_names}
 use Rattle.et_linked.proofs.Classes.{array_in, length_all}
 use Rattle.et_linked.proofs.Lists.{all_numbered}
 use Rattle.et_linked.proofs.Making.{class_in}
-use Rattle.et_traces.proofs.PoolTexts.{AreSmall, each_passes, named_small, some_same}
+use Rattle.et_traces.proofs.PoolTexts.{each_passes, named_small}
 use Rattle.et_traces.proofs.FileNames.{HasMemberTexts, HasTexts}
 use Rattle.et_traces.proofs.ArrayTexts.{arrays_small}
 

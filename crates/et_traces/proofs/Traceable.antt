@@ -1,5 +1,5 @@
 -- Every linked program is one that a trace can tell of.
-use Rattle.std.proofs.Common.{◌≡◌, ℕ, ◌<◌, ◌^◌, List, length, map, Option, refl, sym, subst, arith, true}
+use Rattle.std.proofs.Common.{◌≡◌, ℕ, ◌<◌, ◌^◌, List, length, map, sym, subst, true}
 use Rattle.std.specs.Prelude.{All, bytes_eq}
 use Rattle.std.specs.List.{slice_index_or}
 use Rattle.std.proofs.lemmas.List.Elements.{All-map, All-weaker}
@@ -7,9 +7,8 @@ use Rattle.et_text.specs.Ranges.{IsText}
 use Rattle.et_class.specs.Layout.{ClassOf}
 use Rattle.et_program.specs.Entries.{Linked, no_method}
 use Rattle.et_program.specs.LinkFaults.{IsLinkable}
-use Rattle.et_program.specs.Linking.{IsLinked, IsOfFile}
+use Rattle.et_program.specs.Linking.{IsOfFile}
 use Rattle.et_program.specs.Loaded.{LoadedClass, loaded_class}
-use Rattle.et_program.specs.MembersOf.{methods_of}
 use Rattle.et_program.specs.ProgramOf.{program_with, IsProgramOf}
 use Rattle.et_state.specs.Outcome.{Outcome}
 use Rattle.et_state.specs.Outcome as outcome

@@ -1,7 +1,7 @@
 //! The live curve of a trace. Each law is a function with an empty body, or one that calls the laws that it stands on: what
 //! it promises is its contract.
 
-ghost use Rattle.std.specs.Prelude.{◌≡◌, ℕ, ◌≤◌, Bool};
+ghost use Rattle.std.specs.Prelude.{◌≡◌, ℕ, ◌≤◌, Bool, Contains};
 ghost use Rattle.et_base.specs.declared.value.End.{End};
 ghost use Rattle.et_graph.specs.Graph.{Graph, Decides};
 ghost use Rattle.et_program.specs.Entries.{Linked};
@@ -16,19 +16,20 @@ ghost use Rattle.et_history.specs.Allocations.{HasArguments};
 ghost use Rattle.et_history.specs.Records.{HasPlainStrings};
 ghost use Rattle.et_history.specs.Settings.{IsSoundRun};
 ghost use Rattle.et_history.specs.Whole.{whole_setting, whole_start};
-ghost use Rattle.et_replay.specs.Curve.{live};
+ghost use Rattle.et_replay.specs.Curve.{curve_events, live};
+ghost use Rattle.et_traces.specs.Good.{IsTraceable};
 ghost use Rattle.et_traces.specs.LiveBytes.{bytes_reached, object_size};
 
+use crate::good_laws::traces_are_good;
 use et_history::laws::{histories_tell_the_same, nothing_is_freed};
 use et_history::object_laws::objects_are_reached_as_made;
 use et_history::record_laws::{allocations_are_told, programs_have_sizes};
-use et_linked::run_laws::{files_keep_rules, programs_may_run};
-use et_linked::start_laws::first_state_is_sound;
+use et_linked::run_laws::files_keep_rules;
 
 /// In the trace of every history in which nothing is freed, the live bytes at each event up to the last, as its curve has
 /// them, are the sum of the sizes of the objects made by then that are reached in the state that the event left, or in that
-/// of a later event up to the last. So the bytes of an object count until it is reached no more, and no longer. Every
-/// program that was linked has what this asks of one.
+/// of a later event up to the last. So the bytes of an object count until it is reached no more, and no longer. Each event
+/// of the curve is one up to the last. Every program that was linked has what this asks of one.
 pub fn live_is_reached()
     ensures live { (reached : Graph → ℕ → Bool) (p : Linked) (options : Options) (e last : ℕ)
         (end : End) → Decides reached → IsSoundRun p (start p) → HasPlainStrings p →
@@ -38,12 +39,18 @@ pub fn live_is_reached()
         end) e
         ≡ bytes_reached reached (whole_setting p options) (whole_start p) (start_records p)
         (object_size p) e last }
+    ensures events { (reached : Graph → ℕ → Bool) (p : Linked) (options : Options) (e last : ℕ)
+        (end : End) → Decides reached → IsSoundRun p (start p) → IsTraceable p →
+        AreOptions options → IsLastEvent reached (whole_setting p options) (whole_start p)
+        (start_records p) last end →
+        Contains (curve_events (trace_of reached (whole_setting p options) (whole_start p)
+        (start_records p) last end)) e → e ≤ last }
     ensures linked { (p : Linked) → IsTabled p → IsLinked p →
-        IsSoundRun p (start p) × HasPlainStrings p × HasArguments p }
+        IsSoundRun p (start p) × HasPlainStrings p × HasArguments p × IsTraceable p }
 {
+    // Laws: they tell the prover, and do nothing.
+    traces_are_good();
     files_keep_rules();
-    programs_may_run();
-    first_state_is_sound();
     histories_tell_the_same();
     nothing_is_freed();
     objects_are_reached_as_made();

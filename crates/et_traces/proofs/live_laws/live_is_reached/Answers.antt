@@ -1,10 +1,12 @@
-use Rattle.std.proofs.Common.{ℕ, ◌+◌, ◌<◌, ◌≤◌, List, length, map, sym, subst, arith}
-use Rattle.std.proofs.lemmas.List.{length-map}
+use Rattle.std.proofs.Common.{ℕ, ◌+◌, ◌<◌, ◌≤◌, List, ◌++◌, map, arith}
+use Rattle.et_base.specs.declared.line.TraceLine.{TraceLine}
 use Rattle.et_program.specs.Loaded.{LoadedClass, loaded_class}
+use Rattle.et_state.specs.History.{deaths, flush_lines, how_of, lines_to}
 use Rattle.et_state.specs.Options.{pick_of}
-use Rattle.et_state.specs.Start.{start}
+use Rattle.et_event.specs.Start.{start_records}
 use Rattle.et_history.specs.Histories.{HistoryGoesOn, WholeGoesOn}
-use Rattle.et_history.specs.Settings.{IsSoundRun}
+use Rattle.et_history.specs.Whole.{whole_setting, whole_start}
+use Rattle.et_traces.proofs.CurveEvents.{curve_within}
 use Rattle.et_traces.proofs.Reported.{Knows}
 use Rattle.et_traces.proofs.LiveReached.{live_is}
 use Rattle.et_traces.proofs.live_laws.live_is_reached.Goals as goal
@@ -26,14 +28,16 @@ returns-clause-live c reached p options e last end decides run plain arguments a
     } in
     live_is reached p options pick last end decides knows e le
 
+pub returns-clause-events : goal.returns-clause-events
+returns-clause-events c reached p options e last end decides run able are is has =
+    let good = c.traces_are_good.ensures.good reached p options (pick_of options.schedule) last end decides run able are is in
+    let lines : List TraceLine = lines_to reached (whole_setting p options) (whole_start p) (start_records p) last in
+    let flush : List TraceLine = flush_lines last (deaths reached (whole_setting p options) (whole_start p) (start_records p) last) in
+    curve_within 1 (lines ++ flush) last (how_of end) e good has
+
 pub returns-clause-linked : goal.returns-clause-linked
 returns-clause-linked c p tabled is =
     let files : List LoadedClass = map loaded_class is.classes in
     let rules = c.files_keep_rules.ensures is.classes is.of_files in
-    let some : 0 < length files = subst (λ (n : ℕ). 0 < n) (sym (length-map is.classes loaded_class)) is.some in
-    let run : IsSoundRun p (start p) = record {
-      tabled = tabled;
-      runnable = c.programs_may_run.ensures files p some rules is.linkable is.program;
-      state = c.first_state_is_sound.ensures files p rules.names is.program;
-    } in
-    (run, c.programs_have_sizes.ensures.strings files p is.program, c.programs_have_sizes.ensures.arguments files p rules.names is.program)
+    let good = c.traces_are_good.ensures.linked p tabled is in
+    (good.0, c.programs_have_sizes.ensures.strings files p is.program, c.programs_have_sizes.ensures.arguments files p rules.names is.program, good.1)
