@@ -1,4 +1,4 @@
--- A linked program has fewer than 2^28 static fields: it is of at most 4,096 files, of at most 65,535 fields each.
+-- A linked program has at most 4,096 * 65,535 static fields: it is of at most 4,096 files, of at most 65,535 fields each.
 use Rattle.std.proofs.Common.{◌≡◌, ℕ, ◌+◌, ◌*◌, ◌<◌, ◌≤◌, Bool, true, false, List, [], ◌∷◌, ◌++◌, length, map, refl, inl, inr, arith, length-append}
 use Rattle.std.specs.Prelude.{All, if◌then◌else◌}
 use Rattle.std.proofs.lemmas.Bool.{cases_lt}
@@ -20,10 +20,20 @@ few_places t n (x ∷ xs) = by (t x) (few_places t (n + 1) xs)
     by true le = omega (arith, le)
     by false le = omega (arith, le)
 
--- only Thread has a field among the built-in classes
-boot_field_count : length (numbered boot_fields 0 boots) ≡ 1
+-- .. and behind a list that has some
+places_behind : {X : Type 0} (t : X → Bool) (n : ℕ) (xs ys : List X) → length (places_from t n (xs ++ ys)) ≤ length (places_from t n xs) + length ys
+places_behind t n [] ys = let le = few_places t n ys in omega (arith, le)
+places_behind t n (x ∷ xs) ys = by (t x) (places_behind t (n + 1) xs ys)
+  where
+    by : (b : Bool) → length (places_from t (n + 1) (xs ++ ys)) ≤ length (places_from t (n + 1) xs) + length ys
+        → length (if b then n ∷ places_from t (n + 1) (xs ++ ys) else places_from t (n + 1) (xs ++ ys)) ≤ length (if b then n ∷ places_from t (n + 1) xs else places_from t (n + 1) xs) + length ys
+    by true le = omega (arith, le)
+    by false le = omega (arith, le)
+
+-- no built-in class has a static field
+boot_statics : length (places_from is_static_field 0 (numbered boot_fields 0 boots)) ≡ 0
 unfolding boots
-boot_field_count = refl
+boot_statics = refl
 
 file_field_count : (k : ℕ) (files : List LoadedClass) → All (λ (c : LoadedClass). length c.fields < 65536) files → length (numbered file_fields k files) ≤ 65535 * length files
 file_field_count k [] few = omega arith
@@ -48,11 +58,10 @@ few_files files linkable =
       | inr few ↦ few
     ]
 
-pub few_statics : (files : List LoadedClass) → IsLinkable files → All (λ (c : LoadedClass). length c.fields < 65536) files → length (places_from is_static_field 0 (fields_of files)) < 268435456
+pub few_statics : (files : List LoadedClass) → IsLinkable files → All (λ (c : LoadedClass). length c.fields < 65536) files → length (places_from is_static_field 0 (fields_of files)) ≤ 4096 * 65535
 few_statics files linkable few =
-    let places = few_places is_static_field 0 (fields_of files) in
-    let both = length-append (numbered boot_fields 0 boots) (numbered file_fields (length boots) files) in
-    let built_in = boot_field_count in
+    let places = places_behind is_static_field 0 (numbered boot_fields 0 boots) (numbered file_fields (length boots) files) in
+    let built_in = boot_statics in
     let each = file_field_count (length boots) files few in
     let count = few_files files linkable in
-    omega (arith, places, both, built_in, each, count)
+    omega (arith, places, built_in, each, count)

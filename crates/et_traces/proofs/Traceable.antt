@@ -1,5 +1,5 @@
 -- Every linked program is one that a trace can tell of.
-use Rattle.std.proofs.Common.{◌≡◌, ℕ, ◌<◌, ◌^◌, List, length, map, sym, subst, true}
+use Rattle.std.proofs.Common.{◌≡◌, ℕ, ◌*◌, ◌<◌, ◌≤◌, ◌^◌, List, length, map, sym, subst, true, arith}
 use Rattle.std.specs.Prelude.{All, bytes_eq}
 use Rattle.std.specs.List.{slice_index_or}
 use Rattle.std.proofs.lemmas.List.Elements.{All-map, All-weaker}
@@ -32,6 +32,10 @@ told_names p s outcome.ObjectLimit h = tt
 pub file_texts : (classes : List ClassOf) → All IsOfFile classes → All HasTexts (map loaded_class classes)
 file_texts classes of_files = All-map HasTexts loaded_class classes (λ i d lt. has_texts _ (of_files i d lt))
 
+pub statics_within : (files : List LoadedClass) (p : Linked) → All HasTexts files → IsLinkable files → IsProgramOf files p → length p.statics ≤ 4096 * 65535
+statics_within files p texts linkable is =
+    subst (λ (q : Linked). length q.statics ≤ 4096 * 65535) (sym is.tables) (few_statics files linkable (All-weaker HasTexts (λ (c : LoadedClass). length c.fields < 65536) (λ c h. h.few) files texts))
+
 -- of the files that it was linked of
 module _ (files : List LoadedClass) (p : Linked) (texts : All HasTexts files) (named : All HasClassName files) (linkable : IsLinkable files) (is : IsProgramOf files p) where
   abbrev whole : Linked
@@ -63,6 +67,4 @@ module _ (files : List LoadedClass) (p : Linked) (texts : All HasTexts files) (n
   }
 
   pub statics_few : length p.statics < 2 ^ 28
-  statics_few =
-      subst (λ (q : Linked). length q.statics < 268435456) (sym is.tables)
-      (few_statics files linkable (All-weaker HasTexts (λ (c : LoadedClass). length c.fields < 65536) (λ c h. h.few) files texts))
+  statics_few = let le = statics_within files p texts linkable is in omega (arith, le)

@@ -1,6 +1,6 @@
 //! Traces are good. Each law is a function with an empty body: what it promises is its contract.
 
-ghost use Rattle.std.specs.Prelude.{◌≡◌, ◌↔◌, ℕ, ◌<◌, All, Bool, List, bytes_eq, length, true};
+ghost use Rattle.std.specs.Prelude.{◌≡◌, ◌↔◌, ℕ, ◌*◌, ◌<◌, ◌≤◌, All, Bool, List, bytes_eq, length, true};
 ghost use Rattle.et_base.specs.declared.line.TraceLine.{TraceLine};
 ghost use Rattle.et_base.specs.declared.value.End.{End};
 ghost use Rattle.et_graph.specs.Graph.{Graph, Decides};
@@ -86,4 +86,10 @@ pub fn class_names_are_apart()
         IsLinkable files → IsProgramOf files p →
         (c d : ℕ) → c < length p.classes → d < length p.classes →
         bytes_eq (class_at p c).info.name (class_at p d).info.name ≡ true → c ≡ d }
+{}
+
+/// A linked program has at most 4,096 files, each of at most 65,535 fields; so its static fields are fewer than the slots
+/// that a line of a trace can tell, which are 2^28.
+pub fn statics_are_few()
+    ensures { (p : Linked) → IsLinked p → length p.statics ≤ 4096 * 65535 }
 {}
