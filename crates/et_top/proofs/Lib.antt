@@ -10,3 +10,5 @@ mod SplitLemmas
 mod KindLemmas
 mod VisitLemmas
 mod EndLemmas
+mod PathLemmas
+mod OneThing

@@ -1,6 +1,7 @@
 -- WHERE OBJECTS ARE VISITED: only in the run of a trace.
-use Rattle.std.specs.Prelude.{Option, Some}
+use Rattle.std.specs.Prelude.{ℕ, ◌+◌, ◌<◌, List, length, Option, Some}
 use Rattle.et_top.specs.Command.{Asked, Trace}
+use Rattle.et_top.specs.Top.{Defined, Usage, Refused, Writes, Traces}
 use Rattle.et_top.specs.declared.status.Status.{Status}
 use Rattle.et_top.specs.declared.status.Status.TheVariants as status
 
@@ -17,3 +18,14 @@ IsBeforeRun _ = Unit {0}
 abbrev pub IsWithoutRun : Option Asked → Status → Type 0
 IsWithoutRun (Some (Trace options paths)) answer = IsBeforeRun answer
 IsWithoutRun _ answer = Unit {0}
+
+-- the words and the files define no trace, so that there is no run, whatever is answered
+abbrev pub IsNoTrace : Defined → Type 0
+IsNoTrace (Traces program options) = ⊥
+IsNoTrace Usage = Unit {0}
+IsNoTrace (Refused fault) = Unit {0}
+IsNoTrace (Writes text) = Unit {0}
+
+-- one of these paths was not asked for; old and new are the paths that were asked for before and after
+abbrev pub HasUnread : (old new paths : List (List ℕ)) → Type 0
+HasUnread old new paths = length new < length old + length paths

@@ -9,7 +9,7 @@ ghost use Rattle.et_top.specs.Command as words;
 ghost use Rattle.et_top.specs.Reads.{ReadsInOrder};
 ghost use Rattle.et_top.specs.Status.{is_read_status, is_write_status};
 ghost use Rattle.et_top.specs.Top.{Defined, IsAskedDefined, GivesDefined};
-ghost use Rattle.et_top.specs.Visits.{IsBeforeRun};
+ghost use Rattle.et_top.specs.Visits.{IsBeforeRun, IsNoTrace, HasUnread};
 
 use crate::answers::{refuse, written};
 use crate::command::Models;
@@ -51,6 +51,12 @@ pub fn trace<F: Files, O: Sink, E: Sink, L: Ledger>(
     ensures reads { ReadsInOrder (F.holds files.old) (F.asked files.old) (F.asked files.new)
         (map string_bytes paths.now) result }
     ensures no_visits { IsBeforeRun result → visits.new ≡ visits.old }
+    ensures no_trace { (held : Held) → F.holds files.old ≡ Some held → (kinds : List Kind)
+        (d : Defined) →
+        IsAskedDefined kinds (Some (words.Trace options.now (map string_bytes paths.now))) held d →
+        IsNoTrace d → visits.new ≡ visits.old }
+    ensures unread { HasUnread (F.asked files.old) (F.asked files.new)
+        (map string_bytes paths.now) → visits.new ≡ visits.old }
 {
     match load_program(alloc, paths, files) {
         Ok(program) => run(alloc, &program, options, out, err, visits),

@@ -5,6 +5,7 @@ mod answers;
 mod command;
 mod commands;
 mod files;
+pub mod laws;
 mod load_classes;
 mod load_listing;
 mod load_trace;

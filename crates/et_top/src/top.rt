@@ -8,7 +8,7 @@ ghost use Rattle.et_top.specs.Asked.{asked_by, AreInRange};
 ghost use Rattle.et_top.specs.Reads.{ReadsInOrder, paths_of};
 ghost use Rattle.et_top.specs.Status.{is_read_status, is_write_status};
 ghost use Rattle.et_top.specs.Top.{Defined, IsAskedDefined, IsDefined, GivesDefined};
-ghost use Rattle.et_top.specs.Visits.{IsWithoutRun};
+ghost use Rattle.et_top.specs.Visits.{IsWithoutRun, IsNoTrace, HasUnread};
 
 use crate::answers::refuse;
 use crate::command::{Command, read_words};
@@ -47,6 +47,11 @@ fn perform<F: Files, O: Sink, E: Sink, L: Ledger>(
         (paths_of (Some (asked_by command.now))) result }
     ensures no_visits { IsWithoutRun (Some (asked_by command.now)) result →
         visits.new ≡ visits.old }
+    ensures no_trace { (held : Held) → F.holds files.old ≡ Some held → (d : Defined) →
+        IsAskedDefined (map (λ b. kind_of b) models.items) (Some (asked_by command.now)) held d →
+        IsNoTrace d → visits.new ≡ visits.old }
+    ensures unread { HasUnread (F.asked files.old) (F.asked files.new)
+        (paths_of (Some (asked_by command.now))) → visits.new ≡ visits.old }
 {
     match command {
         Command::Trace { options, paths } => {
@@ -74,8 +79,9 @@ fn perform<F: Files, O: Sink, E: Sink, L: Ledger>(
 /// Refusals come in this order: the words; of each file the read, the length and what it holds; linking; the run. Each file
 /// is read once, and only when the one before it was found good. A read that fails counts one fault and is answered so, and
 /// so does a put; no other answer changes these counts. Until all that is read is known to be good, and to link, nothing is
-/// put to out; after `WriteFault` and `NoMemory` out took a prefix of the output. A
-/// fault of err changes nothing. Only the run of a trace visits objects: no other answer changes the counter.
+/// put to out; after `WriteFault` and `NoMemory` out took a prefix of the output. A fault of err changes nothing. Only the
+/// run of a trace visits objects: no other answer changes the counter, nor does `NoMemory` where no trace is defined or a
+/// file was not read.
 pub fn elephant<F: Files, O: Sink, E: Sink, L: Ledger>(
     alloc: Global,
     words: &[String],
@@ -102,6 +108,11 @@ pub fn elephant<F: Files, O: Sink, E: Sink, L: Ledger>(
         (paths_of (command (map string_bytes words.now))) result }
     ensures no_visits { IsWithoutRun (command (map string_bytes words.now)) result →
         visits.new ≡ visits.old }
+    ensures no_trace { (held : Held) → F.holds files.old ≡ Some held → (d : Defined) →
+        IsDefined (map (λ b. kind_of b) models.items) (map string_bytes words.now) held d →
+        IsNoTrace d → visits.new ≡ visits.old }
+    ensures unread { HasUnread (F.asked files.old) (F.asked files.new)
+        (paths_of (command (map string_bytes words.now))) → visits.new ≡ visits.old }
 {
     let asked = match read_words(alloc, words) {
         Ok(asked) => asked,

@@ -8,7 +8,9 @@ use Rattle.et_top.specs.Told.{cause_of, is_read_cause}
 use Rattle.et_top.proofs.FaultLemmas.{same_count, counted_as, read_status, no_write_status}
 use Rattle.et_top.proofs.ReadLemmas.{reads_whole}
 use Rattle.et_top.specs.Top.{traces, GivesDefined}
+use Rattle.et_top.specs.Visits.{IsNoTrace}
 use Rattle.et_top.proofs.TopLemmas.{history_more, refused_trace}
+use Rattle.et_top.proofs.VisitLemmas.{none_unread}
 use Rattle.et_top.proofs.commands.trace.Goals as goal
 
 pub returns-in-Ok-clause-gives : goal.returns-in-Ok-clause-gives
@@ -30,6 +32,13 @@ returns-in-Err-clause-gives g c held told kinds d defined reached decides =
 
 pub returns-in-Ok-clause-no_visits : goal.returns-in-Ok-clause-no_visits
 returns-in-Ok-clause-no_visits g c before = absurd (c.run.ensures.of_run before)
+
+pub returns-in-Ok-clause-no_trace : goal.returns-in-Ok-clause-no_trace
+returns-in-Ok-clause-no_trace g c held told kinds d defined none =
+    absurd (subst IsNoTrace (defined.2 ∙ ap (traces c.args.options.now) (c.in-Ok.ensures.tells held told defined.0 defined.1)) none)
+
+pub returns-in-Ok-clause-unread : goal.returns-in-Ok-clause-unread
+returns-in-Ok-clause-unread g c few = absurd (none_unread _ _ _ _ c.in-Ok.ensures.reads few)
 
 pub returns-in-Ok-clause-read_fault : goal.returns-in-Ok-clause-read_fault
 returns-in-Ok-clause-read_fault g c = same_count (is_read_status c.run.result) _ _ c.in-Ok.ensures.faults c.run.ensures.no_read

@@ -4,7 +4,7 @@ use Rattle.et_top.specs.Command.{Asked}
 use Rattle.et_top.specs.Top.{GivesDefined}
 use Rattle.et_top.specs.Reads.{ReadsInOrder, paths_of, is_early}
 use Rattle.et_top.specs.Command.{command}
-use Rattle.et_top.specs.Visits.{IsWithoutRun}
+use Rattle.et_top.specs.Visits.{IsWithoutRun, HasUnread}
 use Rattle.std.specs.Prelude.{Option, option_map}
 use Rattle.et_top.specs.Asked.{asked_by}
 use Rattle.et_top.specs.declared.command.Command.{Command}
@@ -30,6 +30,15 @@ pub returns-in-Some-clause-no_visits : goal.returns-in-Some-clause-no_visits
 returns-in-Some-clause-no_visits g c without =
     let is = sym (ap (λ (o : Option Command). option_map asked_by o) c.in-Some.is) ∙ c.in-Ok.ensures.command in
     c.perform.ensures.no_visits (subst (λ (a : Option Asked). IsWithoutRun a c.perform.result) (sym is) without)
+
+pub returns-in-Some-clause-no_trace : goal.returns-in-Some-clause-no_trace
+returns-in-Some-clause-no_trace g c held told d defined none =
+    c.perform.ensures.no_trace held told d (by_command _ held d _ _ (sym (ap (λ (o : Option Command). option_map asked_by o) c.in-Some.is) ∙ c.in-Ok.ensures.command) defined) none
+
+pub returns-in-Some-clause-unread : goal.returns-in-Some-clause-unread
+returns-in-Some-clause-unread g c few =
+    let is = sym (ap (λ (o : Option Command). option_map asked_by o) c.in-Some.is) ∙ c.in-Ok.ensures.command in
+    c.perform.ensures.unread (subst (λ (a : Option Asked). HasUnread (g.F.Files.asked c.args.files.now) (g.F.Files.asked c.perform.new.files) (paths_of a)) (sym is) few)
 
 pub returns-in-Some-clause-reads : goal.returns-in-Some-clause-reads
 returns-in-Some-clause-reads g c =

@@ -2,7 +2,7 @@ use Rattle.std.proofs.Common.{[], sym, subst}
 use Rattle.std.specs.Prelude.{Some}
 use Rattle.et_top.specs.declared.command.Command.{Command}
 use Rattle.et_top.specs.Asked.{asked_by}
-use Rattle.et_top.specs.Visits.{IsWithoutRun}
+use Rattle.et_top.specs.Visits.{IsWithoutRun, HasUnread}
 use Rattle.et_top.specs.Reads.{ReadsInOrder, paths_of}
 use Rattle.et_top.proofs.ReadLemmas.{one_read}
 use Rattle.et_top.proofs.TopLemmas.{by_arm}
@@ -27,6 +27,14 @@ returns-in-Curve-clause-gives g c held told d defined reached decides =
 pub returns-in-Trace-clause-no_visits : goal.returns-in-Trace-clause-no_visits
 returns-in-Trace-clause-no_visits g c without =
     c.trace.ensures.no_visits (subst (λ (x : Command). IsWithoutRun (Some (asked_by x)) c.trace.result) c.in-Trace.is without)
+
+pub returns-in-Trace-clause-no_trace : goal.returns-in-Trace-clause-no_trace
+returns-in-Trace-clause-no_trace g c held told d defined none =
+    c.trace.ensures.no_trace held told [] d (by_arm _ held d _ _ c.in-Trace.is defined) none
+
+pub returns-in-Trace-clause-unread : goal.returns-in-Trace-clause-unread
+returns-in-Trace-clause-unread g c few =
+    c.trace.ensures.unread (subst (λ (x : Command). HasUnread (g.F.Files.asked c.args.files.now) (g.F.Files.asked c.trace.new.files) (paths_of (Some (asked_by x)))) c.in-Trace.is few)
 
 pub returns-in-Trace-clause-reads : goal.returns-in-Trace-clause-reads
 returns-in-Trace-clause-reads g c = subst (λ (x : Command). ReadsInOrder (g.F.Files.holds c.args.files.now) (g.F.Files.asked c.args.files.now) (g.F.Files.asked c.trace.new.files) (paths_of (Some (asked_by x))) c.trace.result) (sym c.in-Trace.is) c.trace.ensures.reads

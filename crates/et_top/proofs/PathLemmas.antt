@@ -1,0 +1,75 @@
+-- A command `trace` has a path.
+use Rattle.std.proofs.Common.{ℕ, ◌<◌, Bool, true, false, List, [], ◌∷◌, length, Option, Some, None, option_map, arith}
+use Rattle.std.specs.Prelude.{◌==◌, if◌then◌else◌, option_and_then}
+use Rattle.et_state.specs.declared.options.Options.{Options}
+use Rattle.et_top.specs.declared.command.Models.{Models}
+use Rattle.et_top.specs.Words.{Split, split}
+use Rattle.et_top.specs.Command.{Asked, Trace, Assemble, Replay, Curve, command, asked, some_paths, plain_path, only_path, trace_options, replay_options}
+
+-- where it is `trace`, there is a path
+pub HasPaths : Option Asked → Type 0
+HasPaths None = Unit {0}
+HasPaths (Some (Trace options paths)) = 0 < length paths
+HasPaths (Some (Assemble path)) = Unit {0}
+HasPaths (Some (Replay models path)) = Unit {0}
+HasPaths (Some (Curve path)) = Unit {0}
+
+pub paths_of_trace : (options : Options) (paths : List (List ℕ)) → HasPaths (Some (Trace options paths)) → 0 < length paths
+unfolding HasPaths
+paths_of_trace options paths has = has
+
+nothing_has : HasPaths None
+unfolding HasPaths
+nothing_has = tt
+
+either_has : (b : Bool) (x y : Option Asked) → HasPaths x → HasPaths y → HasPaths (if b then x else y)
+either_has true x y h i = h
+either_has false x y h i = i
+
+-- EACH COMMAND
+
+options_have : (paths : List (List ℕ)) (o : Option Options) → 0 < length paths → HasPaths (option_map (λ options. Trace options paths) o)
+unfolding HasPaths
+options_have paths None some = tt
+options_have paths (Some options) some = some
+
+some_or_none : (b : Bool) (paths : List (List ℕ)) (o : Option Options) → 0 < length paths → HasPaths (option_and_then (λ paths. option_map (λ options. Trace options paths) o) (if b then None else Some paths))
+some_or_none true paths o some = nothing_has
+some_or_none false paths o some = options_have paths o some
+
+trace_has : (paths : List (List ℕ)) (o : Option Options) → HasPaths (option_and_then (λ paths. option_map (λ options. Trace options paths) o) (some_paths paths))
+trace_has [] o = nothing_has
+trace_has (path ∷ paths) o = some_or_none (length (path ∷ paths) == 0) (path ∷ paths) o (let some : 0 < length (path ∷ paths) = omega arith in some)
+
+assemble_has : (o : Option (List ℕ)) → HasPaths (option_map Assemble o)
+unfolding HasPaths
+assemble_has None = tt
+assemble_has (Some path) = tt
+
+curve_has : (o : Option (List ℕ)) → HasPaths (option_map Curve o)
+unfolding HasPaths
+curve_has None = tt
+curve_has (Some path) = tt
+
+replay_has : (r : Option Models) (o : Option (List ℕ)) → HasPaths (option_and_then (λ path. option_map (λ models. Replay models path) r) o)
+unfolding HasPaths
+replay_has r None = tt
+replay_has None (Some path) = tt
+replay_has (Some models) (Some path) = tt
+
+-- WHAT THE WORDS ARE
+
+asked_has : (name : List ℕ) (s : Split) → HasPaths (asked name s)
+asked_has name s =
+    either_has _ _ _ (trace_has s.operands (trace_options s.options))
+    (either_has _ _ _ (assemble_has (plain_path s))
+    (either_has _ _ _ (replay_has (replay_options s.options) (only_path s.operands))
+    (either_has _ _ _ (curve_has (plain_path s)) nothing_has)))
+
+split_has : (name : List ℕ) (o : Option Split) → HasPaths (option_and_then (asked name) o)
+split_has name None = nothing_has
+split_has name (Some s) = asked_has name s
+
+pub command_has : (words : List (List ℕ)) → HasPaths (command words)
+command_has [] = nothing_has
+command_has (name ∷ words) = split_has name (split words)

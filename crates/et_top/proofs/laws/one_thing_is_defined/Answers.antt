@@ -1,0 +1,7 @@
+use Rattle.et_top.proofs.OneThing.{one_thing}
+use Rattle.et_top.proofs.laws.one_thing_is_defined.Goals as goal
+
+pub returns : goal.returns
+returns c =
+    one_thing c.exactly_one.ensures c.exactly_one-2.ensures c.answers_exist.ensures c.good_texts_have_no_fault.ensures c.good_lists_differ.ensures c.faults_are_one.ensures
+    c.answers_exist-2.ensures c.answers_are_one.ensures
