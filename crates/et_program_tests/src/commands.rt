@@ -15,7 +15,8 @@ const LISTING: &[u8] =
     new Box\npop\nreturn\nend\n";
 
 /// Object 1 refers to object 3 and dies with it at event 5; the others die at the end.
-const FIVE: &[u8] = b"H 1 0\nC 1 P\nA 1 0 1 1 24 0\nA 2 0 2 1 24 0\nA 3 0 3 1 24 0\nU 4 0 1 0 0 3\n\
+pub const FIVE: &[u8] =
+    b"H 1 0\nC 1 P\nA 1 0 1 1 24 0\nA 2 0 2 1 24 0\nA 3 0 3 1 24 0\nU 4 0 1 0 0 3\n\
     A 6 0 4 1 24 0\nA 7 0 5 1 24 0\nF 8 5\nD 1 5\nD 2 7\nD 3 5\nD 4 7\nD 5 7\nZ 8 0\n";
 
 fn files_with(alloc: Global, path: &str, bytes: &[u8]) -> Result<MemFiles, Fail> {

@@ -3,6 +3,10 @@
 #![tactic(auto)]
 
 #[cfg(test)]
+mod arrays;
+#[cfg(test)]
+mod boxes;
+#[cfg(test)]
 mod checks;
 #[cfg(test)]
 mod commands;
