@@ -31,7 +31,7 @@ mod NewTurns
 mod Reached
 mod Allocations
 mod LinkedSizes
-mod Ends
+pub mod Ends
 mod Runs
 pub mod ElementClasses
 mod NamedMembers

@@ -3,3 +3,4 @@ mod Counting
 mod Flushing
 mod Starting
 mod Running
+pub mod OneTrace

@@ -1,15 +1,35 @@
--- What a process gives whose output goes to a stream of which nothing is known.
-use Rattle.std.proofs.Common.{◌≡◌, ℕ, Bool, true, inl, inr, None, Result, Ok, Err, refl, sym, subst}
+-- What a process gives once its output is handed on, or isn't.
+use Rattle.std.proofs.Common.{◌≡◌, ℕ, ◌∙◌, Bool, true, false, List, [], Option, Result, Ok, Err, inl, inr, refl, sym, ap, subst}
 use Rattle.std.specs.Prelude.{IfOk}
 use Rattle.et_graph.specs.Graph.{Graph}
+use Rattle.et_run.proofs.OneTrace.{whole_front, whole_trace}
+use Rattle.et_io.specs.Faults.{Rose, count_after}
+use Rattle.et_text.specs.Spelling.{text}
 use Rattle.et_top.specs.Faults.{Fault, Absent, TooLong, BadClass, BadText, BadTrace, LinkFault, status_of_fault}
-use Rattle.et_top.specs.Process.{is_whole, EndsAs}
+use Rattle.et_top.specs.Process.{EndsAs}
+use Rattle.et_top.specs.Status.{is_whole, is_write_status}
 use Rattle.et_top.specs.Top.{Defined, Usage, Refused, Writes, Traces, GivesDefined}
 use Rattle.et_top.specs.declared.status.Status.{Status}
 use Rattle.et_top.specs.declared.status.Status.TheVariants as status
-use Rattle.et_top.proofs.TopLemmas.{front_nothing}
+use Rattle.et_top.proofs.FaultLemmas.{rose_one}
 
--- a file is never refused with the status of a whole output
+-- what holds of the three statuses of a whole output holds of each
+of_whole : (P : Status → Type 0) → P status.Done → P status.IllTyped → P status.ObjectLimit → (s : Status) → is_whole s ≡ true → P s
+of_whole P done ill limit status.Done whole = done
+of_whole P done ill limit status.IllTyped whole = ill
+of_whole P done ill limit status.ObjectLimit whole = limit
+of_whole P done ill limit status.Usage whole = absurd (cc whole)
+of_whole P done ill limit status.Absent whole = absurd (cc whole)
+of_whole P done ill limit status.TooLong whole = absurd (cc whole)
+of_whole P done ill limit status.BadClass whole = absurd (cc whole)
+of_whole P done ill limit status.BadText whole = absurd (cc whole)
+of_whole P done ill limit status.BadTrace whole = absurd (cc whole)
+of_whole P done ill limit status.LinkFault whole = absurd (cc whole)
+of_whole P done ill limit status.ReadFault whole = absurd (cc whole)
+of_whole P done ill limit status.WriteFault whole = absurd (cc whole)
+of_whole P done ill limit status.NoMemory whole = absurd (cc whole)
+
+-- a file is never refused with such a status
 never_whole : (fault : Fault) → is_whole (status_of_fault fault) ≡ true → ⊥
 never_whole Absent e = absurd (cc e)
 never_whole TooLong e = absurd (cc e)
@@ -18,57 +38,38 @@ never_whole (BadText kind line) e = absurd (cc e)
 never_whole (BadTrace kind line) e = absurd (cc e)
 never_whole (LinkFault kind class) e = absurd (cc e)
 
-module _ (reached : Graph → ℕ → Bool) (old new : ℕ) (read written : Type 0) where
-  -- a write may fail at any time
-  pub loose_gives : (d : Defined) (answer : Status) → GivesDefined reached None None old new read written d answer → GivesDefined reached None None old new read (Unit {0}) d answer
-  loose_gives Usage answer h = h
-  loose_gives (Refused fault) answer h = h
-  loose_gives (Writes text) status.Done h = h
-  loose_gives (Writes text) status.ReadFault h = h
-  loose_gives (Writes text) status.WriteFault h = (tt, h.1)
-  loose_gives (Writes text) status.NoMemory h = h
-  loose_gives (Writes text) status.Usage h = absurd h
-  loose_gives (Writes text) status.Absent h = absurd h
-  loose_gives (Writes text) status.TooLong h = absurd h
-  loose_gives (Writes text) status.BadClass h = absurd h
-  loose_gives (Writes text) status.BadText h = absurd h
-  loose_gives (Writes text) status.BadTrace h = absurd h
-  loose_gives (Writes text) status.LinkFault h = absurd h
-  loose_gives (Writes text) status.IllTyped h = absurd h
-  loose_gives (Writes text) status.ObjectLimit h = absurd h
-  loose_gives (Traces program options) status.Done h = h
-  loose_gives (Traces program options) status.IllTyped h = h
-  loose_gives (Traces program options) status.ObjectLimit h = h
-  loose_gives (Traces program options) status.ReadFault h = h
-  loose_gives (Traces program options) status.WriteFault h = (tt, h.1)
-  loose_gives (Traces program options) status.NoMemory h = h
-  loose_gives (Traces program options) status.Usage h = absurd h
-  loose_gives (Traces program options) status.Absent h = absurd h
-  loose_gives (Traces program options) status.TooLong h = absurd h
-  loose_gives (Traces program options) status.BadClass h = absurd h
-  loose_gives (Traces program options) status.BadText h = absurd h
-  loose_gives (Traces program options) status.BadTrace h = absurd h
-  loose_gives (Traces program options) status.LinkFault h = absurd h
+module _ (reached : Graph → ℕ → Bool) (before after : Option (List ℕ)) (old new : ℕ) (read written later : Type 0) where
+  -- A whole output that was not handed on: the write failed, and a prefix of it was taken. Of the counter, which is dropped
+  -- then, nothing is asked.
+  cut_gives : (d : Defined) (came : Status) → is_whole came ≡ true → later → GivesDefined reached before after old new read written d came → GivesDefined reached before after 0 0 read later d status.WriteFault
+  cut_gives Usage came whole rose (same, inl e) = absurd (cc (whole, e))
+  cut_gives Usage came whole rose (same, inr e) = absurd (cc (whole, e))
+  cut_gives (Refused fault) came whole rose (same, inl e) = absurd (never_whole fault (subst (λ s. is_whole s ≡ true) e whole))
+  cut_gives (Refused fault) came whole rose (same, inr (inl (e, r))) = absurd (cc (whole, e))
+  cut_gives (Refused fault) came whole rose (same, inr (inr e)) = absurd (cc (whole, e))
+  cut_gives (Writes text) came whole rose h =
+      of_whole (λ s. GivesDefined reached before after old new read written (Writes text) s → GivesDefined reached before after 0 0 read later (Writes text) status.WriteFault)
+      (λ is. (rose, whole_front before after (text reached) is)) (λ none. absurd none) (λ none. absurd none) came whole h
+  cut_gives (Traces program options) came whole rose h =
+      of_whole (λ s. GivesDefined reached before after old new read written (Traces program options) s → GivesDefined reached before after 0 0 read later (Traces program options) status.WriteFault)
+      (λ is. (rose, record { wrote = whole_trace _ _ _ _ is.ran before after is.wrote; visits = inl refl }))
+      (λ is. (rose, record { wrote = whole_trace _ _ _ _ is.ran before after is.wrote; visits = inl refl }))
+      (λ is. (rose, record { wrote = whole_trace _ _ _ _ is.ran before after is.wrote; visits = inl refl })) came whole h
 
-  -- a whole output of which the stream didn't take the rest; of the counter, which is dropped then, nothing is asked
-  pub cut_gives : (d : Defined) (came : Status) → is_whole came ≡ true → GivesDefined reached None None old new read written d came → GivesDefined reached None None 0 0 read (Unit {0}) d status.WriteFault
-  cut_gives Usage came whole (same, inl e) = absurd (cc (whole, e))
-  cut_gives Usage came whole (same, inr e) = absurd (cc (whole, e))
-  cut_gives (Refused fault) came whole (same, inl e) = absurd (never_whole fault (subst (λ s. is_whole s ≡ true) e whole))
-  cut_gives (Refused fault) came whole (same, inr (inl (e, r))) = absurd (cc (whole, e))
-  cut_gives (Refused fault) came whole (same, inr (inr e)) = absurd (cc (whole, e))
-  cut_gives (Writes text) came whole h = (tt, front_nothing None (text reached))
-  cut_gives (Traces program options) came whole h = (tt, record { wrote = λ e end last. front_nothing None _; visits = inl refl })
+-- a fault of handing on is one more than there were before the whole output was put
+failed_rose : (came : Status) (old mid new : ℕ) → is_whole came ≡ true → mid ≡ count_after (is_write_status came) old → new ≡ count_after true mid → Rose old new
+failed_rose came old mid new whole was is =
+    let kept : mid ≡ old = was ∙ ap (λ b. count_after b old) (of_whole (λ s. is_write_status s ≡ false) refl refl refl came whole) in
+    rose_one old new (is ∙ ap (count_after true) kept)
 
-  -- so the status with which the process ends is given too
-  pub ends_gives : (d : Defined) (came end : Status) → EndsAs came end → GivesDefined reached None None old new read written d came → (visits : ℕ) × ((old ≡ 0) → GivesDefined reached None None 0 visits read (Unit {0}) d end)
-  ends_gives d came end (inl e) h = (new, λ first. subst (λ (n : ℕ). GivesDefined reached None None n new read (Unit {0}) d end) first (subst (GivesDefined reached None None old new read (Unit {0}) d) (sym e) (loose_gives d came h)))
-  ends_gives d came end (inr (e, whole)) h = (0, λ first. subst (GivesDefined reached None None 0 0 read (Unit {0}) d) (sym e) (cut_gives d came whole h))
+-- so what is given before the output is handed on is given then, with another counter where that failed
+pub ends_gives : (reached : Graph → ℕ → Bool) (before after : Option (List ℕ)) (visits : ℕ) (read : Type 0) (d : Defined) (came end : Status) (old mid new : ℕ)
+    → mid ≡ count_after (is_write_status came) old → EndsAs came end mid new → GivesDefined reached before after 0 visits read (Rose old mid) d came → (n : ℕ) × GivesDefined reached before after 0 n read (Rose old new) d end
+ends_gives reached before after visits read d came end old mid new was (inl (same, kept)) h =
+    (visits, subst (λ n. GivesDefined reached before after 0 visits read (Rose old n) d end) (sym kept) (subst (GivesDefined reached before after 0 visits read (Rose old mid) d) (sym same) h))
+ends_gives reached before after visits read d came end old mid new was (inr (whole, failed, more)) h =
+    (0, subst (GivesDefined reached before after 0 0 read (Rose old new) d) (sym failed) (cut_gives reached before after 0 visits read (Rose old mid) (Rose old new) d came whole (failed_rose came old mid new whole was more) h))
 
 pub ok_more : {A E : Type 0} {P Q : A → Type 0} (r : Result A E) → ((a : A) → P a → Q a) → IfOk r P → IfOk r Q
 ok_more (Ok a) f h = f a h
 ok_more (Err e) f h = tt
-
-pub any_ok : {A E : Type 0} {Q : A → Type 0} (r : Result A E) → ((a : A) → Q a) → IfOk r Q
-any_ok (Ok a) f = f a
-any_ok (Err e) f = tt

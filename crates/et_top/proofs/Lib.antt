@@ -12,3 +12,4 @@ mod VisitLemmas
 mod EndLemmas
 mod PathLemmas
 mod OneThing
+mod BehindLemmas

@@ -1,7 +1,9 @@
 -- What a process does around the top call.
-use Rattle.std.specs.Prelude.{◌≡◌, ◌⊎◌, Bool, true, false, List, [], ◌∷◌}
+use Rattle.std.specs.Prelude.{◌≡◌, ◌⊎◌, ℕ, true, List, [], ◌∷◌}
+use Rattle.et_io.specs.Faults.{count_after}
 use Rattle.et_replay.specs.declared.model.Kind.{Kind}
 use Rattle.et_replay.specs.declared.model.Kind.TheVariants as kind
+use Rattle.et_top.specs.Status.{is_whole}
 use Rattle.et_top.specs.declared.process.WordsFault.{WordsFault}
 use Rattle.et_top.specs.declared.process.WordsFault.TheVariants as words
 use Rattle.et_top.specs.declared.status.Status.{Status}
@@ -16,14 +18,7 @@ abbrev pub status_of_words : WordsFault → Status
 status_of_words words.NotUtf8 = status.Usage
 status_of_words words.NoMemory = status.NoMemory
 
--- the whole output was to be taken
-abbrev pub is_whole : Status → Bool
-is_whole status.Done = true
-is_whole status.IllTyped = true
-is_whole status.ObjectLimit = true
-is_whole _ = false
-
--- The status with which a process ends that came to the first one, and handed on what its output had gathered: another one
--- only where the whole output was to be taken, and the stream didn't take what was left.
-abbrev pub EndsAs : Status → Status → Type 0
-EndsAs came end = (end ≡ came) ⊎ ((end ≡ status.WriteFault) × (is_whole came ≡ true))
+-- How a process ends that came to the first status, where a whole output is then to be handed on: with that status; or, where
+-- that failed, with `WriteFault`, and the faults of its output, which were old, are one more.
+abbrev pub EndsAs : (came end : Status) → (old new : ℕ) → Type 0
+EndsAs came end old new = ((end ≡ came) × (new ≡ old)) ⊎ ((is_whole came ≡ true) × (end ≡ status.WriteFault) × (new ≡ count_after true old))

@@ -28,3 +28,10 @@ is_read_status _ = false
 abbrev pub is_write_status : Status → Bool
 is_write_status status.WriteFault = true
 is_write_status _ = false
+
+-- the answer is that the whole output was taken
+abbrev pub is_whole : Status → Bool
+is_whole status.Done = true
+is_whole status.IllTyped = true
+is_whole status.ObjectLimit = true
+is_whole _ = false

@@ -20,6 +20,6 @@ mod status;
 mod top;
 
 pub use command::{Command, Generations, Models, read_words};
-pub use process::{WordsFault, run_elephant, run_process, words};
+pub use process::{WordsFault, run_elephant, run_process, run_without_memory, words};
 pub use status::Status;
 pub use top::elephant;

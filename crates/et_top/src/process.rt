@@ -1,12 +1,14 @@
-//! What a process does: its words, and the top call with the three models and a counter of its own.
-ghost use Rattle.std.specs.Prelude.{◌≡◌, ◌⊎◌, ◌<◌, ℕ, Bool, Some, None, IfOk, IfErr, OnErr, map, string_bytes};
+//! What a process does: its words, the top call with the three models and a counter of its own, and its output handed
+//! on.
+ghost use Rattle.std.specs.Prelude.{◌≡◌, ◌⊎◌, ◌<◌, ℕ, Bool, Some, None, IsTrue, IfOk, IfErr, OnErr, false, map, drop, string_bytes};
+ghost use Rattle.std.specs.Vec.Iter.{into_iter_items};
 ghost use Rattle.et_io.specs.Faults.{Rose, count_after};
 ghost use Rattle.et_io.specs.Files.{Held};
 ghost use Rattle.et_graph.specs.Graph.{Graph, Decides};
 ghost use Rattle.et_top.specs.Command.{command};
 ghost use Rattle.et_top.specs.Process.{model_kinds, status_of_words, EndsAs};
 ghost use Rattle.et_top.specs.Reads.{ReadsInOrder, paths_of};
-ghost use Rattle.et_top.specs.Status.{is_read_status, is_write_status};
+ghost use Rattle.et_top.specs.Status.{is_read_status, is_write_status, is_whole};
 ghost use Rattle.et_top.specs.Top.{Defined, IsDefined, GivesDefined};
 
 use crate::answers::refuse;
@@ -14,12 +16,12 @@ use crate::refusal::Refusal;
 use crate::status::Status;
 use crate::top::elephant;
 use et_base::{NoMemory, Steps};
-use et_io::{Files, HostSink, Sink};
+use et_io::{Files, GatheringSink, Sink};
 use et_models::{Generational, MarkSweep, SemiSpace};
 use et_replay::HeapModel;
 use std::alloc::Global;
-use std::env::{self, Env};
-use std::io::{BufWriter, ErrorKind, Write};
+use std::env::{self, Args, Env};
+use std::io::ErrorKind;
 use std::marker::Brand;
 use std::sync::ledger::{Blank, Ledger};
 
@@ -32,20 +34,25 @@ pub enum WordsFault {
     NoMemory,
 }
 
-/// The words of the process behind the program's name.
-pub fn words(rt: &(impl Env + AllocGlobal)) -> Result<Vec<String>, WordsFault> {
-    let all = match env::args(rt) {
-        Ok(all) => all,
-        Err(error) if error.kind() == ErrorKind::OutOfMemory => return Err(WordsFault::NoMemory),
-        Err(_) => return Err(WordsFault::NotUtf8),
-    };
-    let mut words = Vec::new(rt.alloc());
-    for word in all.skip(1) {
-        if words.push(word).is_err() {
-            return Err(WordsFault::NoMemory);
-        }
+/// The words behind the first one, in their order.
+fn behind_first(alloc: Global, mut all: Args) -> Result<Vec<String>, NoMemory>
+    ensures { IfOk result (λ words. words.items ≡ drop 1 (into_iter_items all)) }
+{
+    let mut words = Vec::new(alloc);
+    let _name = all.next();
+    for word in all {
+        words.push(word)?;
     }
     Ok(words)
+}
+
+/// The words of the process behind the program's name, all of them. Of what the system hands over nothing is known.
+pub fn words(rt: &(impl Env + AllocGlobal)) -> Result<Vec<String>, WordsFault> {
+    match env::args(rt) {
+        Ok(all) => behind_first(rt.alloc(), all).map_err(|_| WordsFault::NoMemory),
+        Err(error) if error.kind() == ErrorKind::OutOfMemory => Err(WordsFault::NoMemory),
+        Err(_) => Err(WordsFault::NotUtf8),
+    }
 }
 
 /// The top call with new models, one of each kind in the order of their lines, and a counter of visits of its own.
@@ -129,60 +136,66 @@ pub fn run_elephant<F: Files, O: Sink, E: Sink>(
     }
 }
 
-/// The status of a process whose output was gathered, once that is handed on: the one that it came to, or `WriteFault`
-/// where the whole output was to be taken and the stream didn't take what was left.
-fn hand_on<W: Write + Drop, E: Sink>(
+/// The status with which a process ends that came to this one: a whole output is handed on, and where that fails the
+/// status is `WriteFault`, with its line.
+fn hand_on_whole<O: GatheringSink, E: Sink>(
     alloc: Global,
-    out: &mut HostSink<BufWriter<W>>,
+    out: &mut O,
     err: &mut E,
     status: Status,
 ) -> Status
-    ensures { EndsAs status result }
+    ensures ends { EndsAs status result (O.faults out.old) (O.faults out.new) }
+    ensures taken { O.taken out.new ≡ O.taken out.old }
+    ensures handed { IsTrue (is_whole result) → O.handed out.new ≡ O.taken out.new }
+    ensures refused { is_whole status ≡ false → out.new ≡ out.old }
 {
-    match status {
-        Status::Done | Status::IllTyped | Status::ObjectLimit => {
-            if out.hand_on() {
-                status
-            } else {
-                refuse(alloc, err, &Refusal::WriteFault)
-            }
-        }
-        _ => status,
+    if !status.is_whole() {
+        return status;
+    }
+    if out.hand_on() {
+        status
+    } else {
+        refuse(alloc, err, &Refusal::WriteFault)
     }
 }
 
-/// All that a process does where its output goes to a stream: `run_elephant`, whose output is handed on in pieces of 64
-/// KiB, and what is left of it before the process ends. Where the stream doesn't take that, the status is `WriteFault`,
-/// with its line. Of the stream nothing is known, so that a write may fail at any time.
-pub fn run_process<F: Files, W: Write + Drop, E: Sink>(
+/// All that a process does where its output is gathered: `run_elephant`, and then what is left of a whole output is handed
+/// on. Where that fails, the status is `WriteFault`, with its line, and what was taken may be the whole output. The sink
+/// itself may hand on what it took, and fail at it, before.
+pub fn run_process<F: Files, O: GatheringSink, E: Sink>(
     alloc: Global,
     words: Result<Vec<String>, WordsFault>,
     files: &mut F,
-    stream: W,
+    out: &mut O,
     err: &mut E,
 ) -> Status
     ensures answers { IfOk words (λ some. (held : Held) → F.holds files.old ≡ Some held →
         (d : Defined) → IsDefined model_kinds (map string_bytes some.items) held d →
-        (reached : Graph → ℕ → Bool) → Decides reached → (visits : ℕ) × GivesDefined reached None
-        None
-        0 visits (Rose (F.faults files.old) (F.faults files.new)) (Unit {0}) d result) }
+        (reached : Graph → ℕ → Bool) → Decides reached → (visits : ℕ) × GivesDefined reached
+        (O.taken out.old) (O.taken out.new) 0 visits (Rose (F.faults files.old)
+        (F.faults files.new)) (Rose (O.faults out.old) (O.faults out.new)) d result) }
+    ensures handed { IsTrue (is_whole result) → O.handed out.new ≡ O.taken out.new }
     ensures usage { IfOk words
         (λ some. result ≡ Status.Usage → command (map string_bytes some.items) ≡ None) }
     ensures no_command { IfOk words (λ some. command (map string_bytes some.items) ≡ None →
         (result ≡ Status.Usage) ⊎ (result ≡ Status.NoMemory)) }
     ensures read_fault { F.faults files.new
         ≡ count_after (is_read_status result) (F.faults files.old) }
+    ensures write_fault { O.faults out.new
+        ≡ count_after (is_write_status result) (O.faults out.old) }
     ensures reads { IfOk words (λ some. ReadsInOrder (F.holds files.old) (F.asked files.old)
         (F.asked files.new) (paths_of (command (map string_bytes some.items))) result) }
-    ensures no_words { IfErr words
-        (λ fault. (result ≡ status_of_words fault) ⊎ (result ≡ Status.NoMemory)) }
+    ensures no_words { IfErr words (λ fault. result ≡ status_of_words fault) }
     ensures no_file { OnErr words (files.new ≡ files.old) }
+    ensures nothing { OnErr words (out.new ≡ out.old) }
 {
-    match HostSink::gathering(alloc, stream) {
-        Ok(mut out) => {
-            let status = run_elephant(alloc, words, files, &mut out, err);
-            hand_on(alloc, &mut out, err, status)
-        }
-        Err(_) => refuse(alloc, err, &Refusal::NoMemory),
-    }
+    let status = run_elephant(alloc, words, files, out, err);
+    hand_on_whole(alloc, out, err, status)
+}
+
+/// The status of a process for whose output there is no memory to gather it, with its line.
+pub fn run_without_memory<E: Sink>(alloc: Global, err: &mut E) -> Status
+    ensures { result ≡ Status.NoMemory }
+{
+    refuse(alloc, err, &Refusal::NoMemory)
 }

@@ -1,6 +1,6 @@
 //! How the program ends.
 ghost use Rattle.std.specs.Prelude.{◌≡◌};
-ghost use Rattle.et_top.specs.Status.{status_number};
+ghost use Rattle.et_top.specs.Status.{status_number, is_whole};
 
 /// How the program ended.
 #[derive(Clone, Copy, Debug, PartialEq, Eq)]
@@ -53,5 +53,12 @@ impl Status {
             Status::BadText => 12,
             Status::TooLong => 13,
         }
+    }
+
+    /// Whether the whole output was taken.
+    pub fn is_whole(&self) -> bool
+        ensures { result ≡ is_whole self.now }
+    {
+        matches!(self, Status::Done | Status::IllTyped | Status::ObjectLimit)
     }
 }
