@@ -1,10 +1,10 @@
 //! Each read and each write that fails, in turn; and sets of files at their limit.
 
 use crate::first_path::BOX;
-use crate::runs::{answer, is_answered};
+use crate::runs::{answer, is_answered, words_of};
 use crate::traces::{BAD, Row, USE, USE_TRACE, are_answered, files_of};
-use et_io::{Files, Found, MemFiles, MemSink};
-use et_top::Status;
+use et_io::{Files, Found, GatheringMemSink, MemFiles, MemSink};
+use et_top::{Status, run_process};
 use std::alloc::Global;
 use std::process::Abort;
 use std::test::Fail;
@@ -29,6 +29,32 @@ fn each_put_of_a_trace_fails_in_turn(rt: HostRuntime) -> Result<(), Fail> {
         } else {
             assert_eq!(rt; status, Status::Done);
             assert_eq!(rt; out.bytes(), USE_TRACE);
+        }
+    }
+    Ok(())
+}
+
+/// The trace is written to a sink that gathers, of which one call fails, each put in turn and then the call that hands on:
+/// nothing of the trace is handed on. Without that fault all of it is.
+#[test]
+fn each_call_of_a_gathering_sink_fails_in_turn(rt: HostRuntime) -> Result<(), Fail> {
+    let alloc = rt.alloc();
+    for call in 1..=10 {
+        let mut files = files_of(alloc, &[("Use.class", USE), ("Bad.class", BAD)])?;
+        let mut out = GatheringMemSink::begin(alloc);
+        let mut err = MemSink::begin(alloc, 1000);
+        out.fail_at(call)?;
+        let words = words_of(alloc, USE_LINE)?;
+        let status = run_process(alloc, Ok(words), &mut files, &mut out, &mut err);
+        // eight puts, as above, and one call that hands on
+        if call <= 9 {
+            assert_eq!(rt; status, Status::WriteFault);
+            assert!(rt; out.handed().is_empty());
+            assert_eq!(rt; err.bytes(), b"elephant: write fault\n".as_slice());
+        } else {
+            assert_eq!(rt; status, Status::Done);
+            assert_eq!(rt; out.handed(), USE_TRACE);
+            assert!(rt; err.bytes().is_empty());
         }
     }
     Ok(())

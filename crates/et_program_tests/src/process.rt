@@ -2,7 +2,7 @@
 ghost use Rattle.std.specs.Prelude.{◌≤◌, IfOk, length};
 
 use et_io::{MemFiles, MemSink};
-use et_top::{Status, WordsFault, run_elephant, words};
+use et_top::{Status, WordsFault, run_elephant, run_without_memory, words};
 use std::env::{Env, FillError};
 use std::test::Fail;
 
@@ -85,5 +85,13 @@ fn words_that_are_not_there_are_refused(rt: HostRuntime) -> Result<(), Fail> {
         assert!(rt; out.bytes().is_empty());
         assert_eq!(rt; err.bytes(), refusal);
     }
+    Ok(())
+}
+
+#[test]
+fn no_memory_to_gather_in_is_refused(rt: HostRuntime) -> Result<(), Fail> {
+    let mut err = MemSink::begin(rt.alloc(), 1000);
+    assert_eq!(rt; run_without_memory(rt.alloc(), &mut err), Status::NoMemory);
+    assert_eq!(rt; err.bytes(), b"elephant: no memory\n".as_slice());
     Ok(())
 }

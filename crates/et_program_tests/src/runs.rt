@@ -5,6 +5,15 @@ use std::alloc::Global;
 use std::process::Abort;
 use std::test::Fail;
 
+/// The words of a line, which stand with a space between.
+pub fn words_of(alloc: Global, line: &str) -> Result<Vec<String>, Fail> {
+    let mut words = Vec::new(alloc);
+    for word in line.split(' ') {
+        words.push(String::from_str(alloc, word)?)?;
+    }
+    Ok(words)
+}
+
 /// The answer of the program to these words, which stand with a space between.
 pub fn answer(
     alloc: Global,
@@ -13,11 +22,7 @@ pub fn answer(
     out: &mut MemSink,
     err: &mut MemSink,
 ) -> Result<Status, Fail> {
-    let mut words = Vec::new(alloc);
-    for word in line.split(' ') {
-        words.push(String::from_str(alloc, word)?)?;
-    }
-    Ok(run_elephant(alloc, Ok(words), files, out, err))
+    Ok(run_elephant(alloc, Ok(words_of(alloc, line)?), files, out, err))
 }
 
 /// The files hold this file; the answer, the output and the line of the refusal are these.

@@ -1,10 +1,9 @@
 -- What a process gives once its output is handed on, or isn't.
-use Rattle.std.proofs.Common.{◌≡◌, ℕ, ◌∙◌, Bool, true, false, List, [], Option, Result, Ok, Err, inl, inr, refl, sym, ap, subst}
+use Rattle.std.proofs.Common.{◌≡◌, ℕ, ◌∙◌, Bool, true, false, List, Option, Result, Ok, Err, inl, inr, refl, sym, ap, subst}
 use Rattle.std.specs.Prelude.{IfOk}
 use Rattle.et_graph.specs.Graph.{Graph}
 use Rattle.et_run.proofs.OneTrace.{whole_front, whole_trace}
 use Rattle.et_io.specs.Faults.{Rose, count_after}
-use Rattle.et_text.specs.Spelling.{text}
 use Rattle.et_top.specs.Faults.{Fault, Absent, TooLong, BadClass, BadText, BadTrace, LinkFault, status_of_fault}
 use Rattle.et_top.specs.Process.{EndsAs}
 use Rattle.et_top.specs.Status.{is_whole, is_write_status}
