@@ -5,6 +5,8 @@
 #[cfg(test)]
 mod arrays;
 #[cfg(test)]
+mod bench;
+#[cfg(test)]
 mod boxes;
 #[cfg(test)]
 mod checks;

@@ -29,7 +29,13 @@ fn is_refused(rt: &impl Abort, alloc: Global, line: &str) -> Result<(), Fail> {
 fn each_rule_of_the_words_refuses(rt: HostRuntime) -> Result<(), Fail> {
     let lines = [
         "",
-        "bench 1",
+        "bench",
+        "bench x",
+        "bench -1",
+        "bench 9223372036854775808",
+        "bench 000000000000000000001",
+        "bench 1 2",
+        "bench --flush 1 1",
         "--flush 1 trace A",
         "trace",
         "trace --",

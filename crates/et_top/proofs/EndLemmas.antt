@@ -1,13 +1,15 @@
 -- What a process gives once its output is handed on, or isn't.
-use Rattle.std.proofs.Common.{◌≡◌, ℕ, ◌∙◌, Bool, true, false, List, Option, Result, Ok, Err, inl, inr, refl, sym, ap, subst}
+use Rattle.std.proofs.Common.{◌≡◌, ℕ, ◌+◌, ◌≤◌, ◌∙◌, arith, Bool, true, false, List, Option, Result, Ok, Err, inl, inr, refl, sym, ap, subst}
 use Rattle.std.specs.Prelude.{IfOk}
 use Rattle.et_graph.specs.Graph.{Graph}
 use Rattle.et_run.proofs.OneTrace.{whole_front, whole_trace}
 use Rattle.et_io.specs.Faults.{Rose, count_after}
+use Rattle.et_program.specs.Entries.{Linked}
+use Rattle.et_top.specs.Bench.{summary_text}
 use Rattle.et_top.specs.Faults.{Fault, Absent, TooLong, BadClass, BadText, BadTrace, LinkFault, status_of_fault}
 use Rattle.et_top.specs.Process.{EndsAs}
 use Rattle.et_top.specs.Status.{is_whole, is_write_status}
-use Rattle.et_top.specs.Top.{Defined, Usage, Refused, Writes, Traces, GivesDefined}
+use Rattle.et_top.specs.Top.{Defined, Usage, Refused, Writes, Traces, Benches, WritesSummary, CutsSummary, GivesDefined}
 use Rattle.et_top.specs.declared.status.Status.{Status}
 use Rattle.et_top.specs.declared.status.Status.TheVariants as status
 use Rattle.et_top.proofs.FaultLemmas.{rose_one}
@@ -37,7 +39,19 @@ never_whole (BadText kind line) e = absurd (cc e)
 never_whole (BadTrace kind line) e = absurd (cc e)
 never_whole (LinkFault kind class) e = absurd (cc e)
 
+least : (n : ℕ) → 0 ≤ 0 + n
+least n = omega arith
+
 module _ (reached : Graph → ℕ → Bool) (before after : Option (List ℕ)) (old new : ℕ) (read written later : Type 0) where
+  cut_summary : (program : Linked) (answer : Status) → WritesSummary reached before after old new program answer → CutsSummary reached before after 0 0 program
+  cut_summary program answer w = record {
+    event = w.event;
+    end = w.end;
+    lines = w.lines;
+    back = record { run = record { last = w.back.run.last; visits = least _ }; read = w.back.read };
+    wrote = whole_front before after (summary_text reached w.lines) w.wrote;
+  }
+
   -- A whole output that was not handed on: the write failed, and a prefix of it was taken. Of the counter, which is dropped
   -- then, nothing is asked.
   cut_gives : (d : Defined) (came : Status) → is_whole came ≡ true → later → GivesDefined reached before after old new read written d came → GivesDefined reached before after 0 0 read later d status.WriteFault
@@ -54,6 +68,9 @@ module _ (reached : Graph → ℕ → Bool) (before after : Option (List ℕ)) (
       (λ is. (rose, record { wrote = whole_trace _ _ _ _ is.ran before after is.wrote; visits = inl refl }))
       (λ is. (rose, record { wrote = whole_trace _ _ _ _ is.ran before after is.wrote; visits = inl refl }))
       (λ is. (rose, record { wrote = whole_trace _ _ _ _ is.ran before after is.wrote; visits = inl refl })) came whole h
+  cut_gives (Benches program) came whole rose h =
+      of_whole (λ s. GivesDefined reached before after old new read written (Benches program) s → GivesDefined reached before after 0 0 read later (Benches program) status.WriteFault)
+      (λ is. (rose, cut_summary program status.Done is)) (λ is. (rose, cut_summary program status.IllTyped is)) (λ is. (rose, cut_summary program status.ObjectLimit is)) came whole h
 
 -- a fault of handing on is one more than there were before the whole output was put
 failed_rose : (came : Status) (old mid new : ℕ) → is_whole came ≡ true → mid ≡ count_after (is_write_status came) old → new ≡ count_after true mid → Rose old new

@@ -38,7 +38,7 @@ counted_from failed old mid new is same = is ∙ ap (count_after failed) same
 -- A READ
 
 -- what speaks of bytes speaks of no read
-no_read_cause : (cause : Cause) → IsOfBytes cause → is_read_cause cause ≡ false
+pub no_read_cause : (cause : Cause) → IsOfBytes cause → is_read_cause cause ≡ false
 no_read_cause (File fault) of = refl
 no_read_cause Reading of = absurd of
 no_read_cause Memory of = refl

@@ -119,7 +119,7 @@ trace_not_read read file Memory trace h is = tt
 trace_not_read read file Other trace h is = absurd h
 
 -- what speaks of bytes speaks of a file
-of_file : (cause : Cause) → IsOfBytes cause → IsFileRefusal cause
+pub of_file : (cause : Cause) → IsOfBytes cause → IsFileRefusal cause
 of_file (File fault) of = tt
 of_file Reading of = tt
 of_file Memory of = tt

@@ -11,5 +11,8 @@ mod KindLemmas
 mod VisitLemmas
 mod EndLemmas
 mod PathLemmas
+mod TextLemmas
+mod BenchLemmas
+mod BenchHistory
 mod OneThing
 mod BehindLemmas

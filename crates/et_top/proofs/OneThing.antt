@@ -14,10 +14,11 @@ use Rattle.et_program.specs.declared.fault.LinkFaultKind.{LinkFaultKind}
 use Rattle.et_link.specs.Refusals.{LinkIs, RefusesLink}
 use Rattle.et_link.specs.declared.fault.LinkFault.TheVariants as link
 use Rattle.et_replay.specs.declared.model.Kind.{Kind}
-use Rattle.et_top.specs.Command.{Asked, Trace, Assemble, Replay, Curve, command}
+use Rattle.et_top.specs.Command.{Asked, Trace, Assemble, Replay, Curve, Bench, command}
 use Rattle.et_top.specs.Faults.{Fault, BadClass, BadText, BadTrace, LinkFault}
 use Rattle.et_top.specs.Loaded.{file_bytes, before, most_of_class, most_of_trace, IsClassOf, IsListingOf, IsTraceOf, AreFirstAnd, AreClassesOf, IsLinkedOf, IsProgramOfFiles}
-use Rattle.et_top.specs.Top.{Usage, IsAskedDefined, IsDefined, traces}
+use Rattle.et_top.specs.Bench.{IsListingProgram, bench_listing, class_alone}
+use Rattle.et_top.specs.Top.{Usage, IsAskedDefined, IsDefined, traces, benches}
 use Rattle.et_top.proofs.Found.{class_found, fault_found, lines_found, line_found, listing_found, listing_fault_found}
 use Rattle.et_top.proofs.LinkLemmas.{linked_found, link_fault_found}
 use Rattle.et_top.proofs.PathLemmas.{HasPaths, paths_of_trace, command_has}
@@ -128,6 +129,20 @@ module _ (class_is_one : (bytes : List ℕ) → HasOneClass bytes)
   one_program files some =
       decided (AreClassesOf files) IsLinkedOf (one_classes class_is_one files) (λ classes are. one_linked link_is_some link_is_one classes (files_some files classes some are))
 
+  alone_some : (class : Result ClassOf Fault) → HasClasses (class_alone class)
+  alone_some (Ok c) = let some : 0 < length (c ∷ []) = omega arith in some
+  alone_some (Err fault) = tt
+
+  -- the class of a listing, and its program alone
+  one_alone : (bytes : Result (List ℕ) Fault) → One (λ (program : Result Linked Fault). (class : Result ClassOf Fault) × IsClassOf bytes class × IsLinkedOf (class_alone class) program)
+  one_alone bytes = decided (IsClassOf bytes) (λ class program. IsLinkedOf (class_alone class) program) (one_class class_is_one bytes) (λ class is. one_linked link_is_some link_is_one (class_alone class) (alone_some class))
+
+  one_of_listing : (listing : List ℕ) → One (IsListingProgram listing)
+  one_of_listing listing =
+      let one = decided (IsListingOf (Ok listing)) (λ bytes (program : Result Linked Fault). (class : Result ClassOf Fault) × IsClassOf bytes class × IsLinkedOf (class_alone class) program) (one_listing marks_are_one (Ok listing)) (λ bytes is. one_alone bytes) in
+      let h = one.1 in
+      (one.0, (h.0, h.2.0, h.1, h.2.1, h.2.2), λ y g. one.2 y (g.0, g.2, (g.1, g.3, g.4)))
+
   trace_of_file : (file : Result (List ℕ) Fault) → One (IsTraceOf file)
   trace_of_file = one_trace some_answer no_fault one_list one_fault
 
@@ -139,6 +154,7 @@ module _ (class_is_one : (bytes : List ℕ) → HasOneClass bytes)
   one_asked kinds (Some (Assemble path)) held has = decided (IsListingOf (file_bytes most_of_class (held path))) _ (one_listing marks_are_one (file_bytes most_of_class (held path))) (λ class is. the_one _)
   one_asked kinds (Some (Replay models path)) held has = decided (IsTraceOf (file_bytes most_of_trace (held path))) _ (trace_of_file (file_bytes most_of_trace (held path))) (λ trace is. the_one _)
   one_asked kinds (Some (Curve path)) held has = decided (IsTraceOf (file_bytes most_of_trace (held path))) _ (trace_of_file (file_bytes most_of_trace (held path))) (λ trace is. the_one _)
+  one_asked kinds (Some (Bench number)) held has = decided (IsListingProgram (bench_listing number 50000 40000)) _ (one_of_listing (bench_listing number 50000 40000)) (λ program is. the_one (benches program))
 
   pub one_thing : (kinds : List Kind) (words : List (List ℕ)) (held : Held) → One (IsDefined kinds words held)
   one_thing kinds words held = one_asked kinds (command words) held (command_has words)

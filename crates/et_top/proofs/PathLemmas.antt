@@ -1,10 +1,11 @@
 -- A command `trace` has a path.
-use Rattle.std.proofs.Common.{ℕ, ◌<◌, Bool, true, false, List, [], ◌∷◌, length, Option, Some, None, option_map, arith}
+use Rattle.std.proofs.Common.{ℕ, ◌-◌, ◌^◌, ◌<◌, Bool, true, false, List, [], ◌∷◌, length, Option, Some, None, option_map, arith}
 use Rattle.std.specs.Prelude.{◌==◌, if◌then◌else◌, option_and_then}
 use Rattle.et_state.specs.declared.options.Options.{Options}
 use Rattle.et_top.specs.declared.command.Models.{Models}
 use Rattle.et_top.specs.Words.{Split, split}
-use Rattle.et_top.specs.Command.{Asked, Trace, Assemble, Replay, Curve, command, asked, some_paths, plain_path, only_path, trace_options, replay_options}
+use Rattle.et_top.specs.Numbers.{number_within}
+use Rattle.et_top.specs.Command.{Asked, Trace, Assemble, Replay, Curve, Bench, command, asked, some_paths, plain_path, only_path, trace_options, replay_options}
 
 -- where it is `trace`, there is a path
 pub HasPaths : Option Asked → Type 0
@@ -13,6 +14,7 @@ HasPaths (Some (Trace options paths)) = 0 < length paths
 HasPaths (Some (Assemble path)) = Unit {0}
 HasPaths (Some (Replay models path)) = Unit {0}
 HasPaths (Some (Curve path)) = Unit {0}
+HasPaths (Some (Bench number)) = Unit {0}
 
 pub paths_of_trace : (options : Options) (paths : List (List ℕ)) → HasPaths (Some (Trace options paths)) → 0 < length paths
 unfolding HasPaths
@@ -57,6 +59,11 @@ replay_has r None = tt
 replay_has None (Some path) = tt
 replay_has (Some models) (Some path) = tt
 
+bench_has : (o : Option ℕ) → HasPaths (option_map Bench o)
+unfolding HasPaths
+bench_has None = tt
+bench_has (Some number) = tt
+
 -- WHAT THE WORDS ARE
 
 asked_has : (name : List ℕ) (s : Split) → HasPaths (asked name s)
@@ -64,7 +71,8 @@ asked_has name s =
     either_has _ _ _ (trace_has s.operands (trace_options s.options))
     (either_has _ _ _ (assemble_has (plain_path s))
     (either_has _ _ _ (replay_has (replay_options s.options) (only_path s.operands))
-    (either_has _ _ _ (curve_has (plain_path s)) nothing_has)))
+    (either_has _ _ _ (curve_has (plain_path s))
+    (either_has _ _ _ (bench_has (option_and_then (number_within 0 (2 ^ 63 - 1)) (plain_path s))) nothing_has))))
 
 split_has : (name : List ℕ) (o : Option Split) → HasPaths (option_and_then (asked name) o)
 split_has name None = nothing_has

@@ -20,7 +20,7 @@ use Rattle.et_top.specs.Command.{Asked}
 use Rattle.et_top.specs.Asked.{asked_by}
 use Rattle.et_top.specs.declared.command.Command.{Command}
 use Rattle.et_replay.specs.declared.model.Kind.{Kind}
-use Rattle.et_top.specs.Top.{IsAskedDefined, Defined, Usage, Refused, Writes, Traces, defined_text, traces, status_of_end, WritesHistory, GivesDefined}
+use Rattle.et_top.specs.Top.{IsAskedDefined, Defined, Usage, Refused, Writes, Traces, defined_text, traces, Benches, benches, status_of_end, WritesHistory, GivesDefined}
 use Rattle.et_top.specs.declared.status.Status.{Status}
 use Rattle.et_top.specs.declared.status.Status.TheVariants as status
 use Rattle.et_top.specs.declared.refusal.Refusal.{Refusal}
@@ -94,12 +94,13 @@ text_gives reached before after old new read written text found a d wrote answer
 
 -- WHAT WAS REFUSED BEFORE ANYTHING WAS WRITTEN
 
--- something is defined of what a file holds
-abbrev IsLoaded : Defined → Type 0
-IsLoaded Usage = ⊥
-IsLoaded (Refused fault) = Unit {0}
-IsLoaded (Writes text) = Unit {0}
-IsLoaded (Traces program options) = Unit {0}
+-- something is defined of what a file holds; where none is read, no read fails
+abbrev IsLoaded : (read : Type 0) → Defined → Type 0
+IsLoaded read Usage = ⊥
+IsLoaded read (Refused fault) = Unit {0}
+IsLoaded read (Writes text) = Unit {0}
+IsLoaded read (Traces program options) = Unit {0}
+IsLoaded read (Benches program) = read → ⊥
 
 -- .. and where a history is, nothing was visited
 abbrev IsStill : ℕ → ℕ → Defined → Type 0
@@ -107,31 +108,35 @@ IsStill old new Usage = Unit {0}
 IsStill old new (Refused fault) = Unit {0}
 IsStill old new (Writes text) = Unit {0}
 IsStill old new (Traces program options) = new ≡ old
+IsStill old new (Benches program) = new ≡ old
 
 pub still : (visits : ℕ) (d : Defined) → IsStill visits visits d
 still visits Usage = tt
 still visits (Refused fault) = tt
 still visits (Writes text) = tt
 still visits (Traces program options) = refl
+still visits (Benches program) = refl
 
 module _ (reached : Graph → ℕ → Bool) (taken : Option (List ℕ)) (old new : ℕ) (read written : Type 0) where
-  reading_gives : (d : Defined) → IsLoaded d → read → GivesDefined reached taken taken old new read written d status.ReadFault
+  reading_gives : (d : Defined) → IsLoaded read d → read → GivesDefined reached taken taken old new read written d status.ReadFault
   reading_gives Usage loaded h = absurd loaded
   reading_gives (Refused fault) loaded h = (refl, inr (inl (refl, h)))
   reading_gives (Writes text) loaded h = (h, refl)
   reading_gives (Traces program options) loaded h = (h, refl)
+  reading_gives (Benches program) loaded h = absurd (loaded h)
 
   pub memory_gives : (d : Defined) → IsStill old new d → GivesDefined reached taken taken old new read written d status.NoMemory
   memory_gives Usage none = (refl, inr refl)
   memory_gives (Refused fault) none = (refl, inr (inr refl))
   memory_gives (Writes text) none = front_nothing taken (text reached)
   memory_gives (Traces program options) none = record { wrote = λ e end last. front_nothing taken _; visits = inl none }
+  memory_gives (Benches program) none = inl (refl, inl ([], inl none))
 
   file_gives : (fault : Fault) (answer : Status) → answer ≡ status_of_fault fault → GivesDefined reached taken taken old new read written (Refused fault) answer
   file_gives fault answer is = (refl, inl is)
 
   -- a file is refused for what it was found to have
-  by_cause : (d : Defined) (r : Refusal) → IsLoaded d → IsStill old new d → ((fault : Fault) → cause_of r ≡ File fault → d ≡ Refused fault) → (cause_of r ≡ Reading → read) → (cause_of r ≡ Other → ⊥) → GivesDefined reached taken taken old new read written d (status_of r)
+  by_cause : (d : Defined) (r : Refusal) → IsLoaded read d → IsStill old new d → ((fault : Fault) → cause_of r ≡ File fault → d ≡ Refused fault) → (cause_of r ≡ Reading → read) → (cause_of r ≡ Other → ⊥) → GivesDefined reached taken taken old new read written d (status_of r)
   by_cause d (refusal.Absent path) loaded none file reads other = subst (λ x. GivesDefined reached taken taken old new read written x status.Absent) (sym (file Absent refl)) (file_gives Absent status.Absent refl)
   by_cause d (refusal.TooLong path) loaded none file reads other = subst (λ x. GivesDefined reached taken taken old new read written x status.TooLong) (sym (file TooLong refl)) (file_gives TooLong status.TooLong refl)
   by_cause d (refusal.BadClass path kind offset) loaded none file reads other = subst (λ x. GivesDefined reached taken taken old new read written x status.BadClass) (sym (file (BadClass kind offset) refl)) (file_gives (BadClass kind offset) status.BadClass refl)
@@ -154,7 +159,7 @@ module _ (reached : Graph → ℕ → Bool) (taken : Option (List ℕ)) (old new
   cause_other : {A : Type 0} (found : Result A Fault) (cause : Cause) → IsCause read found cause → cause ≡ Other → ⊥
   cause_other found cause is e = subst (IsCause read found) e is
 
-  writes_loaded : {A : Type 0} (text : (Graph → ℕ → Bool) → A → List ℕ) (found : Result A Fault) → IsLoaded (defined_text text found)
+  writes_loaded : {A : Type 0} (text : (Graph → ℕ → Bool) → A → List ℕ) (found : Result A Fault) → IsLoaded read (defined_text text found)
   writes_loaded text (Err fault) = tt
   writes_loaded text (Ok a) = tt
 
@@ -166,20 +171,34 @@ module _ (reached : Graph → ℕ → Bool) (taken : Option (List ℕ)) (old new
   traces_still options (Err fault) none = tt
   traces_still options (Ok program) none = none
 
-  traces_loaded : (options : Options) (found : Result Linked Fault) → IsLoaded (traces options found)
+  traces_loaded : (options : Options) (found : Result Linked Fault) → IsLoaded read (traces options found)
   traces_loaded options (Err fault) = tt
   traces_loaded options (Ok program) = tt
 
   pub refused_text : {A : Type 0} (text : (Graph → ℕ → Bool) → A → List ℕ) (found : Result A Fault) (r : Refusal) (d : Defined) (answer : Status) → d ≡ defined_text text found → IsCause read found (cause_of r) → answer ≡ status_of r → GivesDefined reached taken taken old new read written d answer
   refused_text text found r d answer e is how =
       subst (GivesDefined reached taken taken old new read written d) (sym how)
-      (by_cause d r (subst IsLoaded (sym e) (writes_loaded text found)) (subst (IsStill old new) (sym e) (writes_still text found)) (λ fault c. e ∙ ap (defined_text text) (cause_file found (cause_of r) fault is c))
+      (by_cause d r (subst (IsLoaded read) (sym e) (writes_loaded text found)) (subst (IsStill old new) (sym e) (writes_still text found)) (λ fault c. e ∙ ap (defined_text text) (cause_file found (cause_of r) fault is c))
       (cause_reads found (cause_of r) is) (cause_other found (cause_of r) is))
 
   pub refused_trace : (options : Options) (found : Result Linked Fault) (r : Refusal) (d : Defined) (answer : Status) → d ≡ traces options found → IsCause read found (cause_of r) → answer ≡ status_of r → new ≡ old → GivesDefined reached taken taken old new read written d answer
   refused_trace options found r d answer e is how none =
       subst (GivesDefined reached taken taken old new read written d) (sym how)
-      (by_cause d r (subst IsLoaded (sym e) (traces_loaded options found)) (subst (IsStill old new) (sym e) (traces_still options found none)) (λ fault c. e ∙ ap (traces options) (cause_file found (cause_of r) fault is c))
+      (by_cause d r (subst (IsLoaded read) (sym e) (traces_loaded options found)) (subst (IsStill old new) (sym e) (traces_still options found none)) (λ fault c. e ∙ ap (traces options) (cause_file found (cause_of r) fault is c))
+      (cause_reads found (cause_of r) is) (cause_other found (cause_of r) is))
+
+  benches_loaded : (found : Result Linked Fault) → (read → ⊥) → IsLoaded read (benches found)
+  benches_loaded (Err fault) none = tt
+  benches_loaded (Ok program) none = none
+
+  benches_still : (found : Result Linked Fault) → new ≡ old → IsStill old new (benches found)
+  benches_still (Err fault) none = tt
+  benches_still (Ok program) none = none
+
+  pub refused_bench : (found : Result Linked Fault) (r : Refusal) (answer : Status) → IsCause read found (cause_of r) → answer ≡ status_of r → new ≡ old → (read → ⊥) → GivesDefined reached taken taken old new read written (benches found) answer
+  refused_bench found r answer is how none unread =
+      subst (GivesDefined reached taken taken old new read written (benches found)) (sym how)
+      (by_cause (benches found) r (benches_loaded found unread) (benches_still found none) (λ fault c. ap benches (cause_file found (cause_of r) fault is c))
       (cause_reads found (cause_of r) is) (cause_other found (cause_of r) is))
 
   pub usage_gives : (answer : Status) → answer ≡ status.Usage → GivesDefined reached taken taken old new read written Usage answer

@@ -1,5 +1,5 @@
 -- WHAT A COMMAND LINE ASKS FOR. The first word is the command, and each command has its own options and operands.
-use Rattle.std.specs.Prelude.{ℕ, ◌^◌, ◌==◌, ◌&&◌, ◌||◌, List, [], ◌∷◌, Bool, true, not, Option, Some, None, option_map, option_and_then, is_some, length, bytes_eq, codes, if◌then◌else◌}
+use Rattle.std.specs.Prelude.{ℕ, ◌-◌, ◌^◌, ◌==◌, ◌&&◌, ◌||◌, List, [], ◌∷◌, Bool, true, not, Option, Some, None, option_map, option_and_then, is_some, length, bytes_eq, codes, if◌then◌else◌}
 use Rattle.std.specs.List.{list_any}
 use Rattle.et_state.specs.declared.options.Options.{Options}
 use Rattle.et_state.specs.declared.options.Schedule.{Schedule}
@@ -18,6 +18,8 @@ pub data Asked : Type 0 where
   Replay : (models : Models) → (path : List ℕ) → Asked
   -- the live curve of a trace
   Curve : (path : List ℕ) → Asked
+  -- the summary of the run of a large program, whose choices are made from this number
+  Bench : (number : ℕ) → Asked
 
 -- the value of the option of this name
 abbrev pub option_value : List ℕ → List Given → Option (List ℕ)
@@ -102,12 +104,17 @@ trace s = option_and_then (λ paths. option_map (λ options. Trace options paths
 abbrev pub replay : Split → Option Asked
 replay s = option_and_then (λ path. option_map (λ models. Replay models path) (replay_options s.options)) (only_path s.operands)
 
+-- a number of at most 2^63 - 1 alone
+abbrev pub bench : Split → Option Asked
+bench s = option_map Bench (option_and_then (number_within 0 (2 ^ 63 - 1)) (plain_path s))
+
 abbrev pub asked : List ℕ → Split → Option Asked
 asked name s =
     if bytes_eq name (codes "trace") then trace s
     else if bytes_eq name (codes "asm") then option_map Assemble (plain_path s)
     else if bytes_eq name (codes "replay") then replay s
     else if bytes_eq name (codes "curve") then option_map Curve (plain_path s)
+    else if bytes_eq name (codes "bench") then bench s
     else None
 
 -- THE COMMAND that the words are, if they are one

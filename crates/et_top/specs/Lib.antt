@@ -1,5 +1,6 @@
 pub mod Faults
 pub mod Loaded
+pub mod Bench
 pub mod Top
 pub mod Status
 pub mod Refusals

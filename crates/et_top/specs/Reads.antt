@@ -3,7 +3,7 @@
 use Rattle.std.specs.Prelude.{◌≡◌, ℕ, ◌-◌, ◌≤◌, Bool, true, false, List, [], ◌∷◌, ◌++◌, length, take, All, Option, None, Some, Ok}
 use Rattle.et_class.specs.Layout.{ClassOf}
 use Rattle.et_io.specs.Files.{Held}
-use Rattle.et_top.specs.Command.{Asked, Trace, Assemble, Replay, Curve}
+use Rattle.et_top.specs.Command.{Asked, Trace, Assemble, Replay, Curve, Bench}
 use Rattle.et_top.specs.Loaded.{file_bytes, most_of_class, IsClassOf}
 use Rattle.et_top.specs.declared.status.Status.{Status}
 use Rattle.et_top.specs.declared.status.Status.TheVariants as status
@@ -15,6 +15,7 @@ paths_of (Some (Trace options paths)) = paths
 paths_of (Some (Assemble path)) = path ∷ []
 paths_of (Some (Replay models path)) = path ∷ []
 paths_of (Some (Curve path)) = path ∷ []
+paths_of (Some (Bench number)) = []
 
 -- the file at the path is there, is not too long, and is a class file
 abbrev pub HoldsClass : Held → List ℕ → Type 0

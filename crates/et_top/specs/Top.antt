@@ -7,6 +7,7 @@ use Rattle.et_graph.specs.Graph.{Graph}
 use Rattle.et_io.specs.Files.{Held}
 use Rattle.et_io.specs.Sink.{with_more, TakesPrefix}
 use Rattle.et_state.specs.declared.options.Options.{Options}
+use Rattle.et_text.specs.declared.fault.TraceFault.TheVariants as faults
 use Rattle.et_loop.specs.declared.options.Ran.{Ran}
 use Rattle.et_loop.specs.Traced.{WritesTrace, WritesPrefix}
 use Rattle.et_replay.specs.Curve.{curve_text}
@@ -22,21 +23,27 @@ use Rattle.et_run.specs.Start.{start_records}
 use Rattle.et_run.specs.Whole.{whole_setting, whole_start, whole_visits_of}
 use Rattle.et_loop.specs.Visits.{allowed_visits, IsCut}
 use Rattle.et_top.specs.Faults.{Fault, status_of_fault}
+use Rattle.et_top.specs.Bench.{bench_listing, summary_text, IsListingProgram, IsReadBack, IsNotReadBack}
 use Rattle.et_top.specs.Loaded.{file_bytes, most_of_class, most_of_trace, IsListingOf, IsTraceOf, IsProgramOfFiles}
 use Rattle.et_top.specs.declared.status.Status.{Status}
 use Rattle.et_top.specs.declared.status.Status.TheVariants as status
 
--- what the words and the files define: no command, a file that is refused, a text, or the trace of a history. A text
--- may tell of what is reached; it takes a test that decides that
+-- what the words and the files define: no command, a file that is refused, a text, the trace of a history, or the summary of
+-- one. A text may tell of what is reached; it takes a test that decides that
 pub data Defined : Type 0 where
   Usage : Defined
   Refused : Fault → Defined
   Writes : (text : (Graph → ℕ → Bool) → List ℕ) → Defined
   Traces : (program : Linked) → (options : Options) → Defined
+  Benches : (program : Linked) → Defined
 
 abbrev pub traces : Options → Result Linked Fault → Defined
 traces options (Err fault) = Refused fault
 traces options (Ok program) = Traces program options
+
+abbrev pub benches : Result Linked Fault → Defined
+benches (Err fault) = Refused fault
+benches (Ok program) = Benches program
 
 abbrev pub defined_text : {A : Type 0} → ((Graph → ℕ → Bool) → A → List ℕ) → Result A Fault → Defined
 defined_text text (Err fault) = Refused fault
@@ -63,6 +70,8 @@ IsAskedDefined kinds (Some (words.Replay asked path)) held d =
     × (d ≡ defined_text (λ reached lines. replay_text reached (timeline_items lines) (policies_of asked kinds)) trace)
 IsAskedDefined kinds (Some (words.Curve path)) held d =
     (trace : Result (List TraceLine) Fault) × IsTraceOf (file_bytes most_of_trace (held path)) trace × (d ≡ defined_text (λ reached lines. curve_text lines) trace)
+IsAskedDefined kinds (Some (words.Bench number)) held d =
+    (program : Result Linked Fault) × IsListingProgram (bench_listing number 50000 40000) program × (d ≡ benches program)
 
 -- THE ONE THING that the words and the files that are held define
 abbrev pub IsDefined : List Kind → List (List ℕ) → Held → Defined → Type 0
@@ -90,6 +99,33 @@ module _ (reached : Graph → ℕ → Bool) (before after : Option (List ℕ)) (
     pub wrote : WritesPrefix reached (whole_setting program options) (whole_start program) (start_records program) before after
     pub visits : IsCut reached (whole_setting program options) whole_visits_of (whole_start program) (start_records program) before after old new
 
+  -- the history of the program ended so, its trace was read back, and out took the summary of its lines
+  pub record WritesSummary (program : Linked) (answer : Status) : Type 0 where
+    pub event : ℕ
+    pub end : End
+    pub lines : List TraceLine
+    pub back : IsReadBack reached program old new event end lines
+    pub ended : answer ≡ status_of_end end
+    pub wrote : after ≡ with_more before (summary_text reached lines)
+
+  -- .. or a prefix of it
+  pub record CutsSummary (program : Linked) : Type 0 where
+    pub event : ℕ
+    pub end : End
+    pub lines : List TraceLine
+    pub back : IsReadBack reached program old new event end lines
+    pub wrote : TakesPrefix before after (summary_text reached lines)
+
+  -- The answer of a bench. Nothing is written before the trace was read back.
+  abbrev pub GivesBench : (written : Type 0) → Linked → Status → Type 0
+  GivesBench written program status.Done = WritesSummary program status.Done
+  GivesBench written program status.IllTyped = WritesSummary program status.IllTyped
+  GivesBench written program status.ObjectLimit = WritesSummary program status.ObjectLimit
+  GivesBench written program status.BadTrace = (after ≡ before) × ((kind line : ℕ) × IsNotReadBack reached program old new (faults.At kind line))
+  GivesBench written program status.WriteFault = written × CutsSummary program
+  GivesBench written program status.NoMemory = ((after ≡ before) × IsNotReadBack reached program old new faults.NoMemory) ⊎ CutsSummary program
+  GivesBench written program answer = ⊥
+
   -- THE ANSWER where the files and out tell what they hold and took. `read` and `written` say that the count of faults
   -- of the files and of out rose in this call. Each answer has what is defined; but a fault of reading or writing comes
   -- where its count rose, and want of memory anywhere. Where nothing is defined to be written nothing was taken; after
@@ -110,3 +146,4 @@ module _ (reached : Graph → ℕ → Bool) (before after : Option (List ℕ)) (
   GivesDefined read written (Traces program options) status.WriteFault = written × WritesCut program options
   GivesDefined read written (Traces program options) status.NoMemory = WritesCut program options
   GivesDefined read written (Traces program options) answer = ⊥
+  GivesDefined read written (Benches program) answer = GivesBench written program answer

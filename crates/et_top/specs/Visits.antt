@@ -1,7 +1,7 @@
--- WHERE OBJECTS ARE VISITED: only in the run of a trace.
+-- WHERE OBJECTS ARE VISITED: only in the run of a trace, and in that of a bench.
 use Rattle.std.specs.Prelude.{ℕ, ◌+◌, ◌<◌, List, length, Option, Some}
-use Rattle.et_top.specs.Command.{Asked, Trace}
-use Rattle.et_top.specs.Top.{Defined, Usage, Refused, Writes, Traces}
+use Rattle.et_top.specs.Command.{Asked, Trace, Bench}
+use Rattle.et_top.specs.Top.{Defined, Usage, Refused, Writes, Traces, Benches}
 use Rattle.et_top.specs.declared.status.Status.{Status}
 use Rattle.et_top.specs.declared.status.Status.TheVariants as status
 
@@ -14,14 +14,21 @@ IsBeforeRun status.WriteFault = ⊥
 IsBeforeRun status.NoMemory = ⊥
 IsBeforeRun _ = Unit {0}
 
--- the words ask for no trace, or for one whose run was not begun
+-- a bench is answered so where its run was not begun: a bad trace is found behind the run
+abbrev pub IsBeforeBench : Status → Type 0
+IsBeforeBench status.BadTrace = ⊥
+IsBeforeBench answer = IsBeforeRun answer
+
+-- the words ask for no trace and no bench, or for one whose run was not begun
 abbrev pub IsWithoutRun : Option Asked → Status → Type 0
 IsWithoutRun (Some (Trace options paths)) answer = IsBeforeRun answer
+IsWithoutRun (Some (Bench number)) answer = IsBeforeBench answer
 IsWithoutRun _ answer = Unit {0}
 
--- the words and the files define no trace, so that there is no run, whatever is answered
+-- the words and the files define no trace and no bench, so that there is no run, whatever is answered
 abbrev pub IsNoTrace : Defined → Type 0
 IsNoTrace (Traces program options) = ⊥
+IsNoTrace (Benches program) = ⊥
 IsNoTrace Usage = Unit {0}
 IsNoTrace (Refused fault) = Unit {0}
 IsNoTrace (Writes text) = Unit {0}

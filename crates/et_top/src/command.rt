@@ -5,7 +5,7 @@ ghost use Rattle.et_top.specs.Parts.{split_of};
 ghost use Rattle.et_top.specs.Command as command;
 ghost use Rattle.et_top.specs.Asked.{asked_by, AreInRange};
 
-use crate::numbers::numbers;
+use crate::numbers::{number, numbers};
 use crate::options::{are_options, capacity, number_or, value_of};
 use crate::split::{Given, Split, split_words};
 use et_base::NoMemory;
@@ -44,6 +44,8 @@ pub enum Command<'a> {
     },
     /// The live curve of a trace.
     Curve(&'a str),
+    /// The summary of the run of a large program, whose choices are made from this number, below 2^63.
+    Bench(u64),
 }
 
 /// The greatest interval, limit and quantum, in events.
@@ -176,6 +178,19 @@ fn replay<'a>(parts: &Split<'a>) -> Option<Command<'a>>
     Some(Command::Replay { models, path })
 }
 
+/// The greatest number from which `bench` makes its choices.
+const MOST_SEED: u64 = (1 << 63) - 1;
+
+/// The command `bench`.
+fn bench<'a>(parts: &Split<'a>) -> Option<Command<'a>>
+    ensures asked { option_map asked_by result ≡ command.bench (split_of parts.now) }
+    ensures range { IfSome result AreInRange }
+{
+    let text = plain_path(parts)?;
+    let number = number(text.as_bytes(), 0, MOST_SEED)?;
+    Some(Command::Bench(number))
+}
+
 /// The command of this name, with these parts behind it.
 fn asked<'a>(alloc: Global, name: &str, parts: &Split<'a>) -> Result<Option<Command<'a>>, NoMemory>
     ensures asked { IfOk result
@@ -187,6 +202,7 @@ fn asked<'a>(alloc: Global, name: &str, parts: &Split<'a>) -> Result<Option<Comm
         "asm" => Ok(plain_path(parts).map(Command::Assemble)),
         "replay" => Ok(replay(parts)),
         "curve" => Ok(plain_path(parts).map(Command::Curve)),
+        "bench" => Ok(bench(parts)),
         _ => Ok(None),
     }
 }

@@ -2,6 +2,9 @@
 #![tactic(auto)]
 
 mod answers;
+mod bench;
+mod bench_text;
+mod bench_totals;
 mod command;
 mod commands;
 mod files;
@@ -19,6 +22,8 @@ mod split;
 mod status;
 mod top;
 
+pub use bench::bench_run;
+pub use bench_text::bench_listing;
 pub use command::{Command, Generations, Models, read_words};
 pub use process::{WordsFault, run_elephant, run_process, run_without_memory, words};
 pub use status::Status;

@@ -22,7 +22,7 @@ use std::alloc::Global;
 const MOST_CLASS_BYTES: u64 = 1_048_576;
 
 /// The class file of these bytes, which the file at the path holds.
-fn class_in<'a>(alloc: Global, path: &'a str, bytes: &[u8]) -> Result<ClassFile, Refusal<'a>>
+pub fn class_in<'a>(alloc: Global, path: &'a str, bytes: &[u8]) -> Result<ClassFile, Refusal<'a>>
     ensures tells { (class : Result ClassOf Fault) →
         IsClassOf (Ok bytes.now) class → Tells ⊥ class_of class result }
     ensures parts { IfOk result HasItsParts }
@@ -96,7 +96,7 @@ pub fn load_classes<'a, F: Files>(
 }
 
 /// Puts a class at the end.
-fn push<'a>(classes: &mut Vec<ClassFile>, class: ClassFile) -> Result<(), Refusal<'a>>
+pub fn push<'a>(classes: &mut Vec<ClassFile>, class: ClassFile) -> Result<(), Refusal<'a>>
     ensures ok { OnOk result (classes.new.items ≡ classes.old.items ++ class ∷ []) }
     ensures err { IfErr result (λ refusal. refusal ≡ Refusal.NoMemory) }
 {

@@ -17,7 +17,7 @@ use std::alloc::Global;
 const MOST_LISTING_BYTES: u64 = 1_048_576;
 
 /// The class file of this listing, which the file at the path holds.
-fn listing_in<'a>(alloc: Global, path: &'a str, text: &[u8]) -> Result<Vec<u8>, Refusal<'a>>
+pub fn listing_in<'a>(alloc: Global, path: &'a str, text: &[u8]) -> Result<Vec<u8>, Refusal<'a>>
     ensures tells { (class : Result (List ℕ) Fault) →
         IsListingOf (Ok text.now) class → Tells ⊥ (λ bytes. bytes.items) class result }
     ensures bytes { IfErr result (λ refusal. IsOfBytes (cause_of refusal)) }

@@ -19,7 +19,7 @@ use std::alloc::Global;
 const MOST_TRACE_BYTES: u64 = 268_435_456;
 
 /// The trace of these bytes.
-fn trace_of(alloc: Global, bytes: &[u8]) -> Result<Trace, TraceFault>
+pub fn trace_of(alloc: Global, bytes: &[u8]) -> Result<Trace, TraceFault>
     ensures trace { IfOk result (λ trace. IsTextOf trace bytes.now) }
     ensures fault { IfErr result (IsTraceAnswer bytes.now) }
 {

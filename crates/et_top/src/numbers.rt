@@ -42,25 +42,23 @@ fn is_number(text: &[u8]) -> bool
 /// The number that the digits spell, unless it is above this one.
 #[tactic(auto, using(crate::proofs::NumberLemmas::too_big))]
 fn spelled(digits: &[u8], high: u64) -> Option<u64>
-    requires digits { list_all is_digit digits.now ≡ true }
-    requires high { high ≤ 2 ^ 60 }
+    requires { list_all is_digit digits.now ≡ true }
     ensures { result
         ≡ (if nat_le (spelled_number digits.now) high then Some (spelled_number digits.now) else
         None) }
 {
-    let mut number = 0;
+    let mut number: u128 = 0;
     'digits: for digit in digits {
-        number = number * 10 + (*digit - b'0') as u64;
-        if number > high {
+        number = number * 10 + u128::from(*digit - b'0');
+        if number > u128::from(high) {
             return None;
         }
     }
-    Some(number)
+    Some(number as u64)
 }
 
 /// The number that the text spells, where it is in the range.
 pub fn number(text: &[u8], low: u64, high: u64) -> Option<u64>
-    requires { high ≤ 2 ^ 60 }
     ensures number { result ≡ number_within low high text.now }
     ensures range { IfSome result (λ n. (low ≤ n) × (n ≤ high)) }
 {

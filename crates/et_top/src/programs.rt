@@ -29,7 +29,7 @@ use std::alloc::Global;
 use std::sync::ledger::Ledger;
 
 /// The program of the classes, where they link (JVMS 5.3, 5.4).
-fn program<'a>(alloc: Global, classes: Vec<ClassFile>) -> Result<Program, Refusal<'a>>
+pub fn program<'a>(alloc: Global, classes: Vec<ClassFile>) -> Result<Program, Refusal<'a>>
     requires some { 0 < length classes.items }
     requires parts { All HasItsParts classes.items }
     requires of_files { All HasItsFile classes.items }
@@ -103,6 +103,17 @@ fn ended(program: &Program, end: End) -> Result<(), Refusal<'_>>
     }
 }
 
+/// The status of a history that ended so. Where the next event has no meaning, or there is no room for an object, err is
+/// told so.
+pub fn answer_end<E: Sink>(alloc: Global, program: &Program, end: End, err: &mut E) -> Status
+    ensures { result ≡ status_of_end end }
+{
+    match ended(program, end) {
+        Ok(()) => Status::Done,
+        Err(refusal) => refuse(alloc, err, &refusal),
+    }
+}
+
 /// The history of the program, whose trace goes to out.
 pub fn run<O: Sink, E: Sink, L: Ledger>(
     alloc: Global,
@@ -125,10 +136,7 @@ pub fn run<O: Sink, E: Sink, L: Ledger>(
     ensures never_falls { O.faults out.old ≤ O.faults out.new }
 {
     match et_run::run(alloc, program, options, out, visits) {
-        Ok(ran) => match ended(program, ran.end) {
-            Ok(()) => Status::Done,
-            Err(refusal) => refuse(alloc, err, &refusal),
-        },
+        Ok(ran) => answer_end(alloc, program, ran.end, err),
         Err(fault) => refuse(alloc, err, &of_fault(fault)),
     }
 }

@@ -11,6 +11,7 @@ ghost use Rattle.et_top.specs.Top.{Defined, IsAskedDefined, IsDefined, GivesDefi
 ghost use Rattle.et_top.specs.Visits.{IsWithoutRun, IsNoTrace, HasUnread};
 
 use crate::answers::refuse;
+use crate::bench::{CELLS, ROUNDS, bench};
 use crate::command::{Command, read_words};
 use crate::commands::{assemble, curve, replay, trace};
 use crate::refusal::Refusal;
@@ -63,6 +64,7 @@ fn perform<F: Files, O: Sink, E: Sink, L: Ledger>(
             path,
         } => replay(alloc, asked, *path, files, out, err, models),
         Command::Curve(path) => curve(alloc, *path, files, out, err),
+        Command::Bench(number) => bench(alloc, *number, CELLS, ROUNDS, out, err, visits),
     }
 }
 
@@ -75,13 +77,15 @@ fn perform<F: Files, O: Sink, E: Sink, L: Ledger>(
 /// - `replay` reads a trace and writes a line for each of the models whose kind is asked for, in their order: what it
 ///   reports of the trace. The other models are dropped.
 /// - `curve` reads a trace and writes its live curve.
+/// - `bench` assembles a large program whose choices are made from a number, runs it into memory, reads its trace back, and
+///   writes what that comes to. The counter tells how often objects were visited.
 ///
 /// Refusals come in this order: the words; of each file the read, the length and what it holds; linking; the run. Each file
 /// is read once, and only when the one before it was found good. A read that fails counts one fault and is answered so, and
 /// so does a put; no other answer changes these counts. Until all that is read is known to be good, and to link, nothing is
 /// put to out; after `WriteFault` and `NoMemory` out took a prefix of the output. A fault of err changes nothing. Only the
-/// run of a trace visits objects: no other answer changes the counter, nor does `NoMemory` where no trace is defined or a
-/// file was not read.
+/// run of a trace or of a bench visits objects: no other answer changes the counter, nor does `NoMemory` where neither is
+/// defined or a file was not read.
 pub fn elephant<F: Files, O: Sink, E: Sink, L: Ledger>(
     alloc: Global,
     words: &[String],

@@ -1,10 +1,15 @@
-use Rattle.std.proofs.Common.{[], sym, subst}
+use Rattle.std.proofs.Common.{[], refl, sym, subst, arith}
 use Rattle.std.specs.Prelude.{Some}
 use Rattle.et_top.specs.declared.command.Command.{Command}
 use Rattle.et_top.specs.Asked.{asked_by}
-use Rattle.et_top.specs.Visits.{IsWithoutRun, HasUnread}
+use Rattle.et_top.specs.Visits.{IsWithoutRun, IsNoTrace, HasUnread}
 use Rattle.et_top.specs.Reads.{ReadsInOrder, paths_of}
-use Rattle.et_top.proofs.ReadLemmas.{one_read}
+use Rattle.et_top.specs.Status.{is_read_status}
+use Rattle.et_top.specs.Top.{GivesDefined}
+use Rattle.et_io.specs.Faults.{Rose}
+use Rattle.et_top.proofs.BenchHistory.{bench_more}
+use Rattle.et_top.proofs.FaultLemmas.{same_count}
+use Rattle.et_top.proofs.ReadLemmas.{one_read, none_read}
 use Rattle.et_top.proofs.TopLemmas.{by_arm}
 use Rattle.et_top.proofs.top.perform.Goals as goal
 
@@ -47,3 +52,33 @@ returns-in-Replay-clause-reads g c = subst (λ (x : Command). ReadsInOrder (g.F.
 
 pub returns-in-Curve-clause-reads : goal.returns-in-Curve-clause-reads
 returns-in-Curve-clause-reads g c = subst (λ (x : Command). ReadsInOrder (g.F.Files.holds c.args.files.now) (g.F.Files.asked c.args.files.now) (g.F.Files.asked c.curve.new.files) (paths_of (Some (asked_by x))) c.curve.result) (sym c.in-Curve.is) (one_read _ _ _ _ _ c.curve.ensures.asked)
+
+pub returns-in-Bench-clause-gives : goal.returns-in-Bench-clause-gives
+returns-in-Bench-clause-gives g c held told d defined reached decides =
+    let is = by_arm _ held d _ _ c.in-Bench.is defined in
+    let before = g.O.Sink.taken c.args.out.now in
+    let after = g.O.Sink.taken c.bench.new.out in
+    let read = Rose (g.F.Files.faults c.args.files.now) (g.F.Files.faults c.args.files.now) in
+    let written = Rose (g.O.Sink.faults c.args.out.now) (g.O.Sink.faults c.bench.new.out) in
+    subst (λ x. GivesDefined reached before after c.args.visits.now c.bench.new.visits read written x c.bench.result) (sym is.2)
+    (bench_more reached before after c.args.visits.now c.bench.new.visits read written is.0 c.bench.result (c.bench.ensures.gives is.0 is.1 reached decides))
+
+pub returns-in-Bench-clause-read_fault : goal.returns-in-Bench-clause-read_fault
+returns-in-Bench-clause-read_fault g c = same_count (is_read_status c.bench.result) _ _ refl c.bench.ensures.no_read
+
+pub returns-in-Bench-clause-reads : goal.returns-in-Bench-clause-reads
+returns-in-Bench-clause-reads g c = subst (λ (x : Command). ReadsInOrder (g.F.Files.holds c.args.files.now) (g.F.Files.asked c.args.files.now) (g.F.Files.asked c.args.files.now) (paths_of (Some (asked_by x))) c.bench.result) (sym c.in-Bench.is) (none_read _ _ [] c.bench.result (λ late. refl))
+
+pub returns-in-Bench-clause-no_visits : goal.returns-in-Bench-clause-no_visits
+returns-in-Bench-clause-no_visits g c without =
+    c.bench.ensures.no_visits (subst (λ (x : Command). IsWithoutRun (Some (asked_by x)) c.bench.result) c.in-Bench.is without)
+
+pub returns-in-Bench-clause-no_trace : goal.returns-in-Bench-clause-no_trace
+returns-in-Bench-clause-no_trace g c held told d defined none =
+    let is = by_arm _ held d _ _ c.in-Bench.is defined in
+    c.bench.ensures.no_trace is.0 is.1 (subst IsNoTrace is.2 none)
+
+pub returns-in-Bench-clause-unread : goal.returns-in-Bench-clause-unread
+returns-in-Bench-clause-unread g c few =
+    let few' = subst (λ (x : Command). HasUnread (g.F.Files.asked c.args.files.now) (g.F.Files.asked c.args.files.now) (paths_of (Some (asked_by x)))) c.in-Bench.is few in
+    absurd (omega (arith, few'))
