@@ -35,11 +35,11 @@ refused_twice true e = absurd cc
 refused_twice false e = absurd cc
 
 -- a header stands first
-one_header : (x : TraceLine) (past : List TraceLine) (v n : ℕ) → next_fault (x ∷ past) (Header v n) ≡ None → ⊥
+pub one_header : (x : TraceLine) (past : List TraceLine) (v n : ℕ) → next_fault (x ∷ past) (Header v n) ≡ None → ⊥
 one_header x past v n e = refused_twice (has_ended (x ∷ past)) e
 
 -- .. and nothing else does
-begins : (line : TraceLine) → next_fault [] line ≡ None → (v n : ℕ) × (line ≡ Header v n)
+pub begins : (line : TraceLine) → next_fault [] line ≡ None → (v n : ℕ) × (line ≡ Header v n)
 begins (Header v n) e = (v, n, refl)
 begins (Class number name) e = absurd cc
 begins (Method number class name descriptor) e = absurd cc

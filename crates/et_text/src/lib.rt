@@ -17,7 +17,7 @@ mod trace;
 mod writing;
 
 pub use breaking::is_flush_point;
-pub use fault::TraceFault;
+pub use fault::{AFTER, FORM, LineError, TraceFault};
 pub use reader::TextReader;
 pub use rules::Rules;
 pub use trace::Trace;

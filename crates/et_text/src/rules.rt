@@ -53,6 +53,13 @@ impl Rules {
         self.lines.len() as u64 + 1
     }
 
+    /// Whether the last line was taken. After a fault the answer says nothing.
+    pub fn has_ended(&self) -> bool
+        ensures { self.now.fault ≡ None → result ≡ has_ended (reverse self.now.lines) }
+    {
+        self.standing.ended
+    }
+
     /// Takes the next line, or says which rule it is the first to break: 6 the last line was taken before, 2 it may not
     /// stand here, 3 it mentions what no line before it defines, 4 it names again or reports dead again. Its numbers are
     /// in their ranges, the version of a header is 1 or 2, and no name or descriptor is empty, nor longer than 2^32 - 1

@@ -1,0 +1,7 @@
+pub mod Beginnings
+pub mod Lines
+pub mod OnePack
+pub mod Portions
+pub mod Puts
+pub mod SomePack
+pub mod Widths

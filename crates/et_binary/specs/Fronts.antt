@@ -1,0 +1,149 @@
+-- A record read from left to right. The contracts of private functions alone speak of it: that it is what `IsPacked` says is proved of `read_record`.
+use Rattle.std.specs.Prelude.{ℕ, ◌^◌, Bool, true, ◌&&◌, ◌||◌, ◌==◌, nat_lt, nat_le, if◌then◌else◌, List, [], ◌∷◌, length, take, drop, Option, Some, None}
+use Rattle.std.specs.Int.{Width, w8, w32, w64, byte_len, from_be_bytes}
+use Rattle.et_base.specs.declared.line.TraceLine.{TraceLine}
+use Rattle.et_base.specs.declared.line.TraceLine.TheVariants.{Header, Class, Method, Alloc, Update, Enter, Exit, Unwind, Flush, Death, Finish}
+use Rattle.et_text.specs.Reading.{◌>>=◌}
+
+-- a number of this width at the front, and the bytes behind it; none where there are fewer
+unfoldable pub number_front : Width → List ℕ → Option (ℕ × List ℕ)
+number_front w bytes = if nat_lt (length bytes) (byte_len w) then None else Some (from_be_bytes w (take (byte_len w) bytes), drop (byte_len w) bytes)
+
+-- the bytes behind their length
+unfoldable pub name_front : List ℕ → Option (List ℕ × List ℕ)
+name_front bytes = do
+  size ← number_front w32 bytes
+  if nat_lt (length size.1) size.0 then None else Some (take size.0 size.1, drop size.0 size.1)
+
+unfoldable pub turn_front : List ℕ → Option ((ℕ × ℕ) × List ℕ)
+turn_front bytes = do
+  event ← number_front w64 bytes
+  thread ← number_front w8 event.1
+  Some ((event.0, thread.0), thread.1)
+
+unfoldable pub header_front : List ℕ → Option (TraceLine × List ℕ)
+header_front bytes = do
+  interval ← number_front w64 bytes
+  Some (Header 2 interval.0, interval.1)
+
+unfoldable pub class_front : List ℕ → Option (TraceLine × List ℕ)
+class_front bytes = do
+  number ← number_front w32 bytes
+  name ← name_front number.1
+  Some (Class number.0 name.0, name.1)
+
+unfoldable pub method_front : List ℕ → Option (TraceLine × List ℕ)
+method_front bytes = do
+  number ← number_front w32 bytes
+  class ← number_front w32 number.1
+  name ← name_front class.1
+  descriptor ← name_front name.1
+  Some (Method number.0 class.0 name.0 descriptor.0, descriptor.1)
+
+unfoldable pub alloc_front : List ℕ → Option (TraceLine × List ℕ)
+alloc_front bytes = do
+  turn ← turn_front bytes
+  object ← number_front w32 turn.1
+  class ← number_front w32 object.1
+  size ← number_front w64 class.1
+  len ← number_front w32 size.1
+  Some (Alloc turn.0.0 turn.0.1 object.0 class.0 size.0 len.0, len.1)
+
+unfoldable pub update_front : List ℕ → Option (TraceLine × List ℕ)
+update_front bytes = do
+  turn ← turn_front bytes
+  object ← number_front w32 turn.1
+  slot ← number_front w32 object.1
+  old ← number_front w32 slot.1
+  new ← number_front w32 old.1
+  Some (Update turn.0.0 turn.0.1 object.0 slot.0 old.0 new.0, new.1)
+
+unfoldable pub enter_front : List ℕ → Option (TraceLine × List ℕ)
+enter_front bytes = do
+  turn ← turn_front bytes
+  method ← number_front w32 turn.1
+  receiver ← number_front w32 method.1
+  Some (Enter turn.0.0 turn.0.1 method.0 receiver.0, receiver.1)
+
+unfoldable pub exit_front : List ℕ → Option (TraceLine × List ℕ)
+exit_front bytes = do
+  turn ← turn_front bytes
+  method ← number_front w32 turn.1
+  Some (Exit turn.0.0 turn.0.1 method.0, method.1)
+
+unfoldable pub unwind_front : List ℕ → Option (TraceLine × List ℕ)
+unwind_front bytes = do
+  turn ← turn_front bytes
+  method ← number_front w32 turn.1
+  exception ← number_front w32 method.1
+  Some (Unwind turn.0.0 turn.0.1 method.0 exception.0, exception.1)
+
+unfoldable pub flush_front : List ℕ → Option (TraceLine × List ℕ)
+flush_front bytes = do
+  event ← number_front w64 bytes
+  deaths ← number_front w32 event.1
+  Some (Flush event.0 deaths.0, deaths.1)
+
+unfoldable pub death_front : List ℕ → Option (TraceLine × List ℕ)
+death_front bytes = do
+  object ← number_front w32 bytes
+  time ← number_front w64 object.1
+  Some (Death object.0 time.0, time.1)
+
+unfoldable pub finish_front : List ℕ → Option (TraceLine × List ℕ)
+finish_front bytes = do
+  event ← number_front w64 bytes
+  how ← number_front w8 event.1
+  Some (Finish event.0 how.0, how.1)
+
+unfoldable pub record_front : List ℕ → Option (TraceLine × List ℕ)
+record_front [] = None
+record_front (b ∷ rest) =
+    if b == 72 then header_front rest
+    else (if b == 67 then class_front rest
+    else (if b == 78 then method_front rest
+    else (if b == 65 then alloc_front rest
+    else (if b == 85 then update_front rest
+    else (if b == 77 then enter_front rest
+    else (if b == 69 then exit_front rest
+    else (if b == 88 then unwind_front rest
+    else (if b == 70 then flush_front rest
+    else (if b == 68 then death_front rest
+    else (if b == 90 then finish_front rest
+    else None))))))))))
+
+abbrev pub is_record_letter : ℕ → Bool
+is_record_letter b = b == 72 || b == 67 || b == 78 || b == 65 || b == 85 || b == 77 || b == 69 || b == 88 || b == 70 || b == 68 || b == 90
+
+-- THE RANGES, of numbers that fit in their widths
+
+abbrev pub is_turn : ℕ → ℕ → Bool
+is_turn event thread = nat_le event (2 ^ 40) && nat_lt thread 64
+
+abbrev pub is_call_in_range : TraceLine → Bool
+is_call_in_range (Enter event thread method receiver) = is_turn event thread && nat_lt 0 method && nat_lt receiver (2 ^ 24)
+is_call_in_range (Exit event thread method) = is_turn event thread && nat_lt 0 method
+is_call_in_range (Unwind event thread method exception) = is_turn event thread && nat_lt 0 method && nat_lt 0 exception && nat_lt exception (2 ^ 24)
+is_call_in_range _ = true
+
+abbrev pub is_access_in_range : TraceLine → Bool
+is_access_in_range (Alloc event thread object class size len) = is_turn event thread && nat_lt 0 object && nat_lt object (2 ^ 24) && nat_lt 0 class && nat_le 16 size && nat_le size (2 ^ 30) && nat_le len (2 ^ 26)
+is_access_in_range (Update event thread object slot old new) = is_turn event thread && nat_lt object (2 ^ 24) && nat_lt slot (2 ^ 28) && nat_lt old (2 ^ 24) && nat_lt new (2 ^ 24)
+is_access_in_range line = is_call_in_range line
+
+abbrev pub is_in_range : TraceLine → Bool
+is_in_range (Header v interval) = nat_le interval (2 ^ 40)
+is_in_range (Class number name) = nat_lt 0 number && nat_lt 0 (length name)
+is_in_range (Method number class name descriptor) = nat_lt 0 number && nat_lt 0 class && nat_lt 0 (length name) && nat_lt 0 (length descriptor)
+is_in_range (Flush event deaths) = nat_le event (2 ^ 40) && nat_lt deaths (2 ^ 24)
+is_in_range (Death object time) = nat_lt 0 object && nat_lt object (2 ^ 24) && nat_le time (2 ^ 40)
+is_in_range (Finish event how) = nat_le event (2 ^ 40) && nat_le how 3
+is_in_range line = is_access_in_range line
+
+-- no one of the first four bytes is wrong
+abbrev pub may_open : List ℕ → Bool
+may_open (a ∷ b ∷ c ∷ d ∷ rest) = a == 254 && b == 69 && c == 84 && d == 50
+may_open (a ∷ b ∷ c ∷ []) = a == 254 && b == 69 && c == 84
+may_open (a ∷ b ∷ []) = a == 254 && b == 69
+may_open (a ∷ []) = a == 254
+may_open [] = true

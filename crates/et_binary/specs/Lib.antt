@@ -1,0 +1,5 @@
+pub mod Fronts
+pub mod Packing
+pub mod Packs
+pub mod Unpacking
+pub mod Written

@@ -1,0 +1,14 @@
+//! The binary spelling of a trace. A record is a letter and its fields, with big-endian numbers and with names behind their
+//! lengths.
+#![tactic(auto, using(et_text::proofs::Extending::extends_on))]
+
+mod fields;
+mod fronts;
+pub mod laws;
+mod ranges;
+mod reader;
+mod records;
+mod writing;
+
+pub use reader::BinaryReader;
+pub use writing::write_record;

@@ -1,0 +1,119 @@
+//! What the numbers of a record may be.
+ghost use Rattle.std.specs.Prelude.{◌≡◌};
+ghost use Rattle.et_binary.specs.Fronts.{is_record_letter, is_turn, is_call_in_range, is_access_in_range, is_in_range, may_open};
+
+use et_base::TraceLine;
+
+/// The greatest event.
+const MOST: u64 = 1 << 40;
+
+/// One more than the greatest object.
+const OBJECTS: u32 = 1 << 24;
+
+/// Whether a record begins with the letter.
+pub fn is_record_letter(b: u8) -> bool
+    ensures { result ≡ is_record_letter b }
+{
+    matches!(
+        b,
+        b'H' | b'C' | b'N' | b'A' | b'U' | b'M' | b'E' | b'X' | b'F' | b'D' | b'Z'
+    )
+}
+
+/// Whether the first four bytes, as far as they came, are those of a binary trace.
+pub fn may_open(bytes: &[u8]) -> bool
+    ensures { result ≡ may_open bytes.now }
+{
+    match bytes {
+        [] => true,
+        [a] => *a == 0xFE,
+        [a, b] => *a == 0xFE && *b == b'E',
+        [a, b, c] => *a == 0xFE && *b == b'E' && *c == b'T',
+        [a, b, c, d, ..] => *a == 0xFE && *b == b'E' && *c == b'T' && *d == b'2',
+    }
+}
+
+fn is_turn(event: u64, thread: u8) -> bool
+    ensures { result ≡ is_turn event thread }
+{
+    event <= MOST && thread < 64
+}
+
+fn is_call_in_range(line: &TraceLine) -> bool
+    ensures { result ≡ is_call_in_range line.now }
+{
+    match line {
+        TraceLine::Enter {
+            event,
+            thread,
+            method,
+            receiver,
+        } => is_turn(*event, *thread) && 0 < *method && *receiver < OBJECTS,
+        TraceLine::Exit {
+            event,
+            thread,
+            method,
+        } => is_turn(*event, *thread) && 0 < *method,
+        TraceLine::Unwind {
+            event,
+            thread,
+            method,
+            exception,
+        } => { is_turn(*event, *thread) && 0 < *method && 0 < *exception && *exception < OBJECTS }
+        _ => true,
+    }
+}
+
+fn is_access_in_range(line: &TraceLine) -> bool
+    ensures { result ≡ is_access_in_range line.now }
+{
+    match line {
+        TraceLine::Alloc {
+            event,
+            thread,
+            object,
+            class,
+            size,
+            length,
+        } => {
+            let is_object = 0 < *object && *object < OBJECTS;
+            let is_size = 16 <= *size && *size <= 1 << 30;
+            is_turn(*event, *thread) && is_object && 0 < *class && is_size && *length <= 1 << 26
+        }
+        TraceLine::Update {
+            event,
+            thread,
+            object,
+            slot,
+            old,
+            new,
+        } => {
+            let are_objects = *old < OBJECTS && *new < OBJECTS;
+            is_turn(*event, *thread) && *object < OBJECTS && *slot < 1 << 28 && are_objects
+        }
+        _ => is_call_in_range(line),
+    }
+}
+
+/// Whether the numbers of a line that was read are in their ranges, and its names are not empty.
+pub fn is_in_range(line: &TraceLine) -> bool
+    ensures { result ≡ is_in_range line.now }
+{
+    match line {
+        TraceLine::Header { interval, .. } => *interval <= MOST,
+        TraceLine::Class { number, name } => 0 < *number && 0 < name.as_slice().len(),
+        TraceLine::Method {
+            number,
+            class,
+            name,
+            descriptor,
+        } => {
+            let (name, descriptor) = (name.as_slice(), descriptor.as_slice());
+            0 < *number && 0 < *class && 0 < name.len() && 0 < descriptor.len()
+        }
+        TraceLine::Flush { event, deaths } => *event <= MOST && *deaths < OBJECTS,
+        TraceLine::Death { object, time } => 0 < *object && *object < OBJECTS && *time <= MOST,
+        TraceLine::Finish { event, how } => *event <= MOST && *how <= 3,
+        _ => is_access_in_range(line),
+    }
+}

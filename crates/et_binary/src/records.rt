@@ -1,0 +1,125 @@
+//! The records at the front of bytes.
+ghost use Rattle.std.specs.Prelude.{◌≡◌, reverse, true, None, IfSome, IfNone, IfOk, IfErr, IsOk, IsErrOf};
+ghost use Rattle.et_text.specs.Rules.{AreFine};
+ghost use Rattle.et_binary.specs.Packs.{IsMalformed, IsUnfinished};
+ghost use Rattle.et_binary.specs.Unpacking.{IsFront, TakesRecord, LeavesRecord, RefusesFront, TakesAll, MayGoOn, ShowsIn, unpacked_bytes};
+
+use crate::fronts::record_front;
+use crate::ranges::{is_in_range, is_record_letter, may_open};
+use et_base::TraceLine;
+use et_text::{AFTER, FORM, LineError, Rules, TraceFault};
+use std::alloc::Global;
+
+/// How many bytes stand before the first record.
+const OPENING: usize = 4;
+
+/// The line of the first record, and the bytes behind the record. `None` says that no record is whole, and `Form` that the
+/// letter is none of the table, or that the record is whole and one of its numbers is out of its range or a name is empty. It
+/// takes no memory where no record is whole.
+fn read_record(alloc: Global, bytes: &[u8]) -> Result<Option<(TraceLine, &[u8])>, LineError>
+    ensures found { IfOk result (λ found. IfSome found (λ x. IsFront x.0 x.1.now bytes.now)) }
+    ensures none { IfOk result (λ found. IfNone found (IsUnfinished bytes.now)) }
+    ensures form { IsErrOf result LineError.Form → IsMalformed bytes.now }
+    ensures early { IsUnfinished bytes.now → IsOk result }
+{
+    let [letter, ..] = bytes else {
+        return Ok(None);
+    };
+    if !is_record_letter(*letter) {
+        return Err(LineError::Form);
+    }
+    let Some((line, behind)) = record_front(alloc, bytes)? else {
+        return Ok(None);
+    };
+    if !is_in_range(&line) {
+        return Err(LineError::Form);
+    }
+    Ok(Some((line, behind)))
+}
+
+/// Takes the first record where it is whole, and says what stands behind it.
+fn take_record<'a>(
+    alloc: Global,
+    rules: &mut Rules,
+    bytes: &'a [u8],
+) -> Result<Option<&'a [u8]>, TraceFault>
+    requires unharmed { rules.old.fault ≡ None }
+    requires fine { AreFine 2 (reverse rules.old.lines) }
+    ensures some { IfOk result
+        (λ left. IfSome left (λ behind. TakesRecord rules.old rules.new bytes.now behind.now)) }
+    ensures none { IfOk result
+        (λ left. IfNone left (LeavesRecord rules.old rules.new bytes.now)) }
+    ensures err { IfErr result (RefusesFront rules.old bytes.now) }
+{
+    let number = rules.next_number();
+    if rules.has_ended() {
+        if bytes.is_empty() {
+            return Ok(None);
+        }
+        return Err(TraceFault::At {
+            kind: AFTER,
+            line: number,
+        });
+    }
+    match read_record(alloc, bytes) {
+        Ok(Some((line, behind))) => {
+            rules.take(line)?;
+            Ok(Some(behind))
+        }
+        Ok(None) => Ok(None),
+        Err(LineError::Form) => Err(TraceFault::At {
+            kind: FORM,
+            line: number,
+        }),
+        Err(LineError::Memory) => Err(TraceFault::NoMemory),
+    }
+}
+
+/// Takes all records that are whole, and says what stands behind them.
+fn take_records<'a>(
+    alloc: Global,
+    rules: &mut Rules,
+    bytes: &'a [u8],
+) -> Result<&'a [u8], TraceFault>
+    requires unharmed { rules.old.fault ≡ None }
+    requires fine { AreFine 2 (reverse rules.old.lines) }
+    ensures ok { IfOk result
+        (λ left. TakesAll rules.old rules.new true true bytes.now left.now) }
+    ensures err { IfErr result (ShowsIn (unpacked_bytes true rules.old bytes.now)) }
+{
+    let mut rest = bytes;
+    'records: while let Some(behind) = take_record(alloc, rules, rest)? {
+        rest = behind;
+    }
+    Ok(rest)
+}
+
+/// Takes the opening where it is still to come, and then all records that are whole. It says whether the opening was taken,
+/// and what stands behind.
+pub fn take_all<'a>(
+    alloc: Global,
+    rules: &mut Rules,
+    opened: bool,
+    bytes: &'a [u8],
+) -> Result<(bool, &'a [u8]), TraceFault>
+    requires before { MayGoOn rules.old opened }
+    ensures ok { IfOk result
+        (λ x. TakesAll rules.old rules.new opened x.0 bytes.now x.1.now) }
+    ensures err { IfErr result (ShowsIn (unpacked_bytes opened rules.old bytes.now)) }
+{
+    if opened {
+        let left = take_records(alloc, rules, bytes)?;
+        return Ok((true, left));
+    }
+    if !may_open(bytes) {
+        return Err(TraceFault::At {
+            kind: FORM,
+            line: 1,
+        });
+    }
+    if bytes.len() < OPENING {
+        return Ok((false, bytes));
+    }
+    let left = take_records(alloc, rules, &bytes[OPENING..])?;
+    Ok((true, left))
+}

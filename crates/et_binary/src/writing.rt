@@ -1,0 +1,205 @@
+//! Writing a record, in a buffer that grows as it must and by nothing else.
+ghost use Rattle.std.specs.Prelude.{◌≡◌, ◌∷◌, ◌++◌, OnOk, OnErr};
+ghost use Rattle.std.specs.Int.{w32, w64, to_be_bytes};
+ghost use Rattle.std.specs.List.{flat_map};
+ghost use Rattle.et_text.specs.Extends.{Extends};
+ghost use Rattle.et_text.specs.Ranges.{IsShort, HasShortNames};
+ghost use Rattle.et_binary.specs.Packing.{Prefixed, packed_field, packing, written_record};
+ghost use Rattle.et_binary.specs.Written.{written_field};
+
+use byteorder::{BigEndian, ByteOrder};
+use et_base::{Name, NoMemory, TraceLine};
+
+/// A number of a record, by its width.
+#[derive(Clone, Copy)]
+enum Field {
+    Byte(u8),
+    Word(u32),
+    Long(u64),
+}
+
+use Field::{Byte, Long, Word};
+
+/// What stands before the first record.
+const OPENING: [u8; 4] = [0xFE, b'E', b'T', b'2'];
+
+fn put_word(buffer: &mut Vec<u8>, n: u32) -> Result<(), NoMemory>
+    ensures ok { OnOk result (buffer.new.items ≡ buffer.old.items ++ to_be_bytes w32 n) }
+    ensures err { OnErr result (Extends buffer.old.items buffer.new.items) }
+{
+    let mut bytes = [0; 4];
+    BigEndian::write_u32(&mut bytes, n);
+    buffer.extend_from_slice(&bytes)?;
+    Ok(())
+}
+
+fn put_long(buffer: &mut Vec<u8>, n: u64) -> Result<(), NoMemory>
+    ensures ok { OnOk result (buffer.new.items ≡ buffer.old.items ++ to_be_bytes w64 n) }
+    ensures err { OnErr result (Extends buffer.old.items buffer.new.items) }
+{
+    let mut bytes = [0; 8];
+    BigEndian::write_u64(&mut bytes, n);
+    buffer.extend_from_slice(&bytes)?;
+    Ok(())
+}
+
+fn put_field(buffer: &mut Vec<u8>, field: Field) -> Result<(), NoMemory>
+    ensures ok { OnOk result (buffer.new.items ≡ buffer.old.items ++ written_field field) }
+    ensures err { OnErr result (Extends buffer.old.items buffer.new.items) }
+{
+    match field {
+        Field::Byte(n) => buffer.push(n)?,
+        Field::Word(n) => put_word(buffer, n)?,
+        Field::Long(n) => put_long(buffer, n)?,
+    }
+    Ok(())
+}
+
+fn put_fields(buffer: &mut Vec<u8>, letter: u8, fields: &[Field]) -> Result<(), NoMemory>
+    ensures ok { OnOk result
+        (buffer.new.items ≡ buffer.old.items ++ letter ∷ flat_map written_field fields.now) }
+    ensures err { OnErr result (Extends buffer.old.items buffer.new.items) }
+{
+    buffer.push(letter)?;
+    for field in fields {
+        put_field(buffer, *field)?;
+    }
+    Ok(())
+}
+
+fn put_name(buffer: &mut Vec<u8>, name: &Name) -> Result<(), NoMemory>
+    requires { IsShort name.now }
+    ensures ok { OnOk result
+        (buffer.new.items ≡ buffer.old.items ++ packed_field (Prefixed name.now)) }
+    ensures err { OnErr result (Extends buffer.old.items buffer.new.items) }
+{
+    let name = name.as_slice();
+    put_word(buffer, name.len() as u32)?;
+    buffer.extend_from_slice(name)?;
+    Ok(())
+}
+
+fn put_names(buffer: &mut Vec<u8>, name: &Name, descriptor: &Name) -> Result<(), NoMemory>
+    requires { IsShort name.now × IsShort descriptor.now }
+    ensures ok { OnOk result (buffer.new.items ≡ buffer.old.items
+        ++ (packed_field (Prefixed name.now) ++ packed_field (Prefixed descriptor.now))) }
+    ensures err { OnErr result (Extends buffer.old.items buffer.new.items) }
+{
+    put_name(buffer, name)?;
+    put_name(buffer, descriptor)?;
+    Ok(())
+}
+
+fn put_record(buffer: &mut Vec<u8>, line: &TraceLine) -> Result<(), NoMemory>
+    requires short { HasShortNames line.now }
+    ensures ok { OnOk result (buffer.new.items ≡ buffer.old.items ++ packing line.now) }
+    ensures err { OnErr result (Extends buffer.old.items buffer.new.items) }
+{
+    match line {
+        TraceLine::Header { interval, .. } => put_fields(buffer, b'H', &[Long(*interval)]),
+        TraceLine::Class { number, name } => {
+            put_fields(buffer, b'C', &[Word(*number)])?;
+            put_name(buffer, name)?;
+            Ok(())
+        }
+        TraceLine::Method {
+            number,
+            class,
+            name,
+            descriptor,
+        } => {
+            put_fields(buffer, b'N', &[Word(*number), Word(*class)])?;
+            put_names(buffer, name, descriptor)?;
+            Ok(())
+        }
+        TraceLine::Alloc {
+            event,
+            thread,
+            object,
+            class,
+            size,
+            length,
+        } => {
+            let (event, thread, object) = (Long(*event), Byte(*thread), Word(*object));
+            let (class, size, length) = (Word(*class), Long(*size), Word(*length));
+            put_fields(buffer, b'A', &[event, thread, object, class, size, length])
+        }
+        TraceLine::Update {
+            event,
+            thread,
+            object,
+            slot,
+            old,
+            new,
+        } => {
+            let (event, thread, object) = (Long(*event), Byte(*thread), Word(*object));
+            let (slot, old, new) = (Word(*slot), Word(*old), Word(*new));
+            put_fields(buffer, b'U', &[event, thread, object, slot, old, new])
+        }
+        TraceLine::Enter {
+            event,
+            thread,
+            method,
+            receiver,
+        } => {
+            let (event, thread) = (Long(*event), Byte(*thread));
+            let (method, receiver) = (Word(*method), Word(*receiver));
+            put_fields(buffer, b'M', &[event, thread, method, receiver])
+        }
+        TraceLine::Exit {
+            event,
+            thread,
+            method,
+        } => put_fields(buffer, b'E', &[Long(*event), Byte(*thread), Word(*method)]),
+        TraceLine::Unwind {
+            event,
+            thread,
+            method,
+            exception,
+        } => {
+            let (event, thread) = (Long(*event), Byte(*thread));
+            let (method, exception) = (Word(*method), Word(*exception));
+            put_fields(buffer, b'X', &[event, thread, method, exception])
+        }
+        TraceLine::Flush { event, deaths } => {
+            put_fields(buffer, b'F', &[Long(*event), Word(*deaths)])
+        }
+        TraceLine::Death { object, time } => {
+            put_fields(buffer, b'D', &[Word(*object), Long(*time)])
+        }
+        TraceLine::Finish { event, how } => {
+            put_fields(buffer, b'Z', &[Long(*event), Byte(*how)])
+        }
+    }
+}
+
+fn put_whole(buffer: &mut Vec<u8>, line: &TraceLine) -> Result<(), NoMemory>
+    requires short { HasShortNames line.now }
+    ensures ok { OnOk result (buffer.new.items ≡ buffer.old.items ++ written_record line.now) }
+    ensures err { OnErr result (Extends buffer.old.items buffer.new.items) }
+{
+    if let TraceLine::Header { .. } = line {
+        buffer.extend_from_slice(&OPENING)?;
+    }
+    put_record(buffer, line)?;
+    Ok(())
+}
+
+/// Appends the record of the line to the buffer: its letter and its fields, where a number's highest byte stands first and a
+/// name or descriptor stands behind its length in four bytes. Before the record of a header stand the bytes FE 45 54 32 that
+/// begin a binary trace. No name or descriptor is longer than 2^32 - 1 bytes. It takes no memory but for the growth of the
+/// buffer; after `NoMemory` the buffer is as before.
+pub fn write_record(line: &TraceLine, buffer: &mut Vec<u8>) -> Result<(), NoMemory>
+    requires short { HasShortNames line.now }
+    ensures ok { OnOk result (buffer.new.items ≡ buffer.old.items ++ written_record line.now) }
+    ensures err { OnErr result (buffer.new.items ≡ buffer.old.items) }
+{
+    let before = buffer.len();
+    match put_whole(buffer, line) {
+        Ok(()) => Ok(()),
+        Err(error) => {
+            buffer.truncate(before);
+            Err(error)
+        }
+    }
+}
