@@ -1,6 +1,7 @@
 -- The history of a run, the deaths at its flushes and its trace, for any rule of events. S is what a state is.
 use Rattle.std.specs.Prelude.{◌≡◌, ℕ, zero, suc, ◌%◌, ◌<◌, Bool, ◌||◌, ◌==◌, if◌then◌else◌, List, [], ◌∷◌, ◌++◌, Option, Some, None, length, map, slice_index}
 use Rattle.std.specs.List.{list_any}
+use Rattle.et_base.specs.declared.format.Format.{Format}
 use Rattle.et_base.specs.declared.line.TraceLine.{TraceLine}
 use Rattle.et_base.specs.declared.line.TraceLine.TheVariants.{Header, Flush, Death, Finish}
 use Rattle.et_base.specs.declared.value.End.{End}
@@ -8,6 +9,7 @@ use Rattle.et_base.specs.declared.value.End.TheVariants.{Finished, EventLimit, I
 use Rattle.et_graph.specs.Graph.{Graph}
 use Rattle.et_state.specs.declared.records.Record.{Record}
 use Rattle.et_state.specs.Outcome.{Outcome, state_after, records_of, end_by}
+use Rattle.et_text.specs.Ranges.{header_version}
 pub use Rattle.et_text.specs.Rules.{is_flush_point}
 use Rattle.et_state.specs.Naming.{Names, Mentions, nothing_mentioned, mentions_after, lines_of}
 
@@ -32,6 +34,8 @@ pub record Setting (S : Type 0) : Type 0 where
   pub interval : ℕ
   -- the greatest number of events
   pub limit : ℕ
+  -- the spelling of the trace
+  pub format : Format
 
 -- the object was reported
 abbrev pub is_gone : Graph → ℕ → Bool
@@ -109,7 +113,7 @@ module _ {S : Type 0} (reached : Graph → ℕ → Bool) (given : Setting S) (st
 
   -- the lines up to the records of event e
   unfoldable pub lines_to : ℕ → List TraceLine
-  lines_to zero = Header 1 given.interval ∷ lines_of given.names nothing_mentioned made
+  lines_to zero = Header (header_version given.format) given.interval ∷ lines_of given.names nothing_mentioned made
   lines_to (suc e) =
       lines_to e ++ (if is_flush_point given.interval e then flush_lines e (deaths e) else [])
       ++ lines_of given.names (mentions_to e) (records_at (suc e))

@@ -1,5 +1,5 @@
 //! What a run is given beside its program.
-use et_base::WordList;
+use et_base::{Format, WordList};
 
 /// Which thread has the turn at an event.
 #[derive(Debug, Drop)]
@@ -20,4 +20,6 @@ pub struct Options {
     pub limit: u64,
     /// Which thread has the turn.
     pub schedule: Schedule,
+    /// How the trace is spelled.
+    pub format: Format,
 }

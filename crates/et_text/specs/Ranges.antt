@@ -1,5 +1,7 @@
 -- The ranges of the fields of a line.
 use Rattle.std.specs.Prelude.{◌≡◌, ℕ, ◌<◌, ◌≤◌, ◌^◌, ◌⊎◌, List, length, All}
+use Rattle.et_base.specs.declared.format.Format.{Format}
+use Rattle.et_base.specs.declared.format.Format.TheVariants as formats
 use Rattle.et_base.specs.declared.line.TraceLine.{TraceLine}
 use Rattle.et_base.specs.declared.line.TraceLine.TheVariants.{Header, Class, Method, Alloc, Update, Enter, Exit, Unwind, Flush, Death, Finish}
 
@@ -28,6 +30,11 @@ IsText name = (0 < length name) × All (λ b. b < 256) name
 -- the version of a trace: 1 is the text, 2 the binary spelling
 abbrev pub IsVersion : ℕ → Type 0
 IsVersion version = (version ≡ 1) ⊎ (version ≡ 2)
+
+-- the version that the header of a trace in this format says
+abbrev pub header_version : Format → ℕ
+header_version formats.Text = 1
+header_version formats.Binary = 2
 
 -- the length of a name or descriptor fits in 4 bytes
 abbrev pub IsShort : List ℕ → Type 0
