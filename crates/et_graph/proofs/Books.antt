@@ -4,16 +4,18 @@ use Rattle.std.proofs.lemmas.Bool.{cases_Bool, or_cases, or_left, or_right, ltb-
 use Rattle.std.proofs.lemmas.List.{get_or_append_left, get_or-append-add, get_or-replicate}
 use Rattle.et_graph.specs.Graph.{Graph, IsMade, LeadsTo, IsReached, AreDead, IsSoundGraph}
 use Rattle.et_graph.specs.Steps.{Step, IsLegalStep, IsFlush}
-use Rattle.et_graph.specs.Edit.{Edit, step_of}
+use Rattle.et_graph.specs.Edit.{Edit, step_of, with_pairs}
 use Rattle.et_graph.specs.History.{Turn, graph_after, IsHistory, steps, IsLastStep, stamp, IsGreatestStamp, StampsTell, AreDeaths}
 use Rattle.et_graph.specs.History.Turn.{Took}
-use Rattle.et_graph.specs.Times.{set_each, ArePositive, Carries, AreSettled, AreWithin}
+use Rattle.et_graph.specs.Times.{set_each, ArePositive, Carries, AreSettled, AreWithin, ArePairsAmong}
 use Rattle.et_graph.specs.Listing.{listed, flagged}
 use Rattle.et_graph.specs.Book.{Book, StandsFor}
+use Rattle.et_graph.specs.Taken.{with_tie}
 use Rattle.et_base.proofs.Lists.{cases_number}
 use Rattle.et_graph.proofs.Walks.{walk_more}
 use Rattle.et_graph.proofs.Deaths.{deaths_dead}
 use Rattle.et_graph.proofs.Sound.{reached_made, leads_made, made_cases, fresh_range}
+use Rattle.et_graph.proofs.Ties.{pairs_tie}
 use Rattle.et_graph.proofs.StampLemmas.{was_before, stamp_fresh, stamp_lost, stamp_kept, IsTold, history_told, stamps_told}
 use Rattle.et_graph.proofs.Carrying.{length-set_each, set_each_in, set_each_out, carried_greatest}
 use Rattle.et_graph.proofs.Listing.{flagged_is, is_flagged, listed_is, is_listed, listed_rising}
@@ -79,6 +81,15 @@ step_stands old new e turns legal stepped stands =
           ∙ stepped_stamp turns (step_of g e) old.stamps o stands.history here long known (subst (λ (h : Graph). IsMade h o) graph made);
       steps_so_far = stepped.steps_more ∙ ap (λ (n : ℕ). n + 1) stands.steps_so_far;
     }
+
+-- and for the longer one after a tie
+pub tie_stands : (old : Book) (turns : List Turn) (tied : List (ℕ × ℕ)) → ArePairsAmong (IsReached old.graph) tied → StandsFor old turns → StandsFor (record old { graph = with_pairs old.graph tied }) (with_tie turns tied)
+tie_stands old turns tied among stands = record {
+  history = (stands.history, pairs_tie (graph_after turns) tied (subst (λ (h : Graph). ArePairsAmong (IsReached h) tied) stands.graph among));
+  graph = ap (λ (h : Graph). with_pairs h tied) stands.graph;
+  stamps = stands.stamps;
+  steps_so_far = stands.steps_so_far;
+}
 
 -- A flush: the times are the stamps, with the number of the next step at each root, carried along the pairs.
 module _ (turns : List Turn) (history : IsHistory turns) (stamps times : List ℕ)

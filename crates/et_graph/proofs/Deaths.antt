@@ -3,8 +3,9 @@ use Rattle.std.proofs.Common.{◌≡◌, ℕ, suc, ◌+◌, ◌<◌, ◌↔◌, 
 use Rattle.std.specs.List.Sorted.{IsStrictlyIncreasing}
 use Rattle.et_graph.specs.Graph.{IsDead, AreDead}
 use Rattle.et_graph.specs.History.{Turn, graph_after, IsHistory, IsLastStep, IsGreatestStamp, StampsTell, WasReported, AreDeaths, AreStamped}
-use Rattle.et_graph.specs.History.Turn.{Took, Flushed}
+use Rattle.et_graph.specs.History.Turn.{Took, Tied, Flushed}
 use Rattle.et_base.proofs.Lists.{Contains-none, Contains-here, Contains-there, Contains-cons}
+use Rattle.et_graph.proofs.Ties.{tie_gone, gone_tie}
 use Rattle.et_graph.proofs.StampLemmas.{history_told, stamps_told}
 
 -- The first parts of pairs in a list.
@@ -112,6 +113,11 @@ gone_reported (Took s ∷ turns) h o =
     let before = gone_reported turns h.0 o in (
       (λ c. before.0 (subst (λ (os : List ℕ). Contains os o) h.1.draft.gone c)),
       (λ w. subst (λ (os : List ℕ). Contains os o) (sym h.1.draft.gone) (before.1 w)),
+    )
+gone_reported (Tied after ∷ turns) h o =
+    let before = gone_reported turns h.0 o in (
+      (λ c. before.0 (tie_gone (graph_after turns) after h.1 o c)),
+      (λ w. gone_tie (graph_after turns) after h.1 o (before.1 w)),
     )
 gone_reported (Flushed after reports ∷ turns) h o =
     let before = gone_reported turns h.0 o in (

@@ -1,20 +1,21 @@
 -- What a StampBook keeps, after a step and after a flush.
-use Rattle.std.proofs.Common.{◌≡◌, ℕ, zero, suc, ◌+◌, ◌-◌, ◌<◌, ◌≤◌, ◌^◌, ◌||◌, ◌⊎◌, ◌↔◌, Bool, false, cond, not, nat_lt, List, [], ◌∷◌, ◌++◌, length, get_or, replicate, filter, map, Contains, All, refl, sym, ap, ◌∙◌, subst, inl, inr, arith}
+use Rattle.std.proofs.Common.{◌≡◌, ℕ, zero, suc, ◌+◌, ◌-◌, ◌<◌, ◌≤◌, ◌^◌, ◌||◌, ◌⊎◌, ◌↔◌, Bool, false, cond, not, nat_lt, List, [], ◌∷◌, ◌++◌, length, get_or, replicate, filter, map, Contains, All, Vec, Global, refl, sym, ap, ◌∙◌, subst, inl, inr, arith}
 use Rattle.std.proofs.lemmas.Bool.{or_cases, or_left, or_right, ltb-true, lt-ltb}
 use Rattle.std.proofs.lemmas.List.{length-append, length-replicate}
 use Rattle.std.proofs.lemmas.List.Elements.{All-append, All-replicate, All-weaker}
-use Rattle.et_graph.specs.Graph.{Graph, IsSoundGraph}
+use Rattle.et_graph.specs.Graph.{Graph, IsReached, IsSoundGraph}
 use Rattle.et_graph.specs.Steps.{IsLegalStep, IsFlush}
-use Rattle.et_graph.specs.Edit.{Edit, has_pair, step_of}
+use Rattle.et_graph.specs.Edit.{Edit, has_pair, step_of, with_pairs}
 use Rattle.et_graph.specs.History.{Turn, graph_after, AreDeaths}
 use Rattle.et_graph.specs.History.Turn.{Flushed}
-use Rattle.et_graph.specs.Times.{set_each, ArePositive, AreWithin, ArePairsWithin, Carries, AreSettled}
+use Rattle.et_graph.specs.Times.{set_each, ArePositive, AreWithin, ArePairsWithin, ArePairsAmong, Carries, AreSettled}
 use Rattle.et_graph.specs.Listing.{flagged, death_pairs}
 use Rattle.et_graph.specs.Objects.{HasPlaces, ArePlacesKept, TakesStep, FindsDeaths}
 use Rattle.et_graph.specs.Book.{StandsFor}
 use Rattle.et_graph.specs.Inside.{book_of, IsBook}
 use Rattle.et_graph.specs.declared.book.StampBook.TheInside.{Inside}
 use Rattle.et_graph.proofs.Sound.{stepped_sound}
+use Rattle.et_graph.proofs.Ties.{pairs_tie, tied_sound}
 use Rattle.et_graph.proofs.Carrying.{length-set_each, set_each_in, All-set_each}
 use Rattle.et_graph.proofs.Listing.{flagged_is, is_flagged}
 use Rattle.et_graph.proofs.Books.{IsStepped, carries_same, flush_stands}
@@ -99,6 +100,18 @@ module _ (a b : Inside) (e : Edit) (next : IsNext a b e) where
         ∙ omega (arith, book.gone, length-replicate (length e.fresh) false, next_long);
     places = subst (λ (n : ℕ). HasPlaces n b.objects) (sym next_long) next.places;
   }
+
+-- a tie changes the pairs alone
+pub tied_book : (a : Inside) (more : Vec (ℕ × ℕ) Global) (tied : List (ℕ × ℕ)) → more.items ≡ a.pairs.items ++ tied → ArePairsAmong (IsReached (book_of a).graph) tied → IsBook a → IsBook (record a { pairs = more })
+tied_book a more tied is among book =
+    let g : Graph = (book_of a).graph in
+    record {
+      sound = subst (λ (ps : List (ℕ × ℕ)). IsSoundGraph (record g { pairs = ps })) (sym is) (tied_sound g (with_pairs g tied) (pairs_tie g tied among) book.sound);
+      few = book.few;
+      before = book.before;
+      gone = book.gone;
+      places = book.places;
+    }
 
 -- The graph after a flush is sound.
 pub flags_sound : (made : ℕ) (roots : List ℕ) (pairs : List (ℕ × ℕ)) (stamps times : List ℕ) (top : ℕ) (gone after : List Bool)

@@ -1,6 +1,7 @@
 pub mod Lists
 pub mod Walks
 pub mod Sound
+pub mod Ties
 pub mod StampLemmas
 pub mod Marks
 pub mod Deaths

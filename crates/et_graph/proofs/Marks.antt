@@ -2,9 +2,10 @@
 use Rattle.std.proofs.Common.{ℕ, ◌<◌, List, [], ◌∷◌, sym, subst, inl, inr, arith}
 use Rattle.et_graph.specs.Graph.{IsMade}
 use Rattle.et_graph.specs.History.{Turn, graph_after, IsHistory, steps, stamp, IsMark, IsGreatestMark}
-use Rattle.et_graph.specs.History.Turn.{Took, Flushed}
+use Rattle.et_graph.specs.History.Turn.{Took, Tied, Flushed}
 use Rattle.et_base.proofs.Lists.{cases_number}
 use Rattle.et_graph.proofs.Sound.{made_cases, flush_made}
+use Rattle.et_graph.proofs.Ties.{tie_made}
 use Rattle.et_graph.proofs.StampLemmas.{history_told, stamp_fresh, stamp_lost, stamp_kept}
 
 pub mark_before : (turns : List Turn) (o t : ℕ) → IsMark turns o t → t < steps turns
@@ -12,10 +13,14 @@ mark_before [] o t m = absurd m
 mark_before (Took s ∷ turns) o t (inl (inl h)) = omega (arith, h.1)
 mark_before (Took s ∷ turns) o t (inl (inr h)) = omega (arith, h.1)
 mark_before (Took s ∷ turns) o t (inr m) = omega (arith, mark_before turns o t m)
+mark_before (Tied h ∷ turns) o t m = mark_before turns o t m
 mark_before (Flushed h reports ∷ turns) o t m = mark_before turns o t m
 
 pub stamps_greatest : (turns : List Turn) → IsHistory turns → (o : ℕ) → IsMade (graph_after turns) o → IsGreatestMark turns o (stamp turns o)
 stamps_greatest [] h o made = absurd (omega (arith, made.0, made.1))
+stamps_greatest (Tied after ∷ turns) h o made =
+    let before = stamps_greatest turns h.0 o (tie_made (graph_after turns) after h.1 o made) in
+    record { mark = before.mark; greatest = before.greatest }
 stamps_greatest (Flushed after reports ∷ turns) h o made =
     let before = stamps_greatest turns h.0 o (flush_made (graph_after turns) after reports h.1 o made) in
     record { mark = before.mark; greatest = before.greatest }

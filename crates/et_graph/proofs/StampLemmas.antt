@@ -3,16 +3,18 @@ use Rattle.std.proofs.Common.{◌≡◌, ℕ, ◌+◌, ◌-◌, ◌<◌, ◌≤�
 use Rattle.std.specs.List.{list_any}
 use Rattle.std.proofs.lemmas.Bool.{cases_Bool, cond-true, cond-false}
 use Rattle.et_graph.specs.Graph.{Graph, IsMade, IsWalk, LeadsTo, IsReached, IsSoundGraph}
-use Rattle.et_graph.specs.Steps.{Step, IsLegalStep, IsFlush}
+use Rattle.et_graph.specs.Steps.{Step, IsLegalStep, IsTie, IsFlush}
 use Rattle.et_graph.specs.History.{Turn, graph_after, IsHistory, steps, WasReached, IsLastStep, stamp, StampsTell}
-use Rattle.et_graph.specs.History.Turn.{Took, Flushed}
+use Rattle.et_graph.specs.History.Turn.{Took, Tied, Flushed}
 use Rattle.et_base.proofs.Lists.{Contains-none, cases_number, cases_pair, has_contains, contains_has}
 use Rattle.et_graph.proofs.Walks.{leads_first, along, reached_on, cases_reached, walk_more}
 use Rattle.et_graph.proofs.Sound.{gone_back, gone_on, nothing_sound, reached_held, leads_made, made_cases, stepped_pair, stepped_sound, flushed_gone, flushed_sound, flush_made, flush_reached, reached_flush}
+use Rattle.et_graph.proofs.Ties.{tied_pair, leads_tied, tie_reached, reached_tie, tie_made, tie_gone, gone_tie, tied_sound}
 
 pub was_before : (turns : List Turn) (e o : ℕ) → WasReached turns e o → e < steps turns
 was_before (Took s ∷ turns) e o (inl h) = omega (arith, h.0)
 was_before (Took s ∷ turns) e o (inr w) = omega (arith, was_before turns e o w)
+was_before (Tied g ∷ turns) e o w = was_before turns e o w
 was_before (Flushed g dead ∷ turns) e o w = was_before turns e o w
 was_before [] e o w = absurd w
 
@@ -197,9 +199,40 @@ flush_told turns g dead told is = record {
       );
 }
 
+-- A tie's pairs end at objects that are reached now, so they were after the newest step, and where such a pair begins
+-- nothing was reached later. What is reached stays the same; what isn't keeps its source, since each walk stays.
+module _ (turns : List Turn) (h : Graph) (told : IsTold turns) (tie : IsTie (graph_after turns) h) where
+  tie_later : (u x : ℕ) → Contains h.pairs (u, x) → (e : ℕ) → WasReached turns e u → ReachedFrom turns e x
+  tie_later u x c e w =
+      elim (tied_pair (graph_after turns) h tie u x c) [
+        | inl d ↦ told.later u x d e w
+        | inr both ↦ let now = told.now x both.1 in (now.0, omega (arith, was_before turns e u w, now.1), now.2)
+      ]
+
+  tie_source : (o : ℕ) → IsMade h o → ¬ IsReached h o → (u : ℕ) × IsSource (Tied h ∷ turns) o u
+  tie_source o made out =
+      let u = told.source o (tie_made (graph_after turns) h tie o made) (λ r. out (reached_tie (graph_after turns) h tie o r)) in (
+        u.0,
+        record {
+          leads = leads_tied (graph_after turns) h tie u.0 o u.1.leads;
+          covers = u.1.covers;
+          held = λ held gone. u.1.held (λ d. held (gone_tie (graph_after turns) h tie o d)) (tie_gone (graph_after turns) h tie u.0 gone);
+        },
+      )
+
+  pub tie_told : IsTold (Tied h ∷ turns)
+  tie_told = record {
+    sound = tied_sound (graph_after turns) h tie told.sound;
+    stamped = λ o made. told.stamped o (tie_made (graph_after turns) h tie o made);
+    now = λ o r. told.now o (tie_reached (graph_after turns) h tie o r);
+    later = tie_later;
+    source = tie_source;
+  }
+
 pub history_told : (turns : List Turn) → IsHistory turns → IsTold turns
 history_told [] h = nothing_told
 history_told (Took s ∷ turns) h = step_told turns s (history_told turns h.0) h.1
+history_told (Tied g ∷ turns) h = tie_told turns g (history_told turns h.0) h.1
 history_told (Flushed g dead ∷ turns) h = flush_told turns g dead (history_told turns h.0) h.1
 
 module _ (turns : List Turn) (told : IsTold turns) where

@@ -11,7 +11,7 @@ pub record Book : Type 0 where
   pub steps : ℕ
   pub deaths : List (ℕ × ℕ)
 
--- The book is what these steps and flushes leave: its graph is the one to which they lead, so the objects that are gone
+-- The book is what these steps, ties and flushes leave: its graph is the one to which they lead, so the objects that are gone
 -- in it are those that the flushes reported, and it has the stamp of each object.
 pub record StandsFor (book : Book) (turns : List Turn) : Type 0 where
   pub history : IsHistory turns

@@ -1,4 +1,4 @@
--- A step as a program writes it.
+-- A step and a tie as a program writes them.
 use Rattle.std.specs.Prelude.{ℕ, ◌+◌, ◌==◌, ◌&&◌, Bool, not, List, ◌++◌, length, filter}
 use Rattle.std.specs.List.{list_any}
 use Rattle.et_graph.specs.Graph.{Graph}
@@ -27,3 +27,7 @@ step_of g e = record {
   fresh = e.fresh;
   lost = e.lost;
 }
+
+-- the graph once these pairs are tied as well
+abbrev pub with_pairs : Graph → List (ℕ × ℕ) → Graph
+with_pairs g tied = record g { pairs = g.pairs ++ tied }

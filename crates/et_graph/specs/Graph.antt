@@ -47,7 +47,7 @@ pub record AreDead (g : Graph) (dead : List ℕ) : Type 0 where
   pub rising : IsStrictlyIncreasing dead
   pub exact : (o : ℕ) → Contains dead o ↔ IsDead g o
 
--- What holds of each graph to which legal steps and flushes lead.
+-- What holds of each graph to which legal steps, ties and flushes lead.
 pub record IsSoundGraph (g : Graph) : Type 0 where
   -- what is named was made
   pub roots_made : (r : ℕ) → Contains g.roots r → IsMade g r

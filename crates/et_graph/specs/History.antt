@@ -1,43 +1,49 @@
--- Histories of steps and flushes: when an object was last reached, its stamp, and the deaths of a flush.
+-- Histories of steps, ties and flushes: when an object was last reached, its stamp, and the deaths of a flush.
 use Rattle.std.specs.Prelude.{◌≡◌, ℕ, ◌+◌, ◌-◌, ◌≤◌, ◌==◌, ◌↔◌, ◌⊎◌, if◌then◌else◌, List, [], ◌∷◌, ⊤, Contains, map}
 use Rattle.std.specs.List.Sorted.{IsStrictlyIncreasing}
 use Rattle.std.specs.List.{list_any}
 use Rattle.et_graph.specs.Graph.{Graph, nothing_made, IsMade, LeadsTo, IsReached, IsDead}
-use Rattle.et_graph.specs.Steps.{Step, IsLegalStep, IsFlush}
+use Rattle.et_graph.specs.Steps.{Step, IsLegalStep, IsTie, IsFlush}
 
--- One turn: a step, or a flush that led to this graph and reported these objects.
+-- One turn: a step, a tie that led to this graph, or a flush that led to this graph and reported these objects.
 pub data Turn : Type 0 where
   Took : Step → Turn
+  Tied : Graph → Turn
   Flushed : Graph → List ℕ → Turn
 
 -- A history has its newest turn first. The graph to which it leads:
 abbrev pub graph_after : List Turn → Graph
 graph_after [] = nothing_made
 graph_after (Took s ∷ turns) = s.after
+graph_after (Tied h ∷ turns) = h
 graph_after (Flushed h reports ∷ turns) = h
 
--- each step is legal, and each flush reports the dead
+-- each step is legal, each tie joins what is reached, and each flush reports the dead
 abbrev pub IsHistory : List Turn → Type 0
 IsHistory [] = ⊤
 IsHistory (Took s ∷ turns) = IsHistory turns × IsLegalStep (graph_after turns) s
+IsHistory (Tied h ∷ turns) = IsHistory turns × IsTie (graph_after turns) h
 IsHistory (Flushed h reports ∷ turns) = IsHistory turns × IsFlush (graph_after turns) reports h
 
--- How many steps it has. Steps are numbered from 0, so this is the number of the next.
+-- How many steps it has. Steps are numbered from 0, so this is the number of the next. Ties and flushes have no number.
 abbrev pub steps : List Turn → ℕ
 steps [] = 0
 steps (Took s ∷ turns) = steps turns + 1
+steps (Tied h ∷ turns) = steps turns
 steps (Flushed h reports ∷ turns) = steps turns
 
 -- a flush reported o
 abbrev pub WasReported : List Turn → ℕ → Type 0
 WasReported [] o = ⊥
 WasReported (Took s ∷ turns) o = WasReported turns o
+WasReported (Tied h ∷ turns) o = WasReported turns o
 WasReported (Flushed h reports ∷ turns) o = WasReported turns o ⊎ Contains reports o
 
--- o is reached in the graph after step e
+-- o is reached in the graph that step e left
 abbrev pub WasReached : List Turn → ℕ → ℕ → Type 0
 WasReached [] e o = ⊥
 WasReached (Took s ∷ turns) e o = ((e ≡ steps turns) × IsReached s.after o) ⊎ WasReached turns e o
+WasReached (Tied h ∷ turns) e o = WasReached turns e o
 WasReached (Flushed h reports ∷ turns) e o = WasReached turns e o
 
 -- e is the last step after which o is reached
@@ -52,6 +58,7 @@ stamp (Took s ∷ turns) o =
     if list_any (λ x. x == o) s.fresh then steps turns
     else if list_any (λ x. x == o) s.lost then steps turns - 1
     else stamp turns o
+stamp (Tied h ∷ turns) o = stamp turns o
 stamp (Flushed h reports ∷ turns) o = stamp turns o
 
 -- t is the step that made o, or one before a step that lost it
@@ -60,6 +67,7 @@ IsMark [] o t = ⊥
 IsMark (Took s ∷ turns) o t =
     ((Contains s.fresh o × (t ≡ steps turns)) ⊎ (Contains s.lost o × (t + 1 ≡ steps turns)))
     ⊎ IsMark turns o t
+IsMark (Tied h ∷ turns) o t = IsMark turns o t
 IsMark (Flushed h reports ∷ turns) o t = IsMark turns o t
 
 -- t is the greatest of these

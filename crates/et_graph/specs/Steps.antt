@@ -1,4 +1,4 @@
--- Steps and flushes that lead from one graph to the next, and when they are legal.
+-- Steps, ties and flushes that lead from one graph to the next, and when they are legal.
 use Rattle.std.specs.Prelude.{◌≡◌, ℕ, ◌+◌, ◌<◌, ◌↔◌, ◌⊎◌, List, length, Contains, slice_index}
 use Rattle.et_graph.specs.Graph.{Graph, IsMade, IsReached, AreDead}
 
@@ -43,6 +43,15 @@ pub record IsDraft (g : Graph) (s : Step) : Type 0 where
 pub record IsLegalStep (g : Graph) (s : Step) : Type 0 where
   pub draft : IsDraft g s
   pub fresh_reached : (o : ℕ) → Contains s.fresh o → IsReached s.after o
+
+-- A tie leads from g to h, which differs from g by more pairs alone, each between objects that are reached in g. It makes
+-- and loses nothing.
+pub record IsTie (g h : Graph) : Type 0 where
+  pub made : h.made ≡ g.made
+  pub roots : h.roots ≡ g.roots
+  pub pairs_kept : (u x : ℕ) → Contains g.pairs (u, x) → Contains h.pairs (u, x)
+  pub pairs_reached : (u x : ℕ) → Contains h.pairs (u, x) → ¬ Contains g.pairs (u, x) → IsReached g u × IsReached g x
+  pub gone : h.gone ≡ g.gone
 
 -- A flush leads from g to h and reports the dead of g: h is g but that these are gone.
 pub record IsFlush (g : Graph) (reports : List ℕ) (h : Graph) : Type 0 where

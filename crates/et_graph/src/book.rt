@@ -61,13 +61,15 @@ impl StampBook {
     ghost use Rattle.std.specs.Prelude.{◌≡◌, ℕ, ◌+◌, ◌^◌, ◌<◌, ◌∷◌, List, [], map, OnOk, OnErr};
     ghost use Rattle.std.specs.Borrow.{sem};
     ghost use Rattle.et_graph.specs.Steps.{IsLegalStep};
-    ghost use Rattle.et_graph.specs.Edit.{step_of};
+    ghost use Rattle.et_graph.specs.Edit.{step_of, with_pairs};
+    ghost use Rattle.et_graph.specs.Graph.{IsReached};
+    ghost use Rattle.et_graph.specs.Times.{ArePairsAmong};
     ghost use Rattle.et_graph.specs.History.{Turn, AreDeaths};
     ghost use Rattle.et_graph.specs.History.Turn.{Flushed};
     ghost use Rattle.et_graph.specs.Book.{StandsFor};
     ghost use Rattle.et_graph.specs.Listing.{death_pairs};
     ghost use Rattle.et_graph.specs.Written.{edit_of};
-    ghost use Rattle.et_graph.specs.Taken.{with_step};
+    ghost use Rattle.et_graph.specs.Taken.{with_step, with_tie};
     ghost use Rattle.et_graph.specs.Flush.{EndsFlushed};
 
     /// A book with no step.
@@ -114,6 +116,20 @@ impl StampBook {
         self.objects.take_step(&lost, self.steps, count);
         self.roots = roots;
         self.steps += 1;
+        Ok(())
+    }
+
+    /// Puts in pairs between objects that are reached now. A tie is no step: it has no number, and stamps nothing. The book
+    /// then stands for the history with this tie. With `NoMemory` it is as before.
+    pub fn tie(&mut self, tied: Vec<(ObjectId, ObjectId)>) -> Result<(), NoMemory>
+        requires reached { ArePairsAmong (IsReached self.old.graph) tied.items }
+        ensures ok { OnOk result ((turns : List Turn) →
+            StandsFor self.old turns → StandsFor self.new (with_tie turns tied.items)) }
+        ensures graph { OnOk result
+            (self.new ≡ record (self.old) { graph = with_pairs self.old.graph tied.items }) }
+        ensures err { OnErr result (self.new ≡ self.old) }
+    {
+        self.pairs.extend_from_slice(&tied)?;
         Ok(())
     }
 

@@ -3,7 +3,7 @@
 ghost use Rattle.std.specs.Prelude.{◌≡◌, ◌↔◌, ℕ, Bool, List, [], map, Contains};
 ghost use Rattle.et_graph.specs.Graph.{Graph, IsMade, IsReached, Decides, AreDead, IsSoundGraph};
 ghost use Rattle.et_graph.specs.Listed.{AreListed};
-ghost use Rattle.et_graph.specs.Steps.{Step, IsDraft, IsLegalStep};
+ghost use Rattle.et_graph.specs.Steps.{Step, IsDraft, IsLegalStep, IsTie};
 ghost use Rattle.et_graph.specs.Drafts.{IsMove, IsMaking};
 ghost use Rattle.et_graph.specs.History.{Turn, graph_after, IsHistory, StampsTell, stamp, IsGreatestMark, WasReported, AreDeaths, AreStamped};
 
@@ -12,7 +12,7 @@ pub fn reaching_is_decided()
     ensures { (reached : Graph → ℕ → Bool) × Decides reached }
 {}
 
-/// The stamp law. After every list of legal steps and flushes, the last step after which an object was reached is, for
+/// The stamp law. After every list of legal steps, ties and flushes, the last step after which an object was reached is, for
 /// each object that isn't reached now, the greatest stamp of the objects that lead to it now.
 pub fn stamps_tell()
     ensures { (turns : List Turn) → IsHistory turns → StampsTell turns }
@@ -52,6 +52,11 @@ pub fn gone_were_reported()
 /// What holds of the graph after every history.
 pub fn histories_are_sound()
     ensures { (turns : List Turn) → IsHistory turns → IsSoundGraph (graph_after turns) }
+{}
+
+/// What a tie joins is reached before, so that it leaves the reached objects as they are.
+pub fn ties_keep_reached()
+    ensures { (g h : Graph) → IsTie g h → (o : ℕ) → IsReached h o ↔ IsReached g o }
 {}
 
 /// A step begins as a draft in which nothing is new and nothing is lost.
