@@ -1,15 +1,18 @@
--- A test by computation that steps are legal, for steps that are written out.
-use Rattle.std.proofs.Common.{◌≡◌, ℕ, zero, suc, ◌+◌, ◌<◌, ◌==◌, ◌&&◌, ◌||◌, nat_lt, nat_le, Bool, true, not, List, [], ◌∷◌, length, get_or, Contains, refl, subst, inl, inr, arith}
+-- A test by computation that steps and ties are legal, for such as are written out; and what is legal after a flush.
+use Rattle.std.proofs.Common.{◌≡◌, ℕ, zero, suc, ◌+◌, ◌<◌, ◌==◌, ◌&&◌, ◌||◌, nat_lt, nat_le, Bool, true, not, List, [], ◌∷◌, ◌++◌, filter, length, get_or, Contains, refl, subst, inl, inr, arith}
 use Rattle.std.specs.List.{list_any, list_all}
+use Rattle.std.proofs.lemmas.List.Elements.{Contains-append_left, Contains-append_right, Contains-append_cases}
 use Rattle.std.proofs.lemmas.Bool.{and_parts, or_cases, eqb-true, leb-true, ltb-true, not-true, both_ways}
 use Rattle.et_graph.specs.Graph.{Graph, Leads, IsReached}
-use Rattle.et_graph.specs.Steps.{Step, IsKnown, IsDraft, IsLegalStep}
+use Rattle.et_graph.specs.Steps.{Step, IsKnown, IsDraft, IsLegalStep, IsFlush}
 use Rattle.et_graph.specs.Edit.{Edit, has_pair, step_of}
 use Rattle.et_graph.specs.History.{Turn, graph_after}
 use Rattle.et_graph.specs.Taken.{with_step, AreLegalSteps}
-use Rattle.et_base.proofs.Lists.{Contains-none, Contains-here, Contains-there, Contains-cons, has_contains, contains_has}
+use Rattle.et_graph.specs.Times.{ArePairsAmong}
+use Rattle.et_base.proofs.Lists.{Contains-none, Contains-here, Contains-there, Contains-cons, has_contains, contains_has, filter_kept, filter_keeps}
 use Rattle.et_graph.proofs.Lists.{has_pair_contains}
-use Rattle.et_graph.proofs.Walks.{leads_first, leads_on, leads_more}
+use Rattle.et_graph.proofs.Walks.{leads_first, leads_on, leads_more, walk_more}
+use Rattle.et_graph.proofs.Sound.{reached_flush}
 
 abbrev pub leads_test : List (ℕ × ℕ) → ℕ → ℕ → Bool
 leads_test [] u o = u == o
@@ -176,6 +179,61 @@ tested_steps turns [] h = tt
 tested_steps turns (e ∷ edits) h =
     let both = and_parts (step_test (graph_after turns) (step_of (graph_after turns) e)) (steps_test (step_of (graph_after turns) e).after edits) h in
     (tested_legal (graph_after turns) e both.0, tested_steps (with_step turns e) edits both.1)
+
+abbrev pub tie_test : Graph → List (ℕ × ℕ) → Bool
+tie_test g tied = list_all (λ p. reached_test g p.0 && reached_test g p.1) tied
+
+pub tested_tie : (g : Graph) (tied : List (ℕ × ℕ)) → tie_test g tied ≡ true → ArePairsAmong (IsReached g) tied
+tested_tie g tied h = λ u x c.
+    let both = and_parts (reached_test g u) (reached_test g x) (all_at (λ p. reached_test g p.0 && reached_test g p.1) tied (u, x) h c) in
+    (test_reached g u both.0, test_reached g x both.1)
+
+-- A step that was legal before a flush is legal after it, where it makes nothing a root that the flush reports.
+module _ (g h : Graph) (dead : List ℕ) (is : IsFlush g dead h) (e : Edit) where
+  same_pairs : (ps qs : List (ℕ × ℕ)) → ((u x : ℕ) → Contains ps (u, x) → Contains qs (u, x)) → (u x : ℕ)
+      → Contains (filter (λ p. not (has_pair e.cut p)) ps ++ e.tied) (u, x) → Contains (filter (λ p. not (has_pair e.cut p)) qs ++ e.tied) (u, x)
+  same_pairs ps qs more u x c =
+      elim (Contains-append_cases (filter (λ p. not (has_pair e.cut p)) ps) e.tied (u, x) c) [
+        | inl f ↦
+            let k = filter_kept (λ p. not (has_pair e.cut p)) ps (u, x) f in
+            Contains-append_left (filter (λ p. not (has_pair e.cut p)) qs) e.tied (u, x) (filter_keeps (λ p. not (has_pair e.cut p)) qs (u, x) (more u x k.0) k.1)
+        | inr t ↦ Contains-append_right (filter (λ p. not (has_pair e.cut p)) qs) e.tied (u, x) t
+      ]
+
+  pair_before : (u x : ℕ) → Contains (step_of h e).after.pairs (u, x) → Contains (step_of g e).after.pairs (u, x)
+  pair_before = same_pairs h.pairs g.pairs (λ u x c. (is.pairs u x).0 c)
+
+  pair_flushed : (u x : ℕ) → Contains (step_of g e).after.pairs (u, x) → Contains (step_of h e).after.pairs (u, x)
+  pair_flushed = same_pairs g.pairs h.pairs (λ u x c. (is.pairs u x).1 c)
+
+  known_flushed : (o : ℕ) → IsKnown g (step_of g e) o → IsKnown h (step_of h e) o
+  known_flushed o (inl r) = inl (reached_flush g h dead is o r)
+  known_flushed o (inr c) = inr c
+
+  draft_flushed : IsDraft g (step_of g e) → ((r : ℕ) → Contains e.roots r → ¬ Contains dead r) → IsDraft h (step_of h e)
+  draft_flushed draft held = record {
+    made = refl;
+    fresh_next = λ k lt. omega (arith, draft.fresh_next k lt, is.made);
+    roots_lost = λ r c out. draft.roots_lost r (subst (λ (rs : List ℕ). Contains rs r) is.roots c) out;
+    pairs_lost = λ u x r. draft.pairs_lost u x ((is.pairs u x).0 r.0, λ c. r.1 (pair_flushed u x c));
+    pairs_from_reached = λ u x r. reached_flush g h dead is u (draft.pairs_from_reached u x ((is.pairs u x).0 r.0, λ c. r.1 (pair_flushed u x c)));
+    pairs_known = λ u x a.
+        let both = draft.pairs_known u x (pair_before u x a.0, λ c. a.1 ((is.pairs u x).1 c)) in
+        (known_flushed u both.0, known_flushed x both.1);
+    lost_known = λ o c. known_flushed o (draft.lost_known o c);
+    roots_held = λ r c.
+        let both = draft.roots_held r c in
+        ((both.0.0, omega (arith, both.0.1, is.made)), λ gone. elim ((is.gone r).0 gone) [ inl d ↦ both.1 d | inr d ↦ held r c d ]);
+    gone = refl;
+  }
+
+  pub legal_flushed : IsLegalStep g (step_of g e) → ((r : ℕ) → Contains e.roots r → ¬ Contains dead r) → IsLegalStep h (step_of h e)
+  legal_flushed legal held = record {
+    draft = draft_flushed legal.draft held;
+    fresh_reached = λ o c.
+        let r = legal.fresh_reached o c in
+        (r.0, r.1, (r.2.0, walk_more (step_of g e).after.pairs (step_of h e).after.pairs pair_flushed r.0 r.2.0 o r.2.1));
+  }
 
 -- a step by its parts: its new and its lost objects, the roots after it, and the pairs that it takes away and puts in
 abbrev pub row : List ℕ → List ℕ → List ℕ → List (ℕ × ℕ) → List (ℕ × ℕ) → Edit
