@@ -16,3 +16,4 @@ mod strings;
 mod switches;
 
 pub use event::ops_event;
+pub use plain::plain_event;

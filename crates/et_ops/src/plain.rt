@@ -129,9 +129,10 @@ fn row_event(
     }
 }
 
-/// The event of the plain instruction at a place. After `NoMemory` the machine may have one object more, to which nothing
-/// refers, and there may be its record; all else is as before.
-pub(crate) fn plain_event(
+/// The event of the plain instruction at a place, for a caller that has decoded it. It answers what the table of events says
+/// of its row there, as [`ops_event`](crate::ops_event) does, and visits no object. After `NoMemory` the machine may have one
+/// object more, to which nothing refers, and there may be its record; all else is as before.
+pub fn plain_event(
     program: &Program,
     machine: &mut Machine,
     thread: ThreadId,

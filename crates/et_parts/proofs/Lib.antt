@@ -14,4 +14,3 @@ pub mod Rows
 pub mod Keeping
 pub mod There
 pub mod Entering
-mod Opcodes

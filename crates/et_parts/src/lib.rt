@@ -4,7 +4,6 @@
 
 mod answers;
 mod codes;
-mod families;
 mod locks;
 mod members;
 pub mod monitor_laws;
@@ -18,7 +17,6 @@ mod tops;
 
 pub use answers::{ill_typed, wait_event};
 pub use codes::{code_of, method_of};
-pub use families::family_of;
 pub use locks::{Lock, lock_for, lock_in};
 pub use members::{MemberAt, class_operand, member_at, names_interface};
 pub use monitors::{

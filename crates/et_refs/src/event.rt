@@ -43,8 +43,10 @@ fn heap_row(place: &Place<'_>) -> HeapRow
     }
 }
 
-/// The event of the instruction at a place, which is one on fields, arrays and classes.
-fn place_event<L: Ledger>(
+/// The event of the instruction at a place, which is one on fields, arrays and classes, for a caller that has decoded it. It
+/// answers what the table of events says of its row there, as [`refs_event`] does, and visits as many objects at most. After
+/// `NoMemory` the event may be half done, and machine and records may only be dropped.
+pub fn heap_row_event<L: Ledger>(
     alloc: Global,
     program: &Program,
     machine: &mut Machine,
@@ -99,7 +101,7 @@ pub fn refs_event<L: Ledger>(
         (event program.now (kept_of machine.old) thread)).heap - length machine.old.heap) }
 {
     match place_of(program, machine, thread) {
-        Some(place) => place_event(alloc, program, machine, thread, &place, out, visits),
+        Some(place) => heap_row_event(alloc, program, machine, thread, &place, out, visits),
         None => Ok(ill_typed(machine, thread)),
     }
 }

@@ -23,4 +23,4 @@ mod rows;
 mod slots;
 mod static_fields;
 
-pub use event::refs_event;
+pub use event::{heap_row_event, refs_event};

@@ -7,19 +7,21 @@ ghost use Rattle.et_event.specs.Families.{family_of as family};
 ghost use Rattle.et_event.specs.declared.families.Family.TheVariants as families;
 ghost use Rattle.et_event.specs.Runnable.{IsRunnable};
 ghost use Rattle.et_event.specs.Sound.{IsSoundFor};
+ghost use Rattle.et_state.specs.declared.stage.Turn.TheVariants as turns;
 ghost use Rattle.et_state.specs.Outcome.{state_after};
 ghost use Rattle.et_state.specs.State.{kept_of};
-ghost use Rattle.et_state.specs.Words.{IsUnended};
+ghost use Rattle.et_state.specs.Threads.{turn_of};
+ghost use Rattle.et_state.specs.Words.{IsUnended, thread_at};
 
 use et_base::{NoMemory, Steps, ThreadId};
 use et_calls::calls_event;
-use et_event::Family;
+use et_event::Row;
 use et_history::laws::events_lead_to_sound_states;
-use et_ops::ops_event;
-use et_parts::family_of;
+use et_ops::plain_event;
+use et_parts::{ill_typed, place_of};
 use et_program::Program;
-use et_refs::refs_event;
-use et_state::{EventEnd, Lines, Machine};
+use et_refs::heap_row_event;
+use et_state::{EventEnd, Lines, Machine, Turn};
 use et_sync::sync_event;
 use et_throw::throw_event;
 use std::alloc::Global;
@@ -44,6 +46,65 @@ fn call_turn_event<L: Ledger>(
     match calls_event(alloc, program, machine, thread, out, visits) {
         Ok(EventEnd::Native { .. }) => sync_event(alloc, program, machine, thread, out, visits),
         answer => answer,
+    }
+}
+
+/// The event of a thread whose turn is an instruction. It is decoded once where it is a plain one, or one on fields, arrays
+/// and classes. It visits eight objects at most, and one for each that the event makes. After `NoMemory` the machine may only
+/// be dropped.
+#[tactic(auto, using(et_event::proofs::FamilyTurns::family_at))]
+fn instruction_event<L: Ledger>(
+    alloc: Global,
+    program: &Program,
+    machine: &mut Machine,
+    thread: ThreadId,
+    out: &mut Lines,
+    visits: &mut Steps<L>,
+) -> Result<EventEnd, NoMemory>
+    requires begins { BeginsEvent program.now machine.old thread }
+    requires turn { turn_of (thread_at machine.old.guest thread) ≡ turns.Instruction }
+    ensures event { IfOk result (λ end. EventAnswers (event program.now
+        (kept_of machine.old) thread) end machine.old machine.new out.old out.new) }
+    ensures visits { visits.new ≤ visits.old + 8 + (length (state_after (kept_of machine.old)
+        (event program.now (kept_of machine.old) thread)).heap - length machine.old.heap) }
+{
+    let Some(place) = place_of(program, machine, thread) else {
+        return Ok(ill_typed(machine, thread));
+    };
+    match place.row {
+        Row::Frame(_) | Row::PoolConstant | Row::Divide(_, _) => {
+            plain_event(program, machine, thread, &place, out)
+        }
+        Row::Heap(_) => heap_row_event(alloc, program, machine, thread, &place, out, visits),
+        Row::Call(_) => call_turn_event(alloc, program, machine, thread, out, visits),
+        Row::Throw => throw_event(alloc, program, machine, thread, out, visits),
+        Row::Monitor(_) => sync_event(alloc, program, machine, thread, out, visits),
+    }
+}
+
+/// The event of a thread, by what it does in its turn.
+#[tactic(auto, using(et_event::proofs::FamilyTurns::family_at))]
+fn event_by_turn<L: Ledger>(
+    alloc: Global,
+    program: &Program,
+    machine: &mut Machine,
+    thread: ThreadId,
+    out: &mut Lines,
+    visits: &mut Steps<L>,
+) -> Result<EventEnd, NoMemory>
+    requires begins { BeginsEvent program.now machine.old thread }
+    ensures event { IfOk result (λ end. EventAnswers (event program.now
+        (kept_of machine.old) thread) end machine.old machine.new out.old out.new) }
+    ensures visits { visits.new ≤ visits.old + 8 + (length (state_after (kept_of machine.old)
+        (event program.now (kept_of machine.old) thread)).heap - length machine.old.heap) }
+{
+    match machine.turn(thread) {
+        Turn::Instruction => instruction_event(alloc, program, machine, thread, out, visits),
+        Turn::Unwind => throw_event(alloc, program, machine, thread, out, visits),
+        Turn::EndThread => sync_event(alloc, program, machine, thread, out, visits),
+        Turn::Entry | Turn::Initialize => {
+            call_turn_event(alloc, program, machine, thread, out, visits)
+        }
     }
 }
 
@@ -72,11 +133,5 @@ pub fn turn_event<L: Ledger>(
 {
     // Laws: they tell the prover, and do nothing.
     events_lead_to_sound_states();
-    match family_of(program, machine, thread) {
-        Family::Ops => ops_event(alloc, program, machine, thread, out, visits),
-        Family::Refs => refs_event(alloc, program, machine, thread, out, visits),
-        Family::Calls => call_turn_event(alloc, program, machine, thread, out, visits),
-        Family::Throw => throw_event(alloc, program, machine, thread, out, visits),
-        Family::Sync => sync_event(alloc, program, machine, thread, out, visits),
-    }
+    event_by_turn(alloc, program, machine, thread, out, visits)
 }
