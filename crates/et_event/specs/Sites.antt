@@ -1,14 +1,16 @@
 -- The instruction at which a thread stands, and what it names in the pool of its class.
-use Rattle.std.specs.Prelude.{ℕ, ◌==◌, ℤ, pos, negsuc, ◌+ℤ◌, Bool, List, [], Option, Result, slice_index_or, unwrap_or, option_map, option_and_then}
+use Rattle.std.specs.Prelude.{ℕ, ◌==◌, ℤ, pos, negsuc, ◌+ℤ◌, Bool, List, [], Option, Result, unwrap_or, option_map, option_and_then}
 use Rattle.std.specs.Option.{option_or}
-use Rattle.et_pool.specs.Entries.{Item, Constants}
-use Rattle.et_pool.specs.Looks.{tag_at, utf8_at, class_name_at, string_at, integer_at, long_at, name_and_type_at, member_at}
+use Rattle.et_pool.specs.Entries.{Item}
+use Rattle.et_pool.specs.Looks.{tag_at, class_name_at, string_at, integer_at, long_at, member_at}
 use Rattle.et_pool.specs.declared.tags.TheConstants.{INTERFACE_METHODREF}
 use Rattle.et_code.specs.declared.instr.Instr.{Instr}
 use Rattle.et_code.specs.Bodies.{Body}
 use Rattle.et_code.specs.Decoding.{instruction_at}
 use Rattle.et_code.specs.declared.instr.CodeFault.{CodeFault}
 use Rattle.et_program.specs.Entries.{Linked, method_at}
+pub use Rattle.et_program.specs.Referring.{no_constants, pool_of_class, Member}
+use Rattle.et_program.specs.Referring.{described}
 use Rattle.et_program.specs.declared.info.MethodInfo.{MethodInfo}
 use Rattle.et_state.specs.Threads.{FrameState}
 use Rattle.et_event.specs.declared.rows.Local.{Local}
@@ -25,9 +27,6 @@ pub record Site : Type 0 where
 abbrev pub no_body : Body
 no_body = record { max_stack = 0; max_locals = 0; code = []; table = [] }
 
-abbrev pub no_constants : Constants
-no_constants = record { at = 0; slots = [] }
-
 -- the method of a frame
 abbrev pub running_method : Linked → FrameState → MethodInfo
 running_method p f = method_at p (unwrap_or f.method 0)
@@ -38,10 +37,6 @@ present_body code = unwrap_or code no_body
 -- the code of a frame's method
 abbrev pub code_of_frame : Linked → FrameState → Body
 code_of_frame p f = present_body (running_method p f).code
-
--- the pool of a class
-abbrev pub pool_of_class : Linked → ℕ → List (Option Item)
-pool_of_class p class = (slice_index_or p.pools class no_constants).slots
 
 -- what stands at the pc of a frame
 abbrev pub decoded_at : Linked → FrameState → Result (Instr × ℕ) CodeFault
@@ -84,20 +79,7 @@ abbrev pub constant_at : List (Option Item) → ℕ → Option LoadedConstant
 constant_at pool i =
     option_or (option_map AnInt (integer_at pool i)) (option_or (option_map ALong (long_at pool i)) (option_map AString (string_at pool i)))
 
--- MEMBERS (JVMS 4.4.2): the class that is named, the name, and the descriptor
-pub record Member : Type 0 where
-  pub owner : List ℕ
-  pub name : List ℕ
-  pub descriptor : List ℕ
-
-abbrev named : List (Option Item) → List ℕ → ℕ × ℕ → Option Member
-named pool owner indices =
-    option_and_then (λ name. option_map (λ descriptor. record { owner = owner; name = name; descriptor = descriptor }) (utf8_at pool indices.1)) (utf8_at pool indices.0)
-
-abbrev described : List (Option Item) → ℕ × ℕ → Option Member
-described pool indices =
-    option_and_then (λ owner. option_and_then (named pool owner) (name_and_type_at pool indices.1)) (class_name_at pool indices.0)
-
+-- the member that an instruction names
 abbrev pub site_member : Site → Option Member
 site_member at = option_and_then (described at.pool) (member_at at.pool (pool_index at))
 

@@ -1,5 +1,5 @@
 -- Indices that grow by one element after another.
-use Rattle.std.proofs.Common.{◌≡◌, ℕ, ◌+◌, ◌<◌, zero, suc, Bool, true, false, cond, ◌==◌, ◌&&◌, List, [], ◌∷◌, ◌++◌, length, take, get_or, Option, None, Some, is_some, refl, sym, ◌∙◌, ap, subst, arith, true≢false}
+use Rattle.std.proofs.Common.{◌≡◌, ℕ, ◌+◌, ◌<◌, suc, Bool, true, false, cond, ◌==◌, ◌&&◌, List, [], ◌∷◌, ◌++◌, length, take, get_or, Option, None, Some, is_some, refl, sym, ◌∙◌, ap, subst, arith, true≢false}
 use mathlib.Core.Logic.{⊎_elim}
 use Rattle.std.specs.List.{position_from}
 use Rattle.std.specs.Option.{option_or, option_and_then}
@@ -16,7 +16,7 @@ use Rattle.et_program.specs.declared.info.MethodInfo.{MethodInfo}
 use Rattle.et_program.specs.declared.info.FieldInfo.{FieldInfo}
 use Rattle.et_program.specs.Members.{is_method, is_field}
 use Rattle.et_program.specs.Tables.{looked_up}
-use Rattle.et_program.specs.Indexed.{AreApart, HasNumbersBelow, IsNumbering, Has, Keeps, HasTexts, PutsMember}
+use Rattle.et_program.specs.Indexed.{AreApart, IsNumbering, Has, Keeps, HasTexts, PutsMember}
 
 -- THE FIRST PLACE THAT PASSES
 

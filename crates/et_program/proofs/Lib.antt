@@ -5,3 +5,5 @@ pub mod PlaceLemmas
 pub mod Examples
 pub mod IndexLemmas
 pub mod Puts
+pub mod PoolLemmas
+pub mod SignatureLemmas

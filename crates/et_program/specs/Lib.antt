@@ -1,6 +1,9 @@
 pub mod Entries
 pub mod Members
 pub mod Resolution
+pub mod Referring
+pub mod Resolved
+pub mod Signatures
 pub mod Types
 pub mod Words
 pub mod Shown

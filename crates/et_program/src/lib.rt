@@ -13,8 +13,11 @@ mod members;
 mod method_index;
 mod names;
 mod program;
+mod referring;
 mod resolution;
+mod resolved;
 mod selection;
+mod signatures;
 mod tables;
 mod types;
 
@@ -28,4 +31,5 @@ pub use members::MemberIndex;
 pub use method_index::MethodIndex;
 pub use names::NameIndex;
 pub use program::Program;
+pub use referring::{MemberAt, NamedMethod};
 pub use tables::Tables;

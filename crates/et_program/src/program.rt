@@ -10,6 +10,8 @@ use crate::indices::{index_base_arrays, index_classes, index_fields, index_metho
 use crate::info::{ClassInfo, FieldInfo, MethodInfo};
 use crate::members::MemberIndex;
 use crate::names::NameIndex;
+use crate::resolved::{Resolved, ResolvedPool};
+use crate::signatures::{Signature, Sought, signatures_of};
 use crate::tables::Tables;
 use et_base::{ClassId, FieldId, MethodId, NoMemory};
 use et_class::Pool;
@@ -32,12 +34,16 @@ pub struct Program {
     texts: NameIndex,
     method_places: MemberIndex,
     field_places: MemberIndex,
+    signatures: Vec<Signature>,
+    resolved: Vec<ResolvedPool>,
 }
 
 impl Model for Program {
     ghost use Rattle.et_program.specs.Entries.{Linked};
     ghost use Rattle.et_program.specs.Tables.{IsTabled, AreIndexed};
     ghost use Rattle.et_program.specs.Linking.{IsLinked};
+    ghost use Rattle.et_program.specs.Resolved.{AreResolved};
+    ghost use Rattle.et_program.specs.Signatures.{AreSigned};
 
     ghost Value = { Linked };
 
@@ -61,7 +67,9 @@ impl Model for Program {
       pools = p.pools.items;
     } in IsTabled l
         × AreIndexed l p.base_arrays.items p.places p.texts p.method_places p.field_places
-        × IsLinked l };
+        × IsLinked l
+        × AreSigned p.texts p.methods.items p.signatures.items
+        × AreResolved l p.resolved.items };
 }
 
 impl Program {
@@ -80,8 +88,29 @@ impl Program {
         let _ = &self.classes;
     }
 
-    /// The program of these tables, which are those of class files that link. The only error is want of memory.
+    /// The program of these tables, which are those of class files that link. What the entries of its pools refer to is
+    /// resolved once, here. The only error is want of memory.
     pub fn of(alloc: Global, tables: Tables) -> Result<Program, NoMemory>
+        requires tabled { IsTabled (shown_tables tables) }
+        requires linked { IsLinked (shown_tables tables) }
+        ensures { IfOk result (λ p. p ≡ shown_tables tables) }
+    {
+        let mut program = Program::by_names(alloc, tables)?;
+        let resolved = program.pools_resolved(alloc)?;
+        program.keep_resolved(resolved);
+        Ok(program)
+    }
+
+    /// Keeps what the entries of the pools refer to.
+    fn keep_resolved(&mut self, resolved: Vec<ResolvedPool>)
+        requires { AreResolved self.old resolved.items }
+        ensures { self.new ≡ self.old }
+    {
+        self.resolved = resolved;
+    }
+
+    /// The program of these tables, in which nothing is kept of the entries of the pools. The only error is want of memory.
+    fn by_names(alloc: Global, tables: Tables) -> Result<Program, NoMemory>
         requires tabled { IsTabled (shown_tables tables) }
         requires linked { IsLinked (shown_tables tables) }
         ensures { IfOk result (λ p. p ≡ shown_tables tables) }
@@ -91,6 +120,7 @@ impl Program {
         let methods = tables.methods.as_slice();
         let fields = tables.fields.as_slice();
         let texts = number_texts(alloc, methods, fields)?;
+        let signatures = signatures_of(alloc, &texts, methods)?;
         let method_places = index_methods(alloc, &texts, methods)?;
         let field_places = index_fields(alloc, &texts, fields)?;
         let Tables {
@@ -115,6 +145,8 @@ impl Program {
             texts,
             method_places,
             field_places,
+            signatures,
+            resolved: Vec::new(alloc),
         })
     }
 
@@ -126,6 +158,8 @@ impl Program {
     ghost use Rattle.et_program.specs.Shown.{info_of};
     ghost use Rattle.et_program.specs.Members.{class_named, method_in, field_in, is_above, is_subclass, base_array};
     ghost use Rattle.et_program.specs.Resolution.{resolve_class};
+    ghost use Rattle.et_program.specs.Resolved.{IsResolved, AreResolved};
+    ghost use Rattle.et_program.specs.Signatures.{IsSought, sought_name, sought_descriptor};
 
     /// The class of this name, or `NoClassDefFound` exactly where the program has none (JVMS 5.4.3.1).
     pub fn resolve_class(&self, name: &[u8]) -> Result<ClassId, LinkError>
@@ -235,6 +269,16 @@ impl Program {
         self.pools.get(class.number() as usize)
     }
 
+    /// What is kept of the entry at an index of the pool of a class.
+    pub(crate) fn kept_at(&self, class: ClassId, index: u16) -> Resolved
+        ensures { IsResolved self.now class index result }
+    {
+        match self.resolved.get(class.number() as usize) {
+            Some(pool) => pool.at(index),
+            None => Resolved::Nothing,
+        }
+    }
+
     /// The class of the arrays of these elements, or `None` where the program has none.
     pub fn array_over(&self, element: ClassId) -> Option<ClassId>
         requires { element < length self.now.classes }
@@ -296,17 +340,38 @@ impl Program {
         Some(MethodId::new(method))
     }
 
-    /// The method of a class with this name and descriptor.
-    pub(crate) fn method_in(
-        &self,
-        name: &[u8],
-        descriptor: &[u8],
-        class: ClassId,
-    ) -> Option<MethodId>
-        ensures value { result ≡ method_in self.now name.now descriptor.now class }
+    /// The method of a class with the name and the descriptor of a method, by their numbers.
+    fn method_like(&self, method: MethodId, class: ClassId) -> Option<MethodId>
+        requires { method < length self.now.methods }
+        ensures { result ≡ method_in self.now (method_at self.now method).name
+            (method_at self.now method).descriptor class }
+    {
+        let signature = self.signatures[method.number() as usize];
+        let Signature { name, descriptor } = signature;
+        let found = self.method_places.find(class.number(), name, descriptor)?;
+        Some(MethodId::new(found))
+    }
+
+    /// What the maps have of the method of a class that is looked for.
+    fn sought_by_key(&self, sought: &Sought<'_>, class: ClassId) -> Option<MethodId>
+        requires { IsSought self.now sought.now }
+        ensures { result ≡ method_in self.now (sought_name self.now sought.now)
+            (sought_descriptor self.now sought.now) class }
+    {
+        match *sought {
+            Sought::Named { name, descriptor } => self.method_by_key(name, descriptor, class),
+            Sought::Like(method) => self.method_like(method, class),
+        }
+    }
+
+    /// The method of a class that is looked for.
+    pub(crate) fn method_sought(&self, sought: &Sought<'_>, class: ClassId) -> Option<MethodId>
+        requires { IsSought self.now sought.now }
+        ensures value { result ≡ method_in self.now (sought_name self.now sought.now)
+            (sought_descriptor self.now sought.now) class }
         ensures within { IfSome result (λ m. m < length self.now.methods) }
     {
-        self.method_by_key(name, descriptor, class)
+        self.sought_by_key(sought, class)
     }
 
     /// What the maps have of a field of a class.

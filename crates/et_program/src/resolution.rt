@@ -5,9 +5,11 @@ ghost use Rattle.std.specs.List.{filter_map};
 ghost use Rattle.et_program.specs.Members.{method_in, field_in, first_in, is_open_method, open_in, is_overridden, specific_in, amount, resolved_above};
 ghost use Rattle.et_program.specs.Resolution.{resolve_field, resolve_method};
 ghost use Rattle.et_program.specs.Counted.{IsOneBelow};
+ghost use Rattle.et_program.specs.Signatures.{sought_name, sought_descriptor, IsSought};
 
 use crate::errors::{LinkError, Specific};
 use crate::program::Program;
+use crate::signatures::Sought;
 use et_base::{ClassId, FieldId, MethodId};
 use et_class::flags::{ABSTRACT, INTERFACE, PRIVATE, STATIC, has};
 
@@ -34,12 +36,13 @@ impl Program {
     }
 
     /// The method in the first of these classes that has it.
-    fn first_method(&self, name: &[u8], descriptor: &[u8], classes: &[ClassId]) -> Option<MethodId>
-        ensures value { result ≡ first_in (method_in self.now name.now descriptor.now) classes.now }
+    fn first_method(&self, sought: &Sought<'_>, classes: &[ClassId]) -> Option<MethodId>
+        requires { IsSought self.now sought.now }
+        ensures value { result ≡ first_in (method_in self.now (sought_name self.now sought.now) (sought_descriptor self.now sought.now)) classes.now }
         ensures within { IfSome result (λ m. m < length self.now.methods) }
     {
         for class in classes {
-            if let Some(method) = self.method_in(name, descriptor, *class) {
+            if let Some(method) = self.method_sought(sought, *class) {
                 return Some(method);
             }
         }
@@ -56,11 +59,12 @@ impl Program {
     }
 
     /// The method of a class with this name and descriptor, if it is neither private nor static.
-    fn open_in(&self, name: &[u8], descriptor: &[u8], class: ClassId) -> Option<MethodId>
-        ensures value { result ≡ open_in self.now name.now descriptor.now class }
+    fn open_in(&self, sought: &Sought<'_>, class: ClassId) -> Option<MethodId>
+        requires { IsSought self.now sought.now }
+        ensures value { result ≡ open_in self.now (sought_name self.now sought.now) (sought_descriptor self.now sought.now) class }
         ensures within { IfSome result (λ m. m < length self.now.methods) }
     {
-        match self.method_in(name, descriptor, class) {
+        match self.method_sought(sought, class) {
             Some(method) => if self.is_open(method) {
                 Some(method)
             } else {
@@ -71,12 +75,13 @@ impl Program {
     }
 
     /// The first such method in these classes.
-    fn first_open(&self, name: &[u8], descriptor: &[u8], classes: &[ClassId]) -> Option<MethodId>
-        ensures value { result ≡ first_in (open_in self.now name.now descriptor.now) classes.now }
+    fn first_open(&self, sought: &Sought<'_>, classes: &[ClassId]) -> Option<MethodId>
+        requires { IsSought self.now sought.now }
+        ensures value { result ≡ first_in (open_in self.now (sought_name self.now sought.now) (sought_descriptor self.now sought.now)) classes.now }
         ensures within { IfSome result (λ m. m < length self.now.methods) }
     {
         for class in classes {
-            if let Some(method) = self.open_in(name, descriptor, *class) {
+            if let Some(method) = self.open_in(sought, *class) {
                 return Some(method);
             }
         }
@@ -84,20 +89,13 @@ impl Program {
     }
 
     /// Whether one of these interfaces has such a method and is below the given one.
-    fn is_overridden(
-        &self,
-        name: &[u8],
-        descriptor: &[u8],
-        all: &[ClassId],
-        interface: ClassId,
-    ) -> bool
-        requires { All (λ k. k < length self.now.classes) all.now }
-        ensures { result ≡ is_overridden self.now name.now descriptor.now all.now interface }
+    fn is_overridden(&self, sought: &Sought<'_>, all: &[ClassId], interface: ClassId) -> bool
+        requires sought { IsSought self.now sought.now }
+        requires all { All (λ k. k < length self.now.classes) all.now }
+        ensures { result ≡ is_overridden self.now (sought_name self.now sought.now) (sought_descriptor self.now sought.now) all.now interface }
     {
         for other in all {
-            if self.is_above(interface, *other)
-                && self.open_in(name, descriptor, *other).is_some()
-            {
+            if self.is_above(interface, *other) && self.open_in(sought, *other).is_some() {
                 return true;
             }
         }
@@ -107,19 +105,19 @@ impl Program {
     /// The method of an interface, where it is maximally specific among these and isn't abstract.
     fn specific_in(
         &self,
-        name: &[u8],
-        descriptor: &[u8],
+        sought: &Sought<'_>,
         all: &[ClassId],
         interface: ClassId,
     ) -> Option<MethodId>
-        requires { All (λ k. k < length self.now.classes) all.now }
-        ensures value { result ≡ specific_in self.now name.now descriptor.now all.now interface }
+        requires sought { IsSought self.now sought.now }
+        requires all { All (λ k. k < length self.now.classes) all.now }
+        ensures value { result ≡ specific_in self.now (sought_name self.now sought.now) (sought_descriptor self.now sought.now) all.now interface }
         ensures within { IfSome result (λ m. m < length self.now.methods) }
     {
-        if self.is_overridden(name, descriptor, all, interface) {
+        if self.is_overridden(sought, all, interface) {
             return None;
         }
-        match self.open_in(name, descriptor, interface) {
+        match self.open_in(sought, interface) {
             Some(method) => if has(self.method(method).flags, ABSTRACT) {
                 None
             } else {
@@ -131,30 +129,32 @@ impl Program {
 
     /// The maximally specific methods among these interfaces that aren't abstract.
     #[tactic(auto, using(crate::proofs::Counting::counting_rules))]
-    pub(crate) fn specific(&self, name: &[u8], descriptor: &[u8], all: &[ClassId]) -> Specific
-        requires { All (λ k. k < length self.now.classes) all.now }
+    pub(crate) fn specific(&self, sought: &Sought<'_>, all: &[ClassId]) -> Specific
+        requires sought { IsSought self.now sought.now }
+        requires all { All (λ k. k < length self.now.classes) all.now }
         ensures value { result
-            ≡ amount (filter_map (specific_in self.now name.now descriptor.now all.now) all.now) }
+            ≡ amount (filter_map (specific_in self.now (sought_name self.now sought.now) (sought_descriptor self.now sought.now) all.now) all.now) }
         ensures within { IsOneBelow (length self.now.methods) result }
     {
         let mut found = Specific::Nothing;
         for interface in all {
-            let more = self.specific_in(name, descriptor, all, *interface);
+            let more = self.specific_in(sought, all, *interface);
             found = found.and_more(more);
         }
         found
     }
 
     /// The method that the last two steps of resolution find.
-    fn resolved_above(&self, name: &[u8], descriptor: &[u8], class: ClassId) -> Option<MethodId>
-        requires { class < length self.now.classes }
-        ensures value { result ≡ resolved_above self.now name.now descriptor.now class }
+    fn resolved_above(&self, sought: &Sought<'_>, class: ClassId) -> Option<MethodId>
+        requires sought { IsSought self.now sought.now }
+        requires class { class < length self.now.classes }
+        ensures value { result ≡ resolved_above self.now (sought_name self.now sought.now) (sought_descriptor self.now sought.now) class }
         ensures within { IfSome result (λ m. m < length self.now.methods) }
     {
         let all = self.entry(class).superinterfaces();
-        match self.specific(name, descriptor, all) {
+        match self.specific(sought, all) {
             Specific::One(method) => Some(method),
-            _ => self.first_open(name, descriptor, all),
+            _ => self.first_open(sought, all),
         }
     }
 
@@ -173,19 +173,20 @@ impl Program {
             ≡ resolve_method self.now owner by_interface name.now descriptor.now }
         ensures within { IfOk result (λ m. m < length self.now.methods) }
     {
+        let sought = Sought::Named { name, descriptor };
         let class = self.entry(owner);
         if has(class.info().flags, INTERFACE) != by_interface {
             return Err(LinkError::IncompatibleClassChange);
         }
-        if let Some(method) = self.method_in(name, descriptor, owner) {
+        if let Some(method) = self.method_sought(&sought, owner) {
             return Ok(method);
         }
         if !by_interface {
-            if let Some(method) = self.first_method(name, descriptor, class.supers()) {
+            if let Some(method) = self.first_method(&sought, class.supers()) {
                 return Ok(method);
             }
         }
-        self.resolved_above(name, descriptor, owner)
+        self.resolved_above(&sought, owner)
             .ok_or(LinkError::NoSuchMethod)
     }
 }

@@ -5,9 +5,11 @@ ghost use Rattle.std.specs.List.{filter_map};
 ghost use Rattle.et_program.specs.Members.{first_in, lineage};
 ghost use Rattle.et_program.specs.Resolution.{select, select_special, select_from, is_selectable, selectable_in, special_start};
 ghost use Rattle.et_program.specs.Counted.{IsOneBelow};
+ghost use Rattle.et_program.specs.Signatures.{sought_name, sought_descriptor, IsSought};
 
 use crate::errors::{LinkError, Specific};
 use crate::program::Program;
+use crate::signatures::Sought;
 use et_base::{ClassId, MethodId};
 use et_class::flags::{ABSTRACT, PRIVATE, STATIC, has};
 
@@ -22,17 +24,12 @@ impl Program {
     }
 
     /// The method of a class with this name and descriptor, if selection may stop there.
-    fn selectable_in(
-        &self,
-        special: bool,
-        name: &[u8],
-        descriptor: &[u8],
-        class: ClassId,
-    ) -> Option<MethodId>
-        ensures value { result ≡ selectable_in self.now special name.now descriptor.now class }
+    fn selectable_in(&self, special: bool, sought: &Sought<'_>, class: ClassId) -> Option<MethodId>
+        requires { IsSought self.now sought.now }
+        ensures value { result ≡ selectable_in self.now special (sought_name self.now sought.now) (sought_descriptor self.now sought.now) class }
         ensures within { IfSome result (λ m. m < length self.now.methods) }
     {
-        match self.method_in(name, descriptor, class) {
+        match self.method_sought(sought, class) {
             Some(method) => if self.is_selectable(special, method) {
                 Some(method)
             } else {
@@ -46,16 +43,16 @@ impl Program {
     fn first_selectable(
         &self,
         special: bool,
-        name: &[u8],
-        descriptor: &[u8],
+        sought: &Sought<'_>,
         classes: &[ClassId],
     ) -> Option<MethodId>
+        requires { IsSought self.now sought.now }
         ensures value { result
-            ≡ first_in (selectable_in self.now special name.now descriptor.now) classes.now }
+            ≡ first_in (selectable_in self.now special (sought_name self.now sought.now) (sought_descriptor self.now sought.now)) classes.now }
         ensures within { IfSome result (λ m. m < length self.now.methods) }
     {
         for class in classes {
-            if let Some(method) = self.selectable_in(special, name, descriptor, *class) {
+            if let Some(method) = self.selectable_in(special, sought, *class) {
                 return Some(method);
             }
         }
@@ -66,18 +63,18 @@ impl Program {
     fn selectable_upward(
         &self,
         special: bool,
-        name: &[u8],
-        descriptor: &[u8],
+        sought: &Sought<'_>,
         class: ClassId,
     ) -> Option<MethodId>
-        requires { class < length self.now.classes }
+        requires sought { IsSought self.now sought.now }
+        requires class { class < length self.now.classes }
         ensures value { result ≡ first_in
-            (selectable_in self.now special name.now descriptor.now) (lineage self.now class) }
+            (selectable_in self.now special (sought_name self.now sought.now) (sought_descriptor self.now sought.now)) (lineage self.now class) }
         ensures within { IfSome result (λ m. m < length self.now.methods) }
     {
-        match self.selectable_in(special, name, descriptor, class) {
+        match self.selectable_in(special, sought, class) {
             Some(method) => Some(method),
-            None => self.first_selectable(special, name, descriptor, self.entry(class).supers()),
+            None => self.first_selectable(special, sought, self.entry(class).supers()),
         }
     }
 
@@ -85,21 +82,21 @@ impl Program {
     fn select_from(
         &self,
         special: bool,
-        name: &[u8],
-        descriptor: &[u8],
+        sought: &Sought<'_>,
         class: ClassId,
     ) -> Result<MethodId, LinkError>
-        requires { class < length self.now.classes }
-        ensures value { result ≡ select_from self.now special name.now descriptor.now class }
+        requires sought { IsSought self.now sought.now }
+        requires class { class < length self.now.classes }
+        ensures value { result ≡ select_from self.now special (sought_name self.now sought.now) (sought_descriptor self.now sought.now) class }
         ensures within { IfOk result (λ m. m < length self.now.methods) }
     {
-        match self.selectable_upward(special, name, descriptor, class) {
+        match self.selectable_upward(special, sought, class) {
             Some(method) => if has(self.method(method).flags, ABSTRACT) {
                 Err(LinkError::AbstractMethod)
             } else {
                 Ok(method)
             },
-            None => match self.specific(name, descriptor, self.entry(class).superinterfaces()) {
+            None => match self.specific(sought, self.entry(class).superinterfaces()) {
                 Specific::Nothing => Err(LinkError::AbstractMethod),
                 Specific::One(method) => Ok(method),
                 Specific::Several => Err(LinkError::IncompatibleClassChange),
@@ -131,12 +128,7 @@ impl Program {
         } else if is_private {
             return Ok(method);
         }
-        self.select_from(
-            false,
-            resolved.name.as_slice(),
-            resolved.descriptor.as_slice(),
-            class,
-        )
+        self.select_from(false, &Sought::Like(method), class)
     }
 
     /// Where the search of invokespecial begins.
@@ -180,11 +172,6 @@ impl Program {
             };
         }
         let start = self.special_start(current, named);
-        self.select_from(
-            true,
-            resolved.name.as_slice(),
-            resolved.descriptor.as_slice(),
-            start,
-        )
+        self.select_from(true, &Sought::Like(method), start)
     }
 }

@@ -1,4 +1,4 @@
-use Rattle.std.proofs.Common.{◌≡◌, ℕ, ◌<◌, List, length, take, None}
+use Rattle.std.proofs.Common.{◌≡◌, ℕ, ◌<◌, length, take, None}
 use Rattle.std.specs.List.{position_from, slice_index_or}
 use Rattle.et_program.specs.Entries.{ClassEntry}
 use Rattle.et_program.specs.Members.{is_base_array}

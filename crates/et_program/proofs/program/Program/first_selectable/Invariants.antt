@@ -1,7 +1,8 @@
 use Rattle.std.proofs.Common.{◌≡◌, drop}
 use Rattle.et_program.specs.Members.{first_in}
 use Rattle.et_program.specs.Resolution.{selectable_in}
+use Rattle.et_program.specs.Signatures.{sought_name, sought_descriptor}
 use Rattle.et_program.proofs.program.Program.first_selectable.Given as goal
 
 abbrev pub invariant-loop-class : goal.invariant-loop-class
-invariant-loop-class l = first_in (selectable_in l.self l.special l.name l.descriptor) (drop l.class-index l.classes) ≡ first_in (selectable_in l.self l.special l.name l.descriptor) l.classes
+invariant-loop-class l = first_in (selectable_in l.self l.special (sought_name l.self l.sought) (sought_descriptor l.self l.sought)) (drop l.class-index l.classes) ≡ first_in (selectable_in l.self l.special (sought_name l.self l.sought) (sought_descriptor l.self l.sought)) l.classes

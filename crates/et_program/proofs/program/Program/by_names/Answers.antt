@@ -1,11 +1,14 @@
-use Rattle.std.proofs.Common.{◌≡◌, List, ap, ◌∙◌}
+use Rattle.std.proofs.Common.{List, map, subst, ap, ◌∙◌}
 use Rattle.std.specs.List.{position_from}
 use Rattle.std.specs.Str.{bytes_eq}
 use Rattle.et_program.specs.declared.info.MethodInfo.{MethodInfo}
 use Rattle.et_program.specs.declared.info.FieldInfo.{FieldInfo}
 use Rattle.et_program.specs.Entries.{ClassEntry}
 use Rattle.et_program.specs.Members.{is_method, is_field, is_base_array}
-use Rattle.et_program.proofs.program.Program.of.Goals as goal
+use Rattle.et_program.specs.Indexed.{HasIndexedMethods}
+use Rattle.et_program.specs.Signatures.{signature_of}
+use Rattle.et_program.proofs.PoolLemmas.{nothing_kept}
+use Rattle.et_program.proofs.program.Program.by_names.Goals as goal
 
 pub invariant_of-result : goal.invariant_of-result
 invariant_of-result c = (
@@ -34,4 +37,9 @@ invariant_of-result c = (
     linkable = c.requires.linked.linkable;
     program = c.requires.linked.program;
   },
+  record {
+    numbered = subst (λ (xs : List MethodInfo). HasIndexedMethods c.in_ok-texts.texts xs) c.as_slice-methods.ensures.value c.in_ok-texts.ensures.methods;
+    signed = c.in_ok-signatures.ensures ∙ ap (λ (xs : List MethodInfo). map (signature_of c.in_ok-texts.texts) xs) c.as_slice-methods.ensures.value;
+  },
+  nothing_kept _ _ c.new.ensures.items,
 )

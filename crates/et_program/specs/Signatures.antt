@@ -1,0 +1,34 @@
+-- The numbers by which methods are looked for.
+use Rattle.std.specs.Prelude.{◌≡◌, ℕ, ◌<◌, List, length, map, unwrap_or}
+use Rattle.et_program.specs.declared.names.NameIndex.{NameIndex}
+use Rattle.et_program.specs.declared.info.MethodInfo.{MethodInfo}
+use Rattle.et_program.specs.declared.signatures.Signature.{Signature}
+use Rattle.et_program.specs.declared.signatures.Sought.{Sought}
+use Rattle.et_program.specs.declared.signatures.Sought.TheVariants.{Named, Like}
+use Rattle.et_program.specs.Entries.{Linked, method_at}
+use Rattle.et_program.specs.Indices.{number_of_name}
+use Rattle.et_program.specs.Indexed.{HasIndexedMethods}
+
+-- the numbers of the name and of the descriptor of a method
+abbrev pub signature_of : NameIndex → MethodInfo → Signature
+signature_of texts m = record { name = unwrap_or (number_of_name texts m.name) 0; descriptor = unwrap_or (number_of_name texts m.descriptor) 0 }
+
+-- the texts of all methods have numbers, which are kept at the numbers of the methods
+pub record AreSigned (texts : NameIndex) (methods : List MethodInfo) (signatures : List Signature) : Type 0 where
+  pub numbered : HasIndexedMethods texts methods
+  pub signed : signatures ≡ map (signature_of texts) methods
+
+-- WHAT IS LOOKED FOR: a name and a descriptor, or those of a method
+
+abbrev pub sought_name : Linked → Sought → List ℕ
+sought_name p (Named name descriptor) = name.now
+sought_name p (Like m) = (method_at p m).name
+
+abbrev pub sought_descriptor : Linked → Sought → List ℕ
+sought_descriptor p (Named name descriptor) = descriptor.now
+sought_descriptor p (Like m) = (method_at p m).descriptor
+
+-- the method is one of the program
+abbrev pub IsSought : Linked → Sought → Type 0
+IsSought p (Named name descriptor) = Unit {0}
+IsSought p (Like m) = m < length p.methods

@@ -1,0 +1,54 @@
+//! The numbers by which methods are looked for.
+
+ghost use Rattle.std.specs.Prelude.{◌≡◌, map, unwrap_or, IfOk};
+ghost use Rattle.et_program.specs.Indices.{number_of_name};
+ghost use Rattle.et_program.specs.Signatures.{signature_of};
+
+use crate::info::MethodInfo;
+use crate::names::NameIndex;
+use et_base::{MethodId, NoMemory};
+use std::alloc::Global;
+
+/// The numbers of the name and of the descriptor of a method.
+#[derive(Clone, Copy)]
+pub(crate) struct Signature {
+    pub name: u32,
+    pub descriptor: u32,
+}
+
+/// What a method is looked for by.
+#[derive(Clone, Copy)]
+pub(crate) enum Sought<'a> {
+    /// By its name and its descriptor.
+    Named {
+        name: &'a [u8],
+        descriptor: &'a [u8],
+    },
+    /// By those of a method of the program, whose numbers are kept.
+    Like(MethodId),
+}
+
+/// The number of a text, or 0 where it has none.
+fn number_of(texts: &NameIndex, text: &[u8]) -> u32
+    ensures { result ≡ unwrap_or (number_of_name texts.now text.now) 0 }
+{
+    texts.find(text).unwrap_or(0)
+}
+
+/// The numbers of the names and descriptors of these methods. The only error is want of memory.
+pub(crate) fn signatures_of(
+    alloc: Global,
+    texts: &NameIndex,
+    methods: &[MethodInfo],
+) -> Result<Vec<Signature>, NoMemory>
+    ensures { IfOk result (λ s. s.items ≡ map (signature_of texts.now) methods.now) }
+{
+    let mut signatures = Vec::with_capacity(alloc, methods.len())?;
+    for method in methods {
+        signatures.push(Signature {
+            name: number_of(texts, method.name.as_slice()),
+            descriptor: number_of(texts, method.descriptor.as_slice()),
+        })?;
+    }
+    Ok(signatures)
+}
