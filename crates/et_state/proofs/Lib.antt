@@ -1,5 +1,5 @@
 pub mod Answered
-pub mod Reverse
+mod Stacks
 pub mod Strings
 pub mod Places
 pub mod UnderWay

@@ -1,22 +1,22 @@
--- What is kept of a frame: its operands with the topmost one last.
-use Rattle.std.specs.Prelude.{◌<◌, ◌≤◌, ◌^◌, length, reverse}
-use Rattle.std.specs.Vec.{vec_capacity}
+-- What is kept of a frame: its head, and its values, which are its locals and then its operands with the topmost one last.
+use Rattle.std.specs.Prelude.{◌+◌, ◌<◌, ◌≤◌, ◌^◌, List, length, take, drop, reverse}
+use Rattle.et_base.specs.declared.value.Value.{Value}
 use Rattle.et_state.specs.Threads.{FrameState}
-use Rattle.et_state.specs.declared.frame.Frame.TheInside.{Inside}
+use Rattle.et_state.specs.declared.frame.FrameHead.{FrameHead}
 
-abbrev pub frame_in : Inside → FrameState
-frame_in f = record {
-  method = f.method;
-  stage = f.stage;
-  lock = f.lock;
-  pc = f.pc;
-  room = f.room;
-  locals = f.locals.items;
-  operands = reverse f.operands.items;
+abbrev pub frame_in : FrameHead → List Value → FrameState
+frame_in h vs = record {
+  method = h.method;
+  stage = h.stage;
+  lock = h.lock;
+  pc = h.pc;
+  room = h.room;
+  locals = take h.locals vs;
+  operands = reverse (drop h.locals vs);
 }
 
--- there are at most as many operands as may be, and the room of all of these is taken
-pub record IsFrame (f : Inside) : Type 0 where
-  pub few : length f.operands.items ≤ f.room
-  pub narrow : f.room < 2 ^ 16
-  pub room : f.room ≤ vec_capacity f.operands
+-- all the locals are there, and at most as many operands as may be
+pub record IsFrame (h : FrameHead) (vs : List Value) : Type 0 where
+  pub locals : h.locals ≤ length vs
+  pub few : length vs ≤ h.locals + h.room
+  pub narrow : h.room < 2 ^ 16

@@ -7,6 +7,7 @@ pub mod Threads
 pub mod ThreadRoots
 pub mod NewFrames
 pub mod FrameInside
+pub mod StackInside
 pub mod ThreadInside
 pub mod Interned
 pub mod InternedInside

@@ -1,11 +1,11 @@
--- What is kept of a thread: its frames with the topmost one last.
-use Rattle.std.specs.Prelude.{◌≤◌, length, reverse}
+-- What is kept of a thread.
+use Rattle.std.specs.Prelude.{◌≤◌, length}
 use Rattle.et_state.specs.Threads.{ThreadState, most_frames}
 use Rattle.et_state.specs.declared.thread.Thread.TheInside.{Inside}
 
 abbrev pub thread_in : Inside → ThreadState
 thread_in t = record {
-  frames = reverse t.frames.items;
+  frames = t.frames;
   pending = t.pending;
   entry = t.entry;
   object = t.object;
@@ -14,4 +14,4 @@ thread_in t = record {
 }
 
 abbrev pub IsThreadInside : Inside → Type 0
-IsThreadInside t = length t.frames.items ≤ most_frames
+IsThreadInside t = length t.frames ≤ most_frames

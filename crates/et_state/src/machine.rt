@@ -11,7 +11,6 @@ ghost use Rattle.et_state.specs.Roots.{roots_of};
 ghost use Rattle.et_state.specs.Words.{thread_at, with_new_thread, top, HasFrame, IsUnended, static_at, with_static, class_state_at, with_class_state, class_monitor_at, with_class_monitor, with_string, first_state, with_guest, begun, losing, steps_guest, steps_thread, steps_top, steps_object};
 
 use crate::class_state::ClassState;
-use crate::frame::Frame;
 use crate::interned::Interned;
 use crate::listing::list_values;
 use crate::lost::Lost;
@@ -392,9 +391,8 @@ impl Machine {
             (entered_by (frame_of frame) (thread_at self.old.guest thread)) []) }
         ensures err { OnErr result (self.new ≡ self.old) }
     {
-        let made = Frame::new(self.alloc, &frame)?;
         let t = &mut self.threads[thread.number() as usize];
-        t.enter_frame(made)?;
+        t.enter_frame(&frame)?;
         Ok(())
     }
 
@@ -415,9 +413,8 @@ impl Machine {
             (in_clinit method max_stack max_locals (top self.old.guest thread)) []) }
         ensures err { OnErr result (self.new ≡ self.old) }
     {
-        let alloc = self.alloc;
         let t = &mut self.threads[thread.number() as usize];
-        t.enter_clinit(alloc, method, max_stack, max_locals)?;
+        t.enter_clinit(method, max_stack, max_locals)?;
         Ok(())
     }
 

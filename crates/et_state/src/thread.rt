@@ -1,10 +1,13 @@
 //! One thread.
 ghost use Rattle.std.specs.Prelude.{◌≡◌, ◌+◌, ◌<◌, ◌≤◌, ◌++◌, length, OnOk, OnErr};
 ghost use Rattle.et_state.specs.ThreadRoots.{thread_roots};
+ghost use Rattle.et_state.specs.NewFrames.{frame_of};
 ghost use Rattle.et_state.specs.Threads.{top_of, with_top_of, without_top, pushed, popped, at_pc, without_operands, with_local, in_clinit, entered_by, with_pending, as_entered, as_ended, new_thread, turn_of, most_frames};
 
 use crate::frame::Frame;
+use crate::frame_stack::FrameStack;
 use crate::listing::list_option;
+use crate::new_frame::NewFrame;
 use crate::stage::{Stage, Turn};
 use et_base::{MethodId, NoMemory, ObjectId, Value};
 use et_heap::RootList;
@@ -14,8 +17,7 @@ use std::marker::Model;
 /// A thread.
 #[derive(Drop)]
 pub struct Thread {
-    /// The topmost one stands last.
-    frames: Vec<Frame>,
+    frames: FrameStack,
     pending: Option<ObjectId>,
     entry: Option<ObjectId>,
     object: Option<ObjectId>,
@@ -41,7 +43,7 @@ impl Thread {
         ensures { result ≡ new_thread entry object }
     {
         Thread {
-            frames: Vec::new(alloc),
+            frames: FrameStack::new(alloc),
             pending: None,
             entry,
             object,
@@ -63,7 +65,7 @@ impl Thread {
         ensures { result ≡ turn_of self.now }
     {
         let is_thrown = self.pending.is_some();
-        if self.frames.is_empty() {
+        if self.frames.len() == 0 {
             return if is_thrown || self.entered {
                 Turn::EndThread
             } else {
@@ -80,11 +82,11 @@ impl Thread {
     }
 
     /// The topmost frame.
-    pub fn top(&self) -> &Frame
+    pub fn top(&self) -> Frame<'_>
         requires { 0 < length self.now.frames }
-        ensures { result.now ≡ top_of self.now }
+        ensures { result ≡ top_of self.now }
     {
-        &self.frames[self.frames.len() - 1]
+        self.frames.top()
     }
 
     pub fn pending(&self) -> Option<ObjectId>
@@ -136,13 +138,13 @@ impl Thread {
     }
 
     /// Puts a frame on top. After `NoMemory` the thread is as before.
-    pub fn enter_frame(&mut self, frame: Frame) -> Result<(), NoMemory>
-        requires { length self.old.frames < most_frames }
-        ensures ok { OnOk result (self.new ≡ entered_by frame self.old) }
+    pub fn enter_frame(&mut self, frame: &NewFrame) -> Result<(), NoMemory>
+        requires few { length self.old.frames < most_frames }
+        requires arguments { length frame.now.arguments.items ≤ frame.now.max_locals }
+        ensures ok { OnOk result (self.new ≡ entered_by (frame_of frame.now) self.old) }
         ensures err { OnErr result (self.new ≡ self.old) }
     {
-        self.frames.push(frame)?;
-        Ok(())
+        self.frames.enter(frame)
     }
 
     /// Takes the topmost frame away.
@@ -150,16 +152,14 @@ impl Thread {
         requires { 0 < length self.old.frames }
         ensures { self.new ≡ without_top self.old }
     {
-        let _ = self.frames.pop();
+        self.frames.drop_top();
     }
 
     pub fn set_pc(&mut self, pc: u32)
         requires { 0 < length self.old.frames }
         ensures { self.new ≡ with_top_of self.old (at_pc pc (top_of self.old)) }
     {
-        let last = self.frames.len() - 1;
-        let frame = &mut self.frames[last];
-        frame.set_pc(pc);
+        self.frames.set_pc(pc);
     }
 
     pub fn push(&mut self, v: Value)
@@ -167,9 +167,7 @@ impl Thread {
         requires room { length (top_of self.old).operands < (top_of self.old).room }
         ensures { self.new ≡ with_top_of self.old (pushed v (top_of self.old)) }
     {
-        let last = self.frames.len() - 1;
-        let frame = &mut self.frames[last];
-        frame.push(v);
+        self.frames.push(v);
     }
 
     /// Takes the topmost operand away.
@@ -178,10 +176,7 @@ impl Thread {
         requires operand { 0 < length (top_of self.old).operands }
         ensures { self.new ≡ with_top_of self.old (popped 1 (top_of self.old)) }
     {
-        let last = self.frames.len() - 1;
-        let frame = &mut self.frames[last];
-        // Laws: they tell the prover, and do nothing.
-        frame.pop();
+        self.frames.pop();
     }
 
     /// Takes all operands away.
@@ -189,10 +184,7 @@ impl Thread {
         requires { 0 < length self.old.frames }
         ensures { self.new ≡ with_top_of self.old (without_operands (top_of self.old)) }
     {
-        let last = self.frames.len() - 1;
-        let frame = &mut self.frames[last];
-        // Laws: they tell the prover, and do nothing.
-        frame.clear_operands();
+        self.frames.clear_operands();
     }
 
     pub fn set_local(&mut self, i: u16, v: Value)
@@ -200,15 +192,12 @@ impl Thread {
         requires local { i < length (top_of self.old).locals }
         ensures { self.new ≡ with_top_of self.old (with_local i v (top_of self.old)) }
     {
-        let last = self.frames.len() - 1;
-        let frame = &mut self.frames[last];
-        frame.set_local(i, v);
+        self.frames.set_local(i, v);
     }
 
     /// Lets the topmost frame, which initializes a class, enter its `<clinit>`. After `NoMemory` the thread is as before.
     pub fn enter_clinit(
         &mut self,
-        alloc: Global,
         method: MethodId,
         max_stack: u16,
         max_locals: u16,
@@ -218,10 +207,7 @@ impl Thread {
             ≡ with_top_of self.old (in_clinit method max_stack max_locals (top_of self.old))) }
         ensures err { OnErr result (self.new ≡ self.old) }
     {
-        let last = self.frames.len() - 1;
-        let frame = &mut self.frames[last];
-        frame.enter_clinit(alloc, method, max_stack, max_locals)?;
-        Ok(())
+        self.frames.enter_clinit(method, max_stack, max_locals)
     }
 
     /// Puts all the objects in the root places of the thread at the end of the list. After `NoMemory` it has some of
@@ -229,9 +215,7 @@ impl Thread {
     pub fn list_roots(&self, room: &mut RootList) -> Result<(), NoMemory>
         ensures { OnOk result (room.new ≡ room.old ++ thread_roots self.now) }
     {
-        for frame in self.frames.iter().rev() {
-            frame.list_roots(room)?;
-        }
+        self.frames.list_roots(room)?;
         list_option(self.pending, room)?;
         if self.ended {
             return Ok(());
