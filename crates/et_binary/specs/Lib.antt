@@ -1,3 +1,4 @@
+pub mod Formats
 pub mod Fronts
 pub mod Packing
 pub mod Packs

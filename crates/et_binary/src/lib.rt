@@ -3,6 +3,7 @@
 #![tactic(auto, using(et_text::proofs::Extending::extends_on))]
 
 mod fields;
+mod formats;
 mod fronts;
 pub mod laws;
 mod ranges;
@@ -10,5 +11,6 @@ mod reader;
 mod records;
 mod writing;
 
+pub use formats::{header_version, write_line_in};
 pub use reader::BinaryReader;
 pub use writing::write_record;
