@@ -5,8 +5,9 @@ use Rattle.et_io.specs.Sink.{with_more, TakesPrefix}
 use Rattle.et_state.specs.declared.records.Record.{Record}
 use Rattle.et_state.specs.Naming.{Mentions}
 use Rattle.et_state.specs.History.{Setting, lines_to}
-use Rattle.et_text.specs.Spelling.{text}
+use Rattle.et_binary.specs.Formats.{trace_bytes}
 use Rattle.et_loop.specs.Visits.{visits_to, IsCut}
+use Rattle.et_loop.proofs.Headers.{lines_whole}
 use Rattle.et_loop.proofs.RunLemmas.{Running, more_twice}
 
 module _ {S : Type 0} (reached : Graph → ℕ → Bool) (given : Setting S) (flush_visits : (ℕ → Bool) → S → ℕ) (start : S) (made : List Record) (before : Option (List ℕ)) (old new : ℕ) where
@@ -15,6 +16,10 @@ module _ {S : Type 0} (reached : Graph → ℕ → Bool) (given : Setting S) (fl
   cut_first after same = inl same
 
   module _ (e : ℕ) (s : S) (last : ℕ → ℕ) (m : Mentions) (now : Option (List ℕ)) (runs : Running reached given start made e s last m before now) (few : new ≤ old + visits_to reached given flush_visits start made e) where
+    -- what was taken so far
+    taken_is : now ≡ with_more before (trace_bytes given.format (lines_to reached given start made e))
+    taken_is = runs.lines ∙ ap (λ (bytes : List ℕ). with_more before bytes) (lines_whole reached given start made given.format e)
+
     -- in a turn of which nothing was put
     pub cut_here : IsCut reached given flush_visits start made before now old new
     cut_here = inr (
@@ -22,7 +27,7 @@ module _ {S : Type 0} (reached : Graph → ℕ → Bool) (given : Setting S) (fl
       record {
         goes = runs.first;
         rest = [];
-        taken = runs.lines ∙ ap (λ (bytes : List ℕ). with_more before bytes) (sym (append-nil (text (lines_to reached given start made e))));
+        taken = taken_is ∙ ap (λ (bytes : List ℕ). with_more before bytes) (sym (append-nil (trace_bytes given.format (lines_to reached given start made e))));
         visits = few;
       },
     )
@@ -34,7 +39,7 @@ module _ {S : Type 0} (reached : Graph → ℕ → Bool) (given : Setting S) (fl
       record {
         goes = runs.first;
         rest = h.prefix;
-        taken = h.taken ∙ (ap (λ (t : Option (List ℕ)). with_more t h.prefix) runs.lines ∙ more_twice before (text (lines_to reached given start made e)) h.prefix);
+        taken = h.taken ∙ (ap (λ (t : Option (List ℕ)). with_more t h.prefix) taken_is ∙ more_twice before (trace_bytes given.format (lines_to reached given start made e)) h.prefix);
         visits = few;
       },
     )

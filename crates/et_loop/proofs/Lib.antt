@@ -1,5 +1,6 @@
 pub mod Mentioning
 pub mod Writing
+pub mod Headers
 pub mod TurnLemmas
 pub mod RunLemmas
 pub mod Wholes

@@ -3,6 +3,7 @@ use Rattle.std.proofs.Common.{◌≡◌, ℕ, zero, suc, ◌<◌, ◌≤◌, Boo
 use mathlib.Core.Path.{fun_ext}
 use Rattle.std.proofs.lemmas.Bool.{cases_lt}
 use Rattle.std.proofs.lemmas.Grind.{flat_map-append}
+use Rattle.et_base.specs.declared.format.Format.{Format}
 use Rattle.et_base.specs.declared.line.TraceLine.{TraceLine}
 use Rattle.et_base.specs.declared.line.TraceLine.TheVariants.{Header, Finish}
 use Rattle.et_base.specs.declared.value.End.{End}
@@ -11,10 +12,12 @@ use Rattle.et_state.specs.declared.records.Record.{Record}
 use Rattle.et_state.specs.Outcome.{state_after, records_of}
 use Rattle.et_state.specs.Naming.{Mentions, nothing_mentioned, mentions_after, lines_of}
 use Rattle.et_state.specs.History.{Setting, is_flush_point, flush_lines, how_of, ending, outcome_step, settled, left_by, records_at, last_reached, deaths, mentions_to, lines_to, trace_of, IsLastEvent}
-use Rattle.et_text.specs.Spelling.{text, spelling}
+use Rattle.et_text.specs.Ranges.{header_version}
+use Rattle.et_binary.specs.Formats.{written_in, lines_written_in, trace_bytes}
 use Rattle.et_io.specs.Sink.{with_more, TakesPrefix}
 use Rattle.et_loop.specs.Run.{time_noted, flush_of, due_lines, flush_now, Turns, Advances, Concludes}
 use Rattle.et_loop.specs.Traced.{WritesTrace, WritesPrefix}
+use Rattle.et_loop.proofs.Headers.{trace_whole}
 
 -- WHAT IS TAKEN
 
@@ -51,9 +54,9 @@ extends_on : (a b c : List TraceLine) → Extends a b → Extends b c → Extend
 unfolding Extends
 extends_on a b c (p, e) (q, f) = (p ++ q, f ∙ (ap (λ x. x ++ q) e ∙ append_assoc a p q))
 
-text_front : (a b : List TraceLine) → Extends a b → (r : List ℕ) × (text b ≡ text a ++ r)
+written_front : (f : Format) (a b : List TraceLine) → Extends a b → (r : List ℕ) × (lines_written_in f b ≡ lines_written_in f a ++ r)
 unfolding Extends
-text_front a b (rest, e) = (text rest, ap text e ∙ flat_map-append spelling a rest)
+written_front f a b (rest, e) = (lines_written_in f rest, ap (lines_written_in f) e ∙ flat_map-append (written_in f) a rest)
 
 IfNothing : Option End → Type 0
 IfNothing None = Unit {0}
@@ -90,6 +93,12 @@ module _ {S : Type 0} (reached : Graph → ℕ → Bool) (given : Setting S) (st
   unfolding Extends
   lines_traced e n end le = extends_on _ _ _ (lines_within n e le) (_, append_assoc (lines_to reached given start made n) _ _)
 
+  -- what is written of the lines so far is the front of the trace
+  trace_front : (e n : ℕ) (end : End) → e ≤ n → (r : List ℕ) × (trace_bytes given.format (trace_of reached given start made n end) ≡ lines_written_in given.format (lines_to reached given start made e) ++ r)
+  trace_front e n end le =
+      let ext = written_front given.format _ _ (lines_traced e n end le) in
+      (ext.0, sym (trace_whole reached given start made given.format n end) ∙ ext.1)
+
   -- an event before which no end came is at most the last one
   up_to_last : (e n : ℕ) (end : End) → IsLastEvent reached given start made n end → ((k : ℕ) → k < e → ends_at k ≡ None) → e ≤ n
   up_to_last e n end last first = ⊎_elim (λ past. absurd (none_some (ends_at n) end (first n past) last.ends)) (λ le. le) (cases_lt n e)
@@ -110,9 +119,9 @@ module _ {S : Type 0} (reached : Graph → ℕ → Bool) (given : Setting S) (st
     pub first : (k : ℕ) → k < e → ending given k (settled reached given k (left_by reached given start made k)) ≡ None
     pub noted : (o : ℕ) → last o ≡ noted_before o e
     pub mentions : m ≡ mentions_to reached given start made e
-    pub lines : now ≡ with_more before (text (lines_to reached given start made e))
+    pub lines : now ≡ with_more before (lines_written_in given.format (lines_to reached given start made e))
 
-  pub running_start : (last : ℕ → ℕ) (m : Mentions) (before now : Option (List ℕ)) (bytes : List ℕ) → ((o : ℕ) → last o ≡ 0) → m ≡ mentions_after given.names nothing_mentioned made → bytes ≡ text (Header 1 given.interval ∷ lines_of given.names nothing_mentioned made) → now ≡ with_more before bytes → Running 0 start last m before now
+  pub running_start : (last : ℕ → ℕ) (m : Mentions) (before now : Option (List ℕ)) (bytes : List ℕ) → ((o : ℕ) → last o ≡ 0) → m ≡ mentions_after given.names nothing_mentioned made → bytes ≡ lines_written_in given.format (Header (header_version given.format) given.interval ∷ lines_of given.names nothing_mentioned made) → now ≡ with_more before bytes → Running 0 start last m before now
   unfolding left_by noted_before mentions_to lines_to
   running_start last m before now bytes h em eb en = record {
     state = refl;
@@ -123,14 +132,14 @@ module _ {S : Type 0} (reached : Graph → ℕ → Bool) (given : Setting S) (st
   }
 
   -- nothing but a prefix of the first lines was put
-  pub front_start : (before now : Option (List ℕ)) (bytes : List ℕ) → bytes ≡ text (Header 1 given.interval ∷ lines_of given.names nothing_mentioned made) → TakesPrefix before now bytes → WritesPrefix reached given start made before now
+  pub front_start : (before now : Option (List ℕ)) (bytes : List ℕ) → bytes ≡ lines_written_in given.format (Header (header_version given.format) given.interval ∷ lines_of given.names nothing_mentioned made) → TakesPrefix before now bytes → WritesPrefix reached given start made before now
   unfolding lines_to
   front_start before now bytes eb h n end last =
-      let ext = text_front _ _ (lines_traced 0 n end (search rules)) in
-      front_on before before now [] bytes (text (trace_of reached given start made n end)) ext.0 (more_nothing before) (ext.1 ∙ ap (λ b. b ++ ext.0) (sym eb)) h
+      let ext = trace_front 0 n end (search rules) in
+      front_on before before now [] bytes (trace_bytes given.format (trace_of reached given start made n end)) ext.0 (more_nothing before) (ext.1 ∙ ap (λ b. b ++ ext.0) (sym eb)) h
 
   pub front_nothing : (before : Option (List ℕ)) → WritesPrefix reached given start made before before
-  front_nothing before n end last = front_so_far before before [] (text (trace_of reached given start made n end)) (text (trace_of reached given start made n end)) (more_nothing before) refl
+  front_nothing before n end last = front_so_far before before [] (trace_bytes given.format (trace_of reached given start made n end)) (trace_bytes given.format (trace_of reached given start made n end)) (more_nothing before) refl
 
   module _ (e : ℕ) (s : S) (last : ℕ → ℕ) (m : Mentions) (before now : Option (List ℕ)) (r : Running e s last m before now) where
     -- the lines of a flush that is due are those of the history
@@ -143,8 +152,8 @@ module _ {S : Type 0} (reached : Graph → ℕ → Bool) (given : Setting S) (st
     -- so far only a prefix of the trace was put
     pub front_now : WritesPrefix reached given start made before now
     front_now n end last' =
-        let ext = text_front _ _ (lines_traced e n end (up_to_last e n end last' r.first)) in
-        front_so_far before now (text (lines_to reached given start made e)) (text (trace_of reached given start made n end)) ext.0 r.lines ext.1
+        let ext = trace_front e n end (up_to_last e n end last' r.first) in
+        front_so_far before now (lines_written_in given.format (lines_to reached given start made e)) (trace_bytes given.format (trace_of reached given start made n end)) ext.0 r.lines ext.1
 
     -- THE NEXT EVENT WAS DONE
     module _ (s' : S) (last' : ℕ → ℕ) (m' : Mentions) (out out' : List ℕ) (empty : out ≡ []) (a : Advances reached given e s last m s' last' m' out out') where
@@ -152,21 +161,21 @@ module _ {S : Type 0} (reached : Graph → ℕ → Bool) (given : Setting S) (st
       more_lines : List TraceLine
       more_lines = (if is_flush_point given.interval e then flush_lines e (deaths reached given start made e) else []) ++ lines_of given.names (mentions_to reached given start made e) (records_at reached given start made (suc e))
 
-      put_is : out' ≡ text more_lines
+      put_is : out' ≡ lines_written_in given.format more_lines
       unfolding more_lines
       put_is =
           let due = is_flush_point given.interval e in
           let records = λ (x : S). records_of (outcome_step given (suc e) (settled reached given e x)) in
           a.lines
-          ∙ (ap (λ o. o ++ text (due_lines due (flush_now reached given e s last m s' last' m' out out') ++ lines_of given.names m (records s))) empty
-          ∙ (ap (λ f. text (due_lines due f ++ lines_of given.names m (records s))) flush_is
-          ∙ (ap (λ d. text (d ++ lines_of given.names m (records s))) (due_if due (flush_lines e (deaths reached given start made e)))
-          ∙ (ap (λ x. text ((if due then flush_lines e (deaths reached given start made e) else []) ++ lines_of given.names x (records s))) r.mentions
-          ∙ ap (λ x. text ((if due then flush_lines e (deaths reached given start made e) else []) ++ lines_of given.names (mentions_to reached given start made e) (records x))) r.state))))
+          ∙ (ap (λ o. o ++ lines_written_in given.format (due_lines due (flush_now reached given e s last m s' last' m' out out') ++ lines_of given.names m (records s))) empty
+          ∙ (ap (λ f. lines_written_in given.format (due_lines due f ++ lines_of given.names m (records s))) flush_is
+          ∙ (ap (λ d. lines_written_in given.format (d ++ lines_of given.names m (records s))) (due_if due (flush_lines e (deaths reached given start made e)))
+          ∙ (ap (λ x. lines_written_in given.format ((if due then flush_lines e (deaths reached given start made e) else []) ++ lines_of given.names x (records s))) r.mentions
+          ∙ ap (λ x. lines_written_in given.format ((if due then flush_lines e (deaths reached given start made e) else []) ++ lines_of given.names (mentions_to reached given start made e) (records x))) r.state))))
 
-      lines_are : text (lines_to reached given start made (suc e)) ≡ text (lines_to reached given start made e) ++ text more_lines
+      lines_are : lines_written_in given.format (lines_to reached given start made (suc e)) ≡ lines_written_in given.format (lines_to reached given start made e) ++ lines_written_in given.format more_lines
       unfolding lines_to more_lines
-      lines_are = ap text (append_assoc (lines_to reached given start made e) _ _) ∙ flat_map-append spelling (lines_to reached given start made e) more_lines
+      lines_are = ap (lines_written_in given.format) (append_assoc (lines_to reached given start made e) _ _) ∙ flat_map-append (written_in given.format) (lines_to reached given start made e) more_lines
 
       first_next : (k : ℕ) → k < suc e → ending given k (settled reached given k (left_by reached given start made k)) ≡ None
       first_next k lt = ⊎_elim (λ b. r.first k b) (λ q. subst (λ j. ending given j (settled reached given j (left_by reached given start made j)) ≡ None) (sym q) (subst (λ x. ending given e (settled reached given e x) ≡ None) r.state a.goes)) (below_or_at k e lt)
@@ -178,7 +187,7 @@ module _ {S : Type 0} (reached : Graph → ℕ → Bool) (given : Setting S) (st
         first = first_next;
         noted = λ o. a.notes o ∙ (ap (λ x. time_noted (reached (given.rule.graph x)) last e o) r.state ∙ (ap (λ f. time_noted (reached (given.rule.graph (left_by reached given start made e))) f e o) (fun_ext r.noted) ∙ noted_is o e));
         mentions = a.mentions ∙ (ap (λ x. mentions_after given.names x (records_of (outcome_step given (suc e) (settled reached given e s)))) r.mentions ∙ ap (λ x. mentions_after given.names (mentions_to reached given start made e) (records_of (outcome_step given (suc e) (settled reached given e x)))) r.state);
-        lines = en ∙ (ap (λ t. with_more t out') r.lines ∙ (more_twice before (text (lines_to reached given start made e)) out' ∙ (ap (λ o. with_more before (text (lines_to reached given start made e) ++ o)) put_is ∙ ap (λ o. with_more before o) (sym lines_are))));
+        lines = en ∙ (ap (λ t. with_more t out') r.lines ∙ (more_twice before (lines_written_in given.format (lines_to reached given start made e)) out' ∙ (ap (λ o. with_more before (lines_written_in given.format (lines_to reached given start made e) ++ o)) put_is ∙ ap (λ o. with_more before o) (sym lines_are))));
       }
 
       pub running_on : (n : ℕ) (now' : Option (List ℕ)) → n ≡ suc e → now' ≡ with_more now out' → Running n s' last' m' before now'
@@ -187,23 +196,24 @@ module _ {S : Type 0} (reached : Graph → ℕ → Bool) (given : Setting S) (st
       -- only a prefix of its lines was put
       pub front_next : (now' : Option (List ℕ)) → TakesPrefix now now' out' → WritesPrefix reached given start made before now'
       front_next now' h n end last'' =
-          let ext = text_front _ _ (lines_traced (suc e) n end (up_to_last (suc e) n end last'' first_next)) in
-          front_on before now now' (text (lines_to reached given start made e)) out' (text (trace_of reached given start made n end)) ext.0 r.lines
-          (ext.1 ∙ ap (λ b. b ++ ext.0) (lines_are ∙ ap (λ o. text (lines_to reached given start made e) ++ o) (sym put_is))) h
+          let ext = trace_front (suc e) n end (up_to_last (suc e) n end last'' first_next) in
+          front_on before now now' (lines_written_in given.format (lines_to reached given start made e)) out' (trace_bytes given.format (trace_of reached given start made n end)) ext.0 r.lines
+          (ext.1 ∙ ap (λ b. b ++ ext.0) (lines_are ∙ ap (λ o. lines_written_in given.format (lines_to reached given start made e) ++ o) (sym put_is))) h
 
     -- THE HISTORY ENDED
     module _ (s' : S) (last' : ℕ → ℕ) (m' : Mentions) (end : End) (out out' : List ℕ) (empty : out ≡ []) (a : Concludes reached given e s last m s' last' m' out out' end) where
-      last_put : out' ≡ text (flush_lines e (deaths reached given start made e) ++ Finish e (how_of end) ∷ [])
+      last_put : out' ≡ lines_written_in given.format (flush_lines e (deaths reached given start made e) ++ Finish e (how_of end) ∷ [])
       last_put =
           a.lines
-          ∙ (ap (λ o. o ++ text (flush_now reached given e s last m s' last' m' out out' ++ Finish e (how_of end) ∷ [])) empty
-          ∙ ap (λ f. text (f ++ Finish e (how_of end) ∷ [])) flush_is)
+          ∙ (ap (λ o. o ++ lines_written_in given.format (flush_now reached given e s last m s' last' m' out out' ++ Finish e (how_of end) ∷ [])) empty
+          ∙ ap (λ f. lines_written_in given.format (f ++ Finish e (how_of end) ∷ [])) flush_is)
 
-      trace_is : text (trace_of reached given start made e end) ≡ text (lines_to reached given start made e) ++ out'
+      trace_is : trace_bytes given.format (trace_of reached given start made e end) ≡ lines_written_in given.format (lines_to reached given start made e) ++ out'
       trace_is =
-          ap text (append_assoc (lines_to reached given start made e) (flush_lines e (deaths reached given start made e)) (Finish e (how_of end) ∷ []))
-          ∙ (flat_map-append spelling (lines_to reached given start made e) (flush_lines e (deaths reached given start made e) ++ Finish e (how_of end) ∷ [])
-          ∙ ap (λ o. text (lines_to reached given start made e) ++ o) (sym last_put))
+          sym (trace_whole reached given start made given.format e end)
+          ∙ (ap (lines_written_in given.format) (append_assoc (lines_to reached given start made e) (flush_lines e (deaths reached given start made e)) (Finish e (how_of end) ∷ []))
+          ∙ (flat_map-append (written_in given.format) (lines_to reached given start made e) (flush_lines e (deaths reached given start made e) ++ Finish e (how_of end) ∷ [])
+          ∙ ap (λ o. lines_written_in given.format (lines_to reached given start made e) ++ o) (sym last_put)))
 
       is_last : IsLastEvent reached given start made e end
       is_last = record { ends = subst (λ x. ending given e (settled reached given e x) ≡ Some end) r.state a.ends; first = r.first }
@@ -211,7 +221,7 @@ module _ {S : Type 0} (reached : Graph → ℕ → Bool) (given : Setting S) (st
       pub running_end : (now' : Option (List ℕ)) → now' ≡ with_more now out' → WritesTrace reached given start made (record { end = end; event = e }) before now'
       running_end now' en = record {
         ends = is_last;
-        taken = en ∙ (ap (λ t. with_more t out') r.lines ∙ (more_twice before (text (lines_to reached given start made e)) out' ∙ ap (λ o. with_more before o) (sym trace_is)));
+        taken = en ∙ (ap (λ t. with_more t out') r.lines ∙ (more_twice before (lines_written_in given.format (lines_to reached given start made e)) out' ∙ ap (λ o. with_more before o) (sym trace_is)));
       }
 
       -- only a prefix of its lines was put
@@ -222,9 +232,9 @@ module _ {S : Type 0} (reached : Graph → ℕ → Bool) (given : Setting S) (st
           let same : e ≡ n = omega arith in
           let both : Some other ≡ Some end = sym last''.ends ∙ (ap (λ j. ends_at j) (sym same) ∙ is_last.ends) in
           let one : other ≡ end = ap (λ o. unwrap_or o end) both in
-          let whole : text (trace_of reached given start made n other) ≡ (text (lines_to reached given start made e) ++ out') ++ [] =
-          ap (λ j. text (trace_of reached given start made j other)) (sym same) ∙ (ap (λ x. text (trace_of reached given start made e x)) one ∙ (trace_is ∙ sym (append-nil (text (lines_to reached given start made e) ++ out')))) in
-          front_on before now now' (text (lines_to reached given start made e)) out' (text (trace_of reached given start made n other)) [] r.lines whole h
+          let whole : trace_bytes given.format (trace_of reached given start made n other) ≡ (lines_written_in given.format (lines_to reached given start made e) ++ out') ++ [] =
+          ap (λ j. trace_bytes given.format (trace_of reached given start made j other)) (sym same) ∙ (ap (λ x. trace_bytes given.format (trace_of reached given start made e x)) one ∙ (trace_is ∙ sym (append-nil (lines_written_in given.format (lines_to reached given start made e) ++ out')))) in
+          front_on before now now' (lines_written_in given.format (lines_to reached given start made e)) out' (trace_bytes given.format (trace_of reached given start made n other)) [] r.lines whole h
 
     -- .. whichever of the two it was
     pub front_turn : (next : Option End) (s' : S) (last' : ℕ → ℕ) (m' : Mentions) (out out' : List ℕ) → out ≡ [] → Turns reached given e s last m s' last' m' out out' next → (now' : Option (List ℕ)) → TakesPrefix now now' out' → WritesPrefix reached given start made before now'

@@ -9,7 +9,8 @@ use Rattle.et_graph.specs.Graph.{Graph}
 use Rattle.et_state.specs.Outcome.{state_after, records_of}
 use Rattle.et_state.specs.Naming.{Mentions, mentions_after, lines_of}
 use Rattle.et_state.specs.History.{Setting, is_flush_point, how_of, ending, outcome_step, settled}
-use Rattle.et_text.specs.Spelling.{text, spelling}
+use Rattle.et_base.specs.declared.format.Format.{Format}
+use Rattle.et_binary.specs.Formats.{written_in, lines_written_in}
 use Rattle.et_loop.specs.Run.{time_noted, flush_of, due_lines, due_state, last_lines, Goes, Turns}
 
 -- a flush where it is due leads to the settled state
@@ -18,11 +19,11 @@ settled_is reached given s true = refl
 settled_is reached given s false = refl
 
 -- at the end nothing is flushed twice, and nothing was left out
-last_once : {S : Type 0} (b : Bool) (end : End) (e : ℕ) (after s : S) (fl : S → List TraceLine) (out : List ℕ) → (out ++ text (due_lines b (fl s))) ++ text (last_lines b end e (fl (due_state b after s))) ≡ out ++ text (fl s ++ Finish e (how_of end) ∷ [])
-last_once true end e after s fl out = append_assoc out (text (fl s)) (text (Finish e (how_of end) ∷ [])) ∙ ap (λ t. out ++ t) (sym (flat_map-append spelling (fl s) (Finish e (how_of end) ∷ [])))
-last_once false end e after s fl out = rw (append-nil out) refl
+last_once : {S : Type 0} (f : Format) (b : Bool) (end : End) (e : ℕ) (after s : S) (fl : S → List TraceLine) (out : List ℕ) → (out ++ lines_written_in f (due_lines b (fl s))) ++ lines_written_in f (last_lines b end e (fl (due_state b after s))) ≡ out ++ lines_written_in f (fl s ++ Finish e (how_of end) ∷ [])
+last_once f true end e after s fl out = append_assoc out (lines_written_in f (fl s)) (lines_written_in f (Finish e (how_of end) ∷ [])) ∙ ap (λ t. out ++ t) (sym (flat_map-append (written_in f) (fl s) (Finish e (how_of end) ∷ [])))
+last_once f false end e after s fl out = rw (append-nil out) refl
 
-module _ {S : Type 0} (reached : Graph → ℕ → Bool) (given : Setting S) (e : ℕ) (s s₁ s₂ : S) (here : ℕ → Bool) (last last' : ℕ → ℕ) (m m' : Mentions) (due : Bool) (out out₁ out₂ : List ℕ) (eh : here ≡ reached (given.rule.graph s)) (ed : due ≡ is_flush_point given.interval e) (en : (o : ℕ) → last' o ≡ time_noted here last e o) (el : out₁ ≡ out ++ text (due_lines due (flush_of here last' e (given.rule.graph s)))) (es : s₁ ≡ due_state due (given.rule.flushed here s) s) where
+module _ {S : Type 0} (reached : Graph → ℕ → Bool) (given : Setting S) (e : ℕ) (s s₁ s₂ : S) (here : ℕ → Bool) (last last' : ℕ → ℕ) (m m' : Mentions) (due : Bool) (out out₁ out₂ : List ℕ) (eh : here ≡ reached (given.rule.graph s)) (ed : due ≡ is_flush_point given.interval e) (en : (o : ℕ) → last' o ≡ time_noted here last e o) (el : out₁ ≡ out ++ lines_written_in given.format (due_lines due (flush_of here last' e (given.rule.graph s)))) (es : s₁ ≡ due_state due (given.rule.flushed here s) s) where
   settled_now : s₁ ≡ settled reached given e s
   settled_now = es ∙ (ap (λ h. due_state due (given.rule.flushed h s) s) eh ∙ (ap (λ b. due_state b (given.rule.flushed (reached (given.rule.graph s)) s) s) ed ∙ settled_is reached given s (is_flush_point given.interval e)))
 
@@ -43,18 +44,18 @@ module _ {S : Type 0} (reached : Graph → ℕ → Bool) (given : Setting S) (e 
         mentions = subst (λ x. m' ≡ mentions_after given.names m (records_of (outcome_step given (suc e) x))) settled_now g.mentions;
         lines =
             g.lines
-            ∙ (ap (λ x. out₁ ++ text (more x)) settled_now
-            ∙ (ap (λ t. t ++ text (more (settled reached given e s))) (el ∙ (ap (λ b. out ++ text (due_lines b (flush_of here last' e (given.rule.graph s)))) ed ∙ ap (λ f. out ++ text (due_lines (is_flush_point given.interval e) f)) flush_is))
-            ∙ (append_assoc out (text (due_lines (is_flush_point given.interval e) fl)) (text (more (settled reached given e s)))
-            ∙ ap (λ t. out ++ t) (sym (flat_map-append spelling (due_lines (is_flush_point given.interval e) fl) (more (settled reached given e s)))))));
+            ∙ (ap (λ x. out₁ ++ lines_written_in given.format (more x)) settled_now
+            ∙ (ap (λ t. t ++ lines_written_in given.format (more (settled reached given e s))) (el ∙ (ap (λ b. out ++ lines_written_in given.format (due_lines b (flush_of here last' e (given.rule.graph s)))) ed ∙ ap (λ f. out ++ lines_written_in given.format (due_lines (is_flush_point given.interval e) f)) flush_is))
+            ∙ (append_assoc out (lines_written_in given.format (due_lines (is_flush_point given.interval e) fl)) (lines_written_in given.format (more (settled reached given e s)))
+            ∙ ap (λ t. out ++ t) (sym (flat_map-append (written_in given.format) (due_lines (is_flush_point given.interval e) fl) (more (settled reached given e s)))))));
       }
 
-  pub turned_last : (end : End) (out₃ : List ℕ) → Goes given e s₁ m s₂ m' out₁ out₂ (Some end) → out₃ ≡ out₂ ++ text (last_lines due end e (flush_of here last' e (given.rule.graph s₂))) → Turns reached given e s last m s₂ last' m' out out₃ (Some end)
+  pub turned_last : (end : End) (out₃ : List ℕ) → Goes given e s₁ m s₂ m' out₁ out₂ (Some end) → out₃ ≡ out₂ ++ lines_written_in given.format (last_lines due end e (flush_of here last' e (given.rule.graph s₂))) → Turns reached given e s last m s₂ last' m' out out₃ (Some end)
   turned_last end out₃ g ec =
       let fl = λ (x : S). flush_of here last' e (given.rule.graph x) in
-      let a : out₃ ≡ (out ++ text (due_lines due (fl s))) ++ text (last_lines due end e (fl (due_state due (given.rule.flushed here s) s))) =
-      ec ∙ (ap (λ t. t ++ text (last_lines due end e (fl s₂))) (g.lines ∙ el) ∙ ap (λ x. (out ++ text (due_lines due (fl s))) ++ text (last_lines due end e (fl x))) (g.state ∙ es)) in
+      let a : out₃ ≡ (out ++ lines_written_in given.format (due_lines due (fl s))) ++ lines_written_in given.format (last_lines due end e (fl (due_state due (given.rule.flushed here s) s))) =
+      ec ∙ (ap (λ t. t ++ lines_written_in given.format (last_lines due end e (fl s₂))) (g.lines ∙ el) ∙ ap (λ x. (out ++ lines_written_in given.format (due_lines due (fl s))) ++ lines_written_in given.format (last_lines due end e (fl x))) (g.state ∙ es)) in
       record {
         ends = subst (λ x. ending given e x ≡ Some end) settled_now g.ends;
-        lines = a ∙ (last_once due end e (given.rule.flushed here s) s fl out ∙ ap (λ f. out ++ text (f ++ Finish e (how_of end) ∷ [])) flush_is);
+        lines = a ∙ (last_once given.format due end e (given.rule.flushed here s) s fl out ∙ ap (λ f. out ++ lines_written_in given.format (f ++ Finish e (how_of end) ∷ [])) flush_is);
       }

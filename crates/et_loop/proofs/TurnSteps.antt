@@ -6,7 +6,7 @@ use Rattle.et_graph.specs.Graph.{Graph, IsMade, IsReached}
 use Rattle.et_graph.proofs.Walks.{walk_more}
 use Rattle.et_state.specs.Naming.{Mentions}
 use Rattle.et_state.specs.History.{Setting, is_flush_point, flush_lines, deaths_to, is_gone}
-use Rattle.et_text.specs.Spelling.{text}
+use Rattle.et_binary.specs.Formats.{lines_written_in}
 use Rattle.et_loop.specs.Run.{time_noted, flush_of, due_lines, due_state, last_lines, Goes, Turns}
 use Rattle.et_loop.proofs.TurnLemmas.{turned_on, turned_last}
 use Rattle.et_graph.specs.Listed.{AreListed}
@@ -25,7 +25,7 @@ module _ {S : Type 0} (reached : Graph → ℕ → Bool) (given : Setting S) (e 
   abbrev pub deaths_now : List (ℕ × ℕ)
   deaths_now = let g = given.rule.graph s in deaths_to (reached g) (is_gone g) (time_noted (reached g) last e) g.made
 
-  module _ (ed : due ≡ is_flush_point given.interval e) (el : out₁ ≡ out ++ text (due_lines due (flush_lines e deaths_now))) (es : s₁ ≡ due_state due (given.rule.flushed (reached (given.rule.graph s)) s) s) where
+  module _ (ed : due ≡ is_flush_point given.interval e) (el : out₁ ≡ out ++ lines_written_in given.format (due_lines due (flush_lines e deaths_now))) (es : s₁ ≡ due_state due (given.rule.flushed (reached (given.rule.graph s)) s) s) where
     pub goes_on : Goes given e s₁ m s₂ m' out₁ out₂ None → Turns reached given e s last m s₂ (time_noted (reached (given.rule.graph s)) last e) m' out out₂ None
     goes_on g = turned_on reached given e s s₁ s₂ (reached (given.rule.graph s)) last (time_noted (reached (given.rule.graph s)) last e) m m' due out out₁ out₂ refl ed (λ o. refl) el es g
 
@@ -34,10 +34,10 @@ module _ {S : Type 0} (reached : Graph → ℕ → Bool) (given : Setting S) (e 
     last_same true end same = refl
     last_same false end same = ap (λ (x : S). last_lines false end e (flush_of (reached (given.rule.graph s)) (time_noted (reached (given.rule.graph s)) last e) e (given.rule.graph x))) (sym same)
 
-    pub goes_out : (end : End) (out₃ : List ℕ) → Goes given e s₁ m s₂ m' out₁ out₂ (Some end) → out₃ ≡ out₂ ++ text (last_lines due end e (flush_lines e deaths_now)) → Turns reached given e s last m s₂ (time_noted (reached (given.rule.graph s)) last e) m' out out₃ (Some end)
+    pub goes_out : (end : End) (out₃ : List ℕ) → Goes given e s₁ m s₂ m' out₁ out₂ (Some end) → out₃ ≡ out₂ ++ lines_written_in given.format (last_lines due end e (flush_lines e deaths_now)) → Turns reached given e s last m s₂ (time_noted (reached (given.rule.graph s)) last e) m' out out₃ (Some end)
     goes_out end out₃ g ec =
         turned_last reached given e s s₁ s₂ (reached (given.rule.graph s)) last (time_noted (reached (given.rule.graph s)) last e) m m' due out out₁ out₂ refl ed (λ o. refl) el es end out₃ g
-        (ec ∙ ap (λ (ls : List TraceLine). out₂ ++ text ls) (last_same due end (g.state ∙ es)))
+        (ec ∙ ap (λ (ls : List TraceLine). out₂ ++ lines_written_in given.format ls) (last_same due end (g.state ∙ es)))
 
     -- where no flush was due, what the stamps show at the end is what they showed before
     pub still_listed : (end : End) (stamps stamps' : List ℕ) → Goes given e s₁ m s₂ m' out₁ out₂ (Some end) → stamps' ≡ stamps → AreListed (given.rule.graph s) (λ o. get_or stamps o 0) deaths_now → due ≡ false → AreListed (given.rule.graph s₂) (λ o. get_or stamps' o 0) deaths_now

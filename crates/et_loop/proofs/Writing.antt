@@ -2,13 +2,14 @@
 use Rattle.std.proofs.Common.{◌≡◌, ℕ, List, [], ◌∷◌, ◌++◌, sym, ◌∙◌, ap, append_assoc, append-nil}
 use Rattle.std.proofs.lemmas.Grind.{flat_map-append}
 use Rattle.et_base.specs.declared.line.TraceLine.{TraceLine}
-use Rattle.et_text.specs.Spelling.{text, spelling}
+use Rattle.et_base.specs.declared.format.Format.{Format}
+use Rattle.et_binary.specs.Formats.{written_in, lines_written_in}
 
 -- lines, and then others, are both
-pub wrote_both : (a b : List TraceLine) (before between after : List ℕ) → between ≡ before ++ text a → after ≡ between ++ text b → after ≡ before ++ text (a ++ b)
-wrote_both a b before between after first second =
-    second ∙ (ap (λ bytes. bytes ++ text b) first ∙ (append_assoc before (text a) (text b) ∙ ap (λ bytes. before ++ bytes) (sym (flat_map-append spelling a b))))
+pub wrote_both : (f : Format) (a b : List TraceLine) (before between after : List ℕ) → between ≡ before ++ lines_written_in f a → after ≡ between ++ lines_written_in f b → after ≡ before ++ lines_written_in f (a ++ b)
+wrote_both f a b before between after first second =
+    second ∙ (ap (λ bytes. bytes ++ lines_written_in f b) first ∙ (append_assoc before (lines_written_in f a) (lines_written_in f b) ∙ ap (λ bytes. before ++ bytes) (sym (flat_map-append (written_in f) a b))))
 
--- a line is the text of one line
-pub wrote_one : (line : TraceLine) (before after : List ℕ) → after ≡ before ++ spelling line → after ≡ before ++ text (line ∷ [])
-wrote_one line before after h = h ∙ ap (λ bytes. before ++ bytes) (sym (append-nil (spelling line)))
+-- .. and one line is a list of one
+pub wrote_one : (f : Format) (line : TraceLine) (before after : List ℕ) → after ≡ before ++ written_in f line → after ≡ before ++ lines_written_in f (line ∷ [])
+wrote_one f line before after h = h ∙ ap (λ bytes. before ++ bytes) (sym (append-nil (written_in f line)))

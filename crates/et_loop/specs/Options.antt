@@ -15,4 +15,5 @@ setting_of event unended graph flushed names options = record {
   pick = pick_of options.schedule;
   interval = options.interval;
   limit = options.limit;
+  format = options.format;
 }

@@ -8,7 +8,7 @@ use Rattle.et_state.specs.declared.records.Record.{Record}
 use Rattle.et_state.specs.Outcome.{state_after, records_of}
 use Rattle.et_state.specs.Naming.{Mentions, mentions_after, lines_of}
 use Rattle.et_state.specs.History.{Setting, flush_lines, deaths_to, is_gone, is_flush_point, how_of, ending, outcome_step, settled}
-use Rattle.et_text.specs.Spelling.{text}
+use Rattle.et_binary.specs.Formats.{lines_written_in}
 
 -- the last event noted for an object, after this event was noted for those that are here
 abbrev pub time_noted : (ℕ → Bool) → (ℕ → ℕ) → ℕ → ℕ → ℕ
@@ -39,7 +39,7 @@ module _ {S : Type 0} (given : Setting S) (e : ℕ) (s : S) (m : Mentions) (s' :
     pub goes : ending given e s ≡ None
     pub state : s' ≡ state_after s (outcome_step given (suc e) s)
     pub mentions : m' ≡ mentions_after given.names m (records_of (outcome_step given (suc e) s))
-    pub lines : out' ≡ out ++ text (lines_of given.names m (records_of (outcome_step given (suc e) s)))
+    pub lines : out' ≡ out ++ lines_written_in given.format (lines_of given.names m (records_of (outcome_step given (suc e) s)))
 
   -- the history ends after event e
   pub record StopsAt (end : End) : Type 0 where
@@ -67,12 +67,12 @@ module _ {S : Type 0} (reached : Graph → ℕ → Bool) (given : Setting S) (e 
     pub state : s' ≡ state_after (settled reached given e s) (outcome_step given (suc e) (settled reached given e s))
     pub notes : (o : ℕ) → last' o ≡ time_noted (reached (given.rule.graph s)) last e o
     pub mentions : m' ≡ mentions_after given.names m records_next
-    pub lines : out' ≡ out ++ text (due_lines (is_flush_point given.interval e) flush_now ++ lines_of given.names m records_next)
+    pub lines : out' ≡ out ++ lines_written_in given.format (due_lines (is_flush_point given.interval e) flush_now ++ lines_of given.names m records_next)
 
   -- the last turn
   pub record Concludes (end : End) : Type 0 where
     pub ends : ending given e (settled reached given e s) ≡ Some end
-    pub lines : out' ≡ out ++ text (flush_now ++ Finish e (how_of end) ∷ [])
+    pub lines : out' ≡ out ++ lines_written_in given.format (flush_now ++ Finish e (how_of end) ∷ [])
 
   abbrev pub Turns : Option End → Type 0
   Turns None = Advances

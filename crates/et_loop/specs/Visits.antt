@@ -6,7 +6,7 @@ use Rattle.et_graph.specs.Graph.{Graph}
 use Rattle.et_state.specs.declared.records.Record.{Record}
 use Rattle.et_state.specs.Outcome.{state_after}
 use Rattle.et_state.specs.History.{Setting, is_flush_point, ending, outcome_step, settled, left_by, lines_to}
-use Rattle.et_text.specs.Spelling.{text}
+use Rattle.et_binary.specs.Formats.{trace_bytes}
 use Rattle.et_io.specs.Sink.{with_more}
 
 -- a flush that comes only where it is due
@@ -70,7 +70,7 @@ module _ {S : Type 0} (reached : Graph → ℕ → Bool) (given : Setting S) (fl
     pub record IsCutAfter (e : ℕ) : Type 0 where
       pub goes : (k : ℕ) → k < e → ending given k (settled reached given k (left_by reached given start made k)) ≡ None
       pub rest : List ℕ
-      pub taken : after ≡ with_more before (text (lines_to reached given start made e) ++ rest)
+      pub taken : after ≡ with_more before (trace_bytes given.format (lines_to reached given start made e) ++ rest)
       pub visits : new ≤ old + visits_to e
 
     -- .. or before the first turn, and then nothing was visited

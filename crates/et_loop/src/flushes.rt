@@ -3,7 +3,7 @@ ghost use Rattle.std.specs.Prelude.{◌≡◌, ℕ, Bool, true, false, ◌+◌, 
 ghost use Rattle.et_graph.specs.Graph.{IsReached};
 ghost use Rattle.et_graph.specs.Listing.{death_pairs};
 ghost use Rattle.et_state.specs.History.{flush_lines};
-ghost use Rattle.et_text.specs.Spelling.{text};
+ghost use Rattle.et_binary.specs.Formats.{lines_written_in};
 ghost use Rattle.et_loop.specs.Run.{due_lines, due_state, last_lines};
 ghost use Rattle.et_graph.specs.Listed.{AreListed};
 ghost use Rattle.et_loop.specs.Kept.{Settles};
@@ -13,28 +13,33 @@ ghost use Rattle.et_loop.specs.Visits.{due_visits, last_visits};
 use crate::guest::Guest;
 use crate::schedule::ended_as;
 use crate::tracer::Tracer;
-use et_base::{End, NoMemory, Steps, TraceLine};
+use et_base::{End, Format, NoMemory, Steps, TraceLine};
+use et_binary::write_line_in;
 use et_graph::Death;
-use et_text::write_line;
 use std::sync::ledger::Ledger;
 
 /// Writes the lines of a flush.
-fn write_deaths(buffer: &mut Vec<u8>, event: u64, deaths: &[Death]) -> Result<(), NoMemory>
+fn write_deaths(
+    format: Format,
+    buffer: &mut Vec<u8>,
+    event: u64,
+    deaths: &[Death],
+) -> Result<(), NoMemory>
     requires { length deaths.now < 2 ^ 32 }
-    ensures { OnOk result
-        (buffer.new.items ≡ buffer.old.items ++ text (flush_lines event (death_pairs deaths.now))) }
+    ensures { OnOk result (buffer.new.items ≡ buffer.old.items
+        ++ lines_written_in format (flush_lines event (death_pairs deaths.now))) }
 {
     let line = TraceLine::Flush {
         event,
         deaths: deaths.len() as u32,
     };
-    write_line(&line, buffer)?;
+    write_line_in(format, &line, buffer)?;
     'write: for death in deaths {
         let line = TraceLine::Death {
             object: death.object.number(),
             time: death.time,
         };
-        write_line(&line, buffer)?;
+        write_line_in(format, &line, buffer)?;
     }
     Ok(())
 }
@@ -52,7 +57,8 @@ fn report<G: Guest, L: Ledger>(
     requires room { G.has_places tracer.old.room (G.graph_of (G.state machine.old)).made }
     ensures lines { (deaths : List (ℕ × ℕ)) → AreListed
         (G.graph_of (G.state machine.old)) (slice_index tracer.old.stamps) deaths → OnOk result
-        (tracer.new.buffer.items ≡ tracer.old.buffer.items ++ text (flush_lines e deaths)) }
+        (tracer.new.buffer.items ≡ tracer.old.buffer.items
+        ++ lines_written_in tracer.old.format (flush_lines e deaths)) }
     ensures state { (here : ℕ → Bool) →
         ((o : ℕ) → IsTrue (here o) ↔ IsReached (G.graph_of (G.state machine.old)) o) →
         OnOk result (G.state machine.new ≡ G.flushed_of here (G.state machine.old)) }
@@ -66,11 +72,17 @@ fn report<G: Guest, L: Ledger>(
     ensures sound { OnOk result (G.is_sound code.now (G.state machine.new)) }
     ensures room { OnOk result
         (G.has_places tracer.new.room (G.graph_of (G.state machine.new)).made) }
+    ensures format { OnOk result (tracer.new.format ≡ tracer.old.format) }
     ensures stamps { OnOk result (tracer.new.stamps ≡ tracer.old.stamps) }
     ensures numbering { OnOk result (tracer.new.numbering ≡ tracer.old.numbering) }
 {
     machine.flush(code, &tracer.stamps, &mut tracer.room, visits)?;
-    write_deaths(&mut tracer.buffer, e, G::deaths(&tracer.room))
+    write_deaths(
+        tracer.format,
+        &mut tracer.buffer,
+        e,
+        G::deaths(&tracer.room),
+    )
 }
 
 /// The flush after event e, where it is due.
@@ -87,7 +99,8 @@ pub fn settle<G: Guest, L: Ledger>(
     requires room { G.has_places tracer.old.room (G.graph_of (G.state machine.old)).made }
     ensures lines { (deaths : List (ℕ × ℕ)) → AreListed (G.graph_of (G.state machine.old))
         (slice_index tracer.old.stamps) deaths → OnOk result (tracer.new.buffer.items
-        ≡ tracer.old.buffer.items ++ text (due_lines due (flush_lines e deaths))) }
+        ≡ tracer.old.buffer.items
+        ++ lines_written_in tracer.old.format (due_lines due (flush_lines e deaths))) }
     ensures state { (here : ℕ → Bool) → ((o : ℕ) → IsTrue (here o)
         ↔ IsReached (G.graph_of (G.state machine.old)) o) → OnOk result (G.state machine.new
         ≡ due_state due (G.flushed_of here (G.state machine.old)) (G.state machine.old)) }
@@ -101,6 +114,7 @@ pub fn settle<G: Guest, L: Ledger>(
     ensures sound { OnOk result (G.is_sound code.now (G.state machine.new)) }
     ensures room { OnOk result
         (G.has_places tracer.new.room (G.graph_of (G.state machine.new)).made) }
+    ensures format { OnOk result (tracer.new.format ≡ tracer.old.format) }
     ensures stamps { OnOk result (tracer.new.stamps ≡ tracer.old.stamps) }
     ensures numbering { OnOk result (tracer.new.numbering ≡ tracer.old.numbering) }
 {
@@ -129,7 +143,8 @@ pub fn conclude<G: Guest, L: Ledger>(
     ensures lines { (deaths : List (ℕ × ℕ)) → (due ≡ false →
         AreListed (G.graph_of (G.state machine.old)) (slice_index tracer.old.stamps) deaths) →
         OnOk result (tracer.new.buffer.items
-        ≡ tracer.old.buffer.items ++ text (last_lines due end.now e (flush_lines e deaths))) }
+        ≡ tracer.old.buffer.items
+        ++ lines_written_in tracer.old.format (last_lines due end.now e (flush_lines e deaths))) }
 {
     if !due {
         report(code, e, machine, tracer, visits)?;
@@ -138,5 +153,5 @@ pub fn conclude<G: Guest, L: Ledger>(
         event: e,
         how: ended_as(end),
     };
-    write_line(&line, &mut tracer.buffer)
+    write_line_in(tracer.format, &line, &mut tracer.buffer)
 }

@@ -1,13 +1,14 @@
 //! Records become lines, and classes and methods get their numbers.
 ghost use Rattle.std.specs.Prelude.{◌≡◌, ◌+◌, ◌<◌, ◌++◌, ◌∷◌, [], All, IfOk, OnOk};
+ghost use Rattle.et_base.specs.declared.line.TraceLine.TheVariants.{Class, Method};
 ghost use Rattle.et_state.specs.Naming.{IsNamed, nothing_mentioned, with_new, with_mentions, mentions_after, number_in, class_line, record_lines, lines_of};
-ghost use Rattle.et_text.specs.Spelling.{text};
-ghost use Rattle.et_loop.specs.Naming.{mentions_method, method_lines, new_class, new_method};
+ghost use Rattle.et_binary.specs.Formats.{written_in, lines_written_in};
+ghost use Rattle.et_loop.specs.Naming.{mentions_method, method_lines};
 
 use crate::program::Program;
-use et_base::{ClassId, MethodId, Name, NoMemory, TraceLine};
+use et_base::{ClassId, Format, MethodId, Name, NoMemory, TraceLine};
+use et_binary::write_line_in;
 use et_state::Record;
-use et_text::write_line;
 use indexmap::IndexSet;
 use std::alloc::Global;
 use std::marker::Model;
@@ -38,43 +39,38 @@ fn number_at(place: usize) -> Result<u32, NoMemory>
     }
 }
 
-/// Writes the C line of a class, where it is new.
+/// Writes the C line of a class.
 fn write_class<P: Program>(
     alloc: Global,
+    format: Format,
     code: &P,
     class: ClassId,
-    is_new: bool,
     number: u32,
     buffer: &mut Vec<u8>,
 ) -> Result<(), NoMemory>
     requires { class < (P.names code.now).class_count }
     ensures { OnOk result (buffer.new.items ≡ buffer.old.items
-        ++ text (new_class is_new number ((P.names code.now).class_name class))) }
+        ++ written_in format (Class number ((P.names code.now).class_name class))) }
 {
-    if !is_new {
-        return Ok(());
-    }
     let name = Name::of(alloc, code.class_name(class))?;
-    write_line(&TraceLine::Class { number, name }, buffer)
+    write_line_in(format, &TraceLine::Class { number, name }, buffer)
 }
 
-/// Writes the N line of a method, where it is new.
+/// Writes the N line of a method.
 fn write_method<P: Program>(
     alloc: Global,
+    format: Format,
     code: &P,
     method: MethodId,
-    is_new: bool,
     number: u32,
     class: u32,
     buffer: &mut Vec<u8>,
 ) -> Result<(), NoMemory>
     requires { method < (P.names code.now).method_count }
-    ensures { OnOk result (buffer.new.items
-        ≡ buffer.old.items ++ text (new_method is_new number class (P.names code.now) method)) }
+    ensures { OnOk result (buffer.new.items ≡ buffer.old.items
+        ++ written_in format (Method number class ((P.names code.now).method_name method)
+        ((P.names code.now).method_descriptor method))) }
 {
-    if !is_new {
-        return Ok(());
-    }
     let name = Name::of(alloc, code.method_name(method))?;
     let descriptor = Name::of(alloc, code.method_descriptor(method))?;
     let line = TraceLine::Method {
@@ -83,7 +79,7 @@ fn write_method<P: Program>(
         name,
         descriptor,
     };
-    write_line(&line, buffer)
+    write_line_in(format, &line, buffer)
 }
 
 impl Numbering {
@@ -101,6 +97,7 @@ impl Numbering {
     /// Mentions a class, with its C line where it is new, and answers its number.
     fn mention_class<P: Program>(
         &mut self,
+        format: Format,
         code: &P,
         class: ClassId,
         buffer: &mut Vec<u8>,
@@ -110,17 +107,21 @@ impl Numbering {
         ensures mentions { OnOk result
             (self.new ≡ record self.old { classes = with_new self.old.classes class }) }
         ensures lines { OnOk result (buffer.new.items
-            ≡ buffer.old.items ++ text (class_line (P.names code.now) self.old.classes class)) }
+            ≡ buffer.old.items
+            ++ lines_written_in format (class_line (P.names code.now) self.old.classes class)) }
     {
         let (place, is_new) = self.classes.insert_full(class)?;
         let number = number_at(place)?;
-        write_class(self.alloc, code, class, is_new, number, buffer)?;
+        if is_new {
+            write_class(self.alloc, format, code, class, number, buffer)?;
+        }
         Ok(number)
     }
 
     /// Mentions a method, with its N line where it is new, behind its class, and answers its number.
     fn mention_method<P: Program>(
         &mut self,
+        format: Format,
         code: &P,
         method: MethodId,
         buffer: &mut Vec<u8>,
@@ -131,18 +132,22 @@ impl Numbering {
         ensures mentions { OnOk result
             (self.new ≡ mentions_method (P.names code.now) self.old method) }
         ensures lines { OnOk result (buffer.new.items
-            ≡ buffer.old.items ++ text (method_lines (P.names code.now) self.old method)) }
+            ≡ buffer.old.items
+            ++ lines_written_in format (method_lines (P.names code.now) self.old method)) }
     {
-        let class = self.mention_class(code, code.method_class(method), buffer)?;
+        let class = self.mention_class(format, code, code.method_class(method), buffer)?;
         let (place, is_new) = self.methods.insert_full(method)?;
         let number = number_at(place)?;
-        write_method(self.alloc, code, method, is_new, number, class, buffer)?;
+        if is_new {
+            write_method(self.alloc, format, code, method, number, class, buffer)?;
+        }
         Ok(number)
     }
 
     /// Writes the lines of a record.
     fn write_record<P: Program>(
         &mut self,
+        format: Format,
         code: &P,
         entry: Record,
         buffer: &mut Vec<u8>,
@@ -151,7 +156,8 @@ impl Numbering {
         ensures mentions { OnOk result
             (self.new ≡ with_mentions (P.names code.now) self.old entry) }
         ensures lines { OnOk result (buffer.new.items
-            ≡ buffer.old.items ++ text (record_lines (P.names code.now) self.old entry)) }
+            ≡ buffer.old.items
+            ++ lines_written_in format (record_lines (P.names code.now) self.old entry)) }
     {
         let line = match entry {
             Record::Alloc {
@@ -165,7 +171,7 @@ impl Numbering {
                 event,
                 thread,
                 object,
-                class: self.mention_class(code, class, buffer)?,
+                class: self.mention_class(format, code, class, buffer)?,
                 size,
                 length,
             },
@@ -192,7 +198,7 @@ impl Numbering {
             } => TraceLine::Enter {
                 event,
                 thread,
-                method: self.mention_method(code, method, buffer)?,
+                method: self.mention_method(format, code, method, buffer)?,
                 receiver,
             },
             Record::Exit {
@@ -202,7 +208,7 @@ impl Numbering {
             } => TraceLine::Exit {
                 event,
                 thread,
-                method: self.mention_method(code, method, buffer)?,
+                method: self.mention_method(format, code, method, buffer)?,
             },
             Record::Unwind {
                 event,
@@ -212,16 +218,17 @@ impl Numbering {
             } => TraceLine::Unwind {
                 event,
                 thread,
-                method: self.mention_method(code, method, buffer)?,
+                method: self.mention_method(format, code, method, buffer)?,
                 exception,
             },
         };
-        write_line(&line, buffer)
+        write_line_in(format, &line, buffer)
     }
 
     /// Writes the lines of records, in order.
     pub fn write_records<P: Program>(
         &mut self,
+        format: Format,
         code: &P,
         records: &[Record],
         buffer: &mut Vec<u8>,
@@ -230,10 +237,11 @@ impl Numbering {
         ensures mentions { OnOk result
             (self.new ≡ mentions_after (P.names code.now) self.old records.now) }
         ensures lines { OnOk result (buffer.new.items
-            ≡ buffer.old.items ++ text (lines_of (P.names code.now) self.old records.now)) }
+            ≡ buffer.old.items
+            ++ lines_written_in format (lines_of (P.names code.now) self.old records.now)) }
     {
         'records: for entry in records {
-            self.write_record(code, *entry, buffer)?;
+            self.write_record(format, code, *entry, buffer)?;
         }
         Ok(())
     }

@@ -28,9 +28,9 @@ fn first_room<G: Guest>(alloc: Global, objects: u32) -> Result<G::Room, NoMemory
 }
 
 /// Runs a guest from its starting state, whose own records are `made` and whose objects are all reached, and writes the
-/// trace of its history to the sink, event by event: one put after each event that has lines. It keeps a stamp for each
-/// object, and searches nothing but at a flush: the visits are at most those that the flushes of the history make, eight
-/// for each event, and one for each object that an event makes.
+/// trace of its history to the sink, in the format of the options and event by event: one put after each event that has
+/// lines. It keeps a stamp for each object, and searches nothing but at a flush: the visits are at most those that the
+/// flushes of the history make, eight for each event, and one for each object that an event makes.
 ///
 /// `Write` comes exactly where a put failed, and the sink counted one fault. After `Write` and after `NoMemory` the sink
 /// took a prefix of the trace, and the machine may only be dropped. Then the run was cut off in one turn, and the visits are
@@ -73,7 +73,7 @@ pub fn run_guest<G: Guest, O: Sink, L: Ledger>(
         Ok(room) => room,
         Err(_) => return Err(RunFault::NoMemory),
     };
-    let mut tracer = match Tracer::begin(alloc, code, options.interval, made, objects, room) {
+    let mut tracer = match Tracer::begin(alloc, code, options, made, objects, room) {
         Ok(tracer) => tracer,
         Err(_) => return Err(RunFault::NoMemory),
     };

@@ -5,7 +5,8 @@ ghost use Rattle.et_graph.specs.Graph.{Graph, IsMade, IsReached, Decides};
 ghost use Rattle.et_state.specs.Naming.{IsNamed, nothing_mentioned, mentions_after, lines_of};
 ghost use Rattle.et_state.specs.History.{is_flush_point, deaths_to, is_gone};
 ghost use Rattle.et_state.specs.Options.{AreOptions};
-ghost use Rattle.et_text.specs.Spelling.{text};
+ghost use Rattle.et_text.specs.Ranges.{header_version};
+ghost use Rattle.et_binary.specs.Formats.{lines_written_in};
 ghost use Rattle.et_loop.specs.Options.{setting_of};
 ghost use Rattle.et_loop.specs.Run.{time_noted, Goes, Turns};
 ghost use Rattle.et_graph.specs.Listed.{AreListed};
@@ -18,10 +19,11 @@ use crate::marks::restamp;
 use crate::naming::Numbering;
 use crate::program::Program;
 use crate::schedule::place_of_turn;
-use et_base::{End, NoMemory, Steps, TraceLine};
+use et_base::{End, Format, NoMemory, Steps, TraceLine};
+use et_binary::{header_version, write_line_in};
 use et_graph::Stamps;
 use et_state::{EventEnd, Lines, Options};
-use et_text::{is_flush_point, write_line};
+use et_text::is_flush_point;
 use std::alloc::Global;
 use std::sync::ledger::Ledger;
 
@@ -34,6 +36,8 @@ pub struct Tracer<R: Drop> {
     pub room: R,
     /// What the trace mentioned so far.
     pub numbering: Numbering,
+    /// The format of the trace.
+    pub format: Format,
     /// Lines that are to be put.
     pub buffer: Vec<u8>,
 }
@@ -57,6 +61,7 @@ fn step<G: Guest, L: Ledger>(
         IsMade (G.graph_of (G.state machine.old)) o }
     requires stamps { HasStamps (G.graph_of (G.state machine.old)) tracer.old.stamps }
     requires room { G.has_places tracer.old.room (G.graph_of (G.state machine.old)).made }
+    requires format { tracer.old.format ≡ options.now.format }
     ensures goes { IfOk result
         (λ end. Goes (setting_of (G.event_of code.now) G.unended_of G.graph_of G.flushed_of
         (G.Code.names code.now) options.now) e (G.state machine.old) tracer.old.numbering (G.state
@@ -69,6 +74,7 @@ fn step<G: Guest, L: Ledger>(
     ensures stamps { OnOk result (HasStamps (G.graph_of (G.state machine.new)) tracer.new.stamps) }
     ensures room { OnOk result
         (G.has_places tracer.new.room (G.graph_of (G.state machine.new)).made) }
+    ensures format { OnOk result (tracer.new.format ≡ options.now.format) }
     ensures sound { OnOk result (G.is_sound code.now (G.state machine.new)) }
     ensures limit { IfOk result (λ end. IfNone end (e < options.now.limit)) }
     ensures clock { IfOk result (λ end. IfNone end (G.clock_of (G.state machine.new) ≡ e + 1)) }
@@ -85,9 +91,12 @@ fn step<G: Guest, L: Ledger>(
     let mut records = Lines::begin(alloc);
     match machine.event(alloc, code, thread, &mut records, visits)? {
         EventEnd::Done | EventEnd::Waited => {
-            tracer
-                .numbering
-                .write_records(code, records.records(), &mut tracer.buffer)?;
+            tracer.numbering.write_records(
+                options.format,
+                code,
+                records.records(),
+                &mut tracer.buffer,
+            )?;
             restamp(machine, e, before, &mut tracer.stamps, &mut tracer.room)?;
             Ok(None)
         }
@@ -102,7 +111,7 @@ impl<R: Drop> Tracer<R> {
     pub fn begin<P: Program>(
         alloc: Global,
         code: &P,
-        interval: u64,
+        options: &Options,
         made: &Lines,
         objects: u32,
         room: R,
@@ -113,23 +122,27 @@ impl<R: Drop> Tracer<R> {
         ensures room { IfOk result (λ t. t.room ≡ room) }
         ensures mentions { IfOk result
             (λ t. t.numbering ≡ mentions_after (P.names code.now) nothing_mentioned made.now) }
-        ensures lines { IfOk result (λ t. t.buffer.items
-            ≡ text (Header 1 interval ∷ lines_of (P.names code.now) nothing_mentioned made.now)) }
+        ensures format { IfOk result (λ t. t.format ≡ options.now.format) }
+        ensures lines { IfOk result (λ t. t.buffer.items ≡ lines_written_in options.now.format
+            (Header (header_version options.now.format) options.now.interval
+            ∷ lines_of (P.names code.now) nothing_mentioned made.now)) }
     {
+        let format = options.format;
         let mut buffer = Vec::new(alloc);
         let line = TraceLine::Header {
-            version: 1,
-            interval,
+            version: header_version(format),
+            interval: options.interval,
         };
-        write_line(&line, &mut buffer)?;
+        write_line_in(format, &line, &mut buffer)?;
         let mut numbering = Numbering::begin(alloc);
-        numbering.write_records(code, made.records(), &mut buffer)?;
+        numbering.write_records(format, code, made.records(), &mut buffer)?;
         let mut stamps = Stamps::begin(alloc);
         stamps.grow(objects)?;
         Ok(Tracer {
             stamps,
             room,
             numbering,
+            format,
             buffer,
         })
     }
@@ -154,6 +167,7 @@ pub fn turn<G: Guest, L: Ledger>(
         IsMade (G.graph_of (G.state machine.old)) o }
     requires stamps { HasStamps (G.graph_of (G.state machine.old)) tracer.old.stamps }
     requires room { G.has_places tracer.old.room (G.graph_of (G.state machine.old)).made }
+    requires format { tracer.old.format ≡ options.now.format }
     ensures turns { (reached : Graph → ℕ → Bool) →
         Decides reached → (last : ℕ → ℕ) → AreListed (G.graph_of (G.state machine.old))
         (slice_index tracer.old.stamps) (let g = G.graph_of (G.state machine.old)
@@ -173,6 +187,7 @@ pub fn turn<G: Guest, L: Ledger>(
         (λ end. IfNone end (HasStamps (G.graph_of (G.state machine.new)) tracer.new.stamps)) }
     ensures room { IfOk result
         (λ end. IfNone end (G.has_places tracer.new.room (G.graph_of (G.state machine.new)).made)) }
+    ensures format { IfOk result (λ end. IfNone end (tracer.new.format ≡ options.now.format)) }
     ensures sound { IfOk result
         (λ end. IfNone end (G.is_sound code.now (G.state machine.new))) }
     ensures limit { IfOk result (λ end. IfNone end (e < options.now.limit)) }

@@ -3,7 +3,7 @@ use Rattle.std.proofs.lemmas.List.{length-map}
 use Rattle.et_graph.specs.declared.objects.Death.{Death}
 use Rattle.et_graph.specs.Listing.{death_pairs}
 use Rattle.et_state.specs.History.{flush_lines}
-use Rattle.et_text.specs.Spelling.{text}
+use Rattle.et_binary.specs.Formats.{lines_written_in}
 use Rattle.et_graph.proofs.ListedOnce.{list_one}
 use Rattle.et_loop.proofs.Marking.{few_listed}
 use Rattle.et_loop.proofs.flushes.report.Goals as goal
@@ -21,4 +21,4 @@ returns-clause-lines g c deaths listed =
     let G = g.G.Guest in
     let same : death_pairs c.deaths.result.now ≡ deaths =
     c.deaths.ensures ∙ list_one (G.graph_of (G.state c.args.machine.now)) (λ o. get_or c.args.tracer.now.stamps o 0) (G.deaths_of c.flush.new.room) deaths c.in_ok-flush.ensures.deaths listed in
-    subst (λ (ds : List (ℕ × ℕ)). OnOk c.write_deaths.result (c.write_deaths.new.buffer.items ≡ c.args.tracer.now.buffer.items ++ text (flush_lines c.args.e ds))) same c.write_deaths.ensures
+    subst (λ (ds : List (ℕ × ℕ)). OnOk c.write_deaths.result (c.write_deaths.new.buffer.items ≡ c.args.tracer.now.buffer.items ++ lines_written_in c.args.tracer.now.format (flush_lines c.args.e ds))) same c.write_deaths.ensures

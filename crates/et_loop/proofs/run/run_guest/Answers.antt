@@ -57,6 +57,7 @@ events-init g c =
         places = omega (arith, made, c.in-Ok-begin.ensures.places);
       };
       room = subst (λ x. g.G.Guest.has_places x (g.G.Guest.graph_of (g.G.Guest.state c.args.machine.now)).made) (sym c.in-Ok-begin.ensures.room) (subst (λ (n : ℕ). g.G.Guest.has_places c.in-Ok.room n) c.made-objects.ensures c.in-Ok.ensures);
+      format = c.in-Ok-begin.ensures.format;
       limit = search rules;
       clock = c.requires.clock;
       sound = c.requires.sound;
@@ -144,6 +145,7 @@ events-preserved g c =
           (passes_grow due c.events.e (graph c.events.machine) (graph c.turn.new.machine) (λ o. get_or c.events.tracer.stamps o 0) (λ o. get_or c.turn.new.tracer.stamps o 0) passes) turn (c.events.e + 1) (add-one c.events.e);
       stamps = subst (λ (end : Option End). IfNone end (HasStamps (graph c.turn.new.machine) c.turn.new.tracer.stamps)) c.in-None.is c.in-Ok-turn.ensures.stamps;
       room = subst (λ (end : Option End). IfNone end (g.G.Guest.has_places c.turn.new.tracer.room (graph c.turn.new.machine).made)) c.in-None.is c.in-Ok-turn.ensures.room;
+      format = subst (λ (end : Option End). IfNone end (c.turn.new.tracer.format ≡ c.args.options.now.format)) c.in-None.is c.in-Ok-turn.ensures.format;
       limit = omega arith;
       clock = subst (λ (end : Option End). IfNone end (g.G.Guest.clock_of (S c.turn.new.machine) ≡ c.events.e + 1)) c.in-None.is c.in-Ok-turn.ensures.clock;
       sound = subst (λ (end : Option End). IfNone end (g.G.Guest.is_sound c.args.code.now (S c.turn.new.machine))) c.in-None.is c.in-Ok-turn.ensures.sound;

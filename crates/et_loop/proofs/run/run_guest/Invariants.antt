@@ -18,6 +18,7 @@ invariant-events g l =
       visits : (reached : Graph → ℕ → Bool) → Decides reached → AreSoFar reached given G.flush_visits_of (G.state l.fn.machine) l.made l.e (G.state l.machine) l.fn.visits l.visits;
       stamps : HasStamps (G.graph_of (G.state l.machine)) l.tracer.stamps;
       room : G.has_places l.tracer.room (G.graph_of (G.state l.machine)).made;
+      format : l.tracer.format ≡ l.options.format;
       limit : l.e ≤ l.options.limit;
       clock : G.clock_of (G.state l.machine) ≡ l.e;
       sound : G.is_sound l.code (G.state l.machine);

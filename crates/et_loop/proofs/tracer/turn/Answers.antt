@@ -1,7 +1,10 @@
-use Rattle.std.proofs.Common.{◌≡◌, ℕ, Bool, ◌↔◌, IsTrue, [], false, subst, sym, ◌∙◌, ap}
+use Rattle.std.proofs.Common.{◌≡◌, ℕ, Bool, ◌++◌, ◌↔◌, IsTrue, [], false, subst, sym, ◌∙◌, ap}
+use Rattle.et_base.specs.declared.format.Format.{Format}
+use Rattle.et_binary.specs.Formats.{lines_written_in}
 use Rattle.et_graph.specs.Graph.{IsReached}
+use Rattle.et_state.specs.History.{flush_lines}
 use Rattle.et_loop.specs.Options.{setting_of}
-use Rattle.et_loop.specs.Run.{due_state, Goes}
+use Rattle.et_loop.specs.Run.{due_lines, due_state, last_lines, Goes}
 use Rattle.et_loop.specs.Stamping.{Stamped}
 use Rattle.et_loop.proofs.Counts.{settled_as_many, settled_state, turn_flushed, turn_allowed, last_turn_allowed}
 use Rattle.et_loop.proofs.TurnSteps.{settled_made, deaths_now, goes_on, goes_out, still_listed}
@@ -20,7 +23,8 @@ returns-in-None-clause-turns g c reached decides last listed =
     let graph = G.graph_of s in
     let given = setting_of (G.event_of c.args.code.now) G.unended_of G.graph_of G.flushed_of (g.G.Code.Program.names c.args.code.now) c.args.options.now in
     let deaths = deaths_now reached given c.args.e s s s last c.args.tracer.now.numbering c.args.tracer.now.numbering false [] [] [] in
-    let lines = c.in_ok-settle.ensures.lines deaths listed in
+    let lines : c.settle.new.tracer.buffer.items ≡ c.args.tracer.now.buffer.items ++ lines_written_in c.args.options.now.format (due_lines c.is_flush_point-due.result (flush_lines c.args.e deaths)) =
+    subst (λ (f : Format). c.settle.new.tracer.buffer.items ≡ c.args.tracer.now.buffer.items ++ lines_written_in f (due_lines c.is_flush_point-due.result (flush_lines c.args.e deaths))) c.requires.format (c.in_ok-settle.ensures.lines deaths listed) in
     let state = c.in_ok-settle.ensures.state (reached graph) (decides graph) in
     let step = subst (λ n. Goes given c.args.e (G.state c.settle.new.machine) n (G.state c.step.new.machine) c.step.new.tracer.numbering c.settle.new.tracer.buffer.items c.step.new.tracer.buffer.items c.in_ok-step.field-0) c.in_ok-settle.ensures.numbering c.in_ok-step.ensures.goes in
     let goes = subst (λ end. Goes given c.args.e (G.state c.settle.new.machine) c.args.tracer.now.numbering (G.state c.step.new.machine) c.step.new.tracer.numbering c.settle.new.tracer.buffer.items c.step.new.tracer.buffer.items end) c.in-None.is step in
@@ -35,7 +39,8 @@ returns-in_ok-conclude-in-Some-clause-turns g c reached decides last listed =
     let graph = G.graph_of s in
     let given = setting_of (G.event_of c.args.code.now) G.unended_of G.graph_of G.flushed_of (g.G.Code.Program.names c.args.code.now) c.args.options.now in
     let deaths = deaths_now reached given c.args.e s s s last c.args.tracer.now.numbering c.args.tracer.now.numbering false [] [] [] in
-    let lines = c.in_ok-settle.ensures.lines deaths listed in
+    let lines : c.settle.new.tracer.buffer.items ≡ c.args.tracer.now.buffer.items ++ lines_written_in c.args.options.now.format (due_lines c.is_flush_point-due.result (flush_lines c.args.e deaths)) =
+    subst (λ (f : Format). c.settle.new.tracer.buffer.items ≡ c.args.tracer.now.buffer.items ++ lines_written_in f (due_lines c.is_flush_point-due.result (flush_lines c.args.e deaths))) c.requires.format (c.in_ok-settle.ensures.lines deaths listed) in
     let state = c.in_ok-settle.ensures.state (reached graph) (decides graph) in
     let step = subst (λ n. Goes given c.args.e (G.state c.settle.new.machine) n (G.state c.step.new.machine) c.step.new.tracer.numbering c.settle.new.tracer.buffer.items c.step.new.tracer.buffer.items c.in_ok-step.field-0) c.in_ok-settle.ensures.numbering c.in_ok-step.ensures.goes in
     let goes = subst (λ end. Goes given c.args.e (G.state c.settle.new.machine) c.args.tracer.now.numbering (G.state c.step.new.machine) c.step.new.tracer.numbering c.settle.new.tracer.buffer.items c.step.new.tracer.buffer.items end) c.in-Some.is step in
@@ -44,7 +49,8 @@ returns-in_ok-conclude-in-Some-clause-turns g c reached decides last listed =
     let still = still_listed reached given c.args.e s (G.state c.settle.new.machine) (G.state c.step.new.machine) last c.args.tracer.now.numbering c.step.new.tracer.numbering c.is_flush_point-due.result c.args.tracer.now.buffer.items c.settle.new.tracer.buffer.items c.step.new.tracer.buffer.items
     c.is_flush_point-due.ensures lines state c.in-Some.end c.args.tracer.now.stamps c.step.new.tracer.stamps goes kept listed in
     let out = goes_out reached given c.args.e s (G.state c.settle.new.machine) (G.state c.step.new.machine) last c.args.tracer.now.numbering c.step.new.tracer.numbering c.is_flush_point-due.result c.args.tracer.now.buffer.items c.settle.new.tracer.buffer.items c.step.new.tracer.buffer.items
-    c.is_flush_point-due.ensures lines state c.in-Some.end c.conclude.new.tracer.buffer.items goes (c.in_ok-conclude-in-Some.ensures.lines deaths still) in
+    c.is_flush_point-due.ensures lines state c.in-Some.end c.conclude.new.tracer.buffer.items goes
+    (subst (λ (f : Format). c.conclude.new.tracer.buffer.items ≡ c.step.new.tracer.buffer.items ++ lines_written_in f (last_lines c.is_flush_point-due.result c.in-Some.end c.args.e (flush_lines c.args.e deaths))) c.in_ok-step.ensures.format (c.in_ok-conclude-in-Some.ensures.lines deaths still)) in
     record { ends = out.ends; lines = out.lines }
 
 -- the visits of a turn

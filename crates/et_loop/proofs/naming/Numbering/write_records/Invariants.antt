@@ -1,6 +1,6 @@
 use Rattle.std.proofs.Common.{◌≡◌, ◌++◌, drop}
 use Rattle.et_state.specs.Naming.{mentions_after, lines_of}
-use Rattle.et_text.specs.Spelling.{text}
+use Rattle.et_binary.specs.Formats.{lines_written_in}
 use Rattle.et_loop.proofs.naming.Numbering.write_records.Given as goal
 
 -- what is mentioned and written so far, with what the rest adds, is what all add
@@ -10,6 +10,6 @@ invariant-records g l =
     record {
       mentions : mentions_after names l.self (drop l.entry-index l.records) ≡ mentions_after names l.fn.self l.records;
       lines :
-          l.buffer.items ++ text (lines_of names l.self (drop l.entry-index l.records))
-          ≡ l.fn.buffer.items ++ text (lines_of names l.fn.self l.records);
+          l.buffer.items ++ lines_written_in l.format (lines_of names l.self (drop l.entry-index l.records))
+          ≡ l.fn.buffer.items ++ lines_written_in l.format (lines_of names l.fn.self l.records);
     }
