@@ -1,0 +1,3 @@
+mod Converting
+mod EveryPack
+mod SpellingLemmas
