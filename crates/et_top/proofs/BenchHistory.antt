@@ -1,5 +1,6 @@
 -- A history that was run into memory, and what is answered of it.
 use Rattle.std.proofs.Common.{◌≡◌, ◌≤◌, ◌+◌, ◌++◌, ℕ, Bool, inl, inr, List, [], Option, Some, Result, Ok, Err, refl, sym, ◌∙◌, ap, subst}
+use Rattle.et_base.specs.declared.format.Format.TheVariants.{Text}
 use Rattle.et_base.specs.declared.line.TraceLine.{TraceLine}
 use Rattle.et_base.specs.declared.value.End.{End}
 use Rattle.et_base.specs.declared.value.End.TheVariants as ends
@@ -13,6 +14,7 @@ use Rattle.et_state.specs.declared.options.Options.{Options}
 use Rattle.et_text.specs.Text.{IsTextOf, IsTraceFault}
 use Rattle.et_text.specs.declared.fault.TraceFault.{TraceFault}
 use Rattle.et_text.specs.declared.fault.TraceFault.TheVariants as faults
+use Rattle.et_convert.specs.Spellings.{IsAnswerIn}
 use Rattle.et_loop.specs.declared.options.Ran.{Ran}
 use Rattle.et_loop.specs.Traced.{WritesTrace}
 use Rattle.et_loop.specs.Visits.{allowed_visits, IsCut}
@@ -21,7 +23,7 @@ use Rattle.et_run.specs.Whole.{whole_setting, whole_start, whole_visits_of}
 use Rattle.et_top.specs.Bench.{bench_options, bench_trace, bench_visits, summary_text, class_alone, IsBenchRun, IsReadBack, IsNotReadBack}
 use Rattle.et_top.specs.Faults.{Fault}
 use Rattle.et_top.specs.Refusals.{status_of}
-use Rattle.et_top.specs.Told.{Cause, File, Reading, Memory, Other, IsCause, IsTraceAnswer, refusal_of}
+use Rattle.et_top.specs.Told.{Cause, File, Reading, Memory, Other, IsCause, refusal_of}
 use Rattle.et_top.specs.Top.{benches, status_of_end, WritesSummary, CutsSummary, GivesBench, GivesDefined}
 use Rattle.et_top.specs.Visits.{IsBeforeBench}
 use Rattle.et_top.specs.declared.status.Status.{Status}
@@ -58,7 +60,7 @@ module _ (reached : Graph → ℕ → Bool) (program : Linked) (old new : ℕ) (
     pub back : (lines : List TraceLine) → IsTextOf lines taken → IsReadBack reached program old new ran.event ran.end lines
     back lines read = record { run = ran_bench; read = subst (λ (bytes : List ℕ). IsTextOf lines bytes) trace_is read }
 
-    pub not_back : (fault : TraceFault) → IsTraceAnswer taken fault → IsNotReadBack reached program old new fault
+    pub not_back : (fault : TraceFault) → IsAnswerIn Text taken fault → IsNotReadBack reached program old new fault
     not_back (faults.At kind line) shows = (ran.event, ran.end, ran_bench, subst (λ (bytes : List ℕ). IsTraceFault bytes kind line) trace_is shows)
     not_back faults.NoMemory shows = inr (ran.event, ran.end, ran_bench)
 

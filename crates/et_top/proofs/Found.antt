@@ -10,7 +10,7 @@ use Rattle.et_asm.specs.Listings.{marks_of, assembled_bytes}
 use Rattle.et_base.specs.declared.line.TraceLine.{TraceLine}
 use Rattle.et_class.specs.Layout.{ClassOf}
 use Rattle.et_class.specs.Classes.{IsClassFile, ShowsFirstFault, ClassIs, HasOneClass}
-use Rattle.et_text.specs.Text.{IsTextOf, IsTraceFault}
+use Rattle.et_convert.specs.Spellings.{SpellsTrace, HasSpellingFault}
 use Rattle.et_top.specs.Faults.{Fault, BadClass, BadText, BadTrace}
 use Rattle.et_top.specs.Loaded.{IsClassOf, IsListingOf, IsTraceOf, AreFirstAnd, AreClassesOf, file_bytes, most_of_class, before}
 use Rattle.et_top.specs.Told.{Cause, File, Reading, Memory, Other, Tells, IsCause, IsOfBytes, IsFileRefusal, cause_of}
@@ -46,15 +46,15 @@ module _ (bytes : List ℕ) (one : HasOneClass bytes) (class : Result ClassOf Fa
   fault_found f has (inl (fault, had, e)) = e ∙ ap (λ x. Err (BadClass (or_fault x f).1 (or_fault x f).0)) (same (Err fault) (Err f) had has)
   fault_found f has (inr (c, is, e)) = absurd (not_both c f is has)
 
-pub lines_found : (bytes : List ℕ) → ((a b : List TraceLine) (bs : List ℕ) → IsTextOf a bs → IsTextOf b bs → a ≡ b)
-    → ((lines : List TraceLine) (bs : List ℕ) (kind number : ℕ) → IsTextOf lines bs → IsTraceFault bs kind number → ⊥)
-    → (trace : Result (List TraceLine) Fault) (lines : List TraceLine) → IsTextOf lines bytes → IsTraceOf (Ok bytes) trace → trace ≡ Ok lines
+pub lines_found : (bytes : List ℕ) → ((a b : List TraceLine) (bs : List ℕ) → SpellsTrace a bs → SpellsTrace b bs → a ≡ b)
+    → ((lines : List TraceLine) (bs : List ℕ) (kind number : ℕ) → SpellsTrace lines bs → HasSpellingFault bs kind number → ⊥)
+    → (trace : Result (List TraceLine) Fault) (lines : List TraceLine) → SpellsTrace lines bytes → IsTraceOf (Ok bytes) trace → trace ≡ Ok lines
 lines_found bytes one apart trace lines is (inl (kind, line, has, e)) = absurd (apart lines bytes kind line is has)
 lines_found bytes one apart trace lines is (inr (other, was, e)) = e ∙ ap (λ x. Ok x) (one other lines bytes was is)
 
-pub line_found : (bytes : List ℕ) → ((bs : List ℕ) (k n l m : ℕ) → IsTraceFault bs k n → IsTraceFault bs l m → (k ≡ l) × (n ≡ m))
-    → ((lines : List TraceLine) (bs : List ℕ) (kind number : ℕ) → IsTextOf lines bs → IsTraceFault bs kind number → ⊥)
-    → (trace : Result (List TraceLine) Fault) (kind line : ℕ) → IsTraceFault bytes kind line → IsTraceOf (Ok bytes) trace → trace ≡ Err (BadTrace kind line)
+pub line_found : (bytes : List ℕ) → ((bs : List ℕ) (k n l m : ℕ) → HasSpellingFault bs k n → HasSpellingFault bs l m → (k ≡ l) × (n ≡ m))
+    → ((lines : List TraceLine) (bs : List ℕ) (kind number : ℕ) → SpellsTrace lines bs → HasSpellingFault bs kind number → ⊥)
+    → (trace : Result (List TraceLine) Fault) (kind line : ℕ) → HasSpellingFault bytes kind line → IsTraceOf (Ok bytes) trace → trace ≡ Err (BadTrace kind line)
 line_found bytes one apart trace kind line has (inl (k, l, had, e)) =
     let same = one bytes k l kind line had has in
     e ∙ (ap (λ x. Err (BadTrace x l)) same.0 ∙ ap (λ x. Err (BadTrace kind x)) same.1)

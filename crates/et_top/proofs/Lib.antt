@@ -14,5 +14,6 @@ mod PathLemmas
 mod TextLemmas
 mod BenchLemmas
 mod BenchHistory
+mod ConvertLemmas
 mod OneThing
 mod BehindLemmas

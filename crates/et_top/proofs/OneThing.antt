@@ -7,14 +7,14 @@ use Rattle.et_asm.specs.Listings.{marks_of, assembled_bytes}
 use Rattle.et_class.specs.Layout.{ClassOf}
 use Rattle.et_class.specs.Classes.{ClassIs, HasOneClass}
 use Rattle.et_io.specs.Files.{Held}
-use Rattle.et_text.specs.Text.{HasAnswer, IsTrace, IsRefused, IsTextOf, IsTraceFault}
 use Rattle.et_program.specs.Entries.{Linked}
 use Rattle.et_program.specs.Loaded.{LoadedClass, loaded_class}
 use Rattle.et_program.specs.declared.fault.LinkFaultKind.{LinkFaultKind}
 use Rattle.et_link.specs.Refusals.{LinkIs, RefusesLink}
 use Rattle.et_link.specs.declared.fault.LinkFault.TheVariants as link
+use Rattle.et_convert.specs.Spellings.{SpellsTrace, HasSpellingFault, HasSpellingAnswer, IsSpelledTrace, IsRefusedTrace}
 use Rattle.et_replay.specs.declared.model.Kind.{Kind}
-use Rattle.et_top.specs.Command.{Asked, Trace, Assemble, Replay, Curve, Bench, command}
+use Rattle.et_top.specs.Command.{Asked, Trace, Assemble, Replay, Convert, Curve, Bench, command}
 use Rattle.et_top.specs.Faults.{Fault, BadClass, BadText, BadTrace, LinkFault}
 use Rattle.et_top.specs.Loaded.{file_bytes, before, most_of_class, most_of_trace, IsClassOf, IsListingOf, IsTraceOf, AreFirstAnd, AreClassesOf, IsLinkedOf, IsProgramOfFiles}
 use Rattle.et_top.specs.Bench.{IsListingProgram, bench_listing, class_alone}
@@ -68,13 +68,13 @@ module _ (marks_are_one : (marks : List Mark) → IsTheOne marks) where
   one_listing (Err fault) = the_one (Err fault)
   one_listing (Ok text) = listing_by text (marks_are_one (marks_of text)).answer (marks_are_one (marks_of text)).holds
 
-module _ (some_answer : (bytes : List ℕ) → HasAnswer bytes)
-    (no_fault : (lines : List TraceLine) (bytes : List ℕ) (kind number : ℕ) → IsTextOf lines bytes → IsTraceFault bytes kind number → ⊥)
-    (one_list : (a b : List TraceLine) (bytes : List ℕ) → IsTextOf a bytes → IsTextOf b bytes → a ≡ b)
-    (one_fault : (bytes : List ℕ) (k n l m : ℕ) → IsTraceFault bytes k n → IsTraceFault bytes l m → (k ≡ l) × (n ≡ m)) where
-  trace_by : (bytes : List ℕ) → HasAnswer bytes → One (IsTraceOf (Ok bytes))
-  trace_by bytes (IsTrace lines is) = (Ok lines, inr (lines, is, refl), λ y h. lines_found bytes one_list no_fault y lines is h)
-  trace_by bytes (IsRefused kind line has) = (Err (BadTrace kind line), inl (kind, line, has, refl), λ y h. line_found bytes one_fault no_fault y kind line has h)
+module _ (some_answer : (bytes : List ℕ) → HasSpellingAnswer bytes)
+    (no_fault : (lines : List TraceLine) (bytes : List ℕ) (kind number : ℕ) → SpellsTrace lines bytes → HasSpellingFault bytes kind number → ⊥)
+    (one_list : (a b : List TraceLine) (bytes : List ℕ) → SpellsTrace a bytes → SpellsTrace b bytes → a ≡ b)
+    (one_fault : (bytes : List ℕ) (k n l m : ℕ) → HasSpellingFault bytes k n → HasSpellingFault bytes l m → (k ≡ l) × (n ≡ m)) where
+  trace_by : (bytes : List ℕ) → HasSpellingAnswer bytes → One (IsTraceOf (Ok bytes))
+  trace_by bytes (IsSpelledTrace lines is) = (Ok lines, inr (lines, is, refl), λ y h. lines_found bytes one_list no_fault y lines is h)
+  trace_by bytes (IsRefusedTrace kind line has) = (Err (BadTrace kind line), inl (kind, line, has, refl), λ y h. line_found bytes one_fault no_fault y kind line has h)
 
   one_trace : (file : Result (List ℕ) Fault) → One (IsTraceOf file)
   one_trace (Err fault) = the_one (Err fault)
@@ -119,10 +119,10 @@ module _ (link_is_some : (files : List LoadedClass) → 0 < length files → (an
 
 module _ (class_is_one : (bytes : List ℕ) → HasOneClass bytes)
     (marks_are_one : (marks : List Mark) → IsTheOne marks)
-    (some_answer : (bytes : List ℕ) → HasAnswer bytes)
-    (no_fault : (lines : List TraceLine) (bytes : List ℕ) (kind number : ℕ) → IsTextOf lines bytes → IsTraceFault bytes kind number → ⊥)
-    (one_list : (a b : List TraceLine) (bytes : List ℕ) → IsTextOf a bytes → IsTextOf b bytes → a ≡ b)
-    (one_fault : (bytes : List ℕ) (k n l m : ℕ) → IsTraceFault bytes k n → IsTraceFault bytes l m → (k ≡ l) × (n ≡ m))
+    (some_answer : (bytes : List ℕ) → HasSpellingAnswer bytes)
+    (no_fault : (lines : List TraceLine) (bytes : List ℕ) (kind number : ℕ) → SpellsTrace lines bytes → HasSpellingFault bytes kind number → ⊥)
+    (one_list : (a b : List TraceLine) (bytes : List ℕ) → SpellsTrace a bytes → SpellsTrace b bytes → a ≡ b)
+    (one_fault : (bytes : List ℕ) (k n l m : ℕ) → HasSpellingFault bytes k n → HasSpellingFault bytes l m → (k ≡ l) × (n ≡ m))
     (link_is_some : (files : List LoadedClass) → 0 < length files → (answer : Result Linked (LinkFaultKind × ℕ)) × LinkIs files answer)
     (link_is_one : (files : List LoadedClass) (answer other : Result Linked (LinkFaultKind × ℕ)) → LinkIs files answer → LinkIs files other → answer ≡ other) where
   one_program : (files : List (Option (List ℕ))) → 0 < length files → One (IsProgramOfFiles files)
@@ -153,6 +153,7 @@ module _ (class_is_one : (bytes : List ℕ) → HasOneClass bytes)
       decided (IsProgramOfFiles (map held paths)) (λ program d. d ≡ traces options program) (one_program (map held paths) some) (λ program is. the_one (traces options program))
   one_asked kinds (Some (Assemble path)) held has = decided (IsListingOf (file_bytes most_of_class (held path))) _ (one_listing marks_are_one (file_bytes most_of_class (held path))) (λ class is. the_one _)
   one_asked kinds (Some (Replay models path)) held has = decided (IsTraceOf (file_bytes most_of_trace (held path))) _ (trace_of_file (file_bytes most_of_trace (held path))) (λ trace is. the_one _)
+  one_asked kinds (Some (Convert path)) held has = decided (IsTraceOf (file_bytes most_of_trace (held path))) _ (trace_of_file (file_bytes most_of_trace (held path))) (λ trace is. the_one _)
   one_asked kinds (Some (Curve path)) held has = decided (IsTraceOf (file_bytes most_of_trace (held path))) _ (trace_of_file (file_bytes most_of_trace (held path))) (λ trace is. the_one _)
   one_asked kinds (Some (Bench number)) held has = decided (IsListingProgram (bench_listing number 50000 40000)) _ (one_of_listing (bench_listing number 50000 40000)) (λ program is. the_one (benches program))
 

@@ -5,7 +5,7 @@ use Rattle.et_state.specs.declared.options.Options.{Options}
 use Rattle.et_top.specs.declared.command.Models.{Models}
 use Rattle.et_top.specs.Words.{Split, split}
 use Rattle.et_top.specs.Numbers.{number_within}
-use Rattle.et_top.specs.Command.{Asked, Trace, Assemble, Replay, Curve, Bench, command, asked, some_paths, plain_path, only_path, trace_options, replay_options}
+use Rattle.et_top.specs.Command.{Asked, Trace, Assemble, Replay, Convert, Curve, Bench, command, asked, some_paths, plain_path, only_path, trace_options, replay_options}
 
 -- where it is `trace`, there is a path
 pub HasPaths : Option Asked → Type 0
@@ -13,6 +13,7 @@ HasPaths None = Unit {0}
 HasPaths (Some (Trace options paths)) = 0 < length paths
 HasPaths (Some (Assemble path)) = Unit {0}
 HasPaths (Some (Replay models path)) = Unit {0}
+HasPaths (Some (Convert path)) = Unit {0}
 HasPaths (Some (Curve path)) = Unit {0}
 HasPaths (Some (Bench number)) = Unit {0}
 
@@ -48,6 +49,11 @@ unfolding HasPaths
 assemble_has None = tt
 assemble_has (Some path) = tt
 
+convert_has : (o : Option (List ℕ)) → HasPaths (option_map Convert o)
+unfolding HasPaths
+convert_has None = tt
+convert_has (Some path) = tt
+
 curve_has : (o : Option (List ℕ)) → HasPaths (option_map Curve o)
 unfolding HasPaths
 curve_has None = tt
@@ -71,8 +77,9 @@ asked_has name s =
     either_has _ _ _ (trace_has s.operands (trace_options s.options))
     (either_has _ _ _ (assemble_has (plain_path s))
     (either_has _ _ _ (replay_has (replay_options s.options) (only_path s.operands))
+    (either_has _ _ _ (convert_has (plain_path s))
     (either_has _ _ _ (curve_has (plain_path s))
-    (either_has _ _ _ (bench_has (option_and_then (number_within 0 (2 ^ 63 - 1)) (plain_path s))) nothing_has))))
+    (either_has _ _ _ (bench_has (option_and_then (number_within 0 (2 ^ 63 - 1)) (plain_path s))) nothing_has)))))
 
 split_has : (name : List ℕ) (o : Option Split) → HasPaths (option_and_then (asked name) o)
 split_has name None = nothing_has

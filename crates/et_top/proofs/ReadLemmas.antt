@@ -26,7 +26,7 @@ use Rattle.et_top.proofs.FaultLemmas.{rose_one}
 -- WHAT A READ FOUND
 
 -- the bytes of a file that is not too long
-bytes_there : (most : ℕ) (file : Option (List ℕ)) (bytes : List ℕ) → file ≡ Some bytes → length bytes ≤ most → file_bytes most file ≡ Ok bytes
+pub bytes_there : (most : ℕ) (file : Option (List ℕ)) (bytes : List ℕ) → file ≡ Some bytes → length bytes ≤ most → file_bytes most file ≡ Ok bytes
 bytes_there most file bytes is within = ap (file_bytes most) is ∙ first_of (search rules, grind (arith, nat_tests))
 
 -- .. and of one that is
@@ -96,6 +96,16 @@ found_early finds.TooLong (Ok bytes) is = tt
 found_early finds.TooLong (Err r) is = early_one r (subst IsOfOne (sym is) tt)
 found_early finds.Failed (Ok bytes) is = tt
 found_early finds.Failed (Err r) is = early_one r (subst IsOfOne (sym is) tt)
+
+-- the bytes are no more than were asked for
+pub found_within : (most : ℕ) (found : Found) (answer : Result (Vec ℕ Global) Refusal) → TellsFound found answer → IsWithin found most → IfOk answer (λ bytes. length bytes.items ≤ most)
+found_within most (finds.Bytes bytes) answer is within = subst (λ (a : Result (Vec ℕ Global) Refusal). IfOk a (λ bytes. length bytes.items ≤ most)) (sym is) within
+found_within most finds.Absent (Ok bytes) is within = absurd is
+found_within most finds.Absent (Err r) is within = tt
+found_within most finds.TooLong (Ok bytes) is within = absurd is
+found_within most finds.TooLong (Err r) is within = tt
+found_within most finds.Failed (Ok bytes) is within = absurd is
+found_within most finds.Failed (Err r) is within = tt
 
 -- THE CLASS OF A FILE
 

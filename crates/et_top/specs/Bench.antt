@@ -1,6 +1,7 @@
 -- THE BENCH: a program whose choices are made from a number, and what is said of its trace.
 use Rattle.std.specs.Prelude.{◌≡◌, ℕ, ◌+◌, ◌-◌, ◌≤◌, ◌⊎◌, Bool, true, false, List, [], ◌∷◌, ◌++◌, length, slice_get, codes, count_by, Option, Some, Result, Ok, Err}
 use Rattle.std.specs.Fmt.{decimal}
+use Rattle.et_base.specs.declared.format.Format.TheVariants.{Text}
 use Rattle.et_base.specs.declared.line.TraceLine.{TraceLine}
 use Rattle.et_base.specs.declared.line.TraceLine.TheVariants.{Alloc, Death, Flush, Finish}
 use Rattle.et_base.specs.declared.value.End.{End}
@@ -144,7 +145,7 @@ IsListingProgram listing program =
 -- THE RUN of the program, into memory
 
 abbrev pub bench_options : Options
-bench_options = record { interval = 100000; limit = 1000000000; schedule = Quantum 100 }
+bench_options = record { interval = 100000; limit = 1000000000; schedule = Quantum 100; format = Text }
 
 module _ (reached : Graph → ℕ → Bool) (program : Linked) where
   -- the history of the program ends so

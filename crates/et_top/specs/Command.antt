@@ -4,6 +4,7 @@ use Rattle.std.specs.List.{list_any}
 use Rattle.et_state.specs.declared.options.Options.{Options}
 use Rattle.et_state.specs.declared.options.Schedule.{Schedule}
 use Rattle.et_state.specs.declared.options.Schedule.TheVariants.{Quantum, Words}
+use Rattle.et_convert.specs.Conversions.{version_format}
 use Rattle.et_top.specs.declared.command.Models.{Models}
 use Rattle.et_top.specs.declared.command.Generations.{Generations}
 use Rattle.et_top.specs.Words.{Given, Split, split}
@@ -16,6 +17,8 @@ pub data Asked : Type 0 where
   Assemble : (path : List ℕ) → Asked
   -- what these models of a heap report of a trace
   Replay : (models : Models) → (path : List ℕ) → Asked
+  -- a trace in its other spelling
+  Convert : (path : List ℕ) → Asked
   -- the live curve of a trace
   Curve : (path : List ℕ) → Asked
   -- the summary of the run of a large program, whose choices are made from this number
@@ -45,10 +48,11 @@ schedule_of (Some quantum) (Some text) = None
 
 abbrev pub trace_options : List Given → Option Options
 trace_options options =
-    if are_options (codes "flush" ∷ codes "limit" ∷ codes "quantum" ∷ codes "words" ∷ []) options
-    then option_and_then (λ interval. option_and_then (λ limit. option_map (λ schedule.
-    record { interval = interval; limit = limit; schedule = schedule })
+    if are_options (codes "flush" ∷ codes "limit" ∷ codes "format" ∷ codes "quantum" ∷ codes "words" ∷ []) options
+    then option_and_then (λ interval. option_and_then (λ limit. option_and_then (λ version. option_map (λ schedule.
+    record { interval = interval; limit = limit; schedule = schedule; format = version_format version })
     (schedule_of (option_value (codes "quantum") options) (option_value (codes "words") options)))
+    (number_or 1 1 2 (option_value (codes "format") options)))
     (number_or 1000000000 0 (2 ^ 40) (option_value (codes "limit") options)))
     (number_or 0 0 (2 ^ 40) (option_value (codes "flush") options))
     else None
@@ -113,6 +117,7 @@ asked name s =
     if bytes_eq name (codes "trace") then trace s
     else if bytes_eq name (codes "asm") then option_map Assemble (plain_path s)
     else if bytes_eq name (codes "replay") then replay s
+    else if bytes_eq name (codes "convert") then option_map Convert (plain_path s)
     else if bytes_eq name (codes "curve") then option_map Curve (plain_path s)
     else if bytes_eq name (codes "bench") then bench s
     else None

@@ -13,7 +13,7 @@ pub data Fault : Type 0 where
   BadClass : (kind offset : ℕ) → Fault
   -- it is no listing: the kind and the number of its first faulty line
   BadText : (kind line : ℕ) → Fault
-  -- it is no trace: the kind and the number of its first faulty line
+  -- it is no trace: the kind and the number of its first faulty line or record
   BadTrace : (kind line : ℕ) → Fault
   -- the classes don't link: the kind of the fault and the name of the class that shows it (JVMS 5.3, 5.4)
   LinkFault : (kind : LinkFaultKind) → (class : List ℕ) → Fault

@@ -4,7 +4,6 @@ use Rattle.std.specs.Prelude.{◌≡◌, ℕ, ◌⊎◌, nat_lt, if◌then◌els
 use Rattle.et_base.specs.declared.line.TraceLine.{TraceLine}
 use Rattle.et_class.specs.Layout.{ClassOf}
 use Rattle.et_class.specs.Classes.{IsClassFile, ShowsFirstFault}
-use Rattle.et_text.specs.Text.{IsTextOf, IsTraceFault}
 use Rattle.et_base.specs.Marks.{MarksAre, IsFirstBroken}
 use Rattle.et_asm.specs.Listings.{marks_of, assembled_bytes as class_file_of}
 use Rattle.et_program.specs.Loaded.{loaded_class}
@@ -14,6 +13,7 @@ use Rattle.et_program.specs.ProgramOf.{IsProgramOf as IsLinkOf}
 use Rattle.et_program.specs.declared.fault.LinkFaultKind.{LinkFaultKind}
 use Rattle.et_link.specs.declared.fault.LinkFault.TheVariants as link
 use Rattle.et_program.specs.Entries.{Linked}
+use Rattle.et_convert.specs.Spellings.{SpellsTrace, HasSpellingFault}
 use Rattle.et_top.specs.Faults.{Fault, Absent, TooLong, BadClass, BadText, BadTrace, LinkFault}
 
 -- the most bytes that are read of a class file or a listing, and of a trace
@@ -35,12 +35,12 @@ IsClassOf (Ok bytes) class =
     ((fault : ℕ × ℕ) × ShowsFirstFault bytes fault × (class ≡ Err (BadClass fault.1 fault.0)))
     ⊎ ((c : ClassOf) × IsClassFile bytes c × (class ≡ Ok c))
 
--- the bytes are those of this trace, or they have this first fault; exactly one of the two is the case
+-- the bytes are those of this trace, or they have this first fault, by their spelling; exactly one of the two is the case
 abbrev pub IsTraceOf : Result (List ℕ) Fault → Result (List TraceLine) Fault → Type 0
 IsTraceOf (Err fault) trace = trace ≡ Err fault
 IsTraceOf (Ok bytes) trace =
-    ((kind line : ℕ) × IsTraceFault bytes kind line × (trace ≡ Err (BadTrace kind line)))
-    ⊎ ((lines : List TraceLine) × IsTextOf lines bytes × (trace ≡ Ok lines))
+    ((kind line : ℕ) × HasSpellingFault bytes kind line × (trace ≡ Err (BadTrace kind line)))
+    ⊎ ((lines : List TraceLine) × SpellsTrace lines bytes × (trace ≡ Ok lines))
 
 -- .. and the same of a listing: the bytes of its class file, or its first faulty line with the least kind
 abbrev pub IsListingOf : Result (List ℕ) Fault → Result (List ℕ) Fault → Type 0

@@ -3,7 +3,7 @@
 use Rattle.std.specs.Prelude.{◌≡◌, ℕ, ◌-◌, ◌≤◌, Bool, true, false, List, [], ◌∷◌, ◌++◌, length, take, All, Option, None, Some, Ok}
 use Rattle.et_class.specs.Layout.{ClassOf}
 use Rattle.et_io.specs.Files.{Held}
-use Rattle.et_top.specs.Command.{Asked, Trace, Assemble, Replay, Curve, Bench}
+use Rattle.et_top.specs.Command.{Asked, Trace, Assemble, Replay, Convert, Curve, Bench}
 use Rattle.et_top.specs.Loaded.{file_bytes, most_of_class, IsClassOf}
 use Rattle.et_top.specs.declared.status.Status.{Status}
 use Rattle.et_top.specs.declared.status.Status.TheVariants as status
@@ -14,6 +14,7 @@ paths_of None = []
 paths_of (Some (Trace options paths)) = paths
 paths_of (Some (Assemble path)) = path ∷ []
 paths_of (Some (Replay models path)) = path ∷ []
+paths_of (Some (Convert path)) = path ∷ []
 paths_of (Some (Curve path)) = path ∷ []
 paths_of (Some (Bench number)) = []
 

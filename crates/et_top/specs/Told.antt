@@ -9,9 +9,6 @@ use Rattle.et_io.specs.declared.files.Found.{Found}
 use Rattle.et_io.specs.declared.files.Found.TheVariants as finds
 use Rattle.et_io.specs.declared.putting.RunFault.{RunFault}
 use Rattle.et_io.specs.declared.putting.RunFault.TheVariants as write
-use Rattle.et_text.specs.Text.{IsTraceFault}
-use Rattle.et_text.specs.declared.fault.TraceFault.{TraceFault}
-use Rattle.et_text.specs.declared.fault.TraceFault.TheVariants as faults
 use Rattle.std.specs.declared.vec.Vec.{Vec}
 use Rattle.std.specs.declared.alloc.Global.{Global}
 use Rattle.et_replay.specs.declared.model.Policy.{Policy}
@@ -84,11 +81,6 @@ IsOfBytes Other = ⊥
 
 abbrev pub classes_read : Vec ClassFile Global → List ClassOf
 classes_read classes = map class_of classes.items
-
--- the fault of the bytes; want of memory says nothing
-abbrev pub IsTraceAnswer : List ℕ → TraceFault → Type 0
-IsTraceAnswer bytes (faults.At kind line) = IsTraceFault bytes kind line
-IsTraceAnswer bytes faults.NoMemory = Unit {0}
 
 -- the status of an answer: done, or that of the refusal
 abbrev pub status_of_result : {A : Type 0} → Result A Refusal → Status

@@ -10,6 +10,7 @@ use Rattle.et_state.specs.declared.options.Options.{Options}
 use Rattle.et_text.specs.declared.fault.TraceFault.TheVariants as faults
 use Rattle.et_loop.specs.declared.options.Ran.{Ran}
 use Rattle.et_loop.specs.Traced.{WritesTrace, WritesPrefix}
+use Rattle.et_convert.specs.Conversions.{converted_bytes}
 use Rattle.et_replay.specs.Curve.{curve_text}
 use Rattle.et_replay.specs.Replay.{replay_text}
 use Rattle.et_replay.specs.Timeline.{timeline_items}
@@ -68,6 +69,8 @@ IsAskedDefined kinds (Some (words.Assemble path)) held d =
 IsAskedDefined kinds (Some (words.Replay asked path)) held d =
     (trace : Result (List TraceLine) Fault) × IsTraceOf (file_bytes most_of_trace (held path)) trace
     × (d ≡ defined_text (λ reached lines. replay_text reached (timeline_items lines) (policies_of asked kinds)) trace)
+IsAskedDefined kinds (Some (words.Convert path)) held d =
+    (trace : Result (List TraceLine) Fault) × IsTraceOf (file_bytes most_of_trace (held path)) trace × (d ≡ defined_text (λ reached lines. converted_bytes lines) trace)
 IsAskedDefined kinds (Some (words.Curve path)) held d =
     (trace : Result (List TraceLine) Fault) × IsTraceOf (file_bytes most_of_trace (held path)) trace × (d ≡ defined_text (λ reached lines. curve_text lines) trace)
 IsAskedDefined kinds (Some (words.Bench number)) held d =

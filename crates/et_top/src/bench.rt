@@ -16,11 +16,11 @@ use crate::bench_text::bench_listing;
 use crate::bench_totals::bench_summary;
 use crate::load_classes::{class_in, push};
 use crate::load_listing::listing_in;
-use crate::load_trace::trace_of;
 use crate::programs::{answer_end, program};
 use crate::refusal::Refusal;
 use crate::status::Status;
-use et_base::{End, Steps};
+use et_base::{End, Format, Steps};
+use et_convert::read_text;
 use et_io::{MemSink, Sink, put_all};
 use et_link::Program;
 use et_state::{Options, Schedule};
@@ -93,10 +93,11 @@ fn read_back<L: Ledger>(
         interval: 100_000,
         limit: 1_000_000_000,
         schedule: Schedule::Quantum(100),
+        format: Format::Text,
     };
     let mut sink = MemSink::begin(alloc, u64::MAX);
     match et_run::run(alloc, program, &options, &mut sink, visits) {
-        Ok(ran) => match trace_of(alloc, sink.bytes()) {
+        Ok(ran) => match read_text(alloc, sink.bytes()) {
             Ok(trace) => Ok(ReadBack {
                 end: ran.end,
                 trace,

@@ -9,6 +9,7 @@ use crate::numbers::{number, numbers};
 use crate::options::{are_options, capacity, number_or, value_of};
 use crate::split::{Given, Split, split_words};
 use et_base::NoMemory;
+use et_convert::version_format;
 use et_state::{Options, Schedule};
 use std::alloc::Global;
 
@@ -42,6 +43,8 @@ pub enum Command<'a> {
         models: Models,
         path: &'a str,
     },
+    /// A trace in its other spelling.
+    Convert(&'a str),
     /// The live curve of a trace.
     Curve(&'a str),
     /// The summary of the run of a large program, whose choices are made from this number, below 2^63.
@@ -73,13 +76,19 @@ fn trace_options(alloc: Global, given: &[Given<'_>]) -> Result<Option<Options>, 
     ensures options { IfOk result (λ options. options ≡ command.trace_options given.now) }
     ensures range { IfOk result (λ options. IfSome options AreOptions) }
 {
-    if !are_options(&[b"flush", b"limit", b"quantum", b"words"], given) {
+    if !are_options(
+        &[b"flush", b"limit", b"format", b"quantum", b"words"],
+        given,
+    ) {
         return Ok(None);
     }
     let Some(interval) = number_or(0, 0, MOST_EVENTS, value_of(b"flush", given)) else {
         return Ok(None);
     };
     let Some(limit) = number_or(1_000_000_000, 0, MOST_EVENTS, value_of(b"limit", given)) else {
+        return Ok(None);
+    };
+    let Some(version) = number_or(1, 1, 2, value_of(b"format", given)) else {
         return Ok(None);
     };
     let schedule = schedule_of(
@@ -94,6 +103,7 @@ fn trace_options(alloc: Global, given: &[Given<'_>]) -> Result<Option<Options>, 
         interval,
         limit,
         schedule,
+        format: version_format(version),
     }))
 }
 
@@ -201,6 +211,7 @@ fn asked<'a>(alloc: Global, name: &str, parts: &Split<'a>) -> Result<Option<Comm
         "trace" => trace(alloc, parts),
         "asm" => Ok(plain_path(parts).map(Command::Assemble)),
         "replay" => Ok(replay(parts)),
+        "convert" => Ok(plain_path(parts).map(Command::Convert)),
         "curve" => Ok(plain_path(parts).map(Command::Curve)),
         "bench" => Ok(bench(parts)),
         _ => Ok(None),

@@ -19,6 +19,7 @@ use crate::models::replay_trace;
 use crate::programs::{load_program, run};
 use crate::status::Status;
 use et_base::Steps;
+use et_convert::convert_trace;
 use et_io::{Files, Sink, put_all};
 use et_replay::{HeapModel, curve_lines};
 use et_state::Options;
@@ -86,6 +87,32 @@ pub fn assemble<F: Files, O: Sink, E: Sink>(
 {
     match load_listing(alloc, path, files) {
         Ok(bytes) => written(alloc, put_all(out, bytes.as_slice()), err),
+        Err(refusal) => refuse(alloc, err, &refusal),
+    }
+}
+
+/// The command `convert`.
+pub fn convert<F: Files, O: Sink, E: Sink>(
+    alloc: Global,
+    path: &str,
+    files: &mut F,
+    out: &mut O,
+    err: &mut E,
+) -> Status
+    ensures gives { (held : Held) → F.holds files.old ≡ Some held → (kinds : List Kind)
+        (d : Defined) → IsAskedDefined kinds (Some (words.Convert path.now)) held d →
+        (reached : Graph → ℕ → Bool) → Decides reached → (old new : ℕ) → GivesDefined reached
+        (O.taken out.old) (O.taken out.new) old new (Rose (F.faults files.old) (F.faults files.new))
+        (Rose (O.faults out.old) (O.faults out.new)) d result }
+    ensures usage { result ≡ Status.Usage → ⊥ }
+    ensures read_fault { F.faults files.new
+        ≡ count_after (is_read_status result) (F.faults files.old) }
+    ensures write_fault { O.faults out.new
+        ≡ count_after (is_write_status result) (O.faults out.old) }
+    ensures asked { F.asked files.new ≡ F.asked files.old ++ path.now ∷ [] }
+{
+    match load_trace(alloc, path, files) {
+        Ok(trace) => written(alloc, convert_trace(alloc, &trace, out), err),
         Err(refusal) => refuse(alloc, err, &refusal),
     }
 }

@@ -1,5 +1,5 @@
 //! Reading a file.
-ghost use Rattle.std.specs.Prelude.{◌≡◌, ◌≤◌, ◌++◌, ◌∷◌, [], true, Some, IfErr};
+ghost use Rattle.std.specs.Prelude.{◌≡◌, ◌≤◌, ◌++◌, ◌∷◌, [], true, Some, length, IfOk, IfErr};
 ghost use Rattle.et_io.specs.Faults.{Rose, count_after};
 ghost use Rattle.et_io.specs.Files.{Held};
 ghost use Rattle.et_top.specs.Loaded.{file_bytes};
@@ -34,6 +34,7 @@ pub fn read_file<'a, F: Files>(
         (F.faults files.new)) (λ bytes. bytes.items) (file_bytes most (held path.now)) result }
     ensures faults { F.faults files.new ≡ count_after (is_reading result) (F.faults files.old) }
     ensures asked { F.asked files.new ≡ F.asked files.old ++ path.now ∷ [] }
+    ensures within { IfOk result (λ bytes. length bytes.items ≤ most) }
     ensures early { IfErr result (λ refusal. is_early (status_of refusal) ≡ true) }
     ensures file { IfErr result (λ refusal. IsFileRefusal (cause_of refusal)) }
     ensures never_falls { F.faults files.old ≤ F.faults files.new }

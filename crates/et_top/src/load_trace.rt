@@ -1,44 +1,40 @@
-//! The trace of the file that a command names.
-ghost use Rattle.std.specs.Prelude.{◌≡◌, ◌≤◌, ◌++◌, ◌∷◌, [], List, Result, Ok, Some, IfOk, IfErr};
+//! The trace of the file that a command names, in either spelling.
+ghost use Rattle.std.specs.Prelude.{◌≡◌, ◌≤◌, ◌<◌, ◌^◌, ◌++◌, ◌∷◌, [], List, Result, Ok, Some, All, length, IfOk, IfErr};
 ghost use Rattle.et_base.specs.declared.line.TraceLine.{TraceLine};
 ghost use Rattle.et_io.specs.Faults.{Rose, count_after};
 ghost use Rattle.et_io.specs.Files.{Held};
-ghost use Rattle.et_text.specs.Text.{IsTextOf};
+ghost use Rattle.et_text.specs.Ranges.{HasShortNames};
 ghost use Rattle.et_top.specs.Faults.{Fault};
 ghost use Rattle.et_top.specs.Loaded.{file_bytes, most_of_trace, IsTraceOf};
-ghost use Rattle.et_top.specs.Told.{Tells, IsFileRefusal, IsOfBytes, cause_of, is_reading, IsTraceAnswer};
+ghost use Rattle.et_top.specs.Told.{Tells, IsFileRefusal, IsOfBytes, cause_of, is_reading};
 
 use crate::files::read_file;
 use crate::refusal::Refusal;
+use et_convert::laws::{
+    conversions_are_traces, spelled_lists_differ, spelled_traces_have_no_fault,
+    spelling_faults_are_one,
+};
+use et_convert::read_trace;
 use et_io::Files;
-use et_text::laws::{faults_are_one, good_lists_differ, good_texts_have_no_fault};
-use et_text::{TextReader, Trace, TraceFault};
+use et_text::{Trace, TraceFault};
 use std::alloc::Global;
 
 /// The longest trace that is read, in bytes.
 const MOST_TRACE_BYTES: u64 = 268_435_456;
 
-/// The trace of these bytes.
-pub fn trace_of(alloc: Global, bytes: &[u8]) -> Result<Trace, TraceFault>
-    ensures trace { IfOk result (λ trace. IsTextOf trace bytes.now) }
-    ensures fault { IfErr result (IsTraceAnswer bytes.now) }
-{
-    let mut reader = TextReader::begin(alloc);
-    reader.feed(bytes)?;
-    reader.finish()
-}
-
 /// The trace of these bytes, which the file at the path holds.
 fn trace_in<'a>(alloc: Global, path: &'a str, bytes: &[u8]) -> Result<Trace, Refusal<'a>>
     ensures tells { (trace : Result (List TraceLine) Fault) →
         IsTraceOf (Ok bytes.now) trace → Tells ⊥ (λ lines. lines) trace result }
+    ensures short { length bytes.now < 2 ^ 32 → IfOk result (λ trace. All HasShortNames trace) }
     ensures bytes { IfErr result (λ refusal. IsOfBytes (cause_of refusal)) }
 {
     // Laws: they tell the prover, and do nothing.
-    faults_are_one();
-    good_lists_differ();
-    good_texts_have_no_fault();
-    match trace_of(alloc, bytes) {
+    spelling_faults_are_one();
+    spelled_lists_differ();
+    spelled_traces_have_no_fault();
+    conversions_are_traces();
+    match read_trace(alloc, bytes) {
         Ok(trace) => Ok(trace),
         Err(TraceFault::At { kind, line }) => Err(Refusal::BadTrace { path, kind, line }),
         Err(TraceFault::NoMemory) => Err(Refusal::NoMemory),
@@ -54,6 +50,7 @@ pub fn load_trace<'a, F: Files>(
     ensures tells { (held : Held) → F.holds files.old ≡ Some held → (trace : Result
         (List TraceLine) Fault) → IsTraceOf (file_bytes most_of_trace (held path.now)) trace →
         Tells (Rose (F.faults files.old) (F.faults files.new)) (λ lines. lines) trace result }
+    ensures short { IfOk result (λ trace. All HasShortNames trace) }
     ensures faults { F.faults files.new ≡ count_after (is_reading result) (F.faults files.old) }
     ensures asked { F.asked files.new ≡ F.asked files.old ++ path.now ∷ [] }
     ensures file { IfErr result (λ refusal. IsFileRefusal (cause_of refusal)) }

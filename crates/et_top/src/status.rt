@@ -21,7 +21,7 @@ pub enum Status {
     WriteFault,
     /// Memory ran out. What was taken is a prefix of the output.
     NoMemory,
-    /// A file is no trace.
+    /// A file is no trace, in either spelling.
     BadTrace,
     /// The next event had no meaning. The trace up to it was taken whole.
     IllTyped,

@@ -13,7 +13,7 @@ ghost use Rattle.et_top.specs.Visits.{IsWithoutRun, IsNoTrace, HasUnread};
 use crate::answers::refuse;
 use crate::bench::{CELLS, ROUNDS, bench};
 use crate::command::{Command, read_words};
-use crate::commands::{assemble, curve, replay, trace};
+use crate::commands::{assemble, convert, curve, replay, trace};
 use crate::refusal::Refusal;
 use crate::status::Status;
 use et_base::Steps;
@@ -63,6 +63,7 @@ fn perform<F: Files, O: Sink, E: Sink, L: Ledger>(
             models: asked,
             path,
         } => replay(alloc, asked, *path, files, out, err, models),
+        Command::Convert(path) => convert(alloc, *path, files, out, err),
         Command::Curve(path) => curve(alloc, *path, files, out, err),
         Command::Bench(number) => bench(alloc, *number, CELLS, ROUNDS, out, err, visits),
     }
@@ -76,9 +77,14 @@ fn perform<F: Files, O: Sink, E: Sink, L: Ledger>(
 /// - `asm` reads a listing and writes its class file.
 /// - `replay` reads a trace and writes a line for each of the models whose kind is asked for, in their order: what it
 ///   reports of the trace. The other models are dropped.
+/// - `convert` reads a trace and writes the same lines in the other spelling, with its version in the header: binary for a
+///   text, and a text for what is binary.
 /// - `curve` reads a trace and writes its live curve.
 /// - `bench` assembles a large program whose choices are made from a number, runs it into memory, reads its trace back, and
 ///   writes what that comes to. The counter tells how often objects were visited.
+///
+/// A trace is written in the format that the options name. It is read in either spelling: bytes that begin with FE are
+/// binary, and all others a text.
 ///
 /// Refusals come in this order: the words; of each file the read, the length and what it holds; linking; the run. Each file
 /// is read once, and only when the one before it was found good. A read that fails counts one fault and is answered so, and

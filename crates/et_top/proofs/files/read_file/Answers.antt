@@ -3,7 +3,7 @@ use Rattle.std.specs.Prelude.{Option, Ok, IfSome}
 use Rattle.et_io.specs.Files.{Held, Finds, is_read_failed}
 use Rattle.et_top.specs.Told.{is_reading}
 use Rattle.et_top.proofs.FaultLemmas.{counted_as}
-use Rattle.et_top.proofs.ReadLemmas.{found_tells, found_reading, found_file, found_early}
+use Rattle.et_top.proofs.ReadLemmas.{found_tells, found_reading, found_file, found_early, found_within}
 use Rattle.et_top.proofs.files.read_file.Goals as goal
 
 pub returns-in-Ok-clause-tells : goal.returns-in-Ok-clause-tells
@@ -19,3 +19,6 @@ returns-in-Ok-clause-file g c = found_file c.in-Ok.found c.bytes_found.result c.
 
 pub returns-in-Ok-clause-early : goal.returns-in-Ok-clause-early
 returns-in-Ok-clause-early g c = found_early c.in-Ok.found c.bytes_found.result c.bytes_found.ensures
+
+pub returns-in-Ok-clause-within : goal.returns-in-Ok-clause-within
+returns-in-Ok-clause-within g c = found_within c.args.most c.in-Ok.found c.bytes_found.result c.bytes_found.ensures c.in-Ok.ensures.within

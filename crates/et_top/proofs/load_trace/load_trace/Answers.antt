@@ -1,4 +1,4 @@
-use Rattle.std.proofs.Common.{Ok, subst, sym}
+use Rattle.std.proofs.Common.{Ok, ap, length, subst, sym, arith}
 use Rattle.et_top.specs.Loaded.{IsTraceOf}
 use Rattle.et_top.specs.Told.{cause_of, is_reading}
 use Rattle.et_top.proofs.FaultLemmas.{same_count, not_reading}
@@ -17,3 +17,6 @@ returns-in-Ok-clause-file g c = file_refusal c.trace_in.result c.trace_in.ensure
 
 pub returns-in-Err-clause-tells : goal.returns-in-Err-clause-tells
 returns-in-Err-clause-tells g c held told found is = trace_not_read _ _ (cause_of c.in-Err.refusal) found (c.in-Err.ensures.tells held told) is
+
+pub returns-in-Ok-clause-short : goal.returns-in-Ok-clause-short
+returns-in-Ok-clause-short g c = c.trace_in.ensures.short (let small = c.in-Ok.ensures.within in let same = ap length c.deref.ensures.value in omega (arith, small, same))

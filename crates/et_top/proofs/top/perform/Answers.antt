@@ -25,6 +25,10 @@ pub returns-in-Replay-clause-gives : goal.returns-in-Replay-clause-gives
 returns-in-Replay-clause-gives g c held told d defined reached decides =
     c.replay.ensures.gives held told d (by_arm _ held d _ _ c.in-Replay.is defined) reached decides _ _
 
+pub returns-in-Convert-clause-gives : goal.returns-in-Convert-clause-gives
+returns-in-Convert-clause-gives g c held told d defined reached decides =
+    c.convert.ensures.gives held told [] d (by_arm _ held d _ _ c.in-Convert.is defined) reached decides _ _
+
 pub returns-in-Curve-clause-gives : goal.returns-in-Curve-clause-gives
 returns-in-Curve-clause-gives g c held told d defined reached decides =
     c.curve.ensures.gives held told [] d (by_arm _ held d _ _ c.in-Curve.is defined) reached decides _ _
@@ -49,6 +53,9 @@ returns-in-Assemble-clause-reads g c = subst (λ (x : Command). ReadsInOrder (g.
 
 pub returns-in-Replay-clause-reads : goal.returns-in-Replay-clause-reads
 returns-in-Replay-clause-reads g c = subst (λ (x : Command). ReadsInOrder (g.F.Files.holds c.args.files.now) (g.F.Files.asked c.args.files.now) (g.F.Files.asked c.replay.new.files) (paths_of (Some (asked_by x))) c.replay.result) (sym c.in-Replay.is) (one_read _ _ _ _ _ c.replay.ensures.asked)
+
+pub returns-in-Convert-clause-reads : goal.returns-in-Convert-clause-reads
+returns-in-Convert-clause-reads g c = subst (λ (x : Command). ReadsInOrder (g.F.Files.holds c.args.files.now) (g.F.Files.asked c.args.files.now) (g.F.Files.asked c.convert.new.files) (paths_of (Some (asked_by x))) c.convert.result) (sym c.in-Convert.is) (one_read _ _ _ _ _ c.convert.ensures.asked)
 
 pub returns-in-Curve-clause-reads : goal.returns-in-Curve-clause-reads
 returns-in-Curve-clause-reads g c = subst (λ (x : Command). ReadsInOrder (g.F.Files.holds c.args.files.now) (g.F.Files.asked c.args.files.now) (g.F.Files.asked c.curve.new.files) (paths_of (Some (asked_by x))) c.curve.result) (sym c.in-Curve.is) (one_read _ _ _ _ _ c.curve.ensures.asked)
