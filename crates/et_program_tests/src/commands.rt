@@ -225,6 +225,8 @@ fn other_words_are_no_command(rt: HostRuntime) -> Result<(), Fail> {
         "trace --quantum 0 Box.class",
         "replay T",
         "replay --nursery 48 T",
+        "trace --format 3 Box.class",
+        "convert T T",
         "curve",
         "asm",
     ] {
@@ -237,7 +239,7 @@ fn other_words_are_no_command(rt: HostRuntime) -> Result<(), Fail> {
 #[test]
 fn a_failed_write_is_no_want_of_memory(rt: HostRuntime) -> Result<(), Fail> {
     let alloc = rt.alloc();
-    for line in ["curve T", "replay --mark-sweep 120 T"] {
+    for line in ["convert T", "curve T", "replay --mark-sweep 120 T"] {
         let mut files = files_with(alloc, "T", FIVE)?;
         let mut out = MemSink::begin(alloc, 1000);
         let mut err = MemSink::begin(alloc, 1000);

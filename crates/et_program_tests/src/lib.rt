@@ -13,6 +13,8 @@ mod checks;
 #[cfg(test)]
 mod commands;
 #[cfg(test)]
+mod conversions;
+#[cfg(test)]
 mod errors;
 #[cfg(test)]
 mod examples;
