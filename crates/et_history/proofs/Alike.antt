@@ -13,7 +13,7 @@ use Rattle.et_state.specs.declared.records.Record.{Record}
 use Rattle.et_state.specs.Naming.{Names, Mentions, mentions_after, lines_of}
 use Rattle.et_state.specs.Outcome.{Outcome, state_after, records_of, end_by}
 use Rattle.et_io.specs.Sink.{with_more}
-use Rattle.et_text.specs.Spelling.{text}
+use Rattle.et_binary.specs.Formats.{trace_bytes}
 use Rattle.et_loop.specs.Visits.{visits_at, visits_below, allowed_visits, visits_to, visits_of_turn, turn_visits, due_visits, made_after, IsCut}
 use Rattle.et_state.specs.History.{Rule, Setting, is_flush_point, is_gone, deaths_to, flush_lines, picked_turn, outcome_step, ending, settled, left_by, records_at, IsLastEvent, last_reached, deaths, mentions_to, lines_to, trace_of, how_of}
 
@@ -79,7 +79,7 @@ same_turns (Some end) end' due flush flush' made made' e f m =
 module _ {S T : Type 0} (reached : Graph → ℕ → Bool) (given : Setting S) (rule : Rule T) (M : ℕ → S → T → Type 0) where
   -- the same setting over the other states
   abbrev pub other : Setting T
-  other = record { rule = rule; names = given.names; pick = given.pick; interval = given.interval; limit = given.limit }
+  other = record { rule = rule; names = given.names; pick = given.pick; interval = given.interval; limit = given.limit; format = given.format }
 
   -- an event after event e is done in s, by this thread
   pub record IsTurn (e : ℕ) (s : S) (thread : ℕ) : Type 0 where
@@ -245,7 +245,7 @@ module _ {S T : Type 0} (reached : Graph → ℕ → Bool) (given : Setting S) (
           record {
             goes = goes_there e c.goes;
             rest = c.rest;
-            taken = c.taken ∙ ap (λ (ls : List TraceLine). with_more before (text ls ++ c.rest)) (lines_alike e c.goes);
+            taken = c.taken ∙ ap (λ (ls : List TraceLine). with_more before (trace_bytes given.format ls ++ c.rest)) (lines_alike e c.goes);
             visits = subst (λ (n : ℕ). new ≤ old + n) (turns_alike e c.goes) c.visits;
           },
         )

@@ -34,6 +34,9 @@ mod LinkedSizes
 pub mod Ends
 mod Runs
 pub mod ElementClasses
+pub mod PoolWords
+pub mod ArrayWords
+pub mod ShortNames
 mod NamedMembers
 mod NamedWords
 mod NamedWays

@@ -37,7 +37,7 @@ use Rattle.et_linked.proofs.Flushing.{sound_left}
 use Rattle.et_io.specs.Sink.{with_more, TakesPrefix}
 use Rattle.et_loop.specs.declared.options.Ran.{Ran}
 use Rattle.et_loop.specs.Traced.{WritesTrace, WritesPrefix}
-use Rattle.et_text.specs.Spelling.{text}
+use Rattle.et_binary.specs.Formats.{trace_bytes}
 use Rattle.et_loop.specs.Kept.{IsKeptPart}
 use Rattle.et_loop.specs.Visits.{allowed_visits, IsCut}
 use Rattle.et_history.specs.Settings.{IsSoundRun, flush_visits_of, setting, unended_threads, flushed_of}
@@ -398,13 +398,13 @@ trace reached p options ran before after decides run are =
     let pick : ℕ → ℕ = pick_of options.schedule in (
       (λ w. record {
         ends = ends_there reached p options pick decides run are ran.event ran.end w.ends;
-        taken = w.taken ∙ ap (λ ls. with_more before (text ls)) (same_trace reached p options pick decides run are ran.event ran.end w.ends);
+        taken = w.taken ∙ ap (λ ls. with_more before (trace_bytes options.format ls)) (same_trace reached p options pick decides run are ran.event ran.end w.ends);
       }),
       (λ w.
           let last = ends_back reached p options pick decides run are ran.event ran.end w.ends in
           record {
             ends = last;
-            taken = w.taken ∙ ap (λ ls. with_more before (text ls)) (sym (same_trace reached p options pick decides run are ran.event ran.end last));
+            taken = w.taken ∙ ap (λ ls. with_more before (trace_bytes options.format ls)) (sym (same_trace reached p options pick decides run are ran.event ran.end last));
           }),
     )
 
@@ -414,9 +414,9 @@ prefix reached p options before after decides run are =
     let pick : ℕ → ℕ = pick_of options.schedule in (
       (λ w e end last.
           let back = ends_back reached p options pick decides run are e end last in
-          subst (λ ls. TakesPrefix before after (text ls)) (same_trace reached p options pick decides run are e end back) (w e end back)),
+          subst (λ ls. TakesPrefix before after (trace_bytes options.format ls)) (same_trace reached p options pick decides run are e end back) (w e end back)),
       (λ w e end last.
-          subst (λ ls. TakesPrefix before after (text ls)) (sym (same_trace reached p options pick decides run are e end last)) (w e end (ends_there reached p options pick decides run are e end last))),
+          subst (λ ls. TakesPrefix before after (trace_bytes options.format ls)) (sym (same_trace reached p options pick decides run are e end last)) (w e end (ends_there reached p options pick decides run are e end last))),
     )
 
 pub visits : (reached : Graph → ℕ → Bool) (p : Linked) (options : Options) (e : ℕ) (end : End) → Decides reached → IsSoundRun p (start p) → AreOptions options

@@ -41,6 +41,7 @@ impl<'a> Program for NamedProgram<'a> {
     ghost names = { names_of_program };
 
     fn class_name(&self, class: ClassId) -> &[u8] {
+        self.program.is_linked();
         self.program.class(class).name.as_slice()
     }
 
@@ -49,10 +50,12 @@ impl<'a> Program for NamedProgram<'a> {
     }
 
     fn method_name(&self, method: MethodId) -> &[u8] {
+        self.program.is_linked();
         self.program.method(method).name.as_slice()
     }
 
     fn method_descriptor(&self, method: MethodId) -> &[u8] {
+        self.program.is_linked();
         self.program.method(method).descriptor.as_slice()
     }
 }

@@ -11,7 +11,7 @@ use Rattle.et_base.specs.declared.line.TraceLine.{TraceLine}
 use Rattle.et_base.specs.declared.line.TraceLine.TheVariants.{Header, Class, Method, Alloc, Update, Enter, Exit, Unwind, Flush, Death, Finish}
 use Rattle.et_text.specs.Rules.{AreFine, IsGood, after, awaited, has_ended, interval, is_before, is_open, is_timely, keeps_order, latest, misses_no_flush, newest_flush, next_fault, order, standing_flush, stands_at}
 use Rattle.et_replay.specs.Curve.{curve_events, happens_at}
-use Rattle.et_traces.proofs.PoolTexts.{nothing, some_same}
+use Rattle.et_history.proofs.PoolWords.{nothing, some_same}
 
 -- the event of the line, if it has one, is at most this one
 abbrev IsBy : ℕ → TraceLine → Type 0

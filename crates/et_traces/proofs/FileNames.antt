@@ -27,7 +27,8 @@ use Rattle.et_linked.specs.Rules.{KeepsMethodRules}
 use Rattle.et_linked.proofs.Marks.{AreWell, well_before, well_behind, well_first, well_rest, along_each}
 use Rattle.et_linked.proofs.Places.{at_mapped}
 use Rattle.et_linked.proofs.PromisedFiles.{keeps_method_rules}
-use Rattle.et_traces.proofs.PoolTexts.{AreSmall, nothing, texts_small, classes_named}
+use Rattle.et_history.proofs.PoolWords.{nothing}
+use Rattle.et_traces.proofs.PoolTexts.{AreSmall, texts_small, classes_named}
 use Rattle.et_traces.proofs.ApartMethods.{HasKey, HasApartMethods, file_apart}
 
 -- a text of a pool

@@ -106,8 +106,8 @@ unlisted_stays (d ∷ ds) past o out h =
 -- A FLUSH UNDER WAY
 
 -- so many D lines are to follow, each of an object above this one
-pub record Flushing (names : Names) (every e next : ℕ) (live : ℕ → Type 0) (last : ℕ → ℕ) (m : Mentions) (left low : ℕ) (past : List TraceLine) : Type 0 where
-  pub fine : AreFine 1 past
+pub record Flushing (names : Names) (version every e next : ℕ) (live : ℕ → Type 0) (last : ℕ → ℕ) (m : Mentions) (left low : ℕ) (past : List TraceLine) : Type 0 where
+  pub fine : AreFine version past
   pub begun : has_begun past ≡ true
   pub unended : has_ended past ≡ false
   pub awaited_is : awaited past ≡ left
@@ -124,11 +124,11 @@ pub record Flushing (names : Names) (every e next : ℕ) (live : ℕ → Type 0)
   pub unreported : (o : ℕ) → low < o → live o → is_reported past o ≡ false
   pub births_within : (o : ℕ) → 0 < o → o < next → slice_index (births past) (o - 1) ≤ last o
 
-module _ (names : Names) (every e next : ℕ) (event_within : e ≤ 2 ^ 40) (live : ℕ → Type 0) (last : ℕ → ℕ) (m : Mentions) where
+module _ (names : Names) (version every e next : ℕ) (event_within : e ≤ 2 ^ 40) (live : ℕ → Type 0) (last : ℕ → ℕ) (m : Mentions) where
   abbrev Under : ℕ → ℕ → List TraceLine → Type 0
-  Under left low past = Flushing names every e next live last m left low past
+  Under left low past = Flushing names version every e next live last m left low past
 
-  flush_begins : (deaths : ℕ) (past : List TraceLine) → deaths < 2 ^ 24 → Stands names every e next live last m past → Under deaths 0 (Flush e deaths ∷ past)
+  flush_begins : (deaths : ℕ) (past : List TraceLine) → deaths < 2 ^ 24 → Stands names version every e next live last m past → Under deaths 0 (Flush e deaths ∷ past)
   flush_begins deaths past few h =
       let o = h.objects_are in
       record {
@@ -189,21 +189,21 @@ module _ (names : Names) (every e next : ℕ) (event_within : e ≤ 2 ^ 40) (liv
   all_die [] low high past h u = (low, u)
   all_die (d ∷ ds) low high past h u = all_die ds d.0 high (Death d.0 d.1 ∷ past) h.2 (dies (length ds) low d.0 d.1 past h.0 h.1 u)
 
-  pub flush_stands : (ds : List (ℕ × ℕ)) (high : ℕ) (past : List TraceLine) → Rises next e live last 0 ds high → high < next → Stands names every e next live last m past → (end : ℕ) × Under 0 end (behind past (flush_lines e ds))
+  pub flush_stands : (ds : List (ℕ × ℕ)) (high : ℕ) (past : List TraceLine) → Rises next e live last 0 ds high → high < next → Stands names version every e next live last m past → (end : ℕ) × Under 0 end (behind past (flush_lines e ds))
   flush_stands ds high past h lt s =
       let a = as_many next e live last 0 ds high h in
       let b = s.objects_are.few in
       all_die ds 0 high (Flush e (length ds) ∷ past) h (flush_begins (length ds) past (omega (arith, lt)) s)
 
   -- THE LAST LINE
-  pub finish_fine : (how end : ℕ) (past : List TraceLine) → how ≤ 3 → Under 0 end past → AreFine 1 (Finish e how ∷ past)
+  pub finish_fine : (how end : ℕ) (past : List TraceLine) → how ≤ 3 → Under 0 end past → AreFine version (Finish e how ∷ past)
   finish_fine how end past few h =
       let there : stands_at (standing_flush past) e ≡ true = subst (λ (x : Option ℕ). stands_at x e ≡ true) (sym h.standing) (eq-eqb e e refl) in
       (h.fine, (event_within, few), fault_free past (Finish e how) h.unended (both (eq-eqb (awaited past) 0 h.awaited_is) there) refl refl refl)
 
   -- BEHIND A FLUSH that was due
-  pub flush_done : (ds : List (ℕ × ℕ)) (end : ℕ) (past : List TraceLine) (here : ℕ → Bool) → is_flush_point every e ≡ true → ((o : ℕ) → here o ≡ true → lists ds o ≡ false) → Stands names every e next live last m past
-      → Under 0 end (behind past (flush_lines e ds)) → Stands names every (suc e) next (λ o. live o × (here o ≡ true)) last m (behind past (flush_lines e ds))
+  pub flush_done : (ds : List (ℕ × ℕ)) (end : ℕ) (past : List TraceLine) (here : ℕ → Bool) → is_flush_point every e ≡ true → ((o : ℕ) → here o ≡ true → lists ds o ≡ false) → Stands names version every e next live last m past
+      → Under 0 end (behind past (flush_lines e ds)) → Stands names version every (suc e) next (λ o. live o × (here o ≡ true)) last m (behind past (flush_lines e ds))
   flush_done ds end past here due unlisted s h =
       let now : List TraceLine = behind past (flush_lines e ds) in
       record {
@@ -272,8 +272,8 @@ still_before : (newest : Option ℕ) (e : ℕ) → is_before newest e ≡ true �
 still_before None e h = refl
 still_before (Some f) e h = lt-ltb f (suc e) (let lt = ltb-true f e h in omega arith)
 
-pub no_flush : (names : Names) (every e next : ℕ) (live : ℕ → Type 0) (last : ℕ → ℕ) (m : Mentions) (past : List TraceLine) → is_flush_point every e ≡ false → Stands names every e next live last m past → Stands names every (suc e) next live last m past
-no_flush names every e next live last m past out h = record {
+pub no_flush : (names : Names) (version every e next : ℕ) (live : ℕ → Type 0) (last : ℕ → ℕ) (m : Mentions) (past : List TraceLine) → is_flush_point every e ≡ false → Stands names version every e next live last m past → Stands names version every (suc e) next live last m past
+no_flush names version every e next live last m past out h = record {
   fine = h.fine;
   rests = h.rests;
   flows = record {
@@ -288,9 +288,9 @@ no_flush names every e next live last m past out h = record {
 }
 
 -- ANOTHER STATE: what may be named now may be named before, or was not made yet; and no object was reached last earlier
-pub carried : (names : Names) (every e next : ℕ) (live now : ℕ → Type 0) (last ahead : ℕ → ℕ) (m : Mentions) (past : List TraceLine) → ((o : ℕ) → now o → live o ⊎ (next ≤ o)) → ((o : ℕ) → 0 < o → o < next → last o ≤ ahead o)
-    → Stands names every e next live last m past → Stands names every e next now ahead m past
-carried names every e next live now last ahead m past were later h =
+pub carried : (names : Names) (version every e next : ℕ) (live now : ℕ → Type 0) (last ahead : ℕ → ℕ) (m : Mentions) (past : List TraceLine) → ((o : ℕ) → now o → live o ⊎ (next ≤ o)) → ((o : ℕ) → 0 < o → o < next → last o ≤ ahead o)
+    → Stands names version every e next live last m past → Stands names version every e next now ahead m past
+carried names version every e next live now last ahead m past were later h =
     let o = h.objects_are in
     record {
       fine = h.fine;

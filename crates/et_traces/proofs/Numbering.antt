@@ -9,13 +9,14 @@ use Rattle.std.proofs.lemmas.List.Sums.{passes_at_first}
 use Rattle.std.proofs.lemmas.Map.Keys.{IsDistinct-push}
 use Rattle.std.proofs.lemmas.Map.Steps.{length-le_from_distinct_below}
 use Rattle.et_state.specs.Naming.{Names, Mentions, number_in}
-use Rattle.et_traces.specs.Good.{AreNamesApart}
+use Rattle.et_traces.specs.Good.{AreNamesApart, AreNamesShort}
 
--- names that lines can tell: they are apart, and not too many
+-- names that lines can tell: they are apart and short, and not too many
 pub record AreTellable (names : Names) : Type 0 where
   pub few_classes : names.class_count < 2 ^ 32
   pub few_methods : names.method_count < 2 ^ 32
   pub apart : AreNamesApart names
+  pub short : AreNamesShort names
 
 -- LISTS OF NUMBERS
 

@@ -1,14 +1,12 @@
 -- The texts of a pool are bytes, and the names of its Class entries are not empty.
-use Rattle.std.proofs.Common.{◌≡◌, ℕ, zero, suc, ◌+◌, ◌<◌, ◌==◌, ◌&&◌, ◌||◌, nat_le, Bool, true, false, List, [], ◌∷◌, ◌++◌, length, Option, Some, None, refl, sym, subst, inl, inr, arith}
+use Rattle.std.proofs.Common.{◌≡◌, ℕ, ◌+◌, ◌<◌, ◌==◌, ◌&&◌, ◌||◌, nat_le, Bool, true, false, List, [], ◌∷◌, ◌++◌, length, Option, Some, None, refl, subst, inl, inr, arith}
 use Rattle.std.specs.Prelude.{All, if◌then◌else◌}
-use Rattle.std.specs.List.{flat_map, list_all, slice_index_or}
 use Rattle.std.proofs.lemmas.Bool.{and_parts, or_cases, leb-true, eqb-true, false≢true}
-use Rattle.std.proofs.lemmas.List.Elements.{All-nil, All-cons, All-head, All-tail, All-append}
+use Rattle.std.proofs.lemmas.List.Elements.{All-nil, All-cons}
 use Rattle.et_base.specs.Marks.{Mark, mark}
 use Rattle.et_pool.specs.declared.tags.TheConstants.{UTF8, CLASS}
-use Rattle.et_pool.specs.Entries.{Item, Text, Word, Wide, Name, Pair, Handle, slots_of_item, slots_of}
-use Rattle.et_pool.specs.Looks.{text_of_slot, utf8_at, tag_at, named_by, class_name_at, is_name, is_fit_slot, slot_bytes, end_of}
-use Rattle.et_pool.specs.Spelling.{IsEntry}
+use Rattle.et_pool.specs.Entries.{Item, Text, Word, Wide, Name, Pair, Handle}
+use Rattle.et_pool.specs.Looks.{utf8_at, tag_at, named_by, class_name_at, is_name, is_fit_slot, slot_bytes, end_of}
 use Rattle.et_pool.specs.Text.{is_modified, is_one_byte, is_more, is_two, is_three}
 use Rattle.et_class.specs.declared.fault.TheConstants.{POOL}
 use Rattle.et_class.specs.declared.flags.TheConstants.{INTERFACE}
@@ -18,6 +16,7 @@ use Rattle.et_class.specs.Names.{has}
 use Rattle.et_class.specs.Rules.{pool_marks, header_marks, members_marks, header_of, members_of}
 use Rattle.et_class.specs.Spelling.{ArePoolSlots}
 use Rattle.et_linked.proofs.Marks.{well_before, well_first, along_each}
+use Rattle.et_history.proofs.PoolWords.{AreTexts, each_at, nothing, pool_texts, some_same}
 
 abbrev pub AreSmall : List ℕ → Type 0
 AreSmall bytes = All (λ b. b < 256) bytes
@@ -27,20 +26,6 @@ no_more = All-nil (λ b. b < 256)
 
 pub and_more : (b : ℕ) (bytes : List ℕ) → b < 256 → AreSmall bytes → AreSmall (b ∷ bytes)
 and_more b bytes lt rest = All-cons (λ b. b < 256) b bytes lt rest
-
--- ELEMENTS
-
--- what holds of each element and of what stands at other places
-pub each_at : {X : Type 0} (P : X → Type 0) (xs : List X) (i : ℕ) (d : X) → P d → All P xs → P (slice_index_or xs i d)
-each_at P [] i d none h = none
-each_at P (x ∷ xs) zero d none h = All-head P x xs h
-each_at P (x ∷ xs) (suc i) d none h = each_at P xs i d none (All-tail P x xs h)
-
-pub each_passes : {X : Type 0} (t : X → Bool) (P : X → Type 0) → ((x : X) → t x ≡ true → P x) → (xs : List X) → list_all t xs ≡ true → All P xs
-each_passes t P says [] h = All-nil P
-each_passes t P says (x ∷ xs) h =
-    let parts = and_parts (t x) (list_all t xs) h in
-    All-cons P x xs (says x parts.0) (each_passes t P says xs parts.1)
 
 -- MODIFIED UTF-8 is bytes
 
@@ -96,49 +81,10 @@ modified_small (a ∷ b ∷ c ∷ bytes) h =
 
 -- THE TEXTS of a pool
 
-pub nothing : {X : Type 0} (x : X) → None ≡ Some x → ⊥
-nothing x e = cc
-
-pub some_same : {X : Type 0} (x y : X) → Some x ≡ Some y → x ≡ y
-some_same x y e = cc
-
-abbrev IsSmallSlot : Option Item → Type 0
-IsSmallSlot s = (name : List ℕ) → text_of_slot s ≡ Some name → AreSmall name
-
-no_text : IsSmallSlot None
-no_text name e = absurd (nothing name e)
-
-item_small : (e : Item) → IsEntry e → All IsSmallSlot (slots_of_item e)
-item_small (Text bytes) h = All-cons IsSmallSlot (Some (Text bytes)) [] (λ name e. subst AreSmall (some_same bytes name e) (modified_small bytes h.0)) (All-nil IsSmallSlot)
-item_small (Word tag bits) h = All-cons IsSmallSlot (Some (Word tag bits)) [] (λ name e. absurd (nothing name e)) (All-nil IsSmallSlot)
-item_small (Wide tag bits) h = All-cons IsSmallSlot (Some (Wide tag bits)) (None ∷ []) (λ name e. absurd (nothing name e)) (All-cons IsSmallSlot None [] no_text (All-nil IsSmallSlot))
-item_small (Name tag index) h = All-cons IsSmallSlot (Some (Name tag index)) [] (λ name e. absurd (nothing name e)) (All-nil IsSmallSlot)
-item_small (Pair tag first second) h = All-cons IsSmallSlot (Some (Pair tag first second)) [] (λ name e. absurd (nothing name e)) (All-nil IsSmallSlot)
-item_small (Handle kind index) h = All-cons IsSmallSlot (Some (Handle kind index)) [] (λ name e. absurd (nothing name e)) (All-nil IsSmallSlot)
-
-items_small : (items : List Item) → All IsEntry items → All IsSmallSlot (flat_map slots_of_item items)
-items_small [] h = All-nil IsSmallSlot
-items_small (e ∷ items) h = All-append IsSmallSlot (slots_of_item e) (flat_map slots_of_item items) (item_small e (All-head IsEntry e items h)) (items_small items (All-tail IsEntry e items h))
-
-pub texts_small : (slots : List (Option Item)) → ArePoolSlots slots → (i : ℕ) (name : List ℕ) → utf8_at slots i ≡ Some name → AreSmall name
-texts_small slots spelled i =
-    let all : All IsSmallSlot (slots_of spelled.entries) = All-cons IsSmallSlot None (flat_map slots_of_item spelled.entries) no_text (items_small spelled.entries spelled.are_entries) in
-    each_at IsSmallSlot slots i None no_text (subst (λ (ss : List (Option Item)). All IsSmallSlot ss) (sym spelled.slots_are) all)
+pub texts_small : (slots : List (Option Item)) → ArePoolSlots slots → AreTexts AreSmall slots
+texts_small = pool_texts AreSmall (λ bytes h. modified_small bytes h.0)
 
 -- THE NAMES of Class entries
-
-pub named_small : (slots : List (Option Item)) → ((i : ℕ) (name : List ℕ) → utf8_at slots i ≡ Some name → AreSmall name) → (s : Option Item) (name : List ℕ) → named_by slots CLASS s ≡ Some name → AreSmall name
-named_small slots small None name e = absurd (nothing name e)
-named_small slots small (Some (Text bytes)) name e = absurd (nothing name e)
-named_small slots small (Some (Word tag bits)) name e = absurd (nothing name e)
-named_small slots small (Some (Wide tag bits)) name e = absurd (nothing name e)
-named_small slots small (Some (Name tag index)) name e = by (tag == CLASS) e
-  where
-    by : (b : Bool) → (if b then utf8_at slots index else None) ≡ Some name → AreSmall name
-    by true k = small index name k
-    by false k = absurd (nothing name k)
-named_small slots small (Some (Pair tag first second)) name e = absurd (nothing name e)
-named_small slots small (Some (Handle kind index)) name e = absurd (nothing name e)
 
 name_some : (o : Option (List ℕ)) (name : List ℕ) → is_name o ≡ true → o ≡ Some name → 0 < length name
 name_some None name h e = absurd (nothing name e)

@@ -24,7 +24,8 @@ use Rattle.et_linked.proofs.ArrayNames.{all_names}
 use Rattle.et_linked.proofs.Classes.{array_in, length_all}
 use Rattle.et_linked.proofs.Lists.{all_numbered}
 use Rattle.et_linked.proofs.Making.{class_in}
-use Rattle.et_traces.proofs.PoolTexts.{each_passes, named_small}
+use Rattle.et_history.proofs.PoolWords.{class_texts, each_passes}
+use Rattle.et_traces.proofs.PoolTexts.{AreSmall}
 use Rattle.et_traces.proofs.FileNames.{HasMemberTexts, HasTexts}
 use Rattle.et_traces.proofs.ArrayTexts.{arrays_small}
 
@@ -89,7 +90,7 @@ plain_text None h text = absurd (false≢true h)
 plain_text (Some name) h text = text name refl
 
 file_named : (c : LoadedClass) → HasTexts c → HasClassName c → IsNamedOutline (file_outline c)
-file_named c texts named = plain_text (class_name_at c.pool.slots c.this) named (λ name e. (texts.classes c.this name e, named_small c.pool.slots texts.small (slot_at c.pool.slots c.this) name e))
+file_named c texts named = plain_text (class_name_at c.pool.slots c.this) named (λ name e. (texts.classes c.this name e, class_texts AreSmall c.pool.slots texts.small (slot_at c.pool.slots c.this) name e))
 
 set_named : (files : List LoadedClass) → All HasTexts files → All HasClassName files → All IsNamedOutline (set_of files)
 set_named files texts named =

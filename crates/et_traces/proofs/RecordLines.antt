@@ -39,9 +39,9 @@ module _ (names : Names) (e : ℕ) (live : ℕ → Type 0) (last : ℕ → ℕ) 
   AreTold next [] end = next ≡ end
   AreTold next (r ∷ rs) end = MayBe e live last next r × naming.IsNamed names r × AreTold (next_after next r) rs end
 
-module _ (names : Names) (fit : AreTellable names) (every e : ℕ) (within : e ≤ 2 ^ 40) (live : ℕ → Type 0) (last : ℕ → ℕ) where
+module _ (names : Names) (fit : AreTellable names) (version every e : ℕ) (within : e ≤ 2 ^ 40) (live : ℕ → Type 0) (last : ℕ → ℕ) where
   abbrev At : ℕ → Mentions → List TraceLine → Type 0
-  At next m past = Stands names every e next live last m past
+  At next m past = Stands names version every e next live last m past
 
   -- the C and N lines of a record of a method
   mentioned : (next k : ℕ) (m : Mentions) (past : List TraceLine) → names.method_class k < names.class_count → k < names.method_count → At next m past
@@ -49,29 +49,29 @@ module _ (names : Names) (fit : AreTellable names) (every e : ℕ) (within : e �
       (behind (behind past (flat_map (class_line names m.classes) (names.method_class k ∷ []))) (flat_map (method_line names (with_new m.classes (names.method_class k)) m.methods) (k ∷ [])))
   mentioned next k m past owner inside h =
       let c : ℕ = names.method_class k in
-      stands_method names fit every e within live last next k (record { classes = with_new m.classes c; methods = m.methods }) (behind past (flat_map (class_line names m.classes) (c ∷ []))) inside (in_now m.classes c)
-      (stands_class names fit every e within live last next c m past owner h)
+      stands_method names fit version every e within live last next k (record { classes = with_new m.classes c; methods = m.methods }) (behind past (flat_map (class_line names m.classes) (c ∷ []))) inside (in_now m.classes c)
+      (stands_class names fit version every e within live last next c m past owner h)
 
   record_stands : (next : ℕ) (r : Record) (m : Mentions) (past : List TraceLine) → MayBe e live last next r → naming.IsNamed names r → At next m past → At (next_after next r) (with_mentions names m r) (behind past (record_lines names m r))
   record_stands next (Alloc event thread object class size elements) m past may named h =
       let now : Mentions = record { classes = with_new m.classes class; methods = m.methods } in
       let cs : List TraceLine = flat_map (class_line names m.classes) (class ∷ []) in
       let l : TraceLine = line.Alloc event thread object (number_in now.classes class) size elements in
-      let a = stands_class names fit every e within live last next class m past (named.classes 0 0 (omega arith)) h in
+      let a = stands_class names fit version every e within live last next class m past (named.classes 0 0 (omega arith)) h in
       let b : At (next + 1) now (line.Alloc e thread next (number_in now.classes class) size elements ∷ behind past cs) =
-      stands_alloc names fit every e within live last next thread class size elements now (behind past cs) may.1 may.3 may.4 may.5 may.6 may.7 (in_now m.classes class) a in
+      stands_alloc names fit version every e within live last next thread class size elements now (behind past cs) may.1 may.3 may.4 may.5 may.6 may.7 (in_now m.classes class) a in
       subst (λ (p : List TraceLine). At (next + 1) now p) (sym (behind_three past cs [] l))
       (subst (λ (o : ℕ). At (next + 1) now (line.Alloc event thread o (number_in now.classes class) size elements ∷ behind past cs)) (sym may.2)
       (subst (λ (v : ℕ). At (next + 1) now (line.Alloc v thread next (number_in now.classes class) size elements ∷ behind past cs)) (sym may.0) b))
   record_stands next (Update event thread object slot old new) m past may named h =
       subst (λ (v : ℕ). At next m (line.Update v thread object slot old new ∷ past)) (sym may.0)
-      (stands_update names fit every e within live last next thread object slot old new m past may.1 may.2 may.3 may.4 may.5 h)
+      (stands_update names fit version every e within live last next thread object slot old new m past may.1 may.2 may.3 may.4 may.5 h)
   record_stands next (Enter event thread method receiver) m past may named h =
       let now : Mentions = record { classes = with_new m.classes (names.method_class method); methods = with_new m.methods method } in
       let cs : List TraceLine = flat_map (class_line names m.classes) (names.method_class method ∷ []) in
       let ms : List TraceLine = flat_map (method_line names now.classes m.methods) (method ∷ []) in
       let a : At next now (behind (behind past cs) ms) = mentioned next method m past (named.classes 0 0 (omega arith)) (named.methods 0 0 (omega arith)) h in
-      let b = stands_enter names fit every e within live last next thread method receiver now (behind (behind past cs) ms) may.1 (in_now m.methods method) may.2 a in
+      let b = stands_enter names fit version every e within live last next thread method receiver now (behind (behind past cs) ms) may.1 (in_now m.methods method) may.2 a in
       subst (λ (p : List TraceLine). At next now p) (sym (behind_three past cs ms (line.Enter event thread (number_in now.methods method) receiver)))
       (subst (λ (v : ℕ). At next now (line.Enter v thread (number_in now.methods method) receiver ∷ behind (behind past cs) ms)) (sym may.0) b)
   record_stands next (Exit event thread method) m past may named h =
@@ -79,7 +79,7 @@ module _ (names : Names) (fit : AreTellable names) (every e : ℕ) (within : e �
       let cs : List TraceLine = flat_map (class_line names m.classes) (names.method_class method ∷ []) in
       let ms : List TraceLine = flat_map (method_line names now.classes m.methods) (method ∷ []) in
       let a : At next now (behind (behind past cs) ms) = mentioned next method m past (named.classes 0 0 (omega arith)) (named.methods 0 0 (omega arith)) h in
-      let b = stands_exit names fit every e within live last next thread method now (behind (behind past cs) ms) may.1 (in_now m.methods method) a in
+      let b = stands_exit names fit version every e within live last next thread method now (behind (behind past cs) ms) may.1 (in_now m.methods method) a in
       subst (λ (p : List TraceLine). At next now p) (sym (behind_three past cs ms (line.Exit event thread (number_in now.methods method))))
       (subst (λ (v : ℕ). At next now (line.Exit v thread (number_in now.methods method) ∷ behind (behind past cs) ms)) (sym may.0) b)
   record_stands next (Unwind event thread method exception) m past may named h =
@@ -87,7 +87,7 @@ module _ (names : Names) (fit : AreTellable names) (every e : ℕ) (within : e �
       let cs : List TraceLine = flat_map (class_line names m.classes) (names.method_class method ∷ []) in
       let ms : List TraceLine = flat_map (method_line names now.classes m.methods) (method ∷ []) in
       let a : At next now (behind (behind past cs) ms) = mentioned next method m past (named.classes 0 0 (omega arith)) (named.methods 0 0 (omega arith)) h in
-      let b = stands_unwind names fit every e within live last next thread method exception now (behind (behind past cs) ms) may.1 (in_now m.methods method) may.2 (may.3, may.4) a in
+      let b = stands_unwind names fit version every e within live last next thread method exception now (behind (behind past cs) ms) may.1 (in_now m.methods method) may.2 (may.3, may.4) a in
       subst (λ (p : List TraceLine). At next now p) (sym (behind_three past cs ms (line.Unwind event thread (number_in now.methods method) exception)))
       (subst (λ (v : ℕ). At next now (line.Unwind v thread (number_in now.methods method) exception ∷ behind (behind past cs) ms)) (sym may.0) b)
 

@@ -44,8 +44,8 @@ pub record AreObjects (next : ℕ) (live : ℕ → Type 0) (last : ℕ → ℕ) 
   pub reported_made : (o : ℕ) → reported o ≡ true → o < next
   pub births_within : (o : ℕ) → 0 < o → o < next → slice_index births (o - 1) ≤ last o
 
-pub record Stands (names : Names) (every e next : ℕ) (live : ℕ → Type 0) (last : ℕ → ℕ) (m : Mentions) (past : List TraceLine) : Type 0 where
-  pub fine : AreFine 1 past
+pub record Stands (names : Names) (version every e next : ℕ) (live : ℕ → Type 0) (last : ℕ → ℕ) (m : Mentions) (past : List TraceLine) : Type 0 where
+  pub fine : AreFine version past
   pub rests : Rests past
   pub flows : Flows every e (interval past) (latest past) (newest_flush past)
   pub named : AreNamed names m (classes past) (methods past) (λ name. has_class past name) (λ c name descriptor. has_method past c name descriptor)
@@ -100,9 +100,9 @@ module _ (next : ℕ) (live : ℕ → Type 0) (last : ℕ → ℕ) (bs : List �
   named_range o (inr some) = let a = some.0 in let b = h.few in omega arith
 
 -- A LINE MORE
-module _ (names : Names) (fit : AreTellable names) (every e : ℕ) (within : e ≤ 2 ^ 40) (live : ℕ → Type 0) (last : ℕ → ℕ) where
+module _ (names : Names) (fit : AreTellable names) (version every e : ℕ) (within : e ≤ 2 ^ 40) (live : ℕ → Type 0) (last : ℕ → ℕ) where
   abbrev pub At : ℕ → Mentions → List TraceLine → Type 0
-  At next m past = Stands names every e next live last m past
+  At next m past = Stands names version every e next live last m past
 
   -- a class that a record mentions
   pub stands_class : (next c : ℕ) (m : Mentions) (past : List TraceLine) → c < names.class_count → At next m past
@@ -119,7 +119,7 @@ module _ (names : Names) (fit : AreTellable names) (every e : ℕ) (within : e �
           let none : has_class past (names.class_name c) ≡ false = class_is_new names fit m _ _ _ _ n c inside new in
           let free : next_fault past l ≡ None = fault_free past l h.rests.1 (both (open_is every e past h.rests h.flows) number) refl refl (negates (has_class past (names.class_name c)) none) in
           record {
-            fine = (h.fine, (class_in_range names fit m _ _ _ _ n c inside new, fit.apart.class_texts c inside, λ e. absurd (omega arith)), free);
+            fine = (h.fine, (class_in_range names fit m _ _ _ _ n c inside new, fit.apart.class_texts c inside, λ is. fit.short.class_names c inside), free);
             rests = (refl, refl, refl);
             flows = h.flows;
             named = named_class names fit m _ _ _ _ n c inside new;
@@ -144,7 +144,7 @@ module _ (names : Names) (fit : AreTellable names) (every e : ℕ) (within : e �
           let none : has_method past c (names.method_name k) (names.method_descriptor k) ≡ false = method_is_new names fit m _ _ _ _ n k inside new owner in
           let free : next_fault past l ≡ None = fault_free past l h.rests.1 (both (open_is every e past h.rests h.flows) number) known refl (negates (has_method past c (names.method_name k) (names.method_descriptor k)) none) in
           record {
-            fine = (h.fine, (method_in_range names fit m _ _ _ _ n k inside new owner, class_number names fit m _ _ _ _ n (names.method_class k) owner, fit.apart.method_texts k inside, fit.apart.descriptor_texts k inside, λ e. absurd (omega arith), λ e. absurd (omega arith)), free);
+            fine = (h.fine, (method_in_range names fit m _ _ _ _ n k inside new owner, class_number names fit m _ _ _ _ n (names.method_class k) owner, fit.apart.method_texts k inside, fit.apart.descriptor_texts k inside, λ is. fit.short.method_names k inside, λ is. fit.short.descriptors k inside), free);
             rests = (refl, refl, refl);
             flows = h.flows;
             named = named_method names fit m _ _ _ _ n k inside new owner;

@@ -34,6 +34,7 @@ use Rattle.et_linked.proofs.Flushing.{sound_left}
 use Rattle.et_event.specs.Event.{event}
 use Rattle.et_event.specs.Sound.{IsSoundFor}
 use Rattle.et_event.specs.Start.{start_records}
+use Rattle.et_text.specs.Ranges.{header_version}
 use Rattle.et_text.specs.Rules.{AreFine, IsGood, has_ended, misses_no_flush}
 use Rattle.et_history.specs.Allocations.{next_number}
 use Rattle.et_history.specs.Changing.{KeepsMonitors}
@@ -43,7 +44,7 @@ use Rattle.et_history.specs.Same.{TellsTheSame}
 use Rattle.et_history.specs.Settings.{IsSoundRun, names_of_program, unended_threads}
 use Rattle.et_history.specs.Whole.{beside, whole_flushed, whole_start}
 use Rattle.et_history.proofs.Unended.{unended_thread}
-use Rattle.et_traces.specs.Good.{AreNamesApart, NamesOnly}
+use Rattle.et_traces.specs.Good.{AreNamesApart, AreNamesShort, NamesOnly}
 use Rattle.et_traces.proofs.Numbering.{AreTellable}
 use Rattle.et_traces.proofs.Standing.{behind, behind_both, Stands}
 use Rattle.et_traces.proofs.Lengths.{ArePlain, after, event_plain, flush_plain, start_plain}
@@ -114,38 +115,42 @@ unfolding IsDistinct
 none_twice = tt
 
 -- AN EVENT
-module _ (p : Linked) (fit : AreTellable (names_of_program p)) (every e : ℕ) (within : e ≤ 2 ^ 40) (t : State) (thread : ℕ) (few_threads : thread < 64) (few_statics : length p.statics < 2 ^ 28)
+module _ (p : Linked) (fit : AreTellable (names_of_program p)) (version every e : ℕ) (within : e ≤ 2 ^ 40) (t : State) (thread : ℕ) (few_threads : thread < 64) (few_statics : length p.statics < 2 ^ 28)
     (last ahead : ℕ → ℕ) (m : Mentions) (past : List TraceLine) (clock : t.kept.guest.clock + 1 ≡ e) (later : (o : ℕ) → 0 < o → o < next_number t → last o ≤ ahead o) where
   abbrev HeldIn : State → ℕ → Type 0
   HeldIn s o = IsHeld s.kept.heap o
 
   pub event_stands : (x : Outcome Kept) → end_by thread (beside t.reported x) ≡ None → TellsObjects p t.kept thread x → KeepsMonitors (record { program = p; before = t.kept; thread = thread }) x → NamesOnly (names_of_program p) x
       → IsSoundFor p (after t x).kept → ArePlain p (after t x).kept.heap → ((o : ℕ) → next_number t ≤ o → o < next_number (after t x) → e ≤ ahead o)
-      → Stands (names_of_program p) every e (next_number t) (HeldIn t) last m past
-      → Stands (names_of_program p) every e (next_number (after t x)) (HeldIn (after t x)) ahead (mentions_after (names_of_program p) m (records_of (beside t.reported x))) (behind past (lines_of (names_of_program p) m (records_of (beside t.reported x))))
+      → Stands (names_of_program p) version every e (next_number t) (HeldIn t) last m past
+      → Stands (names_of_program p) version every e (next_number (after t x)) (HeldIn (after t x)) ahead (mentions_after (names_of_program p) m (records_of (beside t.reported x))) (behind past (lines_of (names_of_program p) m (records_of (beside t.reported x))))
   event_stands (outcome.Goes next records) goes tells keeps named sound plain born h =
       let are : AreRecordsOf p e thread next.heap (next_number t) records (length next.heap) = subst (λ (c : ℕ). AreRecordsOf p c thread next.heap (next_number t) records (length next.heap)) clock tells.tells in
       let told : AreTold (names_of_program p) e (λ o. IsHeld next.heap o) ahead (next_number t) records (length next.heap) =
       records_told (names_of_program p) p e thread next (next_number t) ahead sound few_threads few_statics plain born (next_number t) (length next.heap) records (omega arith) are named in
-      let begun : Stands (names_of_program p) every e (next_number t) (λ o. IsHeld next.heap o) ahead m past =
-      carried (names_of_program p) every e (next_number t) (HeldIn t) (λ o. IsHeld next.heap o) last ahead m past (λ o held. elim (keeps.changes.fresh o held) [ inl was ↦ inl was | inr new ↦ inr new.0 ]) later h in
-      records_stand (names_of_program p) fit every e within (λ o. IsHeld next.heap o) ahead (next_number t) (length next.heap) records m past told begun
+      let begun : Stands (names_of_program p) version every e (next_number t) (λ o. IsHeld next.heap o) ahead m past =
+      carried (names_of_program p) version every e (next_number t) (HeldIn t) (λ o. IsHeld next.heap o) last ahead m past (λ o held. elim (keeps.changes.fresh o held) [ inl was ↦ inl was | inr new ↦ inr new.0 ]) later h in
+      records_stand (names_of_program p) fit version every e within (λ o. IsHeld next.heap o) ahead (next_number t) (length next.heap) records m past told begun
   event_stands (outcome.Waits next) goes tells keeps named sound plain born h =
-      subst (λ (heap : Objects). Stands (names_of_program p) every e (length heap) (λ o. IsHeld heap o) ahead m past) (sym tells)
-      (carried (names_of_program p) every e (next_number t) (HeldIn t) (HeldIn t) last ahead m past (λ o held. inl held) later h)
+      subst (λ (heap : Objects). Stands (names_of_program p) version every e (length heap) (λ o. IsHeld heap o) ahead m past) (sym tells)
+      (carried (names_of_program p) version every e (next_number t) (HeldIn t) (HeldIn t) last ahead m past (λ o held. inl held) later h)
   event_stands (outcome.IllTyped method pc) goes tells keeps named sound plain born h = absurd (let none : Some (ends.IllTyped thread method pc) ≡ None = goes in cc)
   event_stands outcome.ObjectLimit goes tells keeps named sound plain born h = absurd (let none : Some ends.ObjectLimit ≡ None = goes in cc)
 
 -- THE HISTORY, with what the laws say of its events and states
 module _ (reached : Graph → ℕ → Bool) (p : Linked) (options : Options) (pick : ℕ → ℕ) (decides : Decides reached) (run : IsSoundRun p (start p)) (are : AreOptions options)
-    (apart : AreNamesApart (names_of_program p)) (few_statics : length p.statics < 2 ^ 28)
+    (apart : AreNamesApart (names_of_program p)) (short : AreNamesShort (names_of_program p)) (few_statics : length p.statics < 2 ^ 28)
     (tells : (s : Kept) (t : ℕ) → IsSoundFor p s → IsUnended s.guest t → TellsObjects p s t (event p s t))
     (keeps : (s : Kept) (t : ℕ) → IsSoundFor p s → IsUnended s.guest t → KeepsMonitors (record { program = p; before = s; thread = t }) (event p s t))
     (named : (s : Kept) (t : ℕ) → IsSoundFor p s → NamesOnly (names_of_program p) (event p s t))
     (same : (e : ℕ) → ((k : ℕ) → k < e → HistoryGoesOn reached p options pick k) → TellsTheSame reached p options pick e)
     (reached_as_made : (e o : ℕ) → WholeGoesOn reached p options pick e → (graph (whole_at reached p options pick e)).made < o → o ≤ (graph (whole_at reached p options pick (e + 1))).made → reached (graph (whole_at reached p options pick (e + 1))) o ≡ true) where
+  -- the version that the header says
+  abbrev version : ℕ
+  version = header_version options.format
+
   fit : AreTellable (names_of_program p)
-  fit = record { few_classes = run.tabled.few_classes; few_methods = run.tabled.few_methods; apart = apart }
+  fit = record { few_classes = run.tabled.few_classes; few_methods = run.tabled.few_methods; apart = apart; short = short }
 
   abbrev now : ℕ → State
   now e = whole_at reached p options pick e
@@ -207,7 +212,7 @@ module _ (reached : Graph → ℕ → Bool) (p : Linked) (options : Options) (pi
 
   -- THE INVARIANT
   abbrev Good : ℕ → Type 0
-  Good e = Stands (names_of_program p) options.interval e (next_number (now e)) (λ o. IsHeld (now e).kept.heap o) (last e) (mentions e) (behind [] (lines e))
+  Good e = Stands (names_of_program p) version options.interval e (next_number (now e)) (λ o. IsHeld (now e).kept.heap o) (last e) (mentions e) (behind [] (lines e))
 
   step_within : (b : Bool) (e l : ℕ) → l ≤ e → (if b then suc e else l) ≤ suc e
   step_within true e l le = omega arith
@@ -251,30 +256,30 @@ module _ (reached : Graph → ℕ → Bool) (p : Linked) (options : Options) (pi
   positive_next : (e : ℕ) → Goes e → 0 < next_number (now e)
   positive_next e g = (same e g.kept).sound.held.room
 
-  flush_at : (e : ℕ) → e ≤ 2 ^ 40 → Goes e → Good e → (end : ℕ) × Flushing (names_of_program p) options.interval e (next_number (now e)) (λ o. IsHeld (now e).kept.heap o) (last e) (mentions e) 0 end (behind (behind [] (lines e)) (flush_lines e (dead e)))
+  flush_at : (e : ℕ) → e ≤ 2 ^ 40 → Goes e → Good e → (end : ℕ) × Flushing (names_of_program p) version options.interval e (next_number (now e)) (λ o. IsHeld (now e).kept.heap o) (last e) (mentions e) 0 end (behind (behind [] (lines e)) (flush_lines e (dead e)))
   flush_at e within g h =
-      flush_stands (names_of_program p) options.interval e (next_number (now e)) within (λ o. IsHeld (now e).kept.heap o) (last e) (mentions e) (dead e) (graph (now e)).made (behind [] (lines e)) (dead_rise e g)
+      flush_stands (names_of_program p) version options.interval e (next_number (now e)) within (λ o. IsHeld (now e).kept.heap o) (last e) (mentions e) (dead e) (graph (now e)).made (behind [] (lines e)) (dead_rise e g)
       (let some = positive_next e g in omega arith) h
 
   settles : (e : ℕ) → e ≤ 2 ^ 40 → Goes e → Good e → (b : Bool) → is_flush_point options.interval e ≡ b
-      → Stands (names_of_program p) options.interval (suc e) (next_number (settled_by e b)) (λ o. IsHeld (settled_by e b).kept.heap o) (last e) (mentions e) (behind [] (lines e ++ (if b then flush_lines e (dead e) else [])))
+      → Stands (names_of_program p) version options.interval (suc e) (next_number (settled_by e b)) (λ o. IsHeld (settled_by e b).kept.heap o) (last e) (mentions e) (behind [] (lines e ++ (if b then flush_lines e (dead e) else [])))
   settles e within g h false out =
-      subst (λ (ls : List TraceLine). Stands (names_of_program p) options.interval (suc e) (next_number (now e)) (λ o. IsHeld (now e).kept.heap o) (last e) (mentions e) ls) (sym (behind_both [] (lines e) []))
-      (no_flush (names_of_program p) options.interval e (next_number (now e)) (λ o. IsHeld (now e).kept.heap o) (last e) (mentions e) (behind [] (lines e)) out h)
+      subst (λ (ls : List TraceLine). Stands (names_of_program p) version options.interval (suc e) (next_number (now e)) (λ o. IsHeld (now e).kept.heap o) (last e) (mentions e) ls) (sym (behind_both [] (lines e) []))
+      (no_flush (names_of_program p) version options.interval e (next_number (now e)) (λ o. IsHeld (now e).kept.heap o) (last e) (mentions e) (behind [] (lines e)) out h)
   settles e within g h true due =
       let here : ℕ → Bool = reached (graph (now e)) in
       let heap : Objects = (now e).kept.heap in
       let past : List TraceLine = behind (behind [] (lines e)) (flush_lines e (dead e)) in
       let f = flush_at e within g h in
-      let done : Stands (names_of_program p) options.interval (suc e) (next_number (now e)) (λ o. IsHeld heap o × (here o ≡ true)) (last e) (mentions e) past =
-      flush_done (names_of_program p) options.interval e (next_number (now e)) within (λ o. IsHeld heap o) (last e) (mentions e) (dead e) f.0 (behind [] (lines e)) here due
+      let done : Stands (names_of_program p) version options.interval (suc e) (next_number (now e)) (λ o. IsHeld heap o × (here o ≡ true)) (last e) (mentions e) past =
+      flush_done (names_of_program p) version options.interval e (next_number (now e)) within (λ o. IsHeld heap o) (last e) (mentions e) (dead e) f.0 (behind [] (lines e)) here due
       (λ o alive. alive_is_unlisted here (is_gone (graph (now e))) (last e) (graph (now e)).made o alive) h f.1 in
-      let left : Stands (names_of_program p) options.interval (suc e) (next_number (now e)) (λ o. IsHeld (remaining here 0 heap) o) (last e) (mentions e) past =
-      carried (names_of_program p) options.interval (suc e) (next_number (now e)) (λ o. IsHeld heap o × (here o ≡ true)) (λ o. IsHeld (remaining here 0 heap) o) (last e) (last e) (mentions e) past
+      let left : Stands (names_of_program p) version options.interval (suc e) (next_number (now e)) (λ o. IsHeld (remaining here 0 heap) o) (last e) (mentions e) past =
+      carried (names_of_program p) version options.interval (suc e) (next_number (now e)) (λ o. IsHeld heap o × (here o ≡ true)) (λ o. IsHeld (remaining here 0 heap) o) (last e) (last e) (mentions e) past
       (λ o held. inl (let was = remaining_held here 0 heap o held in (was.0, subst (λ (k : ℕ). here k ≡ true) (let none : 0 + o ≡ o = omega arith in none) was.1)))
       (λ o some lt. omega arith) done in
-      subst (λ (n : ℕ). Stands (names_of_program p) options.interval (suc e) n (λ o. IsHeld (remaining here 0 heap) o) (last e) (mentions e) (behind [] (lines e ++ flush_lines e (dead e)))) (sym (next_by e true))
-      (subst (λ (ls : List TraceLine). Stands (names_of_program p) options.interval (suc e) (next_number (now e)) (λ o. IsHeld (remaining here 0 heap) o) (last e) (mentions e) ls) (sym (behind_both [] (lines e) (flush_lines e (dead e)))) left)
+      subst (λ (n : ℕ). Stands (names_of_program p) version options.interval (suc e) n (λ o. IsHeld (remaining here 0 heap) o) (last e) (mentions e) (behind [] (lines e ++ flush_lines e (dead e)))) (sym (next_by e true))
+      (subst (λ (ls : List TraceLine). Stands (names_of_program p) version options.interval (suc e) (next_number (now e)) (λ o. IsHeld (remaining here 0 heap) o) (last e) (mentions e) ls) (sym (behind_both [] (lines e) (flush_lines e (dead e)))) left)
 
   made_next : (e o : ℕ) → WholeGoesOn reached p options pick e → 0 < next_number (now e) → next_number (now e) ≤ o → o < next_number (now (suc e)) → reached (graph (now (suc e))) o ≡ true
   made_next e o goes some le lt =
@@ -324,9 +329,9 @@ module _ (reached : Graph → ℕ → Bool) (p : Linked) (options : Options) (pi
       let plain_next : ArePlain p (after t (step e)).kept.heap = subst (λ (s : State). ArePlain p s.kept.heap) is_next (all_plain (suc e) g) in
       let born : (o : ℕ) → next_number t ≤ o → o < next_number (after t (step e)) → suc e ≤ last (suc e) o = λ o le lt.
       last_now e o (made_next e o (g.whole e (omega arith)) (positive_next e before) (omega (arith, le, len)) (let same_length : next_number (now (suc e)) ≡ next_number (after t (step e)) = ap (λ (s : State). next_number s) is_next in omega (arith, lt))) in
-      let done = event_stands p fit options.interval (suc e) within t k few few_statics (last e) (last (suc e)) (mentions e) past clock (λ o some lt. last_later e o) (step e) on.done (tells t.kept k sound unended) (keeps t.kept k sound unended) (named t.kept k sound) sound_next plain_next born mid in
-      subst (λ (s : State). Stands (names_of_program p) options.interval (suc e) (next_number s) (λ o. IsHeld s.kept.heap o) (last (suc e)) (mentions (suc e)) (behind [] (lines (suc e)))) (sym is_next)
-      (subst (λ (ls : List TraceLine). Stands (names_of_program p) options.interval (suc e) (next_number (after t (step e))) (λ o. IsHeld (after t (step e)).kept.heap o) (last (suc e)) (mentions (suc e)) ls)
+      let done = event_stands p fit version options.interval (suc e) within t k few few_statics (last e) (last (suc e)) (mentions e) past clock (λ o some lt. last_later e o) (step e) on.done (tells t.kept k sound unended) (keeps t.kept k sound unended) (named t.kept k sound) sound_next plain_next born mid in
+      subst (λ (s : State). Stands (names_of_program p) version options.interval (suc e) (next_number s) (λ o. IsHeld s.kept.heap o) (last (suc e)) (mentions (suc e)) (behind [] (lines (suc e)))) (sym is_next)
+      (subst (λ (ls : List TraceLine). Stands (names_of_program p) version options.interval (suc e) (next_number (after t (step e))) (λ o. IsHeld (after t (step e)).kept.heap o) (last (suc e)) (mentions (suc e)) ls)
       (sym (behind_both [] (lines e ++ (if b then flush_lines e (dead e) else [])) more)) done)
 
   -- THE FIRST EVENT
@@ -335,7 +340,7 @@ module _ (reached : Graph → ℕ → Bool) (p : Linked) (options : Options) (pi
   first_stands =
       let names : Names = names_of_program p in
       let live : ℕ → Type 0 = λ o. IsHeld (start p).heap o in
-      let begun : Stands names options.interval 0 1 live (last 0) nothing_mentioned (Header 1 options.interval ∷ []) = record {
+      let begun : Stands names version options.interval 0 1 live (last 0) nothing_mentioned (Header version options.interval ∷ []) = record {
         fine = (tt, (refl, are.interval), refl);
         rests = (refl, refl, refl);
         flows = record { interval_is = refl; latest_within = omega arith; later = refl; not_final = refl; none_missing = none_missing options.interval };
@@ -361,7 +366,7 @@ module _ (reached : Graph → ℕ → Bool) (p : Linked) (options : Options) (pi
       } in
       let class : argument_class p < length p.classes = (run.state.objects 1 _ refl).0.class in
       let told : AreTold names 0 live (last 0) 1 (start_records p) 2 = ((refl, omega arith, refl, omega arith, omega arith, omega arith, omega arith, omega arith), record { classes = one_class class; methods = no_methods }, refl) in
-      records_stand names fit options.interval 0 (omega arith) live (last 0) 1 2 (start_records p) nothing_mentioned (Header 1 options.interval ∷ []) told begun
+      records_stand names fit version options.interval 0 (omega arith) live (last 0) 1 2 (start_records p) nothing_mentioned (Header version options.interval ∷ []) told begun
     where
       or_second : (a b : Bool) → b ≡ true → (a || b) ≡ true
       or_second true b e = refl
@@ -389,14 +394,14 @@ module _ (reached : Graph → ℕ → Bool) (p : Linked) (options : Options) (pi
   how_within (ends.IllTyped thread method pc) = omega arith
   how_within ends.ObjectLimit = omega arith
 
-  pub trace_is_good : (e : ℕ) (end : End) → ((k : ℕ) → k < e → HistoryGoesOn reached p options pick k) → ((k : ℕ) → k < e → WholeGoesOn reached p options pick k) → IsGood 1 (trace_of reached (whole_picked p options pick) (whole_start p) (start_records p) e end)
+  pub trace_is_good : (e : ℕ) (end : End) → ((k : ℕ) → k < e → HistoryGoesOn reached p options pick k) → ((k : ℕ) → k < e → WholeGoesOn reached p options pick k) → IsGood (header_version options.format) (trace_of reached (whole_picked p options pick) (whole_start p) (start_records p) e end)
   trace_is_good e end goes whole =
       let so : TellsTheSame reached p options pick e = same e goes in
       let within : e ≤ 2 ^ 40 = (let a = so.clock in let b = so.sound.clock in omega arith) in
       let g : Goes e = record { kept = goes; whole = whole } in
       let f = flush_at e within g (all_stand e within g) in
       let past : List TraceLine = behind (behind [] (lines e)) (flush_lines e (dead e)) in
-      let fine : AreFine 1 (Finish e (how_of end) ∷ past) = finish_fine (names_of_program p) options.interval e (next_number (now e)) within (λ o. IsHeld (now e).kept.heap o) (last e) (mentions e) (how_of end) f.0 past (how_within end) f.1 in
+      let fine : AreFine version (Finish e (how_of end) ∷ past) = finish_fine (names_of_program p) version options.interval e (next_number (now e)) within (λ o. IsHeld (now e).kept.heap o) (last e) (mentions e) (how_of end) f.0 past (how_within end) f.1 in
       let is : Finish e (how_of end) ∷ past ≡ reverse (lines e ++ flush_lines e (dead e) ++ Finish e (how_of end) ∷ []) =
       sym (behind_both [] (lines e ++ flush_lines e (dead e)) (Finish e (how_of end) ∷ []) ∙ ap (λ (ls : List TraceLine). Finish e (how_of end) ∷ ls) (behind_both [] (lines e) (flush_lines e (dead e)))) ∙ reversed (lines e ++ flush_lines e (dead e) ++ Finish e (how_of end) ∷ []) in
-      record { fine = subst (λ (ls : List TraceLine). AreFine 1 ls) is fine; ended = subst (λ (ls : List TraceLine). has_ended ls ≡ true) is refl }
+      record { fine = subst (λ (ls : List TraceLine). AreFine version ls) is fine; ended = subst (λ (ls : List TraceLine). has_ended ls ≡ true) is refl }

@@ -5,7 +5,7 @@ use Rattle.et_state.specs.Naming.{Names, IsNamed}
 use Rattle.et_state.specs.Outcome.{Outcome}
 use Rattle.et_state.specs.Outcome as outcome
 use Rattle.et_state.specs.State.{Kept}
-use Rattle.et_text.specs.Ranges.{IsText}
+use Rattle.et_text.specs.Ranges.{IsText, IsShort}
 use Rattle.et_event.specs.Event.{event}
 use Rattle.et_event.specs.Sound.{IsSoundFor}
 use Rattle.et_history.specs.Records.{HasPlainStrings}
@@ -22,6 +22,12 @@ pub record AreNamesApart (names : Names) : Type 0 where
   pub methods_apart : (m n : ℕ) → m < names.method_count → n < names.method_count → names.method_class m ≡ names.method_class n
       → bytes_eq (names.method_name m) (names.method_name n) ≡ true → bytes_eq (names.method_descriptor m) (names.method_descriptor n) ≡ true → m ≡ n
 
+-- each name of a program is short
+pub record AreNamesShort (names : Names) : Type 0 where
+  pub class_names : (c : ℕ) → c < names.class_count → IsShort (names.class_name c)
+  pub method_names : (m : ℕ) → m < names.method_count → IsShort (names.method_name m)
+  pub descriptors : (m : ℕ) → m < names.method_count → IsShort (names.method_descriptor m)
+
 -- the records of an event name only classes and methods of these
 abbrev pub NamesOnly : Names → Outcome Kept → Type 0
 NamesOnly names (outcome.Goes next records) = All (IsNamed names) records
@@ -32,6 +38,7 @@ NamesOnly names outcome.ObjectLimit = Unit {0}
 -- THE PROGRAM is one that a trace can tell of
 pub record IsTraceable (p : Linked) : Type 0 where
   pub names : AreNamesApart (names_of_program p)
+  pub short : AreNamesShort (names_of_program p)
   -- in every sound state, what an event names is of the program
   pub own : (s : Kept) (t : ℕ) → IsSoundFor p s → NamesOnly (names_of_program p) (event p s t)
   pub few_statics : length p.statics < 2 ^ 28

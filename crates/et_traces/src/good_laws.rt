@@ -16,14 +16,16 @@ ghost use Rattle.et_state.specs.History.{IsLastEvent, trace_of};
 ghost use Rattle.et_state.specs.Options.{AreOptions};
 ghost use Rattle.et_state.specs.Start.{start};
 ghost use Rattle.et_text.specs.Rules.{IsGood};
-ghost use Rattle.et_text.specs.Spelling.{text};
-ghost use Rattle.et_text.specs.Text.{IsTextOf, IsTraceFault};
+ghost use Rattle.et_text.specs.Ranges.{header_version};
+ghost use Rattle.et_binary.specs.Formats.{trace_bytes};
 ghost use Rattle.et_event.specs.Start.{start_records};
 ghost use Rattle.et_history.specs.Histories.{whole_picked};
 ghost use Rattle.et_history.specs.Settings.{IsSoundRun};
 ghost use Rattle.et_history.specs.Whole.{whole_start};
 ghost use Rattle.et_traces.specs.Good.{IsTraceable};
+ghost use Rattle.et_traces.specs.Spelled.{IsSpelledIn, IsFaultIn};
 
+use et_binary::laws::{good_packs_have_no_fault, packed_lists_differ};
 use et_history::laws::{events_keep_monitors, histories_tell_the_same};
 use et_history::object_laws::objects_are_reached_as_made;
 use et_history::record_laws::{events_tell_objects, programs_have_sizes};
@@ -32,16 +34,16 @@ use et_history::telling_laws::events_are_told;
 use et_linked::run_laws::files_keep_rules;
 use et_text::laws::{good_lists_differ, good_texts_have_no_fault};
 
-/// The trace of every history of a program that a trace can tell of is a good list, over every list of picks. Every program
-/// that was linked is one.
+/// The trace of every history of a program that a trace can tell of is a good list, of the version of its format, over every
+/// list of picks. Every program that was linked is one.
 pub fn traces_are_good()
     ensures good { (reached : Graph → ℕ → Bool) (p : Linked) (options : Options) (pick : ℕ → ℕ)
         (last : ℕ) (end : End) → Decides reached → IsSoundRun p (start p) →
         IsTraceable p → AreOptions options →
         IsLastEvent reached (whole_picked p options pick) (whole_start p) (start_records p) last
         end →
-        IsGood 1 (trace_of reached (whole_picked p options pick) (whole_start p)
-        (start_records p) last end) }
+        IsGood (header_version options.format) (trace_of reached (whole_picked p options pick)
+        (whole_start p) (start_records p) last end) }
     ensures linked { (p : Linked) → IsTabled p → IsLinked p →
         IsSoundRun p (start p) × IsTraceable p }
 {
@@ -56,28 +58,32 @@ pub fn traces_are_good()
     objects_are_reached_as_made();
 }
 
-/// So its text is read to exactly its lines, and has no fault.
+/// So its bytes, which are its text or its pack, are read to exactly its lines, and have no fault.
 pub fn traces_are_read()
     ensures lines { (reached : Graph → ℕ → Bool) (p : Linked) (options : Options) (pick : ℕ → ℕ)
         (last : ℕ) (end : End) (lines : List TraceLine) → Decides reached →
         IsSoundRun p (start p) → IsTraceable p → AreOptions options →
         IsLastEvent reached (whole_picked p options pick) (whole_start p) (start_records p) last
         end →
-        IsTextOf lines (text (trace_of reached (whole_picked p options pick) (whole_start p)
-        (start_records p) last end)) ↔ (lines ≡ trace_of reached (whole_picked p options pick)
-        (whole_start p) (start_records p) last end) }
+        IsSpelledIn options.format lines (trace_bytes options.format
+        (trace_of reached (whole_picked p options pick) (whole_start p) (start_records p) last
+        end)) ↔ (lines ≡ trace_of reached (whole_picked p options pick) (whole_start p)
+        (start_records p) last end) }
     ensures none { (reached : Graph → ℕ → Bool) (p : Linked) (options : Options) (pick : ℕ → ℕ)
         (last : ℕ) (end : End) (kind number : ℕ) → Decides reached →
         IsSoundRun p (start p) → IsTraceable p → AreOptions options →
         IsLastEvent reached (whole_picked p options pick) (whole_start p) (start_records p) last
         end →
-        IsTraceFault (text (trace_of reached (whole_picked p options pick) (whole_start p)
-        (start_records p) last end)) kind number → ⊥ }
+        IsFaultIn options.format (trace_bytes options.format
+        (trace_of reached (whole_picked p options pick) (whole_start p) (start_records p) last
+        end)) kind number → ⊥ }
 {
     // Laws: they tell the prover, and do nothing.
     traces_are_good();
     good_lists_differ();
     good_texts_have_no_fault();
+    packed_lists_differ();
+    good_packs_have_no_fault();
 }
 
 /// No two classes of a linked program have one name.

@@ -4,6 +4,7 @@ use Rattle.et_program.specs.Loaded.{LoadedClass, loaded_class}
 use Rattle.et_state.specs.History.{deaths, flush_lines, how_of, lines_to}
 use Rattle.et_state.specs.Options.{pick_of}
 use Rattle.et_event.specs.Start.{start_records}
+use Rattle.et_text.specs.Ranges.{header_version}
 use Rattle.et_history.specs.Histories.{HistoryGoesOn, WholeGoesOn}
 use Rattle.et_history.specs.Whole.{whole_setting, whole_start}
 use Rattle.et_traces.proofs.CurveEvents.{curve_within}
@@ -33,7 +34,7 @@ returns-clause-events c reached p options e last end decides run able are is has
     let good = c.traces_are_good.ensures.good reached p options (pick_of options.schedule) last end decides run able are is in
     let lines : List TraceLine = lines_to reached (whole_setting p options) (whole_start p) (start_records p) last in
     let flush : List TraceLine = flush_lines last (deaths reached (whole_setting p options) (whole_start p) (start_records p) last) in
-    curve_within 1 (lines ++ flush) last (how_of end) e good has
+    curve_within (header_version options.format) (lines ++ flush) last (how_of end) e good has
 
 pub returns-clause-linked : goal.returns-clause-linked
 returns-clause-linked c p tabled is =
