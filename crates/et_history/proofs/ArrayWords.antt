@@ -1,7 +1,7 @@
 -- What holds of each text of the pools of a program holds of the names of its array classes.
 use Rattle.std.proofs.Common.{◌≡◌, ℕ, ◌==◌, Bool, true, false, List, [], ◌∷◌, ◌++◌, filter, Option, None, Some, Result, Ok, Err, refl}
 use Rattle.std.specs.Prelude.{All, bytes_eq, codes, if◌then◌else◌, option_map, flat_map, filter_map}
-use Rattle.std.specs.List.{cons_option, list_any}
+use Rattle.std.specs.List.{cons_option, list_any, slice_index_or}
 use Rattle.std.specs.Option.{option_to_list}
 use Rattle.std.proofs.lemmas.List.Elements.{All-nil, All-cons, All-head, All-tail, All-append, All-filter, All-push}
 use Rattle.et_pool.specs.declared.tags.TheConstants.{CLASS}
@@ -112,7 +112,7 @@ module _ (Q P : List ℕ → Type 0) (is : IsOfArrays Q P) where
 
   pub array_texts : (files : List LoadedClass) → All (λ (c : LoadedClass). AreTexts Q c.pool.slots) files → AreAll (class_names_of files)
   array_texts files texts =
-      let met : AreAll (arrays_met files) = All-cons P (codes "[Ljava/lang/String;") (flat_map file_arrays files) is.arguments (flat file_arrays files (λ i d lt. in_file _ (texts i d lt))) in
+      let met : AreAll (arrays_met files) = All-cons P (codes "[Ljava/lang/String;") (flat_map file_arrays files) is.arguments (flat file_arrays files (λ i d lt. in_file (slice_index_or files i d) (texts i d lt))) in
       let known : AreAll (filter (is_type_known (class_place (set_of files))) (arrays_met files)) = All-filter (is_type_known (class_place (set_of files))) P (arrays_met files) met in
       added [] (flat_map with_element_types (filter (is_type_known (class_place (set_of files))) (arrays_met files))) none
       (flat with_element_types (filter (is_type_known (class_place (set_of files))) (arrays_met files)) (λ i d lt. elements _ (known i d lt)))

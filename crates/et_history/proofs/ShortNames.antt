@@ -6,7 +6,6 @@ use Rattle.std.proofs.lemmas.Bool.{and_parts, cases_lt, ltb-true}
 use Rattle.std.proofs.lemmas.List.Elements.{All-append, All-map}
 use Rattle.et_text.specs.Ranges.{IsShort}
 use Rattle.et_pool.specs.Descriptors.{is_array}
-use Rattle.et_pool.specs.Entries.{Item}
 use Rattle.et_pool.specs.Looks.{class_name_at, slot_at, utf8_at}
 use Rattle.et_class.specs.Layout.{ClassOf}
 use Rattle.et_class.specs.Spelling.{IsClassSpelled}
@@ -25,8 +24,8 @@ use Rattle.et_linked.proofs.Classes.{array_in, length_all}
 use Rattle.et_linked.proofs.Lists.{all_numbered}
 use Rattle.et_linked.proofs.Making.{class_in}
 use Rattle.et_history.specs.Settings.{names_of_program}
-use Rattle.et_history.proofs.PoolWords.{AreTexts, class_texts, each_at, each_passes, pool_texts}
-use Rattle.et_history.proofs.ArrayWords.{IsOfArrays, array_texts}
+use Rattle.et_history.proofs.PoolWords.{AreTexts, class_texts, each_passes, pool_texts}
+use Rattle.et_history.proofs.ArrayWords.{array_texts}
 
 -- TEXTS of pools
 
@@ -121,7 +120,7 @@ set_short : (files : List LoadedClass) → All HasBriefTexts files → All IsSho
 set_short files texts =
     All-append IsShortOutline (map boot_outline boots) (map file_outline files)
     (All-map IsShortOutline boot_outline boots (each_passes is_short_class (λ (c : BootClassOf). IsShort c.name) (λ c h. ltb-true (length c.name) (2 ^ 32) h) boots boots_pass))
-    (All-map IsShortOutline file_outline files (λ i d lt. file_short _ (texts i d lt)))
+    (All-map IsShortOutline file_outline files (λ i d lt. file_short (slice_index_or files i d) (texts i d lt)))
 
 -- THE PROGRAM
 module _ (p : Linked) (linked : IsLinked p) where

@@ -8,7 +8,7 @@ use Rattle.et_program.specs.ArrayTypes.{array_over, base_letter, base_letters}
 use Rattle.et_program.specs.Loaded.{LoadedClass}
 use Rattle.et_program.specs.ProgramOf.{class_names_of}
 use Rattle.et_history.proofs.ArrayWords.{array_texts}
-use Rattle.et_history.proofs.PoolWords.{AreTexts, each_at, each_passes}
+use Rattle.et_history.proofs.PoolWords.{each_at, each_passes}
 use Rattle.et_traces.proofs.PoolTexts.{AreSmall, no_more, and_more}
 use Rattle.et_traces.proofs.FileNames.{HasTexts}
 

@@ -1,4 +1,4 @@
-use Rattle.std.proofs.Common.{◌≡◌, ◌↔◌, ℕ, List, refl, sym, subst}
+use Rattle.std.proofs.Common.{◌≡◌, ◌↔◌, List, refl, sym, subst}
 use Rattle.et_base.specs.declared.format.Format.{Format}
 use Rattle.et_base.specs.declared.format.Format.TheVariants as formats
 use Rattle.et_base.specs.declared.line.TraceLine.{TraceLine}
