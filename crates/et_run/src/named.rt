@@ -37,6 +37,7 @@ impl<'a> NamedProgram<'a> {
     }
 }
 
+// The calls of `is_linked` tell the prover that names are short, and do nothing.
 impl<'a> Program for NamedProgram<'a> {
     ghost names = { names_of_program };
 
