@@ -23,7 +23,7 @@ ghost use Rattle.et_history.specs.Histories.{whole_picked};
 ghost use Rattle.et_history.specs.Settings.{IsSoundRun};
 ghost use Rattle.et_history.specs.Whole.{whole_start};
 ghost use Rattle.et_traces.specs.Good.{IsTraceable};
-ghost use Rattle.et_traces.specs.Spelled.{IsSpelledIn, IsFaultIn};
+ghost use Rattle.et_convert.specs.Spellings.{SpellsIn, HasFaultIn};
 
 use et_binary::laws::{good_packs_have_no_fault, packed_lists_differ};
 use et_history::laws::{events_keep_monitors, histories_tell_the_same};
@@ -65,7 +65,7 @@ pub fn traces_are_read()
         IsSoundRun p (start p) → IsTraceable p → AreOptions options →
         IsLastEvent reached (whole_picked p options pick) (whole_start p) (start_records p) last
         end →
-        IsSpelledIn options.format lines (trace_bytes options.format
+        SpellsIn options.format lines (trace_bytes options.format
         (trace_of reached (whole_picked p options pick) (whole_start p) (start_records p) last
         end)) ↔ (lines ≡ trace_of reached (whole_picked p options pick) (whole_start p)
         (start_records p) last end) }
@@ -74,7 +74,7 @@ pub fn traces_are_read()
         IsSoundRun p (start p) → IsTraceable p → AreOptions options →
         IsLastEvent reached (whole_picked p options pick) (whole_start p) (start_records p) last
         end →
-        IsFaultIn options.format (trace_bytes options.format
+        HasFaultIn options.format (trace_bytes options.format
         (trace_of reached (whole_picked p options pick) (whole_start p) (start_records p) last
         end)) kind number → ⊥ }
 {

@@ -9,11 +9,11 @@ use Rattle.et_text.specs.Rules.{IsGood}
 use Rattle.et_binary.specs.Formats.{trace_bytes}
 use Rattle.et_history.specs.Histories.{whole_picked}
 use Rattle.et_history.specs.Whole.{whole_start}
-use Rattle.et_traces.specs.Spelled.{IsSpelledIn, IsFaultIn}
+use Rattle.et_convert.specs.Spellings.{SpellsIn, HasFaultIn}
 use Rattle.et_traces.proofs.good_laws.traces_are_read.Goals as goal
 
 -- the bytes of a good list are those of this list
-own : (format : Format) (trace : List TraceLine) → IsGood (header_version format) trace → IsSpelledIn format trace (trace_bytes format trace)
+own : (format : Format) (trace : List TraceLine) → IsGood (header_version format) trace → SpellsIn format trace (trace_bytes format trace)
 own formats.Text trace good = record { good = good; whole = refl }
 own formats.Binary trace good = record { good = good; whole = refl }
 
@@ -22,10 +22,10 @@ returns-clause-lines c reached p options pick last end lines decides run able ar
     by options.format (trace_of reached (whole_picked p options pick) (whole_start p) (start_records p) last end)
     (c.traces_are_good.ensures.good reached p options pick last end decides run able are is)
   where
-    back : (format : Format) (trace : List TraceLine) → IsGood (header_version format) trace → lines ≡ trace → IsSpelledIn format lines (trace_bytes format trace)
-    back format trace good same = subst (λ (ls : List TraceLine). IsSpelledIn format ls (trace_bytes format trace)) (sym same) (own format trace good)
+    back : (format : Format) (trace : List TraceLine) → IsGood (header_version format) trace → lines ≡ trace → SpellsIn format lines (trace_bytes format trace)
+    back format trace good same = subst (λ (ls : List TraceLine). SpellsIn format ls (trace_bytes format trace)) (sym same) (own format trace good)
 
-    by : (format : Format) (trace : List TraceLine) → IsGood (header_version format) trace → IsSpelledIn format lines (trace_bytes format trace) ↔ (lines ≡ trace)
+    by : (format : Format) (trace : List TraceLine) → IsGood (header_version format) trace → SpellsIn format lines (trace_bytes format trace) ↔ (lines ≡ trace)
     by formats.Text trace good =
         (λ h. c.good_lists_differ.ensures lines trace (trace_bytes formats.Text trace) h (own formats.Text trace good), back formats.Text trace good)
     by formats.Binary trace good =
@@ -36,6 +36,6 @@ returns-clause-none c reached p options pick last end kind number decides run ab
     by options.format (trace_of reached (whole_picked p options pick) (whole_start p) (start_records p) last end)
     (c.traces_are_good.ensures.good reached p options pick last end decides run able are is)
   where
-    by : (format : Format) (trace : List TraceLine) → IsGood (header_version format) trace → IsFaultIn format (trace_bytes format trace) kind number → ⊥
+    by : (format : Format) (trace : List TraceLine) → IsGood (header_version format) trace → HasFaultIn format (trace_bytes format trace) kind number → ⊥
     by formats.Text trace good fault = c.good_texts_have_no_fault.ensures trace (trace_bytes formats.Text trace) kind number (own formats.Text trace good) fault
     by formats.Binary trace good fault = c.good_packs_have_no_fault.ensures trace (trace_bytes formats.Binary trace) kind number (own formats.Binary trace good) fault
