@@ -35,8 +35,30 @@ fn stamp_new(stamps: &mut Stamps, before: u32, made: u32, event: u64)
     }
 }
 
+/// Makes places for what was made since there were so many objects. Where that is nothing, all places are there.
+fn make_places<G: Guest>(
+    before: u32,
+    made: u32,
+    stamps: &mut Stamps,
+    room: &mut G::Room,
+) -> Result<(), NoMemory>
+    requires more { before ≤ made }
+    requires stamps { before < length stamps.old }
+    requires room { G.has_places room.old before }
+    ensures places { OnOk result (made < length stamps.new) }
+    ensures kept { (o : ℕ) → slice_index stamps.new o ≡ slice_index stamps.old o }
+    ensures room { OnOk result (G.has_places room.new made) }
+{
+    if before != made {
+        stamps.grow(made)?;
+        G::grow_room(room, made)?;
+    }
+    Ok(())
+}
+
 /// Stamps what the event after e lost with e, the last event after which it was reached for certain, and what it made
-/// with its own number. There were so many objects before it. All of them have places afterwards.
+/// with its own number. There were so many objects before it, and they had places. All have places afterwards: they are
+/// made only where the event made an object.
 pub fn restamp<G: Guest>(
     machine: &G,
     e: u64,
@@ -48,14 +70,15 @@ pub fn restamp<G: Guest>(
     requires more { before ≤ (G.graph_of (G.state machine.now)).made }
     requires lost { (o : ℕ) →
         Contains (G.lost_of machine.now) o → o ≤ (G.graph_of (G.state machine.now)).made }
+    requires stamps { before < length stamps.old }
+    requires room { G.has_places room.old before }
     ensures stamps { OnOk result (Restamps e before (G.graph_of (G.state machine.now)).made
         (G.lost_of machine.now) (slice_index stamps.old) (slice_index stamps.new)) }
     ensures places { OnOk result (HasStamps (G.graph_of (G.state machine.now)) stamps.new) }
     ensures room { OnOk result (G.has_places room.new (G.graph_of (G.state machine.now)).made) }
 {
     let made = machine.made();
-    stamps.grow(made)?;
-    G::grow_room(room, made)?;
+    make_places::<G>(before, made, stamps, room)?;
     stamp_each(stamps, machine.lost(), e);
     stamp_new(stamps, before, made, e + 1);
     Ok(())

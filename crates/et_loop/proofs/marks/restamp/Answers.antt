@@ -6,7 +6,7 @@ use Rattle.et_loop.proofs.marks.restamp.Goals as goal
 pub stamp_each-requires-clause-places : goal.stamp_each-requires-clause-places
 stamp_each-requires-clause-places g c = λ o h.
     let m = c.requires.lost o (subst (λ (os : List ℕ). Contains os o) c.lost.ensures h) in
-    let long = c.in_ok-grow.ensures.long in
+    let long = c.in_ok-make_places.ensures.places in
     omega (arith, m, long, c.made-made.ensures)
 
 pub returns-clause-stamps : goal.returns-clause-stamps
@@ -15,7 +15,7 @@ returns-clause-stamps g c =
     let old = λ (o : ℕ). get_or c.args.stamps.now o 0 in
     let new = λ (o : ℕ). get_or c.stamp_new.new.stamps o 0 in
     let r : Restamps c.args.e before c.made-made.result c.lost.result.now old new =
-    restamps_from c.args.e before c.made-made.result c.lost.result.now c.args.stamps.now c.grow.new.self c.stamp_each.new.stamps c.stamp_new.new.stamps
-    c.in_ok-grow.ensures.kept c.stamp_each.ensures.each c.stamp_each.ensures.others c.stamp_new.ensures.each c.stamp_new.ensures.others in
+    restamps_from c.args.e before c.made-made.result c.lost.result.now c.args.stamps.now c.make_places.new.stamps c.stamp_each.new.stamps c.stamp_new.new.stamps
+    c.in_ok-make_places.ensures.kept c.stamp_each.ensures.each c.stamp_each.ensures.others c.stamp_new.ensures.each c.stamp_new.ensures.others in
     subst (λ (n : ℕ). Restamps c.args.e before n (g.G.Guest.lost_of c.args.machine.now) old new) c.made-made.ensures
     (subst (λ (os : List ℕ). Restamps c.args.e before c.made-made.result os old new) c.lost.ensures r)
