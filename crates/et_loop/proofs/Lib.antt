@@ -11,3 +11,4 @@ pub mod Marking
 pub mod TurnSteps
 pub mod Counts
 pub mod Cuts
+pub mod Pacing

@@ -6,3 +6,4 @@ pub mod Kept
 pub mod Stamping
 pub mod Told
 pub mod Visits
+pub mod Pace

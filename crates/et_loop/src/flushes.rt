@@ -75,6 +75,8 @@ fn report<G: Guest, L: Ledger>(
     ensures format { OnOk result (tracer.new.format ≡ tracer.old.format) }
     ensures stamps { OnOk result (tracer.new.stamps ≡ tracer.old.stamps) }
     ensures numbering { OnOk result (tracer.new.numbering ≡ tracer.old.numbering) }
+    ensures next_flush { OnOk result (tracer.new.next_flush ≡ tracer.old.next_flush) }
+    ensures rota { OnOk result (tracer.new.rota ≡ tracer.old.rota) }
 {
     machine.flush(code, &tracer.stamps, &mut tracer.room, visits)?;
     write_deaths(
@@ -117,6 +119,8 @@ pub fn settle<G: Guest, L: Ledger>(
     ensures format { OnOk result (tracer.new.format ≡ tracer.old.format) }
     ensures stamps { OnOk result (tracer.new.stamps ≡ tracer.old.stamps) }
     ensures numbering { OnOk result (tracer.new.numbering ≡ tracer.old.numbering) }
+    ensures next_flush { OnOk result (tracer.new.next_flush ≡ tracer.old.next_flush) }
+    ensures rota { OnOk result (tracer.new.rota ≡ tracer.old.rota) }
 {
     if due {
         report(code, e, machine, tracer, visits)?;

@@ -7,6 +7,7 @@ mod guest;
 pub mod laws;
 mod marks;
 mod naming;
+mod next_flush;
 mod options;
 mod program;
 mod run;

@@ -1,37 +1,125 @@
-//! What a run reads off its options and its end: whose turn it is, and how a Z line spells the end.
-ghost use Rattle.std.specs.Prelude.{◌≡◌, ◌<◌, ◌%◌};
+//! What a run reads off its schedule and its end: whose turn it is, and how a Z line spells the end.
+ghost use Rattle.std.specs.Prelude.{◌≡◌, ◌+◌, ◌<◌, ◌≤◌, ◌%◌, ◌^◌};
 ghost use Rattle.et_state.specs.History.{how_of};
-ghost use Rattle.et_state.specs.Options.{pick_of, AreOptions};
+ghost use Rattle.et_state.specs.declared.options.Schedule.{Schedule};
+ghost use Rattle.et_state.specs.Options.{pick_of, AreOptions, IsSchedule};
+ghost use Rattle.et_loop.specs.Pace.{IsPlaceFound, IsRota, IsRound, round_of};
 
 use et_base::End;
 use et_state::{Options, Schedule};
 
-/// The number that the schedule has for an event.
-pub fn pick(options: &Options, e: u64) -> u64
-    requires { AreOptions options.now }
-    ensures { result ≡ pick_of options.now.schedule e }
+/// Where a schedule stands at an event. It goes from one event to the next without a division, and divides only where the
+/// number that the schedule has for an event, or the number of threads, is not the one before.
+#[derive(Drop)]
+pub struct Rota {
+    pub round: Round,
+    pub found: Found,
+}
+
+/// The round in which an event is.
+#[derive(Drop)]
+pub struct Round {
+    /// How many rounds are over.
+    pub over: u64,
+    /// Its first event.
+    pub start: u64,
+}
+
+/// The place of a number among so many threads, as it was found last.
+#[derive(Drop)]
+pub struct Found {
+    pub number: u64,
+    pub count: usize,
+    pub place: usize,
+}
+
+/// How many events a round of the schedule has.
+fn round_length(schedule: &Schedule) -> u64
+    ensures { result ≡ round_of schedule.now }
 {
-    match &options.schedule {
-        Schedule::Quantum(quantum) => e / *quantum,
-        Schedule::Words(words) => {
-            let list = words.as_slice();
-            list[(e % list.len() as u64) as usize] as u64
+    match schedule {
+        Schedule::Quantum(quantum) => *quantum,
+        Schedule::Words(words) => words.as_slice().len() as u64,
+    }
+}
+
+impl Round {
+    /// Goes on to the event after e.
+    fn go_on(&mut self, events: u64, e: u64)
+        requires some { 0 < events }
+        requires event { e < 2 ^ 40 }
+        requires round { IsRound events e self.old }
+        ensures { IsRound events (e + 1) self.new }
+    {
+        if e + 1 - self.start == events {
+            self.over += 1;
+            self.start = e + 1;
+        }
+    }
+
+    /// The number that the schedule has for event e.
+    fn number(&self, schedule: &Schedule, e: u64) -> u64
+        requires schedule { IsSchedule schedule.now }
+        requires round { IsRound (round_of schedule.now) e self.now }
+        ensures { result ≡ pick_of schedule.now e }
+    {
+        match schedule {
+            Schedule::Quantum(_) => self.over,
+            Schedule::Words(words) => words.as_slice()[(e - self.start) as usize] as u64,
         }
     }
 }
 
-/// The place of the thread whose turn an event is, among so many that have not ended. Where there is one alone, nothing is
-/// divided.
-pub fn place_of_turn(options: &Options, e: u64, count: usize) -> usize
-    requires options { AreOptions options.now }
-    requires some { 0 < count }
-    ensures place { result ≡ pick_of options.now.schedule e % count }
-    ensures within { result < count }
-{
-    if count == 1 {
-        0
-    } else {
-        (pick(options, e) % count as u64) as usize
+impl Found {
+    /// The place of the number among so many threads.
+    fn place_among(&mut self, number: u64, count: usize) -> usize
+        requires some { 0 < count }
+        requires found { IsPlaceFound self.old }
+        ensures place { result ≡ number % count }
+        ensures within { result < count }
+        ensures found { IsPlaceFound self.new }
+    {
+        if number != self.number || count != self.count {
+            self.number = number;
+            self.count = count;
+            self.place = (number % count as u64) as usize;
+        }
+        self.place
+    }
+}
+
+impl Rota {
+    /// Begins at event 0.
+    pub fn begin() -> Rota
+        ensures { (schedule : Schedule) → IsSchedule schedule → IsRota schedule 0 result }
+    {
+        Rota {
+            round: Round { over: 0, start: 0 },
+            found: Found {
+                number: 0,
+                count: 1,
+                place: 0,
+            },
+        }
+    }
+
+    /// Goes on to the event after e, and answers the place of the thread whose turn it is, among so many that have not
+    /// ended. Where there is one alone, nothing is divided.
+    pub fn next_place(&mut self, options: &Options, e: u64, count: usize) -> usize
+        requires options { AreOptions options.now }
+        requires some { 0 < count }
+        requires event { e < 2 ^ 40 }
+        requires rota { IsRota options.now.schedule e self.old }
+        ensures place { result ≡ pick_of options.now.schedule (e + 1) % count }
+        ensures within { result < count }
+        ensures rota { IsRota options.now.schedule (e + 1) self.new }
+    {
+        self.round.go_on(round_length(&options.schedule), e);
+        if count == 1 {
+            return 0;
+        }
+        let number = self.round.number(&options.schedule, e + 1);
+        self.found.place_among(number, count)
     }
 }
 

@@ -10,6 +10,7 @@ ghost use Rattle.et_binary.specs.Formats.{lines_written_in};
 ghost use Rattle.et_loop.specs.Options.{setting_of};
 ghost use Rattle.et_loop.specs.Run.{time_noted, Goes, Turns};
 ghost use Rattle.et_graph.specs.Listed.{AreListed};
+ghost use Rattle.et_loop.specs.Pace.{IsNextFlush, IsRota};
 ghost use Rattle.et_loop.specs.Stamping.{HasStamps, Stamped, Passes};
 ghost use Rattle.et_loop.specs.Visits.{visits_of_event, visits_of_turn};
 
@@ -17,13 +18,13 @@ use crate::flushes::{conclude, settle};
 use crate::guest::Guest;
 use crate::marks::restamp;
 use crate::naming::Numbering;
+use crate::next_flush::NextFlush;
 use crate::program::Program;
-use crate::schedule::place_of_turn;
+use crate::schedule::Rota;
 use et_base::{End, Format, NoMemory, Steps, TraceLine};
 use et_binary::{header_version, write_line_in};
 use et_graph::Stamps;
 use et_state::{EventEnd, Lines, Options};
-use et_text::is_flush_point;
 use std::alloc::Global;
 use std::sync::ledger::Ledger;
 
@@ -40,6 +41,10 @@ pub struct Tracer<R: Drop> {
     pub format: Format,
     /// Lines that are to be put.
     pub buffer: Vec<u8>,
+    /// When the next flush is due.
+    pub next_flush: NextFlush,
+    /// Whose turn it is.
+    pub rota: Rota,
 }
 
 /// The next event, or how the history ends after event e. Whatever it answers, it visits objects eight times at most, and
@@ -62,6 +67,7 @@ fn step<G: Guest, L: Ledger>(
     requires stamps { HasStamps (G.graph_of (G.state machine.old)) tracer.old.stamps }
     requires room { G.has_places tracer.old.room (G.graph_of (G.state machine.old)).made }
     requires format { tracer.old.format ≡ options.now.format }
+    requires rota { IsRota options.now.schedule e tracer.old.rota }
     ensures goes { IfOk result
         (λ end. Goes (setting_of (G.event_of code.now) G.unended_of G.graph_of G.flushed_of
         (G.Code.names code.now) options.now) e (G.state machine.old) tracer.old.numbering (G.state
@@ -78,6 +84,9 @@ fn step<G: Guest, L: Ledger>(
     ensures sound { OnOk result (G.is_sound code.now (G.state machine.new)) }
     ensures limit { IfOk result (λ end. IfNone end (e < options.now.limit)) }
     ensures clock { IfOk result (λ end. IfNone end (G.clock_of (G.state machine.new) ≡ e + 1)) }
+    ensures next_flush { OnOk result (tracer.new.next_flush ≡ tracer.old.next_flush) }
+    ensures rota { IfOk result
+        (λ end. IfNone end (IsRota options.now.schedule (e + 1) tracer.new.rota)) }
 {
     let count = machine.unended();
     if count == 0 {
@@ -86,7 +95,7 @@ fn step<G: Guest, L: Ledger>(
     if e == options.limit {
         return Ok(Some(End::EventLimit));
     }
-    let thread = machine.unended_at(place_of_turn(options, e + 1, count));
+    let thread = machine.unended_at(tracer.rota.next_place(options, e, count));
     let before = machine.made();
     let mut records = Lines::begin(alloc);
     match machine.event(alloc, code, thread, &mut records, visits)? {
@@ -116,7 +125,8 @@ impl<R: Drop> Tracer<R> {
         objects: u32,
         room: R,
     ) -> Result<Tracer<R>, NoMemory>
-        requires { All (IsNamed (P.names code.now)) made.now }
+        requires named { All (IsNamed (P.names code.now)) made.now }
+        requires options { AreOptions options.now }
         ensures stamps { IfOk result (λ t. (o : ℕ) → slice_index t.stamps o ≡ 0) }
         ensures places { IfOk result (λ t. objects < length t.stamps) }
         ensures room { IfOk result (λ t. t.room ≡ room) }
@@ -126,6 +136,9 @@ impl<R: Drop> Tracer<R> {
         ensures lines { IfOk result (λ t. t.buffer.items ≡ lines_written_in options.now.format
             (Header (header_version options.now.format) options.now.interval
             ∷ lines_of (P.names code.now) nothing_mentioned made.now)) }
+        ensures next_flush { IfOk result
+            (λ t. IsNextFlush options.now.interval 0 t.next_flush.event) }
+        ensures rota { IfOk result (λ t. IsRota options.now.schedule 0 t.rota) }
     {
         let format = options.format;
         let mut buffer = Vec::new(alloc);
@@ -144,6 +157,8 @@ impl<R: Drop> Tracer<R> {
             numbering,
             format,
             buffer,
+            next_flush: NextFlush::begin(options.interval),
+            rota: Rota::begin(),
         })
     }
 }
@@ -168,6 +183,8 @@ pub fn turn<G: Guest, L: Ledger>(
     requires stamps { HasStamps (G.graph_of (G.state machine.old)) tracer.old.stamps }
     requires room { G.has_places tracer.old.room (G.graph_of (G.state machine.old)).made }
     requires format { tracer.old.format ≡ options.now.format }
+    requires next_flush { IsNextFlush options.now.interval e tracer.old.next_flush.event }
+    requires rota { IsRota options.now.schedule e tracer.old.rota }
     ensures turns { (reached : Graph → ℕ → Bool) →
         Decides reached → (last : ℕ → ℕ) → AreListed (G.graph_of (G.state machine.old))
         (slice_index tracer.old.stamps) (let g = G.graph_of (G.state machine.old)
@@ -192,8 +209,12 @@ pub fn turn<G: Guest, L: Ledger>(
         (λ end. IfNone end (G.is_sound code.now (G.state machine.new))) }
     ensures limit { IfOk result (λ end. IfNone end (e < options.now.limit)) }
     ensures clock { IfOk result (λ end. IfNone end (G.clock_of (G.state machine.new) ≡ e + 1)) }
+    ensures next_flush { IfOk result (λ end. IfNone end
+        (IsNextFlush options.now.interval (e + 1) tracer.new.next_flush.event)) }
+    ensures rota { IfOk result
+        (λ end. IfNone end (IsRota options.now.schedule (e + 1) tracer.new.rota)) }
 {
-    let due = is_flush_point(options.interval, e);
+    let due = tracer.next_flush.pass(options.interval, e);
     settle(code, due, e, machine, tracer, visits)?;
     match step(alloc, code, options, e, machine, tracer, visits)? {
         None => Ok(None),

@@ -6,6 +6,7 @@ use Rattle.et_state.specs.History.{is_flush_point}
 use Rattle.et_loop.specs.Options.{setting_of}
 use Rattle.et_loop.proofs.RunLemmas.{running_start, turn_end, front_start, front_nothing, front_now, front_turn, on_any, noted_before}
 use Rattle.et_loop.specs.Stamping.{HasStamps, Passes}
+use Rattle.et_loop.specs.Pace.{IsNextFlush, IsRota}
 use Rattle.et_loop.proofs.Turns.{told_first, told_made}
 use Rattle.et_loop.proofs.Counts.{none_so_far, more_so_far, last_allowed, cut_allowed, passes_grow, going_few, ending_few}
 use Rattle.et_loop.proofs.Cuts.{cut_first, cut_here, cut_putting}
@@ -58,6 +59,8 @@ events-init g c =
       };
       room = subst (λ x. g.G.Guest.has_places x (g.G.Guest.graph_of (g.G.Guest.state c.args.machine.now)).made) (sym c.in-Ok-begin.ensures.room) (subst (λ (n : ℕ). g.G.Guest.has_places c.in-Ok.room n) c.made-objects.ensures c.in-Ok.ensures);
       format = c.in-Ok-begin.ensures.format;
+      next_flush = c.in-Ok-begin.ensures.next_flush;
+      rota = c.in-Ok-begin.ensures.rota;
       limit = search rules;
       clock = c.requires.clock;
       sound = c.requires.sound;
@@ -146,6 +149,8 @@ events-preserved g c =
       stamps = subst (λ (end : Option End). IfNone end (HasStamps (graph c.turn.new.machine) c.turn.new.tracer.stamps)) c.in-None.is c.in-Ok-turn.ensures.stamps;
       room = subst (λ (end : Option End). IfNone end (g.G.Guest.has_places c.turn.new.tracer.room (graph c.turn.new.machine).made)) c.in-None.is c.in-Ok-turn.ensures.room;
       format = subst (λ (end : Option End). IfNone end (c.turn.new.tracer.format ≡ c.args.options.now.format)) c.in-None.is c.in-Ok-turn.ensures.format;
+      next_flush = subst (λ (end : Option End). IfNone end (IsNextFlush c.args.options.now.interval (c.events.e + 1) c.turn.new.tracer.next_flush.event)) c.in-None.is c.in-Ok-turn.ensures.next_flush;
+      rota = subst (λ (end : Option End). IfNone end (IsRota c.args.options.now.schedule (c.events.e + 1) c.turn.new.tracer.rota)) c.in-None.is c.in-Ok-turn.ensures.rota;
       limit = omega arith;
       clock = subst (λ (end : Option End). IfNone end (g.G.Guest.clock_of (S c.turn.new.machine) ≡ c.events.e + 1)) c.in-None.is c.in-Ok-turn.ensures.clock;
       sound = subst (λ (end : Option End). IfNone end (g.G.Guest.is_sound c.args.code.now (S c.turn.new.machine))) c.in-None.is c.in-Ok-turn.ensures.sound;

@@ -4,6 +4,7 @@ use Rattle.et_loop.specs.Options.{setting_of}
 use Rattle.et_loop.proofs.RunLemmas.{Running, noted_before}
 use Rattle.et_loop.specs.Stamping.{HasStamps}
 use Rattle.et_loop.specs.Told.{IsToldByStamps}
+use Rattle.et_loop.specs.Pace.{IsNextFlush, IsRota}
 use Rattle.et_loop.proofs.Counts.{AreSoFar}
 use Rattle.et_loop.proofs.Joins.{graphs}
 use Rattle.et_loop.proofs.run.run_guest.Given as goal
@@ -19,6 +20,8 @@ invariant-events g l =
       stamps : HasStamps (G.graph_of (G.state l.machine)) l.tracer.stamps;
       room : G.has_places l.tracer.room (G.graph_of (G.state l.machine)).made;
       format : l.tracer.format ≡ l.options.format;
+      next_flush : IsNextFlush l.options.interval l.e l.tracer.next_flush.event;
+      rota : IsRota l.options.schedule l.e l.tracer.rota;
       limit : l.e ≤ l.options.limit;
       clock : G.clock_of (G.state l.machine) ≡ l.e;
       sound : G.is_sound l.code (G.state l.machine);
