@@ -7,6 +7,7 @@ mod Walking
 mod Passing
 mod Fitting
 mod Planning
+mod Referred
 mod Choosing
 pub mod ByCode
 pub mod Deferring

@@ -1,16 +1,17 @@
 //! What an invoke comes to (JVMS 6.5, the invokes; 5.4.3), found out without a change.
-ghost use Rattle.std.specs.Prelude.{◌≡◌, ℕ, ◌+◌, ◌<◌, ◌≤◌, ◌^◌, ◌⊎◌, true, Option, Some, None, IfOk, IfSome, codes, length, option_and_then};
+ghost use Rattle.std.specs.Prelude.{◌≡◌, ℕ, ◌+◌, ◌<◌, ◌≤◌, ◌^◌, ◌⊎◌, true, Option, Some, None, IfOk, IfSome, IsSome, codes, length, option_and_then};
 ghost use Rattle.std.specs.Result.{result_ok};
 ghost use Rattle.et_heap.specs.Objects.{IsHeld};
 ghost use Rattle.et_state.specs.Sound.{IsSound};
 ghost use Rattle.et_state.specs.Words.{HasFrame, top};
 ghost use Rattle.et_event.specs.declared.rows.CallKind.TheVariants as kinds;
 ghost use Rattle.et_state.specs.State.{Kept, kept_of};
-ghost use Rattle.et_parts.specs.Places.{site_at};
-ghost use Rattle.et_parts.specs.Members.{shown_member};
+ghost use Rattle.et_parts.specs.Places.{IsPlace, site_at};
 ghost use Rattle.et_program.specs.Entries.{is_static, method_at};
 ghost use Rattle.et_program.specs.Members.{kept};
+ghost use Rattle.et_program.specs.Referring.{method_of_member, pool_of_class};
 ghost use Rattle.et_program.specs.Resolution.{resolve_class, resolve_method};
+ghost use Rattle.et_program.specs.Resolved.{IsNamedWithin};
 ghost use Rattle.et_state.specs.Outcome.{Outcome};
 ghost use Rattle.et_event.specs.declared.errors.GuestError.TheVariants as errors;
 ghost use Rattle.et_event.specs.Calls.{arguments_of, dispatched, enters_method, invoke, is_as, is_static_call as calls_static, special_class as class_of_special};
@@ -18,7 +19,7 @@ ghost use Rattle.et_event.specs.Checks.{resolved, after_selection as selected_in
 ghost use Rattle.et_event.specs.Errors.{class_called};
 ghost use Rattle.et_event.specs.Frames.{first_reference};
 ghost use Rattle.et_event.specs.Moments.{Moment, begins, current_frame, moment};
-ghost use Rattle.et_event.specs.Sites.{Site, natural_of};
+ghost use Rattle.et_event.specs.Sites.{Member, Site, natural_of, site_member, names_interface as is_of_interface};
 ghost use Rattle.et_event.specs.Initialization.{state_of};
 ghost use Rattle.et_event.specs.Sound.{IsSoundFor};
 ghost use Rattle.et_builtins.specs.Arguments.{arguments_in};
@@ -29,8 +30,8 @@ use crate::arguments::{fitting_call, receiver};
 use et_base::{ClassId, MethodId, Steps, ThreadId};
 use et_class::flags::{ABSTRACT, NATIVE, STATIC, has};
 use et_event::{CallKind, GuestError};
-use et_parts::{MemberAt, Place, member_at, names_interface};
-use et_program::{Element, LinkError, Program};
+use et_parts::{Place, member_at};
+use et_program::{Element, LinkError, NamedMethod, Program};
 use et_state::{ClassState, Machine};
 use std::sync::ledger::Ledger;
 
@@ -362,30 +363,56 @@ fn resolved_plan<L: Ledger>(
     dispatch_plan(program, machine, thread, kind, callee, visits)
 }
 
-/// The class and the method that an invoke names (JVMS 5.4.3.3, 5.4.3.4), or the error that is thrown.
-fn resolve(
-    program: &Program,
-    member: &MemberAt<'_>,
-    by_interface: bool,
-) -> Result<(ClassId, MethodId), GuestError>
-    ensures value { (e : Moment) (go : ℕ → ℕ → Outcome Kept) → e.program ≡ program.now → resolved e
-        (begins e) (resolve_class e.program member.now.owner.now) (λ owner. resolved e (begins e)
-        (resolve_method e.program owner by_interface member.now.name.now member.now.descriptor.now)
+/// The index into the pool that an instruction has.
+fn index_of(place: &Place<'_>) -> u16
+    requires { natural_of place.now.instr.first < 2 ^ 16 }
+    ensures { result ≡ natural_of place.now.instr.first }
+{
+    if place.instr.first < 0 {
+        0
+    } else {
+        place.instr.first as u16
+    }
+}
+
+/// The method that an instruction names, as it was resolved when the program was linked (JVMS 5.4.3.3, 5.4.3.4).
+fn method_named(program: &Program, place: &Place<'_>) -> Result<NamedMethod, LinkError>
+    requires class { place.now.class < length program.now.classes }
+    requires index { natural_of place.now.instr.first < 2 ^ 16 }
+    requires pool { (site_at place.now).pool ≡ pool_of_class program.now place.now.class }
+    requires member { IsSome (site_member (site_at place.now)) }
+    ensures value { (m : Member) → site_member (site_at place.now) ≡ Some m → result
+        ≡ method_of_member program.now (is_of_interface (site_at place.now)) m }
+    ensures within { IfOk result (IsNamedWithin program.now) }
+{
+    match program.method_at_index(place.class, index_of(place)) {
+        Some(answer) => answer,
+        None => unreachable!(),
+    }
+}
+
+/// The class and the method that an instruction names, as they were resolved when the program was linked, or the error that
+/// is thrown.
+fn resolve(program: &Program, place: &Place<'_>) -> Result<(ClassId, MethodId), GuestError>
+    requires class { place.now.class < length program.now.classes }
+    requires index { natural_of place.now.instr.first < 2 ^ 16 }
+    requires pool { (site_at place.now).pool ≡ pool_of_class program.now place.now.class }
+    requires member { IsSome (site_member (site_at place.now)) }
+    ensures value { (e : Moment) (m : Member) (go : ℕ → ℕ → Outcome Kept) →
+        e.program ≡ program.now → site_member (site_at place.now) ≡ Some m →
+        resolved e (begins e) (resolve_class e.program m.owner) (λ owner. resolved e (begins e)
+        (resolve_method e.program owner (is_of_interface (site_at place.now)) m.name m.descriptor)
         (go owner)) ≡ resolving e result go }
-    ensures found { (go : ℕ → ℕ → Option ℕ) →
-        with_resolved program.now by_interface (shown_member member.now) go
+    ensures found { (m : Member) (go : ℕ → ℕ → Option ℕ) → site_member (site_at place.now) ≡ Some m →
+        with_resolved program.now (is_of_interface (site_at place.now)) m go
         ≡ option_and_then (λ x. go x.0 x.1) (result_ok result) }
     ensures within { IfOk result
         (λ x. (x.0 < length program.now.classes) × (x.1 < length program.now.methods)) }
-    ensures same { IfOk result
-        (λ x. (method_at program.now x.1).descriptor ≡ member.now.descriptor.now) }
+    ensures same { (m : Member) → site_member (site_at place.now) ≡ Some m →
+        IfOk result (λ x. (method_at program.now x.1).descriptor ≡ m.descriptor) }
 {
-    let owner = match program.resolve_class(member.owner) {
-        Ok(owner) => owner,
-        Err(error) => return Err(GuestError::of(error)),
-    };
-    match program.resolve_method(owner, by_interface, member.name, member.descriptor) {
-        Ok(method) => Ok((owner, method)),
+    match method_named(program, place) {
+        Ok(found) => Ok((found.class, found.method)),
         Err(error) => Err(GuestError::of(error)),
     }
 }
@@ -404,6 +431,7 @@ pub fn invoke_plan<L: Ledger>(
     requires sound { IsSoundFor program.now (kept_of machine.now) }
     requires class { place.now.class < length program.now.classes }
     requires index { natural_of place.now.instr.first < 2 ^ 16 }
+    requires place { IsPlace program.now (top machine.now.guest thread) place.now }
     ensures plan { invoke (moment program.now machine.now thread) (site_at place.now) kind
         ≡ call_planned (moment program.now machine.now thread) (site_at place.now) result }
     ensures deferred { kept (is_deferred_in program.now) (method_entered result)
@@ -418,7 +446,7 @@ pub fn invoke_plan<L: Ledger>(
     let Some(count) = fitting_call(machine, thread, is_static_call(kind), member.descriptor) else {
         return CallPlan::IllTyped;
     };
-    match resolve(program, &member, names_interface(place)) {
+    match resolve(program, place) {
         Ok(found) => {
             let callee = Callee {
                 current: place.class,

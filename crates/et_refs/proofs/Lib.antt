@@ -3,6 +3,8 @@ pub mod Fitting
 pub mod Leading
 pub mod Ending
 pub mod Reading
+pub mod Referred
+pub mod ReferredClasses
 pub mod Chains
 pub mod May
 pub mod Bases

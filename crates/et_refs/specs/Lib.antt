@@ -1,6 +1,8 @@
 pub mod Refusals
 pub mod Changes
 pub mod Slots
+pub mod NamedFields
+pub mod NamedClasses
 pub mod Rows
 pub mod Counts
 pub mod Legal

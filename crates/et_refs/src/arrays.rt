@@ -10,12 +10,13 @@ ghost use Rattle.et_event.specs.Sound.{IsSoundFor};
 ghost use Rattle.et_parts.specs.Places.{site_at};
 ghost use Rattle.et_refs.specs.Changes.{MayMake, new_array_outcome};
 ghost use Rattle.et_program.specs.Members.{base_array};
+ghost use Rattle.et_program.specs.Referring.{pool_of_class};
 ghost use Rattle.et_refs.specs.Refusals.{outcome_of};
 ghost use Rattle.et_event.specs.Programs.{AreElementsWithin};
 
 use crate::casts::class_named;
 use crate::changes::NewArray;
-use crate::checks::{resolve, throws_unless};
+use crate::checks::{resolve_named, throws_unless};
 use crate::kinds::{is_length, natural};
 use crate::operands::{operands_fit, take_int};
 use crate::refusals::Refusal;
@@ -94,16 +95,21 @@ pub(crate) fn new_reference_array(
 ) -> Result<NewArray, Refusal>
     requires frame { HasFrame machine.now.guest thread }
     requires sound { IsSoundFor program.now (kept_of machine.now) }
+    requires class { place.now.class < length program.now.classes }
     requires index { natural_of place.now.instr.first < 2 ^ 16 }
+    requires pool { (site_at place.now).pool ≡ pool_of_class program.now place.now.class }
     ensures is { reference_array (moment program.now machine.now thread) (site_at place.now)
         ≡ outcome_of (moment program.now machine.now thread) result
         (new_array_outcome (moment program.now machine.now thread) (site_at place.now)) }
     ensures may { IfOk result (λ x. MayMake (top machine.now.guest thread)) }
 {
     operands_fit(machine, thread);
-    let name = class_named(place)?;
+    let named = match class_named(place) {
+        Ok(named) => named,
+        Err(refusal) => return Err(refusal),
+    };
     let elements = take_int(machine, thread, 0)?;
-    let class = resolve(program, name)?;
+    let class = resolve_named(program, &named)?;
     let array = array_over(program, class);
     sized(array, elements)
 }

@@ -8,6 +8,8 @@ ghost use Rattle.et_state.specs.State.{Kept, kept_of};
 ghost use Rattle.et_state.specs.Words.{HasFrame, top};
 ghost use Rattle.et_state.specs.Moves.{AreInHeap};
 ghost use Rattle.et_state.specs.Outcome.{Outcome};
+ghost use Rattle.et_program.specs.Entries.{Linked};
+ghost use Rattle.et_program.specs.Referring.{pool_of_class};
 ghost use Rattle.et_program.specs.Types.{passes as passing};
 ghost use Rattle.et_event.specs.Checks.{Reference, entries_of};
 ghost use Rattle.et_event.specs.Heap.{leaving_values, with_class, check_cast as check_casting, cast as casting, instance_of as instance_testing, type_tested as testing, truth as truth_of};
@@ -16,10 +18,11 @@ ghost use Rattle.et_event.specs.Sites.{Site, class_operand as operand_class, nat
 ghost use Rattle.et_event.specs.Sound.{IsSoundFor};
 ghost use Rattle.et_parts.specs.Places.{site_at};
 ghost use Rattle.et_refs.specs.Changes.{IsNamedReference, MayExchange, exchange_outcome, put_outcome};
+ghost use Rattle.et_refs.specs.NamedClasses.{IsNamedAt};
 ghost use Rattle.et_refs.specs.Refusals.{outcome_of};
 
 use crate::changes::Exchange;
-use crate::checks::{resolve, throws_unless};
+use crate::checks::{index_of, resolve_named, throws_unless};
 use crate::operands::{operands_fit, take_reference};
 use crate::refusals::Refusal;
 use et_base::{ClassId, ObjectId, Steps, ThreadId, Value};
@@ -29,14 +32,32 @@ use et_program::Program;
 use et_state::Machine;
 use std::sync::ledger::Ledger;
 
-/// The name of the class that an instruction has as its operand.
-pub fn class_named<'a>(place: &Place<'a>) -> Result<&'a [u8], Refusal>
+/// A class as an instruction names it.
+#[derive(Clone, Copy)]
+pub(crate) struct NamedClass<'a> {
+    /// The name.
+    pub name: &'a [u8],
+    /// The class in whose pool the name stands.
+    pub class: ClassId,
+    /// The index of the Class entry that gives the name.
+    pub index: u16,
+}
+
+/// The class that an instruction has as its operand.
+pub(crate) fn class_named<'a>(place: &Place<'a>) -> Result<NamedClass<'a>, Refusal>
     requires { natural_of place.now.instr.first < 2 ^ 16 }
-    ensures { (e : Moment) (go : List ℕ → Outcome Kept) → with_class e
-        (operand_class (site_at place.now)) go ≡ outcome_of e result (λ name. go name.now) }
+    ensures is { (e : Moment) (go : List ℕ → Outcome Kept) → with_class e
+        (operand_class (site_at place.now)) go ≡ outcome_of e result (λ x. go x.name.now) }
+    ensures named { (p : Linked) → place.now.class < length p.classes →
+        (site_at place.now).pool ≡ pool_of_class p place.now.class →
+        IfOk result (λ x. IsNamedAt p x) }
 {
     match class_operand(place) {
-        Some(name) => Ok(name),
+        Some(name) => Ok(NamedClass {
+            name,
+            class: place.class,
+            index: index_of(place),
+        }),
         None => Err(Refusal::IllTyped),
     }
 }
@@ -64,21 +85,22 @@ fn cast_object<L: Ledger>(
     program: &Program,
     machine: &Machine,
     thread: ThreadId,
-    name: &[u8],
+    named: &NamedClass<'_>,
     object: ObjectId,
     visits: &mut Steps<L>,
 ) -> Result<Value, Refusal>
     requires sound { IsSoundFor program.now (kept_of machine.now) }
+    requires known { IsNamedAt program.now named.now }
     requires held { IsHeld machine.now.heap object }
     ensures is { (at : Site) (below : List Entry) →
-        casting (moment program.now machine.now thread) at name.now below (Some object)
+        casting (moment program.now machine.now thread) at named.now.name.now below (Some object)
         ≡ outcome_of (moment program.now machine.now thread) result
         (put_outcome (moment program.now machine.now thread) at below) }
     ensures few { IfOk result (λ v. length (entries_of v) ≤ 1) }
     ensures held { IfOk result (λ v. AreInHeap machine.now (refs_of_value v)) }
     ensures visits { visits.new ≤ visits.old + 1 }
 {
-    let class = resolve(program, name)?;
+    let class = resolve_named(program, named)?;
     let holds = passes(program, machine, object, class, visits);
     throws_unless(GuestError::ClassCastException, holds)?;
     Ok(Value::Ref(object))
@@ -89,21 +111,22 @@ fn test_object<L: Ledger>(
     program: &Program,
     machine: &Machine,
     thread: ThreadId,
-    name: &[u8],
+    named: &NamedClass<'_>,
     object: ObjectId,
     visits: &mut Steps<L>,
 ) -> Result<Value, Refusal>
     requires sound { IsSoundFor program.now (kept_of machine.now) }
+    requires known { IsNamedAt program.now named.now }
     requires held { IsHeld machine.now.heap object }
     ensures is { (at : Site) (below : List Entry) →
-        testing (moment program.now machine.now thread) at name.now below (Some object)
+        testing (moment program.now machine.now thread) at named.now.name.now below (Some object)
         ≡ outcome_of (moment program.now machine.now thread) result
         (put_outcome (moment program.now machine.now thread) at below) }
     ensures few { IfOk result (λ v. length (entries_of v) ≤ 1) }
     ensures held { IfOk result (λ v. AreInHeap machine.now (refs_of_value v)) }
     ensures visits { visits.new ≤ visits.old + 1 }
 {
-    let class = resolve(program, name)?;
+    let class = resolve_named(program, named)?;
     let holds = passes(program, machine, object, class, visits);
     Ok(truth(holds))
 }
@@ -120,14 +143,15 @@ fn cast<L: Ledger>(
     program: &Program,
     machine: &Machine,
     thread: ThreadId,
-    name: &[u8],
+    named: &NamedClass<'_>,
     reference: Option<ObjectId>,
     visits: &mut Steps<L>,
 ) -> Result<Value, Refusal>
     requires sound { IsSoundFor program.now (kept_of machine.now) }
+    requires known { IsNamedAt program.now named.now }
     requires named { IsNamedReference machine.now (top machine.now.guest thread) reference }
     ensures is { (at : Site) (below : List Entry) →
-        casting (moment program.now machine.now thread) at name.now below reference
+        casting (moment program.now machine.now thread) at named.now.name.now below reference
         ≡ outcome_of (moment program.now machine.now thread) result
         (put_outcome (moment program.now machine.now thread) at below) }
     ensures few { IfOk result (λ v. length (entries_of v) ≤ 1) }
@@ -135,7 +159,7 @@ fn cast<L: Ledger>(
     ensures visits { visits.new ≤ visits.old + 1 }
 {
     match reference {
-        Some(object) => cast_object(program, machine, thread, name, object, visits),
+        Some(object) => cast_object(program, machine, thread, named, object, visits),
         None => Ok(Value::Null),
     }
 }
@@ -145,14 +169,15 @@ fn test<L: Ledger>(
     program: &Program,
     machine: &Machine,
     thread: ThreadId,
-    name: &[u8],
+    named: &NamedClass<'_>,
     reference: Option<ObjectId>,
     visits: &mut Steps<L>,
 ) -> Result<Value, Refusal>
     requires sound { IsSoundFor program.now (kept_of machine.now) }
+    requires known { IsNamedAt program.now named.now }
     requires named { IsNamedReference machine.now (top machine.now.guest thread) reference }
     ensures is { (at : Site) (below : List Entry) →
-        testing (moment program.now machine.now thread) at name.now below reference
+        testing (moment program.now machine.now thread) at named.now.name.now below reference
         ≡ outcome_of (moment program.now machine.now thread) result
         (put_outcome (moment program.now machine.now thread) at below) }
     ensures few { IfOk result (λ v. length (entries_of v) ≤ 1) }
@@ -160,7 +185,7 @@ fn test<L: Ledger>(
     ensures visits { visits.new ≤ visits.old + 1 }
 {
     match reference {
-        Some(object) => test_object(program, machine, thread, name, object, visits),
+        Some(object) => test_object(program, machine, thread, named, object, visits),
         None => Ok(truth(false)),
     }
 }
@@ -175,7 +200,9 @@ pub(crate) fn check_cast<L: Ledger>(
 ) -> Result<Exchange, Refusal>
     requires frame { HasFrame machine.now.guest thread }
     requires sound { IsSoundFor program.now (kept_of machine.now) }
+    requires class { place.now.class < length program.now.classes }
     requires index { natural_of place.now.instr.first < 2 ^ 16 }
+    requires pool { (site_at place.now).pool ≡ pool_of_class program.now place.now.class }
     ensures is { check_casting (moment program.now machine.now thread) (site_at place.now)
         ≡ outcome_of (moment program.now machine.now thread) result
         (exchange_outcome (moment program.now machine.now thread) (site_at place.now)) }
@@ -183,9 +210,12 @@ pub(crate) fn check_cast<L: Ledger>(
     ensures visits { visits.new ≤ visits.old + 1 }
 {
     operands_fit(machine, thread);
-    let name = class_named(place)?;
+    let named = match class_named(place) {
+        Ok(named) => named,
+        Err(refusal) => return Err(refusal),
+    };
     let reference = take_reference(machine, thread, 0)?;
-    let value = cast(program, machine, thread, name, reference, visits)?;
+    let value = cast(program, machine, thread, &named, reference, visits)?;
     Ok(Exchange { taken: 1, value })
 }
 
@@ -199,7 +229,9 @@ pub(crate) fn instance_of<L: Ledger>(
 ) -> Result<Exchange, Refusal>
     requires frame { HasFrame machine.now.guest thread }
     requires sound { IsSoundFor program.now (kept_of machine.now) }
+    requires class { place.now.class < length program.now.classes }
     requires index { natural_of place.now.instr.first < 2 ^ 16 }
+    requires pool { (site_at place.now).pool ≡ pool_of_class program.now place.now.class }
     ensures is { instance_testing (moment program.now machine.now thread) (site_at place.now)
         ≡ outcome_of (moment program.now machine.now thread) result
         (exchange_outcome (moment program.now machine.now thread) (site_at place.now)) }
@@ -207,8 +239,11 @@ pub(crate) fn instance_of<L: Ledger>(
     ensures visits { visits.new ≤ visits.old + 1 }
 {
     operands_fit(machine, thread);
-    let name = class_named(place)?;
+    let named = match class_named(place) {
+        Ok(named) => named,
+        Err(refusal) => return Err(refusal),
+    };
     let reference = take_reference(machine, thread, 0)?;
-    let value = test(program, machine, thread, name, reference, visits)?;
+    let value = test(program, machine, thread, &named, reference, visits)?;
     Ok(Exchange { taken: 1, value })
 }

@@ -1,10 +1,10 @@
 //! Instance fields (JVMS 6.5, getfield, putfield).
-ghost use Rattle.std.specs.Prelude.{◌≡◌, ℕ, ◌+◌, ◌<◌, ◌≤◌, ◌^◌, true, false, not, length, Some, IfOk};
+ghost use Rattle.std.specs.Prelude.{◌≡◌, ℕ, ◌+◌, ◌<◌, ◌≤◌, ◌^◌, true, false, not, length, Some, IfOk, IsSome};
 ghost use Rattle.et_class.specs.Names.{has as has_flag};
 ghost use Rattle.et_class.specs.declared.flags.TheConstants.{STATIC as STATIC_FLAG};
 ghost use Rattle.et_pool.specs.Descriptors.{is_field_descriptor as is_of_field, width_of as descriptor_width};
 ghost use Rattle.et_program.specs.Entries.{field_at as field_of};
-ghost use Rattle.et_program.specs.Resolution.{resolve_field as field_meant};
+ghost use Rattle.et_program.specs.Referring.{field_of_member, pool_of_class};
 ghost use Rattle.et_heap.specs.Objects.{object_at, slot_of};
 ghost use Rattle.et_state.specs.State.{Kept, kept_of};
 ghost use Rattle.et_heap.specs.Refs.{refs_of_value};
@@ -13,7 +13,7 @@ ghost use Rattle.et_state.specs.Sound.{IsSound};
 ghost use Rattle.et_state.specs.Moves.{AreInHeap};
 ghost use Rattle.et_state.specs.Outcome.{Outcome};
 ghost use Rattle.et_event.specs.declared.errors.GuestError.TheVariants.{IncompatibleClassChangeError};
-ghost use Rattle.et_event.specs.Checks.{entries_of, resolved, throws_unless as throwing_unless};
+ghost use Rattle.et_event.specs.Checks.{entries_of, throws_unless as throwing_unless};
 ghost use Rattle.et_event.specs.Heap.{with_field, resolved_field, is_static_at, with_holder, get_field, put_field};
 ghost use Rattle.et_event.specs.Kinds.{operand_kind as descriptor_kind, or_zero as zero_or};
 ghost use Rattle.et_event.specs.Moments.{Moment, moment, begins};
@@ -22,30 +22,62 @@ ghost use Rattle.et_event.specs.Sound.{IsSoundFor, HasField};
 ghost use Rattle.et_parts.specs.Members.{shown_member};
 ghost use Rattle.et_parts.specs.Places.{site_at};
 ghost use Rattle.et_refs.specs.Changes.{IsNamedReference, MayExchange, MayStore, exchange_outcome, store_outcome};
+ghost use Rattle.et_refs.specs.NamedFields.{IsAnswered};
 ghost use Rattle.et_refs.specs.Refusals.{outcome_of};
 ghost use Rattle.et_refs.specs.Slots.{IsInstanceField, IsSlotAt};
 
 use crate::changes::{Exchange, Store};
-use crate::checks::{ill_typed_unless, not_null, resolve, throws_unless};
+use crate::checks::{ill_typed_unless, index_of, not_null, throws_unless};
 use crate::kinds::{kind_of, narrowed};
 use crate::operands::{take_reference, take_typed, type_fits};
 use crate::refusals::Refusal;
 use crate::slots::{SlotAt, read_slot};
-use et_base::{ClassId, FieldId, ObjectId, Steps, ThreadId, Value};
+use et_base::{FieldId, ObjectId, Steps, ThreadId, Value};
 use et_class::flags::{STATIC, has};
 use et_event::GuestError;
 use et_parts::{MemberAt, Place, member_at};
 use et_pool::descriptor::is_field_descriptor;
-use et_program::Program;
+use et_program::{LinkError, Program};
 use et_state::Machine;
 use std::sync::ledger::Ledger;
 
+/// A field as an instruction names it, with what it was resolved to when the program was linked.
+#[derive(Clone, Copy)]
+pub struct NamedField<'a> {
+    /// The class, the name and the descriptor.
+    pub member: MemberAt<'a>,
+    /// The field that they mean, or the error of its resolution (JVMS 5.4.3.2).
+    pub answer: Result<FieldId, LinkError>,
+}
+
+/// What the member that an instruction names was resolved to, as a field, when the program was linked (JVMS 5.4.3.2).
+fn answer_at(program: &Program, place: &Place<'_>) -> Result<FieldId, LinkError>
+    requires class { place.now.class < length program.now.classes }
+    requires index { natural_of place.now.instr.first < 2 ^ 16 }
+    requires pool { (site_at place.now).pool ≡ pool_of_class program.now place.now.class }
+    requires member { IsSome (site_member (site_at place.now)) }
+    ensures value { (m : Member) →
+        site_member (site_at place.now) ≡ Some m → result ≡ field_of_member program.now m }
+    ensures within { IfOk result (λ f. f < length program.now.fields) }
+{
+    match program.field_at_index(place.class, index_of(place)) {
+        Some(answer) => answer,
+        None => unreachable!(),
+    }
+}
+
 /// The member that an instruction names, where it is a field.
-pub fn field_named<'a>(place: &Place<'a>) -> Result<MemberAt<'a>, Refusal>
-    requires { natural_of place.now.instr.first < 2 ^ 16 }
+pub(crate) fn field_named<'a>(
+    program: &Program,
+    place: &Place<'a>,
+) -> Result<NamedField<'a>, Refusal>
+    requires class { place.now.class < length program.now.classes }
+    requires index { natural_of place.now.instr.first < 2 ^ 16 }
+    requires pool { (site_at place.now).pool ≡ pool_of_class program.now place.now.class }
     ensures is { (e : Moment) (go : Member → Outcome Kept) → with_field e
-        (site_member (site_at place.now)) go ≡ outcome_of e result (λ m. go (shown_member m)) }
-    ensures field { IfOk result (λ m. is_of_field m.descriptor.now ≡ true) }
+        (site_member (site_at place.now)) go ≡ outcome_of e result (λ x. go (shown_member x.member)) }
+    ensures field { IfOk result (λ x. is_of_field x.member.descriptor.now ≡ true) }
+    ensures answered { IfOk result (λ x. IsAnswered program.now x) }
 {
     let Some(member) = member_at(place) else {
         return Err(Refusal::IllTyped);
@@ -53,44 +85,27 @@ pub fn field_named<'a>(place: &Place<'a>) -> Result<MemberAt<'a>, Refusal>
     if !is_field_descriptor(member.descriptor) {
         return Err(Refusal::IllTyped);
     }
-    Ok(member)
-}
-
-/// The field that a name and a descriptor mean in a class (JVMS 5.4.3.2).
-pub fn resolve_field(
-    program: &Program,
-    owner: ClassId,
-    name: &[u8],
-    descriptor: &[u8],
-) -> Result<FieldId, Refusal>
-    requires { owner < length program.now.classes }
-    ensures is { (s : Kept) (t : ℕ) (go : ℕ → Outcome Kept) →
-        resolved (record { program = program.now; before = s; thread = t })
-        (begins (record { program = program.now; before = s; thread = t }))
-        (field_meant program.now owner name.now descriptor.now) go
-        ≡ outcome_of (record { program = program.now; before = s; thread = t }) result go }
-    ensures within { IfOk result (λ f. f < length program.now.fields) }
-    ensures descriptor { IfOk result (λ f. (field_of program.now f).descriptor ≡ descriptor.now) }
-{
-    match program.resolve_field(owner, name, descriptor) {
-        Ok(field) => Ok(field),
-        Err(error) => Err(Refusal::Throws(GuestError::of(error))),
-    }
+    let answer = answer_at(program, place);
+    Ok(NamedField { member, answer })
 }
 
 /// The instance field that an instruction names.
-fn instance_field(program: &Program, member: &MemberAt<'_>) -> Result<FieldId, Refusal>
+fn instance_field(program: &Program, named: &NamedField<'_>) -> Result<FieldId, Refusal>
+    requires { IsAnswered program.now named.now }
     ensures is { (s : Kept) (t : ℕ) (go : ℕ → Outcome Kept) →
         resolved_field (record { program = program.now; before = s; thread = t }) (begins
-        (record { program = program.now; before = s; thread = t })) (shown_member member.now)
+        (record { program = program.now; before = s; thread = t })) (shown_member named.now.member)
         (λ f. throwing_unless (record { program = program.now; before = s; thread = t }) (begins
         (record { program = program.now; before = s; thread = t })) IncompatibleClassChangeError
         (not (is_static_at program.now f)) (go f))
         ≡ outcome_of (record { program = program.now; before = s; thread = t }) result go }
-    ensures field { IfOk result (λ f. IsInstanceField program.now member.now.descriptor.now f) }
+    ensures field { IfOk result
+        (λ f. IsInstanceField program.now named.now.member.descriptor.now f) }
 {
-    let owner = resolve(program, member.owner)?;
-    let field = resolve_field(program, owner, member.name, member.descriptor)?;
+    let field = match named.answer {
+        Ok(field) => field,
+        Err(error) => return Err(Refusal::Throws(GuestError::of(error))),
+    };
     let is_static = has(program.field(field).flags, STATIC);
     throws_unless(GuestError::IncompatibleClassChangeError, !is_static)?;
     Ok(field)
@@ -128,15 +143,16 @@ fn field_slot<L: Ledger>(
     program: &Program,
     machine: &Machine,
     thread: ThreadId,
-    member: &MemberAt<'_>,
+    named: &NamedField<'_>,
     reference: Option<ObjectId>,
     visits: &mut Steps<L>,
 ) -> Result<SlotAt, Refusal>
     requires sound { IsSoundFor program.now (kept_of machine.now) }
+    requires answered { IsAnswered program.now named.now }
     requires named { IsNamedReference machine.now (top machine.now.guest thread) reference }
     ensures is { (go : ℕ → ℕ → Outcome Kept) → resolved_field
         (moment program.now machine.now thread) (begins (moment program.now machine.now thread))
-        (shown_member member.now) (λ f. throwing_unless (moment program.now machine.now thread)
+        (shown_member named.now.member) (λ f. throwing_unless (moment program.now machine.now thread)
         (begins (moment program.now machine.now thread)) IncompatibleClassChangeError
         (not (is_static_at program.now f)) (with_holder (moment program.now machine.now thread)
         (begins (moment program.now machine.now thread)) f reference
@@ -144,10 +160,10 @@ fn field_slot<L: Ledger>(
         ≡ outcome_of (moment program.now machine.now thread) result (λ x. go x.object x.slot) }
     ensures object { IfOk result (λ x. reference ≡ Some x.object) }
     ensures at { IfOk result
-        (λ x. IsSlotAt machine.now (descriptor_kind member.now.descriptor.now) x) }
+        (λ x. IsSlotAt machine.now (descriptor_kind named.now.member.descriptor.now) x) }
     ensures visits { visits.new ≤ visits.old + 1 }
 {
-    let field = instance_field(program, member)?;
+    let field = instance_field(program, named)?;
     let object = holder(program, machine, thread, field, reference, visits)?;
     let info = program.field(field);
     Ok(SlotAt {
@@ -184,18 +200,23 @@ pub(crate) fn read_field<L: Ledger>(
 ) -> Result<Exchange, Refusal>
     requires frame { HasFrame machine.now.guest thread }
     requires sound { IsSoundFor program.now (kept_of machine.now) }
+    requires class { place.now.class < length program.now.classes }
     requires index { natural_of place.now.instr.first < 2 ^ 16 }
+    requires pool { (site_at place.now).pool ≡ pool_of_class program.now place.now.class }
     ensures is { get_field (moment program.now machine.now thread) (site_at place.now)
         ≡ outcome_of (moment program.now machine.now thread) result
         (exchange_outcome (moment program.now machine.now thread) (site_at place.now)) }
     ensures may { IfOk result (λ x. MayExchange machine.now (top machine.now.guest thread) x) }
     ensures visits { visits.new ≤ visits.old + 2 }
 {
-    let member = field_named(place)?;
+    let named = match field_named(program, place) {
+        Ok(named) => named,
+        Err(refusal) => return Err(refusal),
+    };
     let reference = take_reference(machine, thread, 0)?;
-    type_fits(machine, thread, member.descriptor)?;
-    let at = field_slot(program, machine, thread, &member, reference, visits)?;
-    let value = field_value(machine, member.descriptor, &at, visits);
+    type_fits(machine, thread, named.member.descriptor)?;
+    let at = field_slot(program, machine, thread, &named, reference, visits)?;
+    let value = field_value(machine, named.member.descriptor, &at, visits);
     Ok(Exchange { taken: 1, value })
 }
 
@@ -209,21 +230,26 @@ pub(crate) fn write_field<L: Ledger>(
 ) -> Result<Store, Refusal>
     requires frame { HasFrame machine.now.guest thread }
     requires sound { IsSoundFor program.now (kept_of machine.now) }
+    requires class { place.now.class < length program.now.classes }
     requires index { natural_of place.now.instr.first < 2 ^ 16 }
+    requires pool { (site_at place.now).pool ≡ pool_of_class program.now place.now.class }
     ensures is { put_field (moment program.now machine.now thread) (site_at place.now)
         ≡ outcome_of (moment program.now machine.now thread) result
         (store_outcome (moment program.now machine.now thread) (site_at place.now)) }
     ensures may { IfOk result (λ x. MayStore machine.now (top machine.now.guest thread) x) }
     ensures visits { visits.new ≤ visits.old + 1 }
 {
-    let member = field_named(place)?;
-    let taken = take_typed(machine, thread, member.descriptor)?;
+    let named = match field_named(program, place) {
+        Ok(named) => named,
+        Err(refusal) => return Err(refusal),
+    };
+    let taken = take_typed(machine, thread, named.member.descriptor)?;
     let reference = take_reference(machine, thread, taken.width)?;
-    let at = field_slot(program, machine, thread, &member, reference, visits)?;
+    let at = field_slot(program, machine, thread, &named, reference, visits)?;
     Ok(Store {
         taken: taken.width + 1,
         object: at.object,
         slot: at.slot,
-        value: narrowed(member.descriptor, taken.value),
+        value: narrowed(named.member.descriptor, taken.value),
     })
 }

@@ -5,12 +5,13 @@ ghost use Rattle.et_event.specs.Heap.{may_be_made as may_make, new_instance};
 ghost use Rattle.et_event.specs.Sites.{natural_of};
 ghost use Rattle.et_parts.specs.Places.{site_at};
 ghost use Rattle.et_event.specs.Moments.{moment};
+ghost use Rattle.et_program.specs.Referring.{pool_of_class};
 ghost use Rattle.et_refs.specs.Refusals.{outcome_of};
 ghost use Rattle.et_refs.specs.Accesses.{MayWant, wanted_outcome};
 
 use crate::accesses::{Access, Wanted};
 use crate::casts::class_named;
-use crate::checks::{resolve, throws_unless};
+use crate::checks::{resolve_named, throws_unless};
 use crate::refusals::Refusal;
 use crate::static_fields::width_fits;
 use et_base::{ClassId, ThreadId};
@@ -37,15 +38,20 @@ pub(crate) fn new_object(
     place: &Place<'_>,
 ) -> Result<Wanted, Refusal>
     requires frame { HasFrame machine.now.guest thread }
+    requires class { place.now.class < length program.now.classes }
     requires index { natural_of place.now.instr.first < 2 ^ 16 }
+    requires pool { (site_at place.now).pool ≡ pool_of_class program.now place.now.class }
     ensures is { new_instance (moment program.now machine.now thread) (site_at place.now)
         ≡ outcome_of (moment program.now machine.now thread) result
         (wanted_outcome (moment program.now machine.now thread) (site_at place.now)) }
     ensures may { IfOk result (λ x. MayWant program.now (top machine.now.guest thread) x) }
 {
-    let name = class_named(place)?;
+    let named = match class_named(place) {
+        Ok(named) => named,
+        Err(refusal) => return Err(refusal),
+    };
     width_fits(machine, thread, 1)?;
-    let class = resolve(program, name)?;
+    let class = resolve_named(program, &named)?;
     throws_unless(GuestError::InstantiationError, may_be_made(program, class))?;
     Ok(Wanted {
         class,

@@ -1,5 +1,5 @@
 //! What the instructions on fields, arrays and classes come to, by their rows.
-ghost use Rattle.std.specs.Prelude.{◌≡◌, ◌+◌, ◌<◌, ◌≤◌, ◌^◌, IfOk};
+ghost use Rattle.std.specs.Prelude.{◌≡◌, ◌+◌, ◌<◌, ◌≤◌, ◌^◌, length, IfOk};
 ghost use Rattle.et_event.specs.declared.rows.HeapRow.{HeapRow as OfHeap};
 ghost use Rattle.et_event.specs.Heap.{heap_event};
 ghost use Rattle.et_event.specs.Moments.{Moment, moment};
@@ -8,6 +8,7 @@ ghost use Rattle.et_event.specs.Sites.{Site, natural_of};
 ghost use Rattle.et_event.specs.Sound.{IsSoundFor};
 ghost use Rattle.et_parts.specs.Places.{site_at};
 ghost use Rattle.et_program.specs.Entries.{Linked};
+ghost use Rattle.et_program.specs.Referring.{pool_of_class};
 ghost use Rattle.et_refs.specs.Accesses.{MayWant, wanted_outcome};
 ghost use Rattle.et_refs.specs.Changes.{MayExchange, MayStore, MayMake, exchange_outcome, store_outcome, new_array_outcome};
 ghost use Rattle.et_refs.specs.Refusals.{outcome_of};
@@ -107,7 +108,9 @@ pub fn plan_of<L: Ledger>(
 ) -> Result<Plan, Refusal>
     requires frame { HasFrame machine.now.guest thread }
     requires sound { IsSoundFor program.now (kept_of machine.now) }
+    requires class { place.now.class < length program.now.classes }
     requires index { natural_of place.now.instr.first < 2 ^ 16 }
+    requires pool { (site_at place.now).pool ≡ pool_of_class program.now place.now.class }
     requires elements { AreElementsWithin program.now }
     requires slots { HasSlots program.now }
     ensures is { heap_event (moment program.now machine.now thread) (site_at place.now) row

@@ -11,20 +11,22 @@ ghost use Rattle.et_event.specs.Sites.{natural_of};
 ghost use Rattle.et_event.specs.Sound.{IsSoundFor};
 ghost use Rattle.et_parts.specs.Members.{shown_member};
 ghost use Rattle.et_parts.specs.Places.{site_at};
+ghost use Rattle.et_program.specs.Referring.{pool_of_class};
+ghost use Rattle.et_refs.specs.NamedFields.{IsAnswered};
 ghost use Rattle.et_refs.specs.Refusals.{outcome_of};
 ghost use Rattle.et_event.specs.Programs.{HasSlots};
 ghost use Rattle.et_refs.specs.Accesses.{IsStaticField, MayWant, wanted_outcome};
 
 use crate::accesses::{Access, Read, Wanted, Write};
-use crate::checks::{ill_typed_unless, resolve, throws_unless};
-use crate::fields::{field_named, resolve_field};
+use crate::checks::{ill_typed_unless, throws_unless};
+use crate::fields::{NamedField, field_named};
 use crate::kinds::{kind_of, narrowed, width_of};
 use crate::operands::take_typed;
 use crate::refusals::Refusal;
 use et_base::{FieldId, ThreadId};
 use et_class::flags::{STATIC, has};
 use et_event::GuestError;
-use et_parts::{MemberAt, Place};
+use et_parts::Place;
 use et_program::Program;
 use et_state::Machine;
 
@@ -53,18 +55,21 @@ pub(crate) fn width_fits(machine: &Machine, thread: ThreadId, width: u32) -> Res
 }
 
 /// The static field that an instruction names.
-fn static_field(program: &Program, member: &MemberAt<'_>) -> Result<FieldId, Refusal>
+fn static_field(program: &Program, named: &NamedField<'_>) -> Result<FieldId, Refusal>
+    requires { IsAnswered program.now named.now }
     ensures is { (s : Kept) (t : ℕ) (go : ℕ → Outcome Kept) →
         resolved_field (record { program = program.now; before = s; thread = t }) (begins
-        (record { program = program.now; before = s; thread = t })) (shown_member member.now)
+        (record { program = program.now; before = s; thread = t })) (shown_member named.now.member)
         (λ f. throwing_unless (record { program = program.now; before = s; thread = t }) (begins
         (record { program = program.now; before = s; thread = t })) IncompatibleClassChangeError
         (is_static_at program.now f) (go f))
         ≡ outcome_of (record { program = program.now; before = s; thread = t }) result go }
-    ensures field { IfOk result (λ f. IsStaticField program.now member.now.descriptor.now f) }
+    ensures field { IfOk result (λ f. IsStaticField program.now named.now.member.descriptor.now f) }
 {
-    let owner = resolve(program, member.owner)?;
-    let field = resolve_field(program, owner, member.name, member.descriptor)?;
+    let field = match named.answer {
+        Ok(field) => field,
+        Err(error) => return Err(Refusal::Throws(GuestError::of(error))),
+    };
     let is_static = has(program.field(field).flags, STATIC);
     throws_unless(GuestError::IncompatibleClassChangeError, is_static)?;
     Ok(field)
@@ -79,21 +84,26 @@ pub(crate) fn read_field(
 ) -> Result<Wanted, Refusal>
     requires program { HasSlots program.now }
     requires frame { HasFrame machine.now.guest thread }
+    requires class { place.now.class < length program.now.classes }
     requires index { natural_of place.now.instr.first < 2 ^ 16 }
+    requires pool { (site_at place.now).pool ≡ pool_of_class program.now place.now.class }
     ensures is { get_static (moment program.now machine.now thread) (site_at place.now)
         ≡ outcome_of (moment program.now machine.now thread) result
         (wanted_outcome (moment program.now machine.now thread) (site_at place.now)) }
     ensures may { IfOk result (λ x. MayWant program.now (top machine.now.guest thread) x) }
 {
-    let member = field_named(place)?;
-    width_fits(machine, thread, width_of(member.descriptor))?;
-    let field = static_field(program, &member)?;
+    let named = match field_named(program, place) {
+        Ok(named) => named,
+        Err(refusal) => return Err(refusal),
+    };
+    width_fits(machine, thread, width_of(named.member.descriptor))?;
+    let field = static_field(program, &named)?;
     let info = program.field(field);
     Ok(Wanted {
         class: info.class,
         access: Access::Read(Read {
             slot: info.slot,
-            kind: kind_of(member.descriptor),
+            kind: kind_of(named.member.descriptor),
         }),
     })
 }
@@ -108,22 +118,27 @@ pub(crate) fn write_field(
     requires program { HasSlots program.now }
     requires frame { HasFrame machine.now.guest thread }
     requires sound { IsSoundFor program.now (kept_of machine.now) }
+    requires class { place.now.class < length program.now.classes }
     requires index { natural_of place.now.instr.first < 2 ^ 16 }
+    requires pool { (site_at place.now).pool ≡ pool_of_class program.now place.now.class }
     ensures is { put_static (moment program.now machine.now thread) (site_at place.now)
         ≡ outcome_of (moment program.now machine.now thread) result
         (wanted_outcome (moment program.now machine.now thread) (site_at place.now)) }
     ensures may { IfOk result (λ x. MayWant program.now (top machine.now.guest thread) x) }
 {
-    let member = field_named(place)?;
-    let taken = take_typed(machine, thread, member.descriptor)?;
-    let field = static_field(program, &member)?;
+    let named = match field_named(program, place) {
+        Ok(named) => named,
+        Err(refusal) => return Err(refusal),
+    };
+    let taken = take_typed(machine, thread, named.member.descriptor)?;
+    let field = static_field(program, &named)?;
     let info = program.field(field);
     Ok(Wanted {
         class: info.class,
         access: Access::Write(Write {
             slot: info.slot,
             taken: taken.width,
-            value: narrowed(member.descriptor, taken.value),
+            value: narrowed(named.member.descriptor, taken.value),
         }),
     })
 }

@@ -13,27 +13,30 @@ pub returns-in_err-class-clause-is : goal.returns-in_err-class-clause-is
 returns-in_err-class-clause-is c =
     let e = moment c.args.program.now c.args.machine.now c.args.thread in
     let at = site_at c.args.place.now in
-    let name = c.in_ok-name.name.now in
+    let name = c.in-Ok.named.name.now in
     let same : c.from_residual-in_err-class.result ≡ Err c.in_err-class.field-0.0 = search rules in
     refusing e _ _ c.in_err-class.field-0.0 (wanted_outcome e at)
-    (c.in_ok-name.ensures e (makes_fitting e at) ∙ (c.in_ok-width_fits.ensures.is e (makes_named e at name) ∙ c.in_err-class.ensures.is (kept_of c.args.machine.now) c.args.thread (makes_class e at))) same
+    (c.in-Ok.ensures.is e (makes_fitting e at) ∙ (c.in_ok-width_fits.ensures.is e (makes_named e at name) ∙ c.in_err-class.ensures.is (kept_of c.args.machine.now) c.args.thread (makes_class e at))) same
 
 pub returns-in_err-throws_unless-clause-is : goal.returns-in_err-throws_unless-clause-is
 returns-in_err-throws_unless-clause-is c =
     let e = moment c.args.program.now c.args.machine.now c.args.thread in
     let at = site_at c.args.place.now in
-    let name = c.in_ok-name.name.now in
+    let name = c.in-Ok.named.name.now in
     let class = c.in_ok-class.class in
     let same : c.from_residual-in_err-throws_unless.result ≡ Err c.in_err-throws_unless.field-0.0 = search rules in
     refusing e _ _ c.in_err-throws_unless.field-0.0 (wanted_outcome e at)
-    (c.in_ok-name.ensures e (makes_fitting e at) ∙ (c.in_ok-width_fits.ensures.is e (makes_named e at name) ∙ (c.in_ok-class.ensures.is (kept_of c.args.machine.now) c.args.thread (makes_class e at)
+    (c.in-Ok.ensures.is e (makes_fitting e at) ∙ (c.in_ok-width_fits.ensures.is e (makes_named e at name) ∙ (c.in_ok-class.ensures.is (kept_of c.args.machine.now) c.args.thread (makes_class e at)
     ∙ (ap (λ (b : Bool). throws_unless e (begins e) InstantiationError b (made_of e at class)) (sym c.may_be_made.ensures) ∙ c.in_err-throws_unless.ensures.is e (made_of e at class))))) same
 
 pub returns-clause-is : goal.returns-clause-is
 returns-clause-is c =
     let e = moment c.args.program.now c.args.machine.now c.args.thread in
     let at = site_at c.args.place.now in
-    let name = c.in_ok-name.name.now in
+    let name = c.in-Ok.named.name.now in
     let class = c.in_ok-class.class in
-    c.in_ok-name.ensures e (makes_fitting e at) ∙ (c.in_ok-width_fits.ensures.is e (makes_named e at name) ∙ (c.in_ok-class.ensures.is (kept_of c.args.machine.now) c.args.thread (makes_class e at)
+    c.in-Ok.ensures.is e (makes_fitting e at) ∙ (c.in_ok-width_fits.ensures.is e (makes_named e at name) ∙ (c.in_ok-class.ensures.is (kept_of c.args.machine.now) c.args.thread (makes_class e at)
     ∙ (ap (λ (b : Bool). throws_unless e (begins e) InstantiationError b (made_of e at class)) (sym c.may_be_made.ensures) ∙ c.in_ok-throws_unless.ensures.is e (made_of e at class))))
+
+pub resolve_named-requires : goal.resolve_named-requires
+resolve_named-requires c = c.in-Ok.ensures.named c.args.program.now c.requires.class c.requires.pool

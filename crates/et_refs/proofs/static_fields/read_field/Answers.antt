@@ -20,26 +20,26 @@ pub returns-in_err-field-clause-is : goal.returns-in_err-field-clause-is
 returns-in_err-field-clause-is c =
     let e = moment c.args.program.now c.args.machine.now c.args.thread in
     let at = site_at c.args.place.now in
-    let m = shown_member c.in_ok-member.member in
+    let m = shown_member c.in-Ok.named.member in
     let ops = (top c.args.machine.now.guest c.args.thread).operands in
     let room = (top c.args.machine.now.guest c.args.thread).room in
     let same : c.from_residual-in_err-field.result ≡ Err c.in_err-field.field-0.0 = search rules in
     refusing e _ _ c.in_err-field.field-0.0 (wanted_outcome e at)
-    (c.in_ok-member.ensures.is e (gets e at) ∙ (ap (λ (w : ℕ). ill_typed_unless e (nat_le (w + length ops) room) (gets_field e at m)) (sym c.width_of.ensures.value)
+    (c.in-Ok.ensures.is e (gets e at) ∙ (ap (λ (w : ℕ). ill_typed_unless e (nat_le (w + length ops) room) (gets_field e at m)) (sym c.width_of.ensures.value)
     ∙ (c.in_ok-width_fits.ensures.is e (gets_field e at m) ∙ c.in_err-field.ensures.is (kept_of c.args.machine.now) c.args.thread (got e at m)))) same
 
 pub returns-clause-is : goal.returns-clause-is
 returns-clause-is c =
     let e = moment c.args.program.now c.args.machine.now c.args.thread in
     let at = site_at c.args.place.now in
-    let m = shown_member c.in_ok-member.member in
+    let m = shown_member c.in-Ok.named.member in
     let ops = (top c.args.machine.now.guest c.args.thread).operands in
     let room = (top c.args.machine.now.guest c.args.thread).room in
-    c.in_ok-member.ensures.is e (gets e at) ∙ (ap (λ (w : ℕ). ill_typed_unless e (nat_le (w + length ops) room) (gets_field e at m)) (sym c.width_of.ensures.value)
+    c.in-Ok.ensures.is e (gets e at) ∙ (ap (λ (w : ℕ). ill_typed_unless e (nat_le (w + length ops) room) (gets_field e at m)) (sym c.width_of.ensures.value)
     ∙ (c.in_ok-width_fits.ensures.is e (gets_field e at m) ∙ (c.in_ok-field.ensures.is (kept_of c.args.machine.now) c.args.thread (got e at m)
     ∙ (ap (λ (x : FieldInfo). wanted_outcome e at (record { class = x.class; access = access.Read (record { slot = x.slot; kind = operand_kind m.descriptor }) })) (sym c.field-info.ensures.value)
     ∙ ap (λ (k : Option Operand). wanted_outcome e at (record { class = c.field-info.result.now.class; access = access.Read (record { slot = c.field-info.result.now.slot; kind = k }) })) (sym c.kind_of.ensures)))))
 
 pub returns-clause-may : goal.returns-clause-may
 returns-clause-may c =
-    may_read c.args.program.now (top c.args.machine.now.guest c.args.thread) c.in_ok-member.member.descriptor.now c.in_ok-field.field c.width_of.result c.field-info.result.now c.kind_of.result c.requires.program c.in_ok-field.ensures.field c.width_of.ensures.value c.in_ok-width_fits.ensures.fits c.field-info.ensures.value c.kind_of.ensures
+    may_read c.args.program.now (top c.args.machine.now.guest c.args.thread) c.in-Ok.named.member.descriptor.now c.in_ok-field.field c.width_of.result c.field-info.result.now c.kind_of.result c.requires.program c.in_ok-field.ensures.field c.width_of.ensures.value c.in_ok-width_fits.ensures.fits c.field-info.ensures.value c.kind_of.ensures
