@@ -18,7 +18,7 @@ pub record BootCodeOf : Type 0 where
   pub code : List ℕ
 
 -- a method: its flags are those of a class file (JVMS table 4.6-A); a deferred one has no code and is a part of the
--- machine that is made for threads and weak references
+-- machine that is made for threads, weak references and their queues
 pub record BootMethodOf : Type 0 where
   pub name : List ℕ
   pub descriptor : List ℕ
@@ -58,7 +58,7 @@ public_interface = 0x0601
 abbrev pub built_in : List ℕ → List ℕ → BootMethodOf
 built_in name descriptor = record { name = name; descriptor = descriptor; flags = public; code = None; deferred = false }
 
--- a public method of threads or of weak references that the machine runs itself
+-- a public method of threads, of weak references or of their queues that the machine runs itself
 abbrev pub deferred : List ℕ → List ℕ → BootMethodOf
 deferred name descriptor = record { name = name; descriptor = descriptor; flags = public; code = None; deferred = true }
 
@@ -187,6 +187,7 @@ reference = record {
   methods = deferred (codes "get") (codes "()Ljava/lang/Object;") ∷ deferred (codes "clear") (codes "()V") ∷ [];
 }
 
+-- the second constructor gives a reference its queue, or none
 abbrev pub weak_reference : BootClassOf
 weak_reference = record {
   name = codes "java/lang/ref/WeakReference";
@@ -196,7 +197,23 @@ weak_reference = record {
   pool = pool_bytes [];
   slots = 0;
   fields = [];
-  methods = deferred (codes "<init>") (codes "(Ljava/lang/Object;)V") ∷ [];
+  methods =
+      deferred (codes "<init>") (codes "(Ljava/lang/Object;)V")
+      ∷ deferred (codes "<init>") (codes "(Ljava/lang/Object;Ljava/lang/ref/ReferenceQueue;)V")
+      ∷ [];
+}
+
+-- its one waiting list is no slot
+abbrev pub reference_queue : BootClassOf
+reference_queue = record {
+  name = codes "java/lang/ref/ReferenceQueue";
+  super_name = Some (codes "java/lang/Object");
+  flags = public;
+  interfaces = [];
+  pool = pool_bytes [];
+  slots = 0;
+  fields = [];
+  methods = deferred (codes "<init>") (codes "()V") ∷ deferred (codes "poll") (codes "()Ljava/lang/ref/Reference;") ∷ [];
 }
 
 -- THE TABLE
@@ -212,6 +229,7 @@ boot_classes =
     ∷ thread
     ∷ reference
     ∷ weak_reference
+    ∷ reference_queue
     ∷ throwable_class
     ∷ throwable (codes "java/lang/Exception") (codes "java/lang/Throwable")
     ∷ throwable (codes "java/lang/Error") (codes "java/lang/Throwable")

@@ -26,14 +26,20 @@ abbrev pub are_in_order : List BootClassOf → List BootClassOf → Bool
 are_in_order before [] = true
 are_in_order before (c ∷ cs) = (has_super before c.super_name && list_all (has_kind before true) c.interfaces) && are_in_order (c ∷ before) cs
 
--- Thread, Reference or WeakReference
+-- Thread, Reference, WeakReference or ReferenceQueue
 abbrev pub is_deferring : BootClassOf → Bool
-is_deferring c = list_any (λ name. is_class_named name c) (codes "java/lang/Thread" ∷ codes "java/lang/ref/Reference" ∷ codes "java/lang/ref/WeakReference" ∷ [])
+is_deferring c =
+    list_any (λ name. is_class_named name c)
+    (codes "java/lang/Thread"
+    ∷ codes "java/lang/ref/Reference"
+    ∷ codes "java/lang/ref/WeakReference"
+    ∷ codes "java/lang/ref/ReferenceQueue"
+    ∷ [])
 
 abbrev pub same_flag : Bool → Bool → Bool
 same_flag true b = b
 same_flag false b = not b
 
--- deferred is exactly a method without code of one of those three
+-- deferred is exactly a method without code of one of those four
 abbrev pub defers_exactly : BootClassOf → Bool
 defers_exactly c = list_all (λ m. same_flag m.deferred (is_deferring c && not (is_some m.code))) c.methods

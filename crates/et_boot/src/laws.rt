@@ -17,7 +17,7 @@ pub fn classes_are_in_order()
     ensures { IsTrue (are_in_order [] boot_classes) }
 {}
 
-/// The deferred methods are exactly those without code of Thread, Reference and WeakReference.
+/// The deferred methods are exactly those without code of Thread, Reference, WeakReference and ReferenceQueue.
 pub fn deferred_exactly()
     ensures { IsTrue (list_all defers_exactly boot_classes) }
 {}

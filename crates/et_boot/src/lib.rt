@@ -37,7 +37,7 @@ macro_rules! built_in {
     };
 }
 
-/// A public method of threads or of weak references that the machine runs itself.
+/// A public method of threads, of weak references or of their queues that the machine runs itself.
 macro_rules! deferred {
     ($name:expr, $descriptor:expr) => {
         BootMethod {
@@ -192,7 +192,27 @@ const WEAK_REFERENCE: BootClass = BootClass {
     pool: NO_ENTRIES,
     slots: 0,
     fields: &[],
-    methods: &[deferred!(b"<init>", b"(Ljava/lang/Object;)V")],
+    methods: &[
+        deferred!(b"<init>", b"(Ljava/lang/Object;)V"),
+        deferred!(
+            b"<init>",
+            b"(Ljava/lang/Object;Ljava/lang/ref/ReferenceQueue;)V"
+        ),
+    ],
+};
+
+const REFERENCE_QUEUE: BootClass = BootClass {
+    name: b"java/lang/ref/ReferenceQueue",
+    super_name: Some(b"java/lang/Object"),
+    flags: PUBLIC,
+    interfaces: &[],
+    pool: NO_ENTRIES,
+    slots: 0,
+    fields: &[],
+    methods: &[
+        deferred!(b"<init>", b"()V"),
+        deferred!(b"poll", b"()Ljava/lang/ref/Reference;"),
+    ],
 };
 
 /// Slot 0 is the message and slot 1 the cause; neither is a field that a name resolves to.
@@ -214,7 +234,7 @@ const THROWABLE: BootClass = BootClass {
     ],
 };
 
-static CLASSES: [BootClass; 40] = [
+static CLASSES: [BootClass; 41] = [
     OBJECT,
     interface!(b"java/lang/Runnable", &[without_body!(b"run", b"()V")]),
     interface!(b"java/lang/Cloneable", &[]),
@@ -227,6 +247,7 @@ static CLASSES: [BootClass; 40] = [
     THREAD,
     REFERENCE,
     WEAK_REFERENCE,
+    REFERENCE_QUEUE,
     THROWABLE,
     throwable!(b"java/lang/Exception", b"java/lang/Throwable"),
     throwable!(b"java/lang/Error", b"java/lang/Throwable"),

@@ -70,20 +70,20 @@ refs_few (suc n) (v ∷ vs) =
 pub passed_few : (m : MachineState) (t n pc : ℕ) (b : MachineState) → b ≡ passed_by m t n pc → length b.lost ≤ n
 passed_few m t n pc b e = subst (λ (x : MachineState). length x.lost ≤ n) (sym e) (refs_few n (top m.guest t).operands)
 
-abbrev PassedOver : MachineState → ℕ → ℕ → ℕ → MachineState → Type 0
+abbrev pub PassedOver : MachineState → ℕ → ℕ → ℕ → MachineState → Type 0
 PassedOver m t n pc b = Did (kept_of m) (begun m) t (replaced n [] pc (top m.guest t)) (refs_of (take n (top m.guest t).operands)) b
 
-did_pass : (m : MachineState) (t n pc : ℕ) (b : MachineState) → HasFrame m.guest t → b ≡ passed_by m t n pc → PassedOver m t n pc b
+pub did_pass : (m : MachineState) (t n pc : ℕ) (b : MachineState) → HasFrame m.guest t → b ≡ passed_by m t n pc → PassedOver m t n pc b
 did_pass m t n pc b has e = record { is = e; moves = moves_replaced m t n pc [] has (λ o c. absurd (Contains-none o c)) }
 
-begun_has : (m : MachineState) (t : ℕ) → HasFrame m.guest t → HasFrame (begun m).guest t
+pub begun_has : (m : MachineState) (t : ℕ) → HasFrame m.guest t → HasFrame (begun m).guest t
 begun_has m t has = record { thread = has.thread; frame = has.frame }
 
 -- .. and values are given
-abbrev gone : MachineState → ℕ → ℕ → ℕ → List Value → Kept
+abbrev pub gone : MachineState → ℕ → ℕ → ℕ → List Value → Kept
 gone m t n pc vs = record { heap = m.heap; guest = with_top (ticked m.guest) t (replaced n vs pc (top m.guest t)) }
 
-answering_is : (p : Linked) (t n pc : ℕ) (m : MachineState) (at : Site) (vs : List Value) → n ≤ length (top m.guest t).operands → at.next ≡ pc
+pub answering_is : (p : Linked) (t n pc : ℕ) (m : MachineState) (at : Site) (vs : List Value) → n ≤ length (top m.guest t).operands → at.next ≡ pc
     → answering (moment p m t) at (arguments_of (moment p m t) n) vs (begins (moment p m t)) ≡ record { state = gone m t n pc vs; records = [] }
 answering_is p t n pc m at vs le same =
     ap (λ (k : ℕ). record { state = gone m t k at.next vs; records = [] }) (length_arguments (top m.guest t).operands n le) ∙ ap (λ (k : ℕ). record { state = gone m t n k vs; records = [] }) same
@@ -154,7 +154,7 @@ one_written p t n pc o v m b b₁ at out out₁ sound has le same inside held lt
 
 -- two slots
 
-object_set : (heap : Objects) (o : ℕ) (x : ObjectState) → o < length heap → object_at (with_object_at heap o x) o ≡ x
+pub object_set : (heap : Objects) (o : ℕ) (x : ObjectState) → o < length heap → object_at (with_object_at heap o x) o ≡ x
 object_set heap o x lt = ap found (get_or-set_same heap o (Some x) None lt)
 
 other_slot : (vs : List Value) (v : Value) → get_or (set vs 0 v) 1 Unset ≡ get_or vs 1 Unset
@@ -203,7 +203,7 @@ two_written p t n pc o v w m b b₁ b₂ at out out₁ out₂ sound has le same 
 
 -- A REFERENT IS SET
 
-referent_refs : (v : Value) (o : ℕ) → Contains (option_to_list (referent_of v)) o → Contains (refs_of_value v) o
+pub referent_refs : (v : Value) (o : ℕ) → Contains (option_to_list (referent_of v)) o → Contains (refs_of_value v) o
 referent_refs Unset o c = c
 referent_refs (Int n) o c = c
 referent_refs (Long n) o c = c

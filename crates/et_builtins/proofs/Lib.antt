@@ -1,6 +1,7 @@
 pub mod Standing
 mod Tabled
 mod Changing
+mod Queueing
 mod Slots
 mod Selected
 mod Walking

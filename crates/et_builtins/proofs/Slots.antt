@@ -16,14 +16,14 @@ use Rattle.et_program.specs.Members.{is_subclass}
 use Rattle.et_program.specs.declared.info.Element.{Element}
 use Rattle.et_program.specs.declared.info.Element.TheVariants.{NoArray}
 use Rattle.et_event.specs.declared.rows.Operand.TheVariants as operand
-use Rattle.et_event.specs.BuiltIns.{is_fit_for, is_object_of_class, reference_of, uses_thread, uses_throwable}
+use Rattle.et_event.specs.BuiltIns.{argument, is_fit_for, is_null_or_of_class, is_object_of_class, reference_of, takes_queue, uses_thread, uses_throwable}
 use Rattle.et_event.specs.Checks.{reference_value}
 use Rattle.et_event.specs.Errors.{class_called}
 use Rattle.et_event.specs.Kinds.{or_zero}
 use Rattle.et_event.specs.Sound.{IsSoundFor, IsSoundObject, slots_by}
 use Rattle.et_event.specs.Moments.{Moment, Doing}
 use Rattle.et_event.specs.declared.rows.BuiltIn.{BuiltIn}
-use Rattle.et_event.specs.declared.rows.BuiltIn.TheVariants.{Nothing, SetMessage, SetMessageAndCause, GetMessage, GetCause, SetTarget, Start, Join, SetReferent, GetReferent, ClearReferent}
+use Rattle.et_event.specs.declared.rows.BuiltIn.TheVariants.{Nothing, SetMessage, SetMessageAndCause, GetMessage, GetCause, SetTarget, Start, Join, SetReferent, SetReferentAndQueue, GetReferent, ClearReferent, Poll}
 use Rattle.et_builtins.specs.Kinds.{slots_used}
 use Rattle.et_event.specs.Programs.{HasMachineSlots, KeepsFree, KeepsTarget}
 
@@ -108,22 +108,32 @@ position_within o i (x ∷ xs) = by_test (is_thread_of o x) (position_within o (
 pub thread_within : (o : ℕ) (xs : List ThreadState) (k : ℕ) → Some k ≡ thread_with xs o → k < length xs
 thread_within o xs k e = let h : k < 0 + length xs = subst (λ (r : Option ℕ). IfSome r (λ j. j < 0 + length xs)) (sym e) (position_within o 0 xs) in omega arith
 
--- THE CLASS OF THE RECEIVER
+-- THE CLASS OF THE RECEIVER, and of a queue that is taken
 
-abbrev by_thread : Moment → Doing → ℕ → Bool → Bool
-by_thread e d o c = if c then is_object_of_class e d o (codes "java/lang/Thread") else true
+abbrev by_queue : Moment → Doing → List Value → Bool → Bool
+by_queue e d args c = if c then is_null_or_of_class e d (argument args 2) (codes "java/lang/ref/ReferenceQueue") else true
 
-pub throwable_fit : (e : Moment) (d : Doing) (o : ℕ) (b : BuiltIn) → uses_throwable b ≡ true → is_fit_for e d o b ≡ is_object_of_class e d o (codes "java/lang/Throwable")
-throwable_fit e d o b h = ap (λ (c : Bool). if c then is_object_of_class e d o (codes "java/lang/Throwable") else by_thread e d o (uses_thread b)) h
+abbrev by_thread : Moment → Doing → List Value → ℕ → BuiltIn → Bool → Bool
+by_thread e d args o b c = if c then is_object_of_class e d o (codes "java/lang/Thread") else by_queue e d args (takes_queue b)
 
-not_throwable_fit : (e : Moment) (d : Doing) (o : ℕ) (b : BuiltIn) → uses_throwable b ≡ false → is_fit_for e d o b ≡ by_thread e d o (uses_thread b)
-not_throwable_fit e d o b h = ap (λ (c : Bool). if c then is_object_of_class e d o (codes "java/lang/Throwable") else by_thread e d o (uses_thread b)) h
+pub throwable_fit : (e : Moment) (d : Doing) (args : List Value) (o : ℕ) (b : BuiltIn) → uses_throwable b ≡ true → is_fit_for e d args o b ≡ is_object_of_class e d o (codes "java/lang/Throwable")
+throwable_fit e d args o b h = ap (λ (c : Bool). if c then is_object_of_class e d o (codes "java/lang/Throwable") else by_thread e d args o b (uses_thread b)) h
 
-pub thread_fit : (e : Moment) (d : Doing) (o : ℕ) (b : BuiltIn) → uses_throwable b ≡ false → uses_thread b ≡ true → is_fit_for e d o b ≡ is_object_of_class e d o (codes "java/lang/Thread")
-thread_fit e d o b h k = not_throwable_fit e d o b h ∙ ap (λ (c : Bool). by_thread e d o c) k
+not_throwable_fit : (e : Moment) (d : Doing) (args : List Value) (o : ℕ) (b : BuiltIn) → uses_throwable b ≡ false → is_fit_for e d args o b ≡ by_thread e d args o b (uses_thread b)
+not_throwable_fit e d args o b h = ap (λ (c : Bool). if c then is_object_of_class e d o (codes "java/lang/Throwable") else by_thread e d args o b (uses_thread b)) h
 
-pub other_fit : (e : Moment) (d : Doing) (o : ℕ) (b : BuiltIn) → uses_throwable b ≡ false → uses_thread b ≡ false → is_fit_for e d o b ≡ true
-other_fit e d o b h k = not_throwable_fit e d o b h ∙ ap (λ (c : Bool). by_thread e d o c) k
+pub thread_fit : (e : Moment) (d : Doing) (args : List Value) (o : ℕ) (b : BuiltIn) → uses_throwable b ≡ false → uses_thread b ≡ true → is_fit_for e d args o b ≡ is_object_of_class e d o (codes "java/lang/Thread")
+thread_fit e d args o b h k = not_throwable_fit e d args o b h ∙ ap (λ (c : Bool). by_thread e d args o b c) k
+
+not_thread_fit : (e : Moment) (d : Doing) (args : List Value) (o : ℕ) (b : BuiltIn) → uses_throwable b ≡ false → uses_thread b ≡ false → is_fit_for e d args o b ≡ by_queue e d args (takes_queue b)
+not_thread_fit e d args o b h k = not_throwable_fit e d args o b h ∙ ap (λ (c : Bool). by_thread e d args o b c) k
+
+pub queue_fit : (e : Moment) (d : Doing) (args : List Value) (o : ℕ) (b : BuiltIn) → uses_throwable b ≡ false → uses_thread b ≡ false → takes_queue b ≡ true
+    → is_fit_for e d args o b ≡ is_null_or_of_class e d (argument args 2) (codes "java/lang/ref/ReferenceQueue")
+queue_fit e d args o b h k q = not_thread_fit e d args o b h k ∙ ap (λ (c : Bool). by_queue e d args c) q
+
+pub other_fit : (e : Moment) (d : Doing) (args : List Value) (o : ℕ) (b : BuiltIn) → uses_throwable b ≡ false → uses_thread b ≡ false → takes_queue b ≡ false → is_fit_for e d args o b ≡ true
+other_fit e d args o b h k q = not_thread_fit e d args o b h k ∙ ap (λ (c : Bool). by_queue e d args c) q
 
 pub throwable_used : (b : BuiltIn) (n : ℕ) → uses_throwable b ≡ true → 2 ≤ n → slots_used b ≤ n
 throwable_used SetMessage n h le = le
@@ -135,8 +145,10 @@ throwable_used SetTarget n h le = cc
 throwable_used Start n h le = cc
 throwable_used Join n h le = omega arith
 throwable_used SetReferent n h le = omega arith
+throwable_used SetReferentAndQueue n h le = omega arith
 throwable_used GetReferent n h le = omega arith
 throwable_used ClearReferent n h le = omega arith
+throwable_used Poll n h le = omega arith
 
 pub thread_used : (b : BuiltIn) (n : ℕ) → uses_thread b ≡ true → 1 ≤ n → slots_used b ≤ n
 thread_used SetTarget n h le = le
@@ -148,8 +160,10 @@ thread_used GetCause n h le = cc
 thread_used Nothing n h le = omega arith
 thread_used Join n h le = omega arith
 thread_used SetReferent n h le = omega arith
+thread_used SetReferentAndQueue n h le = omega arith
 thread_used GetReferent n h le = omega arith
 thread_used ClearReferent n h le = omega arith
+thread_used Poll n h le = omega arith
 
 pub other_used : (b : BuiltIn) (n : ℕ) → uses_throwable b ≡ false → uses_thread b ≡ false → slots_used b ≤ n
 other_used SetTarget n h k = cc
@@ -161,5 +175,7 @@ other_used GetCause n h k = cc
 other_used Nothing n h k = omega arith
 other_used Join n h k = omega arith
 other_used SetReferent n h k = omega arith
+other_used SetReferentAndQueue n h k = omega arith
 other_used GetReferent n h k = omega arith
 other_used ClearReferent n h k = omega arith
+other_used Poll n h k = omega arith

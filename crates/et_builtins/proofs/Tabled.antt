@@ -8,7 +8,7 @@ use Rattle.std.proofs.lemmas.Slice.Eq.{bytes_eq-Decides}
 use Rattle.et_pool.specs.Descriptors.{MethodType, method_type, types_of, after_dimensions, after_name}
 use Rattle.et_program.specs.declared.info.MethodInfo.{MethodInfo}
 use Rattle.et_event.specs.declared.rows.BuiltIn.{BuiltIn}
-use Rattle.et_event.specs.declared.rows.BuiltIn.TheVariants.{GetMessage, GetCause, GetReferent}
+use Rattle.et_event.specs.declared.rows.BuiltIn.TheVariants.{GetMessage, GetCause, GetReferent, Poll}
 use Rattle.et_event.specs.BuiltIns.{is_called, built_ins}
 use Rattle.et_event.specs.Kinds.{returned_width}
 use Rattle.et_event.specs.Sound.{returned_of}
@@ -63,6 +63,10 @@ object_width : returned_width (returned_by (codes "()Ljava/lang/Object;")) ≡ 1
 unfolding after_name after_dimensions types_of
 object_width = refl
 
+reference_width : returned_width (returned_by (codes "()Ljava/lang/ref/Reference;")) ≡ 1
+unfolding after_name after_dimensions types_of
+reference_width = refl
+
 one_fits : (m : MethodInfo) (name descriptor : List ℕ) (b : BuiltIn) → returned_width (returned_by descriptor) ≡ 1 → (bytes_eq name m.name && bytes_eq descriptor m.descriptor) ≡ true → 1 ≤ returned_width (returned_of m)
 one_fits m name descriptor b one e =
     let same : descriptor ≡ m.descriptor = (bytes_eq-Decides descriptor m.descriptor).0 (and_parts (bytes_eq name m.name) (bytes_eq descriptor m.descriptor) e).1 in
@@ -90,7 +94,13 @@ all_fit m = (
                   λ e. omega arith,
                   (
                     λ e. omega arith,
-                    (λ e. one_fits m (codes "get") (codes "()Ljava/lang/Object;") GetReferent object_width e, (λ e. omega arith, tt)),
+                    (
+                      λ e. omega arith,
+                      (
+                        λ e. one_fits m (codes "get") (codes "()Ljava/lang/Object;") GetReferent object_width e,
+                        (λ e. omega arith, (λ e. one_fits m (codes "poll") (codes "()Ljava/lang/ref/Reference;") Poll reference_width e, tt)),
+                      ),
+                    ),
                   ),
                 ),
               ),

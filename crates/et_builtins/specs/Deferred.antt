@@ -1,5 +1,5 @@
--- DEFERRED CALLS: those of the built-in methods of threads and of weak references. The event call that does calls leaves them
--- to the one that does monitors and threads.
+-- DEFERRED CALLS: those of the built-in methods of threads, of weak references and of their queues. The event call that does
+-- calls leaves them to the one that does monitors and threads.
 use Rattle.std.specs.Prelude.{◌≡◌, ℕ, ◌&&◌, ◌||◌, not, Bool, true, false, if◌then◌else◌, List, codes, Option, Some, None, is_none, option_and_then, Result, Ok, Err}
 use Rattle.std.specs.Result.{result_ok}
 use Rattle.std.specs.Str.{bytes_eq}
@@ -34,9 +34,13 @@ use Rattle.et_event.specs.Table.{row_of}
 
 -- THE METHODS
 
--- java.lang.Thread, and java.lang.ref.Reference and WeakReference
+-- java.lang.Thread, and java.lang.ref.Reference, WeakReference and ReferenceQueue
 abbrev pub is_deferring_class : List ℕ → Bool
-is_deferring_class name = bytes_eq name (codes "java/lang/Thread") || bytes_eq name (codes "java/lang/ref/Reference") || bytes_eq name (codes "java/lang/ref/WeakReference")
+is_deferring_class name =
+    bytes_eq name (codes "java/lang/Thread")
+    || bytes_eq name (codes "java/lang/ref/Reference")
+    || bytes_eq name (codes "java/lang/ref/WeakReference")
+    || bytes_eq name (codes "java/lang/ref/ReferenceQueue")
 
 -- a method of one of these classes that has no code and is built in: it is called on an object, and neither native nor abstract
 abbrev pub is_deferred : Linked → ℕ → Bool

@@ -2,7 +2,7 @@
 use Rattle.std.specs.Prelude.{ℕ, List, Option, option_map, find}
 use Rattle.et_program.specs.declared.info.MethodInfo.{MethodInfo}
 use Rattle.et_event.specs.declared.rows.BuiltIn.{BuiltIn}
-use Rattle.et_event.specs.declared.rows.BuiltIn.TheVariants.{Nothing, SetMessage, SetMessageAndCause, GetMessage, GetCause, SetTarget, Start, Join, SetReferent, GetReferent, ClearReferent}
+use Rattle.et_event.specs.declared.rows.BuiltIn.TheVariants.{Nothing, SetMessage, SetMessageAndCause, GetMessage, GetCause, SetTarget, Start, Join, SetReferent, SetReferentAndQueue, GetReferent, ClearReferent, Poll}
 use Rattle.et_event.specs.BuiltIns.{is_called}
 
 abbrev pub found_in : MethodInfo → List (List ℕ × List ℕ × BuiltIn) → Option BuiltIn
@@ -19,8 +19,10 @@ entries_answered SetTarget = 0
 entries_answered Start = 0
 entries_answered Join = 0
 entries_answered SetReferent = 0
+entries_answered SetReferentAndQueue = 0
 entries_answered GetReferent = 1
 entries_answered ClearReferent = 0
+entries_answered Poll = 1
 
 -- how many of the slots that the machine itself uses
 abbrev pub slots_used : BuiltIn → ℕ
@@ -33,5 +35,7 @@ slots_used SetTarget = 1
 slots_used Start = 1
 slots_used Join = 0
 slots_used SetReferent = 0
+slots_used SetReferentAndQueue = 0
 slots_used GetReferent = 0
 slots_used ClearReferent = 0
+slots_used Poll = 0

@@ -1,17 +1,18 @@
 //! What a built-in method changes once its arguments are taken.
-ghost use Rattle.std.specs.Prelude.{◌≡◌, ◌+◌, ◌<◌, ◌≤◌, ◌^◌, ◌∷◌, [], List, IfOk, OnOk, Contains, None, length, drop, take as first};
-ghost use Rattle.et_heap.specs.Objects.{IsHeld, object_at, slot_of, with_slot, referent_of, with_referent};
+ghost use Rattle.std.specs.Prelude.{◌≡◌, ◌+◌, ◌<◌, ◌≤◌, ◌^◌, ◌∷◌, ◌++◌, [], List, IfOk, OnOk, Contains, None, length, drop, take as first};
+ghost use Rattle.et_heap.specs.Objects.{IsHeld, object_at, slot_of, with_slot, referent_of, referent_value, with_referent, with_queue};
+ghost use Rattle.et_heap.specs.Queues.{IsWhole, first_value, polled};
 ghost use Rattle.et_heap.specs.Refs.{refs_of, refs_of_value};
 ghost use Rattle.et_state.specs.ThreadRoots.{frame_roots};
 ghost use Rattle.et_state.specs.Threads.{lost_room, most_threads, thread_with};
 ghost use Rattle.et_state.specs.State.{Kept, kept_of};
-ghost use Rattle.et_state.specs.Words.{HasFrame, top, begun, steps_object, steps_top, with_object};
+ghost use Rattle.et_state.specs.Words.{HasFrame, top, begun, losing, steps_object, steps_top, with_object};
 ghost use Rattle.et_state.specs.Sound.{IsSound};
 ghost use Rattle.et_state.specs.Moves.{AreInHeap};
 ghost use Rattle.et_program.specs.Entries.{Linked};
 ghost use Rattle.et_state.specs.declared.records.Record.{Record};
 ghost use Rattle.et_event.specs.Answered.{EventAnswers};
-ghost use Rattle.et_event.specs.BuiltIns.{answering, with_referent_of, with_thread_for};
+ghost use Rattle.et_event.specs.BuiltIns.{answering, with_first_taken, with_reference_made, with_referent_of, with_thread_for};
 ghost use Rattle.et_event.specs.Calls.{arguments_of};
 ghost use Rattle.et_event.specs.Moments.{Moment, moment, begins, goes, number_of_value as number_in, slot_written, updated};
 ghost use Rattle.et_event.specs.Sites.{Site};
@@ -256,6 +257,118 @@ pub(crate) fn write_referent<L: Ledger>(
 {
     pass(machine, call);
     set_referent(machine, object, value, visits);
+    EventEnd::Done
+}
+
+/// Lists what a value refers to as lost.
+#[tactic(auto, using(crate::proofs::Queueing::losing_none))]
+fn lose_value(machine: &mut Machine, value: Value)
+    requires { length machine.old.lost < lost_room }
+    ensures { machine.new ≡ losing machine.old (refs_of_value value) }
+{
+    match value {
+        Value::Ref(o) => machine.lose(o),
+        Value::Unset | Value::Int(_) | Value::Long(_) | Value::LongHigh | Value::Null => {}
+    }
+}
+
+/// Sets the queue of a reference, and loses the one before; a value that is no reference counts as null.
+fn set_queue<L: Ledger>(
+    machine: &mut Machine,
+    object: ObjectId,
+    value: Value,
+    visits: &mut Steps<L>,
+)
+    requires held { IsHeld machine.old.heap object }
+    requires lost { length machine.old.lost < lost_room }
+    ensures new { machine.new ≡ steps_object machine.old object
+        (with_queue (referent_of value) (object_at machine.old.heap object))
+        (refs_of_value (referent_value (object_at machine.old.heap object).queue)) }
+    ensures visits { visits.new ≡ visits.old + 1 }
+{
+    let before = machine.heap.set_queue(object, value, visits);
+    lose_value(machine, before);
+}
+
+/// The event of a constructor of a weak reference (`java.lang.ref`): it sets what the object refers to weakly, and its queue.
+/// A value that is no reference counts as null, and a null queue as none. The queue before is lost.
+pub(crate) fn make_reference<L: Ledger>(
+    machine: &mut Machine,
+    call: &Called,
+    object: ObjectId,
+    referent: Value,
+    queue: Value,
+    visits: &mut Steps<L>,
+) -> EventEnd
+    requires frame { HasFrame machine.old.guest call.now.thread }
+    requires sound { IsSound (kept_of machine.old) }
+    requires clock { machine.old.guest.clock < 2 ^ 40 }
+    requires operands { call.now.count ≤ length (top machine.old.guest call.now.thread).operands }
+    requires small { call.now.count < 2 ^ 16 }
+    requires object { Contains (frame_roots (top machine.old.guest call.now.thread)) object }
+    requires held { IsHeld machine.old.heap object }
+    requires referent { IsIn (top machine.old.guest call.now.thread) referent }
+    requires queue { IsIn (top machine.old.guest call.now.thread) queue }
+    ensures ok { (p : Linked) (at : Site) (out : List Record) → at.next ≡ call.now.next →
+        EventAnswers (goes (with_reference_made object (referent_of referent) (referent_of queue)
+        (answering (moment p machine.old call.now.thread) at
+        (arguments_of (moment p machine.old call.now.thread) call.now.count) []
+        (begins (moment p machine.old call.now.thread))))) result machine.old machine.new out out }
+    ensures visits { visits.new ≡ visits.old + 2 }
+{
+    pass(machine, call);
+    set_referent(machine, object, referent, visits);
+    set_queue(machine, object, queue, visits);
+    EventEnd::Done
+}
+
+/// Takes the first reference that waits in a queue out of it, loses it, and answers it, or null where none waits.
+fn take_first<L: Ledger>(machine: &mut Machine, queue: ObjectId, visits: &mut Steps<L>) -> Value
+    requires held { IsHeld machine.old.heap queue }
+    requires whole { IsWhole machine.old.heap queue }
+    requires lost { length machine.old.lost < lost_room }
+    ensures value { result ≡ first_value (object_at machine.old.heap queue).waiting }
+    ensures new { machine.new ≡ record machine.old {
+      heap = polled queue machine.old.heap;
+      lost = machine.old.lost
+          ++ refs_of_value (first_value (object_at machine.old.heap queue).waiting);
+    } }
+    ensures visits { visits.new ≡ visits.old + 1 }
+{
+    let first = machine.heap.poll(queue, visits);
+    let lost = first;
+    lose_value(machine, lost);
+    first
+}
+
+/// The event of `poll` of a reference queue (`java.lang.ref`): it gives the first reference that waits there, which waits no
+/// more, or null.
+pub(crate) fn give_first<L: Ledger>(
+    machine: &mut Machine,
+    call: &Called,
+    queue: ObjectId,
+    visits: &mut Steps<L>,
+) -> EventEnd
+    requires frame { HasFrame machine.old.guest call.now.thread }
+    requires sound { IsSound (kept_of machine.old) }
+    requires clock { machine.old.guest.clock < 2 ^ 40 }
+    requires operands { call.now.count ≤ length (top machine.old.guest call.now.thread).operands }
+    requires small { call.now.count < 2 ^ 16 }
+    requires room { length (drop call.now.count (top machine.old.guest call.now.thread).operands)
+        < (top machine.old.guest call.now.thread).room }
+    requires object { Contains (frame_roots (top machine.old.guest call.now.thread)) queue }
+    requires held { IsHeld machine.old.heap queue }
+    ensures ok { (p : Linked) (at : Site) (out : List Record) → at.next ≡ call.now.next →
+        EventAnswers (goes (with_first_taken queue
+        (answering (moment p machine.old call.now.thread) at
+        (arguments_of (moment p machine.old call.now.thread) call.now.count)
+        (first_value (object_at machine.old.heap queue).waiting ∷ [])
+        (begins (moment p machine.old call.now.thread))))) result machine.old machine.new out out }
+    ensures visits { visits.new ≡ visits.old + 1 }
+{
+    pass(machine, call);
+    let first = take_first(machine, queue, visits);
+    machine.push(call.thread, first);
     EventEnd::Done
 }
 

@@ -1,6 +1,6 @@
 //! Which built-in method a method without code is.
 ghost use Rattle.std.specs.Str.{bytes_eq};
-ghost use Rattle.std.specs.Prelude.{◌≡◌, ℕ, ◌&&◌, ◌≤◌, ◌∷◌, List, IfSome, if◌then◌else◌, Some, None};
+ghost use Rattle.std.specs.Prelude.{◌≡◌, ℕ, ◌&&◌, ◌≤◌, ◌∷◌, List, drop, IfSome, if◌then◌else◌, Some, None};
 ghost use Rattle.et_event.specs.BuiltIns.{built_in_of as kind_of, built_ins};
 ghost use Rattle.et_event.specs.Kinds.{returned_width};
 ghost use Rattle.et_event.specs.Sound.{returned_of};
@@ -38,11 +38,18 @@ fn first_of(
     }
 }
 
-/// The row of the table that has the name and the descriptor of a method.
-fn row_of(method: &MethodInfo) -> Option<BuiltIn>
-    ensures { result ≡ found_in method.now built_ins }
+/// Among the rows of weak references and reference queues, the one that has the name and the descriptor of a method.
+fn row_of_reference(method: &MethodInfo) -> Option<BuiltIn>
+    ensures { result ≡ found_in method.now (drop 9 built_ins) }
 {
-    let row = first_of(method, b"clear", b"()V", BuiltIn::ClearReferent, None);
+    let row = first_of(
+        method,
+        b"poll",
+        b"()Ljava/lang/ref/Reference;",
+        BuiltIn::Poll,
+        None,
+    );
+    let row = first_of(method, b"clear", b"()V", BuiltIn::ClearReferent, row);
     let row = first_of(
         method,
         b"get",
@@ -50,13 +57,22 @@ fn row_of(method: &MethodInfo) -> Option<BuiltIn>
         BuiltIn::GetReferent,
         row,
     );
-    let row = first_of(
+    let queued = b"(Ljava/lang/Object;Ljava/lang/ref/ReferenceQueue;)V";
+    let row = first_of(method, b"<init>", queued, BuiltIn::SetReferentAndQueue, row);
+    first_of(
         method,
         b"<init>",
         b"(Ljava/lang/Object;)V",
         BuiltIn::SetReferent,
         row,
-    );
+    )
+}
+
+/// The row of the table that has the name and the descriptor of a method.
+fn row_of(method: &MethodInfo) -> Option<BuiltIn>
+    ensures { result ≡ found_in method.now built_ins }
+{
+    let row = row_of_reference(method);
     let row = first_of(method, b"join", b"()V", BuiltIn::Join, row);
     let row = first_of(method, b"start", b"()V", BuiltIn::Start, row);
     let row = first_of(

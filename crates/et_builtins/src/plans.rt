@@ -467,9 +467,10 @@ fn is_deferring(name: &[u8]) -> bool
     name == b"java/lang/Thread".as_slice()
         || name == b"java/lang/ref/Reference".as_slice()
         || name == b"java/lang/ref/WeakReference".as_slice()
+        || name == b"java/lang/ref/ReferenceQueue".as_slice()
 }
 
-/// Whether a method is a built-in one without code of threads or of weak references.
+/// Whether a method is a built-in one without code of threads, of weak references or of their queues.
 fn is_deferred(program: &Program, method: MethodId) -> bool
     requires { method < length program.now.methods }
     ensures { result ≡ is_deferred_in program.now method }
@@ -480,7 +481,7 @@ fn is_deferred(program: &Program, method: MethodId) -> bool
     info.code.is_none() && !is_other && is_deferring(program.class(info.class).name.as_slice())
 }
 
-/// The method that a plan enters, where it is a built-in one without code of threads or of weak references.
+/// The method that a plan enters, where it is a built-in one without code of threads, of weak references or of their queues.
 pub fn deferred_method(program: &Program, plan: CallPlan) -> Option<MethodId>
     requires { IfSome (method_entered plan) (λ method. method < length program.now.methods) }
     ensures { result ≡ kept (is_deferred_in program.now) (method_entered plan) }

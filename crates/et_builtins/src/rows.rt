@@ -1,6 +1,8 @@
-//! What each built-in method does (`java.lang.Throwable`, `Thread`, and the weak references of `java.lang.ref`).
+//! What each built-in method does (`java.lang.Throwable`, `Thread`, and the weak references and reference queues of
+//! `java.lang.ref`).
 ghost use Rattle.std.specs.Prelude.{◌≡◌, ℕ, ◌+◌, ◌<◌, ◌≤◌, ◌^◌, ◌∷◌, [], true, Some, List, IfOk, IfSome, Contains, length, drop, codes};
 ghost use Rattle.et_heap.specs.Objects.{IsHeld, object_at};
+ghost use Rattle.et_heap.specs.Refs.{refs_of_value};
 ghost use Rattle.et_state.specs.ThreadRoots.{frame_roots};
 ghost use Rattle.et_state.specs.Threads.{thread_with};
 ghost use Rattle.et_state.specs.State.{kept_of};
@@ -9,7 +11,7 @@ ghost use Rattle.et_state.specs.Words.{HasFrame, top};
 ghost use Rattle.et_program.specs.Entries.{Linked};
 ghost use Rattle.et_state.specs.declared.records.Record.{Record};
 ghost use Rattle.et_event.specs.Answered.{EventAnswers};
-ghost use Rattle.et_event.specs.BuiltIns.{answering, built_in_row as row_of, has_thread_ended as has_ended_in, is_fit_for as fits_row, is_object_of_class as is_of_class, reference_in, row_done, starts_thread, uses_thread as is_on_thread, uses_throwable as is_on_throwable, with_thread_for};
+ghost use Rattle.et_event.specs.BuiltIns.{answering, built_in_row as row_of, has_thread_ended as has_ended_in, is_fit_for as fits_row, is_object_of_class as is_of_class, reference_in, is_null_or_of_class, row_done, starts_thread, takes_queue as has_queue_argument, uses_thread as is_on_thread, uses_throwable as is_on_throwable, with_thread_for};
 ghost use Rattle.et_event.specs.Calls.{arguments_of};
 ghost use Rattle.et_event.specs.Checks.{reference_value, waits_unless};
 ghost use Rattle.et_event.specs.Kinds.{or_zero};
@@ -21,7 +23,10 @@ ghost use Rattle.et_event.specs.Programs.{HasMachineSlots};
 ghost use Rattle.et_builtins.specs.Kinds.{entries_answered, slots_used};
 
 use crate::arguments::argument_at;
-use crate::changes::{Called, give, give_nothing, start, write_one, write_referent, write_two};
+use crate::changes::{
+    Called, give, give_first, give_nothing, make_reference, start, write_one, write_referent,
+    write_two,
+};
 use et_base::{NoMemory, ObjectId, Steps, Value};
 use et_event::{BuiltIn, GuestError};
 use et_parts::{class_called, ill_typed, throw_error};
@@ -68,20 +73,52 @@ fn uses_thread(built_in: BuiltIn) -> bool
     matches!(built_in, BuiltIn::SetTarget | BuiltIn::Start)
 }
 
+/// Whether a built-in method takes a queue.
+fn takes_queue(built_in: BuiltIn) -> bool
+    ensures { result ≡ has_queue_argument built_in }
+{
+    built_in == BuiltIn::SetReferentAndQueue
+}
+
+/// Whether an argument is null, or an object of the class of this name or of one below it.
+fn is_null_or_of<L: Ledger>(
+    program: &Program,
+    machine: &Machine,
+    value: Value,
+    name: &[u8],
+    visits: &mut Steps<L>,
+) -> bool
+    requires sound { IsSoundFor program.now (kept_of machine.now) }
+    requires held { (o : ℕ) → Contains (refs_of_value value) o → IsHeld machine.now.heap o }
+    ensures value { (t : ℕ) → result ≡ is_null_or_of_class (moment program.now machine.now t)
+        (begins (moment program.now machine.now t)) value name.now }
+    ensures visits { visits.new ≤ visits.old + 1 }
+{
+    match value {
+        Value::Ref(object) => is_of(program, machine, object, name, visits),
+        Value::Unset | Value::Int(_) | Value::Long(_) | Value::LongHigh | Value::Null => true,
+    }
+}
+
 /// Whether a built-in method may be done on an object: what uses the slots of a Throwable or of a Thread, or starts a thread,
-/// is done on such an object alone.
+/// is done on such an object alone, and a queue that it takes is null or a ReferenceQueue.
 fn is_fit<L: Ledger>(
     program: &Program,
     machine: &Machine,
+    call: &Called,
     object: ObjectId,
     built_in: BuiltIn,
     visits: &mut Steps<L>,
 ) -> bool
+    requires frame { HasFrame machine.now.guest call.now.thread }
     requires sound { IsSoundFor program.now (kept_of machine.now) }
     requires slots { HasMachineSlots program.now }
+    requires operands { call.now.count ≤ length (top machine.now.guest call.now.thread).operands }
     requires held { IsHeld machine.now.heap object }
-    ensures value { (t : ℕ) → result ≡ fits_row (moment program.now machine.now t)
-        (begins (moment program.now machine.now t)) object built_in }
+    ensures value { result ≡ fits_row (moment program.now machine.now call.now.thread)
+        (begins (moment program.now machine.now call.now.thread))
+        (arguments_of (moment program.now machine.now call.now.thread) call.now.count)
+        object built_in }
     ensures slots { result ≡ true →
         slots_used built_in ≤ length (object_at machine.now.heap object).slots }
     ensures visits { visits.new ≤ visits.old + 1 }
@@ -91,6 +128,16 @@ fn is_fit<L: Ledger>(
     }
     if uses_thread(built_in) {
         return is_of(program, machine, object, b"java/lang/Thread", visits);
+    }
+    if takes_queue(built_in) {
+        let queue = argument_at(machine, call.thread, call.count, 2);
+        return is_null_or_of(
+            program,
+            machine,
+            queue,
+            b"java/lang/ref/ReferenceQueue",
+            visits,
+        );
     }
     true
 }
@@ -266,9 +313,21 @@ fn fit_row_event<L: Ledger>(
         BuiltIn::GetCause => Ok(give_slot(machine, call, object, 1, visits)),
         BuiltIn::Start => start_event(program, machine, call, object, out),
         BuiltIn::Join => Ok(join_event(machine, call, object)),
-        BuiltIn::SetReferent => Ok(write_referent(machine, call, object, value, visits)),
+        BuiltIn::SetReferent => Ok(make_reference(
+            machine,
+            call,
+            object,
+            value,
+            Value::Null,
+            visits,
+        )),
+        BuiltIn::SetReferentAndQueue => {
+            let queue = argument_at(machine, call.thread, call.count, 2);
+            Ok(make_reference(machine, call, object, value, queue, visits))
+        }
         BuiltIn::GetReferent => Ok(give_referent(machine, call, object, visits)),
         BuiltIn::ClearReferent => Ok(write_referent(machine, call, object, Value::Null, visits)),
+        BuiltIn::Poll => Ok(give_first(machine, call, object, visits)),
     }
 }
 
@@ -299,7 +358,7 @@ pub(crate) fn row_event<L: Ledger>(
         object built_in) end machine.old machine.new out.old out.new) }
     ensures visits { visits.new ≤ visits.old + 3 }
 {
-    if is_fit(program, machine, object, built_in, visits) {
+    if is_fit(program, machine, call, object, built_in, visits) {
         return fit_row_event(program, machine, call, object, built_in, out, visits);
     }
     Ok(ill_typed(machine, call.thread))

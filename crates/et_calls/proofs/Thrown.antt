@@ -12,7 +12,7 @@ use Rattle.et_state.specs.Words.{thread_at, with_thread, ticked, begun, steps_th
 use Rattle.et_state.specs.Roots.{graph_of, roots_of}
 use Rattle.et_state.specs.Sound.{IsSound}
 use Rattle.et_state.specs.Moves.{IsOnWay, Led}
-use Rattle.et_state.proofs.Places.{ended_root, pending_root, refs_of-unset}
+use Rattle.et_state.proofs.Places.{ended_root, pending_root, leads-new}
 use Rattle.et_state.proofs.UnderWay.{root_is_reached}
 use Rattle.et_state.proofs.Calls.{on_set_entered, on_throw}
 use Rattle.et_state.proofs.Steps.{led_made, made_on_way, newest_held, root_there}
@@ -71,7 +71,7 @@ thrown_led m t class slots m₁ m₂ m₃ m₄ sound fresh e₁ e₂ e₃ e₄ =
     let lost : List ℕ = option_to_list (thread_at c.guest t).pending in
     let now : m₃ ≡ c = e₃ ∙ ap (λ (z : MachineState). given_up z t) (e₂ ∙ ap begun e₁) in
     let is : m₄ ≡ steps_thread c t x lost = e₄ ∙ ap (λ (z : MachineState). steps_thread z t (with_pending (Some n) (thread_at z.guest t)) (option_to_list (thread_at z.guest t).pending)) now in
-    let w : IsOnWay s b = made_on_way m y sound (refs_of-unset slots) refl in
+    let w : IsOnWay s b = made_on_way m y sound (leads-new class 0 slots) refl in
     let w₂ : IsOnWay s c = on_set_entered s b t w (record { thread = fresh.unended.thread; unended = fresh.unended.unended }) (λ q z. root_there s (kept_of b) q (entry_root m.guest t q fresh z)) in
     let on : IsFresh b.guest t = record { unended = record { thread = fresh.unended.thread; unended = fresh.unended.unended }; frames = fresh.frames } in
     let started : t < length c.guest.threads = started_given_up b t on in

@@ -66,12 +66,12 @@ fn instruction_event<L: Ledger>(
 }
 
 /// The event of a thread whose turn is a call or a return (JVMS 2.11.8, 6.5), to be entered (JVMS 5.2), or a step of an
-/// initializer (JVMS 5.5). It answers `Native` exactly where a call selects a built-in method without code of Thread, Reference
-/// or WeakReference; then machine and records are as before, and `sync_event` does the event. Else it answers what the table of
-/// events says: `Done` or `Waited`, and then the machine keeps the next state, to which a legal step led, and the records of the
-/// event stand behind those that were there; or `IllTyped` or `ObjectLimit`, and then machine and records are as before. It
-/// visits six objects at most, and one before `Native`. After `NoMemory` the event may be half done, and machine and records
-/// may only be dropped.
+/// initializer (JVMS 5.5). It answers `Native` exactly where a call selects a built-in method without code of Thread,
+/// Reference, WeakReference or ReferenceQueue; then machine and records are as before, and `sync_event` does the event. Else it
+/// answers what the table of events says: `Done` or `Waited`, and then the machine keeps the next state, to which a legal step
+/// led, and the records of the event stand behind those that were there; or `IllTyped` or `ObjectLimit`, and then machine and
+/// records are as before. It visits six objects at most, and one before `Native`. After `NoMemory` the event may be half done,
+/// and machine and records may only be dropped.
 #[tactic(auto, using(et_event::proofs::FamilyTurns::family_at))]
 pub fn calls_event<L: Ledger>(
     alloc: Global,

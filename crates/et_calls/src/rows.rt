@@ -116,9 +116,9 @@ fn plan_event<L: Ledger>(
 /// The event of an invoke or a return at the place where a thread stands (JVMS 2.11.8, 5.5, 6.5 invokevirtual, invokespecial,
 /// invokestatic, invokeinterface, ireturn, lreturn, areturn, return). It answers what the table of events says. Where a static
 /// method is called whose class is untouched, the class begins, or a quiet one becomes done and the method is called in the
-/// same event. Where a built-in method of threads or of weak references is selected it answers `Native`, with nothing changed.
-/// It visits four objects at most, and before `Native` one. After `NoMemory` the event may be half done, and machine and
-/// records may only be dropped.
+/// same event. Where a built-in method of threads, weak references or queues is selected it answers `Native`, with nothing
+/// changed. It visits four objects at most, and before `Native` one. After `NoMemory` the event may be half done, and machine
+/// and records may only be dropped.
 pub fn call_event<L: Ledger>(
     alloc: Global,
     program: &Program,

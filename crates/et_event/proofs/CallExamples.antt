@@ -1,5 +1,5 @@
 -- The table of events at small programs with calls: the records of their runs, computed by the definitions.
-use Rattle.std.proofs.Common.{◌≡◌, ℕ, false, List, [], ◌∷◌, ◌++◌, Option, None, Some, refl, replicate, get_or, length, ◌%◌}
+use Rattle.std.proofs.Common.{◌≡◌, ℕ, false, ◌==◌, not, List, [], ◌∷◌, ◌++◌, Option, None, Some, refl, replicate, get_or, length, ◌%◌}
 use Rattle.std.specs.Prelude.{codes}
 use Rattle.std.specs.Int.{int_wrap}
 use Rattle.et_base.specs.declared.value.Value.TheVariants.{Unset}
@@ -18,9 +18,10 @@ use Rattle.et_state.specs.declared.class_state.ClassState.TheVariants.{Untouched
 use Rattle.et_state.specs.State.{Kept, kept_of}
 use Rattle.et_state.specs.Words.{first_state}
 use Rattle.et_state.specs.Threads.{unended_of}
+use Rattle.et_state.specs.Past.{flushed_heap}
 use Rattle.et_state.specs.declared.records.Record.{Record}
 use Rattle.et_state.specs.declared.records.Record.TheVariants.{Alloc, Update, Enter, Exit, Unwind}
-use Rattle.et_state.specs.Outcome.{state_after, records_of}
+use Rattle.et_state.specs.Outcome.{IllTyped, state_after, records_of}
 use Rattle.et_code.specs.Forms.{form_of}
 use Rattle.et_code.specs.Decoding.{instruction_at}
 use Rattle.et_pool.specs.Descriptors.{after_name, after_dimensions, types_of}
@@ -356,3 +357,74 @@ owner_start = kept_of (first_state 9 (Done ∷ Done ∷ Done ∷ Done ∷ Done �
 owner_records : records_by owner (0 ∷ 0 ∷ 0 ∷ 0 ∷ 0 ∷ []) owner_start ≡ Enter 1 0 16 0 ∷ Alloc 2 0 2 8 16 0 ∷ Alloc 3 0 3 7 32 0 ∷ Unwind 4 0 16 3 ∷ []
 unfolding int_wrap event row_of form_of instruction_at after_name after_dimensions types_of turn_by after_picks records_by
 owner_records = refl
+
+-- a program with a reference queue, whose `main` has this code
+abbrev with_queues : List ℕ → Linked
+with_queues code = record {
+  classes =
+      class_of (codes "java/lang/Object") 1 (element.NoArray) 0 None ([]) ([]) ([]) ([]) (0 ∷ []) (0 ∷ []) 0 (leaf.Class 0) None
+      ∷ class_of (codes "java/lang/Cloneable") 1537 (element.NoArray) 0 None ([]) ([]) (0 ∷ []) ([]) (1 ∷ 0 ∷ []) (1 ∷ []) 0 (leaf.Class 1) None
+      ∷ class_of (codes "java/io/Serializable") 1537 (element.NoArray) 0 None ([]) ([]) (0 ∷ []) ([]) (2 ∷ 0 ∷ []) (2 ∷ []) 0 (leaf.Class 2) None
+      ∷ class_of (codes "java/lang/String") 17 (element.NoArray) 0 None (0 ∷ []) ([]) (0 ∷ []) ([]) (3 ∷ 0 ∷ []) (0 ∷ 3 ∷ []) 0 (leaf.Class 3) (Some 8)
+      ∷ class_of (codes "java/lang/ref/Reference") 1025 (element.NoArray) 0 None (0 ∷ []) ([]) (0 ∷ []) ([]) (4 ∷ 0 ∷ []) (0 ∷ 4 ∷ []) 0 (leaf.Class 4) None
+      ∷ class_of (codes "java/lang/ref/WeakReference") 1 (element.NoArray) 0 None (4 ∷ []) ([]) (4 ∷ 0 ∷ []) ([]) (5 ∷ 4 ∷ 0 ∷ []) (0 ∷ 4 ∷ 5 ∷ []) 0 (leaf.Class 5) None
+      ∷ class_of (codes "java/lang/ref/ReferenceQueue") 1 (element.NoArray) 0 None (0 ∷ []) ([]) (0 ∷ []) ([]) (6 ∷ 0 ∷ []) (0 ∷ 6 ∷ []) 0 (leaf.Class 6) None
+      ∷ class_of (codes "Que") 33 (element.NoArray) 0 None (0 ∷ []) ([]) (0 ∷ []) ([]) (7 ∷ 0 ∷ []) (0 ∷ 7 ∷ []) 0 (leaf.Class 7) None
+      ∷ class_of (codes "[Ljava/lang/String;") 1041 (element.Class 3) 0 None ([]) ([]) (0 ∷ []) (1 ∷ 2 ∷ []) (8 ∷ 1 ∷ 2 ∷ 0 ∷ []) (8 ∷ []) 1 (leaf.Class 3) None
+      ∷ [];
+  methods =
+      method_of 0 (codes "<init>") (codes "()V") 1 None
+      ∷ method_of 4 (codes "get") (codes "()Ljava/lang/Object;") 1 None
+      ∷ method_of 4 (codes "clear") (codes "()V") 1 None
+      ∷ method_of 5 (codes "<init>") (codes "(Ljava/lang/Object;)V") 1 None
+      ∷ method_of 5 (codes "<init>") (codes "(Ljava/lang/Object;Ljava/lang/ref/ReferenceQueue;)V") 1 None
+      ∷ method_of 6 (codes "<init>") (codes "()V") 1 None
+      ∷ method_of 6 (codes "poll") (codes "()Ljava/lang/ref/Reference;") 1 None
+      ∷ method_of 7 (codes "main") (codes "([Ljava/lang/String;)V") 9 (code_of 6 2 code ([]))
+      ∷ [];
+  fields =
+      field_of 7 (codes "top") (codes "Ljava/lang/Object;") 8 0 0 ∷ [];
+  statics = 0 ∷ [];
+  file_methods = 7 ∷ [];
+  main = 7;
+  pools =
+      pool_of ([])
+      ∷ pool_of ([])
+      ∷ pool_of ([])
+      ∷ pool_of ([])
+      ∷ pool_of ([])
+      ∷ pool_of ([])
+      ∷ pool_of ([])
+      ∷ pool_of (Text (codes "Que") ∷ Name CLASS 1 ∷ Text (codes "java/lang/Object") ∷ Name CLASS 3 ∷ Text (codes "java/lang/ref/ReferenceQueue") ∷ Name CLASS 5 ∷ Text (codes "<init>") ∷ Text (codes "()V") ∷ Pair NAME_AND_TYPE 7 8 ∷ Pair METHODREF 6 9 ∷ Text (codes "java/lang/ref/WeakReference") ∷ Name CLASS 11 ∷ Text (codes "(Ljava/lang/Object;Ljava/lang/ref/ReferenceQueue;)V") ∷ Pair NAME_AND_TYPE 7 13 ∷ Pair METHODREF 12 14 ∷ Text (codes "poll") ∷ Text (codes "()Ljava/lang/ref/Reference;") ∷ Pair NAME_AND_TYPE 16 17 ∷ Pair METHODREF 6 18 ∷ Text (codes "top") ∷ Text (codes "Ljava/lang/Object;") ∷ Pair NAME_AND_TYPE 20 21 ∷ Pair FIELDREF 2 22 ∷ [])
+      ∷ [];
+}
+
+abbrev queues_start : Kept
+queues_start = kept_of (first_state 8 (Done ∷ Done ∷ Done ∷ Done ∷ Done ∷ Done ∷ Done ∷ Untouched ∷ Done ∷ []) (replicate 1 Unset))
+
+-- the state after a flush at which all but this object is reached
+abbrev after_flush_of : ℕ → Kept → Kept
+after_flush_of o s = record { heap = flushed_heap (λ k. not (k == o)) s.heap; guest = s.guest }
+
+-- a queue is polled before its reference waits in it, while it waits, and once more
+abbrev polling : Linked
+polling = with_queues (187 ∷ 0 ∷ 6 ∷ 89 ∷ 183 ∷ 0 ∷ 10 ∷ 76 ∷ 187 ∷ 0 ∷ 12 ∷ 89 ∷ 187 ∷ 0 ∷ 2 ∷ 43 ∷ 183 ∷ 0 ∷ 15 ∷ 43 ∷ 182 ∷ 0 ∷ 19 ∷ 179 ∷ 0 ∷ 23 ∷ 43 ∷ 182 ∷ 0 ∷ 19 ∷ 179 ∷ 0 ∷ 23 ∷ 43 ∷ 182 ∷ 0 ∷ 19 ∷ 179 ∷ 0 ∷ 23 ∷ 177 ∷ [])
+
+abbrev polling_picks : List ℕ
+polling_picks = 0 ∷ 0 ∷ 0 ∷ 0 ∷ 0 ∷ 0 ∷ 0 ∷ 0 ∷ 0 ∷ 0 ∷ 0 ∷ 0 ∷ 0 ∷ []
+
+polling_records : records_by polling polling_picks queues_start ≡ Enter 1 0 7 0 ∷ Alloc 2 0 2 6 16 0 ∷ Alloc 6 0 3 5 16 0 ∷ Alloc 8 0 4 7 16 0 ∷ Update 13 0 0 0 0 0 ∷ []
+unfolding int_wrap event row_of form_of instruction_at after_name after_dimensions types_of turn_by after_picks records_by
+polling_records = refl
+
+polled_records : records_by polling (0 ∷ 0 ∷ 0 ∷ 0 ∷ 0 ∷ 0 ∷ 0 ∷ []) (after_flush_of 4 (after_picks polling polling_picks queues_start)) ≡ Update 16 0 0 0 0 3 ∷ Update 19 0 0 0 3 0 ∷ Exit 20 0 7 ∷ []
+unfolding int_wrap event row_of form_of instruction_at after_name after_dimensions types_of turn_by after_picks records_by
+polled_records = refl
+
+-- a constructor whose queue is no queue: its event has no meaning
+abbrev no_queue : Linked
+no_queue = with_queues (187 ∷ 0 ∷ 12 ∷ 89 ∷ 187 ∷ 0 ∷ 2 ∷ 187 ∷ 0 ∷ 2 ∷ 183 ∷ 0 ∷ 15 ∷ 87 ∷ 177 ∷ [])
+
+no_queue_ends : event no_queue (after_picks no_queue (0 ∷ 0 ∷ 0 ∷ 0 ∷ 0 ∷ []) queues_start) 0 ≡ IllTyped 7 10
+unfolding int_wrap event row_of form_of instruction_at after_name after_dimensions types_of turn_by after_picks records_by
+no_queue_ends = refl

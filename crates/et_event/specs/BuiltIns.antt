@@ -8,13 +8,14 @@ use Rattle.et_class.specs.Names.{has}
 use Rattle.et_class.specs.declared.flags.TheConstants.{ABSTRACT}
 use Rattle.et_program.specs.Members.{is_subclass}
 use Rattle.et_program.specs.declared.info.MethodInfo.{MethodInfo}
-use Rattle.et_heap.specs.Objects.{object_at, slot_of, with_referent, with_object_at}
+use Rattle.et_heap.specs.Objects.{object_at, slot_of, with_referent, with_queue, with_object_at}
+use Rattle.et_heap.specs.Queues.{first_value, polled}
 use Rattle.et_state.specs.Threads.{new_thread, thread_with, most_threads}
 use Rattle.et_state.specs.State.{Kept}
 use Rattle.et_state.specs.Words.{thread_at, with_new_thread}
 use Rattle.et_state.specs.Outcome.{Outcome}
 use Rattle.et_event.specs.declared.rows.BuiltIn.{BuiltIn}
-use Rattle.et_event.specs.declared.rows.BuiltIn.TheVariants.{Nothing, SetMessage, SetMessageAndCause, GetMessage, GetCause, SetTarget, Start, Join, SetReferent, GetReferent, ClearReferent}
+use Rattle.et_event.specs.declared.rows.BuiltIn.TheVariants.{Nothing, SetMessage, SetMessageAndCause, GetMessage, GetCause, SetTarget, Start, Join, SetReferent, SetReferentAndQueue, GetReferent, ClearReferent, Poll}
 use Rattle.et_event.specs.declared.errors.GuestError.TheVariants.{AbstractMethodError, IllegalThreadStateException, OutOfMemoryError}
 use Rattle.et_event.specs.Moments.{Moment, Doing, current_frame, doing_with_guest, with_frame, object_class, slot_written, goes, throws}
 use Rattle.et_event.specs.Errors.{class_called}
@@ -27,7 +28,7 @@ use Rattle.et_event.specs.Frames.{first_reference}
 -- WHICH ONE: by name and descriptor, which no two with different rows share
 abbrev pub built_ins : List (List ℕ × List ℕ × BuiltIn)
 built_ins =
-    -- of Object, of Thread, and of Throwable and each built-in class below it
+    -- of Object, of Thread, of ReferenceQueue, and of Throwable and each built-in class below it
     (codes "<init>", codes "()V", Nothing)
     -- of Throwable and each built-in class below it: slot 0 is the message, slot 1 the cause
     ∷ (codes "<init>", codes "(Ljava/lang/String;)V", SetMessage)
@@ -41,8 +42,11 @@ built_ins =
     ∷ (codes "join", codes "()V", Join)
     -- of WeakReference, and of Reference
     ∷ (codes "<init>", codes "(Ljava/lang/Object;)V", SetReferent)
+    ∷ (codes "<init>", codes "(Ljava/lang/Object;Ljava/lang/ref/ReferenceQueue;)V", SetReferentAndQueue)
     ∷ (codes "get", codes "()Ljava/lang/Object;", GetReferent)
     ∷ (codes "clear", codes "()V", ClearReferent)
+    -- of ReferenceQueue
+    ∷ (codes "poll", codes "()Ljava/lang/ref/Reference;", Poll)
     ∷ []
 
 abbrev pub is_called : MethodInfo → List ℕ × List ℕ × BuiltIn → Bool
@@ -71,6 +75,21 @@ with_referent_of o r d = record {
   state = record { heap = with_object_at d.state.heap o (with_referent r (object_at d.state.heap o)); guest = d.state.guest };
   records = d.records;
 }
+
+-- a reference has this queue from then on, or none; where it waits, it waits on
+abbrev pub with_queue_of : ℕ → Option ℕ → Doing → Doing
+with_queue_of o q d = record {
+  state = record { heap = with_object_at d.state.heap o (with_queue q (object_at d.state.heap o)); guest = d.state.guest };
+  records = d.records;
+}
+
+-- a weak reference is made: it refers to this, and has this queue
+abbrev pub with_reference_made : ℕ → Option ℕ → Option ℕ → Doing → Doing
+with_reference_made o r q d = with_queue_of o q (with_referent_of o r d)
+
+-- the first reference that waits in a queue is taken out of it
+abbrev pub with_first_taken : ℕ → Doing → Doing
+with_first_taken q d = record { state = record { heap = polled q d.state.heap; guest = d.state.guest }; records = d.records }
 
 abbrev pub reference_of : Value → Reference
 reference_of (Ref o) = Some o
@@ -106,11 +125,23 @@ uses_thread other = false
 abbrev pub is_object_of_class : Moment → Doing → ℕ → List ℕ → Bool
 is_object_of_class e d o name = is_subclass e.program (object_class d o) (class_called e.program name)
 
--- the receiver is of the class whose slots or thread the method uses; selection finds the method on no other
-abbrev pub is_fit_for : Moment → Doing → ℕ → BuiltIn → Bool
-is_fit_for e d o b =
+-- null, or an object of a class or of one below it
+abbrev pub is_null_or_of_class : Moment → Doing → Value → List ℕ → Bool
+is_null_or_of_class e d (Ref o) name = is_object_of_class e d o name
+is_null_or_of_class e d other name = true
+
+-- it takes a queue, as its second argument behind the receiver
+abbrev pub takes_queue : BuiltIn → Bool
+takes_queue SetReferentAndQueue = true
+takes_queue other = false
+
+-- The receiver is of the class whose slots or thread the method uses; selection finds the method on no other. A queue that
+-- the method takes is null or a ReferenceQueue.
+abbrev pub is_fit_for : Moment → Doing → List Value → ℕ → BuiltIn → Bool
+is_fit_for e d arguments o b =
     if uses_throwable b then is_object_of_class e d o (codes "java/lang/Throwable")
-    else (if uses_thread b then is_object_of_class e d o (codes "java/lang/Thread") else true)
+    else (if uses_thread b then is_object_of_class e d o (codes "java/lang/Thread")
+    else (if takes_queue b then is_null_or_of_class e d (argument arguments 2) (codes "java/lang/ref/ReferenceQueue") else true))
 
 -- what is done then
 abbrev pub row_done : Moment → Site → Doing → List Value → ℕ → BuiltIn → Outcome Kept
@@ -124,12 +155,15 @@ row_done e at d arguments o SetTarget = goes (slot_written e o 0 (argument argum
 row_done e at d arguments o Start =
     starts_thread e d o (goes (with_thread_for o (answering e at arguments [] d))) (thread_with d.state.guest.threads o)
 row_done e at d arguments o Join = waits_unless e (has_thread_ended d (thread_with d.state.guest.threads o)) (goes (answering e at arguments [] d))
-row_done e at d arguments o SetReferent = goes (with_referent_of o (reference_of (argument arguments 1)) (answering e at arguments [] d))
+row_done e at d arguments o SetReferent = goes (with_reference_made o (reference_of (argument arguments 1)) None (answering e at arguments [] d))
+row_done e at d arguments o SetReferentAndQueue =
+    goes (with_reference_made o (reference_of (argument arguments 1)) (reference_of (argument arguments 2)) (answering e at arguments [] d))
 row_done e at d arguments o GetReferent = goes (answering e at arguments (reference_value (object_at d.state.heap o).referent ∷ []) d)
 row_done e at d arguments o ClearReferent = goes (with_referent_of o None (answering e at arguments [] d))
+row_done e at d arguments o Poll = goes (with_first_taken o (answering e at arguments (first_value (object_at d.state.heap o).waiting ∷ []) d))
 
 abbrev pub built_in_row : Moment → Site → Doing → List Value → ℕ → BuiltIn → Outcome Kept
-built_in_row e at d arguments o b = ill_typed_unless e (is_fit_for e d o b) (row_done e at d arguments o b)
+built_in_row e at d arguments o b = ill_typed_unless e (is_fit_for e d arguments o b) (row_done e at d arguments o b)
 
 -- the event of a selected method without code; one that is no built-in is abstract
 abbrev pub done_by : Moment → Site → Doing → List Value → Option ℕ → Option BuiltIn → Outcome Kept

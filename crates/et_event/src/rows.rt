@@ -234,8 +234,12 @@ pub enum BuiltIn {
     SetTarget,
     Start,
     Join,
-    /// The constructor of a weak reference.
+    /// The constructor of a weak reference without a queue.
     SetReferent,
+    /// The constructor of a weak reference with a queue.
+    SetReferentAndQueue,
     GetReferent,
     ClearReferent,
+    /// `poll` of a reference queue.
+    Poll,
 }

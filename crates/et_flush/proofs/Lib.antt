@@ -4,6 +4,9 @@ pub mod Holding
 pub mod Listings
 pub mod Dying
 pub mod Sweeping
+pub mod Clearing
+pub mod Tying
+pub mod Arriving
 pub mod Working
 pub mod Reaching
 pub mod Leaving

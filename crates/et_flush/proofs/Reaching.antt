@@ -1,7 +1,8 @@
 -- What the times of a flush tell.
-use Rattle.std.proofs.Common.{◌≡◌, ℕ, suc, ◌+◌, ◌-◌, ◌<◌, ◌≤◌, ◌⊎◌, ◌↔◌, Bool, true, false, List, [], ◌∷◌, length, get_or, Contains, All, Option, Some, None, refl, sym, ◌∙◌, ap, subst, inl, inr, arith, true≢false}
+use Rattle.std.proofs.Common.{◌≡◌, ℕ, suc, ◌+◌, ◌-◌, ◌<◌, ◌≤◌, ◌⊎◌, ◌↔◌, Bool, true, false, List, [], ◌∷◌, ◌++◌, length, get_or, Contains, All, Option, Some, None, refl, sym, ◌∙◌, ap, subst, inl, inr, arith, true≢false}
 use Rattle.std.specs.Prelude.{if◌then◌else◌, not, ◌&&◌}
 use Rattle.std.proofs.lemmas.Bool.{cases_Bool, leb-true, le-leb}
+use Rattle.std.proofs.lemmas.List.{length-append}
 use Rattle.std.proofs.lemmas.List.Sums.{sum_by-cons}
 use Rattle.et_graph.specs.Graph.{IsWalk, Leads, IsReached, IsDead}
 use Rattle.et_graph.specs.Times.{AreSeenAmong, set_each, unset_count}
@@ -16,7 +17,8 @@ use Rattle.et_flush.specs.declared.times.TheConstants.{NOW}
 use Rattle.et_flush.specs.Searches.{AreDyingIn}
 use Rattle.et_flush.specs.Sweeps.{is_now, clears, visits_of, visits_from}
 use Rattle.et_flush.specs.Works.{IsSettled}
-use Rattle.et_flush.specs.Flushes.{heap_graph, is_cleared, cleared_in, cleared_from}
+use Rattle.et_state.specs.Enqueuing.{is_cleared}
+use Rattle.et_flush.specs.Flushes.{loses_referent, cleared_references, heap_graph}
 use Rattle.et_flush.proofs.Targets.{held_above}
 use Rattle.et_flush.proofs.Orders.{cases_held}
 
@@ -164,23 +166,52 @@ clears_in : (here other : ℕ → Bool) (p : Option ℕ) → ((r : ℕ) → p �
 clears_in here other None same = refl
 clears_in here other (Some r) same = ap (λ (b : Bool). if b then 0 else 1) (same r refl) ∙ turned (other r)
 
-visits_in : (here other : ℕ → Bool) (a b : Bool) (x : Option ObjectState) → (is_there x → a ≡ b) → ((r : ℕ) → (found x).referent ≡ Some r → here r ≡ other r) → visits_of here a x ≤ ones_in x + cleared_in other b x
-visits_in here other a b None same weak = omega arith
-visits_in here other false b (Some x) same weak = omega arith
-visits_in here other true b (Some x) same weak =
-    let e : (if b && is_cleared other x.referent then 1 else 0) ≡ clears here x.referent =
-    ap (λ (c : Bool). if c && is_cleared other x.referent then 1 else 0) (sym (same tt)) ∙ sym (clears_in here other x.referent weak) in
+-- the reference at number k, where its referent becomes null
+abbrev cleared_one : (ℕ → Bool) → Bool → ℕ → Option ObjectState → List ℕ
+cleared_one here b k x = if loses_referent here b x then k ∷ [] else []
+
+one_long : (b : Bool) (k : ℕ) → length (if b then k ∷ [] else []) ≡ (if b then 1 else 0)
+one_long true k = refl
+one_long false k = refl
+
+visits_in : (here other : ℕ → Bool) (a b : Bool) (k : ℕ) (x : Option ObjectState) → (is_there x → a ≡ b) → ((r : ℕ) → (found x).referent ≡ Some r → here r ≡ other r) → visits_of here a x ≤ ones_in x + length (cleared_one other b k x)
+visits_in here other a b k None same weak = omega arith
+visits_in here other false b k (Some x) same weak = omega arith
+visits_in here other true b k (Some x) same weak =
+    let e : length (if b && is_cleared other x.referent then k ∷ [] else []) ≡ clears here x.referent =
+    ap (λ (c : Bool). length (if c && is_cleared other x.referent then k ∷ [] else [])) (sym (same tt)) ∙ (one_long (is_cleared other x.referent) k ∙ sym (clears_in here other x.referent weak)) in
     omega arith
 
-visits_at : (here other : ℕ → Bool) (k : ℕ) (xs : Objects) → Agree here other k xs → AgreeWeakly here other xs → visits_from here k xs ≤ held_count xs + cleared_from other k xs
+visits_at : (here other : ℕ → Bool) (k : ℕ) (xs : Objects) → Agree here other k xs → AgreeWeakly here other xs → visits_from here k xs ≤ held_count xs + length (cleared_references other k xs)
 visits_at here other k [] agree weak = omega arith
 visits_at here other k (x ∷ xs) agree weak =
-    let first = visits_in here other (here k) (other k) x (λ there. subst (λ (i : ℕ). here i ≡ other i) (let e : k + 0 ≡ k = omega arith in e) (agree 0 there)) (λ r e. weak 0 r e) in
+    let first = visits_in here other (here k) (other k) k x (λ there. subst (λ (i : ℕ). here i ≡ other i) (let e : k + 0 ≡ k = omega arith in e) (agree 0 there)) (λ r e. weak 0 r e) in
     let rest = visits_at here other (k + 1) xs (agree_next here other k x xs agree) (λ j r e. weak (suc j) r e) in
-    omega (arith, sum_by-cons ones_in x xs)
+    omega (arith, sum_by-cons ones_in x xs, length-append (cleared_one other (other k) k x) (cleared_references other (k + 1) xs))
 
-pub visits_bound : (heap : Objects) (here other : ℕ → Bool) → ((o : ℕ) → IsHeld heap o → here o ≡ other o) → ((u r : ℕ) → (object_at heap u).referent ≡ Some r → IsHeld heap r) → visits_from here 0 heap ≤ held_count heap + cleared_from other 0 heap
+pub visits_bound : (heap : Objects) (here other : ℕ → Bool) → ((o : ℕ) → IsHeld heap o → here o ≡ other o) → ((u r : ℕ) → (object_at heap u).referent ≡ Some r → IsHeld heap r) → visits_from here 0 heap ≤ held_count heap + length (cleared_references other 0 heap)
 visits_bound heap here other same referents = visits_at here other 0 heap (agrees heap here other same) (λ j r e. same r (referents j r e))
+
+-- WHAT IS CLEARED
+
+cleared_same_place : (here other : ℕ → Bool) (a b : Bool) (x : Option ObjectState) → (is_there x → a ≡ b) → ((r : ℕ) → (found x).referent ≡ Some r → here r ≡ other r) → loses_referent here a x ≡ loses_referent other b x
+cleared_same_place here other a b None same weak = refl
+cleared_same_place here other a b (Some x) same weak =
+    ap (λ (c : Bool). c && is_cleared here x.referent) (same tt) ∙ ap (λ (c : Bool). b && c) (referent_cleared x.referent weak)
+  where
+    referent_cleared : (p : Option ℕ) → ((r : ℕ) → p ≡ Some r → here r ≡ other r) → is_cleared here p ≡ is_cleared other p
+    referent_cleared None w = refl
+    referent_cleared (Some r) w = ap (λ (c : Bool). not c) (w r refl)
+
+cleared_from : (here other : ℕ → Bool) (k : ℕ) (xs : Objects) → Agree here other k xs → AgreeWeakly here other xs → cleared_references here k xs ≡ cleared_references other k xs
+cleared_from here other k [] agree weak = refl
+cleared_from here other k (x ∷ xs) agree weak =
+    let first : loses_referent here (here k) x ≡ loses_referent other (other k) x = cleared_same_place here other (here k) (other k) x (λ there. subst (λ (i : ℕ). here i ≡ other i) (let e : k + 0 ≡ k = omega arith in e) (agree 0 there)) (λ r e. weak 0 r e) in
+    let rest : cleared_references here (k + 1) xs ≡ cleared_references other (k + 1) xs = cleared_from here other (k + 1) xs (agree_next here other k x xs agree) (λ j r e. weak (suc j) r e) in
+    ap (λ (b : Bool). (if b then k ∷ [] else []) ++ cleared_references here (k + 1) xs) first ∙ ap (λ (rs : List ℕ). (if loses_referent other (other k) x then k ∷ [] else []) ++ rs) rest
+
+pub cleared_same : (heap : Objects) (here other : ℕ → Bool) → ((o : ℕ) → IsHeld heap o → here o ≡ other o) → ((u r : ℕ) → (object_at heap u).referent ≡ Some r → IsHeld heap r) → cleared_references here 0 heap ≡ cleared_references other 0 heap
+cleared_same heap here other same referents = cleared_from here other 0 heap (agrees heap here other same) (λ j r e. same r (referents j r e))
 
 one_few : (before after : Bool) (x : Option ObjectState) → (after ≡ true → (before ≡ true) ⊎ is_there x) → (if before then 0 else 1) ≤ (if after then 0 else 1) + ones_in x
 one_few true after x there = omega arith

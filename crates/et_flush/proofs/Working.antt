@@ -45,6 +45,7 @@ places_max n m k w is a b = record {
   held = omega (arith, a.held, b.held);
   order = omega (arith, a.order, b.order);
   deaths = omega (arith, a.deaths, b.deaths);
+  cleared = omega (arith, a.cleared, b.cleared);
 }
 
 pub places_least : (n m : ℕ) (w : Work) → n ≤ m → HasWorkPlaces m w → HasWorkPlaces n w
@@ -55,4 +56,5 @@ places_least n m w le h = record {
   held = omega (arith, h.held);
   order = omega (arith, h.order);
   deaths = omega (arith, h.deaths);
+  cleared = omega (arith, h.cleared);
 }

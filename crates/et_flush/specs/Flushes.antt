@@ -1,22 +1,26 @@
 -- The graph of a heap with its roots, and what a flush clears.
-use Rattle.std.specs.Prelude.{ℕ, ◌+◌, ◌&&◌, not, Bool, false, if◌then◌else◌, List, [], ◌∷◌, Option, Some, None}
+use Rattle.std.specs.Prelude.{ℕ, ◌+◌, ◌&&◌, Bool, false, if◌then◌else◌, List, [], ◌∷◌, ◌++◌, Option, Some, None}
 use Rattle.et_graph.specs.Graph.{Graph}
 use Rattle.et_heap.specs.Objects.{ObjectState, Objects, made_count}
+use Rattle.et_heap.specs.Queues.{enqueued}
 use Rattle.et_heap.specs.Refs.{pairs_of, gone_of}
+use Rattle.et_state.specs.Enqueuing.{is_cleared}
 
--- the objects made, the root places, what stands in slots, and what was taken out
+-- the objects made, the root places, what the objects lead to, and what was taken out
 abbrev pub heap_graph : Objects → List ℕ → Graph
 heap_graph heap roots = record { made = made_count heap; roots = roots; pairs = pairs_of heap; gone = gone_of heap }
 
--- how many of the objects from number k on stay and refer weakly to one that doesn't
-abbrev pub is_cleared : (ℕ → Bool) → Option ℕ → Bool
-is_cleared here None = false
-is_cleared here (Some o) = not (here o)
+-- the object stays, and its weak reference becomes null
+abbrev pub loses_referent : (ℕ → Bool) → Bool → Option ObjectState → Bool
+loses_referent here stays None = false
+loses_referent here stays (Some x) = stays && is_cleared here x.referent
 
-abbrev pub cleared_in : (ℕ → Bool) → Bool → Option ObjectState → ℕ
-cleared_in here stays None = 0
-cleared_in here stays (Some x) = if stays && is_cleared here x.referent then 1 else 0
+-- the references that stay and whose referents become null, in rising order; the first place has the number k
+abbrev pub cleared_references : (ℕ → Bool) → ℕ → Objects → List ℕ
+cleared_references here k [] = []
+cleared_references here k (x ∷ xs) = (if loses_referent here (here k) x then k ∷ [] else []) ++ cleared_references here (k + 1) xs
 
-abbrev pub cleared_from : (ℕ → Bool) → ℕ → Objects → ℕ
-cleared_from here k [] = 0
-cleared_from here k (x ∷ xs) = cleared_in here (here k) x + cleared_from here (k + 1) xs
+-- each of these references in turn goes to the end of the list of its queue, where it has one and waits nowhere
+abbrev pub all_enqueued : List ℕ → Objects → Objects
+all_enqueued [] heap = heap
+all_enqueued (r ∷ rs) heap = all_enqueued rs (enqueued r heap)

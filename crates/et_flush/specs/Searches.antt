@@ -2,13 +2,18 @@
 use Rattle.std.specs.Prelude.{◌≡◌, ℕ, ◌+◌, ◌-◌, ◌<◌, ◌≤◌, ◌↔◌, List, length, map, Contains, slice_index}
 use Rattle.std.specs.List.Sorted.{IsStrictlyIncreasing}
 use Rattle.et_heap.specs.Objects.{Objects, IsHeld}
+use Rattle.et_heap.specs.Queues.{IsWhole}
 use Rattle.et_heap.specs.Refs.{pairs_of}
 use Rattle.et_flush.specs.declared.times.TheConstants.{NOW}
 use Rattle.et_graph.specs.declared.search.Source.{Source}
 
--- what stands in a slot is held
+-- what an object leads to is held
 abbrev pub ArePairsHeld : Objects → Type 0
 ArePairsHeld heap = (u o : ℕ) → Contains (pairs_of heap) (u, o) → IsHeld heap o
+
+-- the object is held, and so is what waits in it
+abbrev pub IsHeldWhole : Objects → ℕ → Type 0
+IsHeldWhole heap o = IsHeld heap o × IsWhole heap o
 
 -- the objects that are held, in rising order
 pub record AreAllHeld (heap : Objects) (held : List ℕ) : Type 0 where

@@ -11,7 +11,7 @@ is_now times o = nat_le NOW (slice_index times (o - 1))
 abbrev pub ReferentsWithin : ℕ → ObjectState → Type 0
 ReferentsWithin n x = (r : ℕ) → x.referent ≡ Some r → (0 < r) × (r ≤ n)
 
--- HOW MANY VISITS OF OBJECTS IT TAKES: one of each that stays, and one more where its weak reference is cleared
+-- HOW MANY VISITS OF OBJECTS THE SWEEP TAKES: one of each that stays, and one more where its weak reference is cleared
 
 abbrev pub clears : (ℕ → Bool) → Option ℕ → ℕ
 clears here None = 0

@@ -16,6 +16,7 @@ pub record HasWorkPlaces (n : ℕ) (w : Work) : Type 0 where
   pub held : n ≤ vec_capacity w.held
   pub order : n ≤ vec_capacity w.order
   pub deaths : n ≤ vec_capacity w.deaths
+  pub cleared : n ≤ vec_capacity w.cleared
 
 -- A search can begin: the objects that are held are listed and ordered, none of them was seen, and their times are the
 -- stamps, with NOW at each root.
@@ -27,7 +28,7 @@ pub record IsWorkPrepared (heap : Objects) (roots stamps : List ℕ) (w : Work) 
   pub unseen : (o : ℕ) → IsHeld heap o → ¬ IsSet w.seen.items o
   pub order : IsOrder (IsHeld heap) w.times.items w.order.items
 
--- the times are the stamps, with NOW at each root, carried along the references as far as they lead
+-- the times are the stamps, with NOW at each root, carried along what objects lead to, as far as it goes
 pub record IsSettled (heap : Objects) (roots stamps times : List ℕ) : Type 0 where
   pub first : List ℕ
   pub begins : AreTimes heap stamps first

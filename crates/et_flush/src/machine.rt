@@ -2,13 +2,13 @@
 ghost use Rattle.std.specs.Prelude.{◌≡◌, ℕ, ◌+◌, ◌*◌, ◌<◌, ◌≤◌, ◌↔◌, true, Bool, length, slice_index, OnOk, OnErr};
 ghost use Rattle.et_graph.specs.Graph.{IsReached};
 ghost use Rattle.et_heap.specs.Objects.{IsHeld, held_count};
-ghost use Rattle.et_heap.specs.Remaining.{remaining};
 ghost use Rattle.et_state.specs.State.{kept_of};
+ghost use Rattle.et_state.specs.Enqueuing.{flushed_heap};
+ghost use Rattle.et_flush.specs.Flushes.{cleared_references};
 ghost use Rattle.et_state.specs.Roots.{graph_of};
 ghost use Rattle.et_state.specs.Sound.{IsSound};
 ghost use Rattle.et_graph.specs.Listed.{AreListed};
-ghost use Rattle.et_graph.specs.Cleared.{IsCleared};
-ghost use Rattle.et_flush.specs.Flushes.{cleared_from};
+ghost use Rattle.et_graph.specs.Cleared.{IsClearedAndTied};
 
 use crate::room::{FlushRoom, flush};
 use et_base::{NoMemory, Steps};
@@ -33,13 +33,14 @@ pub fn flush_machine<L: Ledger>(
         (AreListed (graph_of (kept_of machine.old)) (slice_index stamps.now) room.new.deaths) }
     ensures machine { (here : ℕ → Bool) → ((o : ℕ) → IsHeld machine.old.heap o →
         (here o ≡ true) ↔ IsReached (graph_of (kept_of machine.old)) o) → OnOk result
-        (machine.new ≡ record machine.old { heap = remaining here 0 machine.old.heap }) }
+        (machine.new ≡ record machine.old { heap = flushed_heap here machine.old.heap }) }
     ensures graph { OnOk result
-        (IsCleared (graph_of (kept_of machine.old)) (graph_of (kept_of machine.new))) }
+        (IsClearedAndTied (graph_of (kept_of machine.old)) (graph_of (kept_of machine.new))) }
     ensures sound { OnOk result (IsSound (kept_of machine.new)) }
     ensures visits { (here : ℕ → Bool) → ((o : ℕ) → IsHeld machine.old.heap o →
         (here o ≡ true) ↔ IsReached (graph_of (kept_of machine.old)) o) → visits.new
-        ≤ visits.old + 2 * held_count machine.old.heap + cleared_from here 0 machine.old.heap }
+        ≤ visits.old + 2 * held_count machine.old.heap
+        + 2 * length (cleared_references here 0 machine.old.heap) }
     ensures places { room.new.places ≡ room.old.places }
     ensures err { OnErr result (machine.new ≡ machine.old) }
     ensures err_room { OnErr result (room.new ≡ room.old) }

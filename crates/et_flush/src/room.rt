@@ -2,11 +2,12 @@
 ghost use Rattle.std.specs.Prelude.{◌≡◌, ℕ, ◌+◌, ◌*◌, ◌<◌, ◌≤◌, ◌↔◌, true, Bool, length, map, slice_index, Contains, OnOk, OnErr, Some};
 ghost use Rattle.et_graph.specs.Graph.{IsReached};
 ghost use Rattle.et_heap.specs.Objects.{IsHeld, object_at, made_count, held_count};
-ghost use Rattle.et_heap.specs.Remaining.{remaining};
 ghost use Rattle.et_graph.specs.Listed.{AreListed};
+ghost use Rattle.et_state.specs.Enqueuing.{flushed_heap};
+ghost use Rattle.et_flush.specs.Flushes.{cleared_references, heap_graph};
 ghost use Rattle.et_flush.specs.Searches.{ArePairsHeld};
-ghost use Rattle.et_flush.specs.Flushes.{heap_graph, cleared_from};
 
+use crate::queues::enqueue_all;
 use crate::sweep::sweep;
 use crate::times::NOW;
 use crate::work::{Work, find_deaths, no_work, reserve};
@@ -69,7 +70,7 @@ impl FlushRoom {
         &self.work.deaths
     }
 
-    /// Finds the deaths and sweeps the heap.
+    /// Finds the deaths, sweeps the heap, and puts what was cleared in its queues.
     fn run<L: Ledger>(
         &mut self,
         heap: &mut Heap,
@@ -87,10 +88,11 @@ impl FlushRoom {
         ensures deaths { AreListed
             (heap_graph heap.old roots.now) (slice_index stamps.now) self.new.deaths }
         ensures heap { (here : ℕ → Bool) → ((o : ℕ) → IsHeld heap.old o → (here o ≡ true)
-            ↔ IsReached (heap_graph heap.old roots.now) o) → heap.new ≡ remaining here 0 heap.old }
+            ↔ IsReached (heap_graph heap.old roots.now) o) → heap.new ≡ flushed_heap here heap.old }
         ensures visits { (here : ℕ → Bool) → ((o : ℕ) →
             IsHeld heap.old o → (here o ≡ true) ↔ IsReached (heap_graph heap.old roots.now) o) →
-            visits.new ≤ visits.old + 2 * held_count heap.old + cleared_from here 0 heap.old }
+            visits.new ≤ visits.old + 2 * held_count heap.old
+            + 2 * length (cleared_references here 0 heap.old) }
         ensures places { self.new.places ≡ self.old.places }
     {
         find_deaths(
@@ -100,14 +102,23 @@ impl FlushRoom {
             &mut self.work,
             visits,
         );
-        sweep(heap, &self.work.held, &self.work.times, visits);
+        sweep(
+            heap,
+            &self.work.held,
+            &self.work.times,
+            &mut self.work.cleared,
+            visits,
+        );
+        enqueue_all(heap, &self.work.cleared, visits);
     }
 }
 
 /// The flush (JVMS 2.5.3 leaves it free when an object is reclaimed): lists each object that no search from the roots reaches,
-/// in rising order, with the greatest stamp among the objects that are held and lead to it; takes these objects out; and makes
-/// null what the others refer to weakly, where that is one of them. It answers how many there are, and the room has the list.
-/// It takes no memory. Each object that is held is visited twice at most, and once more where its weak reference is cleared.
+/// in rising order, with the greatest stamp among the objects that are held and lead to it; takes these objects out; makes null
+/// what the others refer to weakly, where that is one of them; and puts the references whose referents it made null, in rising
+/// order, at the end of the waiting lists of their queues, where they have one and wait nowhere. It answers how many died, and
+/// the room has the list. It takes no memory. Each object that is held is visited twice at most, and twice more where its weak
+/// reference is cleared.
 pub fn flush<L: Ledger>(
     heap: &mut Heap,
     roots: &RootList,
@@ -125,10 +136,11 @@ pub fn flush<L: Ledger>(
         (heap_graph heap.old roots.now) (slice_index stamps.now) room.new.deaths }
     ensures count { result ≡ length room.new.deaths }
     ensures heap { (here : ℕ → Bool) → ((o : ℕ) → IsHeld heap.old o → (here o ≡ true)
-        ↔ IsReached (heap_graph heap.old roots.now) o) → heap.new ≡ remaining here 0 heap.old }
+        ↔ IsReached (heap_graph heap.old roots.now) o) → heap.new ≡ flushed_heap here heap.old }
     ensures visits { (here : ℕ → Bool) → ((o : ℕ) →
         IsHeld heap.old o → (here o ≡ true) ↔ IsReached (heap_graph heap.old roots.now) o) →
-        visits.new ≤ visits.old + 2 * held_count heap.old + cleared_from here 0 heap.old }
+        visits.new ≤ visits.old + 2 * held_count heap.old
+        + 2 * length (cleared_references here 0 heap.old) }
     ensures places { room.new.places ≡ room.old.places }
 {
     room.run(heap, roots, stamps, visits);

@@ -1,5 +1,5 @@
-//! What a flush searches: the objects of a heap, with what stands in their slots.
-ghost use Rattle.et_heap.specs.Objects.{IsHeld};
+//! What a flush searches: the objects of a heap, with what they lead to.
+ghost use Rattle.et_flush.specs.Searches.{IsHeldWhole};
 ghost use Rattle.et_heap.specs.Refs.{pairs_of};
 
 use et_base::{ObjectId, Steps};
@@ -7,7 +7,8 @@ use et_graph::{References, mark, place_of};
 use et_heap::Heap;
 use std::sync::ledger::Ledger;
 
-/// The objects that are held, with the references in their slots. What an object refers to weakly isn't one of them.
+/// The objects that are held, with what they lead to: the references in their slots, their queues, and the references that
+/// wait in them. What an object refers to weakly isn't one of these.
 #[derive(Clone, Copy)]
 pub(crate) struct HeldReferences<'a> {
     pub heap: &'a Heap,
@@ -17,7 +18,7 @@ pub(crate) struct HeldReferences<'a> {
 impl<'a, L: Ledger> References<Steps<L>> for HeldReferences<'a> {
     ghost pairs_in = { λ s. pairs_of s.heap.now };
 
-    ghost has_object = { λ s. IsHeld s.heap.now };
+    ghost has_object = { λ s. IsHeldWhole s.heap.now };
 
     ghost count_of = { λ n. n };
 

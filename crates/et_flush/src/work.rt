@@ -26,6 +26,8 @@ pub(crate) struct Work {
     pub held: Vec<ObjectId>,
     pub order: Vec<Source>,
     pub deaths: Vec<Death>,
+    /// The references whose referents became null.
+    pub cleared: Vec<ObjectId>,
 }
 
 /// No places yet.
@@ -40,6 +42,7 @@ pub(crate) fn no_work(alloc: Global) -> Work
         held: Vec::new(alloc),
         order: Vec::new(alloc),
         deaths: Vec::new(alloc),
+        cleared: Vec::new(alloc),
     }
 }
 
@@ -67,6 +70,7 @@ pub(crate) fn reserve(work: &mut Work, count: usize) -> Result<(), AllocError>
     within::reserve(&mut work.held, count)?;
     within::reserve(&mut work.order, count)?;
     within::reserve(&mut work.deaths, count)?;
+    within::reserve(&mut work.cleared, count)?;
     lengthen(&mut work.times, count, 0);
     lengthen(&mut work.seen, count, false);
     Ok(())

@@ -1,5 +1,5 @@
 -- What a tie keeps: the objects that are reached, and all that holds of a graph.
-use Rattle.std.proofs.Common.{ℕ, ◌⊎◌, List, [], ◌∷◌, Contains, refl, sym, subst, inl, inr, arith}
+use Rattle.std.proofs.Common.{ℕ, ◌⊎◌, List, [], ◌∷◌, Contains, refl, sym, ◌∙◌, subst, inl, inr, arith}
 use Rattle.std.proofs.lemmas.List.Elements.{Contains-append_left, Contains-append_cases}
 use Rattle.et_graph.specs.Graph.{Graph, IsMade, LeadsTo, IsReached, IsSoundGraph}
 use Rattle.et_graph.specs.Steps.{IsTie}
@@ -68,3 +68,26 @@ module _ (g h : Graph) (tie : IsTie g h) where
       | inr both ↦ absurd (reached_held g sound x both.1 (tie_gone x gone))
     ];
   }
+
+-- nothing is tied
+pub tie_none : (g : Graph) → IsTie g g
+tie_none g = record {
+  made = refl;
+  roots = refl;
+  pairs_kept = λ u x c. c;
+  pairs_reached = λ u x c new. absurd (new c);
+  gone = refl;
+}
+
+-- a tie and then another one are a tie
+pub tie_then : (g h k : Graph) → IsTie g h → IsTie h k → IsTie g k
+tie_then g h k a b = record {
+  made = b.made ∙ a.made;
+  roots = b.roots ∙ a.roots;
+  pairs_kept = λ u x c. b.pairs_kept u x (a.pairs_kept u x c);
+  pairs_reached = λ u x c new. elim (tied_pair h k b u x c) [
+    | inl d ↦ a.pairs_reached u x d new
+    | inr both ↦ (tie_reached g h a u both.0, tie_reached g h a x both.1)
+  ];
+  gone = b.gone ∙ a.gone;
+}

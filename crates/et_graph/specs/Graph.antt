@@ -4,7 +4,8 @@
 use Rattle.std.specs.Prelude.{◌≡◌, ℕ, ◌≤◌, ◌<◌, ◌↔◌, Bool, IsTrue, List, [], ◌∷◌, Contains}
 use Rattle.std.specs.List.Sorted.{IsStrictlyIncreasing}
 
--- The objects made so far are 1 to `made`. A pair (u, x) says that x stands in a slot of u. A weak reference is no slot.
+-- The objects made so far are 1 to `made`. A pair (u, x) says that u refers to x: that x stands in a slot of u, is the queue of
+-- u, or waits in u. What u refers to weakly gives no pair.
 -- `gone` has the objects that were reported as dead.
 pub record Graph : Type 0 where
   pub made : ℕ
@@ -53,6 +54,6 @@ pub record IsSoundGraph (g : Graph) : Type 0 where
   pub roots_made : (r : ℕ) → Contains g.roots r → IsMade g r
   pub pairs_made : (u x : ℕ) → Contains g.pairs (u, x) → IsMade g u × IsMade g x
   pub gone_made : (o : ℕ) → Contains g.gone o → IsMade g o
-  -- no root is gone, and only gone objects have a gone one in a slot
+  -- no root is gone, and only gone objects refer to a gone one
   pub roots_held : (r : ℕ) → Contains g.roots r → ¬ Contains g.gone r
   pub gone_before : (u x : ℕ) → Contains g.pairs (u, x) → Contains g.gone x → Contains g.gone u

@@ -59,6 +59,11 @@ pub fn ties_keep_reached()
     ensures { (g h : Graph) → IsTie g h → (o : ℕ) → IsReached h o ↔ IsReached g o }
 {}
 
+/// A tie that follows a tie makes one tie with it.
+pub fn ties_join()
+    ensures { (g h k : Graph) → IsTie g h → IsTie h k → IsTie g k }
+{}
+
 /// A step begins as a draft in which nothing is new and nothing is lost.
 pub fn drafts_begin()
     ensures { (g : Graph) →

@@ -3,7 +3,7 @@ use Rattle.std.proofs.Common.{◌≡◌, ℕ, zero, suc, ◌+◌, ◌<◌, List,
 use Rattle.std.proofs.lemmas.List.{get_or_append_left}
 use Rattle.std.proofs.lemmas.List.Elements.{Contains-append_left, Contains-append_right, Contains-append_cases}
 use Rattle.et_heap.specs.Objects.{ObjectState, Objects, at, is_there, IsHeld}
-use Rattle.et_heap.specs.Refs.{refs_of, targets_of, pairs_from, pairs_of, gone_from, gone_of}
+use Rattle.et_heap.specs.Refs.{leads_to, targets_of, pairs_from, pairs_of, gone_from, gone_of}
 use Rattle.et_base.proofs.Lists.{Contains-none, Contains-here, Contains-there, Contains-cons}
 
 map_pair : (k : ℕ) (os : List ℕ) (u o : ℕ) → Contains {X = ℕ × ℕ} (map (λ (x : ℕ). (k, x)) os) (u, o) → (k ≡ u) × Contains os o
@@ -22,7 +22,7 @@ pair_map k (x ∷ os) o c =
       | inr d ↦ Contains-there {X = ℕ × ℕ} (k, x) (map (λ (z : ℕ). (k, z)) os) (k, o) (pair_map k os o d)
     ]
 
--- o stands in a slot of u
+-- u leads to o
 abbrev pub IsPair : Objects → ℕ → ℕ → Type 0
 IsPair xs u o = Contains (targets_of (at xs u)) o
 
@@ -59,7 +59,7 @@ pub targets_there : (x : Option ObjectState) (o : ℕ) → Contains (targets_of 
 targets_there None o c = absurd (Contains-none o c)
 targets_there (Some x) o c = tt
 
--- what has something in a slot is held
+-- what leads to something is held
 pub pair_held : (xs : Objects) (u o : ℕ) → IsPair xs u o → IsHeld xs u
 pair_held xs u o c = targets_there (at xs u) o c
 
@@ -102,11 +102,11 @@ pub gone_push : (xs : Objects) (y : ObjectState) → 0 < length xs → gone_of (
 gone_push [] y h = absurd (omega arith)
 gone_push (x ∷ xs) y h = gone_push_from 1 xs y
 
-pairs_push_from : (k : ℕ) (xs : Objects) (y : ObjectState) → refs_of y.slots ≡ [] → pairs_from k (xs ++ Some y ∷ []) ≡ pairs_from k xs
+pairs_push_from : (k : ℕ) (xs : Objects) (y : ObjectState) → leads_to y ≡ [] → pairs_from k (xs ++ Some y ∷ []) ≡ pairs_from k xs
 pairs_push_from k [] y e = ap (λ (os : List ℕ). map (λ (o : ℕ). (k, o)) os ++ []) e
 pairs_push_from k (x ∷ xs) y e = ap (λ (ps : List (ℕ × ℕ)). map (λ (o : ℕ). (k, o)) (targets_of x) ++ ps) (pairs_push_from (k + 1) xs y e)
 
-pub pairs_push : (xs : Objects) (y : ObjectState) → refs_of y.slots ≡ [] → pairs_of (xs ++ Some y ∷ []) ≡ pairs_of xs
+pub pairs_push : (xs : Objects) (y : ObjectState) → leads_to y ≡ [] → pairs_of (xs ++ Some y ∷ []) ≡ pairs_of xs
 pairs_push xs y e = pairs_push_from 0 xs y e
 
 -- an object that was held is held after a write and after one more object

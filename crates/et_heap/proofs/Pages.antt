@@ -4,94 +4,112 @@ use Rattle.std.proofs.lemmas.List.{append-nil, append_assoc, length-append, leng
 use Rattle.std.proofs.lemmas.List.Sums.{sum_by-cons}
 use Rattle.std.proofs.lemmas.Bool.{cases_lt}
 use Rattle.std.proofs.lemmas.Bool.Decides.{nat_tests}
-use Rattle.et_heap.specs.Objects.{ObjectState, Objects, at, found, object_at, is_there, IsHeld, IsNextHeld, ones_in, held_count, slot_count, has_room, most_objects, most_slots}
+use Rattle.et_heap.specs.Objects.{most_objects, most_slots}
+use Rattle.et_heap.specs.Stored.{Stored, StoredPlaces, stored_in, as_stored, stored_at, is_stored, IsStored, IsNextStored, with_stored_at, ones_stored, stored_count, stored_slots, has_stored_room}
+use Rattle.et_heap.specs.Links.{stored_with}
 use Rattle.et_heap.specs.Pages.{page_size, empty_places, places_of, all_places, IsPaged}
-use Rattle.et_heap.proofs.HeapLists.{held_within}
-use Rattle.et_heap.proofs.Places.{held-positive, at-below, set-below, held_count-set, held_count-written, slot_count-written}
+use Rattle.et_heap.proofs.Places.{there_below, held-positive, at-below, set-below, stored_count-set, stored_count-written, stored_slots-written}
 
 -- ONE PAGE
 
-none_there : (n j : ℕ) → is_there (get_or (replicate n None) j None) → ⊥
+none_there : (n j : ℕ) → is_stored (get_or (replicate n None) j None) → ⊥
 none_there zero j there = there
 none_there (suc n) zero there = there
 none_there (suc n) (suc j) there = none_there n j there
 
-empty_places-none : (j : ℕ) → IsHeld empty_places j → ⊥
+empty_places-none : (j : ℕ) → IsStored empty_places j → ⊥
 unfolding empty_places
 empty_places-none j held = none_there page_size j held
 
 -- a page in which an object stands was not given back
-pub kept-held : (kept : Objects) (j : ℕ) → IsHeld (places_of kept) j → (places_of kept ≡ kept) × (j < length kept)
+pub kept-held : (kept : StoredPlaces) (j : ℕ) → IsStored (places_of kept) j → (places_of kept ≡ kept) × (j < length kept)
 kept-held [] j held = absurd (empty_places-none j held)
-kept-held (x ∷ xs) j held = (refl, held_within (x ∷ xs) j held)
+kept-held (x ∷ xs) j held = (refl, there_below (x ∷ xs) j held)
 
-pub kept-within : (page kept : Objects) (j : ℕ) → places_of kept ≡ page → IsHeld page j → j < length kept
-kept-within page kept j view held = (kept-held kept j (subst (λ h. IsHeld h j) (sym view) held)).1
+pub kept-within : (page kept : StoredPlaces) (j : ℕ) → places_of kept ≡ page → IsStored page j → j < length kept
+kept-within page kept j view held = (kept-held kept j (subst (λ h. IsStored h j) (sym view) held)).1
 
-place_read : (page kept : Objects) (j : ℕ) (p : Option ObjectState) → places_of kept ≡ page → IsHeld page j → p ≡ get_or kept j p → p ≡ at page j
+place_read : (page kept : StoredPlaces) (j : ℕ) (p : Option Stored) → places_of kept ≡ page → IsStored page j → p ≡ get_or kept j p → p ≡ stored_in page j
 place_read page kept j p view held is =
-    let k = kept-held kept j (subst (λ h. IsHeld h j) (sym view) held) in
-    is ∙ (get_or_default kept j p None k.1 ∙ (ap (λ h. at h j) (sym k.0) ∙ ap (λ h. at h j) view))
+    let k = kept-held kept j (subst (λ h. IsStored h j) (sym view) held) in
+    is ∙ (get_or_default kept j p None k.1 ∙ (ap (λ h. stored_in h j) (sym k.0) ∙ ap (λ h. stored_in h j) view))
 
 -- what stands at the place of an object is that object
-pub kept-found : (page kept : Objects) (j : ℕ) (p : Option ObjectState) (x : ObjectState) → places_of kept ≡ page → IsHeld page j → p ≡ get_or kept j p → p ≡ Some x → object_at page j ≡ x
-kept-found page kept j p x view held is some = ap found (sym (place_read page kept j p view held is) ∙ some)
+pub kept-found : (page kept : StoredPlaces) (j : ℕ) (p : Option Stored) → places_of kept ≡ page → IsStored page j → p ≡ get_or kept j p → as_stored p ≡ stored_at page j
+kept-found page kept j p view held is = ap as_stored (place_read page kept j p view held is)
 
-pub kept-not_none : (page kept : Objects) (j : ℕ) (p : Option ObjectState) → places_of kept ≡ page → IsHeld page j → p ≡ get_or kept j p → p ≡ None → ⊥
-kept-not_none page kept j p view held is none = subst is_there (sym (place_read page kept j p view held is) ∙ none) held
+pub kept-stands : (page kept : StoredPlaces) (j : ℕ) (p : Option Stored) → places_of kept ≡ page → IsStored page j → p ≡ get_or kept j p → is_stored p
+kept-stands page kept j p view held is = subst is_stored (sym (place_read page kept j p view held is)) held
 
-set-places_of : (kept : Objects) (j : ℕ) (y : Option ObjectState) → 0 < length kept → places_of (set kept j y) ≡ set (places_of kept) j y
+some_stored : (p : Option Stored) → is_stored p → p ≡ Some (as_stored p)
+some_stored None held = absurd held
+some_stored (Some x) held = refl
+
+pub kept-object : (page kept : StoredPlaces) (j : ℕ) (p : Option Stored) → places_of kept ≡ page → IsStored page j → p ≡ get_or kept j p → p ≡ Some (stored_at page j)
+kept-object page kept j p view held is = place_read page kept j p view held is ∙ some_stored (stored_in page j) held
+
+set-places_of : (kept : StoredPlaces) (j : ℕ) (y : Option Stored) → 0 < length kept → places_of (set kept j y) ≡ set (places_of kept) j y
 set-places_of [] j y some = absurd (omega arith)
 set-places_of (x ∷ xs) zero y some = refl
 set-places_of (x ∷ xs) (suc j) y some = refl
 
 -- writing in the list writes at the place
-pub kept-written : (page kept : Objects) (j : ℕ) (y : Option ObjectState) → places_of kept ≡ page → IsHeld page j → places_of (set kept j y) ≡ set page j y
+kept-written : (page kept : StoredPlaces) (j : ℕ) (y : Option Stored) → places_of kept ≡ page → IsStored page j → places_of (set kept j y) ≡ set page j y
 kept-written page kept j y view held =
     let lt = kept-within page kept j view held in
     set-places_of kept j y (omega arith) ∙ ap (λ h. set h j y) view
 
-pub held_count-zero : (xs : Objects) → held_count xs ≡ 0 → xs ≡ replicate (length xs) None
-held_count-zero [] none = refl
-held_count-zero (None ∷ xs) none =
-    let e = sum_by-cons ones_in None xs in
-    ap (λ (ys : Objects). None ∷ ys) (held_count-zero xs (omega arith))
-held_count-zero (Some x ∷ xs) none = let e = sum_by-cons ones_in (Some x) xs in absurd (omega arith)
+pub stored_count-zero : (xs : StoredPlaces) → stored_count xs ≡ 0 → xs ≡ replicate (length xs) None
+stored_count-zero [] none = refl
+stored_count-zero (None ∷ xs) none =
+    let e = sum_by-cons ones_stored None xs in
+    ap (λ (ys : StoredPlaces). None ∷ ys) (stored_count-zero xs (omega arith))
+stored_count-zero (Some x ∷ xs) none = let e = sum_by-cons ones_stored (Some x) xs in absurd (omega arith)
 
 -- a page with all its places, in which no object stands, shows as much when it was given back
-pub given_back : (kept : Objects) → held_count kept ≡ 0 → length kept ≡ page_size → empty_places ≡ kept
+pub given_back : (kept : StoredPlaces) → stored_count kept ≡ 0 → length kept ≡ page_size → empty_places ≡ kept
 unfolding empty_places
-given_back kept none full = sym (held_count-zero kept none ∙ ap (λ (n : ℕ). replicate {A = Option ObjectState} n None) full)
+given_back kept none full = sym (stored_count-zero kept none ∙ ap (λ (n : ℕ). replicate {A = Option Stored} n None) full)
 
-pub kept-given_back : (page kept : Objects) (j : ℕ) → places_of kept ≡ page → IsHeld page j → held_count (set kept j None) ≡ 0 → length kept ≡ page_size → empty_places ≡ set page j None
-kept-given_back page kept j view held none full =
-    let k = kept-held kept j (subst (λ h. IsHeld h j) (sym view) held) in
-    given_back (set kept j None) none (length-set kept j None ∙ full) ∙ ap (λ (h : Objects). set h j None) (sym k.0 ∙ view)
+pub kept-given_back : (page kept : StoredPlaces) (j : ℕ) (q : Option Stored) → places_of kept ≡ page → IsStored page j → q ≡ None → stored_count (set kept j q) ≡ 0 → length kept ≡ page_size → empty_places ≡ set page j None
+kept-given_back page kept j q view held gone none full =
+    let k = kept-held kept j (subst (λ h. IsStored h j) (sym view) held) in
+    let none' : stored_count (set kept j None) ≡ 0 = subst (λ p. stored_count (set kept j p) ≡ 0) gone none in
+    given_back (set kept j None) none' (length-set kept j None ∙ full) ∙ ap (λ (h : StoredPlaces). set h j None) (sym k.0 ∙ view)
+
+-- an object that is taken out of the list is taken out at its place
+pub kept-emptied : (page kept : StoredPlaces) (j : ℕ) (q : Option Stored) → places_of kept ≡ page → IsStored page j → q ≡ None → places_of (set kept j q) ≡ set page j None
+kept-emptied page kept j q view held gone = kept-written page kept j q view held ∙ ap (set page j) gone
+
+-- changing what stands in the list changes it at the place
+pub kept-changed : (page kept : StoredPlaces) (j : ℕ) (p q : Option Stored) (f : Stored → Stored) → places_of kept ≡ page → IsStored page j → p ≡ get_or kept j p → q ≡ Some (f (as_stored p)) → places_of (set kept j q) ≡ stored_with f j page
+kept-changed page kept j p q f view held is changed =
+    kept-written page kept j q view held ∙ ap (set page j) (changed ∙ ap (λ y. Some (f (as_stored y))) (place_read page kept j p view held is))
 
 -- one object fewer
-pub kept-fewer : (page kept : Objects) (j : ℕ) → places_of kept ≡ page → IsHeld page j → held_count (set kept j None) + 1 ≡ held_count kept
-kept-fewer page kept j view held =
-    let k = kept-held kept j (subst (λ h. IsHeld h j) (sym view) held) in
-    held_count-set kept j (subst (λ h. IsHeld h j) (sym view ∙ k.0) held)
+pub kept-fewer : (page kept : StoredPlaces) (j : ℕ) (q : Option Stored) → places_of kept ≡ page → IsStored page j → q ≡ None → stored_count (set kept j q) + 1 ≡ stored_count kept
+kept-fewer page kept j q view held gone =
+    let k = kept-held kept j (subst (λ h. IsStored h j) (sym view) held) in
+    ap (λ p. stored_count (set kept j p) + 1) gone ∙ stored_count-set kept j (subst (λ h. IsStored h j) (sym view ∙ k.0) held)
 
 -- nothing is held where nothing is counted
-pub kept-none : (page kept : Objects) (j : ℕ) → places_of kept ≡ page → held_count kept ≡ 0 → IsHeld page j → ⊥
+pub kept-none : (page kept : StoredPlaces) (j : ℕ) → places_of kept ≡ page → stored_count kept ≡ 0 → IsStored page j → ⊥
 kept-none page kept j view none held =
-    let k = kept-held kept j (subst (λ h. IsHeld h j) (sym view) held) in
-    none_there (length kept) j (subst (λ h. IsHeld h j) (sym view ∙ (k.0 ∙ held_count-zero kept none)) held)
+    let k = kept-held kept j (subst (λ h. IsStored h j) (sym view) held) in
+    none_there (length kept) j (subst (λ h. IsStored h j) (sym view ∙ (k.0 ∙ stored_count-zero kept none)) held)
 
 length-empty_places : length empty_places ≡ page_size
 unfolding empty_places
-length-empty_places = length-replicate {A = Option ObjectState} page_size None
+length-empty_places = length-replicate {A = Option Stored} page_size None
 
 -- a page that has room was not given back
-pub kept-push : (page kept more : Objects) (x : Option ObjectState) → places_of kept ≡ page → length page < page_size → more ≡ kept ++ x ∷ [] → places_of more ≡ page ++ x ∷ []
+pub kept-push : (page kept more : StoredPlaces) (x : Option Stored) → places_of kept ≡ page → length page < page_size → more ≡ kept ++ x ∷ [] → places_of more ≡ page ++ x ∷ []
 kept-push page [] more x view room e = let len = ap length view in absurd (omega (arith, length-empty_places))
-kept-push page (y ∷ ys) more x view room e = ap places_of e ∙ ap (λ (h : Objects). h ++ x ∷ []) view
+kept-push page (y ∷ ys) more x view room e = ap places_of e ∙ ap (λ (h : StoredPlaces). h ++ x ∷ []) view
 
 -- MANY PAGES
 
-pub length-all_places : (n : ℕ) (pages : List Objects) → IsPaged n pages → length (all_places pages) ≡ n
+pub length-all_places : (n : ℕ) (pages : List StoredPlaces) → IsPaged n pages → length (all_places pages) ≡ n
 length-all_places n [] paged = sym paged
 length-all_places n (p ∷ ps) paged =
     let len = paged.1 in
@@ -100,12 +118,12 @@ length-all_places n (p ∷ ps) paged =
     omega (arith, length-append p (all_places ps))
 
 -- the place of a number
-pub record IsPlaced (pages : List Objects) (k j : ℕ) : Type 0 where
+pub record IsPlaced (pages : List StoredPlaces) (k j : ℕ) : Type 0 where
   pub page : k < length pages
   pub place : j < length (get_or pages k [])
   pub same : get_or (all_places pages) (page_size * k + j) None ≡ get_or (get_or pages k []) j None
 
-pub place_of_pages : (n : ℕ) (pages : List Objects) (k j : ℕ) → IsPaged n pages → page_size * k + j < n → j < page_size → IsPlaced pages k j
+pub place_of_pages : (n : ℕ) (pages : List StoredPlaces) (k j : ℕ) → IsPaged n pages → page_size * k + j < n → j < page_size → IsPlaced pages k j
 place_of_pages n [] k j paged below short = absurd (omega arith)
 place_of_pages n (p ∷ ps) zero j paged below short =
     let len = paged.1 in
@@ -129,7 +147,7 @@ place_of_pages n (p ∷ ps) (suc k) j paged below short =
     }
 
 -- writing at a place of a page writes at its number
-pub pages_with : (n : ℕ) (pages : List Objects) (k j : ℕ) (y : Option ObjectState) → IsPaged n pages → page_size * k + j < n → j < page_size → all_places (set pages k (set (get_or pages k []) j y)) ≡ set (all_places pages) (page_size * k + j) y
+pub pages_with : (n : ℕ) (pages : List StoredPlaces) (k j : ℕ) (y : Option Stored) → IsPaged n pages → page_size * k + j < n → j < page_size → all_places (set pages k (set (get_or pages k []) j y)) ≡ set (all_places pages) (page_size * k + j) y
 pages_with n [] k j y paged below short = absurd (omega arith)
 pages_with n (p ∷ ps) zero j y paged below short =
     let len = paged.1 in
@@ -139,15 +157,15 @@ pages_with n (p ∷ ps) (suc k) j y paged below short =
     let len = paged.1 in
     let full : length p ≡ page_size = omega arith in
     let e : page_size * k + j ≡ page_size * suc k + j - page_size = omega arith in
-    ap (λ (xs : Objects). p ++ xs) (pages_with (n - page_size) ps k j y paged.2 (omega arith) short ∙ ap (λ (i : ℕ). set (all_places ps) i y) e) ∙ sym (set-append_right p (all_places ps) page_size (page_size * suc k + j) y full (omega arith))
+    ap (λ (xs : StoredPlaces). p ++ xs) (pages_with (n - page_size) ps k j y paged.2 (omega arith) short ∙ ap (λ (i : ℕ). set (all_places ps) i y) e) ∙ sym (set-append_right p (all_places ps) page_size (page_size * suc k + j) y full (omega arith))
 
-pub IsPaged-set : (n : ℕ) (pages : List Objects) (k : ℕ) (q : Objects) → IsPaged n pages → length q ≡ length (get_or pages k []) → IsPaged n (set pages k q)
+pub IsPaged-set : (n : ℕ) (pages : List StoredPlaces) (k : ℕ) (q : StoredPlaces) → IsPaged n pages → length q ≡ length (get_or pages k []) → IsPaged n (set pages k q)
 IsPaged-set n [] k q paged same = paged
 IsPaged-set n (p ∷ ps) zero q paged same = (paged.0, same ∙ paged.1, paged.2)
 IsPaged-set n (p ∷ ps) (suc k) q paged same = (paged.0, paged.1, IsPaged-set (n - page_size) ps k q paged.2 same)
 
 -- the number of a place
-pub number_below : (n : ℕ) (pages : List Objects) (k j : ℕ) → IsPaged n pages → k < length pages → j < length (get_or pages k []) → (page_size * k + j < n) × (j < page_size)
+pub number_below : (n : ℕ) (pages : List StoredPlaces) (k j : ℕ) → IsPaged n pages → k < length pages → j < length (get_or pages k []) → (page_size * k + j < n) × (j < page_size)
 number_below n [] k j paged page place = absurd (omega arith)
 number_below n (p ∷ ps) zero j paged page place = let len = paged.1 in (omega arith, omega arith)
 number_below n (p ∷ ps) (suc k) j paged page place =
@@ -159,43 +177,43 @@ number_below n (p ∷ ps) (suc k) j paged page place =
 
 -- AN OBJECT IN ITS PAGE
 
-pub number_positive : (heap : Objects) (pages : List Objects) (o : ℕ) → None ∷ all_places pages ≡ heap → IsHeld heap o → 0 < o
-number_positive heap pages o view held = held-positive (all_places pages) o (subst (λ h. IsHeld h o) (sym view) held)
+pub number_positive : (heap : StoredPlaces) (pages : List StoredPlaces) (o : ℕ) → None ∷ all_places pages ≡ heap → IsStored heap o → 0 < o
+number_positive heap pages o view held = held-positive (all_places pages) o (subst (λ h. IsStored h o) (sym view) held)
 
-pub number_within : (heap : Objects) (pages : List Objects) (made o : ℕ) → None ∷ all_places pages ≡ heap → IsPaged made pages → IsHeld heap o → o ≤ made
+pub number_within : (heap : StoredPlaces) (pages : List StoredPlaces) (made o : ℕ) → None ∷ all_places pages ≡ heap → IsPaged made pages → IsStored heap o → o ≤ made
 number_within heap pages made o view paged held =
-    let below = held_within (None ∷ all_places pages) o (subst (λ h. IsHeld h o) (sym view) held) in
+    let below = there_below (None ∷ all_places pages) o (subst (λ h. IsStored h o) (sym view) held) in
     let len = length-all_places made pages paged in
     omega arith
 
-object_placed : (pages : List Objects) (made o k j : ℕ) → IsPaged made pages → 0 < o → o ≤ made → k ≡ (o - 1) / page_size → j ≡ (o - 1) % page_size → (page_size * k + j ≡ o - 1) × (j < page_size) × IsPlaced pages k j
+object_placed : (pages : List StoredPlaces) (made o k j : ℕ) → IsPaged made pages → 0 < o → o ≤ made → k ≡ (o - 1) / page_size → j ≡ (o - 1) % page_size → (page_size * k + j ≡ o - 1) × (j < page_size) × IsPlaced pages k j
 object_placed pages made o k j paged some most page place =
     let q : page_size * k + j ≡ o - 1 = omega arith in
     (q, omega arith, place_of_pages made pages k j paged (omega arith) (omega arith))
 
 -- an object that was made has a page
-pub page_of-within : (pages : List Objects) (made o k : ℕ) → IsPaged made pages → 0 < o → o ≤ made → k ≡ (o - 1) / page_size → k < length pages
+pub page_of-within : (pages : List StoredPlaces) (made o k : ℕ) → IsPaged made pages → 0 < o → o ≤ made → k ≡ (o - 1) / page_size → k < length pages
 page_of-within pages made o k paged some most page = (object_placed pages made o k ((o - 1) % page_size) paged some most page refl).2.page
 
 -- what stands at a number stands at its place of its page p
-pub at-number : (heap : Objects) (pages : List Objects) (made o k j : ℕ) (p : Objects) → None ∷ all_places pages ≡ heap → IsPaged made pages → 0 < o → o ≤ made → k ≡ (o - 1) / page_size → j ≡ (o - 1) % page_size → p ≡ get_or pages k p → at heap o ≡ at p j
+pub at-number : (heap : StoredPlaces) (pages : List StoredPlaces) (made o k j : ℕ) (p : StoredPlaces) → None ∷ all_places pages ≡ heap → IsPaged made pages → 0 < o → o ≤ made → k ≡ (o - 1) / page_size → j ≡ (o - 1) % page_size → p ≡ get_or pages k p → stored_in heap o ≡ stored_in p j
 at-number heap pages made o k j p view paged some most page place is =
     let placed = object_placed pages made o k j paged some most page place in
     let same : get_or pages k [] ≡ p = sym (is ∙ get_or_default pages k p [] placed.2.page) in
-    ap (λ h. at h o) (sym view) ∙ (at-below (all_places pages) o some ∙ (ap (λ (i : ℕ). get_or (all_places pages) i None) (sym placed.0) ∙ (placed.2.same ∙ ap (λ h. at h j) same)))
+    ap (λ h. stored_in h o) (sym view) ∙ (at-below (all_places pages) o some ∙ (ap (λ (i : ℕ). get_or (all_places pages) i None) (sym placed.0) ∙ (placed.2.same ∙ ap (λ h. stored_in h j) same)))
 
-pub page-held-within : (heap : Objects) (pages : List Objects) (made o k : ℕ) → None ∷ all_places pages ≡ heap → IsPaged made pages → IsHeld heap o → k ≡ (o - 1) / page_size → k < length pages
+pub page-held-within : (heap : StoredPlaces) (pages : List StoredPlaces) (made o k : ℕ) → None ∷ all_places pages ≡ heap → IsPaged made pages → IsStored heap o → k ≡ (o - 1) / page_size → k < length pages
 page-held-within heap pages made o k view paged held page = page_of-within pages made o k paged (number_positive heap pages o view held) (number_within heap pages made o view paged held) page
 
-pub at-page : (heap : Objects) (pages : List Objects) (made o k j : ℕ) (p : Objects) → None ∷ all_places pages ≡ heap → IsPaged made pages → IsHeld heap o → k ≡ (o - 1) / page_size → j ≡ (o - 1) % page_size → p ≡ get_or pages k p → at heap o ≡ at p j
+pub at-page : (heap : StoredPlaces) (pages : List StoredPlaces) (made o k j : ℕ) (p : StoredPlaces) → None ∷ all_places pages ≡ heap → IsPaged made pages → IsStored heap o → k ≡ (o - 1) / page_size → j ≡ (o - 1) % page_size → p ≡ get_or pages k p → stored_in heap o ≡ stored_in p j
 at-page heap pages made o k j p view paged held page place is = at-number heap pages made o k j p view paged (number_positive heap pages o view held) (number_within heap pages made o view paged held) page place is
 
 -- the pages after a write of y at the number of object o
-pub record IsWritten (made : ℕ) (pages more : List Objects) (o : ℕ) (y : Option ObjectState) : Type 0 where
+pub record IsWritten (made : ℕ) (pages more : List StoredPlaces) (o : ℕ) (y : Option Stored) : Type 0 where
   pub paged : IsPaged made more
   pub same : all_places more ≡ set (all_places pages) (o - 1) y
 
-pub page-written : (heap : Objects) (pages : List Objects) (made o k j : ℕ) (p q : Objects) (y : Option ObjectState) → None ∷ all_places pages ≡ heap → IsPaged made pages → IsHeld heap o → k ≡ (o - 1) / page_size → j ≡ (o - 1) % page_size → p ≡ get_or pages k p → q ≡ set p j y → IsWritten made pages (set pages k q) o y
+pub page-written : (heap : StoredPlaces) (pages : List StoredPlaces) (made o k j : ℕ) (p q : StoredPlaces) (y : Option Stored) → None ∷ all_places pages ≡ heap → IsPaged made pages → IsStored heap o → k ≡ (o - 1) / page_size → j ≡ (o - 1) % page_size → p ≡ get_or pages k p → q ≡ set p j y → IsWritten made pages (set pages k q) o y
 page-written heap pages made o k j p q y view paged held page place is wrote =
     let most = number_within heap pages made o view paged held in
     let some = number_positive heap pages o view held in
@@ -204,24 +222,30 @@ page-written heap pages made o k j p q y view paged held page place is wrote =
     let wrote' : q ≡ set (get_or pages k []) j y = wrote ∙ ap (λ h. set h j y) (is ∙ get_or_default pages k p [] placed.2.page) in
     record {
       paged = IsPaged-set made pages k q paged (ap length wrote' ∙ length-set (get_or pages k []) j y);
-      same = ap (λ (h : Objects). all_places (set pages k h)) wrote' ∙ (pages_with made pages k j y paged (omega arith) placed.1 ∙ ap (λ (i : ℕ). set (all_places pages) i y) at-o);
+      same = ap (λ (h : StoredPlaces). all_places (set pages k h)) wrote' ∙ (pages_with made pages k j y paged (omega arith) placed.1 ∙ ap (λ (i : ℕ). set (all_places pages) i y) at-o);
     }
 
-pub written-view : (heap : Objects) (pages more : List Objects) (made o : ℕ) (y : Option ObjectState) → None ∷ all_places pages ≡ heap → IsHeld heap o → IsWritten made pages more o y → None ∷ all_places more ≡ set heap o y
+-- the same where what stands at the number is changed
+pub page-changed : (heap : StoredPlaces) (pages : List StoredPlaces) (made o k j : ℕ) (p q : StoredPlaces) (f : Stored → Stored) → None ∷ all_places pages ≡ heap → IsPaged made pages → IsStored heap o → k ≡ (o - 1) / page_size → j ≡ (o - 1) % page_size → p ≡ get_or pages k p → q ≡ stored_with f j p → IsWritten made pages (set pages k q) o (Some (f (stored_at heap o)))
+page-changed heap pages made o k j p q f view paged held page place is changed =
+    let same = at-page heap pages made o k j p view paged held page place is in
+    page-written heap pages made o k j p q (Some (f (stored_at heap o))) view paged held page place is (changed ∙ ap (λ (z : Option Stored). with_stored_at p j (f (as_stored z))) (sym same))
+
+pub written-view : (heap : StoredPlaces) (pages more : List StoredPlaces) (made o : ℕ) (y : Option Stored) → None ∷ all_places pages ≡ heap → IsStored heap o → IsWritten made pages more o y → None ∷ all_places more ≡ set heap o y
 written-view heap pages more made o y view held written =
-    let held' : IsHeld (None ∷ all_places pages) o = subst (λ h. IsHeld h o) (sym view) held in
-    ap (λ (xs : Objects). None ∷ xs) written.same ∙ (sym (set-below (all_places pages) o y (held-positive (all_places pages) o held')) ∙ ap (λ h. set h o y) view)
+    let held' : IsStored (None ∷ all_places pages) o = subst (λ h. IsStored h o) (sym view) held in
+    ap (λ (xs : StoredPlaces). None ∷ xs) written.same ∙ (sym (set-below (all_places pages) o y (held-positive (all_places pages) o held')) ∙ ap (λ h. set h o y) view)
 
 -- a write that leaves the object held, with as many slots, leaves the counts
-pub written-counts : (heap : Objects) (pages more : List Objects) (made o : ℕ) (x : ObjectState) → None ∷ all_places pages ≡ heap → IsHeld heap o → IsWritten made pages more o (Some x) → length x.slots ≡ length (object_at heap o).slots → (held_count (all_places more) ≡ held_count (all_places pages)) × (slot_count (all_places more) ≡ slot_count (all_places pages))
+pub written-counts : (heap : StoredPlaces) (pages more : List StoredPlaces) (made o : ℕ) (x : Stored) → None ∷ all_places pages ≡ heap → IsStored heap o → IsWritten made pages more o (Some x) → length x.state.slots ≡ length (stored_at heap o).state.slots → (stored_count (all_places more) ≡ stored_count (all_places pages)) × (stored_slots (all_places more) ≡ stored_slots (all_places pages))
 written-counts heap pages more made o x view held written slots =
-    let held' : IsHeld (None ∷ all_places pages) o = subst (λ h. IsHeld h o) (sym view) held in
-    let slots' : length x.slots ≡ length (object_at (None ∷ all_places pages) o).slots = slots ∙ ap (λ h. length (object_at h o).slots) (sym view) in
-    (ap held_count written.same ∙ held_count-written (all_places pages) o x held', ap slot_count written.same ∙ slot_count-written (all_places pages) o x held' slots')
+    let held' : IsStored (None ∷ all_places pages) o = subst (λ h. IsStored h o) (sym view) held in
+    let slots' : length x.state.slots ≡ length (stored_at (None ∷ all_places pages) o).state.slots = slots ∙ ap (λ h. length (stored_at h o).state.slots) (sym view) in
+    (ap stored_count written.same ∙ stored_count-written (all_places pages) o x held', ap stored_slots written.same ∙ stored_slots-written (all_places pages) o x held' slots')
 
 -- THE NEXT OBJECT
 
-made-le : (n : ℕ) (pages : List Objects) → IsPaged n pages → n ≤ page_size * length pages
+made-le : (n : ℕ) (pages : List StoredPlaces) → IsPaged n pages → n ≤ page_size * length pages
 made-le n [] paged = let none : n ≡ 0 = paged in omega arith
 made-le n (p ∷ ps) paged =
     let len = paged.1 in
@@ -229,35 +253,35 @@ made-le n (p ∷ ps) paged =
     omega arith
 
 -- a place of page p, from its number
-pub held-in_page : (pages : List Objects) (made k u : ℕ) (p : Objects) → IsPaged made pages → p ≡ get_or pages k p → page_size * k < u → u ≤ page_size * k + page_size → IsHeld (None ∷ all_places pages) u → IsHeld p (u - 1 - page_size * k)
+pub held-in_page : (pages : List StoredPlaces) (made k u : ℕ) (p : StoredPlaces) → IsPaged made pages → p ≡ get_or pages k p → page_size * k < u → u ≤ page_size * k + page_size → IsStored (None ∷ all_places pages) u → IsStored p (u - 1 - page_size * k)
 held-in_page pages made k u p paged is low high held =
     let e = at-page (None ∷ all_places pages) pages made u k (u - 1 - page_size * k) p refl paged held (omega arith) (omega arith) is in
-    subst is_there e held
+    subst is_stored e held
 
 -- what is held in a page was made
-pub found_below : (pages : List Objects) (made k i : ℕ) (p : Objects) → IsPaged made pages → k < length pages → p ≡ get_or pages k p → IsHeld p i → (page_size * k + i < made) × (i < page_size)
+pub found_below : (pages : List StoredPlaces) (made k i : ℕ) (p : StoredPlaces) → IsPaged made pages → k < length pages → p ≡ get_or pages k p → IsStored p i → (page_size * k + i < made) × (i < page_size)
 found_below pages made k i p paged there is held =
     let same : p ≡ get_or pages k [] = is ∙ get_or_default pages k p [] there in
-    number_below made pages k i paged there (held_within (get_or pages k []) i (subst (λ h. IsHeld h i) same held))
+    number_below made pages k i paged there (there_below (get_or pages k []) i (subst (λ h. IsStored h i) same held))
 
 -- nothing is held from number f on before place j of page k
-abbrev pub NoneBefore : List Objects → ℕ → ℕ → ℕ → Type 0
-NoneBefore pages f k j = (u : ℕ) → f ≤ u → u < page_size * k + j + 1 → IsHeld (None ∷ all_places pages) u → ⊥
+abbrev pub NoneBefore : List StoredPlaces → ℕ → ℕ → ℕ → Type 0
+NoneBefore pages f k j = (u : ℕ) → f ≤ u → u < page_size * k + j + 1 → IsStored (None ∷ all_places pages) u → ⊥
 
-pub none-page : (pages : List Objects) (made f k j : ℕ) (p : Objects) → IsPaged made pages → p ≡ get_or pages k p → ((v : ℕ) → j ≤ v → IsHeld p v → ⊥) → NoneBefore pages f k j → NoneBefore pages f (k + 1) 0
+pub none-page : (pages : List StoredPlaces) (made f k j : ℕ) (p : StoredPlaces) → IsPaged made pages → p ≡ get_or pages k p → ((v : ℕ) → j ≤ v → IsStored p v → ⊥) → NoneBefore pages f k j → NoneBefore pages f (k + 1) 0
 none-page pages made f k j p paged is out before u from below held =
     elim (cases_lt u (page_size * k + j + 1)) [
       | inl lt ↦ before u from lt held
       | inr le ↦ out (u - 1 - page_size * k) (omega arith) (held-in_page pages made k u p paged is (omega arith) (omega arith) held)
     ]
 
-pub none-end : (heap : Objects) (pages : List Objects) (made f k j : ℕ) → None ∷ all_places pages ≡ heap → IsPaged made pages → length pages ≤ k → NoneBefore pages f k j → (u : ℕ) → f ≤ u → IsHeld heap u → ⊥
+pub none-end : (heap : StoredPlaces) (pages : List StoredPlaces) (made f k j : ℕ) → None ∷ all_places pages ≡ heap → IsPaged made pages → length pages ≤ k → NoneBefore pages f k j → (u : ℕ) → f ≤ u → IsStored heap u → ⊥
 none-end heap pages made f k j view paged end before u from held =
     let most = number_within heap pages made u view paged held in
     let le = made-le made pages paged in
-    before u from (omega arith) (subst (λ h. IsHeld h u) (sym view) held)
+    before u from (omega arith) (subst (λ h. IsStored h u) (sym view) held)
 
-pub next-found : (heap : Objects) (pages : List Objects) (made f k j i : ℕ) (p : Objects) → None ∷ all_places pages ≡ heap → IsPaged made pages → k < length pages → p ≡ get_or pages k p → f ≤ page_size * k + j + 1 → NoneBefore pages f k j → IsNextHeld p j i → IsNextHeld heap f (page_size * k + i + 1)
+pub next-found : (heap : StoredPlaces) (pages : List StoredPlaces) (made f k j i : ℕ) (p : StoredPlaces) → None ∷ all_places pages ≡ heap → IsPaged made pages → k < length pages → p ≡ get_or pages k p → f ≤ page_size * k + j + 1 → NoneBefore pages f k j → IsNextStored p j i → IsNextStored heap f (page_size * k + i + 1)
 next-found heap pages made f k j i p view paged there is from before next =
     let o = page_size * k + i + 1 in
     let below = found_below pages made k i p paged there is next.held in
@@ -266,11 +290,11 @@ next-found heap pages made f k j i p view paged there is from before next =
     let le = next.from in
     let e = at-number heap pages made o k i p view paged (omega arith) (omega arith) (omega arith) (omega arith) is in
     record {
-      held = subst is_there (sym e) next.held;
+      held = subst is_stored (sym e) next.held;
       from = omega arith;
       first = λ u low held. elim (cases_lt u o) [
         | inl lt ↦
-            let held' : IsHeld (None ∷ all_places pages) u = subst (λ h. IsHeld h u) (sym view) held in
+            let held' : IsStored (None ∷ all_places pages) u = subst (λ h. IsStored h u) (sym view) held in
             elim (cases_lt u (page_size * k + j + 1)) [
               | inl early ↦ absurd (before u low early held')
               | inr late ↦
@@ -283,7 +307,7 @@ next-found heap pages made f k j i p view paged there is from before next =
 
 -- ONE OBJECT MORE
 
-pub IsPaged-new_page : (n : ℕ) (pages : List Objects) (k : ℕ) (x : Option ObjectState) → IsPaged n pages → n ≡ page_size * k → IsPaged (n + 1) (pages ++ (x ∷ []) ∷ [])
+pub IsPaged-new_page : (n : ℕ) (pages : List StoredPlaces) (k : ℕ) (x : Option Stored) → IsPaged n pages → n ≡ page_size * k → IsPaged (n + 1) (pages ++ (x ∷ []) ∷ [])
 IsPaged-new_page n [] k x paged e =
     let none : n ≡ 0 = paged in
     (omega arith, omega arith, omega arith)
@@ -293,12 +317,12 @@ IsPaged-new_page n (p ∷ ps) (suc k) x paged e =
     let same : n - page_size + 1 ≡ n + 1 - page_size = omega arith in
     (omega arith, omega arith, subst (λ (m : ℕ). IsPaged m (ps ++ (x ∷ []) ∷ [])) same (IsPaged-new_page (n - page_size) ps k x paged.2 (omega arith)))
 
-no_pages : (ps : List Objects) → IsPaged 0 ps → ps ≡ []
+no_pages : (ps : List StoredPlaces) → IsPaged 0 ps → ps ≡ []
 no_pages [] paged = refl
 no_pages (p ∷ ps) paged = let some = paged.0 in absurd (omega arith)
 
 -- the last page of those that have n places has room while n is no multiple of the size
-pub last_page : (n : ℕ) (pages : List Objects) (k j : ℕ) → IsPaged n pages → n ≡ page_size * k + j → 0 < j → j < page_size → (k < length pages) × (length (get_or pages k []) ≡ j)
+pub last_page : (n : ℕ) (pages : List StoredPlaces) (k j : ℕ) → IsPaged n pages → n ≡ page_size * k + j → 0 < j → j < page_size → (k < length pages) × (length (get_or pages k []) ≡ j)
 last_page n [] k j paged e some short = let none : n ≡ 0 = paged in absurd (omega arith)
 last_page n (p ∷ ps) zero j paged e some short = let len = paged.1 in (omega arith, omega arith)
 last_page n (p ∷ ps) (suc k) j paged e some short =
@@ -306,16 +330,16 @@ last_page n (p ∷ ps) (suc k) j paged e some short =
     let lt = rest.0 in
     (omega arith, rest.1)
 
-pub all_places-push : (n : ℕ) (pages : List Objects) (k j : ℕ) (x : Option ObjectState) → IsPaged n pages → n ≡ page_size * k + j → 0 < j → j < page_size → all_places (set pages k (get_or pages k [] ++ x ∷ [])) ≡ all_places pages ++ x ∷ []
+pub all_places-push : (n : ℕ) (pages : List StoredPlaces) (k j : ℕ) (x : Option Stored) → IsPaged n pages → n ≡ page_size * k + j → 0 < j → j < page_size → all_places (set pages k (get_or pages k [] ++ x ∷ [])) ≡ all_places pages ++ x ∷ []
 all_places-push n [] k j x paged e some short = let none : n ≡ 0 = paged in absurd (omega arith)
 all_places-push n (p ∷ ps) zero j x paged e some short =
     let z : n - page_size ≡ 0 = omega arith in
     let last : ps ≡ [] = no_pages ps (subst (λ (m : ℕ). IsPaged m ps) z paged.2) in
-    ap (λ (qs : List Objects). p ++ x ∷ [] ++ all_places qs) last ∙ (append-nil (p ++ x ∷ []) ∙ (ap (λ (xs : Objects). xs ++ x ∷ []) (sym (append-nil p)) ∙ ap (λ (qs : List Objects). p ++ all_places qs ++ x ∷ []) (sym last)))
+    ap (λ (qs : List StoredPlaces). p ++ x ∷ [] ++ all_places qs) last ∙ (append-nil (p ++ x ∷ []) ∙ (ap (λ (xs : StoredPlaces). xs ++ x ∷ []) (sym (append-nil p)) ∙ ap (λ (qs : List StoredPlaces). p ++ all_places qs ++ x ∷ []) (sym last)))
 all_places-push n (p ∷ ps) (suc k) j x paged e some short =
-    ap (λ (xs : Objects). p ++ xs) (all_places-push (n - page_size) ps k j x paged.2 (omega arith) some short) ∙ sym (append_assoc p (all_places ps) (x ∷ []))
+    ap (λ (xs : StoredPlaces). p ++ xs) (all_places-push (n - page_size) ps k j x paged.2 (omega arith) some short) ∙ sym (append_assoc p (all_places ps) (x ∷ []))
 
-pub IsPaged-push : (n : ℕ) (pages : List Objects) (k j : ℕ) (x : Option ObjectState) → IsPaged n pages → n ≡ page_size * k + j → 0 < j → j < page_size → IsPaged (n + 1) (set pages k (get_or pages k [] ++ x ∷ []))
+pub IsPaged-push : (n : ℕ) (pages : List StoredPlaces) (k j : ℕ) (x : Option Stored) → IsPaged n pages → n ≡ page_size * k + j → 0 < j → j < page_size → IsPaged (n + 1) (set pages k (get_or pages k [] ++ x ∷ []))
 IsPaged-push n [] k j x paged e some short = let none : n ≡ 0 = paged in absurd (omega arith)
 IsPaged-push n (p ∷ ps) zero j x paged e some short =
     let len = paged.1 in
@@ -329,23 +353,23 @@ IsPaged-push n (p ∷ ps) (suc k) j x paged e some short =
 
 -- ROOM
 
-pub length-heap : (heap : Objects) (pages : List Objects) (made : ℕ) → None ∷ all_places pages ≡ heap → IsPaged made pages → length heap ≡ made + 1
+pub length-heap : (heap : StoredPlaces) (pages : List StoredPlaces) (made : ℕ) → None ∷ all_places pages ≡ heap → IsPaged made pages → length heap ≡ made + 1
 length-heap heap pages made view paged =
     let len = length-all_places made pages paged in
     let same : length (None ∷ all_places pages) ≡ length heap = ap length view in
     omega arith
 
-room-paged : (heap : Objects) (pages : List Objects) (made s : ℕ) → None ∷ all_places pages ≡ heap → IsPaged made pages → has_room heap 1 s ≡ (nat_le (made + 1) most_objects && nat_le (slot_count (all_places pages) + s) most_slots)
+room-paged : (heap : StoredPlaces) (pages : List StoredPlaces) (made s : ℕ) → None ∷ all_places pages ≡ heap → IsPaged made pages → has_stored_room heap 1 s ≡ (nat_le (made + 1) most_objects && nat_le (stored_slots (all_places pages) + s) most_slots)
 room-paged heap pages made s view paged =
     let len = length-all_places made pages paged in
     let e : length (None ∷ all_places pages) - 1 + 1 ≡ made + 1 = omega arith in
-    ap (λ h. has_room h 1 s) (sym view) ∙ ap (λ (n : ℕ). nat_le n most_objects && nat_le (slot_count (all_places pages) + s) most_slots) e
+    ap (λ h. has_stored_room h 1 s) (sym view) ∙ ap (λ (n : ℕ). nat_le n most_objects && nat_le (stored_slots (all_places pages) + s) most_slots) e
 
-pub room-there : (heap : Objects) (pages : List Objects) (made s : ℕ) → None ∷ all_places pages ≡ heap → IsPaged made pages → made < most_objects → slot_count (all_places pages) + s ≤ most_slots → has_room heap 1 s ≡ true
+pub room-there : (heap : StoredPlaces) (pages : List StoredPlaces) (made s : ℕ) → None ∷ all_places pages ≡ heap → IsPaged made pages → made < most_objects → stored_slots (all_places pages) + s ≤ most_slots → has_stored_room heap 1 s ≡ true
 room-there heap pages made s view paged few small = rw (room-paged heap pages made s view paged) (grind (arith, nat_tests))
 
-pub room-out : (heap : Objects) (pages : List Objects) (made s : ℕ) → None ∷ all_places pages ≡ heap → IsPaged made pages → most_objects ≤ made → has_room heap 1 s ≡ false
+pub room-out : (heap : StoredPlaces) (pages : List StoredPlaces) (made s : ℕ) → None ∷ all_places pages ≡ heap → IsPaged made pages → most_objects ≤ made → has_stored_room heap 1 s ≡ false
 room-out heap pages made s view paged many = rw (room-paged heap pages made s view paged) (grind (arith, nat_tests))
 
-pub room-small : (heap : Objects) (pages : List Objects) (made s : ℕ) → None ∷ all_places pages ≡ heap → IsPaged made pages → most_slots < slot_count (all_places pages) + s → has_room heap 1 s ≡ false
+pub room-small : (heap : StoredPlaces) (pages : List StoredPlaces) (made s : ℕ) → None ∷ all_places pages ≡ heap → IsPaged made pages → most_slots < stored_slots (all_places pages) + s → has_stored_room heap 1 s ≡ false
 room-small heap pages made s view paged much = rw (room-paged heap pages made s view paged) (grind (arith, nat_tests))

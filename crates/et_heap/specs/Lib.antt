@@ -1,5 +1,9 @@
 pub mod Objects
+pub mod Queues
 pub mod Refs
+pub mod Stored
+pub mod Links
 pub mod Pages
 pub mod Inside
+pub mod RefsInside
 pub mod Remaining

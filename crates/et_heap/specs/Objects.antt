@@ -1,17 +1,22 @@
 -- The objects of the guest (JVMS 2.4, 2.5.3).
-use Rattle.std.specs.Prelude.{ℕ, ◌+◌, ◌-◌, ◌≤◌, ◌&&◌, Bool, nat_le, List, Option, Some, None, length, replicate, slice_index_or, slice_set}
+use Rattle.std.specs.Prelude.{ℕ, ◌+◌, ◌-◌, ◌≤◌, ◌&&◌, Bool, false, nat_le, List, [], Option, Some, None, length, replicate, slice_index_or, slice_set}
 use Rattle.std.specs.List.{sum_by}
 use Rattle.et_base.specs.declared.value.Value.{Value}
 use Rattle.et_base.specs.declared.value.Value.TheVariants.{Unset, Null, Ref}
 use Rattle.et_heap.specs.declared.monitor.Monitor.{Monitor}
 
 -- An object: its class, its length (0 for what is no array), its fields or elements, what it refers to weakly, and its
--- monitor.
+-- monitor. As a reference it may have a queue, and as a queue it has the references that wait in it.
 pub record ObjectState : Type 0 where
   pub class : ℕ
   pub length : ℕ
   pub slots : List Value
   pub referent : Option ℕ
+  pub queue : Option ℕ
+  -- the references that wait in it, the first one first
+  pub waiting : List ℕ
+  -- whether it waits, in any queue
+  pub waits : Bool
   pub monitor : Monitor
 
 -- A heap has each object at its number, and None where the object was taken out. No object has the number 0.
@@ -29,6 +34,9 @@ new_object class elements slots = record {
   length = elements;
   slots = replicate slots Unset;
   referent = None;
+  queue = None;
+  waiting = [];
+  waits = false;
   monitor = free_monitor;
 }
 
@@ -68,6 +76,9 @@ with_slot i v x = record x { slots = slice_set x.slots i v }
 
 abbrev pub with_referent : Option ℕ → ObjectState → ObjectState
 with_referent r x = record x { referent = r }
+
+abbrev pub with_queue : Option ℕ → ObjectState → ObjectState
+with_queue q x = record x { queue = q }
 
 abbrev pub with_monitor : Monitor → ObjectState → ObjectState
 with_monitor m x = record x { monitor = m }
@@ -109,7 +120,7 @@ most_slots = 67108864
 abbrev pub has_room : Objects → ℕ → ℕ → Bool
 has_room heap objects slots = nat_le (made_count heap + objects) most_objects && nat_le (slot_count heap + slots) most_slots
 
--- A referent as a value. What is no reference counts as null.
+-- A referent or a queue as a value. What is no reference counts as null.
 abbrev pub referent_value : Option ℕ → Value
 referent_value None = Null
 referent_value (Some o) = Ref o

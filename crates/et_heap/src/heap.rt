@@ -1,86 +1,39 @@
 //! The heap.
-ghost use Rattle.std.specs.Prelude.{◌≡◌, ◌+◌, ◌-◌, ◌/◌, ◌%◌, ◌<◌, ◌≤◌, ◌↔◌, ◌∷◌, ◌++◌, ℕ, [], length, IsTrue, IfOk, IfSome, OnOk, OnErr, Err, None, Some, false};
-ghost use Rattle.et_heap.specs.Objects.{IsHeld, IsNextHeld, object_at, slot_of, with_slot, with_referent, with_monitor, with_object_at, without_object_at, referent_value, referent_of, new_object, slot_count, held_count, has_room, most_objects, most_slots};
-ghost use Rattle.et_heap.specs.Pages.{page_size, all_places, IsPaged};
-ghost use Rattle.et_heap.specs.Refs.{refs_of as references};
+ghost use Rattle.std.specs.Prelude.{◌≡◌, ◌+◌, ◌<◌, ◌≤◌, ◌↔◌, ◌∷◌, ◌++◌, ℕ, [], length, IsTrue, IfOk, IfSome, OnOk, OnErr, Err, None, Some, false};
+ghost use Rattle.et_heap.specs.Objects.{IsHeld, IsNextHeld, object_at, slot_of, with_slot, with_referent, with_queue, with_monitor, with_object_at, without_object_at, referent_value, referent_of, new_object, slot_count, held_count, has_room, most_objects, most_slots};
+ghost use Rattle.et_heap.specs.Queues.{IsWhole, HasQueue, enqueued, polled, first_value};
+ghost use Rattle.et_heap.specs.Refs.{leads_to};
 
 use crate::fault::MakeFault;
+use crate::links::{link, unlink};
 use crate::monitor::Monitor;
-use crate::object::Object;
-use crate::page::{PLACES, Page};
+use crate::place::value_of;
 use crate::refs::Refs;
+use crate::store::Store;
 use et_base::{ClassId, ObjectId, Steps, Value};
-use std::alloc::{AllocError, Global};
+use std::alloc::Global;
 use std::marker::Model;
 use std::sync::ledger::Ledger;
-
-/// The most objects that are ever made.
-pub const MOST_OBJECTS: u32 = 16_777_215;
-
-/// The most slots, of all objects that are held together.
-pub const MOST_SLOTS: u32 = 67_108_864;
 
 /// The objects of the guest, each at its number, from 1 on in the order in which they were made. A number is never used
 /// again. A contract sees a heap as the list of its objects, with an empty place for the number 0 and for each object
 /// that was taken out.
 #[derive(Drop)]
 pub struct Heap {
-    alloc: Global,
-    /// Object 1 stands first in the first page.
-    pages: Vec<Page>,
-    /// How many objects were ever made.
-    made: u32,
-    /// How many objects are held, and how many slots they have.
-    held: u32,
-    slots: u32,
+    store: Store,
 }
 
 impl Model for Heap {
-    ghost use Rattle.std.specs.Prelude.{◌∷◌, None};
     ghost use Rattle.et_heap.specs.Objects.{Objects};
 
     ghost Value = { Objects };
 
-    ghost use Rattle.et_heap.specs.Pages.{all_places};
-    ghost use Rattle.et_heap.specs.Inside.{IsHeapInside};
+    ghost use Rattle.et_heap.specs.Stored.{states_of};
+    ghost use Rattle.et_heap.specs.Links.{AreLinked};
 
-    ghost view = { λ h. None ∷ all_places h.pages.items };
+    ghost view = { λ h. states_of h.store };
 
-    ghost invariant = { IsHeapInside };
-}
-
-/// In which page an object stands.
-fn page_of(o: ObjectId) -> usize
-    requires { 0 < o }
-    ensures { result ≡ (o - 1) / page_size }
-{
-    (o.number() as usize - 1) / PLACES
-}
-
-/// At which place of its page an object stands.
-fn place_of(o: ObjectId) -> usize
-    requires { 0 < o }
-    ensures { result ≡ (o - 1) % page_size }
-{
-    (o.number() as usize - 1) % PLACES
-}
-
-/// Puts an object at the end, into a new page where the last one has all places. After an error the places are as
-/// before.
-fn push(alloc: Global, pages: &mut Vec<Page>, made: usize, object: Object) -> Result<(), AllocError>
-    requires { IsPaged made pages.old.items }
-    ensures paged { OnOk result (IsPaged (made + 1) pages.new.items) }
-    ensures pushed { OnOk result
-        (all_places pages.new.items ≡ all_places pages.old.items ++ Some object ∷ []) }
-    ensures err { OnErr result (pages.new.items ≡ pages.old.items) }
-{
-    if made % PLACES == 0 {
-        pages.push(Page::begin(alloc, object)?)?;
-    } else {
-        let page = &mut pages[made / PLACES];
-        page.push(object)?;
-    }
-    Ok(())
+    ghost invariant = { λ h. AreLinked h.store };
 }
 
 impl Heap {
@@ -89,34 +42,8 @@ impl Heap {
         ensures { result ≡ None ∷ [] }
     {
         Heap {
-            alloc,
-            pages: Vec::new(alloc),
-            made: 0,
-            held: 0,
-            slots: 0,
+            store: Store::begin(alloc),
         }
-    }
-
-    /// Makes an object with this many slots, which hold nothing yet. `Full` comes exactly where there would be more than
-    /// `MOST_OBJECTS` objects ever made or more than `MOST_SLOTS` slots of objects that are held.
-    fn make(&mut self, class: ClassId, elements: u32, slots: u32) -> Result<ObjectId, MakeFault>
-        ensures number { IfOk result (λ o. o ≡ length self.old) }
-        ensures new { OnOk result
-            (self.new ≡ self.old ++ Some (new_object class elements slots) ∷ []) }
-        ensures room { OnOk result (IsTrue (has_room self.old 1 slots)) }
-        ensures full { (result ≡ Err MakeFault.Full) ↔ (has_room self.old 1 slots ≡ false) }
-        ensures err { OnErr result (self.new ≡ self.old) }
-    {
-        if self.made >= MOST_OBJECTS || slots > MOST_SLOTS - self.slots {
-            return Err(MakeFault::Full);
-        }
-        let empty = vec![in self.alloc; Value::Unset; slots as usize]?;
-        let object = Object::new(class, elements, empty);
-        push(self.alloc, &mut self.pages, self.made as usize, object)?;
-        self.made += 1;
-        self.held += 1;
-        self.slots += slots;
-        Ok(ObjectId::new(self.made))
     }
 
     /// Makes an object with this many fields, which hold nothing yet. Its number is one more than `count`. `Full` comes
@@ -129,7 +56,7 @@ impl Heap {
         ensures full { (result ≡ Err MakeFault.Full) ↔ (has_room self.old 1 slots ≡ false) }
         ensures err { OnErr result (self.new ≡ self.old) }
     {
-        self.make(class, 0, slots)
+        self.store.make(class, 0, slots)
     }
 
     /// Makes an array of this many elements, which hold nothing yet. Its number and its faults are those of
@@ -142,15 +69,7 @@ impl Heap {
         ensures full { (result ≡ Err MakeFault.Full) ↔ (has_room self.old 1 elements ≡ false) }
         ensures err { OnErr result (self.new ≡ self.old) }
     {
-        self.make(class, elements, elements)
-    }
-
-    /// The object of a number.
-    fn object(&self, o: ObjectId) -> &Object
-        requires { IsHeld self.now o }
-        ensures { result.now ≡ object_at self.now o }
-    {
-        self.pages[page_of(o)].object(place_of(o))
+        self.store.make(class, elements, elements)
     }
 
     /// The class of an object.
@@ -160,7 +79,7 @@ impl Heap {
         ensures visits { visits.new ≡ visits.old + 1 }
     {
         visits.tick();
-        self.object(o).class()
+        self.store.object(o).class()
     }
 
     /// The length of an array, and 0 for what is no array.
@@ -170,7 +89,7 @@ impl Heap {
         ensures visits { visits.new ≡ visits.old + 1 }
     {
         visits.tick();
-        self.object(o).length()
+        self.store.object(o).length()
     }
 
     /// What a slot of an object holds. `Unset` stands for the 0 or null of a slot that was not written yet.
@@ -181,7 +100,7 @@ impl Heap {
         ensures visits { visits.new ≡ visits.old + 1 }
     {
         visits.tick();
-        self.object(o).slot(i)
+        self.store.object(o).slot(i)
     }
 
     /// Writes a slot of an object, and answers what stood there.
@@ -199,8 +118,7 @@ impl Heap {
         ensures visits { visits.new ≡ visits.old + 1 }
     {
         visits.tick();
-        let page = &mut self.pages[page_of(o)];
-        page.set_slot(place_of(o), i, v)
+        self.store.set_slot(o, i, v)
     }
 
     /// What an object refers to weakly: `Ref` or `Null`. It is `Null` at first.
@@ -210,7 +128,7 @@ impl Heap {
         ensures visits { visits.new ≡ visits.old + 1 }
     {
         visits.tick();
-        self.object(o).referent()
+        self.store.object(o).referent()
     }
 
     /// Writes what an object refers to weakly, and answers what it referred to before. A value that is no reference
@@ -223,8 +141,7 @@ impl Heap {
         ensures visits { visits.new ≡ visits.old + 1 }
     {
         visits.tick();
-        let page = &mut self.pages[page_of(o)];
-        page.set_referent(place_of(o), v)
+        self.store.set_referent(o, v)
     }
 
     /// The monitor of an object.
@@ -234,7 +151,7 @@ impl Heap {
         ensures visits { visits.new ≡ visits.old + 1 }
     {
         visits.tick();
-        self.object(o).monitor()
+        self.store.object(o).monitor()
     }
 
     /// Writes the monitor of an object, and answers the one before.
@@ -250,26 +167,80 @@ impl Heap {
         ensures visits { visits.new ≡ visits.old + 1 }
     {
         visits.tick();
-        let page = &mut self.pages[page_of(o)];
-        page.set_monitor(place_of(o), m)
+        self.store.set_monitor(o, m)
     }
 
-    /// The references in the slots of an object, in order.
-    pub fn refs_of<L: Ledger>(&self, o: ObjectId, visits: &mut Steps<L>) -> Refs<'_>
+    /// The queue of an object as a reference: `Ref` or `Null`. It is `Null` at first.
+    pub fn queue<L: Ledger>(&self, o: ObjectId, visits: &mut Steps<L>) -> Value
         requires { IsHeld self.now o }
-        ensures value { result ≡ references (object_at self.now o).slots }
+        ensures value { result ≡ referent_value (object_at self.now o).queue }
         ensures visits { visits.new ≡ visits.old + 1 }
     {
         visits.tick();
-        Refs::new(self.object(o).slots())
+        value_of(self.store.object(o).queue())
+    }
+
+    /// Writes the queue of an object as a reference, and answers the one before. A value that is no reference counts as
+    /// `Null`. Where the object waits, it waits on.
+    pub fn set_queue<L: Ledger>(&mut self, o: ObjectId, v: Value, visits: &mut Steps<L>) -> Value
+        requires { IsHeld self.old o }
+        ensures old { result ≡ referent_value (object_at self.old o).queue }
+        ensures new { self.new ≡ with_object_at self.old o
+            (with_queue (referent_of v) (object_at self.old o)) }
+        ensures visits { visits.new ≡ visits.old + 1 }
+    {
+        visits.tick();
+        self.store.set_queue(o, v)
+    }
+
+    /// Puts a reference at the end of the waiting list of its queue, where it has a queue and waits nowhere. Else
+    /// nothing is changed.
+    pub fn enqueue<L: Ledger>(&mut self, reference: ObjectId, visits: &mut Steps<L>)
+        requires held { IsHeld self.old reference }
+        requires queue { HasQueue self.old reference }
+        ensures new { self.new ≡ enqueued reference self.old }
+        ensures visits { visits.new ≡ visits.old + 1 }
+    {
+        visits.tick();
+        let object = self.store.object(reference);
+        if object.waits() {
+            return;
+        }
+        if let Some(queue) = object.queue() {
+            link(&mut self.store, queue, reference);
+        }
+    }
+
+    /// Takes the first reference out of the waiting list of a queue and answers it, or answers `Null` where none waits.
+    /// Each reference that waits in the queue must be held: where one was taken out, the queue can only be taken out.
+    pub fn poll<L: Ledger>(&mut self, queue: ObjectId, visits: &mut Steps<L>) -> Value
+        requires held { IsHeld self.old queue }
+        requires whole { IsWhole self.old queue }
+        ensures value { result ≡ first_value (object_at self.old queue).waiting }
+        ensures new { self.new ≡ polled queue self.old }
+        ensures visits { visits.new ≡ visits.old + 1 }
+    {
+        visits.tick();
+        value_of(unlink(&mut self.store, queue))
+    }
+
+    /// The references in the slots of an object, in order, then its queue, then those that wait in it, in order. Each of
+    /// these must be held.
+    pub fn refs_of<L: Ledger>(&self, o: ObjectId, visits: &mut Steps<L>) -> Refs<'_>
+        requires held { IsHeld self.now o }
+        requires whole { IsWhole self.now o }
+        ensures value { result ≡ leads_to (object_at self.now o) }
+        ensures visits { visits.new ≡ visits.old + 1 }
+    {
+        visits.tick();
+        Refs::of(&self.store, o)
     }
 
     /// Whether the object was made and not taken out.
     pub fn is_held(&self, o: ObjectId) -> bool
         ensures { IsTrue result ↔ IsHeld self.now o }
     {
-        let number = o.number();
-        number > 0 && number <= self.made && self.pages[page_of(o)].is_held(place_of(o))
+        self.store.is_held(o)
     }
 
     /// The first object that is held from this number on, if there is one. It skips what was given back a page at a
@@ -278,27 +249,16 @@ impl Heap {
         ensures some { IfSome result (λ o. IsNextHeld self.now from o) }
         ensures none { result ≡ None → (u : ℕ) → from ≤ u → ¬ IsHeld self.now u }
     {
-        let start = from.number().saturating_sub(1) as usize;
-        let mut place = start % PLACES;
-        for k in start / PLACES..self.pages.len() {
-            if let Some(found) = self.pages[k].next_held(place) {
-                return Some(ObjectId::new((k * PLACES + found) as u32 + 1));
-            }
-            place = 0;
-        }
-        None
+        self.store.next_held(from)
     }
 
-    /// Takes an object out. Its number is not used again.
+    /// Takes an object out. Its number is not used again. Where it waits, it stays on the waiting list of its queue,
+    /// which can only be taken out from then on.
     pub fn take_out(&mut self, o: ObjectId)
         requires { IsHeld self.old o }
         ensures { self.new ≡ without_object_at self.old o }
     {
-        let slots = self.object(o).slots().len() as u32;
-        let page = &mut self.pages[page_of(o)];
-        page.take_out(place_of(o));
-        self.held -= 1;
-        self.slots -= slots;
+        self.store.take_out(o)
     }
 
     /// How many objects were ever made.
@@ -306,14 +266,14 @@ impl Heap {
         ensures value { result + 1 ≡ length self.now }
         ensures few { result ≤ most_objects }
     {
-        self.made
+        self.store.count()
     }
 
     /// How many objects are held.
     pub fn held(&self) -> u32
         ensures { result ≡ held_count self.now }
     {
-        self.held
+        self.store.held()
     }
 
     /// How many slots the objects that are held have.
@@ -321,12 +281,12 @@ impl Heap {
         ensures value { result ≡ slot_count self.now }
         ensures few { result ≤ most_slots }
     {
-        self.slots
+        self.store.slots()
     }
 
     /// How many pages were not given back.
     #[cfg(test)]
     pub fn pages_there(&self) -> usize {
-        self.pages.iter().filter(|page| page.is_there()).count()
+        self.store.pages_there()
     }
 }

@@ -7,17 +7,21 @@
 
 mod fault;
 mod heap;
+mod links;
 mod monitor;
-mod object;
 mod page;
+mod place;
 mod refs;
 mod root_list;
+mod store;
+mod waiting;
 
 pub use fault::MakeFault;
-pub use heap::{Heap, MOST_OBJECTS, MOST_SLOTS};
+pub use heap::Heap;
 pub use monitor::Monitor;
 pub use refs::Refs;
 pub use root_list::RootList;
+pub use store::{MOST_OBJECTS, MOST_SLOTS};
 
 #[cfg(test)]
 mod tests;

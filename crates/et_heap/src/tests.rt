@@ -1,9 +1,11 @@
 //! Objects are made, taken out, counted and refused.
-ghost use Rattle.std.specs.Prelude.{◌≡◌, ◌<◌};
+ghost use Rattle.std.specs.Prelude.{◌≡◌, ◌<◌, ◌∷◌, [], Some, None};
+ghost use Rattle.et_heap.specs.Objects.{new_object};
+ghost use Rattle.et_heap.specs.Queues.{IsWhole};
 
 use super::*;
-use crate::object::Object;
 use crate::page::Page;
+use crate::place::Place;
 use et_base::{ClassId, ObjectId, Steps, Value};
 use std::marker::Brand;
 use std::mem::size_of;
@@ -63,10 +65,13 @@ fn parts<L: Ledger>(rt: &impl Abort, heap: &mut Heap, blank: Blank)
     requires name { blank.name ≡ L.name }
     requires parts { blank.parts ≡ L.parts }
     requires counts { 0 < L.parts }
+    requires whole { IsWhole heap.old 1 }
 {
     let mut visits = Steps::<L>::begin(blank);
     let o = ObjectId::new(1);
     assert!(rt; heap.is_held(o));
+    assert_eq!(rt; heap.refs_of(o, &mut visits).next(), None);
+    assert_eq!(rt; heap.queue(o, &mut visits), Value::Null);
     assert_eq!(rt; heap.class_of(o, &mut visits), ClassId::new(4));
     assert_eq!(rt; heap.length_of(o, &mut visits), 2);
     assert_eq!(rt; heap.referent(o, &mut visits), Value::Null);
@@ -74,7 +79,6 @@ fn parts<L: Ledger>(rt: &impl Abort, heap: &mut Heap, blank: Blank)
         heap.set_referent(o, Value::Ref(o), &mut visits),
         Value::Null
     );
-    assert_eq!(rt; heap.refs_of(o, &mut visits).next(), None);
     let free = heap.monitor(o, &mut visits);
     assert_eq!(rt; (free.owner, free.count), (None, 0));
 }
@@ -84,6 +88,33 @@ fn an_array(rt: HostRuntime) -> Result<(), Fail> {
     let mut heap = Heap::begin(rt.alloc());
     heap.make_array(ClassId::new(4), 2)?;
     parts::<Brand>(&rt, &mut heap, Blank::new(1));
+    Ok(())
+}
+
+fn waits_and_is_polled<L: Ledger>(rt: &impl Abort, heap: &mut Heap, blank: Blank)
+    requires name { blank.name ≡ L.name }
+    requires parts { blank.parts ≡ L.parts }
+    requires counts { 0 < L.parts }
+    requires heap { heap.old ≡ None ∷ Some (new_object 3 0 0) ∷ Some (new_object 4 0 0) ∷ [] }
+{
+    let mut visits = Steps::<L>::begin(blank);
+    let queue = ObjectId::new(1);
+    let reference = ObjectId::new(2);
+    assert_eq!(rt;
+        heap.set_queue(reference, Value::Ref(queue), &mut visits),
+        Value::Null
+    );
+    heap.enqueue(reference, &mut visits);
+    assert_eq!(rt; heap.poll(queue, &mut visits), Value::Ref(reference));
+    assert_eq!(rt; heap.poll(queue, &mut visits), Value::Null);
+}
+
+#[test]
+fn a_reference_is_polled_once(rt: HostRuntime) -> Result<(), Fail> {
+    let mut heap = Heap::begin(rt.alloc());
+    heap.make_object(ClassId::new(3), 0)?;
+    heap.make_object(ClassId::new(4), 0)?;
+    waits_and_is_polled::<Brand>(&rt, &mut heap, Blank::new(1));
     Ok(())
 }
 
@@ -103,7 +134,7 @@ fn roots_in_order(rt: HostRuntime) -> Result<(), Fail> {
 
 #[test]
 fn an_object_takes_64_bytes_and_16_a_slot(rt: HostRuntime) {
-    assert!(rt; size_of::<Option<Object>>() <= 64);
+    assert!(rt; size_of::<Place>() <= 64);
     assert!(rt; size_of::<Value>() <= 16);
     assert!(rt; size_of::<Page>() <= 32);
 }

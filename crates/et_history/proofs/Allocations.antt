@@ -22,7 +22,8 @@ use Rattle.et_state.specs.State.{State, Kept}
 use Rattle.et_state.specs.declared.options.Options.{Options}
 use Rattle.et_state.specs.declared.records.Record.{Record}
 use Rattle.et_state.specs.declared.records.Record.TheVariants.{Alloc, Update, Enter, Exit, Unwind}
-use Rattle.et_state.proofs.Wholes.{length-remaining}
+use Rattle.et_state.specs.Enqueuing.{newcomers, begins_to_wait, joined_place}
+use Rattle.et_state.proofs.Enqueued.{length-flushed, joined_now}
 use Rattle.et_program.specs.Entries.{Linked, class_at}
 use Rattle.et_program.specs.declared.info.Element.{Element}
 use Rattle.et_program.specs.declared.info.Element.TheVariants.{NoArray, Base, Class}
@@ -146,7 +147,7 @@ reported_in s o out = by (at s.kept.heap o) out
     by None h = refl
     by (Some x) h = absurd (h tt)
 
--- .. of which a flush changes at most the referent
+-- .. of which a flush changes at most the referent, and who waits
 place_alike : (here : ℕ → Bool) (b : Bool) (x r : Option ObjectState) → (is_there x → is_there r → ⊥) → is_there x ⊎ is_there r → IsAlike (found (first_of x r)) (found (first_of (left_place here b x) (cleared here (first_of r (if b then None else x)))))
 place_alike here true (Some x) None apart h = record { class = refl; elements = refl; slots = refl }
 place_alike here false (Some x) None apart h = record { class = refl; elements = refl; slots = refl }
@@ -165,7 +166,18 @@ flush_alike here k (x ∷ xs) (r ∷ rs) zero le apart h = place_alike here (her
 flush_alike here k (x ∷ xs) (r ∷ rs) (suc o) le apart h = flush_alike here (k + 1) xs rs o (omega (arith, le)) apart h
 
 flushed_alike : (here : ℕ → Bool) (s : State) (o : ℕ) → IsPast s.kept.heap s.reported → IsHere s o → IsAlike (object_in s o) (object_in (whole_flushed here s) o)
-flushed_alike here s o past h = flush_alike here 0 s.kept.heap s.reported o past.within (past.apart o) h
+flushed_alike here s o past h =
+    let coming = newcomers here s.kept.heap in
+    let begins = begins_to_wait here s.kept.heap in
+    let left : Objects = remaining here 0 s.kept.heap in
+    let was : Option ObjectState = at (map (cleared here) (reporting here 0 s.kept.heap s.reported)) o in
+    alike_then (object_in s o) (found (first_of (at left o) was)) (object_in (whole_flushed here s) o) (flush_alike here 0 s.kept.heap s.reported o past.within (past.apart o) h)
+    (subst (λ (x : Option ObjectState). IsAlike (found (first_of (at left o) was)) (found (first_of x was))) (sym (joined_now coming begins left o)) (joined_alike coming begins o (at left o) was))
+  where
+    joined_alike : (coming : ℕ → List ℕ) (begins : ℕ → Bool) (k : ℕ) (x r : Option ObjectState) → IsAlike (found (first_of x r)) (found (first_of (joined_place coming begins k x) r))
+    joined_alike coming begins k None None = record { class = refl; elements = refl; slots = refl }
+    joined_alike coming begins k None (Some y) = record { class = refl; elements = refl; slots = refl }
+    joined_alike coming begins k (Some x) r = record { class = refl; elements = refl; slots = refl }
 
 -- AN EVENT
 
@@ -250,7 +262,7 @@ module _ (reached : Graph → ℕ → Bool) (p : Linked) (options : Options) (pi
   settled_next : (e : ℕ) → next_number (settled e) ≡ next_number (now e)
   settled_next e =
       let here : ℕ → Bool = reached (graph (now e)) in
-      if_case (λ (s : State). next_number s ≡ next_number (now e)) (is_flush_point options.interval e) (whole_flushed here (now e)) (now e) (length-remaining here 0 (now e).kept.heap) refl
+      if_case (λ (s : State). next_number s ≡ next_number (now e)) (is_flush_point options.interval e) (whole_flushed here (now e)) (now e) (length-flushed here (now e).kept.heap) refl
 
   tells_at : (e : ℕ) → Before (suc e) → TellsObjects p (settled e).kept (turn e) (step e)
   tells_at e goes =

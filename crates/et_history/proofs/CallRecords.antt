@@ -29,7 +29,7 @@ use Rattle.et_event.specs.declared.rows.CallKind.TheVariants.{Virtual, Special, 
 use Rattle.et_event.specs.declared.rows.Operand.{Operand}
 use Rattle.et_event.specs.declared.rows.Operand.TheVariants as operand
 use Rattle.et_event.specs.declared.errors.GuestError.TheVariants as errors
-use Rattle.et_event.specs.BuiltIns.{built_in_of, argument, answering, reference_in, reference_of, starts_thread, with_thread_for, has_thread_ended, built_in_row, done_by, built_in_event}
+use Rattle.et_event.specs.BuiltIns.{built_in_of, argument, answering, reference_in, reference_of, starts_thread, with_thread_for, has_thread_ended, built_in_row, done_by, built_in_event, is_null_or_of_class}
 use Rattle.et_event.specs.Calls.{is_static_call, call_fits, with_type, with_method, taking, enters_method, is_of_owner, special_class, dispatched, is_as, arguments_of, entry_count, invoke, entering_frame, entry_arguments, enters_first, enters_run, entry_call, with_returned, class_done_by, frame_returned, returned_by, return}
 use Rattle.et_event.specs.Checks.{after_selection, ill_typed_unless, reference_value, entries_of}
 use Rattle.et_event.specs.Errors.{class_called, error_class}
@@ -41,7 +41,7 @@ use Rattle.et_event.specs.Monitors.{Lock, OfObject, OfClass, monitor_of, lock_fo
 use Rattle.et_event.specs.Sites.{Site, Member, site_member, names_interface, present_body}
 use Rattle.et_event.specs.Throw.{caught, handled, handler_of, left_if_owned, dropped, is_error, replaced, failed, unwound, unwound_clinit, by_handler, unwinds, unwinding_step}
 use Rattle.et_history.proofs.Values.{Fine, Fines, FineSome, FineFrame, FineThread, Grows, some_grows, fine_grows, frame_grows, fine_at, fines_append, fines_drop, fines_take, fines_reverse, fines_unset, rest_fine}
-use Rattle.et_history.proofs.Heaps.{slots_fine, referent_fine, new_held}
+use Rattle.et_history.proofs.Heaps.{slots_fine, referent_fine, new_held, first_waiting_fine}
 use Rattle.et_history.proofs.Words.{if_case, written_held}
 use Rattle.et_history.proofs.Taken.{any_value, fine_entries, fine_read, fine_value}
 use Rattle.et_history.proofs.Monitors.{AllThere}
@@ -49,9 +49,10 @@ use Rattle.et_history.proofs.Ways.{thread_fine, frame_fine}
 use Rattle.et_history.proofs.Calls.{lock_there, first_fine, receiver_fine, method_frame_fine, reference_fine, entry_fine}
 use Rattle.et_history.proofs.Returns.{own_lock, own_there, returned_fine, frames_grow}
 use Rattle.et_history.proofs.Records.{steady_push}
-use Rattle.et_history.proofs.Recording.{Told, HasLock, thread_told, told_thread, top_told, state_told, started_told, referent_told, monitor_told, record_told, there, some_there, slot_told, pending_told, as_entered_told, prepared_told}
+use Rattle.et_history.proofs.Recording.{Told, HasLock, thread_told, told_thread, top_told, state_told, started_told, referent_told, monitor_told, record_told, there, some_there, slot_told, pending_told, as_entered_told, prepared_told, reference_told, first_taken_told}
 use Rattle.et_history.proofs.Saying.{Ready, Says, error_told, ends_says, throws_says, unless_ill_typed, unless_thrown, where_resolved, where_not_null, unless_waiting, where_frame_fits, initialized_says}
 use Rattle.et_history.proofs.RowRecords.{first, operands_fine, later_fine, on_top}
+use Rattle.et_heap.specs.Queues.{first_value}
 
 -- MONITORS of what was there before the event
 
@@ -161,7 +162,14 @@ module _ (e : Moment) (ready : Ready e) where
   built_in_says at d arguments o built.Join h f held =
       unless_waiting e ready (has_thread_ended d (thread_with d.state.guest.threads o)) _ (answering_told at arguments [] d h tt)
   built_in_says at d arguments o built.SetReferent h f held =
-      referent_told e o (reference_of (argument arguments 1)) (answering e at arguments [] d) (answering_told at arguments [] d h tt) held (reference_fine d.state.heap (argument arguments 1) (fine_at d.state.heap arguments 1 f))
+      reference_told e o (reference_of (argument arguments 1)) None (answering e at arguments [] d) (answering_told at arguments [] d h tt) held (reference_fine d.state.heap (argument arguments 1) (fine_at d.state.heap arguments 1 f)) tt
+  built_in_says at d arguments o built.SetReferentAndQueue h f held =
+      unless_ill_typed e ready (is_null_or_of_class e d (argument arguments 2) (codes "java/lang/ref/ReferenceQueue")) _
+      (reference_told e o (reference_of (argument arguments 1)) (reference_of (argument arguments 2)) (answering e at arguments [] d) (answering_told at arguments [] d h tt) held (reference_fine d.state.heap (argument arguments 1) (fine_at d.state.heap arguments 1 f))
+      (reference_fine d.state.heap (argument arguments 2) (fine_at d.state.heap arguments 2 f)))
+  built_in_says at d arguments o built.Poll h f held =
+      let first : List Value = first_value (object_at d.state.heap o).waiting ∷ [] in
+      first_taken_told e o (answering e at arguments first d) (answering_told at arguments first d h (first_waiting_fine d.state o h.sound, tt)) held
   built_in_says at d arguments o built.GetReferent h f held =
       answering_told at arguments (reference_value (object_at d.state.heap o).referent ∷ []) d h (fine_value d.state.heap (object_at d.state.heap o).referent (referent_fine d.state o h.sound), tt)
   built_in_says at d arguments o built.ClearReferent h f held =

@@ -24,7 +24,7 @@ use Rattle.et_event.specs.declared.rows.BuiltIn.TheVariants as built
 use Rattle.et_event.specs.declared.rows.CallKind.{CallKind}
 use Rattle.et_event.specs.declared.rows.CallKind.TheVariants.{Virtual, Special, Static, Interface}
 use Rattle.et_event.specs.declared.errors.GuestError.TheVariants as errors
-use Rattle.et_event.specs.BuiltIns.{built_in_of, argument, answering, reference_in, with_referent_of, reference_of, starts_thread, with_thread_for, has_thread_ended, built_in_row, done_by, built_in_event}
+use Rattle.et_event.specs.BuiltIns.{built_in_of, argument, answering, reference_in, with_referent_of, reference_of, starts_thread, with_thread_for, has_thread_ended, built_in_row, done_by, built_in_event, with_reference_made, with_first_taken, is_null_or_of_class}
 use Rattle.et_event.specs.Calls.{is_static_call, call_fits, with_type, with_method, taking, enters_method, is_of_owner, special_class, dispatched, is_as, arguments_of, entry_count, invoke, entering_frame, entry_arguments, enters_first, enters_run, entry_call}
 use Rattle.et_event.specs.Checks.{after_selection, ill_typed_unless, reference_value}
 use Rattle.et_event.specs.Errors.{class_called}
@@ -35,12 +35,13 @@ use Rattle.et_event.specs.Monitors.{Lock, OfObject, OfClass, monitor_of, lock_fo
 use Rattle.et_event.specs.Sites.{Site, Member, site_member, names_interface, running_method}
 use Rattle.et_sound.specs.WellFormed.{IsThere}
 use Rattle.et_history.proofs.Values.{Fine, Fines, FineSome, FineFrame, FineThread, fine_grows, fines_grow, frame_grows, fine_at, fines_append, fines_drop, fines_take, fines_reverse, fines_unset}
-use Rattle.et_history.proofs.Heaps.{slots_fine, referent_fine}
-use Rattle.et_history.proofs.Words.{Still, level, if_case, thread_now, still_thread, thread_still, as_entered_still, started_still, slot_still, written_held, referent_still}
+use Rattle.et_history.proofs.Heaps.{slots_fine, referent_fine, first_waiting_fine}
+use Rattle.et_history.proofs.Words.{Still, level, if_case, thread_now, still_thread, thread_still, as_entered_still, started_still, slot_still, written_held, referent_still, reference_still, first_taken_still}
 use Rattle.et_history.proofs.Taken.{fine_read, fine_value}
 use Rattle.et_history.proofs.Monitors.{way, HasMonitor, AllThere, is_there, first_monitor, monitor_same, entered_still}
 use Rattle.et_history.proofs.Ways.{Knows, Does, Fits, ground, thread_fine, pushed_fits, goes_does, ends_fit, throws_does, unless_ill_typed, unless_thrown, where_resolved, where_not_null, unless_waiting, where_frame_fits, initialized_does}
 use Rattle.et_history.proofs.Rows.{Stands, first, operands_fine, on_top}
+use Rattle.et_heap.specs.Queues.{first_value}
 
 -- THE LOCK of a method
 
@@ -216,8 +217,18 @@ built_in_does e at d arguments o built.Join here h f held =
     unless_waiting e (has_thread_ended d (thread_with d.state.guest.threads o)) _ (λ ended. answered_does e at arguments [] d here h tt)
 built_in_does e at d arguments o built.SetReferent here h f held =
     let x : Doing = answering e at arguments [] d in
-    goes_does e (with_referent_of o (reference_of (argument arguments 1)) x)
-    (referent_still e o (reference_of (argument arguments 1)) x (answering_still e at arguments [] d here h tt) held (reference_fine d.state.heap (argument arguments 1) (fine_at d.state.heap arguments 1 f)))
+    goes_does e (with_reference_made o (reference_of (argument arguments 1)) None x)
+    (reference_still e o (reference_of (argument arguments 1)) None x (answering_still e at arguments [] d here h tt) held (reference_fine d.state.heap (argument arguments 1) (fine_at d.state.heap arguments 1 f)) tt)
+built_in_does e at d arguments o built.SetReferentAndQueue here h f held =
+    let x : Doing = answering e at arguments [] d in
+    unless_ill_typed e (is_null_or_of_class e d (argument arguments 2) (codes "java/lang/ref/ReferenceQueue")) _
+    (goes_does e (with_reference_made o (reference_of (argument arguments 1)) (reference_of (argument arguments 2)) x)
+    (reference_still e o (reference_of (argument arguments 1)) (reference_of (argument arguments 2)) x (answering_still e at arguments [] d here h tt) held (reference_fine d.state.heap (argument arguments 1) (fine_at d.state.heap arguments 1 f))
+    (reference_fine d.state.heap (argument arguments 2) (fine_at d.state.heap arguments 2 f))))
+built_in_does e at d arguments o built.Poll here h f held =
+    let first : List Value = first_value (object_at d.state.heap o).waiting ∷ [] in
+    let x : Doing = answering e at arguments first d in
+    goes_does e (with_first_taken o x) (first_taken_still e o x (answering_still e at arguments first d here h (first_waiting_fine d.state o h.changes.sound, tt)) held)
 built_in_does e at d arguments o built.GetReferent here h f held =
     answered_does e at arguments (reference_value (object_at d.state.heap o).referent ∷ []) d here h (fine_value d.state.heap (object_at d.state.heap o).referent (referent_fine d.state o h.changes.sound), tt)
 built_in_does e at d arguments o built.ClearReferent here h f held =

@@ -1,12 +1,13 @@
 -- Heaps that keep their monitors, and states in which what is referred to is held.
-use Rattle.std.proofs.Common.{◌≡◌, ℕ, zero, suc, ◌+◌, ◌<◌, ◌≤◌, ◌⊎◌, List, [], ◌∷◌, ◌++◌, length, set, Option, Some, None, Contains, refl, sym, ◌∙◌, ap, subst, inl, inr, arith, get_or-set_same}
+use Rattle.std.proofs.Common.{◌≡◌, ℕ, zero, suc, ◌+◌, ◌<◌, ◌≤◌, ◌⊎◌, List, [], ◌∷◌, ◌++◌, length, drop, set, Option, Some, None, Contains, refl, sym, ◌∙◌, ap, subst, inl, inr, arith, get_or-set_same}
 use Rattle.std.specs.List.{flat_map}
 use Rattle.std.proofs.lemmas.Bool.{cases_eq}
 use Rattle.std.proofs.lemmas.List.{length-set, length_push, get_or-set_other, get_or_append_left}
 use Rattle.std.proofs.lemmas.List.Elements.{Contains-append_left, Contains-append_right, Contains-append_cases}
 use Rattle.et_base.specs.declared.value.Value.{Value}
-use Rattle.et_heap.specs.Objects.{ObjectState, Objects, IsHeld, is_there, at, found, object_at, with_object_at, free_monitor, new_object}
-use Rattle.et_heap.specs.Refs.{refs_of, targets_of}
+use Rattle.et_heap.specs.Objects.{ObjectState, Objects, IsHeld, is_there, at, found, object_at, with_object_at, free_monitor, new_object, with_queue}
+use Rattle.std.specs.Option.{option_to_list}
+use Rattle.et_heap.specs.Refs.{refs_of, targets_of, leads_to}
 use Rattle.et_heap.proofs.HeapLists.{pair_at, at_pair, held_within, held_set, set_held, held_push, pairs_push}
 use Rattle.et_state.specs.ThreadRoots.{thread_roots}
 use Rattle.et_state.specs.Threads.{ThreadState}
@@ -16,10 +17,12 @@ use Rattle.et_state.specs.Roots.{roots_of}
 use Rattle.et_state.specs.Sound.{IsSound}
 use Rattle.et_state.specs.State.{GuestState, Kept}
 use Rattle.et_state.specs.Words.{thread_at, with_thread, with_new_thread, with_static, with_string}
-use Rattle.et_state.proofs.Places.{guest_thread, guest_started, guest_interned, thread_root, refs_of-unset}
+use Rattle.et_state.proofs.Places.{guest_thread, guest_started, guest_interned, thread_root, leads-new}
 use Rattle.et_state.proofs.Steps.{newest_held}
-use Rattle.et_state.proofs.UnderWay.{slot_pair}
+use Rattle.et_state.proofs.UnderWay.{slot_pair, lead_pair}
 use Rattle.et_history.proofs.Values.{Fine, Fines, FineSome, FineThread, values_in, in_values, fines_set, thread_in, in_thread}
+use Rattle.et_heap.specs.Queues.{first_value, without_first_waiting}
+use Rattle.et_base.proofs.Lists.{Contains-none, Contains-here, Contains-there, Contains-cons}
 
 -- HEAPS: nothing is taken out, what was there has its monitor, and what is new has a free one
 pub record Grown (h h' : Objects) : Type 0 where
@@ -127,12 +130,49 @@ referent_fine s u sound = by (object_at s.heap u).referent refl
 fine_referent : (h : Objects) (q : Option ℕ) (r : ℕ) → FineSome h q → q ≡ Some r → IsHeld h r
 fine_referent h q r fine e = subst (λ (x : Option ℕ). FineSome h x) e fine
 
-pub targets_found : (x : Option ObjectState) → targets_of x ≡ refs_of (found x).slots
+-- its queue, and what waits in it, are held
+abbrev pub AreRestHeld : Objects → ObjectState → Type 0
+AreRestHeld h y = (z : ℕ) → Contains (option_to_list y.queue ++ y.waiting) z → IsHeld h z
+
+pub rest_held : (s : Kept) (u : ℕ) → IsSound s → AreRestHeld s.heap (object_at s.heap u)
+rest_held s u sound = λ z c. sound.slots u z (lead_pair s.heap u z (Contains-append_right (refs_of (object_at s.heap u).slots) _ z c))
+
+-- .. once it has another queue
+pub rest_with_queue : (s : Kept) (u : ℕ) (q : Option ℕ) → IsSound s → FineSome s.heap q → AreRestHeld s.heap (with_queue q (object_at s.heap u))
+rest_with_queue s u q sound fine = λ z c. elim (Contains-append_cases (option_to_list q) (object_at s.heap u).waiting z c) [
+  | inl d ↦ by q z fine d
+  | inr d ↦ rest_held s u sound z (Contains-append_right (option_to_list (object_at s.heap u).queue) _ z d)
+]
+  where
+    by : (r : Option ℕ) (z : ℕ) → FineSome s.heap r → Contains (option_to_list r) z → IsHeld s.heap z
+    by None z f d = absurd (Contains-none z d)
+    by (Some o) z f d = elim (Contains-cons o [] z d) [ inl e ↦ subst (λ (k : ℕ). IsHeld s.heap k) e f | inr g ↦ absurd (Contains-none z g) ]
+
+-- .. once the first one waits there no more
+pub rest_without_first : (s : Kept) (u : ℕ) → IsSound s → AreRestHeld s.heap (without_first_waiting (object_at s.heap u))
+rest_without_first s u sound = λ z c. elim (Contains-append_cases (option_to_list (object_at s.heap u).queue) (drop 1 (object_at s.heap u).waiting) z c) [
+  | inl d ↦ rest_held s u sound z (Contains-append_left (option_to_list (object_at s.heap u).queue) _ z d)
+  | inr d ↦ rest_held s u sound z (Contains-append_right (option_to_list (object_at s.heap u).queue) _ z (later (object_at s.heap u).waiting z d))
+]
+  where
+    later : (ws : List ℕ) (z : ℕ) → Contains (drop 1 ws) z → Contains ws z
+    later [] z d = d
+    later (w ∷ ws) z d = Contains-there w ws z d
+
+-- the first one that waits is held
+pub first_waiting_fine : (s : Kept) (u : ℕ) → IsSound s → Fine s.heap (first_value (object_at s.heap u).waiting)
+first_waiting_fine s u sound = by (object_at s.heap u).waiting (λ z c. rest_held s u sound z (Contains-append_right (option_to_list (object_at s.heap u).queue) _ z c))
+  where
+    by : (ws : List ℕ) → ((z : ℕ) → Contains ws z → IsHeld s.heap z) → Fine s.heap (first_value ws)
+    by [] all = tt
+    by (w ∷ ws) all = all w (Contains-here w ws)
+
+pub targets_found : (x : Option ObjectState) → targets_of x ≡ leads_to (found x)
 targets_found None = refl
 targets_found (Some x) = refl
 
-pub object_sound : (s : Kept) (o : ℕ) (y : ObjectState) → IsSound s → IsHeld s.heap o → Fines s.heap y.slots → FineSome s.heap y.referent → IsSound (record { heap = with_object_at s.heap o y; guest = s.guest })
-object_sound s o y sound held slots referent =
+pub object_sound : (s : Kept) (o : ℕ) (y : ObjectState) → IsSound s → IsHeld s.heap o → Fines s.heap y.slots → FineSome s.heap y.referent → AreRestHeld s.heap y → IsSound (record { heap = with_object_at s.heap o y; guest = s.guest })
+object_sound s o y sound held slots referent rest =
     let h : Objects = with_object_at s.heap o y in
     let len : length h ≡ length s.heap = length-set s.heap o (Some y) in
     let here : at h o ≡ Some y = get_or-set_same s.heap o (Some y) None (held_within s.heap o held) in
@@ -143,7 +183,10 @@ object_sound s o y sound held slots referent =
       slots = λ u z c. held_set s.heap o y z held (elim (cases_eq u o) [
         | inl e ↦
             let d : Contains (targets_of (at h o)) z = subst (λ (k : ℕ). Contains (targets_of (at h k)) z) e (pair_at h u z c) in
-            values_in s.heap y.slots z slots (subst (λ (x : Option ObjectState). Contains (targets_of x) z) here d)
+            elim (Contains-append_cases (refs_of y.slots) _ z (subst (λ (x : Option ObjectState). Contains (targets_of x) z) here d)) [
+              | inl f ↦ values_in s.heap y.slots z slots f
+              | inr f ↦ rest z f
+            ]
         | inr ne ↦ sound.slots u z (at_pair s.heap u z (subst (λ (x : Option ObjectState). Contains (targets_of x) z) (get_or-set_other s.heap o u (Some y) None ne) (pair_at h u z c)))
       ]);
       referents = λ u r e. held_set s.heap o y r held (elim (cases_eq u o) [
@@ -170,7 +213,7 @@ made_sound s class elements slots sound =
       room = subst (λ (m : ℕ). 0 < m) (sym len) (omega arith);
       none = λ is. first_none s.heap y sound.room sound.none is;
       roots = λ o c. held_push s.heap y o (sound.roots o c);
-      slots = λ u o c. held_push s.heap y o (sound.slots u o (subst (λ (ps : List (ℕ × ℕ)). Contains ps (u, o)) (pairs_push s.heap y (refs_of-unset slots)) c));
+      slots = λ u o c. held_push s.heap y o (sound.slots u o (subst (λ (ps : List (ℕ × ℕ)). Contains ps (u, o)) (pairs_push s.heap y (leads-new class elements slots)) c));
       referents = λ u o e. held_push s.heap y o (elim (at_push s.heap y u) [
         | inl f ↦ sound.referents u o (subst (λ (x : Option ObjectState). (found x).referent ≡ Some o) f e)
         | inr f ↦ absurd (none_some o (subst (λ (x : Option ObjectState). (found x).referent ≡ Some o) f.1 e))

@@ -1,15 +1,14 @@
 -- Over every history, what the monitors of its states say agrees with who holds them.
-use Rattle.std.proofs.Common.{◌≡◌, ℕ, zero, suc, ◌+◌, ◌<◌, ◌≤◌, ◌↔◌, Bool, true, false, List, [], ◌∷◌, length, get_or, Option, Some, None, refl, sym, ◌∙◌, ap, subst, arith}
+use Rattle.std.proofs.Common.{◌≡◌, ℕ, zero, suc, ◌<◌, ◌≤◌, ◌↔◌, Bool, List, [], ◌∷◌, length, get_or, Option, Some, None, refl, sym, ◌∙◌, ap, subst, arith}
 use Rattle.std.specs.Prelude.{replicate, IsSome}
 use Rattle.et_graph.specs.Graph.{Graph, Decides}
 use Rattle.et_program.specs.Entries.{Linked}
 use Rattle.et_heap.specs.declared.monitor.Monitor.{Monitor}
-use Rattle.et_heap.specs.Objects.{ObjectState, Objects, IsHeld, is_there, at, found, object_at, free_monitor}
-use Rattle.et_heap.specs.Remaining.{left_place, remaining}
+use Rattle.et_heap.specs.Objects.{ObjectState, is_there, at, found, free_monitor}
 use Rattle.et_state.specs.Roots.{graph_of}
 use Rattle.et_state.specs.State.{Kept}
 use Rattle.et_state.specs.Words.{class_monitor_at}
-use Rattle.et_state.proofs.Wholes.{length-remaining, remaining_held}
+use Rattle.et_state.proofs.Enqueued.{length-flushed, flushed_held, flushed_same}
 use Rattle.et_state.specs.declared.options.Options.{Options}
 use Rattle.et_state.specs.Options.{AreOptions}
 use Rattle.et_state.specs.History.{left_by, is_flush_point}
@@ -47,26 +46,16 @@ monitor_sound s p (OfClass c) sound there = class_sound s p c sound
 
 -- A FLUSH
 
-place_monitor : (here : ℕ → Bool) (b : Bool) (x : Option ObjectState) → is_there (left_place here b x) → (found (left_place here b x)).monitor ≡ (found x).monitor
-place_monitor here b None h = absurd h
-place_monitor here true (Some x) h = refl
-place_monitor here false (Some x) h = absurd h
-
-left_monitor : (here : ℕ → Bool) (k : ℕ) (heap : Objects) (o : ℕ) → IsHeld (remaining here k heap) o → (object_at (remaining here k heap) o).monitor ≡ (object_at heap o).monitor
-left_monitor here k [] o h = absurd h
-left_monitor here k (x ∷ xs) zero h = place_monitor here (here k) x h
-left_monitor here k (x ∷ xs) (suc o) h = left_monitor here (k + 1) xs o h
-
 flushed_there : (here : ℕ → Bool) (s : Kept) (lock : Lock) → IsThere (flushed_of here s) lock → IsThere s lock
-flushed_there here s (OfObject o) h = (remaining_held here 0 s.heap o h).0
+flushed_there here s (OfObject o) h = (flushed_held here s.heap o h).0
 flushed_there here s (OfClass c) h = h
 
 flushed_monitor : (here : ℕ → Bool) (s : Kept) (lock : Lock) → IsThere (flushed_of here s) lock → monitor_in (flushed_of here s) lock ≡ monitor_in s lock
-flushed_monitor here s (OfObject o) h = left_monitor here 0 s.heap o h
+flushed_monitor here s (OfObject o) h = flushed_same (λ x. x.monitor) (λ x r ws b. refl) here s.heap o (flushed_held here s.heap o h).1
 flushed_monitor here s (OfClass c) h = refl
 
 flushed_new : (here : ℕ → Bool) (s : Kept) (lock : Lock) → IsNew (flushed_of here s) lock → IsNew s lock
-flushed_new here s (OfObject o) h = subst (λ (n : ℕ). n ≤ o) (length-remaining here 0 s.heap) h
+flushed_new here s (OfObject o) h = subst (λ (n : ℕ). n ≤ o) (length-flushed here s.heap) h
 flushed_new here s (OfClass c) h = h
 
 flushed_excludes : (here : ℕ → Bool) (s : Kept) (lock : Lock) (n : ℕ → ℕ) → Excludes s lock n → Excludes (flushed_of here s) lock n

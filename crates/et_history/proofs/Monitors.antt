@@ -14,7 +14,7 @@ use Rattle.et_event.specs.Monitors.{Lock, OfObject, OfClass, monitor_of, with_mo
 use Rattle.et_sound.specs.WellFormed.{IsThere}
 use Rattle.et_history.specs.Holding.{is_lock, monitor_in}
 use Rattle.et_history.specs.Changing.{entered_once, left_by_owner, becomes, Changes}
-use Rattle.et_history.proofs.Heaps.{sound_guest, slots_fine, referent_fine, object_sound}
+use Rattle.et_history.proofs.Heaps.{sound_guest, slots_fine, referent_fine, object_sound, rest_held}
 use Rattle.et_history.proofs.Words.{Way, Still}
 
 abbrev pub way : ℕ → Option Lock → Option Lock → Way
@@ -88,7 +88,7 @@ marked d (OfClass c) (OfClass k) m lt = by (c == k) refl
 
 marked_sound : (d : Doing) (lock : Lock) (m : Monitor) → IsSound d.state → IsIn d.state lock → IsSound (with_monitor_of lock m d).state
 marked_sound d (OfObject o) m sound held =
-    object_sound d.state o (with_monitor m (object_at d.state.heap o)) sound held (slots_fine d.state o sound) (referent_fine d.state o sound)
+    object_sound d.state o (with_monitor m (object_at d.state.heap o)) sound held (slots_fine d.state o sound) (referent_fine d.state o sound) (rest_held d.state o sound)
 marked_sound d (OfClass c) m sound lt = sound_guest d.state (with_class_monitor d.state.guest c m) sound sound.roots
 
 marked_stays : (d : Doing) (lock : Lock) (m : Monitor) (o : ℕ) → IsIn d.state lock → IsHeld d.state.heap o → IsHeld (with_monitor_of lock m d).state.heap o

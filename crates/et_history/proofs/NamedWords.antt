@@ -16,7 +16,7 @@ use Rattle.et_state.specs.Words.{thread_at, static_at, with_static, with_string}
 use Rattle.et_state.specs.declared.records.Record.{Record}
 use Rattle.et_state.specs.declared.records.Record.TheVariants.{Alloc, Update, Enter, Exit, Unwind}
 use Rattle.et_state.specs.Naming.{IsNamed}
-use Rattle.et_event.specs.BuiltIns.{with_referent_of}
+use Rattle.et_event.specs.BuiltIns.{with_referent_of, with_reference_made, with_first_taken}
 use Rattle.et_event.specs.Errors.{class_called}
 use Rattle.et_event.specs.Initialization.{with_state, constant_set, field_set, constants_set, class_done, quietly_done, quietly_if_untouched, prepared, state_of, initializer_frame, begun_by}
 use Rattle.et_event.specs.Kinds.{narrowed}
@@ -118,6 +118,12 @@ static_told e i v d h = updated_told e 0 i (static_at d.state.guest i) v (doing_
 
 pub referent_told : (e : Moment) (o : ℕ) (r : Option ℕ) (d : Doing) → Tells e d → Tells e (with_referent_of o r d)
 referent_told e o r d h = record { clock = h.clock; records = h.records }
+
+pub reference_told : (e : Moment) (o : ℕ) (r q : Option ℕ) (d : Doing) → Tells e d → Tells e (with_reference_made o r q d)
+reference_told e o r q d h = record { clock = h.clock; records = h.records }
+
+pub first_taken_told : (e : Moment) (q : ℕ) (d : Doing) → Tells e d → Tells e (with_first_taken q d)
+first_taken_told e q d h = record { clock = h.clock; records = h.records }
 
 pub interned_told : (e : Moment) (bytes : List ℕ) (d : Doing) → class_called e.program (codes "java/lang/String") < length e.program.classes → Tells e d → Tells e (interned e bytes d)
 interned_told e bytes d lt h =

@@ -9,12 +9,13 @@ use Rattle.et_graph.specs.Graph.{Leads}
 use Rattle.et_graph.proofs.Walks.{leads_itself, leads_first, walk_more}
 use Rattle.et_program.specs.Entries.{class_at}
 use Rattle.et_heap.specs.Objects.{ObjectState, Objects, IsHeld, is_there, at, found, new_object, object_at, slot_of, with_slot, with_object_at}
-use Rattle.et_heap.specs.Refs.{refs_of, refs_of_value, targets_of, pairs_of}
+use Rattle.et_heap.specs.Refs.{refs_of, refs_of_value, targets_of, pairs_of, leads_to}
 use Rattle.et_heap.proofs.HeapLists.{IsPair, pair_at, at_pair, pair_held, held_within, held_set}
 use Rattle.et_state.proofs.Places.{moves_place, part_contained}
 use Rattle.et_event.specs.Heap.{element_class, filled, arrays_made}
 use Rattle.et_event.specs.Moments.{Moment, Doing, next_object, array_made, slot_written}
 use Rattle.et_history.proofs.Heaps.{newest, new_held, targets_found}
+use Rattle.std.proofs.lemmas.List.Elements.{Contains-append_left, Contains-append_right, Contains-append_cases}
 
 -- each pair of a heap is one of another
 abbrev HasPairs : Objects → Objects → Type 0
@@ -50,9 +51,12 @@ written_pairs h o i v held lt none u x c =
     let here : at k o ≡ Some y = get_or-set_same h o (Some y) None (held_within h o held) in
     at_pair k u x (elim (cases_eq u o) [
       | inl e ↦
-          let q : Contains (refs_of (object_at h o).slots) x = subst (λ (os : List ℕ). Contains os x) (targets_found (at h o)) (subst (λ (j : ℕ). IsPair h j x) e p) in
+          let q : Contains (leads_to (object_at h o)) x = subst (λ (os : List ℕ). Contains os x) (targets_found (at h o)) (subst (λ (j : ℕ). IsPair h j x) e p) in
           subst (λ (j : ℕ). IsPair k j x) (sym e)
-          (subst (λ (z : Option ObjectState). Contains (targets_of z) x) (sym here) (written_refs (object_at h o).slots i v x lt none q))
+          (subst (λ (z : Option ObjectState). Contains (targets_of z) x) (sym here) (elim (Contains-append_cases (refs_of (object_at h o).slots) _ x q) [
+            | inl f ↦ Contains-append_left (refs_of y.slots) _ x (written_refs (object_at h o).slots i v x lt none f)
+            | inr f ↦ Contains-append_right (refs_of y.slots) _ x f
+          ]))
       | inr ne ↦ subst (λ (z : Option ObjectState). Contains (targets_of z) x) (sym (get_or-set_other h o u (Some y) None ne)) p
     ])
 
@@ -65,7 +69,7 @@ written_there h o i x held lt =
     let stands : get_or (set vs i (Ref x)) i Unset ≡ Ref x = get_or-set_same vs i (Ref x) Unset lt in
     let in_place : Contains (refs_of_value (get_or (set vs i (Ref x)) i Unset)) x = subst (λ (w : Value). Contains (refs_of_value w) x) (sym stands) (Contains-here x []) in
     at_pair (with_object_at h o y) o x
-    (subst (λ (z : Option ObjectState). Contains (targets_of z) x) (sym here) (part_contained refs_of_value Unset (set vs i (Ref x)) i x (omega arith) in_place))
+    (subst (λ (z : Option ObjectState). Contains (targets_of z) x) (sym here) (Contains-append_left (refs_of (set vs i (Ref x))) _ x (part_contained refs_of_value Unset (set vs i (Ref x)) i x (omega arith) in_place)))
 
 -- AN ARRAY IS MADE, and the arrays in it: a path leads from it to each
 pub record Planted (d x : Doing) : Type 0 where

@@ -1,6 +1,6 @@
 -- What an event has made so far are the objects of strings, on its way to its end. Each word keeps that but those that make
 -- an instance or an array, and what they make the event puts into a root place.
-use Rattle.std.proofs.Common.{◌≡◌, ℕ, ◌+◌, ◌<◌, ◌≤◌, List, [], ◌∷◌, ◌++◌, length, set, Option, Some, None, Contains, sym, subst, inl, inr, arith}
+use Rattle.std.proofs.Common.{◌≡◌, ℕ, ◌+◌, ◌<◌, ◌≤◌, false, List, [], ◌∷◌, ◌++◌, length, set, Option, Some, None, Contains, sym, subst, inl, inr, arith}
 use Rattle.std.specs.Prelude.{codes, is_some, fold}
 use Rattle.std.proofs.lemmas.Bool.{cases_lt}
 use Rattle.std.proofs.lemmas.List.{length-set, length-append, length_push, map-append}
@@ -11,14 +11,14 @@ use Rattle.et_base.proofs.Lists.{Contains-here}
 use Rattle.et_program.specs.Entries.{class_at, field_at}
 use Rattle.et_program.specs.declared.info.FieldInfo.{FieldInfo}
 use Rattle.et_heap.specs.declared.monitor.Monitor.{Monitor}
-use Rattle.et_heap.specs.Objects.{ObjectState, new_object, object_at, slot_of, with_slot, with_referent, with_monitor, with_object_at}
+use Rattle.et_heap.specs.Objects.{ObjectState, new_object, object_at, slot_of, with_slot, with_referent, with_monitor, with_object_at, with_queue}
 use Rattle.et_state.specs.Threads.{FrameState, ThreadState, new_thread, with_top_of}
 use Rattle.et_state.specs.declared.class_state.ClassState.{ClassState}
 use Rattle.et_state.specs.declared.class_state.ClassState.TheVariants.{Untouched, Begun, Done, Failed}
 use Rattle.et_state.specs.Interned.{object_of, interned_objects}
 use Rattle.et_state.specs.State.{Kept}
 use Rattle.et_state.specs.Words.{thread_at, static_at, with_static, with_string}
-use Rattle.et_event.specs.BuiltIns.{with_referent_of, with_thread_for}
+use Rattle.et_event.specs.BuiltIns.{with_referent_of, with_thread_for, with_reference_made, with_first_taken}
 use Rattle.et_event.specs.Errors.{class_called}
 use Rattle.et_event.specs.Initialization.{with_state, constant_set, field_set, constants_set, class_done, quietly_done, quietly_if_untouched, prepared, state_of}
 use Rattle.et_event.specs.Kinds.{narrowed}
@@ -28,6 +28,7 @@ use Rattle.et_event.specs.Sites.{LoadedConstant, AnInt, ALong, AString, constant
 use Rattle.et_event.specs.Strings.{interned, string_object}
 use Rattle.et_history.proofs.Heaps.{newest}
 use Rattle.et_history.proofs.Words.{if_case, updated_same}
+use Rattle.et_heap.specs.Queues.{with_waits, without_first_waiting, take_first}
 
 -- the thread was started, and each object that is new is that of a string
 pub record OfStrings (e : Moment) (s : Kept) : Type 0 where
@@ -81,6 +82,21 @@ static_strings e i v d h =
 
 pub referent_strings : (e : Moment) (o : ℕ) (r : Option ℕ) (d : Doing) → OfStrings e d.state → OfStrings e (with_referent_of o r d).state
 referent_strings e o r d h = object_strings e o (with_referent r (object_at d.state.heap o)) d.state h
+
+-- a weak reference is made, and a queue is polled
+pub reference_strings : (e : Moment) (o : ℕ) (r q : Option ℕ) (d : Doing) → OfStrings e d.state → OfStrings e (with_reference_made o r q d).state
+reference_strings e o r q d h =
+    let x : Kept = (with_referent_of o r d).state in
+    object_strings e o (with_queue q (object_at x.heap o)) x (referent_strings e o r d h)
+
+taken_strings : (e : Moment) (q : ℕ) (ws : List ℕ) (s : Kept) → OfStrings e s → OfStrings e (record { heap = take_first ws q s.heap; guest = s.guest })
+taken_strings e q [] s h = record { thread = h.thread; strings = h.strings }
+taken_strings e q (r ∷ ws) s h =
+    let first : Kept = record { heap = with_object_at s.heap q (without_first_waiting (object_at s.heap q)); guest = s.guest } in
+    object_strings e r (with_waits false (object_at first.heap r)) first (object_strings e q (without_first_waiting (object_at s.heap q)) s h)
+
+pub first_taken_strings : (e : Moment) (q : ℕ) (d : Doing) → OfStrings e d.state → OfStrings e (with_first_taken q d).state
+first_taken_strings e q d h = taken_strings e q (object_at d.state.heap q).waiting d.state h
 
 pub monitor_strings : (e : Moment) (lock : Lock) (m : Monitor) (d : Doing) → OfStrings e d.state → OfStrings e (with_monitor_of lock m d).state
 monitor_strings e (OfObject o) m d h = object_strings e o (with_monitor m (object_at d.state.heap o)) d.state h

@@ -34,7 +34,7 @@ use Rattle.et_event.specs.declared.rows.Operand.{Operand}
 use Rattle.et_event.specs.declared.rows.Row.{Row}
 use Rattle.et_event.specs.declared.rows.Row.TheVariants as row
 use Rattle.et_event.specs.declared.errors.GuestError.TheVariants as errors
-use Rattle.et_event.specs.BuiltIns.{built_in_of, argument, answering, reference_in, with_referent_of, reference_of, starts_thread, with_thread_for, has_thread_ended, is_fit_for, row_done, done_by, built_in_event}
+use Rattle.et_event.specs.BuiltIns.{built_in_of, argument, answering, reference_in, with_referent_of, reference_of, starts_thread, with_thread_for, has_thread_ended, is_fit_for, row_done, done_by, built_in_event, with_reference_made, with_first_taken}
 use Rattle.et_event.specs.Calls.{is_static_call, call_fits, with_type, with_method, taking, enters_method, is_of_owner, special_class, dispatched, is_as, arguments_of, entry_count, invoke, entering_frame, entry_arguments, enters_first, enters_run, entry_call, with_returned, class_done_by, frame_returned, returned_by, return}
 use Rattle.et_event.specs.Checks.{entries_of, reference_value}
 use Rattle.et_event.specs.Errors.{class_called, error_class}
@@ -50,9 +50,10 @@ use Rattle.et_event.specs.Table.{row_of}
 use Rattle.et_event.specs.Throw.{caught, handled, handler_of, left_if_owned, dropped, is_error, replaced, failed, unwound, unwound_clinit, by_handler, unwinds, unwinding_step}
 use Rattle.et_history.specs.Reaching.{AreReachedFrom, ReachesNew}
 use Rattle.et_history.proofs.Words.{if_case}
-use Rattle.et_history.proofs.NewStrings.{OfStrings, first, thread_strings, top_strings, state_strings, started_strings, slot_strings, referent_strings, monitor_strings, prepared_strings}
+use Rattle.et_history.proofs.NewStrings.{OfStrings, first, thread_strings, top_strings, state_strings, started_strings, slot_strings, referent_strings, monitor_strings, prepared_strings, reference_strings, first_taken_strings}
 use Rattle.et_history.proofs.NewWays.{New, reached_beyond, one_reached, pending_reached, goes_new, ends_reached, ends_new, throws_new, unless_ill_typed, unless_thrown, where_resolved, where_not_null, unless_waiting, where_frame_fits, initialized_new, each_value}
 use Rattle.et_history.proofs.NewRows.{Starts, on_top, heap_new, throw_new, end_new, monitor_new, on_frame_new, constant_new, divides_new}
+use Rattle.et_heap.specs.Queues.{first_value}
 
 -- A METHOD IS ENTERED
 
@@ -108,14 +109,22 @@ row_new e at d arguments o built.Start h =
 row_new e at d arguments o built.Join h = unless_waiting e (has_thread_ended d (thread_with d.state.guest.threads o)) _ (answered_new e at arguments [] d h)
 row_new e at d arguments o built.SetReferent h =
     let x : Doing = answering e at arguments [] d in
-    goes_new e (with_referent_of o (reference_of (argument arguments 1)) x) (referent_strings e o (reference_of (argument arguments 1)) x (answering_strings e at arguments [] d h))
+    goes_new e (with_reference_made o (reference_of (argument arguments 1)) None x) (reference_strings e o (reference_of (argument arguments 1)) None x (answering_strings e at arguments [] d h))
+row_new e at d arguments o built.SetReferentAndQueue h =
+    let x : Doing = answering e at arguments [] d in
+    goes_new e (with_reference_made o (reference_of (argument arguments 1)) (reference_of (argument arguments 2)) x)
+    (reference_strings e o (reference_of (argument arguments 1)) (reference_of (argument arguments 2)) x (answering_strings e at arguments [] d h))
+row_new e at d arguments o built.Poll h =
+    let first : List Value = first_value (object_at d.state.heap o).waiting ∷ [] in
+    let x : Doing = answering e at arguments first d in
+    goes_new e (with_first_taken o x) (first_taken_strings e o x (answering_strings e at arguments first d h))
 row_new e at d arguments o built.GetReferent h = answered_new e at arguments (reference_value (object_at d.state.heap o).referent ∷ []) d h
 row_new e at d arguments o built.ClearReferent h =
     let x : Doing = answering e at arguments [] d in
     goes_new e (with_referent_of o None x) (referent_strings e o None x (answering_strings e at arguments [] d h))
 
 done_new : (e : Moment) (at : Site) (d : Doing) (arguments : List Value) (r : Option ℕ) (b : Option BuiltIn) → OfStrings e d.state → New e (done_by e at d arguments r b)
-done_new e at d arguments (Some o) (Some b) h = unless_ill_typed e (is_fit_for e d o b) (row_done e at d arguments o b) (row_new e at d arguments o b h)
+done_new e at d arguments (Some o) (Some b) h = unless_ill_typed e (is_fit_for e d arguments o b) (row_done e at d arguments o b) (row_new e at d arguments o b h)
 done_new e at d arguments (Some o) None h = throws_new e errors.AbstractMethodError d h
 done_new e at d arguments None (Some b) h = throws_new e errors.AbstractMethodError d h
 done_new e at d arguments None None h = throws_new e errors.AbstractMethodError d h

@@ -16,7 +16,7 @@ use Rattle.et_state.specs.Words.{IsUnended}
 use Rattle.et_state.specs.declared.options.Options.{Options}
 use Rattle.et_state.proofs.Places.{ended_root}
 use Rattle.et_state.proofs.UnderWay.{root_is_reached}
-use Rattle.et_state.proofs.Wholes.{length-remaining}
+use Rattle.et_state.proofs.Enqueued.{length-flushed}
 use Rattle.et_program.specs.Entries.{Linked}
 use Rattle.et_event.specs.Event.{event}
 use Rattle.et_event.specs.Start.{start_records}
@@ -54,7 +54,7 @@ module _ (reached : Graph → ℕ → Bool) (p : Linked) (options : Options) (pi
   settled_length : (e : ℕ) → length (whole_settled_at reached p options pick e).kept.heap ≡ length (now e).kept.heap
   settled_length e =
       let here : ℕ → Bool = reached (graph (now e)) in
-      if_case (λ (s : State). length s.kept.heap ≡ length (now e).kept.heap) (is_flush_point options.interval e) (whole_flushed here (now e)) (now e) (length-remaining here 0 (now e).kept.heap) refl
+      if_case (λ (s : State). length s.kept.heap ≡ length (now e).kept.heap) (is_flush_point options.interval e) (whole_flushed here (now e)) (now e) (length-flushed here (now e).kept.heap) refl
 
   pub first_reached : Decides reached → (o : ℕ) → 0 < o → o ≤ (graph (now 0)).made → IsNow 0 o true
   unfolding left_by

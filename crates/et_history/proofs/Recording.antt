@@ -1,9 +1,10 @@
 -- What the words of an event tell: the records so far are those of what it has made so far.
-use Rattle.std.proofs.Common.{◌≡◌, ℕ, zero, suc, ◌+◌, ◌*◌, ◌<◌, ◌≤◌, ◌⊎◌, true, List, [], ◌∷◌, ◌++◌, length, set, get_or, Option, Some, None, refl, sym, ◌∙◌, ap, subst, inl, inr, arith}
+use Rattle.std.proofs.Common.{◌≡◌, ℕ, zero, suc, ◌+◌, ◌*◌, ◌<◌, ◌≤◌, ◌⊎◌, true, false, List, [], ◌∷◌, ◌++◌, length, set, get_or, Option, Some, None, Contains, refl, sym, ◌∙◌, ap, subst, inl, inr, arith}
 use Rattle.std.specs.Prelude.{All, if◌then◌else◌, codes, is_some, fold, unwrap_or}
 use Rattle.std.proofs.lemmas.Bool.{cases_lt, false≢true}
 use Rattle.std.proofs.lemmas.List.Elements.{All-nil, All-head, All-tail}
 use Rattle.std.proofs.lemmas.List.{length-set, length-append, length-replicate, length_push}
+use Rattle.et_base.proofs.Lists.{Contains-here}
 use Rattle.et_base.specs.declared.value.Value.{Value}
 use Rattle.et_base.specs.declared.value.Value.TheVariants.{Unset, Int, Long, LongHigh, Null, Ref}
 use Rattle.et_program.specs.Entries.{ClassEntry, Linked, no_class, class_at, field_at}
@@ -11,8 +12,8 @@ use Rattle.et_program.specs.declared.info.Element.{Element}
 use Rattle.et_program.specs.declared.info.Element.TheVariants.{NoArray, Base, Class}
 use Rattle.et_program.specs.declared.info.FieldInfo.{FieldInfo}
 use Rattle.et_heap.specs.declared.monitor.Monitor.{Monitor}
-use Rattle.et_heap.specs.Objects.{ObjectState, Objects, IsHeld, found, new_object, object_at, slot_of, with_slot, with_referent, with_monitor, with_object_at}
-use Rattle.et_heap.proofs.HeapLists.{held_within, held_push}
+use Rattle.et_heap.specs.Objects.{ObjectState, Objects, IsHeld, found, new_object, object_at, slot_of, with_slot, with_referent, with_monitor, with_object_at, with_queue}
+use Rattle.et_heap.proofs.HeapLists.{held_within, held_push, held_set}
 use Rattle.et_state.specs.Threads.{FrameState, ThreadState, new_thread, has_frame, with_top_of, as_entered, with_pending}
 use Rattle.et_state.specs.declared.class_state.ClassState.{ClassState}
 use Rattle.et_state.specs.declared.class_state.ClassState.TheVariants.{Untouched, Begun, Done, Failed}
@@ -23,7 +24,7 @@ use Rattle.et_state.specs.Sound.{IsSound}
 use Rattle.et_state.specs.State.{GuestState, Kept}
 use Rattle.et_state.specs.Words.{thread_at, with_thread, with_new_thread, static_at, with_static, with_string, with_class_state, with_class_monitor}
 use Rattle.et_state.proofs.Places.{string_root}
-use Rattle.et_event.specs.BuiltIns.{with_referent_of, with_thread_for}
+use Rattle.et_event.specs.BuiltIns.{with_referent_of, with_thread_for, with_queue_of, with_reference_made, with_first_taken}
 use Rattle.et_event.specs.Errors.{class_called}
 use Rattle.et_event.specs.Initialization.{with_state, constant_set, field_set, constants_set, class_done, quietly_done, quietly_if_untouched, prepared, state_of}
 use Rattle.et_event.specs.Kinds.{is_array_element, narrowed}
@@ -34,9 +35,11 @@ use Rattle.et_event.specs.Sites.{LoadedConstant, AnInt, ALong, AString, constant
 use Rattle.et_event.specs.Strings.{interned, string_object}
 use Rattle.et_history.specs.Records.{size_by, size_of, IsAlike, IsMadeBefore, IsMadeBeforeOrNone, IsUpdated, next_after, IsAllocationOf, IsRecordOf, AreRecordsOf, HasPlainStrings}
 use Rattle.et_history.proofs.Values.{Fine, Fines, FineSome, FineFrame, FineThread, Grows, fine_grows, fine_at, fines_set, rest_fine}
-use Rattle.et_history.proofs.Heaps.{sound_guest, fine_thread, thread_sound, new_thread_sound, string_sound, static_sound, statics_fine, slots_fine, referent_fine, object_sound, made_sound, new_held}
+use Rattle.et_history.proofs.Heaps.{sound_guest, fine_thread, thread_sound, new_thread_sound, string_sound, static_sound, statics_fine, slots_fine, referent_fine, object_sound, made_sound, new_held, AreRestHeld, rest_held, rest_with_queue, rest_without_first}
 use Rattle.et_history.proofs.Words.{if_case, fine_narrowed, object_in, object_pushed, updated_same}
 use Rattle.et_history.proofs.Records.{Steady, steady_itself, steady_then, steady_set, steady_push, newest_at, records_grow, records_more}
+use Rattle.et_heap.specs.Queues.{with_waits, without_first_waiting, take_first}
+use Rattle.et_state.proofs.UnderWay.{waiting_pair}
 
 -- an event has come to this state with these records
 pub record Tells (e : Moment) (s : Kept) (rs : List Record) : Type 0 where
@@ -101,15 +104,15 @@ started_told e o d h held =
     guest_told e (with_new_thread d.state.guest (started o)) d h (new_thread_sound d.state (started o) h.sound fine) refl (omega arith)
 
 -- an object became one that is alike
-object_told : (e : Moment) (o : ℕ) (y : ObjectState) (d : Doing) → Told e d → IsHeld d.state.heap o → IsAlike (object_at d.state.heap o) y → Fines d.state.heap y.slots → FineSome d.state.heap y.referent
+object_told : (e : Moment) (o : ℕ) (y : ObjectState) (d : Doing) → Told e d → IsHeld d.state.heap o → IsAlike (object_at d.state.heap o) y → Fines d.state.heap y.slots → FineSome d.state.heap y.referent → AreRestHeld d.state.heap y
     → Tells e (record { heap = with_object_at d.state.heap o y; guest = d.state.guest }) d.records
-object_told e o y d h held alike slots referent =
+object_told e o y d h held alike slots referent rest =
     let heap : Objects = d.state.heap in
     let now : Objects = with_object_at heap o y in
     let steady : Steady heap now = steady_set heap o y held alike in
     let len : length now ≡ length heap = length-set heap o (Some y) in
     record {
-      sound = object_sound d.state o y h.sound held slots referent;
+      sound = object_sound d.state o y h.sound held slots referent rest;
       clock = h.clock;
       thread = h.thread;
       steady = steady_then e.before.heap heap now h.steady steady;
@@ -119,7 +122,34 @@ object_told e o y d h held alike slots referent =
 
 pub referent_told : (e : Moment) (o : ℕ) (r : Option ℕ) (d : Doing) → Told e d → IsHeld d.state.heap o → FineSome d.state.heap r → Told e (with_referent_of o r d)
 referent_told e o r d h held fine =
-    object_told e o (with_referent r (object_at d.state.heap o)) d h held (record { class = refl; elements = refl; slots = refl }) (slots_fine d.state o h.sound) fine
+    object_told e o (with_referent r (object_at d.state.heap o)) d h held (record { class = refl; elements = refl; slots = refl }) (slots_fine d.state o h.sound) fine (rest_held d.state o h.sound)
+
+queue_told : (e : Moment) (o : ℕ) (q : Option ℕ) (d : Doing) → Told e d → IsHeld d.state.heap o → FineSome d.state.heap q → Told e (with_queue_of o q d)
+queue_told e o q d h held fine =
+    object_told e o (with_queue q (object_at d.state.heap o)) d h held (record { class = refl; elements = refl; slots = refl }) (slots_fine d.state o h.sound) (referent_fine d.state o h.sound) (rest_with_queue d.state o q h.sound fine)
+
+some_held : (h : Objects) (o : ℕ) (y : ObjectState) → IsHeld h o → (q : Option ℕ) → FineSome h q → FineSome (with_object_at h o y) q
+some_held h o y held None fine = tt
+some_held h o y held (Some z) fine = held_set h o y z held fine
+
+-- a weak reference is made
+pub reference_told : (e : Moment) (o : ℕ) (r q : Option ℕ) (d : Doing) → Told e d → IsHeld d.state.heap o → FineSome d.state.heap r → FineSome d.state.heap q → Told e (with_reference_made o r q d)
+reference_told e o r q d h held fine queue =
+    let y : ObjectState = with_referent r (object_at d.state.heap o) in
+    queue_told e o q (with_referent_of o r d) (referent_told e o r d h held fine) (held_set d.state.heap o y o held held) (some_held d.state.heap o y held q queue)
+
+taken_told : (e : Moment) (q : ℕ) (ws : List ℕ) (d : Doing) → (object_at d.state.heap q).waiting ≡ ws → Told e d → IsHeld d.state.heap q → Told e (record { state = record { heap = take_first ws q d.state.heap; guest = d.state.guest }; records = d.records })
+taken_told e q [] d is h held = record { sound = h.sound; clock = h.clock; thread = h.thread; steady = h.steady; records = h.records }
+taken_told e q (r ∷ ws) d is h held =
+    let y : ObjectState = without_first_waiting (object_at d.state.heap q) in
+    let first : Doing = record { state = record { heap = with_object_at d.state.heap q y; guest = d.state.guest }; records = d.records } in
+    let there : IsHeld d.state.heap r = h.sound.slots q r (waiting_pair d.state.heap q r (subst (λ (os : List ℕ). Contains os r) (sym is) (Contains-here r ws))) in
+    let told : Told e first = object_told e q y d h held (record { class = refl; elements = refl; slots = refl }) (slots_fine d.state q h.sound) (referent_fine d.state q h.sound) (rest_without_first d.state q h.sound) in
+    object_told e r (with_waits false (object_at first.state.heap r)) first told (held_set d.state.heap q y r held there) (record { class = refl; elements = refl; slots = refl }) (slots_fine first.state r told.sound) (referent_fine first.state r told.sound) (rest_held first.state r told.sound)
+
+-- a queue is polled
+pub first_taken_told : (e : Moment) (q : ℕ) (d : Doing) → Told e d → IsHeld d.state.heap q → Told e (with_first_taken q d)
+first_taken_told e q d h held = taken_told e q (object_at d.state.heap q).waiting d refl h held
 
 -- what has the monitor is there
 abbrev pub HasLock : Doing → Lock → Type 0
@@ -128,7 +158,7 @@ HasLock d (OfClass c) = Unit {0}
 
 pub monitor_told : (e : Moment) (lock : Lock) (m : Monitor) (d : Doing) → Told e d → HasLock d lock → Told e (with_monitor_of lock m d)
 monitor_told e (OfObject o) m d h held =
-    object_told e o (with_monitor m (object_at d.state.heap o)) d h held (record { class = refl; elements = refl; slots = refl }) (slots_fine d.state o h.sound) (referent_fine d.state o h.sound)
+    object_told e o (with_monitor m (object_at d.state.heap o)) d h held (record { class = refl; elements = refl; slots = refl }) (slots_fine d.state o h.sound) (referent_fine d.state o h.sound) (rest_held d.state o h.sound)
 monitor_told e (OfClass c) m d h held = class_monitor_told e c m d h
 
 -- WHAT TELLS SOMETHING
@@ -192,7 +222,7 @@ slot_told e o i v d h held has fine =
     let next : Doing = record { state = record { heap = with_object_at heap o y; guest = d.state.guest }; records = d.records } in
     let slots : Fines heap x.slots = slots_fine d.state o h.sound in
     let steady : Steady heap next.state.heap = with_slot_steady heap o i v held in
-    let now : Told e next = object_told e o y d h held (record { class = refl; elements = refl; slots = length-set x.slots i v }) (fines_set heap x.slots i v fine slots) (referent_fine d.state o h.sound) in
+    let now : Told e next = object_told e o y d h held (record { class = refl; elements = refl; slots = length-set x.slots i v }) (fines_set heap x.slots i v fine slots) (referent_fine d.state o h.sound) (rest_held d.state o h.sound) in
     updated_told e o i (slot_of x i) v next now (inr (there next o (steady.stays o held), slot_stays heap next.state.heap o i steady held has))
     (fine_grows heap next.state.heap (slot_of x i) steady.stays (fine_at heap x.slots i slots)) (fine_grows heap next.state.heap v steady.stays fine)
 

@@ -20,8 +20,9 @@ use Rattle.et_state.specs.Sound.{IsSound}
 use Rattle.et_state.specs.Start.{start}
 use Rattle.et_state.specs.State.{State, Kept}
 use Rattle.et_state.specs.Words.{IsUnended}
-use Rattle.et_state.proofs.Pasts.{past_flushed, reached_kept}
-use Rattle.et_state.proofs.Wholes.{length-remaining}
+use Rattle.et_state.specs.Enqueuing.{newcomers, begins_to_wait}
+use Rattle.et_state.proofs.Enqueued.{past_flushed, length-flushed, joined_held}
+use Rattle.et_state.proofs.Pasts.{reached_kept}
 use Rattle.et_program.specs.Entries.{Linked}
 use Rattle.et_state.specs.declared.options.Options.{Options}
 use Rattle.et_state.specs.Options.{AreOptions, pick_of}
@@ -183,14 +184,14 @@ cleared_held here (x ∷ xs) (suc o) h = cleared_held here xs o h
 
 pub flushed_here : (here : ℕ → Bool) (s : State) (o : ℕ) → IsPast s.kept.heap s.reported → IsHere s o → IsHere (whole_flushed here s) o
 flushed_here here s o past h = elim (flush_here here 0 s.kept.heap s.reported o past.within h) [
-  | inl held ↦ inl held
+  | inl held ↦ inl (joined_held (newcomers here s.kept.heap) (begins_to_wait here s.kept.heap) (remaining here 0 s.kept.heap) o held)
   | inr there ↦ inr (held_cleared here (reporting here 0 s.kept.heap s.reported) o there)
 ]
 
 past_cleared : (here : ℕ → Bool) (s : State) → IsPast s.kept.heap s.reported → IsPast (whole_flushed here s).kept.heap (whole_flushed here s).reported
 past_cleared here s past =
     let rs : Objects = reporting here 0 s.kept.heap s.reported in
-    let after = past_flushed here s.kept.heap s.reported past in
+    let after = past_flushed s here past in
     record {
       within = omega (arith, length-map rs (cleared here), after.within);
       apart = λ o held there. after.apart o held (cleared_held here rs o there);
@@ -291,7 +292,7 @@ module _ (reached : Graph → ℕ → Bool) (p : Linked) (options : Options) (pi
         record {
           past = past_cleared all t m.1.past;
           none = λ there. reporting_none all 0 k.heap t.reported m.1.state.held.none m.1.none (cleared_held all (reporting all 0 k.heap t.reported) 0 there);
-          full = λ o some lt. flushed_here all t o m.1.past (m.1.full o some (omega (arith, length-remaining all 0 k.heap, lt)));
+          full = λ o some lt. flushed_here all t o m.1.past (m.1.full o some (omega (arith, length-flushed all k.heap, lt)));
           state = subst (λ (x : Kept). IsSoundFor p x) (sym alike) state;
           clock = m.1.clock;
           within = m.1.within;

@@ -11,7 +11,7 @@ use Rattle.et_base.proofs.Lists.{Contains-here, Contains-there}
 use Rattle.et_program.specs.Entries.{class_at, field_at}
 use Rattle.et_program.specs.declared.info.FieldInfo.{FieldInfo}
 use Rattle.et_heap.specs.declared.monitor.Monitor.{Monitor}
-use Rattle.et_heap.specs.Objects.{ObjectState, Objects, IsHeld, free_monitor, new_object, object_at, slot_of, with_slot, with_referent, with_object_at}
+use Rattle.et_heap.specs.Objects.{ObjectState, Objects, IsHeld, free_monitor, new_object, object_at, slot_of, with_slot, with_referent, with_object_at, with_queue}
 use Rattle.et_state.specs.Threads.{FrameState, ThreadState, no_thread, new_thread, has_frame, rest_of, with_top_of, as_entered, with_pending}
 use Rattle.et_state.specs.declared.class_state.ClassState.{ClassState}
 use Rattle.et_state.specs.declared.class_state.ClassState.TheVariants.{Untouched, Begun, Done, Failed}
@@ -20,7 +20,7 @@ use Rattle.et_state.specs.Sound.{IsSound}
 use Rattle.et_state.specs.State.{GuestState, Kept}
 use Rattle.et_state.specs.Words.{thread_at, with_thread, with_top, with_new_thread, static_at, with_static, with_string, with_class_state}
 use Rattle.et_state.proofs.Places.{string_root}
-use Rattle.et_event.specs.BuiltIns.{with_referent_of, with_thread_for}
+use Rattle.et_event.specs.BuiltIns.{with_referent_of, with_thread_for, with_queue_of, with_reference_made, with_first_taken}
 use Rattle.et_event.specs.Errors.{class_called}
 use Rattle.et_event.specs.Initialization.{with_state, constant_set, field_set, constants_set, class_done, quietly_done, quietly_if_untouched, prepared, state_of}
 use Rattle.et_event.specs.Kinds.{narrowed}
@@ -32,7 +32,10 @@ use Rattle.et_sound.specs.WellFormed.{IsThere}
 use Rattle.et_history.specs.Holding.{monitor_in}
 use Rattle.et_history.specs.Changing.{becomes, Changes}
 use Rattle.et_history.proofs.Values.{Fine, Fines, FineSome, FineFrame, FineThread, fines_set, rest_fine}
-use Rattle.et_history.proofs.Heaps.{Grown, grown_set, grown_push, sound_guest, fine_thread, thread_sound, new_thread_sound, string_sound, static_sound, slots_fine, referent_fine, object_sound, made_sound, new_held}
+use Rattle.et_history.proofs.Heaps.{Grown, grown_set, grown_push, sound_guest, fine_thread, thread_sound, new_thread_sound, string_sound, static_sound, slots_fine, referent_fine, object_sound, made_sound, new_held, AreRestHeld, rest_held, rest_with_queue, rest_without_first}
+use Rattle.et_heap.specs.Queues.{with_waits, without_first_waiting, take_first}
+use Rattle.et_heap.proofs.HeapLists.{held_set}
+use Rattle.et_state.proofs.UnderWay.{waiting_pair}
 
 -- what an event has come to besides the state: how many frames its thread has, and which monitor it entered and left
 pub record Way : Type 0 where
@@ -172,10 +175,14 @@ started_still e {w = w} o d h held =
 
 -- OBJECTS
 
-object_still : (e : Moment) {w : Way} (o : ℕ) (y : ObjectState) (s : Kept) → Still e w s → IsHeld s.heap o → y.monitor ≡ (object_at s.heap o).monitor → Fines s.heap y.slots → FineSome s.heap y.referent
+some_held : (h : Objects) (o : ℕ) (y : ObjectState) → IsHeld h o → (q : Option ℕ) → FineSome h q → FineSome (with_object_at h o y) q
+some_held h o y held None fine = tt
+some_held h o y held (Some z) fine = held_set h o y z held fine
+
+object_still : (e : Moment) {w : Way} (o : ℕ) (y : ObjectState) (s : Kept) → Still e w s → IsHeld s.heap o → y.monitor ≡ (object_at s.heap o).monitor → Fines s.heap y.slots → FineSome s.heap y.referent → AreRestHeld s.heap y
     → Still e w (record { heap = with_object_at s.heap o y; guest = s.guest })
-object_still e {w = w} o y s h held same slots referent =
-    record { changes = changes_heap e w.entry w.exit s (with_object_at s.heap o y) h.changes (object_sound s o y h.changes.sound held slots referent) (grown_set s.heap o y held same); thread = h.thread; monitors = h.monitors; frames = h.frames }
+object_still e {w = w} o y s h held same slots referent rest =
+    record { changes = changes_heap e w.entry w.exit s (with_object_at s.heap o y) h.changes (object_sound s o y h.changes.sound held slots referent rest) (grown_set s.heap o y held same); thread = h.thread; monitors = h.monitors; frames = h.frames }
 
 made_still : (e : Moment) {w : Way} (class elements slots : ℕ) (s : Kept) → Still e w s → Still e w (record { heap = s.heap ++ Some (new_object class elements slots) ∷ []; guest = s.guest })
 made_still e {w = w} class elements slots s h =
@@ -201,13 +208,36 @@ slot_still e o i v d h held fine =
     let s : Kept = d.state in
     let x : ObjectState = object_at s.heap o in
     updated_still e o i (slot_of x i) v (record { state = record { heap = with_object_at s.heap o (with_slot i v x); guest = s.guest }; records = d.records })
-    (object_still e o (with_slot i v x) s h held refl (fines_set s.heap x.slots i v fine (slots_fine s o h.changes.sound)) (referent_fine s o h.changes.sound))
+    (object_still e o (with_slot i v x) s h held refl (fines_set s.heap x.slots i v fine (slots_fine s o h.changes.sound)) (referent_fine s o h.changes.sound) (rest_held s o h.changes.sound))
 
 pub written_static_still : (e : Moment) {w : Way} (i : ℕ) (v : Value) (d : Doing) → Still e w d.state → Fine d.state.heap v → Still e w (static_written e i v d).state
 written_static_still e i v d h fine = updated_still e 0 i (static_at d.state.guest i) v (doing_with_guest (with_static d.state.guest i v) d) (static_still e i v d.state h fine)
 
 pub referent_still : (e : Moment) {w : Way} (o : ℕ) (r : Option ℕ) (d : Doing) → Still e w d.state → IsHeld d.state.heap o → FineSome d.state.heap r → Still e w (with_referent_of o r d).state
-referent_still e o r d h held fine = object_still e o (with_referent r (object_at d.state.heap o)) d.state h held refl (slots_fine d.state o h.changes.sound) fine
+referent_still e o r d h held fine = object_still e o (with_referent r (object_at d.state.heap o)) d.state h held refl (slots_fine d.state o h.changes.sound) fine (rest_held d.state o h.changes.sound)
+
+pub queue_still : (e : Moment) {w : Way} (o : ℕ) (q : Option ℕ) (d : Doing) → Still e w d.state → IsHeld d.state.heap o → FineSome d.state.heap q → Still e w (with_queue_of o q d).state
+queue_still e o q d h held fine =
+    object_still e o (with_queue q (object_at d.state.heap o)) d.state h held refl (slots_fine d.state o h.changes.sound) (referent_fine d.state o h.changes.sound) (rest_with_queue d.state o q h.changes.sound fine)
+
+-- a weak reference is made
+pub reference_still : (e : Moment) {w : Way} (o : ℕ) (r q : Option ℕ) (d : Doing) → Still e w d.state → IsHeld d.state.heap o → FineSome d.state.heap r → FineSome d.state.heap q → Still e w (with_reference_made o r q d).state
+reference_still e o r q d h held fine queue =
+    let y : ObjectState = with_referent r (object_at d.state.heap o) in
+    queue_still e o q (with_referent_of o r d) (referent_still e o r d h held fine) (held_set d.state.heap o y o held held) (some_held d.state.heap o y held q queue)
+
+taken_still : (e : Moment) {w : Way} (q : ℕ) (ws : List ℕ) (s : Kept) → (object_at s.heap q).waiting ≡ ws → Still e w s → IsHeld s.heap q → Still e w (record { heap = take_first ws q s.heap; guest = s.guest })
+taken_still e q [] s is h held = record { changes = h.changes; thread = h.thread; monitors = h.monitors; frames = h.frames }
+taken_still e q (r ∷ ws) s is h held =
+    let y : ObjectState = without_first_waiting (object_at s.heap q) in
+    let first : Kept = record { heap = with_object_at s.heap q y; guest = s.guest } in
+    let there : IsHeld s.heap r = h.changes.sound.slots q r (waiting_pair s.heap q r (subst (λ (os : List ℕ). Contains os r) (sym is) (Contains-here r ws))) in
+    let still : Still e _ first = object_still e q y s h held refl (slots_fine s q h.changes.sound) (referent_fine s q h.changes.sound) (rest_without_first s q h.changes.sound) in
+    object_still e r (with_waits false (object_at first.heap r)) first still (held_set s.heap q y r held there) refl (slots_fine first r still.changes.sound) (referent_fine first r still.changes.sound) (rest_held first r still.changes.sound)
+
+-- a queue is polled
+pub first_taken_still : (e : Moment) {w : Way} (q : ℕ) (d : Doing) → Still e w d.state → IsHeld d.state.heap q → Still e w (with_first_taken q d).state
+first_taken_still e q d h held = taken_still e q (object_at d.state.heap q).waiting d.state refl h held
 
 -- what was held before a slot was written is held after it
 pub updated_same : (e : Moment) (o i : ℕ) (old v : Value) (d : Doing) → (updated e o i old v d).state ≡ d.state

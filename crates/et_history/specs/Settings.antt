@@ -2,7 +2,7 @@
 -- what a flush leaves.
 use Rattle.std.specs.Prelude.{ℕ, ◌+◌, ◌*◌, Bool, List, length}
 use Rattle.et_heap.specs.Objects.{held_count}
-use Rattle.et_heap.specs.Remaining.{remaining}
+use Rattle.et_state.specs.Enqueuing.{flushed_heap}
 use Rattle.et_state.specs.Threads as threads
 use Rattle.et_state.specs.Roots.{graph_of}
 use Rattle.et_state.specs.State.{Kept}
@@ -11,7 +11,7 @@ use Rattle.et_state.specs.History.{Setting}
 use Rattle.et_state.specs.declared.options.Options.{Options}
 use Rattle.et_program.specs.Entries.{Linked, class_at, method_at}
 use Rattle.et_program.specs.Tables.{IsTabled}
-use Rattle.et_flush.specs.Flushes.{cleared_from}
+use Rattle.et_flush.specs.Flushes.{cleared_references}
 use Rattle.et_event.specs.Event.{event}
 use Rattle.et_event.specs.Runnable.{IsRunnable}
 use Rattle.et_event.specs.Sound.{IsSoundFor}
@@ -32,9 +32,9 @@ names_of_program p = record {
 abbrev pub unended_threads : Kept → List ℕ
 unended_threads s = threads.unended_of s.guest.threads
 
--- a flush takes out what isn't here, and clears what refers to it weakly
+-- a flush takes out what isn't here, clears what refers to it weakly, and puts what it cleared in its queue
 abbrev pub flushed_of : (ℕ → Bool) → Kept → Kept
-flushed_of here s = record { heap = remaining here 0 s.heap; guest = s.guest }
+flushed_of here s = record { heap = flushed_heap here s.heap; guest = s.guest }
 
 abbrev pub setting : Linked → Options → Setting Kept
 setting p options = setting_of (event p) unended_threads graph_of flushed_of (names_of_program p) options
@@ -45,6 +45,6 @@ pub record IsSoundRun (p : Linked) (s : Kept) : Type 0 where
   pub runnable : IsRunnable p
   pub state : IsSoundFor p s
 
--- how many visits of objects a flush makes at most: two for each that is held, and one for each weak reference that it clears
+-- how many visits of objects a flush makes at most: two for each that is held, and two for each weak reference that it clears
 abbrev pub flush_visits_of : (ℕ → Bool) → Kept → ℕ
-flush_visits_of here s = 2 * held_count s.heap + cleared_from here 0 s.heap
+flush_visits_of here s = 2 * held_count s.heap + 2 * length (cleared_references here 0 s.heap)

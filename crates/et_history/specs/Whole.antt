@@ -1,5 +1,5 @@
 -- THE HISTORY OF A PROGRAM IN WHICH NOTHING IS FREED: each object that was ever made stays in the state, those that were
--- reported beside the others, and the graph has the slots of them all.
+-- reported beside the others, and the graph has what they all lead to.
 use Rattle.std.specs.Prelude.{ℕ, Bool, List, [], Option, Some, None, map}
 use Rattle.et_heap.specs.Objects.{ObjectState, Objects}
 use Rattle.et_state.specs.Past.{kept_referent, flushed}
@@ -33,8 +33,8 @@ abbrev pub cleared : (ℕ → Bool) → Option ObjectState → Option ObjectStat
 cleared here None = None
 cleared here (Some x) = Some (record x { referent = kept_referent here x.referent })
 
--- A FLUSH reports what isn't here, and clears each object that refers weakly to such, also one that was reported. It does
--- nothing else.
+-- A FLUSH reports what isn't here, clears each object that refers weakly to such, also one that was reported, and puts what it
+-- cleared and that stays in its queue. It does nothing else.
 abbrev pub whole_flushed : (ℕ → Bool) → State → State
 whole_flushed here s = record (flushed here s) { reported = map (cleared here) (flushed here s).reported }
 

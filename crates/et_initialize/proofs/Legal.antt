@@ -18,7 +18,7 @@ use Rattle.et_state.specs.Words.{static_at, with_static, with_string, class_stat
 use Rattle.et_state.specs.Roots.{roots_of}
 use Rattle.et_state.specs.Moves.{WasThere, IsUnderWay}
 use Rattle.et_state.specs.Sound.{IsSound}
-use Rattle.et_state.proofs.Places.{guest_static, guest_interned, refs_of-unset, string_root}
+use Rattle.et_state.proofs.Places.{guest_static, guest_interned, leads-new, string_root}
 use Rattle.et_state.proofs.UnderWay.{law_guest, law_make, start}
 use Rattle.et_state.proofs.Steps.{newest_held}
 use Rattle.et_program.specs.Entries.{Linked, class_at, field_at}
@@ -73,7 +73,7 @@ made_string s k lost bytes class slots h =
     let n : ℕ = length k.heap in
     let x : Kept = record { heap = k.heap ++ Some (new_object class 0 slots) ∷ []; guest = k.guest } in
     let g : GuestState = with_string k.guest bytes n in
-    let w : IsUnderWay s x lost = law_make s k lost (new_object class 0 slots) h.way (refs_of-unset slots) refl in
+    let w : IsUnderWay s x lost = law_make s k lost (new_object class 0 slots) h.way (leads-new class 0 slots) refl in
     let moves = guest_interned (IsHeld x.heap) (WasThere s x) k.guest bytes n (newest_held k.heap (new_object class 0 slots)) in
     let stay = guest_interned (λ o. length s.heap ≤ o) (WasThere s x) k.guest bytes n h.grown in
     let long : length x.heap ≡ n + 1 = length_push k.heap (Some (new_object class 0 slots)) in

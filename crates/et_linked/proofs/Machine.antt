@@ -58,7 +58,7 @@ record IsTop (t count : ℕ) : Type 0 where
   superclass : (slice_index_or boots t no_boot_class).super_name ≡ Some (codes "java/lang/Object")
   own : (fields : List FieldInfo) → own_slots fields t ≡ count
 
-throwable_is : IsTop 9 2
+throwable_is : IsTop 10 2
 unfolding boots
 throwable_is = record { low = omega arith; within = omega arith; kind = refl; superclass = refl; own = λ fields. refl }
 
@@ -66,7 +66,7 @@ thread_is : IsTop 6 1
 unfolding boots
 thread_is = record { low = omega arith; within = omega arith; kind = refl; superclass = refl; own = λ fields. refl }
 
-throwable_place : boot_place (codes "java/lang/Throwable") ≡ Some 9
+throwable_place : boot_place (codes "java/lang/Throwable") ≡ Some 10
 unfolding boots
 throwable_place = refl
 
@@ -124,22 +124,22 @@ targets_in files =
 -- no field is one of Throwable
 
 abbrev is_no_throwable : FieldInfo → Bool
-is_no_throwable f = not (f.class == 9)
+is_no_throwable f = not (f.class == 10)
 
 throwable_bare : list_all is_no_throwable (numbered boot_fields 0 boots) ≡ true
 unfolding boots
 throwable_bare = refl
 
 abbrev IsOther : FieldInfo → Type 0
-IsOther f = f.class ≡ 9 → ⊥
+IsOther f = f.class ≡ 10 → ⊥
 
 others_in : (files : List LoadedClass) → All IsOther (fields_of files)
 others_in files =
-    let many : 9 < length boots = throwable_is.within in
+    let many : 10 < length boots = throwable_is.within in
     All-append IsOther (numbered boot_fields 0 boots) (numbered file_fields (length boots) files)
     (λ i d lt e.
     let f : FieldInfo = slice_index_or (numbered boot_fields 0 boots) i d in
-    both_ways (f.class == 9) (not-true (f.class == 9) (all_pass is_no_throwable (numbered boot_fields 0 boots) throwable_bare i d lt)) (eq-eqb f.class 9 e))
+    both_ways (f.class == 10) (not-true (f.class == 10) (all_pass is_no_throwable (numbered boot_fields 0 boots) throwable_bare i d lt)) (eq-eqb f.class 10 e))
     (numbered_all IsOther file_fields (length boots) files (λ j c le. All-map IsOther (file_field c.pool.slots j) c.fields (λ i d lt e. omega arith)))
 
 -- A PROGRAM
@@ -192,7 +192,7 @@ module _ (files : List LoadedClass) (rows : List Ancestry) (pools : List Constan
       let inside : f < length (fields_of files) = subst (λ (n : ℕ). f < n) (length-placed (slots_above (fields_of files) rows) [] (fields_of files)) lt in
       subst IsTargetIf (sym (field_is f lt)) (targets_in files f no_field inside)
 
-  is_of_other : (f : ℕ) → f < length p.fields → (field_at p f).class ≡ 9 → ⊥
+  is_of_other : (f : ℕ) → f < length p.fields → (field_at p f).class ≡ 10 → ⊥
   is_of_other f lt =
       let inside : f < length (fields_of files) = subst (λ (n : ℕ). f < n) (length-placed (slots_above (fields_of files) rows) [] (fields_of files)) lt in
       subst IsOther (sym (field_is f lt)) (others_in files f no_field inside)
@@ -321,20 +321,20 @@ module _ (files : List LoadedClass) (rows : List Ancestry) (pools : List Constan
 
     -- THE LAW
 
-    throwable_free : (c f : ℕ) → c < set_length → Contains (c ∷ supers c) 9 → HasInstanceField p c f → 2 ≤ (field_at p f).slot
+    throwable_free : (c f : ℕ) → c < set_length → Contains (c ∷ supers c) 10 → HasInstanceField p c f → 2 ≤ (field_at p f).slot
     throwable_free c f lt h field =
-        elim (beyond 9 2 c f throwable_is lt h field) [
+        elim (beyond 10 2 c f throwable_is lt h field) [
           | inl same ↦ absurd (is_of_other f field.within same)
           | inr le ↦ le
         ]
 
-    throwable_at : (c : ℕ) → c < length p.classes → is_subclass p c 9 ≡ true → KeepsFree p c 2
+    throwable_at : (c : ℕ) → c < length p.classes → is_subclass p c 10 ≡ true → KeepsFree p c 2
     throwable_at c inside h =
         elim (cases_lt c set_length) [
           | inl lt ↦
-              let at : Contains (c ∷ supers c) 9 = below_is c 9 lt (not_above 9 2 c throwable_is) h in
-              record { bare = no_array c lt; room = room 9 2 c throwable_is lt at; free = λ f field. throwable_free c f lt at field }
-          | inr le ↦ absurd (not_of_array 9 2 c throwable_is le inside h)
+              let at : Contains (c ∷ supers c) 10 = below_is c 10 lt (not_above 10 2 c throwable_is) h in
+              record { bare = no_array c lt; room = room 10 2 c throwable_is lt at; free = λ f field. throwable_free c f lt at field }
+          | inr le ↦ absurd (not_of_array 10 2 c throwable_is le inside h)
         ]
 
     thread_target : (c f : ℕ) → c < set_length → Contains (c ∷ supers c) 6 → HasInstanceField p c f → (field_at p f).slot < 1 → IsTarget p f
@@ -361,7 +361,7 @@ module _ (files : List LoadedClass) (rows : List Ancestry) (pools : List Constan
 
     machine_slots : HasMachineSlots p
     machine_slots = record {
-      throwables = λ c inside h. throwable_at c inside (subst (λ (t : ℕ). is_subclass p c t ≡ true) (called 9 (codes "java/lang/Throwable") throwable_place) h);
+      throwables = λ c inside h. throwable_at c inside (subst (λ (t : ℕ). is_subclass p c t ≡ true) (called 10 (codes "java/lang/Throwable") throwable_place) h);
       threads = λ c inside h. thread_at c inside (subst (λ (t : ℕ). is_subclass p c t ≡ true) (called 6 (codes "java/lang/Thread") thread_place) h);
     }
 

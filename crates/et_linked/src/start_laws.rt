@@ -15,7 +15,7 @@ ghost use Rattle.et_graph.specs.Graph.{IsReached};
 ghost use Rattle.et_heap.specs.Objects.{IsHeld};
 ghost use Rattle.et_program.specs.Loaded.{LoadedClass, loaded_class};
 ghost use Rattle.et_program.specs.ProgramOf.{IsProgramOf};
-ghost use Rattle.et_state.specs.Past.{remaining};
+ghost use Rattle.et_state.specs.Enqueuing.{flushed_heap};
 ghost use Rattle.et_state.specs.Roots.{graph_of};
 ghost use Rattle.et_state.specs.State.{Kept};
 ghost use Rattle.et_event.specs.Programs.{MakesSound, HasSlots, MayHold};
@@ -54,5 +54,5 @@ pub fn first_state_is_sound()
 pub fn flush_keeps_sound()
     ensures { (p : Linked) (s : Kept) (here : ℕ → Bool) → IsSoundFor p s →
         ((o : ℕ) → IsHeld s.heap o → (here o ≡ true) ↔ IsReached (graph_of s) o) →
-        IsSoundFor p (record { heap = remaining here 0 s.heap; guest = s.guest }) }
+        IsSoundFor p (record { heap = flushed_heap here s.heap; guest = s.guest }) }
 {}

@@ -17,7 +17,7 @@ use Rattle.et_loop.proofs.TurnLemmas.{settled_is}
 -- A TURN
 
 pub settled_as_many : (due : Bool) (g h : Graph) → Settles due g h → h.made ≡ g.made
-settled_as_many true g h c = c.made
+settled_as_many true g h c = c.2.made ∙ c.1.made
 settled_as_many false g h e = ap (λ (x : Graph). x.made) e
 
 -- an event that answers what it leads to visits as often as it may

@@ -4,6 +4,7 @@ use Rattle.et_base.specs.declared.line.TraceLine.{TraceLine}
 use Rattle.et_base.specs.declared.value.End.{End}
 use Rattle.et_graph.specs.Graph.{Graph, IsMade, IsReached}
 use Rattle.et_graph.proofs.Walks.{walk_more}
+use Rattle.et_graph.proofs.Ties.{tie_reached}
 use Rattle.et_state.specs.Naming.{Mentions}
 use Rattle.et_state.specs.History.{Setting, is_flush_point, flush_lines, deaths_to, is_gone}
 use Rattle.et_binary.specs.Formats.{lines_written_in}
@@ -15,9 +16,12 @@ use Rattle.et_loop.specs.Kept.{Settles}
 -- what is reached after a flush was made
 pub settled_made : (due : Bool) (g h : Graph) → Settles due g h → ((o : ℕ) → IsReached g o → IsMade g o) → (o : ℕ) → IsReached h o → IsMade h o
 settled_made true g h c made o r =
-    let before : IsReached g o = (r.0, subst (λ (os : List ℕ). Contains os r.0) c.roots r.1, (r.2.0, walk_more h.pairs g.pairs (λ u x p. ((c.pairs u x).0 p).0) r.0 r.2.0 o r.2.1)) in
+    let middle : Graph = c.0 in
+    let cleared = c.1 in
+    let back : IsReached middle o = tie_reached middle h c.2 o r in
+    let before : IsReached g o = (back.0, subst (λ (os : List ℕ). Contains os back.0) cleared.roots back.1, (back.2.0, walk_more middle.pairs g.pairs (λ u x p. ((cleared.pairs u x).0 p).0) back.0 back.2.0 o back.2.1)) in
     let m = made o before in
-    (m.0, omega (arith, m.1, c.made))
+    (m.0, omega (arith, m.1, cleared.made, c.2.made))
 settled_made false g h e made o r = subst (λ (x : Graph). IsMade x o) (sym e) (made o (subst (λ (x : Graph). IsReached x o) e r))
 
 module _ {S : Type 0} (reached : Graph → ℕ → Bool) (given : Setting S) (e : ℕ) (s s₁ s₂ : S) (last : ℕ → ℕ) (m m' : Mentions) (due : Bool) (out out₁ out₂ : List ℕ) where

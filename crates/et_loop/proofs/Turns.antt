@@ -3,9 +3,9 @@ use Rattle.std.proofs.Common.{◌≡◌, ℕ, suc, ◌<◌, ◌≤◌, ◌==◌,
 use Rattle.std.specs.List.{list_any}
 use Rattle.std.proofs.lemmas.Bool.{cases_lt}
 use Rattle.et_graph.specs.Graph.{Graph, nothing_made, IsMade, IsReached, IsDead, IsSoundGraph}
-use Rattle.et_graph.specs.Steps.{Step, IsLegalStep}
+use Rattle.et_graph.specs.Steps.{Step, IsLegalStep, IsTie}
 use Rattle.et_graph.specs.History.{Turn, graph_after, IsHistory, WasReached, stamp}
-use Rattle.et_graph.specs.History.Turn.{Took, Flushed}
+use Rattle.et_graph.specs.History.Turn.{Took, Tied, Flushed}
 use Rattle.et_base.proofs.Lists.{cases_number}
 use Rattle.et_graph.proofs.Sound.{made_cases, fresh_range, reached_made, stepped_sound}
 use Rattle.et_graph.proofs.StampLemmas.{history_told, stamp_fresh, stamp_lost, stamp_kept, stamps_told}
@@ -14,7 +14,7 @@ use Rattle.et_graph.specs.Listed.{IsGreatest}
 use Rattle.et_loop.specs.Kept.{IsKeptPart, Settles}
 use Rattle.et_loop.specs.Stamping.{Restamps, Passes}
 use Rattle.et_loop.specs.Told.{StandsForTurns, IsToldByStamps}
-use Rattle.et_loop.proofs.Wholes.{kept_itself, reached_whole, reached_kept, leads_kept, dead_whole, whole_step, legal_whole, step_kept, whole_flushed, flush_whole, flush_kept}
+use Rattle.et_loop.proofs.Wholes.{kept_itself, reached_whole, reached_kept, leads_kept, dead_whole, whole_step, legal_whole, step_kept, whole_flushed, flush_whole, flush_kept, whole_tied, tie_whole, tie_kept}
 use Rattle.et_loop.proofs.Dates.{some_dead}
 
 none_or : (b : Bool) → let n : ℕ = if b then 0 else 0 in n ≡ 0
@@ -68,8 +68,25 @@ module _ (graphs : ℕ → Graph) where
         },
       )
 
+  -- A TIE
+  pub told_tied : (e : ℕ) (g h : Graph) (stamps : ℕ → ℕ) → IsToldByStamps graphs e g stamps → IsTie g h → IsToldByStamps graphs e h stamps
+  told_tied e g h stamps told tie =
+      let turns = told.0 in
+      let is = told.1 in
+      let whole = graph_after turns in
+      let sound = history_sound turns is.history in (
+        Tied (whole_tied whole h) ∷ turns,
+        record {
+          history = (is.history, tie_whole g whole h is.kept sound tie);
+          kept = tie_kept g whole h is.kept sound tie;
+          steps_so_far = is.steps_so_far;
+          stamps_are = is.stamps_are;
+          was = is.was;
+        },
+      )
+
   pub told_settled : (due : Bool) (e : ℕ) (g h : Graph) (stamps : ℕ → ℕ) → IsToldByStamps graphs e g stamps → Settles due g h → IsToldByStamps graphs e h stamps
-  told_settled true e g h stamps told s = told_flushed e g h stamps told s
+  told_settled true e g h stamps told s = told_tied e s.0 h stamps (told_flushed e g s.0 stamps told s.1) s.2
   told_settled false e g h stamps told s = subst (λ (x : Graph). IsToldByStamps graphs e x stamps) (sym s) told
 
   -- A STEP

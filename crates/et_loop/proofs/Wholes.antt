@@ -1,12 +1,13 @@
--- The graph that is kept and the whole one: what is reached, legal steps and flushes.
+-- The graph that is kept and the whole one: what is reached, legal steps, flushes and ties.
 use Rattle.std.proofs.Common.{◌≡◌, ℕ, ◌==◌, ◌↔◌, Bool, List, [], ◌∷◌, ◌++◌, filter, Contains, refl, sym, ◌∙◌, subst, inl, inr, arith}
 use Rattle.std.specs.List.{list_any}
 use Rattle.std.proofs.lemmas.List.Elements.{Contains-append_left, Contains-append_right, Contains-append_cases}
 use Rattle.et_graph.specs.Graph.{Graph, IsWalk, LeadsTo, IsReached, IsDead, AreDead, IsSoundGraph}
-use Rattle.et_graph.specs.Steps.{Step, IsKnown, IsRemoved, IsAdded, IsLegalStep, IsFlush}
+use Rattle.et_graph.specs.Steps.{Step, IsKnown, IsRemoved, IsAdded, IsLegalStep, IsTie, IsFlush}
 use Rattle.et_base.proofs.Lists.{has_contains, contains_has, cases_number, filter_kept, filter_keeps}
 use Rattle.et_graph.proofs.Walks.{walk_more}
 use Rattle.et_graph.proofs.Sound.{reached_held, fresh_range}
+use Rattle.et_graph.proofs.Ties.{tied_pair}
 use Rattle.et_graph.specs.Cleared.{IsCleared}
 use Rattle.et_loop.specs.Kept.{IsKeptPart}
 
@@ -176,5 +177,47 @@ module _ (g whole h : Graph) (reports : List ℕ) (kept : IsKeptPart g whole) (s
     pairs = λ u x. (
       (λ c. let b = (cleared.pairs u x).0 c in (((kept.pairs u x).0 b.0).0, b.1)),
       (λ b. (cleared.pairs u x).1 ((kept.pairs u x).1 (b.0, (λ gone. b.1 ((cleared.gone u).1 (inl (there whole.gone g.gone u (sym kept.gone) gone))))), b.1)),
+    );
+  }
+
+-- A TIE
+
+-- the whole graph with the pairs of h as well
+abbrev pub whole_tied : Graph → Graph → Graph
+whole_tied whole h = record whole { pairs = whole.pairs ++ h.pairs }
+
+module _ (g whole h : Graph) (kept : IsKeptPart g whole) (sound : IsSoundGraph whole) (tie : IsTie g h) where
+  -- a tie of what is kept is one of all
+  pub tie_whole : IsTie whole (whole_tied whole h)
+  tie_whole = record {
+    made = refl;
+    roots = refl;
+    pairs_kept = λ u x c. Contains-append_left whole.pairs h.pairs (u, x) c;
+    pairs_reached = λ u x c new. elim (Contains-append_cases whole.pairs h.pairs (u, x) c) [
+      | inl d ↦ absurd (new d)
+      | inr d ↦
+          let both = tie.pairs_reached u x d (λ old. new ((kept.pairs u x).0 old).0) in
+          (reached_whole g whole kept u both.0, reached_whole g whole kept x both.1)
+    ];
+    gone = refl;
+  }
+
+  held_tied : (u x : ℕ) → Contains h.pairs (u, x) → ¬ Contains whole.gone u
+  held_tied u x c = elim (tied_pair g h tie u x c) [
+    | inl d ↦ ((kept.pairs u x).0 d).1
+    | inr both ↦ reached_held whole sound u (reached_whole g whole kept u both.0)
+  ]
+
+  pub tie_kept : IsKeptPart h (whole_tied whole h)
+  tie_kept = record {
+    made = tie.made ∙ kept.made;
+    roots = tie.roots ∙ kept.roots;
+    gone = tie.gone ∙ kept.gone;
+    pairs = λ u x. (
+      (λ c. (Contains-append_right whole.pairs h.pairs (u, x) c, held_tied u x c)),
+      (λ b. elim (Contains-append_cases whole.pairs h.pairs (u, x) b.0) [
+        | inl d ↦ tie.pairs_kept u x ((kept.pairs u x).1 (d, b.1))
+        | inr d ↦ d
+      ]),
     );
   }

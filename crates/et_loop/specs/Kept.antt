@@ -2,7 +2,7 @@
 use Rattle.std.specs.Prelude.{◌≡◌, ℕ, ◌↔◌, Bool, true, false, List, Contains}
 use Rattle.et_graph.specs.Graph.{Graph}
 use Rattle.et_graph.specs.Steps.{IsLegalStep}
-use Rattle.et_graph.specs.Cleared.{IsCleared}
+use Rattle.et_graph.specs.Cleared.{IsClearedAndTied}
 
 -- g is the whole graph without the pairs of gone objects
 pub record IsKeptPart (g whole : Graph) : Type 0 where
@@ -17,5 +17,5 @@ IsStepTo g h lost = (fresh : List ℕ) × IsLegalStep g (record { after = h; fre
 
 -- h is what a flush leaves of g where one is due, and g itself where none is
 abbrev pub Settles : Bool → Graph → Graph → Type 0
-Settles true g h = IsCleared g h
+Settles true g h = IsClearedAndTied g h
 Settles false g h = h ≡ g

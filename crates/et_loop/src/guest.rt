@@ -6,7 +6,7 @@ ghost use Rattle.et_state.specs.Outcome.{Outcome, state_after};
 ghost use Rattle.et_state.specs.Naming.{Names, IsNamed};
 ghost use Rattle.et_state.specs.Answers.{Answers, TicksWhereDone};
 ghost use Rattle.et_graph.specs.Listed.{AreListed};
-ghost use Rattle.et_graph.specs.Cleared.{IsCleared};
+ghost use Rattle.et_graph.specs.Cleared.{IsClearedAndTied};
 ghost use Rattle.et_loop.specs.Stamping.{StepsWhereDone};
 
 use crate::program::Program;
@@ -89,8 +89,8 @@ pub trait Guest {
         ensures { death_pairs result.now ≡ deaths_of room.now };
 
     /// Lists the dead objects, each with the greatest stamp of those that lead to it, takes them out, and clears the
-    /// references to them. After `NoMemory`, which may come while the roots are listed, the machine may only be dropped.
-    /// Whatever it answers, it visits no more objects than such a flush does.
+    /// references to them. Then it may tie objects that are reached. After `NoMemory`, which may come while the roots are
+    /// listed, the machine may only be dropped. Whatever it answers, it visits no more objects than such a flush does.
     fn flush<L: Ledger>(
         &mut self,
         code: &Self::Code,
@@ -111,7 +111,7 @@ pub trait Guest {
             ((o : ℕ) → IsTrue (here o) ↔ IsReached (graph_of (state self.old)) o) →
             visits.new ≤ visits.old + flush_visits_of here (state self.old) }
         ensures graph { OnOk result
-            (IsCleared (graph_of (state self.old)) (graph_of (state self.new))) }
+            (IsClearedAndTied (graph_of (state self.old)) (graph_of (state self.new))) }
         ensures clock { OnOk result (clock_of (state self.new) ≡ clock_of (state self.old)) }
         ensures sound { OnOk result (is_sound code.now (state self.new)) };
 

@@ -3,7 +3,7 @@
 
 ghost use Rattle.std.specs.Prelude.{ℕ, ◌↔◌, List};
 ghost use Rattle.et_graph.specs.Graph.{Graph, IsReached, AreDead, IsSoundGraph};
-ghost use Rattle.et_graph.specs.Steps.{IsLegalStep, IsFlush};
+ghost use Rattle.et_graph.specs.Steps.{IsLegalStep, IsTie, IsFlush};
 ghost use Rattle.et_graph.specs.Cleared.{IsCleared};
 ghost use Rattle.et_loop.specs.Kept.{IsKeptPart};
 
@@ -21,9 +21,15 @@ pub fn step()
         × IsLegalStep whole (record { after = after; fresh = fresh; lost = lost }) }
 {}
 
-/// A flush of what is kept is one of the whole graph.
+/// What is cleared of what is kept is flushed of the whole graph.
 pub fn flush()
     ensures { (g whole h : Graph) (reports : List ℕ) → IsKeptPart g whole → IsSoundGraph whole →
         IsCleared g h → AreDead g reports →
         (after : Graph) × IsKeptPart h after × IsFlush whole reports after }
+{}
+
+/// A tie of what is kept is one of the whole graph.
+pub fn tie()
+    ensures { (g whole h : Graph) → IsKeptPart g whole → IsSoundGraph whole → IsTie g h →
+        (after : Graph) × IsKeptPart h after × IsTie whole after }
 {}

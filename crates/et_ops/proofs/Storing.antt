@@ -13,9 +13,8 @@ use Rattle.et_state.specs.State.{Kept, MachineState, kept_of}
 use Rattle.et_state.specs.Words.{top, with_top, HasFrame, ticked, begun, steps_top}
 use Rattle.et_state.specs.Sound.{IsSound}
 use Rattle.et_state.specs.Moves.{Moves, Led}
-use Rattle.et_state.proofs.Places.{moves_none, moves_left, moves_right}
+use Rattle.et_state.proofs.Places.{moves_none, moves_left, moves_right, top_root, part_contained}
 use Rattle.et_state.proofs.Steps.{MayEnter, MayBeLost, did_here, did_begin, did_pop, did_step, did_set_local, did_set_pc, did_led, operand_held, operand_there, local_there, root_there}
-use Rattle.et_state.proofs.Places.{top_root, part_contained}
 use Rattle.et_event.specs.Plain.{freed, one_stored, long_stored, other_half_unset}
 use Rattle.et_ops.specs.Tops.{half_beside, half_of, unset_at, refs_at}
 

@@ -21,7 +21,7 @@ use Rattle.et_state.specs.Words.{top, with_top, HasFrame, ticked, begun, steps_t
 use Rattle.et_state.specs.Roots.{graph_of}
 use Rattle.et_state.specs.Sound.{IsSound}
 use Rattle.et_state.specs.Moves.{IsOnWay, Led}
-use Rattle.et_state.proofs.Places.{string_root, refs_of-unset}
+use Rattle.et_state.proofs.Places.{string_root, leads-new}
 use Rattle.et_state.proofs.UnderWay.{root_is_reached}
 use Rattle.et_state.proofs.Calls.{on_intern}
 use Rattle.et_state.proofs.Steps.{Did, did_here, did_begin, did_push, did_set_pc, did_on_way, did_led, led_made, made_on_way, newest_held, with_top_root}
@@ -31,8 +31,7 @@ use Rattle.et_state.specs.declared.ends.EventEnd.TheVariants as ends
 use Rattle.et_state.specs.Outcome.{Outcome, Goes, ObjectLimit}
 use Rattle.et_program.specs.Entries.{Linked, class_at}
 use Rattle.et_event.specs.Errors.{class_called}
-use Rattle.et_event.specs.Moments.{Moment, moment, Doing, current_frame, begins, instance_made, next_object, with_frame, ends_event as ending, fits_heap, ill_typed}
-use Rattle.et_event.specs.Moments.{doing_with_guest as doing_with}
+use Rattle.et_event.specs.Moments.{Moment, moment, Doing, current_frame, begins, instance_made, next_object, with_frame, ends_event as ending, fits_heap, ill_typed, doing_with_guest as doing_with}
 use Rattle.et_event.specs.Checks.{ill_typed_unless}
 use Rattle.et_event.specs.Sites.{Site, AString}
 use Rattle.et_event.specs.Strings.{interned, string_object}
@@ -123,7 +122,7 @@ made_led m t class slots pc bytes m₁ m₂ m₃ m₄ m₅ sound has e₁ e₂ e
     let f : FrameState = top m.guest t in
     let b : MachineState = begun (record m { heap = m.heap ++ Some y ∷ [] }) in
     let b₁ : MachineState = with_guest b (with_string b.guest bytes n) in
-    let w : IsOnWay s b₁ = on_intern s b bytes n (made_on_way m y sound (refs_of-unset slots) refl) (newest_held m.heap y) in
+    let w : IsOnWay s b₁ = on_intern s b bytes n (made_on_way m y sound (leads-new class 0 slots) refl) (newest_held m.heap y) in
     let is₃ : m₃ ≡ b₁ = e₃ ∙ ap (λ (z : MachineState). begun z) (e₂ ∙ ap (λ (z : MachineState). with_guest z (with_string z.guest bytes n)) e₁) in
     let has₁ : HasFrame b₁.guest t = record { thread = has.thread; frame = has.frame } in
     let d₃ : Did s b₁ t f [] m₃ = did_here s b₁ t m₃ has₁ is₃ in

@@ -93,7 +93,7 @@ replaced n vs pc f = record f { pc = pc; operands = vs ++ drop n f.operands }
 operand_in_frame : (f : FrameState) (o : ℕ) → Contains (refs_of f.operands) o → Contains (frame_roots f) o
 operand_in_frame f o c = Contains-append_right (refs_of f.locals) _ o (Contains-append_left (refs_of f.operands) _ o c)
 
-taken_in_frame : (n : ℕ) (f : FrameState) (o : ℕ) → Contains (refs_of (take n f.operands)) o → Contains (frame_roots f) o
+pub taken_in_frame : (n : ℕ) (f : FrameState) (o : ℕ) → Contains (refs_of (take n f.operands)) o → Contains (frame_roots f) o
 taken_in_frame n f o c = operand_in_frame f o (subst (λ (os : List ℕ). Contains os o) (sym (taken_or_left f.operands n)) (Contains-append_left (refs_of (take n f.operands)) _ o c))
 
 pub moves_replaced : (m : MachineState) (t n pc : ℕ) (vs : List Value) → HasFrame m.guest t → ((o : ℕ) → Contains (refs_of vs) o → Contains (frame_roots (top m.guest t)) o)

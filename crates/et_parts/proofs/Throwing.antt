@@ -11,7 +11,7 @@ use Rattle.et_state.specs.Words.{thread_at, with_thread, HasFrame, ticked, begun
 use Rattle.et_state.specs.Roots.{graph_of}
 use Rattle.et_state.specs.Sound.{IsSound}
 use Rattle.et_state.specs.Moves.{IsOnWay, Led}
-use Rattle.et_state.proofs.Places.{pending_root, refs_of-unset}
+use Rattle.et_state.proofs.Places.{pending_root, leads-new}
 use Rattle.et_state.proofs.UnderWay.{root_is_reached}
 use Rattle.et_state.proofs.Calls.{on_throw}
 use Rattle.et_state.proofs.Steps.{led_made, made_on_way, newest_held, root_there}
@@ -66,7 +66,7 @@ thrown_led m t class slots m₁ m₂ m₃ sound has e₁ e₂ e₃ =
     let lost : List ℕ = option_to_list (thread_at m.guest t).pending in
     let is : m₃ ≡ steps_thread b t x lost =
     e₃ ∙ ap (λ (z : MachineState). steps_thread z t (with_pending (Some n) (thread_at z.guest t)) (option_to_list (thread_at z.guest t).pending)) (e₂ ∙ ap begun e₁) in
-    let w : IsOnWay s b = made_on_way m y sound (refs_of-unset slots) refl in
+    let w : IsOnWay s b = made_on_way m y sound (leads-new class 0 slots) refl in
     let next : IsOnWay s (steps_thread b t x lost) = on_throw s b t n w has.thread (newest_held m.heap y) (λ q c. root_there s (kept_of b) q (pending_root m.guest t q has.thread c)) in
     let g : GuestState = with_thread (ticked m.guest) t x in
     let k : Kept = record { heap = m.heap ++ Some y ∷ []; guest = g } in

@@ -46,7 +46,7 @@ pub struct MethodInfo {
     pub flags: u16,
     /// The code; `None` where it is abstract or native, or a built-in that the machine runs itself.
     pub code: Option<Code>,
-    /// Whether it is a built-in method without code of Thread, Reference or WeakReference.
+    /// Whether it is a built-in method without code of Thread, Reference, WeakReference or ReferenceQueue.
     pub deferred: bool,
 }
 

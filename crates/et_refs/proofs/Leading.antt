@@ -13,7 +13,7 @@ use Rattle.et_state.specs.State.{Kept, MachineState, kept_of}
 use Rattle.et_state.specs.Words.{top, with_top, HasFrame, ticked, begun, steps_top, steps_object}
 use Rattle.et_state.specs.Sound.{IsSound}
 use Rattle.et_state.specs.Moves.{Moves, IsOnWay, Led}
-use Rattle.et_state.proofs.Places.{top_root, refs_of-unset}
+use Rattle.et_state.proofs.Places.{top_root, leads-new}
 use Rattle.et_state.proofs.UnderWay.{root_is_reached}
 use Rattle.et_state.proofs.Calls.{on_begin_event, on_set_slot}
 use Rattle.et_state.proofs.Steps.{then_top, MayEnter, MayBeLost, did_led, did_make, did_on_way, led_plain, root_there, slot_there, newest_held}
@@ -136,7 +136,7 @@ make_led m t class elements pc m₁ m₂ m₃ sound has e₁ e₂ e₃ =
     let is : m₃ ≡ steps_top b t g (refs_of (take 1 f.operands)) =
     e₃ ∙ ap (λ (x : MachineState). steps_top x t (replaced 1 (Ref n ∷ []) pc (top x.guest t)) (refs_of (take 1 (top x.guest t).operands))) (e₂ ∙ ap begun e₁) in
     let one : (o : ℕ) → Contains (n ∷ []) o → IsHeld b.heap o = λ o c. subst (λ (k : ℕ). IsHeld b.heap k) (newest n o c) (newest_held m.heap y) in
-    did_make m t g (refs_of (take 1 f.operands)) y m₃ sound has (refs_of-unset elements) refl
+    did_make m t g (refs_of (take 1 f.operands)) y m₃ sound has (leads-new class elements elements) refl
     (record { is = is; moves = moves_held (MayEnter b) (MayBeLost (kept_of m) b) f 1 pc (Ref n ∷ []) one (λ o c. root_there (kept_of m) (kept_of b) o (top_root m.guest t o has c)) })
     (operand_inside g n (Contains-here n _))
   where

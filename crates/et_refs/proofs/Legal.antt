@@ -11,7 +11,7 @@ use Rattle.et_heap.specs.Refs.{refs_of_value, refs_of}
 use Rattle.et_program.specs.Entries.{class_at}
 use Rattle.et_state.specs.State.{Kept, MachineState, kept_of}
 use Rattle.et_state.specs.Moves.{IsUnderWay, WasThere}
-use Rattle.et_state.proofs.Places.{part_contained, refs_of-unset}
+use Rattle.et_state.proofs.Places.{part_contained, leads-new}
 use Rattle.et_state.proofs.UnderWay.{law_make}
 use Rattle.et_state.proofs.Calls.{on_heap_set_slot}
 use Rattle.et_state.proofs.Steps.{new_there, newest_held}
@@ -50,7 +50,7 @@ begun e c n d s lost w =
     let here : object_at heap (length d.state.heap) ≡ y = ap (λ (x : Option ObjectState). found x) (get_or_at d.state.heap (Some y) [] None (length d.state.heap) refl) in
     record {
       made = record {
-        way = law_make s d.state lost y w (refs_of-unset n) refl;
+        way = law_make s d.state lost y w (leads-new c n n) refl;
         guest = refl;
         grown = omega (arith, long);
         first = newest_held d.state.heap y;

@@ -3,7 +3,7 @@ use Rattle.std.proofs.Common.{◌≡◌, ◌+◌, Result, Ok, Err, List, sym, ap
 use Rattle.std.specs.Prelude.{All, IfOk, OnOk}
 use Rattle.std.proofs.lemmas.List.Elements.{All-append}
 use Rattle.et_program.specs.Entries.{Linked}
-use Rattle.et_state.specs.Roots.{graph_of}
+use Rattle.et_state.specs.Roots.{graph_of, fresh_of}
 use Rattle.et_state.specs.State.{Kept, MachineState, kept_of}
 use Rattle.et_state.specs.declared.records.Record.{Record}
 use Rattle.et_state.specs.declared.ends.EventEnd.{EventEnd}
@@ -16,7 +16,6 @@ use Rattle.et_event.specs.Answered.{EventAnswers}
 use Rattle.et_event.specs.Sound.{IsSoundFor}
 use Rattle.et_loop.specs.Kept.{IsStepTo}
 use Rattle.et_loop.specs.Stamping.{StepsWhereDone}
-use Rattle.et_state.specs.Roots.{fresh_of}
 use Rattle.et_state.specs.Moves.{Led}
 use Rattle.et_history.specs.Telling.{IsToldOf}
 use Rattle.et_history.specs.Changing.{LeadsToSound}

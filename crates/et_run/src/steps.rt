@@ -6,7 +6,7 @@ ghost use Rattle.et_history.specs.Settings.{IsSoundRun, flush_visits_of, unended
 ghost use Rattle.et_state.specs.Roots.{graph_of};
 ghost use Rattle.et_state.specs.State.{kept_of};
 ghost use Rattle.et_loop.specs.Stamping.{StepsWhereDone};
-ghost use Rattle.et_graph.specs.Cleared.{IsCleared};
+ghost use Rattle.et_graph.specs.Cleared.{IsClearedAndTied};
 ghost use Rattle.et_graph.specs.Listed.{AreListed};
 ghost use Rattle.et_state.specs.Answers.{Answers, TicksWhereDone};
 ghost use Rattle.et_state.specs.Naming.{IsNamed};
@@ -77,7 +77,7 @@ pub fn machine_flush<L: Ledger>(
         ((o : ℕ) → IsTrue (here o) ↔ IsReached (graph_of (kept_of machine.old)) o) →
         visits.new ≤ visits.old + flush_visits_of here (kept_of machine.old) }
     ensures graph { OnOk result
-        (IsCleared (graph_of (kept_of machine.old)) (graph_of (kept_of machine.new))) }
+        (IsClearedAndTied (graph_of (kept_of machine.old)) (graph_of (kept_of machine.new))) }
     ensures clock { OnOk result (machine.new.guest.clock ≡ machine.old.guest.clock) }
     ensures sound { OnOk result (IsSoundRun _program.now (kept_of machine.new)) }
 {

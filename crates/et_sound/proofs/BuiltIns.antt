@@ -1,5 +1,5 @@
 -- The built-in methods without code.
-use Rattle.std.proofs.Common.{◌≡◌, ℕ, ◌+◌, ◌<◌, ◌≤◌, Bool, true, false, List, [], ◌∷◌, ◌++◌, length, drop, Option, Some, None, refl, sym, ◌∙◌, ap, subst, inr, arith, get_or-set_same}
+use Rattle.std.proofs.Common.{◌≡◌, ℕ, ◌+◌, ◌<◌, ◌≤◌, Bool, true, false, List, [], ◌∷◌, ◌++◌, length, drop, Option, Some, None, Contains, refl, sym, ◌∙◌, ap, subst, inr, arith, get_or-set_same}
 use Rattle.std.specs.Prelude.{nat_le, nat_lt, codes, find, if◌then◌else◌, option_map}
 use Rattle.std.specs.List.{list_all}
 use Rattle.std.specs.Str.{bytes_eq}
@@ -23,7 +23,7 @@ use Rattle.et_event.specs.declared.rows.BuiltIn.{BuiltIn}
 use Rattle.et_event.specs.declared.rows.Operand.TheVariants as operand
 use Rattle.et_event.specs.declared.rows.BuiltIn.TheVariants as built_in
 use Rattle.et_event.specs.declared.errors.GuestError.TheVariants.{AbstractMethodError, IllegalThreadStateException, OutOfMemoryError}
-use Rattle.et_event.specs.BuiltIns.{built_ins, is_called, built_in_of, argument, answering, reference_in, with_referent_of, reference_of, starts_thread, with_thread_for, has_thread_ended, is_object_of_class, built_in_row, done_by, built_in_event}
+use Rattle.et_event.specs.BuiltIns.{built_ins, is_called, built_in_of, argument, answering, reference_in, with_referent_of, reference_of, starts_thread, with_thread_for, has_thread_ended, is_object_of_class, built_in_row, done_by, built_in_event, with_reference_made, with_first_taken, is_null_or_of_class}
 use Rattle.et_event.specs.Calls.{begin_with, is_empty, are_arguments}
 use Rattle.et_event.specs.Checks.{reference_value, ill_typed_unless}
 use Rattle.et_event.specs.Errors.{class_called}
@@ -39,9 +39,11 @@ use Rattle.et_sound.proofs.Fields.{going}
 use Rattle.et_sound.proofs.Monitors.{started_well}
 use Rattle.et_sound.proofs.Objects.{heap_now, object_is_sound}
 use Rattle.et_sound.proofs.Outcomes.{goes_sound, throws_sound, unless_ill_typed, unless_thrown, unless_waiting}
-use Rattle.et_sound.proofs.Slots.{slot_well, slot_fits, referent_well, fits_still, updated_state}
+use Rattle.et_sound.proofs.Slots.{slot_well, slot_fits, referent_well, fits_still, updated_state, reference_well, first_taken_well, reference_fits, first_taken_fits}
 use Rattle.et_event.specs.Runnable.{IsRunnable}
 use Rattle.et_sound.proofs.Entering.{framed_going}
+use Rattle.et_heap.specs.Queues.{first_value}
+use Rattle.et_state.proofs.UnderWay.{waiting_pair}
 
 -- WHICH ONE: what it gives has room where its descriptor says that it returns it
 
@@ -56,8 +58,10 @@ given built_in.SetTarget = 0
 given built_in.Start = 0
 given built_in.Join = 0
 given built_in.SetReferent = 0
+given built_in.SetReferentAndQueue = 0
 given built_in.GetReferent = 1
 given built_in.ClearReferent = 0
+given built_in.Poll = 1
 
 abbrev with_descriptor : List ℕ → MethodInfo
 with_descriptor descriptor = record { class = 0; name = []; descriptor = descriptor; flags = 0; code = None; deferred = false }
@@ -270,6 +274,18 @@ module _ (e : Moment) (at : Site) (arguments : List Value) (o : ℕ) where
       let d : Doing = answering e at arguments [] (begins e) in
       goes_sound e.program (with_referent_of o r d) (fits_still e.before.heap o (with_referent r (object_at e.before.heap o)) is.held refl is.here.sound.fits) (referent_well e.program o r d (going_on b [] is (no_entries b)).well is.held)
 
+  making : (b : BuiltIn) (r q : Option ℕ) → IsBuiltIn e at arguments o b → KeepsSound e.program (goes (with_reference_made o r q (answering e at arguments [] (begins e))))
+  making b r q is =
+      let d : Doing = answering e at arguments [] (begins e) in
+      goes_sound e.program (with_reference_made o r q d) (reference_fits e.before.heap o r q is.held is.here.sound.fits) (reference_well e.program o r q d (going_on b [] is (no_entries b)).well is.held)
+
+  polling : IsBuiltIn e at arguments o built_in.Poll → KeepsSound e.program (goes (with_first_taken o (answering e at arguments (first_value (object_at e.before.heap o).waiting ∷ []) (begins e))))
+  polling is =
+      let d : Doing = answering e at arguments (first_value (object_at e.before.heap o).waiting ∷ []) (begins e) in
+      let all : (r : ℕ) → Contains (object_at e.before.heap o).waiting r → IsHeld e.before.heap r = λ r c. is.here.sound.held.slots o r (waiting_pair e.before.heap o r c) in
+      goes_sound e.program (with_first_taken o d) (first_taken_fits e.before.heap o (object_at e.before.heap o).waiting is.held all is.here.sound.fits)
+      (first_taken_well e.program o d (going_on built_in.Poll (first_value (object_at e.before.heap o).waiting ∷ []) is (omega arith)).well is.held all)
+
   pub row_sound : (b : BuiltIn) → IsBuiltIn e at arguments o b → KeepsSound e.program (built_in_row e at (begins e) arguments o b)
   row_sound built_in.Nothing is = answers built_in.Nothing [] is (no_entries built_in.Nothing)
   row_sound built_in.SetMessage is =
@@ -296,9 +312,13 @@ module _ (e : Moment) (at : Site) (arguments : List Value) (o : ℕ) where
   row_sound built_in.Start is = on_class (codes "java/lang/Thread") _ (λ below. starting is below (thread_with e.before.guest.threads o))
   row_sound built_in.Join is =
       unless_waiting e.program e (has_thread_ended (begins e) (thread_with e.before.guest.threads o)) _ is.here.sound is.here.clock (λ ended. answers built_in.Join [] is (no_entries built_in.Join))
-  row_sound built_in.SetReferent is = referring built_in.SetReferent (reference_of (argument arguments 1)) is
+  row_sound built_in.SetReferent is = making built_in.SetReferent (reference_of (argument arguments 1)) None is
+  row_sound built_in.SetReferentAndQueue is =
+      unless_ill_typed e.program e (is_null_or_of_class e (begins e) (argument arguments 2) (codes "java/lang/ref/ReferenceQueue")) _
+      (λ fit. making built_in.SetReferentAndQueue (reference_of (argument arguments 1)) (reference_of (argument arguments 2)) is)
   row_sound built_in.GetReferent is = answers built_in.GetReferent (reference_value (object_at e.before.heap o).referent ∷ []) is (omega arith)
   row_sound built_in.ClearReferent is = referring built_in.ClearReferent None is
+  row_sound built_in.Poll is = polling is
 
 -- THE EVENT of a selected method without code
 pub built_in_sound : (e : Moment) (at : Site) (arguments : List Value) (m : MethodInfo) (type : MethodType) → StandsAt e at → IsRunnable e.program → ((o : ℕ) → first_reference arguments ≡ Some o → IsHeld e.before.heap o)

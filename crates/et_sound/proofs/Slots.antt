@@ -1,5 +1,5 @@
 -- Slots of objects and static slots are written.
-use Rattle.std.proofs.Common.{◌≡◌, ℕ, ◌-◌, ◌<◌, ◌⊎◌, ◌&&◌, true, List, length, set, get_or, Option, Some, None, refl, sym, ◌∙◌, ap, subst, inl, inr, arith, get_or-set_same}
+use Rattle.std.proofs.Common.{◌≡◌, ℕ, ◌-◌, ◌<◌, ◌⊎◌, ◌&&◌, Bool, true, false, List, [], ◌∷◌, length, set, get_or, Option, Some, None, Contains, refl, sym, ◌∙◌, ap, subst, inl, inr, arith, get_or-set_same}
 use Rattle.std.specs.Prelude.{All, nat_le}
 use Rattle.std.specs.List.{slice_index_or}
 use Rattle.std.proofs.lemmas.Bool.{cases_eq}
@@ -10,22 +10,24 @@ use Rattle.et_base.specs.declared.value.Value.TheVariants.{Unset, Int, Long, Lon
 use Rattle.et_program.specs.Entries.{Linked, class_at, field_at}
 use Rattle.et_program.specs.declared.info.Element.{Element}
 use Rattle.et_program.specs.declared.info.Element.TheVariants.{NoArray}
-use Rattle.et_heap.specs.Objects.{ObjectState, Objects, IsHeld, at, object_at, slot_of, with_slot, with_referent, with_monitor, with_object_at, slots_in, slot_count, made_count, most_objects, most_slots}
+use Rattle.et_heap.specs.Objects.{ObjectState, Objects, IsHeld, at, object_at, slot_of, with_slot, with_referent, with_monitor, with_object_at, slots_in, slot_count, made_count, most_objects, most_slots, with_queue}
 use Rattle.et_heap.specs.declared.monitor.Monitor.{Monitor}
-use Rattle.et_heap.proofs.HeapLists.{held_within}
+use Rattle.et_heap.proofs.HeapLists.{held_within, held_set}
 use Rattle.et_state.specs.declared.class_state.ClassState.TheVariants.{Untouched}
 use Rattle.et_state.specs.State.{GuestState, Kept}
 use Rattle.et_state.specs.Words.{static_at, with_static, class_state_at}
 use Rattle.et_event.specs.declared.rows.Operand.{Operand}
 use Rattle.et_event.specs.Kinds.{operand_kind}
 use Rattle.et_event.specs.Moments.{Moment, Doing, updated, slot_written, static_written, fits_heap}
-use Rattle.et_event.specs.BuiltIns.{with_referent_of}
+use Rattle.et_event.specs.BuiltIns.{with_referent_of, with_queue_of, with_reference_made, with_first_taken}
 use Rattle.et_event.specs.Sound.{is_of_kind, kind_of_element, HasField, IsSoundObject, IsSoundStatic}
 use Rattle.et_sound.specs.WellFormed.{IsWellFormed}
 use Rattle.et_event.specs.Programs.{MayHold}
 use Rattle.et_sound.proofs.Growing.{Grows, objects_grow, monitors_grow, classes_grow}
 use Rattle.et_sound.proofs.Objects.{heap_now, object_well, object_is_sound, found_there}
 use Rattle.et_sound.proofs.Threads.{guest_now, object_still}
+use Rattle.et_heap.specs.Queues.{with_waits, without_first_waiting, take_first}
+use Rattle.et_base.proofs.Lists.{Contains-here}
 
 -- LISTS
 
@@ -106,6 +108,43 @@ referent_well p o r d h held =
     let was = object_is_sound p d.state o h held in
     object_well p d.state o (with_referent r x) h held (referent_sound p x r was.0) was.1 refl
 
+-- .. its queue, who waits in it, and whether it waits
+
+queue_sound : (p : Linked) (x : ObjectState) (q : Option ℕ) → IsSoundObject p x → IsSoundObject p (with_queue q x)
+queue_sound p x q h = record { class = h.class; slots = h.slots; fields = λ f lt static below. let has = h.fields f lt static below in record { slot = has.slot; value = has.value }; elements = h.elements }
+
+waits_sound : (p : Linked) (x : ObjectState) (b : Bool) → IsSoundObject p x → IsSoundObject p (with_waits b x)
+waits_sound p x b h = record { class = h.class; slots = h.slots; fields = λ f lt static below. let has = h.fields f lt static below in record { slot = has.slot; value = has.value }; elements = h.elements }
+
+first_sound : (p : Linked) (x : ObjectState) → IsSoundObject p x → IsSoundObject p (without_first_waiting x)
+first_sound p x h = record { class = h.class; slots = h.slots; fields = λ f lt static below. let has = h.fields f lt static below in record { slot = has.slot; value = has.value }; elements = h.elements }
+
+pub queue_well : (p : Linked) (o : ℕ) (q : Option ℕ) (d : Doing) → IsWellFormed p d.state → IsHeld d.state.heap o → IsWellFormed p (with_queue_of o q d).state
+queue_well p o q d h held =
+    let x : ObjectState = object_at d.state.heap o in
+    let was = object_is_sound p d.state o h held in
+    object_well p d.state o (with_queue q x) h held (queue_sound p x q was.0) was.1 refl
+
+-- a weak reference is made
+pub reference_well : (p : Linked) (o : ℕ) (r q : Option ℕ) (d : Doing) → IsWellFormed p d.state → IsHeld d.state.heap o → IsWellFormed p (with_reference_made o r q d).state
+reference_well p o r q d h held =
+    queue_well p o q (with_referent_of o r d) (referent_well p o r d h held) (held_set d.state.heap o (with_referent r (object_at d.state.heap o)) o held held)
+
+taken_well : (p : Linked) (q : ℕ) (ws : List ℕ) (s : Kept) → IsWellFormed p s → IsHeld s.heap q → ((r : ℕ) → Contains ws r → IsHeld s.heap r) → IsWellFormed p (heap_now s (take_first ws q s.heap))
+taken_well p q [] s h held all = h
+taken_well p q (r ∷ ws) s h held all =
+    let x : ObjectState = object_at s.heap q in
+    let was = object_is_sound p s q h held in
+    let first : Kept = heap_now s (with_object_at s.heap q (without_first_waiting x)) in
+    let well : IsWellFormed p first = object_well p s q (without_first_waiting x) h held (first_sound p x was.0) was.1 refl in
+    let there : IsHeld first.heap r = held_set s.heap q (without_first_waiting x) r held (all r (Contains-here r ws)) in
+    let is = object_is_sound p first r well there in
+    object_well p first r (with_waits false (object_at first.heap r)) well there (waits_sound p (object_at first.heap r) false is.0) is.1 refl
+
+-- a queue is polled
+pub first_taken_well : (p : Linked) (q : ℕ) (d : Doing) → IsWellFormed p d.state → IsHeld d.state.heap q → ((r : ℕ) → Contains (object_at d.state.heap q).waiting r → IsHeld d.state.heap r) → IsWellFormed p (with_first_taken q d).state
+first_taken_well p q d h held all = taken_well p q (object_at d.state.heap q).waiting d.state h held all
+
 -- WHAT FITS still fits where an object has as many slots as before
 
 slots_same : (heap : Objects) (o : ℕ) (y : Option ObjectState) → o < length heap → slots_in y ≡ slots_in (at heap o) → slot_count (set heap o y) ≡ slot_count heap
@@ -119,6 +158,20 @@ pub fits_still : (heap : Objects) (o : ℕ) (y : ObjectState) → IsHeld heap o 
 fits_still heap o y held same h =
     fits_as heap (with_object_at heap o y) (length-set heap o (Some y))
     (slots_same heap o (Some y) (held_within heap o held) (same ∙ sym (ap (λ (x : Option ObjectState). slots_in x) (found_there heap o held)))) h
+
+pub reference_fits : (heap : Objects) (o : ℕ) (r q : Option ℕ) → IsHeld heap o → fits_heap heap ≡ true
+    → fits_heap (with_object_at (with_object_at heap o (with_referent r (object_at heap o))) o (with_queue q (object_at (with_object_at heap o (with_referent r (object_at heap o))) o))) ≡ true
+reference_fits heap o r q held h =
+    let y : ObjectState = with_referent r (object_at heap o) in
+    let first : Objects = with_object_at heap o y in
+    fits_still first o (with_queue q (object_at first o)) (held_set heap o y o held held) refl (fits_still heap o y held refl h)
+
+pub first_taken_fits : (heap : Objects) (q : ℕ) (ws : List ℕ) → IsHeld heap q → ((r : ℕ) → Contains ws r → IsHeld heap r) → fits_heap heap ≡ true → fits_heap (take_first ws q heap) ≡ true
+first_taken_fits heap q [] held all h = h
+first_taken_fits heap q (r ∷ ws) held all h =
+    let y : ObjectState = without_first_waiting (object_at heap q) in
+    let first : Objects = with_object_at heap q y in
+    fits_still first r (with_waits false (object_at first r)) (held_set heap q y r held (all r (Contains-here r ws))) refl (fits_still heap q y held refl h)
 
 pub slot_fits : (e : Moment) (o i : ℕ) (v : Value) (d : Doing) → IsHeld d.state.heap o → fits_heap d.state.heap ≡ true → fits_heap (slot_written e o i v d).state.heap ≡ true
 slot_fits e o i v d held h =

@@ -1,6 +1,6 @@
 //! What each word that changes a state keeps. Each law is a function with an empty body: what it promises is its contract.
 
-ghost use Rattle.std.specs.Prelude.{◌≡◌, unwrap_or, ℤ, ◌+◌, Bool, find, ◌<◌, ◌≤◌, ◌^◌, ℕ, true, List, [], ◌∷◌, ◌++◌, Option, Some, None, Ok, length, slice_index_or};
+ghost use Rattle.std.specs.Prelude.{◌≡◌, unwrap_or, ℤ, ◌+◌, Bool, find, ◌<◌, ◌≤◌, ◌^◌, ℕ, true, List, [], ◌∷◌, ◌++◌, Contains, Option, Some, None, Ok, length, slice_index_or};
 ghost use Rattle.et_base.specs.declared.value.Value.{Value};
 ghost use Rattle.et_base.specs.declared.value.Value.TheVariants as values;
 ghost use Rattle.et_code.specs.declared.body.TableRow.{TableRow};
@@ -9,7 +9,7 @@ ghost use Rattle.et_code.specs.Bodies.{Body};
 ghost use Rattle.et_code.specs.Decoding.{instruction_at};
 ghost use Rattle.et_code.specs.declared.instr.Instr.{Instr};
 ghost use Rattle.et_event.specs.Answered.{EventAnswers};
-ghost use Rattle.et_event.specs.BuiltIns.{with_referent_of, with_thread_for};
+ghost use Rattle.et_event.specs.BuiltIns.{with_first_taken, with_queue_of, with_referent_of, with_thread_for};
 ghost use Rattle.et_event.specs.Calls.{frame_returned};
 ghost use Rattle.et_event.specs.Frames.{receiver_of, method_frame, frame_entered, frames_after_return};
 ghost use Rattle.et_event.specs.declared.errors.GuestError.TheVariants as errors;
@@ -151,6 +151,19 @@ pub fn reads_have_width()
 pub fn referent_is_set()
     ensures { (p : Linked) (o : ℕ) (r : Option ℕ) (d : Doing) → IsWellFormed p d.state →
         IsHeld d.state.heap o → IsWellFormed p (with_referent_of o r d).state }
+{}
+
+/// The queue of a reference is set.
+pub fn queue_is_set()
+    ensures { (p : Linked) (o : ℕ) (q : Option ℕ) (d : Doing) → IsWellFormed p d.state →
+        IsHeld d.state.heap o → IsWellFormed p (with_queue_of o q d).state }
+{}
+
+/// The first reference that waits in a queue is taken out of it.
+pub fn first_is_taken()
+    ensures { (p : Linked) (q : ℕ) (d : Doing) → IsWellFormed p d.state → IsHeld d.state.heap q →
+        ((r : ℕ) → Contains (object_at d.state.heap q).waiting r → IsHeld d.state.heap r) →
+        IsWellFormed p (with_first_taken q d).state }
 {}
 
 /// The monitor of an object or of a class is entered once (JVMS 2.11.10), and all fits as before. Before that nobody has

@@ -1,11 +1,14 @@
 -- The law of drafts for each call of the machine and its heap.
-use Rattle.std.proofs.Common.{◌≡◌, ℕ, ◌<◌, List, [], ◌∷◌, ◌++◌, length, Option, Some, None, Contains, refl, sym, subst, inl, inr, arith, append-nil, option_to_list}
+use Rattle.std.proofs.Common.{◌≡◌, ℕ, ◌<◌, false, List, [], ◌∷◌, ◌++◌, length, Option, Some, None, Contains, refl, sym, ◌∙◌, subst, inl, inr, arith, append-nil, option_to_list}
+use Rattle.std.proofs.lemmas.List.{length-set}
 use Rattle.std.proofs.lemmas.List.Elements.{Contains-append_left}
 use Rattle.et_base.specs.declared.value.Value.{Value}
-use Rattle.et_base.proofs.Lists.{Contains-none, Contains-cons}
+use Rattle.et_base.proofs.Lists.{Contains-none, Contains-here, Contains-cons}
 use Rattle.et_heap.specs.declared.monitor.Monitor.{Monitor}
-use Rattle.et_heap.specs.Objects.{IsHeld, object_at, new_object, slot_of, with_slot, with_referent, with_monitor}
-use Rattle.et_heap.specs.Refs.{refs_of_value, refs_of}
+use Rattle.et_heap.specs.Objects.{IsHeld, object_at, new_object, slot_of, with_slot, with_referent, with_queue, with_monitor, with_object_at, Objects, referent_value}
+use Rattle.et_heap.specs.Refs.{refs_of_value, refs_of, leads_to}
+use Rattle.et_heap.specs.Queues.{first_value, with_waits, without_first_waiting, take_first, polled}
+use Rattle.et_heap.proofs.HeapLists.{held_set}
 use Rattle.et_state.specs.Threads.{FrameState, at_pc, pushed, popped, without_operands, with_local, operand_of, local_of, in_clinit, without_top, entered_by, with_pending, as_entered, as_ended, ended_roots, new_thread}
 use Rattle.et_state.specs.ThreadRoots.{frame_roots}
 use Rattle.et_state.specs.declared.class_state.ClassState.{ClassState}
@@ -14,10 +17,10 @@ use Rattle.et_state.specs.Words.{thread_at, with_new_thread, top, HasFrame, IsUn
 use Rattle.et_state.specs.Roots.{roots_of}
 use Rattle.et_state.specs.Sound.{IsSound}
 use Rattle.et_state.specs.Moves.{Moves, WasThere, MayBeTied, IsUnderWay, IsOnWay, AreInHeap, WereThere}
-use Rattle.et_state.proofs.Places.{moves_none, frame_push, frame_pop, frame_clear, frame_set_local, frame_in_clinit, guest_top, guest_dropped, guest_entered, guest_pending, guest_started, guest_ended, guest_set_entered, guest_static, guest_interned, moves_place, refs_of-unset}
-use Rattle.et_state.proofs.UnderWay.{start, law_guest, law_lose, law_object, law_slots, law_beside, law_make}
+use Rattle.et_state.proofs.Places.{moves_none, frame_push, frame_pop, frame_clear, frame_set_local, frame_in_clinit, guest_top, guest_dropped, guest_entered, guest_pending, guest_started, guest_ended, guest_set_entered, guest_static, guest_interned, moves_place, moves_left, moves_right, moves_anew, moves_first, leads-new}
+use Rattle.et_state.proofs.UnderWay.{start, law_guest, law_lose, law_object, law_leads, law_beside, law_make, waiting_pair}
 
-only_held : (H : ℕ → Type 0) (o : ℕ) → H o → (p : ℕ) → Contains (o ∷ []) p → H p
+pub only_held : (H : ℕ → Type 0) (o : ℕ) → H o → (p : ℕ) → Contains (o ∷ []) p → H p
 only_held H o h p c = elim (Contains-cons o [] p c) [ inl e ↦ subst H e h | inr d ↦ absurd (Contains-none p d) ]
 
 -- root places change
@@ -103,7 +106,7 @@ pub on_set_slot : (s : Kept) (m : MachineState) (o i : ℕ) (v : Value) → IsOn
     → AreInHeap m (refs_of_value v) → WereThere s m (refs_of_value v) → WereThere s m (refs_of_value (slot_of (object_at m.heap o) i))
     → IsOnWay s (steps_object m o (with_slot i v (object_at m.heap o)) (refs_of_value (slot_of (object_at m.heap o) i)))
 on_set_slot s m o i v w held there lt new known were =
-    let moves = moves_place (MayBeTied s (kept_of m)) (WasThere s (kept_of m)) (object_at m.heap o).slots i v lt (λ r c. (new r c, known r c)) were in
+    let moves = moves_left _ _ _ _ (refs_of_value (slot_of (object_at m.heap o) i)) (option_to_list (object_at m.heap o).queue ++ (object_at m.heap o).waiting) (moves_place (MayBeTied s (kept_of m)) (WasThere s (kept_of m)) (object_at m.heap o).slots i v lt (λ r c. (new r c, known r c)) were) in
     law_object s (kept_of m) m.lost o (with_slot i v (object_at m.heap o)) (refs_of_value (slot_of (object_at m.heap o) i)) w held there moves (λ r e. w.sound.referents o r e)
 
 -- the old target is lost already
@@ -112,9 +115,9 @@ pub on_heap_set_slot : (s : Kept) (m : MachineState) (o i : ℕ) (v : Value) →
     → IsOnWay s (with_object m o (with_slot i v (object_at m.heap o)))
 on_heap_set_slot s m o i v w held there lt new known lost =
     let old : Value = slot_of (object_at m.heap o) i in
-    let moves = moves_place (λ r. IsHeld m.heap r × WasThere s (kept_of m) r) (λ r. Contains m.lost r) (object_at m.heap o).slots i v lt (λ r c. (new r c, known r c)) lost in
+    let moves = moves_left _ _ _ _ (refs_of_value old) (option_to_list (object_at m.heap o).queue ++ (object_at m.heap o).waiting) (moves_place (λ r. IsHeld m.heap r × WasThere s (kept_of m) r) (λ r. Contains m.lost r) (object_at m.heap o).slots i v lt (λ r c. (new r c, known r c)) lost) in
     lost_same s (kept_of (with_object m o (with_slot i v (object_at m.heap o)))) m.lost
-    (law_slots s (kept_of m) m.lost o (with_slot i v (object_at m.heap o)) [] w held there moves.on
+    (law_leads s (kept_of m) m.lost o (with_slot i v (object_at m.heap o)) [] w held there moves.on
     (λ r c. elim (moves.off r c) [ inl d ↦ inl d | inr d ↦ inr (Contains-append_left m.lost [] r (lost r d)) ]) (λ r c. absurd (Contains-none r c)) (λ r e. w.sound.referents o r e))
 
 pub on_set_referent : (s : Kept) (m : MachineState) (o : ℕ) (r : Option ℕ) → IsOnWay s m → IsHeld m.heap o → AreInHeap m (option_to_list r) → IsOnWay s (with_object m o (with_referent r (object_at m.heap o)))
@@ -126,5 +129,56 @@ on_set_referent s m o r w held new = law_beside s (kept_of m) m.lost o (with_ref
 pub on_set_monitor : (s : Kept) (m : MachineState) (o : ℕ) (x : Monitor) → IsOnWay s m → IsHeld m.heap o → IsOnWay s (with_object m o (with_monitor x (object_at m.heap o)))
 on_set_monitor s m o x w held = law_beside s (kept_of m) m.lost o (with_monitor x (object_at m.heap o)) w held refl (λ p e. w.sound.referents o p e)
 
+-- QUEUES
+
+moves_queue : (H R : ℕ → Type 0) (was q : Option ℕ) → ((o : ℕ) → Contains (option_to_list q) o → H o) → ((o : ℕ) → Contains (refs_of_value (referent_value was)) o → R o) → Moves H R (option_to_list was) (option_to_list q) (refs_of_value (referent_value was))
+moves_queue H R None q h r = moves_anew H R [] (option_to_list q) h r
+moves_queue H R (Some o) q h r = moves_anew H R (o ∷ []) (option_to_list q) h r
+
+-- a queue in the place of another, which is lost
+pub on_set_queue : (s : Kept) (m : MachineState) (o : ℕ) (q : Option ℕ) → IsOnWay s m → IsHeld m.heap o → WasThere s (kept_of m) o
+    → AreInHeap m (option_to_list q) → WereThere s m (option_to_list q) → WereThere s m (refs_of_value (referent_value (object_at m.heap o).queue))
+    → IsOnWay s (steps_object m o (with_queue q (object_at m.heap o)) (refs_of_value (referent_value (object_at m.heap o).queue)))
+on_set_queue s m o q w held there new known were =
+    let x = object_at m.heap o in
+    let l = refs_of_value (referent_value x.queue) in
+    let moves = moves_right _ _ _ _ l (refs_of x.slots) (moves_left _ _ _ _ l x.waiting (moves_queue (MayBeTied s (kept_of m)) (WasThere s (kept_of m)) x.queue q (λ r c. (new r c, known r c)) were)) in
+    law_object s (kept_of m) m.lost o (with_queue q x) l w held there moves (λ r e. w.sound.referents o r e)
+
+on_take_first : (s : Kept) (m : MachineState) (q : ℕ) (rs : List ℕ) → (object_at m.heap q).waiting ≡ rs → IsOnWay s m → IsHeld m.heap q → WasThere s (kept_of m) q → WereThere s m (refs_of_value (first_value rs))
+    → IsOnWay s (record m { heap = take_first rs q m.heap; lost = m.lost ++ refs_of_value (first_value rs) })
+on_take_first s m q [] e w held there were = subst (λ (os : List ℕ). IsUnderWay s (kept_of m) os) (sym (append-nil m.lost)) w
+on_take_first s m q (r ∷ rs) e w held there were =
+    let x = object_at m.heap q in
+    let was : WereThere s m (refs_of_value (first_value x.waiting)) = subst (λ (os : List ℕ). WereThere s m (refs_of_value (first_value os))) (sym e) were in
+    let moves : Moves (MayBeTied s (kept_of m)) (WasThere s (kept_of m)) (leads_to x) (leads_to (without_first_waiting x)) (refs_of_value (first_value x.waiting)) =
+    moves_right _ _ _ _ (refs_of_value (first_value x.waiting)) (refs_of x.slots) (moves_right _ _ _ _ (refs_of_value (first_value x.waiting)) (option_to_list x.queue) (moves_first _ _ x.waiting was)) in
+    let lost : Moves (MayBeTied s (kept_of m)) (WasThere s (kept_of m)) (leads_to x) (leads_to (without_first_waiting x)) (r ∷ []) =
+    subst (λ (os : List ℕ). Moves (MayBeTied s (kept_of m)) (WasThere s (kept_of m)) (leads_to x) (leads_to (without_first_waiting x)) (refs_of_value (first_value os))) e moves in
+    let next : IsUnderWay s (record { heap = with_object_at m.heap q (without_first_waiting x); guest = m.guest }) (m.lost ++ r ∷ []) =
+    law_object s (kept_of m) m.lost q (without_first_waiting x) (r ∷ []) w held there lost (λ p f. w.sound.referents q p f) in
+    let waits : Contains x.waiting r = subst (λ (os : List ℕ). Contains os r) (sym e) (Contains-here r rs) in
+    let first : IsHeld m.heap r = w.sound.slots q r (waiting_pair m.heap q r waits) in
+    law_beside s (record { heap = with_object_at m.heap q (without_first_waiting x); guest = m.guest }) (m.lost ++ r ∷ []) r
+    (with_waits false (object_at (with_object_at m.heap q (without_first_waiting x)) r)) next (held_set m.heap q (without_first_waiting x) r held first) refl (λ p f. next.sound.referents r p f)
+
+-- it keeps what is held, and makes nothing
+pub first_taken_held : (heap : Objects) (q : ℕ) (rs : List ℕ) → IsHeld heap q → ((r : ℕ) → Contains rs r → IsHeld heap r) → (o : ℕ) → IsHeld heap o → IsHeld (take_first rs q heap) o
+first_taken_held heap q [] held all o h = h
+first_taken_held heap q (r ∷ rs) held all o h =
+    let y = without_first_waiting (object_at heap q) in
+    held_set (with_object_at heap q y) r (with_waits false (object_at (with_object_at heap q y) r)) o (held_set heap q y r held (all r (Contains-here r rs))) (held_set heap q y o held h)
+
+pub first_taken_long : (heap : Objects) (q : ℕ) (rs : List ℕ) → length (take_first rs q heap) ≡ length heap
+first_taken_long heap q [] = refl
+first_taken_long heap q (r ∷ rs) =
+    let y = without_first_waiting (object_at heap q) in
+    length-set (with_object_at heap q y) r (Some (with_waits false (object_at (with_object_at heap q y) r))) ∙ length-set heap q (Some y)
+
+-- the first reference that waits in a queue is taken out of it, and is lost
+pub on_poll : (s : Kept) (m : MachineState) (q : ℕ) → IsOnWay s m → IsHeld m.heap q → WasThere s (kept_of m) q → WereThere s m (refs_of_value (first_value (object_at m.heap q).waiting))
+    → IsOnWay s (record m { heap = polled q m.heap; lost = m.lost ++ refs_of_value (first_value (object_at m.heap q).waiting) })
+on_poll s m q w held there were = on_take_first s m q (object_at m.heap q).waiting refl w held there were
+
 pub on_make : (s : Kept) (m : MachineState) (class elements slots : ℕ) → IsOnWay s m → IsOnWay s (with_new_object m (new_object class elements slots))
-on_make s m class elements slots w = law_make s (kept_of m) m.lost (new_object class elements slots) w (refs_of-unset slots) refl
+on_make s m class elements slots w = law_make s (kept_of m) m.lost (new_object class elements slots) w (leads-new class elements slots) refl

@@ -1,4 +1,4 @@
--- A flush of a state is a flush of its graph.
+-- A state that is cleared is one whose graph was flushed.
 use Rattle.std.proofs.Common.{◌≡◌, ℕ, ◌+◌, ◌-◌, ◌<◌, ◌≤◌, ◌⊎◌, ◌↔◌, Bool, true, List, length, Contains, refl, sym, ap, subst, inl, inr, arith}
 use Rattle.et_graph.specs.Graph.{IsReached, AreDead}
 use Rattle.et_graph.specs.Steps.{IsFlush}
@@ -9,12 +9,12 @@ use Rattle.et_heap.specs.Remaining.{remaining}
 use Rattle.et_heap.proofs.HeapLists.{gone_at, at_gone}
 use Rattle.et_state.specs.State.{State}
 use Rattle.et_state.specs.Roots.{graph}
-use Rattle.et_state.specs.Past.{IsPast, flushed}
+use Rattle.et_state.specs.Past.{IsPast, cleared_state}
 use Rattle.et_state.specs.Sound.{IsSound}
 use Rattle.et_state.proofs.Wholes.{flush_pairs, length-remaining, remaining_held, held_remaining}
 
 -- here says of each held object whether it is reached
-pub flush_is : (s : State) (here : ℕ → Bool) (reports : List ℕ) → IsSound s.kept → IsPast s.kept.heap s.reported → ((o : ℕ) → IsHeld s.kept.heap o → (here o ≡ true) ↔ IsReached (graph s) o) → AreDead (graph s) reports → IsFlush (graph s) reports (graph (flushed here s))
+pub flush_is : (s : State) (here : ℕ → Bool) (reports : List ℕ) → IsSound s.kept → IsPast s.kept.heap s.reported → ((o : ℕ) → IsHeld s.kept.heap o → (here o ≡ true) ↔ IsReached (graph s) o) → AreDead (graph s) reports → IsFlush (graph s) reports (graph (cleared_state here s))
 flush_is s here reports sound past tells are = record {
   dead = are;
   made = ap (λ (n : ℕ). n - 1) (length-remaining here 0 s.kept.heap);

@@ -7,5 +7,6 @@ pub mod Calls
 pub mod Wholes
 pub mod Pasts
 pub mod Flushes
+pub mod Enqueued
 pub mod Steps
 mod ClassStates

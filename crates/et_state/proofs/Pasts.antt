@@ -57,8 +57,8 @@ flush_apart here k (x ∷ xs) (r ∷ rs) zero past a b = place_apart here (here 
 flush_apart here k (x ∷ xs) (r ∷ rs) (suc u) past a b = flush_apart here (k + 1) xs rs u (record { within = (let le = past.within in omega arith); apart = λ o c d. past.apart (suc o) c d }) a b
 
 -- objects are reported
-pub past_flushed : (here : ℕ → Bool) (heap reported : Objects) → IsPast heap reported → IsPast (remaining here 0 heap) (reporting here 0 heap reported)
-past_flushed here heap reported past = record {
+pub past_cleared : (here : ℕ → Bool) (heap reported : Objects) → IsPast heap reported → IsPast (remaining here 0 heap) (reporting here 0 heap reported)
+past_cleared here heap reported past = record {
   within = (let a = length-reporting here 0 heap reported in let b = length-left here 0 heap in omega arith);
   apart = λ u a b. flush_apart here 0 heap reported u past a b;
 }

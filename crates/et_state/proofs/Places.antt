@@ -1,5 +1,5 @@
 -- Places that hold references, before and after a change.
-use Rattle.std.proofs.Common.{◌≡◌, ℕ, zero, suc, ◌-◌, ◌<◌, ◌⊎◌, List, [], ◌∷◌, ◌++◌, length, get_or, set, Option, Contains, inl, inr, arith, refl, sym, ap, ◌∙◌, subst, take, drop, replicate, false, if◌then◌else◌, option_to_list}
+use Rattle.std.proofs.Common.{◌≡◌, ℕ, zero, suc, ◌-◌, ◌<◌, ◌⊎◌, List, [], ◌∷◌, ◌++◌, length, get_or, set, Option, Contains, inl, inr, arith, refl, sym, ap, ◌∙◌, subst, take, drop, replicate, false, if◌then◌else◌, option_to_list, append-nil}
 use Rattle.std.specs.List.{flat_map}
 use Rattle.std.proofs.lemmas.List.{map-append}
 use Rattle.std.proofs.lemmas.Grind.{flat_map-append}
@@ -7,7 +7,9 @@ use Rattle.std.proofs.lemmas.List.Elements.{Contains-append_left, Contains-appen
 use Rattle.et_base.specs.declared.value.Value.{Value}
 use Rattle.et_base.specs.declared.value.Value.TheVariants.{Unset}
 use Rattle.et_base.proofs.Lists.{Contains-none}
-use Rattle.et_heap.specs.Refs.{refs_of_value, refs_of}
+use Rattle.et_heap.specs.Refs.{refs_of_value, refs_of, leads_to}
+use Rattle.et_heap.specs.Objects.{new_object}
+use Rattle.et_heap.specs.Queues.{first_value}
 use Rattle.et_state.specs.Threads.{FrameState, ThreadState, no_thread, with_top_of, without_top, first_frame, rest_of, pushed, popped, without_operands, with_local, operand_of, local_of, locals_with, in_clinit, entered_by, with_pending, as_entered, as_ended, ended_roots}
 use Rattle.et_state.specs.ThreadRoots.{frame_roots, thread_roots}
 use Rattle.et_state.specs.Interned.{interned_objects}
@@ -61,6 +63,23 @@ moves_right H R a b l p m = record {
 pub moves_all : (H R : ℕ → Type 0) (a : List ℕ) → ((o : ℕ) → Contains a o → R o) → Moves H R a [] a
 moves_all H R a was = record { on = λ o c. absurd (Contains-none o c); off = λ o c. inr c; was = was }
 
+-- some of them are emptied
+pub moves_fewer : (H R : ℕ → Type 0) (p a : List ℕ) → ((o : ℕ) → Contains p o → R o) → Moves H R (p ++ a) a p
+moves_fewer H R p a was = record {
+  on = λ o c. inl (Contains-append_right p a o c);
+  off = λ o c. elim (Contains-append_cases p a o c) [ inl d ↦ inr d | inr d ↦ inl d ];
+  was = was;
+}
+
+-- others stand in their places
+pub moves_anew : (H R : ℕ → Type 0) (a b : List ℕ) → ((o : ℕ) → Contains b o → H o) → ((o : ℕ) → Contains a o → R o) → Moves H R a b a
+moves_anew H R a b h r = record { on = λ o c. inr (h o c); off = λ o c. inr c; was = r }
+
+-- the first one is taken out
+pub moves_first : (H R : ℕ → Type 0) (a : List ℕ) → ((o : ℕ) → Contains (refs_of_value (first_value a)) o → R o) → Moves H R a (drop 1 a) (refs_of_value (first_value a))
+moves_first H R [] was = moves_none H R []
+moves_first H R (x ∷ xs) was = moves_fewer H R (x ∷ []) xs was
+
 -- new ones beside them
 pub moves_more : (H R : ℕ → Type 0) (a p : List ℕ) → ((o : ℕ) → Contains p o → H o) → Moves H R a (p ++ a) []
 moves_more H R a p h = record {
@@ -74,14 +93,6 @@ moves_last H R a p h = record {
   on = λ o c. elim (Contains-append_cases a p o c) [ inl d ↦ inl d | inr d ↦ inr (h o d) ];
   off = λ o c. inl (Contains-append_left a p o c);
   was = λ o c. absurd (Contains-none o c);
-}
-
--- some of them are emptied
-pub moves_fewer : (H R : ℕ → Type 0) (p a : List ℕ) → ((o : ℕ) → Contains p o → R o) → Moves H R (p ++ a) a p
-moves_fewer H R p a was = record {
-  on = λ o c. inl (Contains-append_right p a o c);
-  off = λ o c. elim (Contains-append_cases p a o c) [ inl d ↦ inr d | inr d ↦ inl d ];
-  was = was;
 }
 
 -- one of many parts changes
@@ -141,6 +152,10 @@ frame_clear H R f r = moves_right H R _ _ (refs_of f.operands) (refs_of f.locals
 pub refs_of-unset : (n : ℕ) → refs_of (replicate n Unset) ≡ []
 refs_of-unset zero = refl
 refs_of-unset (suc n) = refs_of-unset n
+
+-- a new object leads to nothing
+pub leads-new : (class elements n : ℕ) → leads_to (new_object class elements n) ≡ []
+leads-new class elements n = append-nil (refs_of (replicate n Unset)) ∙ refs_of-unset n
 
 -- the locals of a frame that begins refer to what its arguments refer to
 pub refs_of-locals_with : (n : ℕ) (vs : List Value) → refs_of (locals_with n vs) ≡ refs_of vs ++ []

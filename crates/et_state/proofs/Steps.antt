@@ -8,7 +8,7 @@ use Rattle.et_base.specs.declared.value.Value.TheVariants.{Unset}
 use Rattle.et_graph.specs.Graph.{IsReached}
 use Rattle.et_base.proofs.Lists.{Contains-none, Contains-here, Contains-there, Contains-cons}
 use Rattle.et_heap.specs.Objects.{ObjectState, Objects, IsHeld, is_there, object_at, slot_of, with_slot, with_object_at}
-use Rattle.et_heap.specs.Refs.{refs_of_value, refs_of}
+use Rattle.et_heap.specs.Refs.{refs_of_value, refs_of, leads_to}
 use Rattle.et_state.specs.Threads.{FrameState, ThreadState, no_thread, at_pc, pushed, popped, without_operands, with_local, operand_of, local_of, in_clinit, first_frame, rest_of, top_of, with_top_of, without_top, entered_by}
 use Rattle.et_state.specs.ThreadRoots.{frame_roots, thread_roots}
 use Rattle.et_state.specs.State.{GuestState, Kept, MachineState, kept_of}
@@ -207,11 +207,11 @@ with_top_root g t f o lt c =
     thread_root (with_top g t f) t o long (subst (λ (y : ThreadState). Contains (thread_roots y) o) (sym (get_or-set_same g.threads t x no_thread lt)) inside)
 
 -- an event that began on m and made an object first
-pub made_on_way : (m : MachineState) (y : ObjectState) → IsSound (kept_of m) → refs_of y.slots ≡ [] → y.referent ≡ None → IsOnWay (kept_of m) (begun (record m { heap = m.heap ++ Some y ∷ [] }))
+pub made_on_way : (m : MachineState) (y : ObjectState) → IsSound (kept_of m) → leads_to y ≡ [] → y.referent ≡ None → IsOnWay (kept_of m) (begun (record m { heap = m.heap ++ Some y ∷ [] }))
 made_on_way m y sound empty weak = law_make (kept_of m) (record { heap = m.heap; guest = ticked m.guest }) [] y (start (kept_of m) sound) empty weak
 
 -- .. and then changed the topmost frame, where the object stands now
-pub did_make : (m : MachineState) (t : ℕ) (f : FrameState) (l : List ℕ) (y : ObjectState) (m' : MachineState) → IsSound (kept_of m) → HasFrame m.guest t → refs_of y.slots ≡ [] → y.referent ≡ None
+pub did_make : (m : MachineState) (t : ℕ) (f : FrameState) (l : List ℕ) (y : ObjectState) (m' : MachineState) → IsSound (kept_of m) → HasFrame m.guest t → leads_to y ≡ [] → y.referent ≡ None
     → Did (kept_of m) (begun (record m { heap = m.heap ++ Some y ∷ [] })) t f l m' → Contains (frame_roots f) (length m.heap)
     → Led (kept_of m) (record { heap = m.heap ++ Some y ∷ []; guest = with_top (ticked m.guest) t f }) m'
 did_make m t f l y m' sound has empty weak d here =

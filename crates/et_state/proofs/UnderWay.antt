@@ -6,12 +6,12 @@ use Rattle.std.proofs.lemmas.List.Elements.{Contains-append_left, Contains-appen
 use Rattle.et_graph.specs.Graph.{IsMade, IsReached, IsSoundGraph}
 use Rattle.et_graph.specs.Steps.{IsDraft}
 use Rattle.et_graph.specs.Drafts.{IsMove, IsMaking}
-use Rattle.et_base.proofs.Lists.{Contains-none}
+use Rattle.et_base.proofs.Lists.{Contains-none, Contains-here}
 use Rattle.et_graph.proofs.Walks.{root_reached, reached_on}
 use Rattle.et_graph.proofs.DraftLaws.{draft_start, draft_move, draft_making, draft_end}
 use Rattle.et_heap.specs.Objects.{ObjectState, Objects, at, found, is_there, IsHeld, object_at, with_object_at}
-use Rattle.et_base.specs.declared.value.Value.{Value}
-use Rattle.et_heap.specs.Refs.{refs_of, targets_of, pairs_from, pairs_of, gone_of}
+use Rattle.std.specs.Option.{option_to_list}
+use Rattle.et_heap.specs.Refs.{refs_of, leads_to, targets_of, pairs_from, pairs_of, gone_of}
 use Rattle.et_heap.proofs.HeapLists.{pair_at, at_pair, held_within, pair_held, gone_at, gone_set, gone_push, pairs_push, held_set, set_held, held_push}
 use Rattle.et_state.specs.State.{GuestState, Kept}
 use Rattle.et_state.specs.Words.{ticked}
@@ -85,15 +85,15 @@ pub law_lose : (s x : Kept) (lost : List ℕ) (l : List ℕ) → IsUnderWay s x 
 law_lose s x lost l w was =
     law_guest s x lost x.guest l w (record { on = λ o c. inl c; off = λ o c. inl c; was = was })
 
--- THE HEAP: a call that changes the slots or the referent of an object
-targets_found : (x : Option ObjectState) → targets_of x ≡ refs_of (found x).slots
+-- THE HEAP: a call that changes what an object leads to, or its referent
+targets_found : (x : Option ObjectState) → targets_of x ≡ leads_to (found x)
 targets_found None = refl
 targets_found (Some x) = refl
 
-set_pair_same : (xs : Objects) (o : ℕ) (y : ObjectState) (z : ℕ) → o < length xs → Contains (pairs_of (set xs o (Some y))) (o, z) → Contains (refs_of y.slots) z
+pub set_pair_same : (xs : Objects) (o : ℕ) (y : ObjectState) (z : ℕ) → o < length xs → Contains (pairs_of (set xs o (Some y))) (o, z) → Contains (leads_to y) z
 set_pair_same xs o y z lt c = subst (λ (v : Option ObjectState). Contains (targets_of v) z) (get_or-set_same xs o (Some y) None lt) (pair_at (set xs o (Some y)) o z c)
 
-pair_set_same : (xs : Objects) (o : ℕ) (y : ObjectState) (z : ℕ) → o < length xs → Contains (refs_of y.slots) z → Contains (pairs_of (set xs o (Some y))) (o, z)
+pair_set_same : (xs : Objects) (o : ℕ) (y : ObjectState) (z : ℕ) → o < length xs → Contains (leads_to y) z → Contains (pairs_of (set xs o (Some y))) (o, z)
 pair_set_same xs o y z lt c = at_pair (set xs o (Some y)) o z (subst (λ (v : Option ObjectState). Contains (targets_of v) z) (sym (get_or-set_same xs o (Some y) None lt)) c)
 
 at_other : (xs : Objects) (o u : ℕ) (y : ObjectState) → (u ≡ o → ⊥) → at (set xs o (Some y)) u ≡ at xs u
@@ -106,19 +106,32 @@ at_other (x ∷ xs) (suc o) (suc u) y ne = at_other xs o u y (λ e. ne (ap suc e
 pair_set_other : (xs : Objects) (o u : ℕ) (y : ObjectState) (z : ℕ) → (u ≡ o → ⊥) → Contains (pairs_of xs) (u, z) → Contains (pairs_of (set xs o (Some y))) (u, z)
 pair_set_other xs o u y z ne c = at_pair (set xs o (Some y)) u z (subst (λ (v : Option ObjectState). Contains (targets_of v) z) (sym (at_other xs o u y ne)) (pair_at xs u z c))
 
-set_pair_other : (xs : Objects) (o u : ℕ) (y : ObjectState) (z : ℕ) → (u ≡ o → ⊥) → Contains (pairs_of (set xs o (Some y))) (u, z) → Contains (pairs_of xs) (u, z)
+pub set_pair_other : (xs : Objects) (o u : ℕ) (y : ObjectState) (z : ℕ) → (u ≡ o → ⊥) → Contains (pairs_of (set xs o (Some y))) (u, z) → Contains (pairs_of xs) (u, z)
 set_pair_other xs o u y z ne c = at_pair xs u z (subst (λ (v : Option ObjectState). Contains (targets_of v) z) (at_other xs o u y ne) (pair_at (set xs o (Some y)) u z c))
+
+-- what an object leads to is a pair
+pub lead_pair : (xs : Objects) (o z : ℕ) → Contains (leads_to (object_at xs o)) z → Contains (pairs_of xs) (o, z)
+lead_pair xs o z c = at_pair xs o z (subst (λ (os : List ℕ). Contains os z) (sym (targets_found (at xs o))) c)
+
+pub pair_lead : (xs : Objects) (o z : ℕ) → Contains (pairs_of xs) (o, z) → Contains (leads_to (object_at xs o)) z
+pair_lead xs o z c = subst (λ (os : List ℕ). Contains os z) (targets_found (at xs o)) (pair_at xs o z c)
 
 -- a reference in a slot of an object is a pair
 pub slot_pair : (xs : Objects) (o z : ℕ) → Contains (refs_of (object_at xs o).slots) z → Contains (pairs_of xs) (o, z)
-slot_pair xs o z c = at_pair xs o z (subst (λ (os : List ℕ). Contains os z) (sym (targets_found (at xs o))) c)
+slot_pair xs o z c = lead_pair xs o z (Contains-append_left (refs_of (object_at xs o).slots) _ z c)
 
-pair_slot : (xs : Objects) (o z : ℕ) → Contains (pairs_of xs) (o, z) → Contains (refs_of (object_at xs o).slots) z
-pair_slot xs o z c = subst (λ (os : List ℕ). Contains os z) (targets_found (at xs o)) (pair_at xs o z c)
+-- .. so is its queue, and each reference that waits in it
+pub queue_pair : (xs : Objects) (o q : ℕ) → (object_at xs o).queue ≡ Some q → Contains (pairs_of xs) (o, q)
+queue_pair xs o q e =
+    lead_pair xs o q (Contains-append_right (refs_of (object_at xs o).slots) _ q (Contains-append_left (option_to_list (object_at xs o).queue) (object_at xs o).waiting q
+    (subst (λ (v : Option ℕ). Contains (option_to_list v) q) (sym e) (Contains-here q []))))
+
+pub waiting_pair : (xs : Objects) (o z : ℕ) → Contains (object_at xs o).waiting z → Contains (pairs_of xs) (o, z)
+waiting_pair xs o z c = lead_pair xs o z (Contains-append_right (refs_of (object_at xs o).slots) _ z (Contains-append_right (option_to_list (object_at xs o).queue) (object_at xs o).waiting z c))
 
 -- a pair after the write was one before, or was put in
 set_pair : (s x : Kept) (lost : List ℕ) (o : ℕ) (y : ObjectState) (l : List ℕ) → IsHeld x.heap o
-    → ((z : ℕ) → Contains (refs_of y.slots) z → Contains (refs_of (object_at x.heap o).slots) z ⊎ MayBeTied s x z)
+    → ((z : ℕ) → Contains (leads_to y) z → Contains (leads_to (object_at x.heap o)) z ⊎ MayBeTied s x z)
     → (u z : ℕ) → Contains (pairs_of (with_object_at x.heap o y)) (u, z) → Contains (pairs_of x.heap) (u, z) ⊎ ((u ≡ o) × MayBeTied s x z)
 set_pair s x lost o y l held on u z c =
     elim (cases_eq u o) [
@@ -126,19 +139,19 @@ set_pair s x lost o y l held on u z c =
       | inl e ↦
           let d : Contains (pairs_of (with_object_at x.heap o y)) (o, z) = subst (λ (v : ℕ). Contains (pairs_of (with_object_at x.heap o y)) (v, z)) e c in
           elim (on z (set_pair_same x.heap o y z (held_within x.heap o held) d)) [
-            | inl f ↦ inl (subst (λ (v : ℕ). Contains (pairs_of x.heap) (v, z)) (sym e) (slot_pair x.heap o z f))
+            | inl f ↦ inl (subst (λ (v : ℕ). Contains (pairs_of x.heap) (v, z)) (sym e) (lead_pair x.heap o z f))
             | inr h ↦ inr (e, h)
           ]
     ]
 
--- what is taken out of the slots is lost now, or was lost before
-pub law_slots : (s x : Kept) (lost : List ℕ) (o : ℕ) (y : ObjectState) (l : List ℕ) → IsUnderWay s x lost → IsHeld x.heap o → WasThere s x o
-    → ((z : ℕ) → Contains (refs_of y.slots) z → Contains (refs_of (object_at x.heap o).slots) z ⊎ MayBeTied s x z)
-    → ((z : ℕ) → Contains (refs_of (object_at x.heap o).slots) z → Contains (refs_of y.slots) z ⊎ Contains (lost ++ l) z)
+-- what the object leads to no more is lost now, or was lost before
+pub law_leads : (s x : Kept) (lost : List ℕ) (o : ℕ) (y : ObjectState) (l : List ℕ) → IsUnderWay s x lost → IsHeld x.heap o → WasThere s x o
+    → ((z : ℕ) → Contains (leads_to y) z → Contains (leads_to (object_at x.heap o)) z ⊎ MayBeTied s x z)
+    → ((z : ℕ) → Contains (leads_to (object_at x.heap o)) z → Contains (leads_to y) z ⊎ Contains (lost ++ l) z)
     → ((z : ℕ) → Contains l z → WasThere s x z)
     → ((r : ℕ) → y.referent ≡ Some r → IsHeld x.heap r)
     → IsUnderWay s (record { heap = with_object_at x.heap o y; guest = x.guest }) (lost ++ l)
-law_slots s x lost o y l w held known on off was refers =
+law_leads s x lost o y l w held known on off was refers =
     let lt : o < length x.heap = held_within x.heap o held in
     let len : length (with_object_at x.heap o y) ≡ length x.heap = length-set x.heap o (Some y) in
     let pairs = set_pair s x lost o y l held on in
@@ -154,7 +167,7 @@ law_slots s x lost o y l w held known on off was refers =
         | inr ne ↦ absurd (out (pair_set_other x.heap o u y z ne d))
         | inl e ↦
             let f : Contains (pairs_of x.heap) (o, z) = subst (λ (v : ℕ). Contains (pairs_of x.heap) (v, z)) e d in
-            elim (off z (pair_slot x.heap o z f)) [
+            elim (off z (pair_lead x.heap o z f)) [
               | inl i ↦ absurd (out (subst (λ (v : ℕ). Contains (pairs_of (with_object_at x.heap o y)) (v, z)) (sym e) (pair_set_same x.heap o y z lt i)))
               | inr i ↦ (i, subst (WasThere s x) (sym e) known)
             ]
@@ -182,20 +195,20 @@ law_slots s x lost o y l w held known on off was refers =
     }
 
 pub law_object : (s x : Kept) (lost : List ℕ) (o : ℕ) (y : ObjectState) (l : List ℕ) → IsUnderWay s x lost → IsHeld x.heap o → WasThere s x o
-    → Moves (MayBeTied s x) (WasThere s x) (refs_of (object_at x.heap o).slots) (refs_of y.slots) l
+    → Moves (MayBeTied s x) (WasThere s x) (leads_to (object_at x.heap o)) (leads_to y) l
     → ((r : ℕ) → y.referent ≡ Some r → IsHeld x.heap r)
     → IsUnderWay s (record { heap = with_object_at x.heap o y; guest = x.guest }) (lost ++ l)
 law_object s x lost o y l w held known m refers =
-    law_slots s x lost o y l w held known m.on (λ z c. elim (m.off z c) [ inl d ↦ inl d | inr d ↦ inr (Contains-append_right lost l z d) ]) m.was refers
+    law_leads s x lost o y l w held known m.on (λ z c. elim (m.off z c) [ inl d ↦ inl d | inr d ↦ inr (Contains-append_right lost l z d) ]) m.was refers
 
-pairs_set_from : (k : ℕ) (xs : Objects) (o : ℕ) (y : ObjectState) → IsHeld xs o → y.slots ≡ (object_at xs o).slots → pairs_from k (set xs o (Some y)) ≡ pairs_from k xs
+pairs_set_from : (k : ℕ) (xs : Objects) (o : ℕ) (y : ObjectState) → IsHeld xs o → leads_to y ≡ leads_to (object_at xs o) → pairs_from k (set xs o (Some y)) ≡ pairs_from k xs
 pairs_set_from k [] o y held e = absurd held
 pairs_set_from k (None ∷ xs) zero y held e = absurd held
-pairs_set_from k (Some x ∷ xs) zero y held e = ap (λ (vs : List Value). map (λ (z : ℕ). (k, z)) (refs_of vs) ++ pairs_from (k + 1) xs) e
+pairs_set_from k (Some x ∷ xs) zero y held e = ap (λ (os : List ℕ). map (λ (z : ℕ). (k, z)) os ++ pairs_from (k + 1) xs) e
 pairs_set_from k (x ∷ xs) (suc o) y held e = ap (λ (ps : List (ℕ × ℕ)). map (λ (z : ℕ). (k, z)) (targets_of x) ++ ps) (pairs_set_from (k + 1) xs o y held e)
 
--- a call that leaves the slots of an object as they are
-pub law_beside : (s x : Kept) (lost : List ℕ) (o : ℕ) (y : ObjectState) → IsUnderWay s x lost → IsHeld x.heap o → y.slots ≡ (object_at x.heap o).slots → ((r : ℕ) → y.referent ≡ Some r → IsHeld x.heap r)
+-- a call after which an object leads to what it led to
+pub law_beside : (s x : Kept) (lost : List ℕ) (o : ℕ) (y : ObjectState) → IsUnderWay s x lost → IsHeld x.heap o → leads_to y ≡ leads_to (object_at x.heap o) → ((r : ℕ) → y.referent ≡ Some r → IsHeld x.heap r)
     → IsUnderWay s (record { heap = with_object_at x.heap o y; guest = x.guest }) lost
 law_beside s x lost o y w held same refers =
     let lt : o < length x.heap = held_within x.heap o held in
@@ -243,7 +256,7 @@ at_push [] y (suc u) = inl refl
 at_push (x ∷ xs) y zero = inl refl
 at_push (x ∷ xs) y (suc u) = at_push xs y u
 
-pub law_make : (s x : Kept) (lost : List ℕ) (y : ObjectState) → IsUnderWay s x lost → refs_of y.slots ≡ [] → y.referent ≡ None → IsUnderWay s (record { heap = x.heap ++ Some y ∷ []; guest = x.guest }) lost
+pub law_make : (s x : Kept) (lost : List ℕ) (y : ObjectState) → IsUnderWay s x lost → leads_to y ≡ [] → y.referent ≡ None → IsUnderWay s (record { heap = x.heap ++ Some y ∷ []; guest = x.guest }) lost
 law_make s x lost y w empty weak =
     let n : ℕ = length s.heap in
     let k : ℕ = length x.heap in
@@ -302,6 +315,9 @@ guest_event s g l sound m =
 -- WHAT IS REACHED
 pub root_is_reached : (s : Kept) (o : ℕ) → Contains (roots_of s.guest) o → IsReached (graph_of s) o
 root_is_reached s o c = root_reached (graph_of s) o c
+
+pub reached_by_pair : (s : Kept) (u o : ℕ) → IsReached (graph_of s) u → Contains (pairs_of s.heap) (u, o) → IsReached (graph_of s) o
+reached_by_pair s u o r c = reached_on (graph_of s) u o r (o ∷ [], (c, refl))
 
 pub slot_is_reached : (s : Kept) (u o : ℕ) → IsReached (graph_of s) u → Contains (refs_of (object_at s.heap u).slots) o → IsReached (graph_of s) o
 slot_is_reached s u o r c = reached_on (graph_of s) u o r (o ∷ [], (slot_pair s.heap u o c, refl))

@@ -1,4 +1,4 @@
--- Legal steps and flushes over a state with its reported objects.
+-- Legal steps and clearing over a state with its reported objects.
 use Rattle.std.proofs.Common.{◌≡◌, ℕ, zero, suc, ◌+◌, ◌<◌, ◌⊎◌, Bool, true, false, List, [], ◌∷◌, ◌++◌, length, Option, Some, None, Contains, refl, sym, ap, subst, inl, inr, arith, ◌↔◌, if◌then◌else◌}
 use Rattle.std.proofs.lemmas.List.Elements.{Contains-append_left, Contains-append_right, Contains-append_cases}
 use Rattle.et_graph.specs.Graph.{Graph, IsReached}
@@ -16,7 +16,7 @@ use Rattle.et_state.specs.Past.{whole_step, first_of, reporting, IsPast}
 use Rattle.et_state.proofs.UnderWay.{root_is_reached}
 
 -- with more pairs, more is reached
-reached_more : (g h : Graph) → g.roots ≡ h.roots → ((u x : ℕ) → Contains g.pairs (u, x) → Contains h.pairs (u, x)) → (o : ℕ) → IsReached g o → IsReached h o
+pub reached_more : (g h : Graph) → g.roots ≡ h.roots → ((u x : ℕ) → Contains g.pairs (u, x) → Contains h.pairs (u, x)) → (o : ℕ) → IsReached g o → IsReached h o
 reached_more g h e more o r = (r.0, subst (λ (rs : List ℕ). Contains rs r.0) e r.1, (r.2.0, walk_more g.pairs h.pairs more r.0 r.2.0 o r.2.1))
 
 -- A step that is legal over what is kept is legal over all.
@@ -55,7 +55,7 @@ legal_whole s x lost reported legal =
     }
 
 -- A flush keeps all pairs.
--- x stands in a slot of u, which is held or reported
+-- u, which is held or reported, leads to x
 abbrev IsEither : Objects → Objects → ℕ → ℕ → Type 0
 IsEither heap reported u z = IsPair heap u z ⊎ IsPair reported u z
 
@@ -139,10 +139,20 @@ held_remaining here k [] o h t = absurd h
 held_remaining here k (x ∷ xs) zero h t = let e : k + 0 ≡ k = omega arith in place_stays here (here k) x h (subst (λ (n : ℕ). here n ≡ true) e t)
 held_remaining here k (x ∷ xs) (suc o) h t = let e : k + suc o ≡ k + 1 + o = omega arith in held_remaining here (k + 1) xs o h (subst (λ (n : ℕ). here n ≡ true) e t)
 
-remaining_pair : (here : ℕ → Bool) (k : ℕ) (xs : Objects) (u z : ℕ) → IsPair (remaining here k xs) u z → IsPair xs u z
+pub remaining_pair : (here : ℕ → Bool) (k : ℕ) (xs : Objects) (u z : ℕ) → IsPair (remaining here k xs) u z → IsPair xs u z
 remaining_pair here k [] u z c = c
 remaining_pair here k (x ∷ xs) zero z c = targets_left here (here k) x z c
 remaining_pair here k (x ∷ xs) (suc u) z c = remaining_pair here (k + 1) xs u z c
+
+place_pair_stays : (here : ℕ → Bool) (b : Bool) (x : Option ObjectState) (z : ℕ) → b ≡ true → Contains (targets_of x) z → Contains (targets_of (left_place here b x)) z
+place_pair_stays here true x z e c = left_targets here x z c
+place_pair_stays here false x z e c = cc
+
+-- what stays leads to what it led to
+pub remaining_pair_stays : (here : ℕ → Bool) (k : ℕ) (xs : Objects) (u z : ℕ) → here (k + u) ≡ true → IsPair xs u z → IsPair (remaining here k xs) u z
+remaining_pair_stays here k [] u z t c = c
+remaining_pair_stays here k (x ∷ xs) zero z t c = let e : k + 0 ≡ k = omega arith in place_pair_stays here (here k) x z (subst (λ (n : ℕ). here n ≡ true) e t) c
+remaining_pair_stays here k (x ∷ xs) (suc u) z t c = let e : k + suc u ≡ k + 1 + u = omega arith in remaining_pair_stays here (k + 1) xs u z (subst (λ (n : ℕ). here n ≡ true) e t) c
 
 referent_stays : (b : Bool) (here : ℕ → Bool) (o q : ℕ) → b ≡ here o → (if b then Some o else None) ≡ Some q → (o ≡ q) × (here q ≡ true)
 referent_stays true here o q e h = let same : o ≡ q = cc in (same, subst (λ (n : ℕ). here n ≡ true) same (sym e))
@@ -164,9 +174,9 @@ remaining_referent here k [] u q h = cc
 remaining_referent here k (x ∷ xs) zero q h = place_referent here (here k) x q h
 remaining_referent here k (x ∷ xs) (suc u) q h = remaining_referent here (k + 1) xs u q h
 
--- a flush leaves a sound state
-pub sound_flushed : (s : Kept) (here : ℕ → Bool) → IsSound s → ((o : ℕ) → IsHeld s.heap o → (here o ≡ true) ↔ IsReached (graph_of s) o) → IsSound (record { heap = remaining here 0 s.heap; guest = s.guest })
-sound_flushed s here sound tells = record {
+-- once it is cleared, what is kept is sound
+pub sound_cleared : (s : Kept) (here : ℕ → Bool) → IsSound s → ((o : ℕ) → IsHeld s.heap o → (here o ≡ true) ↔ IsReached (graph_of s) o) → IsSound (record { heap = remaining here 0 s.heap; guest = s.guest })
+sound_cleared s here sound tells = record {
   room = subst (λ (n : ℕ). 0 < n) (sym (length-remaining here 0 s.heap)) sound.room;
   none = λ h. sound.none (remaining_held here 0 s.heap 0 h).0;
   roots = λ o c. stays o (sound.roots o c) ((tells o (sound.roots o c)).1 (root_is_reached s o c));

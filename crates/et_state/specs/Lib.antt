@@ -16,6 +16,7 @@ pub mod Words
 pub mod Roots
 pub mod Sound
 pub mod Moves
+pub mod Enqueuing
 pub mod Past
 pub mod MachineInside
 pub mod Start

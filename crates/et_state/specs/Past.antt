@@ -3,6 +3,7 @@ use Rattle.std.specs.Prelude.{ℕ, ◌+◌, ◌≤◌, Bool, if◌then◌else◌
 use Rattle.et_graph.specs.Steps.{Step}
 use Rattle.et_heap.specs.Objects.{ObjectState, Objects, IsHeld}
 pub use Rattle.et_heap.specs.Remaining.{kept_referent, left_place, remaining}
+pub use Rattle.et_state.specs.Enqueuing.{flushed_heap}
 use Rattle.et_state.specs.State.{Kept, State}
 use Rattle.et_state.specs.Roots.{graph}
 
@@ -25,9 +26,16 @@ reporting here k [] rs = []
 reporting here k (x ∷ xs) [] = (if here k then None else x) ∷ reporting here (k + 1) xs []
 reporting here k (x ∷ xs) (r ∷ rs) = first_of r (if here k then None else x) ∷ reporting here (k + 1) xs rs
 
--- a state after a flush of all that isn't here
+-- a state in which all that isn't here is reported, and weak references to it are null
+abbrev pub cleared_state : (ℕ → Bool) → State → State
+cleared_state here s = record {
+  kept = record { heap = remaining here 0 s.kept.heap; guest = s.kept.guest };
+  reported = reporting here 0 s.kept.heap s.reported;
+}
+
+-- A state after a flush of all that isn't here: the references that lost their referents wait in their queues as well.
 abbrev pub flushed : (ℕ → Bool) → State → State
 flushed here s = record {
-  kept = record { heap = remaining here 0 s.kept.heap; guest = s.kept.guest };
+  kept = record { heap = flushed_heap here s.kept.heap; guest = s.kept.guest };
   reported = reporting here 0 s.kept.heap s.reported;
 }

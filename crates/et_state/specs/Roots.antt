@@ -13,7 +13,8 @@ use Rattle.et_state.specs.State.{GuestState, Kept, State}
 abbrev pub roots_of : GuestState → List ℕ
 roots_of g = flat_map thread_roots g.threads ++ (refs_of g.statics ++ interned_objects g.interned)
 
--- the graph of what is kept
+-- The graph of what is kept. An object leads to what stands in its slots, a reference to its queue, and a queue to what
+-- waits in it.
 abbrev pub graph_of : Kept → Graph
 graph_of s = record { made = made_count s.heap; roots = roots_of s.guest; pairs = pairs_of s.heap; gone = gone_of s.heap }
 

@@ -8,10 +8,11 @@
 ghost use Rattle.std.specs.Prelude.{◌≡◌, ◌<◌, ◌↔◌, ℕ, Bool, true, List, [], ◌++◌, Option, Some, None, Contains, length, option_to_list};
 ghost use Rattle.et_base.specs.declared.value.Value.{Value};
 ghost use Rattle.et_graph.specs.Graph.{IsReached, AreDead};
-ghost use Rattle.et_graph.specs.Steps.{IsLegalStep, IsFlush};
+ghost use Rattle.et_graph.specs.Steps.{IsLegalStep, IsTie, IsFlush};
 ghost use Rattle.et_heap.specs.declared.monitor.Monitor.{Monitor};
-ghost use Rattle.et_heap.specs.Objects.{ObjectState, Objects, IsHeld, object_at, with_object_at, new_object, slot_of, with_slot, with_referent, with_monitor};
-ghost use Rattle.et_heap.specs.Refs.{refs_of_value, refs_of};
+ghost use Rattle.et_heap.specs.Objects.{ObjectState, Objects, IsHeld, object_at, with_object_at, new_object, slot_of, with_slot, with_referent, with_queue, with_monitor, referent_value};
+ghost use Rattle.et_heap.specs.Queues.{polled, first_value};
+ghost use Rattle.et_heap.specs.Refs.{refs_of_value, refs_of, leads_to};
 ghost use Rattle.et_state.specs.Threads.{FrameState, at_pc, pushed, popped, without_operands, with_local, operand_of, local_of, in_clinit, without_top, entered_by, with_pending, as_entered, as_ended, ended_roots, new_thread};
 ghost use Rattle.et_state.specs.ThreadRoots.{frame_roots};
 ghost use Rattle.et_state.specs.declared.class_state.ClassState.{ClassState};
@@ -20,7 +21,7 @@ ghost use Rattle.et_state.specs.Words.{thread_at, with_new_thread, top, HasFrame
 ghost use Rattle.et_state.specs.Roots.{roots_of, graph_of, graph, fresh_of, state_step};
 ghost use Rattle.et_state.specs.Sound.{IsSound};
 ghost use Rattle.et_state.specs.Moves.{Moves, WasThere, MayBeTied, IsUnderWay, IsOnWay, AreInHeap, WereThere, IsEventOf};
-ghost use Rattle.et_state.specs.Past.{whole_step, IsPast, remaining, reporting, flushed};
+ghost use Rattle.et_state.specs.Past.{whole_step, IsPast, remaining, flushed_heap, cleared_state, flushed};
 
 /// `Machine::begin_event`: nothing but the clock has changed.
 pub fn begin()
@@ -34,20 +35,20 @@ pub fn guest()
         IsUnderWay s (record { heap = x.heap; guest = g }) (lost ++ l) }
 {}
 
-/// A call that changes an object, which was reached or is new. What it puts into slots is held, and was reached or is new.
-/// What it takes out was reached or is new, and is lost. What the object refers to weakly is held.
+/// A call that changes an object, which was reached or is new. What the object leads to from then on is held, and was reached
+/// or is new. What it leads to no more was reached or is new, and is lost. What the object refers to weakly is held.
 pub fn object()
     ensures { (s x : Kept) (lost : List ℕ) (o : ℕ) (y : ObjectState) (l : List ℕ) →
         IsUnderWay s x lost → IsHeld x.heap o →
-        WasThere s x o → Moves (MayBeTied s x) (WasThere s x) (refs_of (object_at x.heap o).slots)
-        (refs_of y.slots) l → ((r : ℕ) → y.referent ≡ Some r → IsHeld x.heap r) →
+        WasThere s x o → Moves (MayBeTied s x) (WasThere s x) (leads_to (object_at x.heap o))
+        (leads_to y) l → ((r : ℕ) → y.referent ≡ Some r → IsHeld x.heap r) →
         IsUnderWay s (record { heap = with_object_at x.heap o y; guest = x.guest }) (lost ++ l) }
 {}
 
-/// A call that leaves the slots of an object as they are. What the object refers to weakly is held.
+/// A call after which an object leads to what it led to. What the object refers to weakly is held.
 pub fn beside()
     ensures { (s x : Kept) (lost : List ℕ) (o : ℕ) (y : ObjectState) → IsUnderWay s x lost →
-        IsHeld x.heap o → y.slots ≡ (object_at x.heap o).slots →
+        IsHeld x.heap o → leads_to y ≡ leads_to (object_at x.heap o) →
         ((r : ℕ) → y.referent ≡ Some r → IsHeld x.heap r) →
         IsUnderWay s (record { heap = with_object_at x.heap o y; guest = x.guest }) lost }
 {}
@@ -208,6 +209,29 @@ pub fn set_referent()
         IsOnWay s (with_object m o (with_referent r (object_at m.heap o))) }
 {}
 
+/// `Heap::set_queue`, of an object that was reached or is new, to what is held and was reached or is new, and then
+/// `Machine::lose` of the queue before, which was reached or is new.
+pub fn set_queue()
+    ensures { (s : Kept) (m : MachineState) (o : ℕ) (q : Option ℕ) → IsOnWay s m →
+        IsHeld m.heap o → WasThere s (kept_of m) o →
+        AreInHeap m (option_to_list q) → WereThere s m (option_to_list q) →
+        WereThere s m (refs_of_value (referent_value (object_at m.heap o).queue)) → IsOnWay s
+        (steps_object m o (with_queue q (object_at m.heap o))
+        (refs_of_value (referent_value (object_at m.heap o).queue))) }
+{}
+
+/// `Heap::poll`, of a queue that was reached or is new, and then `Machine::lose` of the reference that it takes out, which
+/// was reached or is new.
+pub fn poll()
+    ensures { (s : Kept) (m : MachineState) (q : ℕ) → IsOnWay s m → IsHeld m.heap q →
+        WasThere s (kept_of m) q →
+        WereThere s m (refs_of_value (first_value (object_at m.heap q).waiting)) →
+        IsOnWay s (record m {
+          heap = polled q m.heap;
+          lost = m.lost ++ refs_of_value (first_value (object_at m.heap q).waiting);
+        }) }
+{}
+
 /// `Heap::set_monitor`.
 pub fn set_monitor()
     ensures { (s : Kept) (m : MachineState) (o : ℕ) (x : Monitor) → IsOnWay s m → IsHeld m.heap o →
@@ -233,25 +257,41 @@ pub fn past()
         IsPast s.heap reported → IsPast x.heap reported }
 {}
 
-/// A flush of a state is a flush of its graph. The test says of each object that is held whether it is reached.
+/// A flush of a state is a flush of its graph and then a tie. The test says of each object that is held whether it is
+/// reached. First what isn't reached is reported, and weak references to it become null.
 pub fn flush()
     ensures { (s : State) (here : ℕ → Bool) (reports : List ℕ) →
         IsSound s.kept → IsPast s.kept.heap s.reported →
         ((o : ℕ) → IsHeld s.kept.heap o → (here o ≡ true) ↔ IsReached (graph s) o) →
-        AreDead (graph s) reports → IsFlush (graph s) reports (graph (flushed here s)) }
+        AreDead (graph s) reports → IsFlush (graph s) reports (graph (cleared_state here s)) }
+{}
+
+/// Then the references that lost their referents go to their queues, and what that ties is reached.
+pub fn flush_ties()
+    ensures { (s : State) (here : ℕ → Bool) → IsSound s.kept → IsPast s.kept.heap s.reported →
+        ((o : ℕ) → IsHeld s.kept.heap o → (here o ≡ true) ↔ IsReached (graph s) o) →
+        IsTie (graph (cleared_state here s)) (graph (flushed here s)) }
+{}
+
+/// The same of what is kept alone.
+pub fn flush_ties_kept()
+    ensures { (s : Kept) (here : ℕ → Bool) → IsSound s →
+        ((o : ℕ) → IsHeld s.heap o → (here o ≡ true) ↔ IsReached (graph_of s) o) →
+        IsTie (graph_of (record { heap = remaining here 0 s.heap; guest = s.guest }))
+        (graph_of (record { heap = flushed_heap here s.heap; guest = s.guest })) }
 {}
 
 /// A flush leaves a sound state ..
 pub fn flush_sound()
     ensures { (s : Kept) (here : ℕ → Bool) → IsSound s →
         ((o : ℕ) → IsHeld s.heap o → (here o ≡ true) ↔ IsReached (graph_of s) o) →
-        IsSound (record { heap = remaining here 0 s.heap; guest = s.guest }) }
+        IsSound (record { heap = flushed_heap here s.heap; guest = s.guest }) }
 {}
 
 /// .. and keeps what is reported apart from what is held.
 pub fn flush_past()
-    ensures { (here : ℕ → Bool) (heap reported : Objects) → IsPast heap reported →
-        IsPast (remaining here 0 heap) (reporting here 0 heap reported) }
+    ensures { (s : State) (here : ℕ → Bool) → IsPast s.kept.heap s.reported →
+        IsPast (flushed here s).kept.heap (flushed here s).reported }
 {}
 
 /// What is reached over all objects is reached over those that are held.

@@ -1,4 +1,4 @@
-//! The calls of built-in methods of threads and of weak references (`java.lang.Thread`, `java.lang.ref`).
+//! The calls of built-in methods of threads, of weak references and of their queues (`java.lang.Thread`, `java.lang.ref`).
 ghost use Rattle.std.specs.Prelude.{◌≡◌, ◌+◌, ◌≤◌, IfOk, IsSome};
 ghost use Rattle.et_state.specs.Words.{HasFrame, top};
 ghost use Rattle.et_event.specs.declared.rows.CallRow.TheVariants as calls;
@@ -18,8 +18,9 @@ use et_program::Program;
 use et_state::{EventEnd, Lines, Machine};
 use std::sync::ledger::Ledger;
 
-/// The event of an invoke at a place that selects a built-in method without code of threads or of weak references. It visits
-/// four objects at most. After `NoMemory` the event may be half done, and machine and records may only be dropped.
+/// The event of an invoke at a place that selects a built-in method without code of threads, of weak references or of their
+/// queues. It visits four objects at most. After `NoMemory` the event may be half done, and machine and records may only be
+/// dropped.
 pub(crate) fn deferred_event<L: Ledger>(
     program: &Program,
     machine: &mut Machine,

@@ -86,12 +86,12 @@ fn instruction_event<L: Ledger>(
 }
 
 /// The event of a thread whose turn is `monitorenter` or `monitorexit` (JVMS 2.11.10, 6.5), to end (JVMS 2.5.1, 2.5.2), or a
-/// call of a built-in method without code of Thread, Reference or WeakReference, for which `calls_event` answers `Native`. It
-/// answers what the table of events says: `Done`, and then the machine keeps the next state, to which a legal step led, and the
-/// records of the event stand behind those that were there; `Waited`, and then only the clock has gone on; or `IllTyped` or
-/// `ObjectLimit`, and then machine and records are as before. It visits four objects at most. After `NoMemory` the machine may
-/// have one object more, to which nothing refers, and there may be its record, and all else is as before; but a call may then be
-/// half done, and machine and records may only be dropped.
+/// call of a built-in method without code of Thread, Reference, WeakReference or ReferenceQueue, for which `calls_event`
+/// answers `Native`. It answers what the table of events says: `Done`, and then the machine keeps the next state, to which a
+/// legal step led, and the records of the event stand behind those that were there; `Waited`, and then only the clock has gone
+/// on; or `IllTyped` or `ObjectLimit`, and then machine and records are as before. It visits four objects at most. After
+/// `NoMemory` the machine may have one object more, to which nothing refers, and there may be its record, and all else is as
+/// before; but a call may then be half done, and machine and records may only be dropped.
 #[tactic(auto, using(et_event::proofs::FamilyTurns::family_at))]
 pub fn sync_event<L: Ledger>(
     _alloc: Global,

@@ -21,7 +21,7 @@ use Rattle.et_state.specs.Words.{thread_at, top, HasFrame, begun, steps_thread, 
 use Rattle.et_state.specs.Roots.{graph_of}
 use Rattle.et_state.specs.Sound.{IsSound}
 use Rattle.et_state.specs.Moves.{IsOnWay, Led, WasThere, WereThere}
-use Rattle.et_state.proofs.Places.{top_root, pending_root, refs_of-unset}
+use Rattle.et_state.proofs.Places.{top_root, pending_root, leads-new}
 use Rattle.et_state.proofs.UnderWay.{root_is_reached}
 use Rattle.et_state.proofs.Calls.{on_begin_event, on_drop_frame, on_set_class_state, on_set_slot, on_throw}
 use Rattle.et_state.proofs.Steps.{led_plain, led_made, made_on_way, newest_held, new_there, root_there}
@@ -147,7 +147,7 @@ is_dropped m t class kind slots o sound has pending =
     let s : Kept = kept_of m in
     let m₀ : MachineState = with_new_object m (error_object kind slots) in
     record {
-      way = dropped_on_way s m₀ t class (made_on_way m (error_object kind slots) sound (refs_of-unset slots) refl) has (λ q c. root_there s (kept_of (begun m₀)) q (top_root m.guest t q has c));
+      way = dropped_on_way s m₀ t class (made_on_way m (error_object kind slots) sound (leads-new kind 0 slots) refl) has (λ q c. root_there s (kept_of (begun m₀)) q (top_root m.guest t q has c));
       long = subst (λ (n : ℕ). t < n) (sym (length-set m.guest.threads t (without_top (thread_at m.guest t)))) has.thread;
       pending = ap (λ (x : ThreadState). x.pending) (get_or-set_same m.guest.threads t (without_top (thread_at m.guest t)) no_thread has.thread) ∙ pending;
     }

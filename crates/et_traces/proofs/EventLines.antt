@@ -1,6 +1,6 @@
 -- The records of an event are such that their lines keep the rules.
 use Rattle.std.proofs.Common.{◌≡◌, ℕ, zero, suc, ◌+◌, ◌*◌, ◌/◌, ◌%◌, ◌<◌, ◌≤◌, ◌^◌, ◌⊎◌, Bool, true, false, List, [], ◌∷◌, length, Option, Some, None, All, refl, sym, ap, subst, inl, inr, arith}
-use Rattle.std.specs.Prelude.{if◌then◌else◌}
+use Rattle.std.specs.Prelude.{if◌then◌else◌, nat_le}
 use Rattle.std.proofs.Math.Nat.{mod-lt}
 use Rattle.std.proofs.lemmas.Bool.{and_parts, leb-true}
 use Rattle.std.proofs.lemmas.List.Sums.{sum_by-cons}
@@ -71,7 +71,7 @@ module _ (p : Linked) (s : Kept) (sound : IsSoundFor p s) where
 
   pub few_slots : (o : ℕ) → IsHeld s.heap o → length (object_at s.heap o).slots ≤ 2 ^ 26
   few_slots o held =
-      let most : slot_count s.heap ≤ most_slots = leb-true (slot_count s.heap) most_slots (and_parts _ _ sound.fits).1 in
+      let most : slot_count s.heap ≤ most_slots = leb-true (slot_count s.heap) most_slots (and_parts (nat_le (made_count s.heap) most_objects) (nat_le (slot_count s.heap) most_slots) sound.fits).1 in
       let own : slots_in (at s.heap o) ≤ slot_count s.heap = slots_within s.heap o in
       let same : slots_in (at s.heap o) ≡ length (object_at s.heap o).slots = ap (λ (x : Option ObjectState). slots_in x) (there_is (at s.heap o) held) in
       omega arith

@@ -3,7 +3,7 @@ use Rattle.std.proofs.Common.{◌≡◌, ℕ, zero, suc, ◌+◌, ◌<◌, ◌�
 use Rattle.std.proofs.lemmas.Bool.{cases_eq}
 use Rattle.et_program.specs.Entries.{Linked, class_at}
 use Rattle.et_program.specs.declared.info.Element.TheVariants.{NoArray}
-use Rattle.et_heap.specs.Objects.{ObjectState, Objects, IsHeld, found, is_there, object_at}
+use Rattle.et_heap.specs.Objects.{ObjectState, Objects, IsHeld, at, found, is_there, object_at}
 use Rattle.et_heap.specs.Remaining.{left_place, remaining}
 use Rattle.et_heap.proofs.HeapLists.{held_within}
 use Rattle.et_state.specs.Outcome.{Outcome, state_after}
@@ -15,6 +15,8 @@ use Rattle.et_state.specs.declared.records.Record.TheVariants.{Alloc, Update, En
 use Rattle.et_history.specs.Changing.{KeepsMonitors}
 use Rattle.et_history.specs.Records.{AreRecordsOf, IsAllocationOf, IsAlike, TellsObjects}
 use Rattle.et_history.specs.Whole.{beside}
+use Rattle.et_state.specs.Enqueuing.{newcomers, begins_to_wait, joined_place, flushed_heap}
+use Rattle.et_state.proofs.Enqueued.{joined_now}
 
 abbrev pub IsPlain : Linked → ObjectState → Type 0
 IsPlain p x = (class_at p x.class).info.element ≡ NoArray → x.length ≡ 0
@@ -67,6 +69,18 @@ pub flush_plain : (p : Linked) (here : ℕ → Bool) (k : ℕ) (heap : Objects) 
 flush_plain p here k [] plain o held = absurd held
 flush_plain p here k (x ∷ xs) plain zero held = place_plain p here (here k) x held (λ there. plain zero there)
 flush_plain p here k (x ∷ xs) plain (suc o) held = flush_plain p here (k + 1) xs (λ i there. plain (suc i) there) o held
+
+joined_plain : (p : Linked) (coming : ℕ → List ℕ) (begins : ℕ → Bool) (k : ℕ) (x : Option ObjectState) → is_there (joined_place coming begins k x) → (is_there x → IsPlain p (found x)) → IsPlain p (found (joined_place coming begins k x))
+joined_plain p coming begins k None h plain = absurd h
+joined_plain p coming begins k (Some x) h plain = plain tt
+
+pub flushed_plain : (p : Linked) (here : ℕ → Bool) (heap : Objects) → ArePlain p heap → ArePlain p (flushed_heap here heap)
+flushed_plain p here heap plain o held =
+    let coming = newcomers here heap in
+    let begins = begins_to_wait here heap in
+    let left : Objects = remaining here 0 heap in
+    let place : at (flushed_heap here heap) o ≡ joined_place coming begins o (at left o) = joined_now coming begins left o in
+    subst (λ (x : Option ObjectState). IsPlain p (found x)) (sym place) (joined_plain p coming begins o (at left o) (subst is_there place held) (λ there. flush_plain p here 0 heap plain o there))
 
 -- THE FIRST STATE
 pub start_plain : (p : Linked) → ArePlain p (start p).heap

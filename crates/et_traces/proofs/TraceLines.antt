@@ -16,7 +16,7 @@ use Rattle.et_graph.specs.Graph.{Graph, IsReached, Decides}
 use Rattle.et_program.specs.Entries.{Linked}
 use Rattle.et_heap.specs.Objects.{ObjectState, Objects, IsHeld, at, is_there}
 use Rattle.et_heap.specs.Refs.{gone_of}
-use Rattle.et_heap.specs.Remaining.{remaining}
+use Rattle.et_state.specs.Enqueuing.{flushed_heap}
 use Rattle.et_heap.proofs.HeapLists.{at_gone}
 use Rattle.et_state.specs.History.{IsLastEvent, ending, how_of, flush_lines, is_flush_point, is_gone, left_by, deaths, deaths_to, last_reached, lines_to, mentions_to, records_at, trace_of}
 use Rattle.et_state.specs.History as history
@@ -29,7 +29,7 @@ use Rattle.et_state.specs.Start.{start, argument_class}
 use Rattle.et_state.specs.State.{State, Kept}
 use Rattle.et_state.specs.Words.{IsUnended}
 use Rattle.et_state.specs.declared.options.Options.{Options}
-use Rattle.et_state.proofs.Wholes.{length-remaining, remaining_held}
+use Rattle.et_state.proofs.Enqueued.{length-flushed, flushed_held}
 use Rattle.et_linked.proofs.Flushing.{sound_left}
 use Rattle.et_event.specs.Event.{event}
 use Rattle.et_event.specs.Sound.{IsSoundFor}
@@ -47,7 +47,7 @@ use Rattle.et_history.proofs.Unended.{unended_thread}
 use Rattle.et_traces.specs.Good.{AreNamesApart, AreNamesShort, NamesOnly}
 use Rattle.et_traces.proofs.Numbering.{AreTellable}
 use Rattle.et_traces.proofs.Standing.{behind, behind_both, Stands}
-use Rattle.et_traces.proofs.Lengths.{ArePlain, after, event_plain, flush_plain, start_plain}
+use Rattle.et_traces.proofs.Lengths.{ArePlain, after, event_plain, flushed_plain, start_plain}
 use Rattle.et_traces.proofs.RecordLines.{AreTold, records_stand}
 use Rattle.et_traces.proofs.FlushLines.{Rises, Flushing, deaths_rise, alive_is_unlisted, flush_stands, flush_done, finish_fine, no_flush, carried}
 use Rattle.et_traces.proofs.EventLines.{records_told}
@@ -207,7 +207,7 @@ module _ (reached : Graph → ℕ → Bool) (p : Linked) (options : Options) (pi
   clock_by e g false = (same e g.kept).clock
 
   next_by : (e : ℕ) (b : Bool) → next_number (settled_by e b) ≡ next_number (now e)
-  next_by e true = length-remaining (reached (graph (now e))) 0 (now e).kept.heap
+  next_by e true = length-flushed (reached (graph (now e))) (now e).kept.heap
   next_by e false = refl
 
   -- THE INVARIANT
@@ -274,12 +274,12 @@ module _ (reached : Graph → ℕ → Bool) (p : Linked) (options : Options) (pi
       let done : Stands (names_of_program p) version options.interval (suc e) (next_number (now e)) (λ o. IsHeld heap o × (here o ≡ true)) (last e) (mentions e) past =
       flush_done (names_of_program p) version options.interval e (next_number (now e)) within (λ o. IsHeld heap o) (last e) (mentions e) (dead e) f.0 (behind [] (lines e)) here due
       (λ o alive. alive_is_unlisted here (is_gone (graph (now e))) (last e) (graph (now e)).made o alive) h f.1 in
-      let left : Stands (names_of_program p) version options.interval (suc e) (next_number (now e)) (λ o. IsHeld (remaining here 0 heap) o) (last e) (mentions e) past =
-      carried (names_of_program p) version options.interval (suc e) (next_number (now e)) (λ o. IsHeld heap o × (here o ≡ true)) (λ o. IsHeld (remaining here 0 heap) o) (last e) (last e) (mentions e) past
-      (λ o held. inl (let was = remaining_held here 0 heap o held in (was.0, subst (λ (k : ℕ). here k ≡ true) (let none : 0 + o ≡ o = omega arith in none) was.1)))
+      let left : Stands (names_of_program p) version options.interval (suc e) (next_number (now e)) (λ o. IsHeld (flushed_heap here heap) o) (last e) (mentions e) past =
+      carried (names_of_program p) version options.interval (suc e) (next_number (now e)) (λ o. IsHeld heap o × (here o ≡ true)) (λ o. IsHeld (flushed_heap here heap) o) (last e) (last e) (mentions e) past
+      (λ o held. inl (flushed_held here heap o held))
       (λ o some lt. omega arith) done in
-      subst (λ (n : ℕ). Stands (names_of_program p) version options.interval (suc e) n (λ o. IsHeld (remaining here 0 heap) o) (last e) (mentions e) (behind [] (lines e ++ flush_lines e (dead e)))) (sym (next_by e true))
-      (subst (λ (ls : List TraceLine). Stands (names_of_program p) version options.interval (suc e) (next_number (now e)) (λ o. IsHeld (remaining here 0 heap) o) (last e) (mentions e) ls) (sym (behind_both [] (lines e) (flush_lines e (dead e)))) left)
+      subst (λ (n : ℕ). Stands (names_of_program p) version options.interval (suc e) n (λ o. IsHeld (flushed_heap here heap) o) (last e) (mentions e) (behind [] (lines e ++ flush_lines e (dead e)))) (sym (next_by e true))
+      (subst (λ (ls : List TraceLine). Stands (names_of_program p) version options.interval (suc e) (next_number (now e)) (λ o. IsHeld (flushed_heap here heap) o) (last e) (mentions e) ls) (sym (behind_both [] (lines e) (flush_lines e (dead e)))) left)
 
   made_next : (e o : ℕ) → WholeGoesOn reached p options pick e → 0 < next_number (now e) → next_number (now e) ≤ o → o < next_number (now (suc e)) → reached (graph (now (suc e))) o ≡ true
   made_next e o goes some le lt =
@@ -289,7 +289,7 @@ module _ (reached : Graph → ℕ → Bool) (p : Linked) (options : Options) (pi
 
   -- what is no array has no elements
   plain_by : (e : ℕ) (b : Bool) → ArePlain p (now e).kept.heap → ArePlain p (settled_by e b).kept.heap
-  plain_by e true plain = flush_plain p (reached (graph (now e))) 0 (now e).kept.heap plain
+  plain_by e true plain = flushed_plain p (reached (graph (now e))) (now e).kept.heap plain
   plain_by e false plain = plain
 
   unended_at : (e : ℕ) → Goes (suc e) → IsUnended (settled e).kept.guest (turn e)

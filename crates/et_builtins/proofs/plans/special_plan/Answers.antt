@@ -1,10 +1,13 @@
-use Rattle.std.proofs.Common.{◌≡◌, ℕ, true, rules, sym, ◌∙◌, ap}
-use Rattle.std.specs.Prelude.{Result}
+use Rattle.std.proofs.Common.{◌≡◌, ℕ, Bool, true, Option, None, rules, sym, ◌∙◌, ap}
+use Rattle.std.specs.Prelude.{Result, if◌then◌else◌, option_and_then}
+use Rattle.std.specs.Result.{result_ok}
 use Rattle.et_program.specs.declared.errors.LinkError.{LinkError}
 use Rattle.et_program.specs.Resolution.{select_special}
 use Rattle.et_event.specs.Calls.{arguments_of, enters_method, is_of_owner, special_class}
 use Rattle.et_event.specs.Checks.{after_selection}
+use Rattle.et_event.specs.declared.rows.CallKind.TheVariants as kinds
 use Rattle.et_event.specs.Moments.{moment, begins}
+use Rattle.et_builtins.specs.Deferred.{selected_on}
 use Rattle.et_builtins.proofs.Choosing.{special_room}
 use Rattle.et_builtins.proofs.Planning.{special_selected}
 use Rattle.et_builtins.proofs.plans.special_plan.Goals as goal
@@ -25,3 +28,15 @@ pub returns-clause-within : goal.returns-clause-within
 returns-clause-within g c =
     let e = moment c.args.program.now c.args.machine.now c.args.thread in
     c.selected.ensures.within e c.select_special.ensures.within (special_room e c.args.callee.current c.special_class-from.result c.args.callee.method c.args.callee.count c.select_special.result c.select_special.ensures.value c.requires.room) c.requires.operands
+
+pub returns-clause-entered : goal.returns-clause-entered
+returns-clause-entered g c = λ at same.
+    let e = moment c.args.program.now c.args.machine.now c.args.thread in
+    let p = c.args.program.now in
+    let owner : is_of_owner e (begins e) c.args.callee.method c.in-Some.receiver ≡ true = search rules in
+    let answer : select_special p at.class (special_class p c.args.callee.named) c.args.callee.method ≡ c.select_special.result =
+    ap (λ (k : ℕ). select_special p k (special_class p c.args.callee.named) c.args.callee.method) same
+    ∙ (ap (λ (k : ℕ). select_special p c.args.callee.current k c.args.callee.method) (sym c.special_class-from.ensures.value) ∙ sym c.select_special.ensures.value) in
+    c.selected.ensures.entered
+    ∙ sym (ap (λ (o : Option ℕ). option_and_then (selected_on e at kinds.Special c.args.callee.named c.args.callee.method) o) (sym c.in-Some.ensures.value)
+    ∙ (ap (λ (b : Bool). if b then result_ok (select_special p at.class (special_class p c.args.callee.named) c.args.callee.method) else None) owner ∙ ap (λ (r : Result ℕ LinkError). result_ok r) answer))

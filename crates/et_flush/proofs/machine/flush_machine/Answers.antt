@@ -1,14 +1,15 @@
-use Rattle.std.proofs.Common.{◌≡◌, ℕ, ◌+◌, ◌*◌, ◌≤◌, Contains, sym, ◌∙◌, ap, subst}
+use Rattle.std.proofs.Common.{◌≡◌, ℕ, ◌+◌, ◌*◌, ◌≤◌, length, Contains, sym, ◌∙◌, ap, subst}
 use Rattle.et_graph.proofs.Walks.{is_reached}
 use Rattle.et_heap.specs.Objects.{Objects, IsHeld, held_count}
 use Rattle.et_heap.specs.Refs.{pairs_of}
 use Rattle.et_heap.specs.Remaining.{remaining}
+use Rattle.et_state.specs.Enqueuing.{flushed_heap}
+use Rattle.et_flush.specs.Flushes.{cleared_references}
 use Rattle.et_state.specs.State.{MachineState, kept_of}
 use Rattle.et_state.specs.Roots.{graph_of}
 use Rattle.et_state.specs.Sound.{IsSound}
-use Rattle.et_state.proofs.Wholes.{sound_flushed}
-use Rattle.et_graph.specs.Cleared.{IsCleared}
-use Rattle.et_flush.specs.Flushes.{cleared_from}
+use Rattle.et_state.proofs.Enqueued.{sound_flushed, ties_kept}
+use Rattle.et_graph.specs.Cleared.{IsClearedAndTied}
 use Rattle.et_flush.proofs.Leaving.{cleared, told, tells_reached}
 use Rattle.et_flush.proofs.machine.flush_machine.Given as given
 use Rattle.et_flush.proofs.machine.flush_machine.Goals as goal
@@ -24,13 +25,14 @@ pub returns-clause-machine : goal.returns-clause-machine
 returns-clause-machine g c here tells =
     ap (λ (m : MachineState). record m { heap = c.flush.new.heap }) c.machine.view_is
     ∙ ap (λ (h : Objects). record c.args.machine.now { heap = h })
-    (c.flush.ensures.heap here (told c.args.machine.now c.machine.inside.heap c.roots.new.room here (same_heap g c) c.in_ok-roots.ensures tells) ∙ ap (λ (h : Objects). remaining here 0 h) (same_heap g c))
+    (c.flush.ensures.heap here (told c.args.machine.now c.machine.inside.heap c.roots.new.room here (same_heap g c) c.in_ok-roots.ensures tells) ∙ ap (λ (h : Objects). flushed_heap here h) (same_heap g c))
 
 pub returns-clause-graph : goal.returns-clause-graph
 returns-clause-graph g c =
     let m = c.args.machine.now in
     let here = is_reached (graph_of (kept_of m)) in
-    subst (λ (x : MachineState). IsCleared (graph_of (kept_of m)) (graph_of (kept_of x))) (sym (returns-clause-machine g c here (tells_reached m))) (cleared (kept_of m) here c.requires.sound (tells_reached m))
+    subst (λ (x : MachineState). IsClearedAndTied (graph_of (kept_of m)) (graph_of (kept_of x))) (sym (returns-clause-machine g c here (tells_reached m)))
+    (graph_of (record { heap = remaining here 0 m.heap; guest = m.guest }), cleared (kept_of m) here c.requires.sound (tells_reached m), ties_kept (kept_of m) here c.requires.sound (tells_reached m))
 
 pub returns-clause-sound : goal.returns-clause-sound
 returns-clause-sound g c =
@@ -40,5 +42,5 @@ returns-clause-sound g c =
 
 pub returns-clause-visits : goal.returns-clause-visits
 returns-clause-visits g c here tells =
-    subst (λ (h : Objects). c.flush.new.visits ≤ c.args.visits.now + 2 * held_count h + cleared_from here 0 h) (same_heap g c)
+    subst (λ (h : Objects). c.flush.new.visits ≤ c.args.visits.now + 2 * held_count h + 2 * length (cleared_references here 0 h)) (same_heap g c)
     (c.flush.ensures.visits here (told c.args.machine.now c.machine.inside.heap c.roots.new.room here (same_heap g c) c.in_ok-roots.ensures tells))

@@ -25,4 +25,4 @@ returns-clause-deaths g c =
     (c.list_deaths.ensures.deaths c.args.heap.now (subst (λ (xs : List ℕ). AreAllHeld c.args.heap.now xs) (sym c.deref.ensures.value) c.settle.ensures.held))
 
 pub returns-clause-places : goal.returns-clause-places
-returns-clause-places g c = λ n h. let s = c.settle.ensures.places n h in record { times = s.times; seen = s.seen; waiting = s.waiting; held = s.held; order = s.order; deaths = omega (arith, s.deaths, c.list_deaths.ensures.room) }
+returns-clause-places g c = λ n h. let s = c.settle.ensures.places n h in record { times = s.times; seen = s.seen; waiting = s.waiting; held = s.held; order = s.order; deaths = omega (arith, s.deaths, c.list_deaths.ensures.room); cleared = s.cleared }

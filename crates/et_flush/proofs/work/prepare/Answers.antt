@@ -97,4 +97,5 @@ returns-clause-places c =
       held = omega (arith, h.held, c.list_held.ensures.room);
       order = omega (arith, h.order, c.order_sources.ensures.room);
       deaths = h.deaths;
+      cleared = h.cleared;
     }

@@ -10,22 +10,24 @@ use Rattle.et_graph.specs.Order.{IsOrder}
 use Rattle.et_heap.specs.Objects.{IsHeld}
 use Rattle.et_flush.proofs.Working.{unset_within}
 use Rattle.et_flush.proofs.Reaching.{few_visits}
-use Rattle.et_flush.proofs.Targets.{held_one_of, held_pairs}
+use Rattle.et_flush.proofs.Targets.{held_one_of, whole_pairs, order_wholly, seen_held}
 use Rattle.et_flush.proofs.work.settle.Goals as goal
 
 pub spread_all-requires-clause-within : goal.spread_all-requires-clause-within
 spread_all-requires-clause-within g c =
+    λ o h.
     held_one_of c.args.heap.now (length c.deref_mut.result.now)
     (omega (arith, ap length c.deref_mut.ensures.value, ap length c.prepare.ensures.prepared.times, length-set_each c.args.roots.now NOW c.prepare.ensures.prepared.first, c.prepare.ensures.prepared.begins.long))
-    c.requires.none
+    c.requires.none o h.0
 
 pub spread_all-requires-clause-pairs : goal.spread_all-requires-clause-pairs
-spread_all-requires-clause-pairs g c = held_pairs c.args.heap.now c.requires.pairs
+spread_all-requires-clause-pairs g c = whole_pairs c.args.heap.now c.requires.pairs
 
 pub spread_all-requires-clause-order : goal.spread_all-requires-clause-order
 spread_all-requires-clause-order g c =
-    subst (λ (ts : List ℕ). IsOrder (IsHeld c.args.heap.now) ts c.deref.result.now) (sym c.deref_mut.ensures.value)
-    (subst (λ (ss : List Source). IsOrder (IsHeld c.args.heap.now) c.prepare.new.work.times.items ss) (sym c.deref.ensures.value) c.prepare.ensures.prepared.order)
+    order_wholly c.args.heap.now c.deref_mut.result.now c.deref.result.now c.requires.pairs
+    (subst (λ (ts : List ℕ). IsOrder (IsHeld c.args.heap.now) ts c.deref.result.now) (sym c.deref_mut.ensures.value)
+    (subst (λ (ss : List Source). IsOrder (IsHeld c.args.heap.now) c.prepare.new.work.times.items ss) (sym c.deref.ensures.value) c.prepare.ensures.prepared.order))
 
 pub spread_all-requires-clause-ready : goal.spread_all-requires-clause-ready
 spread_all-requires-clause-ready g c =
@@ -38,7 +40,7 @@ spread_all-requires-clause-ready g c =
     }
 
 pub spread_all-requires-clause-unseen : goal.spread_all-requires-clause-unseen
-spread_all-requires-clause-unseen g c = λ o h. subst (λ (fs : List Bool). ¬ IsSet fs o) (sym c.deref_mut-2.ensures.value) (c.prepare.ensures.prepared.unseen o h)
+spread_all-requires-clause-unseen g c = λ o h. subst (λ (fs : List Bool). ¬ IsSet fs o) (sym c.deref_mut-2.ensures.value) (c.prepare.ensures.prepared.unseen o h.0)
 
 pub returns-clause-settled : goal.returns-clause-settled
 returns-clause-settled g c =
@@ -67,7 +69,8 @@ returns-clause-places g c = λ n h.
       held = s.held;
       order = s.order;
       deaths = s.deaths;
+      cleared = s.cleared;
     }
 
 pub returns-clause-visits : goal.returns-clause-visits
-returns-clause-visits g c = omega (arith, c.spread_all.ensures.counted, few_visits c.args.heap.now c.deref_mut-2.result.now c.spread_all.new.seen (sym c.spread_all.auto.seen) c.spread_all.ensures.seen)
+returns-clause-visits g c = omega (arith, c.spread_all.ensures.counted, few_visits c.args.heap.now c.deref_mut-2.result.now c.spread_all.new.seen (sym c.spread_all.auto.seen) (seen_held c.args.heap.now c.deref_mut-2.result.now c.spread_all.new.seen c.spread_all.ensures.seen))

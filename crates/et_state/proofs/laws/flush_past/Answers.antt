@@ -1,4 +1,4 @@
-use Rattle.et_state.proofs.Pasts.{past_flushed as proof}
+use Rattle.et_state.proofs.Enqueued.{past_flushed as proof}
 use Rattle.et_state.proofs.laws.flush_past.Goals as goal
 
 pub returns : goal.returns

@@ -1,4 +1,4 @@
-use Rattle.et_state.proofs.Wholes.{sound_flushed as proof}
+use Rattle.et_state.proofs.Enqueued.{sound_flushed as proof}
 use Rattle.et_state.proofs.laws.flush_sound.Goals as goal
 
 pub returns : goal.returns

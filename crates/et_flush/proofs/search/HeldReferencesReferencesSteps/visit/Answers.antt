@@ -11,8 +11,8 @@ pub targets-init : goal.targets-init
 targets-init g c = record {
   ready = c.requires.ready;
   visiting = visiting_none _ _ _ _ _ _;
-  left = target_pair c.args.self.now.heap.now c.args.object c.refs_of-targets.result c.requires.object c.refs_of-targets.ensures.value;
-  done = λ x d. inl (pair_target c.args.self.now.heap.now c.args.object c.refs_of-targets.result c.requires.object c.refs_of-targets.ensures.value x d);
+  left = target_pair c.args.self.now.heap.now c.args.object c.refs_of-targets.result c.requires.object.0 c.refs_of-targets.ensures.value;
+  done = λ x d. inl (pair_target c.args.self.now.heap.now c.args.object c.refs_of-targets.result c.requires.object.0 c.refs_of-targets.ensures.value x d);
   room = omega arith;
 }
 

@@ -1,4 +1,4 @@
--- What was in the slots is left, or was seen.
+-- What the object leads to is left, or was seen.
 use Rattle.std.proofs.Common.{ℕ, ◌≤◌, ◌⊎◌, length, Contains, vec_capacity}
 use Rattle.et_graph.specs.Times.{IsSet, IsReady}
 use Rattle.et_graph.proofs.Visiting.{IsVisiting}

@@ -1,44 +1,11 @@
-use Rattle.std.proofs.Common.{◌≡◌, ◌+◌, ◌*◌, ℕ, refl, subst, arith}
+use Rattle.std.proofs.Common.{subst}
+use Rattle.std.proofs.lemmas.Option.{IfSome_then}
 use Rattle.et_heap.specs.Objects.{IsNextHeld}
-use Rattle.et_heap.specs.Pages.{page_size}
-use Rattle.et_heap.proofs.Pages.{found_below, next-found, none-page, none-end}
+use Rattle.et_heap.proofs.States.{there, next-shown}
 use Rattle.et_heap.proofs.heap.Heap.next_held.Goals as goal
 
-pub overflow_mul-k : goal.overflow_mul-k
-overflow_mul-k c =
-    let below = found_below _ _ c.loop-k.k _ _ c.self.invariant.paged (omega (arith, c.self.inside.pages.ok.0)) c.index.ensures c.in-Some.ensures.some.held in
-    omega (arith, below.0)
-
-pub overflow_add-k : goal.overflow_add-k
-overflow_add-k c =
-    let below = found_below _ _ c.loop-k.k _ _ c.self.invariant.paged (omega (arith, c.self.inside.pages.ok.0)) c.index.ensures c.in-Some.ensures.some.held in
-    omega (arith, below.0)
-
-pub overflow_cast-k : goal.overflow_cast-k
-overflow_cast-k c =
-    let below = found_below _ _ c.loop-k.k _ _ c.self.invariant.paged (omega (arith, c.self.inside.pages.ok.0)) c.index.ensures c.in-Some.ensures.some.held in
-    omega (arith, below.0)
-
-pub overflow_add-k-in-Some : goal.overflow_add-k-in-Some
-overflow_add-k-in-Some c =
-    let below = found_below _ _ c.loop-k.k _ _ c.self.invariant.paged (omega (arith, c.self.inside.pages.ok.0)) c.index.ensures c.in-Some.ensures.some.held in
-    omega (arith, below.0)
-
-pub returns-in-Some-clause-some : goal.returns-in-Some-clause-some
-returns-in-Some-clause-some c =
-    let next = next-found _ _ _ _ c.loop-k.k _ _ _ c.self.view_is c.self.invariant.paged (omega (arith, c.self.inside.pages.ok.0)) c.index.ensures c.loop-k.invariant.reached c.loop-k.invariant.none c.in-Some.ensures.some in
-    let e : page_size * c.loop-k.k + c.in-Some.found + 1 ≡ c.new.result = omega (arith, c.new.ensures) in
-    subst (λ (o : ℕ). IsNextHeld c.args.self.now c.args.from o) e next
-
-pub loop-k-preserved : goal.loop-k-preserved
-loop-k-preserved c =
-    let short = c.loop-k.invariant.short in
-    let reached = c.loop-k.invariant.reached in
-    record {
-      short = omega arith;
-      reached = omega arith;
-      none = none-page _ _ _ c.loop-k.k _ _ c.self.invariant.paged c.index.ensures (c.in_default.ensures.none refl) c.loop-k.invariant.none;
-    }
+pub returns-clause-some : goal.returns-clause-some
+returns-clause-some c = IfSome_then c.next_held.result c.next_held.ensures.some (λ o next. subst (λ h. IsNextHeld h c.args.from o) c.self.view_is (next-shown c.self.inside.store c.args.from o next))
 
 pub returns-clause-none : goal.returns-clause-none
-returns-clause-none c = λ _ u from held. none-end _ _ _ _ c.loop-k.k _ c.self.view_is c.self.invariant.paged (omega (arith, c.self.inside.pages.ok.0)) c.loop-k.invariant.none u from held
+returns-clause-none c = λ e u le held. c.next_held.ensures.none e u le (there _ _ u c.self.view_is held)

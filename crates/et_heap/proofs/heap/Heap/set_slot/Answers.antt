@@ -1,42 +1,26 @@
-use Rattle.std.proofs.Common.{◌<◌, length, sym, ap, subst, ◌∙◌, arith, length-set}
-use Rattle.et_heap.specs.Objects.{found, is_there, with_object_at, with_slot, slot_of}
-use Rattle.et_heap.proofs.Pages.{number_positive, page-held-within, at-page, page-written, written-view, written-counts}
+use Rattle.std.proofs.Common.{◌<◌, length, refl, ap, subst, sym, ◌∙◌}
+use Rattle.et_heap.specs.Objects.{with_slot, slot_of}
+use Rattle.et_heap.specs.Queues.{changed_at}
+use Rattle.et_heap.specs.Stored.{with_state, states_of}
+use Rattle.et_heap.specs.Links.{AreLinked}
+use Rattle.et_heap.proofs.States.{there, shows, changed-shown}
+use Rattle.et_heap.proofs.Changes.{written-linked}
 use Rattle.et_heap.proofs.heap.Heap.set_slot.Goals as goal
 
-pub page_of-requires : goal.page_of-requires
-page_of-requires g c = number_positive _ c.self.inside.pages.items _ c.self.view_is c.requires.held
-
-pub place_of-requires : goal.place_of-requires
-place_of-requires g c = number_positive _ c.self.inside.pages.items _ c.self.view_is c.requires.held
-
-pub index_mut-page-requires : goal.index_mut-page-requires
-index_mut-page-requires g c = omega (arith, c.self.inside.pages.ok.0, page-held-within _ _ _ _ _ c.self.view_is c.self.invariant.paged c.requires.held c.page_of.ensures)
-
 pub set_slot-requires : goal.set_slot-requires
-set_slot-requires g c =
-    let is = at-page _ _ _ _ _ _ _ c.self.view_is c.self.invariant.paged c.requires.held c.page_of.ensures c.place_of.ensures c.index_mut-page.ensures.value in
-    record { held = subst is_there is c.requires.held; slot = subst (λ p. c.args.i < length (found p).slots) is c.requires.slot }
+set_slot-requires g c = record {
+  held = there _ _ _ c.self.view_is c.requires.held;
+  slot = subst (λ x. c.args.i < length x.slots) (sym (shows _ _ c.args.o c.self.view_is)) c.requires.slot;
+}
 
 pub returns-clause-old : goal.returns-clause-old
-returns-clause-old g c =
-    let is = at-page _ _ _ _ _ _ _ c.self.view_is c.self.invariant.paged c.requires.held c.page_of.ensures c.place_of.ensures c.index_mut-page.ensures.value in
-    c.set_slot.ensures.old ∙ ap (λ p. let x = found p in slot_of x c.args.i) (sym is)
+returns-clause-old g c = c.set_slot.ensures.old ∙ ap (λ x. slot_of x c.args.i) (shows _ _ c.args.o c.self.view_is)
 
 pub returns-clause-new : goal.returns-clause-new
 returns-clause-new g c =
-    let is = at-page _ _ _ _ _ _ _ c.self.view_is c.self.invariant.paged c.requires.held c.page_of.ensures c.place_of.ensures c.index_mut-page.ensures.value in
-    let written = page-written _ _ _ _ _ _ _ _ _ c.self.view_is c.self.invariant.paged c.requires.held c.page_of.ensures c.place_of.ensures c.index_mut-page.ensures.value c.set_slot.ensures.new in
-    written-view _ _ _ _ _ _ c.self.view_is c.requires.held written ∙ ap (λ p. with_object_at c.args.self.now c.args.o (with_slot c.args.i c.args.v (found p))) (sym is)
+    ap states_of c.set_slot.ensures.new ∙ (changed-shown (with_slot c.args.i c.args.v) (with_state (with_slot c.args.i c.args.v)) c.self.inside.store c.args.o (λ x. refl) ∙ ap (changed_at (with_slot c.args.i c.args.v) c.args.o) c.self.view_is)
 
 pub invariant_of-self : goal.invariant_of-self
 invariant_of-self g c =
-    let is = at-page _ _ _ _ _ _ _ c.self.view_is c.self.invariant.paged c.requires.held c.page_of.ensures c.place_of.ensures c.index_mut-page.ensures.value in
-    let written = page-written _ _ _ _ _ _ _ _ _ c.self.view_is c.self.invariant.paged c.requires.held c.page_of.ensures c.place_of.ensures c.index_mut-page.ensures.value c.set_slot.ensures.new in
-    let counts = written-counts _ _ _ _ _ _ c.self.view_is c.requires.held written (length-set _ _ _ ∙ ap (λ p. length (found p).slots) (sym is)) in
-    record {
-      paged = written.paged;
-      held = c.self.invariant.held ∙ sym counts.0;
-      slots = c.self.invariant.slots ∙ sym counts.1;
-      few = c.self.invariant.few;
-      small = omega (arith, counts.1);
-    }
+    subst AreLinked (sym c.set_slot.ensures.new)
+    (written-linked (with_state (with_slot c.args.i c.args.v)) c.self.inside.store c.args.o (there _ _ _ c.self.view_is c.requires.held) (λ x. refl) (λ x. refl) (λ x. refl) (λ x. refl) c.self.invariant)

@@ -1,26 +1,24 @@
 use Rattle.std.proofs.Common.{◌<◌, length, sym, ap, subst, ◌∙◌, arith}
-use Rattle.et_heap.specs.Objects.{with_object_at, with_slot, slot_of}
-use Rattle.et_heap.proofs.Pages.{kept-within, kept-found, kept-not_none, kept-written}
+use Rattle.et_heap.specs.Objects.{with_slot, slot_of}
+use Rattle.et_heap.specs.Stored.{with_state}
+use Rattle.et_heap.proofs.Pages.{kept-within, kept-found, kept-stands, kept-changed}
 use Rattle.et_heap.proofs.page.Page.set_slot.Goals as goal
 
-pub index_mut-at-requires : goal.index_mut-at-requires
-index_mut-at-requires c = omega (arith, c.self.inside.kept.ok.0, kept-within _ _ _ c.self.view_is c.requires.held)
-
-pub unreachable-requires : goal.unreachable-requires
-unreachable-requires c = kept-not_none _ _ _ _ c.self.view_is c.requires.held c.index_mut-at.ensures.value c.in-None.is
+pub index_mut-object-requires : goal.index_mut-object-requires
+index_mut-object-requires c = omega (arith, c.self.inside.kept.ok.0, kept-within _ _ _ c.self.view_is c.requires.held)
 
 pub returns-clause-old : goal.returns-clause-old
 returns-clause-old c =
-    let is = kept-found _ _ _ _ _ c.self.view_is c.requires.held c.index_mut-at.ensures.value c.in-Some.is in
-    c.set_slot.ensures.old ∙ ap (λ x. slot_of x c.args.i) (sym is)
+    let is = kept-found _ _ _ _ c.self.view_is c.requires.held c.index_mut-object.ensures.value in
+    c.set_slot.ensures.old ∙ ap (λ x. slot_of x.state c.args.i) is
 
 pub returns-clause-new : goal.returns-clause-new
-returns-clause-new c =
-    let is = kept-found _ _ _ _ _ c.self.view_is c.requires.held c.index_mut-at.ensures.value c.in-Some.is in
-    let written = c.set_slot.ensures.new ∙ ap (with_slot c.args.i c.args.v) (sym is) in
-    kept-written _ _ _ _ c.self.view_is c.requires.held ∙ ap (with_object_at c.args.self.now c.args.place) written
+returns-clause-new c = kept-changed _ _ _ _ _ (with_state (with_slot c.args.i c.args.v)) c.self.view_is c.requires.held c.index_mut-object.ensures.value c.set_slot.ensures.new
 
 pub set_slot-requires : goal.set_slot-requires
 set_slot-requires c =
-    let is = kept-found _ _ _ _ _ c.self.view_is c.requires.held c.index_mut-at.ensures.value c.in-Some.is in
-    subst (λ x. c.args.i < length x.slots) is c.requires.slot
+    let is = kept-found _ _ _ _ c.self.view_is c.requires.held c.index_mut-object.ensures.value in
+    record {
+      held = kept-stands _ _ _ _ c.self.view_is c.requires.held c.index_mut-object.ensures.value;
+      slot = subst (λ x. c.args.i < length x.state.slots) (sym is) c.requires.slot;
+    }
