@@ -1,21 +1,7 @@
--- The threads that have not ended, counted one after another.
-use Rattle.std.proofs.Common.{◌≡◌, ℕ, zero, suc, Option, Some, None, ◌+◌, ◌<◌, ◌≤◌, Bool, true, false, List, [], ◌∷◌, length, drop, get_or, refl, sym, ap, ◌∙◌, arith}
+-- The threads that have not ended, by their places.
+use Rattle.std.proofs.Common.{◌≡◌, ℕ, zero, suc, Option, Some, None, ◌+◌, ◌<◌, ◌≤◌, Bool, true, false, List, [], ◌∷◌, length, refl, sym, ◌∙◌, arith}
 use Rattle.std.specs.Prelude.{if◌then◌else◌, ◌++◌, slice_get, slice_index}
-use Rattle.std.proofs.Math.Seq.{drop-cons}
-use Rattle.et_state.specs.Threads.{ThreadState, no_thread, unended_from}
-
-first_counts : (k : ℕ) (ended : Bool) (more : List ℕ) → length ((if ended then [] else k ∷ []) ++ more) ≡ (if ended then 0 else 1) + length more
-first_counts k true more = omega arith
-first_counts k false more = omega arith
-
--- one more thread
-pub one_more : (threads : List ThreadState) (i : ℕ) → i < length threads →
-    length (unended_from i (drop i threads)) ≡ (if (get_or threads i no_thread).ended then 0 else 1) + length (unended_from (i + 1) (drop (i + 1) threads))
-one_more threads i lt =
-    let e : i + 1 ≡ suc i = omega arith in
-    ap (λ (ts : List ThreadState). length (unended_from i ts)) (drop-cons threads i no_thread lt)
-    ∙ (first_counts i (get_or threads i no_thread).ended (unended_from (i + 1) (drop (suc i) threads))
-    ∙ ap (λ (n : ℕ). (if (get_or threads i no_thread).ended then 0 else 1) + length (unended_from (i + 1) (drop n threads))) (sym e))
+use Rattle.et_state.specs.Threads.{ThreadState, unended_from}
 
 -- there are no more of them than threads
 one_or_none : (k : ℕ) (ended : Bool) (more : List ℕ) (n : ℕ) → length more ≤ n → length ((if ended then [] else k ∷ []) ++ more) ≤ suc n

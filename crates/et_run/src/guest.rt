@@ -9,7 +9,7 @@ ghost use Rattle.et_state.specs.State.{Kept, kept_of};
 use crate::named::NamedProgram;
 use crate::room::GuestRoom;
 use crate::steps::{machine_event, machine_flush};
-use crate::threads::{nth_unended, unended_count};
+use crate::threads::nth_unended;
 use et_base::{NoMemory, ObjectId, Steps, ThreadId};
 use et_graph::{Death, Stamps};
 use et_loop::Guest;
@@ -76,7 +76,7 @@ impl<'a> Guest for ProgramGuest<'a> {
     ghost deaths_of = { λ r. r.deaths };
 
     fn unended(&self) -> usize {
-        unended_count(&self.machine)
+        self.machine.unended_count()
     }
 
     fn unended_at(&self, k: usize) -> ThreadId {

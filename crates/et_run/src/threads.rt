@@ -5,20 +5,7 @@ ghost use Rattle.et_state.specs.Threads.{unended_of};
 use et_base::ThreadId;
 use et_state::Machine;
 
-/// The number of threads that have not ended.
-pub fn unended_count(machine: &Machine) -> usize
-    ensures { result ≡ length (unended_of machine.now.guest.threads) }
-{
-    let mut count = 0;
-    'threads: for thread in 0..machine.started() {
-        if !machine.is_ended(ThreadId::new(thread as u8)) {
-            count += 1;
-        }
-    }
-    count
-}
-
-/// The k-th of them, from 0, in order of start.
+/// The k-th thread that has not ended, from 0, in order of start.
 pub fn nth_unended(machine: &Machine, k: usize) -> ThreadId
     requires { k < length (unended_of machine.now.guest.threads) }
     ensures { result ≡ slice_index (unended_of machine.now.guest.threads) k }

@@ -1,19 +1,19 @@
 -- What a flush puts in queues ties what is reached, and leaves a sound state.
-use Rattle.std.proofs.Common.{◌≡◌, ℕ, zero, suc, ◌+◌, ◌-◌, ◌<◌, ◌≤◌, ◌==◌, ◌&&◌, ◌⊎◌, ◌↔◌, Bool, true, false, if◌then◌else◌, List, [], ◌∷◌, ◌++◌, length, Option, Some, None, Contains, refl, sym, ap, ◌∙◌, subst, inl, inr, arith}
-use Rattle.std.specs.Option.{option_map_or, option_to_list}
-use Rattle.std.proofs.lemmas.Bool.{and_parts, eqb-true}
+use Rattle.std.proofs.Common.{◌≡◌, ℕ, zero, suc, ◌+◌, ◌-◌, ◌<◌, ◌≤◌, ◌&&◌, ◌⊎◌, ◌↔◌, Bool, true, false, if◌then◌else◌, List, [], ◌∷◌, length, Option, Some, None, Contains, refl, sym, ap, ◌∙◌, subst, inl, inr, arith}
+use Rattle.std.specs.Option.{option_to_list}
+use Rattle.std.proofs.lemmas.Bool.{and_parts}
 use Rattle.std.proofs.lemmas.List.Elements.{Contains-append_left, Contains-append_right, Contains-append_cases}
 use Rattle.et_base.proofs.Lists.{Contains-none, Contains-cons}
 use Rattle.et_graph.specs.Graph.{IsReached}
 use Rattle.et_graph.specs.Steps.{IsTie}
 use Rattle.et_graph.proofs.Walks.{root_reached, reached_all}
 use Rattle.et_heap.specs.Objects.{ObjectState, Objects, IsHeld, is_there, at, found, object_at}
-use Rattle.et_heap.specs.Refs.{refs_of, leads_to, targets_of, pairs_of, gone_from, gone_of}
+use Rattle.et_heap.specs.Refs.{refs_of, targets_of, pairs_of, gone_from, gone_of}
 use Rattle.et_heap.specs.Remaining.{left_place, remaining}
-use Rattle.et_heap.proofs.HeapLists.{IsPair, pair_at, at_pair, pair_held}
+use Rattle.et_heap.proofs.HeapLists.{pair_at, at_pair, pair_held}
 use Rattle.et_state.specs.State.{Kept, State}
 use Rattle.et_state.specs.Roots.{graph, graph_of}
-use Rattle.et_state.specs.Enqueuing.{is_cleared, is_free_to_wait, has_this_queue, newcomers_from, newcomers, begins_to_wait, joined_place, joined_from, flushed_heap}
+use Rattle.et_state.specs.Enqueuing.{is_free_to_wait, has_this_queue, newcomers_from, newcomers, begins_to_wait, joined_place, joined_from, flushed_heap}
 use Rattle.et_state.specs.Past.{IsPast, cleared_state, flushed}
 use Rattle.et_state.specs.Sound.{IsSound}
 use Rattle.et_state.proofs.UnderWay.{reached_by_pair}

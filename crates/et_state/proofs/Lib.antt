@@ -10,3 +10,4 @@ pub mod Flushes
 pub mod Enqueued
 pub mod Steps
 mod ClassStates
+pub mod Unended

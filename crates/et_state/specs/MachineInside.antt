@@ -1,6 +1,6 @@
 -- What is kept of a machine.
-use Rattle.std.specs.Prelude.{◌≤◌, length}
-use Rattle.et_state.specs.Threads.{most_threads}
+use Rattle.std.specs.Prelude.{◌≡◌, ℕ, ◌≤◌, List, length}
+use Rattle.et_state.specs.Threads.{ThreadState, most_threads, unended_of}
 use Rattle.et_state.specs.State.{MachineState}
 use Rattle.et_state.specs.declared.machine.Machine.TheInside.{Inside}
 
@@ -18,5 +18,10 @@ machine_in m = record {
   lost = m.lost;
 }
 
+-- the threads that were started, and the list of those that have not ended
+pub record AreThreads (threads : List ThreadState) (left : List ℕ) : Type 0 where
+  pub few : length threads ≤ most_threads
+  pub unended : left ≡ unended_of threads
+
 abbrev pub IsMachine : Inside → Type 0
-IsMachine m = length m.threads.items ≤ most_threads
+IsMachine m = AreThreads m.threads.items m.unended.items

@@ -1,5 +1,5 @@
 -- What a run is given.
-use Rattle.std.specs.Prelude.{ℕ, ◌<◌, ◌≤◌, ◌/◌, ◌%◌, ◌^◌, List, All, length, slice_index}
+use Rattle.std.specs.Prelude.{ℕ, ◌<◌, ◌≤◌, ◌/◌, ◌%◌, ◌^◌, All, length, slice_index}
 use Rattle.et_state.specs.declared.options.Schedule.{Schedule}
 use Rattle.et_state.specs.declared.options.Schedule.TheVariants.{Quantum, Words}
 use Rattle.et_state.specs.declared.options.Options.{Options}

@@ -18,7 +18,7 @@ use crate::new_frame::NewFrame;
 use crate::stage::{Stage, Turn};
 use crate::thread::Thread;
 use crate::threads;
-use et_base::{ClassId, MethodId, NoMemory, ObjectId, Steps, ThreadId, Value};
+use et_base::{ClassId, MethodId, NoMemory, ObjectId, Steps, ThreadId, Value, within};
 use et_heap::{Heap, MakeFault, Monitor, RootList};
 use std::alloc::Global;
 use std::marker::Model;
@@ -36,6 +36,8 @@ pub struct Machine {
     clock: u64,
     statics: Vec<Value>,
     threads: Vec<Thread>,
+    /// Those of them that have not ended, in order of start.
+    unended: Vec<ThreadId>,
     classes: Vec<ClassState>,
     class_monitors: Vec<Monitor>,
     interned: Interned,
@@ -57,6 +59,7 @@ impl Model for Machine {
 impl Machine {
     /// The first state, with the class of the array of arguments, how far each class is, and what the static slots hold.
     /// Object 1 is that array, of length 0, and thread 0 has it in its entry slot.
+    #[tactic(auto, using(crate::proofs::Unended::begins))]
     pub fn of(
         alloc: Global,
         array_class: ClassId,
@@ -74,6 +77,8 @@ impl Machine {
         };
         let mut threads = Vec::new(alloc);
         threads.push(Thread::new(alloc, Some(arguments), None))?;
+        let mut unended = Vec::new(alloc);
+        unended.push(ThreadId::new(0))?;
         let free = Monitor {
             owner: None,
             count: 0,
@@ -85,6 +90,7 @@ impl Machine {
             clock: 0,
             statics,
             threads,
+            unended,
             classes,
             class_monitors,
             interned: Interned::begin(alloc),
@@ -136,7 +142,14 @@ impl Machine {
     pub fn unended(&self, k: u32) -> Option<ThreadId>
         ensures { result ≡ slice_get (unended_of self.now.guest.threads) k }
     {
-        threads::unended(&self.threads, k)
+        self.unended.get(k as usize).copied()
+    }
+
+    /// The number of threads that have not ended.
+    pub fn unended_count(&self) -> usize
+        ensures { result ≡ length (unended_of self.now.guest.threads) }
+    {
+        self.unended.len()
     }
 
     /// What a thread does next.
@@ -179,6 +192,7 @@ impl Machine {
     }
 
     /// Starts a thread with a Thread object that no other thread has. After `NoMemory` the machine is as before.
+    #[tactic(auto, using(crate::proofs::Unended::begins))]
     pub fn start_thread(&mut self, o: ObjectId) -> Result<ThreadId, NoMemory>
         requires few { length self.old.guest.threads < most_threads }
         requires fresh { thread_with self.old.guest.threads o ≡ None }
@@ -187,13 +201,15 @@ impl Machine {
             (with_new_thread self.old.guest (new_thread None (Some o)))) }
         ensures err { OnErr result (self.new ≡ self.old) }
     {
-        let number = self.threads.len() as u8;
-        let thread = Thread::new(self.alloc, None, Some(o));
-        self.threads.push(thread)?;
-        Ok(ThreadId::new(number))
+        let started = ThreadId::new(self.threads.len() as u8);
+        self.unended.reserve(1)?;
+        self.threads.push(Thread::new(self.alloc, None, Some(o)))?;
+        within::push(&mut self.unended, started);
+        Ok(started)
     }
 
     /// Marks a thread as entered. It loses the object in its entry slot, which is empty then.
+    #[tactic(auto, using(crate::proofs::Unended::stays))]
     pub fn set_entered(&mut self, thread: ThreadId)
         requires thread { IsUnended self.old.guest thread }
         requires lost { length self.old.lost < lost_room }
@@ -223,6 +239,7 @@ impl Machine {
         self.lost.add_option(t.object());
         // Laws: they tell the prover, and do nothing.
         t.end();
+        threads::take_away(&mut self.unended, thread);
     }
 
     /// The number of frames of a thread.
@@ -267,6 +284,7 @@ impl Machine {
     }
 
     /// Sets the pc of the frame.
+    #[tactic(auto, using(crate::proofs::Unended::stays))]
     pub fn set_pc(&mut self, thread: ThreadId, pc: u32)
         requires { HasFrame self.old.guest thread }
         ensures { self.new ≡ steps_top self.old thread (at_pc pc (top self.old.guest thread)) [] }
@@ -305,6 +323,7 @@ impl Machine {
     }
 
     /// Puts an operand on top.
+    #[tactic(auto, using(crate::proofs::Unended::stays))]
     pub fn push(&mut self, thread: ThreadId, v: Value)
         requires frame { HasFrame self.old.guest thread }
         requires room { length (top self.old.guest thread).operands
@@ -316,6 +335,7 @@ impl Machine {
     }
 
     /// Takes the topmost operand away, and loses the object that it refers to.
+    #[tactic(auto, using(crate::proofs::Unended::stays))]
     pub fn pop(&mut self, thread: ThreadId) -> Value
         requires frame { HasFrame self.old.guest thread }
         requires operand { 0 < length (top self.old.guest thread).operands }
@@ -336,6 +356,7 @@ impl Machine {
     }
 
     /// Takes all operands away, and loses the objects that they refer to.
+    #[tactic(auto, using(crate::proofs::Unended::stays))]
     pub fn clear_operands(&mut self, thread: ThreadId)
         requires frame { HasFrame self.old.guest thread }
         requires lost { length self.old.lost + length (top self.old.guest thread).operands
@@ -368,6 +389,7 @@ impl Machine {
     }
 
     /// Writes a local, and loses the object that it referred to.
+    #[tactic(auto, using(crate::proofs::Unended::stays))]
     pub fn set_local(&mut self, thread: ThreadId, i: u16, v: Value)
         requires frame { HasFrame self.old.guest thread }
         requires local { i < length (top self.old.guest thread).locals }
@@ -383,6 +405,7 @@ impl Machine {
     }
 
     /// Puts a frame on top. After `NoMemory` the machine is as before.
+    #[tactic(auto, using(crate::proofs::Unended::stays))]
     pub fn enter_frame(&mut self, thread: ThreadId, frame: NewFrame) -> Result<(), NoMemory>
         requires thread { thread < length self.old.guest.threads }
         requires few { length (thread_at self.old.guest thread).frames < most_frames }
@@ -398,6 +421,7 @@ impl Machine {
 
     /// Lets the frame, which is of stage `Before` and holds nothing yet, enter the `<clinit>` of its class. After
     /// `NoMemory` the machine is as before.
+    #[tactic(auto, using(crate::proofs::Unended::stays))]
     pub fn enter_clinit(
         &mut self,
         thread: ThreadId,
@@ -419,6 +443,7 @@ impl Machine {
     }
 
     /// Takes the frame away, and loses the objects in its locals, its operands and its lock slot.
+    #[tactic(auto, using(crate::proofs::Unended::stays))]
     pub fn drop_frame(&mut self, thread: ThreadId)
         requires frame { HasFrame self.old.guest thread }
         requires lost { length self.old.lost + (length (top self.old.guest thread).locals
@@ -442,6 +467,7 @@ impl Machine {
     }
 
     /// Makes an exception pending in a thread, and loses the one that was.
+    #[tactic(auto, using(crate::proofs::Unended::stays))]
     pub fn throw(&mut self, thread: ThreadId, o: ObjectId)
         requires thread { thread < length self.old.guest.threads }
         requires lost { length self.old.lost < lost_room }
@@ -456,6 +482,7 @@ impl Machine {
     }
 
     /// Takes the pending exception of a thread, and loses it.
+    #[tactic(auto, using(crate::proofs::Unended::stays))]
     pub fn take_pending(&mut self, thread: ThreadId) -> Option<ObjectId>
         requires thread { thread < length self.old.guest.threads }
         requires lost { length self.old.lost < lost_room }

@@ -1,29 +1,18 @@
 //! Threads in order of start.
-ghost use Rattle.std.specs.Prelude.{◌≡◌, ◌≤◌, ◌++◌, length, slice_get, OnOk};
-ghost use Rattle.std.specs.List.{flat_map};
-ghost use Rattle.et_state.specs.Threads.{unended_of, is_thread_object, thread_with, most_threads};
+ghost use Rattle.std.specs.Prelude.{◌≡◌, ◌≤◌, ◌++◌, ◌==◌, length, not, OnOk};
+ghost use Rattle.std.specs.List.{filter, flat_map};
+ghost use Rattle.et_state.specs.Threads.{is_thread_object, thread_with, most_threads};
 ghost use Rattle.et_state.specs.ThreadRoots.{thread_roots};
 
 use crate::thread::Thread;
 use et_base::{NoMemory, ObjectId, ThreadId};
 use et_heap::RootList;
 
-/// The k-th thread that has not ended, from 0.
-pub(crate) fn unended(threads: &[Thread], k: u32) -> Option<ThreadId>
-    requires { length threads.now ≤ most_threads }
-    ensures { result ≡ slice_get (unended_of threads.now) k }
+/// Takes a thread away from a list of threads.
+pub(crate) fn take_away(threads: &mut Vec<ThreadId>, thread: ThreadId)
+    ensures { threads.new.items ≡ filter (λ t. not (t == thread)) threads.old.items }
 {
-    let mut left = k;
-    for (t, thread) in threads.iter().enumerate() {
-        if thread.is_ended() {
-            continue;
-        }
-        if left == 0 {
-            return Some(ThreadId::new(t as u8));
-        }
-        left -= 1;
-    }
-    None
+    threads.retain(|other| *other != thread);
 }
 
 /// Whether this is the Thread object of the thread.
