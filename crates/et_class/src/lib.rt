@@ -19,7 +19,7 @@ mod reading;
 
 pub use class::{ClassFile, read_class};
 pub use et_code::Code;
-pub use et_pool::Pool;
+pub use et_pool::{Pool, tags};
 pub use fault::{
     ATTRIBUTE, ClassFault, DESCRIPTOR, FLAGS, MAGIC, MEMBER, POOL, SHORT, TRAILING, VERSION,
 };

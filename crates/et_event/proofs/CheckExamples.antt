@@ -3,8 +3,8 @@ use Rattle.std.proofs.Common.{◌≡◌, ℕ, false, List, [], ◌∷◌, ◌++�
 use Rattle.std.specs.Prelude.{codes}
 use Rattle.std.specs.Int.{int_wrap}
 use Rattle.et_base.specs.declared.value.Value.TheVariants.{Unset}
-use Rattle.et_pool.specs.Entries.{Item, Constants, slots_of, Text, Word, Name, Pair}
-use Rattle.et_pool.specs.declared.tags.TheConstants.{CLASS, INTEGER, FIELDREF, INTERFACE_METHODREF, NAME_AND_TYPE}
+use Rattle.et_class.specs.Entries.{Item, Constants, slots_of, Text, Word, Name, Pair}
+use Rattle.et_class.specs.PoolTags.TheConstants.{CLASS, INTEGER, FIELDREF, INTERFACE_METHODREF, NAME_AND_TYPE}
 use Rattle.et_code.specs.Bodies.{Body}
 use Rattle.et_code.specs.declared.body.TableRow.{TableRow}
 use Rattle.et_program.specs.Entries.{Linked, ClassEntry}
@@ -23,7 +23,7 @@ use Rattle.et_state.specs.declared.records.Record.TheVariants.{Alloc, Update, En
 use Rattle.et_state.specs.Outcome.{state_after, records_of}
 use Rattle.et_code.specs.Forms.{form_of}
 use Rattle.et_code.specs.Decoding.{instruction_at}
-use Rattle.et_pool.specs.Descriptors.{after_name, after_dimensions, types_of}
+use Rattle.et_class.specs.Descriptors.{after_name, after_dimensions, types_of}
 use Rattle.et_event.specs.Table.{row_of}
 use Rattle.et_event.specs.Event.{event}
 

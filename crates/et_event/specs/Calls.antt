@@ -4,7 +4,7 @@ use Rattle.std.specs.Prelude.{ℕ, ◌+◌, ◌==◌, ◌&&◌, not, nat_le, Boo
 use Rattle.std.specs.Option.{option_map_or}
 use Rattle.et_base.specs.declared.value.Value.{Value}
 use Rattle.et_base.specs.declared.value.Value.TheVariants.{Int, Long, LongHigh, Null, Ref}
-use Rattle.et_pool.specs.Descriptors.{MethodType, method_type, width_of}
+use Rattle.et_class.specs.Descriptors.{MethodType, method_type, width_of}
 use Rattle.et_program.specs.Entries.{Linked, class_at, method_at, is_static}
 use Rattle.et_program.specs.Members.{is_subclass}
 use Rattle.et_program.specs.Resolution.{resolve_class, resolve_method, select, select_special}

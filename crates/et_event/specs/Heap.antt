@@ -3,7 +3,7 @@ use Rattle.std.specs.Prelude.{ℕ, zero, suc, ◌+◌, ◌||◌, not, nat_le, �
 use Rattle.std.specs.List.{list_all}
 use Rattle.et_base.specs.declared.value.Value.{Value}
 use Rattle.et_base.specs.declared.value.Value.TheVariants.{Int, Null, Ref}
-use Rattle.et_pool.specs.Descriptors.{width_of, is_field_descriptor}
+use Rattle.et_class.specs.Descriptors.{width_of, is_field_descriptor}
 use Rattle.et_class.specs.Names.{has}
 use Rattle.et_class.specs.declared.flags.TheConstants.{STATIC, INTERFACE, ABSTRACT}
 use Rattle.et_program.specs.Entries.{Linked, class_at, field_at}

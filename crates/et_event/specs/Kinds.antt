@@ -3,7 +3,7 @@ use Rattle.std.specs.Prelude.{ℕ, ℤ, pos, ◌==◌, ◌||◌, ◌&&◌, Bool,
 use Rattle.et_base.specs.declared.value.Value.{Value}
 use Rattle.et_base.specs.declared.value.Value.TheVariants.{Unset, Int, Long, LongHigh, Null, Ref}
 use Rattle.et_base.specs.Integers.{to_byte, to_char, to_short}
-use Rattle.et_pool.specs.Descriptors.{is_field_descriptor, is_void, width_of}
+use Rattle.et_class.specs.Descriptors.{is_field_descriptor, is_void, width_of}
 use Rattle.et_program.specs.declared.info.Element.{Element}
 use Rattle.et_program.specs.declared.info.Element.TheVariants.{NoArray, Base, Class}
 use Rattle.et_event.specs.declared.rows.Operand.{Operand}

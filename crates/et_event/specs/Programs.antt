@@ -4,8 +4,8 @@ use Rattle.std.specs.Prelude.{◌≡◌, ℕ, zero, suc, ◌<◌, ◌≤◌, ◌
 use Rattle.std.specs.Str.{bytes_eq}
 use Rattle.et_base.specs.declared.value.Value.{Value}
 use Rattle.et_base.specs.declared.value.Value.TheVariants.{Int, Long, Null}
-use Rattle.et_pool.specs.Descriptors.{MethodType, method_type, is_void}
-use Rattle.et_pool.specs.Looks.{class_name_at}
+use Rattle.et_class.specs.Descriptors.{MethodType, method_type, is_void}
+use Rattle.et_class.specs.Looks.{class_name_at}
 use Rattle.et_code.specs.declared.instr.Instr.{Instr}
 use Rattle.et_code.specs.Bodies.{Body}
 use Rattle.et_code.specs.Decoding.{instruction_at}

@@ -1,9 +1,9 @@
 -- The instruction at which a thread stands, and what it names in the pool of its class.
 use Rattle.std.specs.Prelude.{ℕ, ◌==◌, ℤ, pos, negsuc, ◌+ℤ◌, Bool, List, [], Option, Result, unwrap_or, option_map, option_and_then}
 use Rattle.std.specs.Option.{option_or}
-use Rattle.et_pool.specs.Entries.{Item}
-use Rattle.et_pool.specs.Looks.{tag_at, class_name_at, string_at, integer_at, long_at, member_at}
-use Rattle.et_pool.specs.declared.tags.TheConstants.{INTERFACE_METHODREF}
+use Rattle.et_class.specs.Entries.{Item}
+use Rattle.et_class.specs.Looks.{tag_at, class_name_at, string_at, integer_at, long_at, member_at}
+use Rattle.et_class.specs.PoolTags.TheConstants.{INTERFACE_METHODREF}
 use Rattle.et_code.specs.declared.instr.Instr.{Instr}
 use Rattle.et_code.specs.Bodies.{Body}
 use Rattle.et_code.specs.Decoding.{instruction_at}

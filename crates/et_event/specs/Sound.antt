@@ -4,7 +4,7 @@ use Rattle.std.specs.Prelude.{◌≡◌, ℕ, ◌+◌, ◌<◌, ◌≤◌, ◌^�
 use Rattle.std.specs.Option.{option_map_or}
 use Rattle.et_base.specs.declared.value.Value.{Value}
 use Rattle.et_base.specs.declared.value.Value.TheVariants.{Unset, Int, Long, Null, Ref}
-use Rattle.et_pool.specs.Descriptors.{MethodType, method_type, is_void}
+use Rattle.et_class.specs.Descriptors.{MethodType, method_type, is_void}
 use Rattle.et_class.specs.Names.{has}
 use Rattle.et_class.specs.declared.flags.TheConstants.{STATIC, SYNCHRONIZED}
 use Rattle.et_code.specs.declared.instr.Instr.{Instr}

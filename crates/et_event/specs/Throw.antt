@@ -2,8 +2,8 @@
 use Rattle.std.specs.Prelude.{ℕ, ◌==◌, ◌&&◌, ◌||◌, nat_le, nat_lt, Bool, false, if◌then◌else◌, List, [], ◌∷◌, codes, Option, Some, None, find, unwrap_or}
 use Rattle.std.specs.List.{list_any}
 use Rattle.et_base.specs.declared.value.Value.TheVariants.{Ref}
-use Rattle.et_pool.specs.Entries.{Item}
-use Rattle.et_pool.specs.Looks.{class_name_at}
+use Rattle.et_class.specs.Entries.{Item}
+use Rattle.et_class.specs.Looks.{class_name_at}
 use Rattle.et_code.specs.declared.body.TableRow.{TableRow}
 use Rattle.et_program.specs.Entries.{Linked}
 use Rattle.et_program.specs.Members.{class_named, lineage, is_subclass}

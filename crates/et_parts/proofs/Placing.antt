@@ -2,7 +2,7 @@
 use Rattle.std.proofs.Common.{◌≡◌, ℕ, ◌^◌, ◌<◌, List, length, Option, Some, sym, ap, subst, ◌∙◌}
 use Rattle.std.specs.Prelude.{IfSome, unwrap_or, slice_get, slice_index_or}
 use Rattle.std.proofs.lemmas.Option.{unwrap_or-slice_get}
-use Rattle.et_pool.specs.Entries.{Item, Constants}
+use Rattle.et_class.specs.Entries.{Item, Constants}
 use Rattle.et_code.specs.declared.instr.Instr.{Instr}
 use Rattle.et_code.specs.Bodies.{Body}
 use Rattle.et_code.specs.Rules.{KeepsRules}

@@ -5,8 +5,8 @@ ghost use Rattle.et_parts.specs.Places.{site_at};
 ghost use Rattle.et_parts.specs.Members.{shown_member};
 
 use crate::places::Place;
-use et_pool::Pool;
-use et_pool::tags::INTERFACE_METHODREF;
+use et_class::Pool;
+use et_class::tags::INTERFACE_METHODREF;
 
 /// A member as an instruction names it: the class, the name and the descriptor, borrowed from the pool.
 #[derive(Clone, Copy)]

@@ -15,9 +15,9 @@ ghost use Rattle.et_parts.specs.Places.{IsPlace, site_at};
 use crate::codes::{code_of, instruction, keeps_rules, locals_are_few, method_of};
 use crate::place_laws;
 use et_base::{ClassId, ThreadId};
+use et_class::Pool;
 use et_code::Instr;
 use et_event::{Row, row_of};
-use et_pool::Pool;
 use et_program::Program;
 use et_state::Machine;
 

@@ -4,7 +4,7 @@ use Rattle.std.specs.Prelude.{slice_get, unwrap_or}
 use Rattle.std.specs.List.{slice_index_or}
 use Rattle.std.proofs.lemmas.Option.{unwrap_or-slice_get}
 use Rattle.std.proofs.lemmas.List.{length-append}
-use Rattle.et_pool.specs.Entries.{Constants}
+use Rattle.et_class.specs.Entries.{Constants}
 use Rattle.et_program.specs.declared.resolved.Resolved.{Resolved}
 use Rattle.et_program.specs.declared.resolved.Resolved.TheVariants.{Nothing}
 use Rattle.et_program.specs.Entries.{Linked}

@@ -1,8 +1,8 @@
 -- WHAT THE ENTRIES OF A POOL REFER TO in a program (JVMS 4.4.1, 4.4.2, 5.4.3): a class, or a field or method of a class.
 use Rattle.std.specs.Prelude.{ℕ, ◌==◌, Bool, List, [], Option, Result, Ok, Err, slice_index_or, option_map, option_and_then}
-use Rattle.et_pool.specs.Entries.{Item, Constants}
-use Rattle.et_pool.specs.Looks.{tag_at, utf8_at, class_name_at, name_and_type_at, member_at}
-use Rattle.et_pool.specs.declared.tags.TheConstants.{INTERFACE_METHODREF}
+use Rattle.et_class.specs.Entries.{Item, Constants}
+use Rattle.et_class.specs.Looks.{tag_at, utf8_at, class_name_at, name_and_type_at, member_at}
+use Rattle.et_class.specs.PoolTags.TheConstants.{INTERFACE_METHODREF}
 use Rattle.et_program.specs.declared.errors.LinkError.{LinkError}
 use Rattle.et_program.specs.declared.referring.NamedMethod.{NamedMethod}
 use Rattle.et_program.specs.Entries.{Linked}

@@ -1,15 +1,15 @@
 //! What the entries of a pool refer to (JVMS 4.4.1, 4.4.2, 5.4.3), by their names.
 
 ghost use Rattle.std.specs.Prelude.{◌≡◌, ◌<◌, length, IfSome, IfOk, option_map};
-ghost use Rattle.et_pool.specs.Looks.{class_name_at, tag_at};
+ghost use Rattle.et_class.specs.Looks.{class_name_at, tag_at};
 ghost use Rattle.et_program.specs.Referring.{pool_of_class, member_described, field_of_member, method_of_member, class_referred, field_referred, method_referred};
 ghost use Rattle.et_program.specs.Resolved.{shown_names, IsNamedWithin};
 
 use crate::errors::LinkError;
 use crate::program::Program;
 use et_base::{ClassId, FieldId, MethodId};
-use et_pool::Pool;
-use et_pool::tags::INTERFACE_METHODREF;
+use et_class::Pool;
+use et_class::tags::INTERFACE_METHODREF;
 
 /// A method that an entry of a pool refers to, as it was resolved (JVMS 5.4.3.3, 5.4.3.4).
 #[derive(Clone, Copy, Debug, PartialEq, Eq)]

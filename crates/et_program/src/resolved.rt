@@ -10,7 +10,7 @@ use crate::errors::LinkError;
 use crate::program::Program;
 use crate::referring::NamedMethod;
 use et_base::{ClassId, FieldId, MethodId, NoMemory};
-use et_pool::tags::{CLASS, FIELDREF, INTERFACE_METHODREF, METHODREF};
+use et_class::tags::{CLASS, FIELDREF, INTERFACE_METHODREF, METHODREF};
 use std::alloc::Global;
 use std::marker::Model;
 

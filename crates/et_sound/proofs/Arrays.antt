@@ -6,7 +6,7 @@ use Rattle.std.proofs.lemmas.Bool.{cases_eq}
 use Rattle.std.proofs.lemmas.List.{get_or-set_other, get_or_append_left, get_or-append_right}
 use Rattle.et_base.specs.declared.value.Value.{Value}
 use Rattle.et_base.specs.declared.value.Value.TheVariants.{Ref}
-use Rattle.et_pool.specs.Looks.{class_name_at}
+use Rattle.et_class.specs.Looks.{class_name_at}
 use Rattle.et_code.specs.declared.instr.Instr.{Instr}
 use Rattle.et_heap.specs.Objects.{ObjectState, Objects, IsHeld, is_there, at, found, object_at, with_object_at, slot_of, with_slot, new_object}
 use Rattle.et_heap.proofs.HeapLists.{held_within}

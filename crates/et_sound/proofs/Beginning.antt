@@ -8,7 +8,7 @@ use Rattle.std.proofs.lemmas.List.{length-set}
 use Rattle.std.proofs.lemmas.List.Elements.{Contains-append_right}
 use Rattle.et_base.specs.declared.value.Value.{Value}
 use Rattle.et_base.specs.declared.value.Value.TheVariants.{Ref}
-use Rattle.et_pool.specs.Descriptors.{MethodType, method_type, is_void, types_of, after_dimensions, after_name}
+use Rattle.et_class.specs.Descriptors.{MethodType, method_type, is_void, types_of, after_dimensions, after_name}
 use Rattle.et_code.specs.Bodies.{Body}
 use Rattle.et_class.specs.Names.{has}
 use Rattle.et_class.specs.declared.flags.TheConstants.{NATIVE}

@@ -8,7 +8,7 @@ use Rattle.std.proofs.lemmas.List.{length-append, length-set}
 use Rattle.std.proofs.lemmas.Slice.Eq.{bytes_eq-Decides}
 use Rattle.et_base.specs.declared.value.Value.{Value}
 use Rattle.et_base.specs.declared.value.Value.TheVariants.{Unset, Int, Long, LongHigh, Null, Ref}
-use Rattle.et_pool.specs.Descriptors.{MethodType, method_type, types_of, after_dimensions, after_name}
+use Rattle.et_class.specs.Descriptors.{MethodType, method_type, types_of, after_dimensions, after_name}
 use Rattle.et_class.specs.Names.{has}
 use Rattle.et_class.specs.declared.flags.TheConstants.{ABSTRACT}
 use Rattle.et_heap.specs.Objects.{ObjectState, IsHeld, object_at, slot_of, with_slot, with_referent, with_object_at, is_there, at, found}

@@ -5,7 +5,7 @@ use Rattle.std.specs.Str.{bytes_eq}
 use Rattle.std.specs.Option.{option_map_or}
 use Rattle.std.proofs.lemmas.Bool.{not-true}
 use Rattle.et_base.specs.declared.value.Value.{Value}
-use Rattle.et_pool.specs.Descriptors.{MethodType, method_type}
+use Rattle.et_class.specs.Descriptors.{MethodType, method_type}
 use Rattle.et_code.specs.Bodies.{Body}
 use Rattle.et_class.specs.Names.{has}
 use Rattle.et_class.specs.declared.flags.TheConstants.{NATIVE}

@@ -5,7 +5,7 @@ use Rattle.std.proofs.lemmas.Bool.{leb-true}
 use Rattle.std.proofs.lemmas.List.{length-append}
 use Rattle.et_base.specs.declared.value.Value.{Value}
 use Rattle.et_base.specs.declared.value.Value.TheVariants.{Ref}
-use Rattle.et_pool.specs.Descriptors.{width_of, is_field_descriptor}
+use Rattle.et_class.specs.Descriptors.{width_of, is_field_descriptor}
 use Rattle.et_program.specs.Entries.{ClassEntry, Linked, no_class, class_at, field_at}
 use Rattle.et_program.specs.Members.{class_named, base_array, is_base_array}
 use Rattle.et_program.specs.Resolution.{resolve_class}

@@ -10,7 +10,7 @@ use Rattle.std.proofs.lemmas.Slice.Eq.{bytes_eq-Decides}
 use Rattle.et_base.proofs.Positions.{Passes, position_passes}
 use Rattle.et_base.specs.declared.value.Value.{Value}
 use Rattle.et_base.specs.declared.value.Value.TheVariants.{Unset}
-use Rattle.et_pool.specs.Descriptors.{width_of, is_field_descriptor}
+use Rattle.et_class.specs.Descriptors.{width_of, is_field_descriptor}
 use Rattle.et_class.specs.Names.{has}
 use Rattle.et_class.specs.declared.flags.TheConstants.{STATIC}
 use Rattle.et_program.specs.Entries.{Linked, no_field, class_at, field_at}

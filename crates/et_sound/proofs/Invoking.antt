@@ -3,7 +3,7 @@ use Rattle.std.proofs.Common.{◌≡◌, ℕ, ◌+◌, Bool, true, false, List, 
 use Rattle.std.specs.Prelude.{IsSome, nat_le, codes}
 use Rattle.std.specs.Str.{bytes_eq}
 use Rattle.std.proofs.lemmas.Bool.{and_parts, leb-true, not-true, true≢false}
-use Rattle.et_pool.specs.Descriptors.{MethodType, method_type}
+use Rattle.et_class.specs.Descriptors.{MethodType, method_type}
 use Rattle.et_heap.specs.Objects.{IsHeld}
 use Rattle.et_program.specs.Entries.{Linked, method_at, is_static}
 use Rattle.et_program.specs.declared.info.MethodInfo.{MethodInfo}

@@ -5,7 +5,7 @@ use mathlib.Core.Logic.{⊎_elim}
 use Rattle.std.proofs.lemmas.Bool.{eqb-true, or_cases, false≢true}
 use Rattle.et_base.specs.declared.value.Value.{Value}
 use Rattle.et_base.specs.declared.value.Value.TheVariants.{Unset, Int, Long, LongHigh, Null, Ref}
-use Rattle.et_pool.specs.Descriptors.{width_of}
+use Rattle.et_class.specs.Descriptors.{width_of}
 use Rattle.et_program.specs.Entries.{Linked, class_at, field_at}
 use Rattle.et_program.specs.declared.info.Element.{Element}
 use Rattle.et_program.specs.declared.info.Element.TheVariants.{NoArray, Base, Class}

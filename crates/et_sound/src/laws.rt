@@ -47,7 +47,7 @@ ghost use Rattle.et_state.specs.declared.records.Record.{Record};
 ghost use Rattle.et_state.specs.declared.ends.EventEnd.{EventEnd};
 ghost use Rattle.et_state.specs.Outcome.{Outcome};
 ghost use Rattle.et_sound.specs.Outcomes.{KeepsSound};
-ghost use Rattle.et_pool.specs.Descriptors.{width_of};
+ghost use Rattle.et_class.specs.Descriptors.{width_of};
 ghost use Rattle.et_event.specs.Programs.{MakesSound, HasInstanceField, HasSlots, HasInitializers, IsArrayClass, MayHold};
 ghost use Rattle.et_sound.specs.WellFormed.{IsWellFormed, IsUnderWayAt, IsFurther, MayBeThread, IsThere, KeepsFrame, MayTake, MayEnter, StandsAt};
 

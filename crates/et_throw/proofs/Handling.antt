@@ -2,7 +2,7 @@
 use Rattle.std.proofs.Common.{◌≡◌, ℕ, ◌==◌, ◌||◌, ◌&&◌, Bool, true, false, not, refl, ◌∙◌, ap, List, length, Some, arith, ◌+◌, ◌<◌, ◌^◌}
 use Rattle.std.specs.Prelude.{Option, find, option_map, slice_get}
 use Rattle.std.specs.List.{list_any}
-use Rattle.et_pool.specs.Entries.{Item, Constants}
+use Rattle.et_class.specs.Entries.{Item, Constants}
 use Rattle.et_code.specs.declared.body.TableRow.{TableRow}
 use Rattle.et_program.specs.Entries.{Linked, class_at, is_interface}
 use Rattle.et_program.specs.Members.{is_above, is_subclass}

@@ -1,7 +1,7 @@
 //! The handler of an exception (JVMS 2.10, 4.7.3).
 ghost use Rattle.std.specs.Prelude.{◌≡◌, ◌<◌, Some, length, find, option_map};
 ghost use Rattle.std.specs.Option.{option_copied};
-ghost use Rattle.et_pool.specs.Looks.{class_name_at};
+ghost use Rattle.et_class.specs.Looks.{class_name_at};
 ghost use Rattle.et_code.specs.declared.body.TableRow.{TableRow as Row};
 ghost use Rattle.et_state.specs.Words.{HasFrame, top};
 ghost use Rattle.et_event.specs.Throw.{is_above_or_same, catches_name, catches as catches_there, handler_of};
@@ -11,10 +11,10 @@ ghost use Rattle.et_event.specs.Interfaces.{KnowsInterfaces};
 
 use crate::frames::table_of;
 use et_base::{ClassId, ThreadId};
+use et_class::Pool;
 use et_class::flags::{INTERFACE, has};
 use et_code::TableRow;
 use et_parts::method_of;
-use et_pool::Pool;
 use et_program::Program;
 use et_state::Machine;
 

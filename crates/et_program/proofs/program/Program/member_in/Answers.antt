@@ -1,5 +1,5 @@
 use Rattle.std.proofs.Common.{List, ap}
-use Rattle.et_pool.specs.Entries.{Item}
+use Rattle.et_class.specs.Entries.{Item}
 use Rattle.std.specs.Prelude.{Option}
 use Rattle.et_program.specs.Referring.{member_described}
 use Rattle.et_program.proofs.PoolLemmas.{no_slots}

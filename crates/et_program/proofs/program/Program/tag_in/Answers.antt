@@ -1,7 +1,7 @@
 use Rattle.std.proofs.Common.{List, ap}
-use Rattle.et_pool.specs.Entries.{Item}
+use Rattle.et_class.specs.Entries.{Item}
 use Rattle.std.specs.Prelude.{Option}
-use Rattle.et_pool.specs.Looks.{tag_at}
+use Rattle.et_class.specs.Looks.{tag_at}
 use Rattle.et_program.proofs.PoolLemmas.{no_slots}
 use Rattle.et_program.proofs.program.Program.tag_in.Goals as goal
 
