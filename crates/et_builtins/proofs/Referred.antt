@@ -12,20 +12,13 @@ use Rattle.et_program.specs.Referring.{Member, pool_of_class, member_described, 
 use Rattle.et_program.specs.Resolution.{resolve_class, resolve_method}
 use Rattle.et_state.specs.Outcome.{Outcome}
 use Rattle.et_state.specs.State.{Kept}
-use Rattle.et_state.specs.Threads.{FrameState}
 use Rattle.et_event.specs.Checks.{resolved}
 use Rattle.et_event.specs.Errors.{error_of}
 use Rattle.et_event.specs.Moments.{Moment, begins, throws}
 use Rattle.et_event.specs.Sites.{Site, site_member, names_interface, pool_index}
-use Rattle.et_parts.specs.Places.{IsPlace, site_at}
-use Rattle.et_parts.specs.declared.places.Place.{Place}
 use Rattle.et_builtins.specs.Deferred.{with_resolved}
 use Rattle.et_builtins.proofs.Planning.{resolves}
 use Rattle.et_builtins.proofs.Choosing.{resolved_same}
-
--- the pool of a place is that of its class
-pub place_pool : (p : Linked) (f : FrameState) (place : Place) → IsPlace p f place → (site_at place).pool ≡ pool_of_class p place.class
-place_pool p f place is = ap (λ (at : Site). at.pool) is.site ∙ ap (pool_of_class p) (sym (ap (λ (at : Site). at.class) is.site))
 
 -- WHAT THE TABLE HAS
 

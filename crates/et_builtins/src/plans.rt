@@ -30,7 +30,7 @@ use crate::arguments::{fitting_call, receiver};
 use et_base::{ClassId, MethodId, Steps, ThreadId};
 use et_class::flags::{ABSTRACT, NATIVE, STATIC, has};
 use et_event::{CallKind, GuestError};
-use et_parts::{Place, member_at};
+use et_parts::{Place, index_of, member_at};
 use et_program::{Element, LinkError, NamedMethod, Program};
 use et_state::{ClassState, Machine};
 use std::sync::ledger::Ledger;
@@ -361,18 +361,6 @@ fn resolved_plan<L: Ledger>(
         return CallPlan::Throws(GuestError::IncompatibleClassChangeError);
     }
     dispatch_plan(program, machine, thread, kind, callee, visits)
-}
-
-/// The index into the pool that an instruction has.
-fn index_of(place: &Place<'_>) -> u16
-    requires { natural_of place.now.instr.first < 2 ^ 16 }
-    ensures { result ≡ natural_of place.now.instr.first }
-{
-    if place.instr.first < 0 {
-        0
-    } else {
-        place.instr.first as u16
-    }
 }
 
 /// The method that an instruction names, as it was resolved when the program was linked (JVMS 5.4.3.3, 5.4.3.4).

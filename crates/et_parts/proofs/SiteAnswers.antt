@@ -5,10 +5,11 @@ use Rattle.et_code.specs.declared.instr.Instr.{Instr}
 use Rattle.et_code.specs.declared.instr.CodeFault.{CodeFault}
 use Rattle.et_program.specs.Entries.{Linked}
 use Rattle.et_state.specs.State.{Kept}
+use Rattle.et_state.specs.Threads.{FrameState}
 use Rattle.et_state.specs.Words.{top}
 use Rattle.et_event.specs.Event.{event, does}
 use Rattle.et_event.specs.Moments.{Moment, ill_typed}
-use Rattle.et_event.specs.Sites.{Site, site_of, decoded_at}
+use Rattle.et_event.specs.Sites.{Site, site_of, decoded_at, pool_of_class}
 use Rattle.et_event.specs.Table.{row_of}
 use Rattle.et_parts.specs.declared.places.Place.{Place}
 use Rattle.et_event.specs.Families.{row_at}
@@ -34,3 +35,7 @@ pub at_none : (p : Linked) (s : Kept) (t : ℕ) → ((x : Instr × ℕ) → deco
     → (d : Result (Instr × ℕ) CodeFault) → decoded_at p (top s.guest t) ≡ d → row_at d ≡ None → event p s t ≡ ill_typed (moment p s t)
 at_none p s t no_row ended (Ok x) e r = no_row x e r
 at_none p s t no_row ended (Err fault) e r = ended fault e
+
+-- the pool of a place is that of its class
+pub place_pool : (p : Linked) (f : FrameState) (place : Place) → IsPlace p f place → (site_at place).pool ≡ pool_of_class p place.class
+place_pool p f place is = ap (λ (at : Site). at.pool) is.site ∙ ap (pool_of_class p) (sym (ap (λ (at : Site). at.class) is.site))

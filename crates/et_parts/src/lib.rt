@@ -18,7 +18,7 @@ mod tops;
 pub use answers::{ill_typed, wait_event};
 pub use codes::{code_of, method_of};
 pub use locks::{Lock, lock_for, lock_in};
-pub use members::{MemberAt, class_operand, member_at, names_interface};
+pub use members::{class_operand, index_of, member_at};
 pub use monitors::{
     enter_monitor, enter_some, leave_monitor, leave_some, may_enter, may_enter_some, owns,
     owns_some,

@@ -31,5 +31,5 @@ pub use members::MemberIndex;
 pub use method_index::MethodIndex;
 pub use names::NameIndex;
 pub use program::Program;
-pub use referring::{MemberAt, NamedMethod};
+pub use referring::{MemberAt, NamedMethod, member_at};
 pub use tables::Tables;

@@ -28,8 +28,9 @@ pub struct MemberAt<'a> {
     pub descriptor: &'a [u8],
 }
 
-/// The member that the entry at an index of a pool gives (JVMS 4.4.2); `None` where it is no such entry.
-pub(crate) fn member_at<'a>(pool: &'a Pool, index: u16) -> Option<MemberAt<'a>>
+/// The member that the entry at an index of a pool gives (JVMS 4.4.2); `None` where it is no such entry. The bytes
+/// are borrowed from the pool.
+pub fn member_at<'a>(pool: &'a Pool, index: u16) -> Option<MemberAt<'a>>
     ensures { option_map shown_names result ≡ member_described pool.now.slots index }
 {
     let (owner, name_and_type) = pool.member(index)?;

@@ -8,18 +8,11 @@ use Rattle.et_program.specs.Referring.{Member, pool_of_class, member_described, 
 use Rattle.et_program.specs.Resolution.{resolve_class, resolve_field}
 use Rattle.et_state.specs.Outcome.{Outcome}
 use Rattle.et_state.specs.State.{Kept}
-use Rattle.et_state.specs.Threads.{FrameState}
 use Rattle.et_event.specs.Checks.{resolved}
 use Rattle.et_event.specs.Heap.{resolved_field}
 use Rattle.et_event.specs.Moments.{Moment, begins}
 use Rattle.et_event.specs.Sites.{Site, site_member, pool_index}
-use Rattle.et_parts.specs.Places.{IsPlace, site_at}
-use Rattle.et_parts.specs.declared.places.Place.{Place}
 use Rattle.et_refs.proofs.Reading.{field_described}
-
--- the pool of a place is that of its class
-pub place_pool : (p : Linked) (f : FrameState) (place : Place) → IsPlace p f place → (site_at place).pool ≡ pool_of_class p place.class
-place_pool p f place is = ap (λ (at : Site). at.pool) is.site ∙ ap (pool_of_class p) (sym (ap (λ (at : Site). at.class) is.site))
 
 -- WHAT THE TABLE HAS
 

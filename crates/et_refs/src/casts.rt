@@ -22,12 +22,12 @@ ghost use Rattle.et_refs.specs.NamedClasses.{IsNamedAt};
 ghost use Rattle.et_refs.specs.Refusals.{outcome_of};
 
 use crate::changes::Exchange;
-use crate::checks::{index_of, resolve_named, throws_unless};
+use crate::checks::{resolve_named, throws_unless};
 use crate::operands::{operands_fit, take_reference};
 use crate::refusals::Refusal;
 use et_base::{ClassId, ObjectId, Steps, ThreadId, Value};
 use et_event::GuestError;
-use et_parts::{Place, class_operand};
+use et_parts::{Place, class_operand, index_of};
 use et_program::Program;
 use et_state::Machine;
 use std::sync::ledger::Ledger;

@@ -1,11 +1,10 @@
 //! The checks of an event that need no machine.
-ghost use Rattle.std.specs.Prelude.{◌≡◌, ℕ, ◌<◌, ◌^◌, true, length, Some, IfOk};
+ghost use Rattle.std.specs.Prelude.{◌≡◌, ℕ, ◌<◌, true, length, Some, IfOk};
 ghost use Rattle.et_state.specs.State.{Kept};
 ghost use Rattle.et_state.specs.Outcome.{Outcome};
 ghost use Rattle.et_event.specs.Moments.{Moment, begins};
 ghost use Rattle.et_event.specs.Checks.{ill_typed_unless as ill_unless, throws_unless as throwing_unless, not_null as object_of};
 ghost use Rattle.et_event.specs.Heap.{resolved_class};
-ghost use Rattle.et_event.specs.Sites.{natural_of};
 ghost use Rattle.et_refs.specs.NamedClasses.{IsNamedAt};
 ghost use Rattle.et_refs.specs.Refusals.{outcome_of};
 
@@ -13,7 +12,6 @@ use crate::casts::NamedClass;
 use crate::refusals::Refusal;
 use et_base::{ClassId, ObjectId};
 use et_event::GuestError;
-use et_parts::Place;
 use et_program::Program;
 
 /// The event has no meaning unless this holds.
@@ -65,18 +63,6 @@ pub fn resolve(program: &Program, name: &[u8]) -> Result<ClassId, Refusal>
     match program.resolve_class(name) {
         Ok(class) => Ok(class),
         Err(error) => Err(Refusal::Throws(GuestError::of(error))),
-    }
-}
-
-/// The index into the pool that an instruction has.
-pub(crate) fn index_of(place: &Place<'_>) -> u16
-    requires { natural_of place.now.instr.first < 2 ^ 16 }
-    ensures { result ≡ natural_of place.now.instr.first }
-{
-    if place.instr.first < 0 {
-        0
-    } else {
-        place.instr.first as u16
     }
 }
 

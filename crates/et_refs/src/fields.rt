@@ -19,7 +19,7 @@ ghost use Rattle.et_event.specs.Kinds.{operand_kind as descriptor_kind, or_zero 
 ghost use Rattle.et_event.specs.Moments.{Moment, moment, begins};
 ghost use Rattle.et_event.specs.Sites.{Member, site_member, natural_of};
 ghost use Rattle.et_event.specs.Sound.{IsSoundFor, HasField};
-ghost use Rattle.et_parts.specs.Members.{shown_member};
+ghost use Rattle.et_program.specs.Resolved.{shown_names};
 ghost use Rattle.et_parts.specs.Places.{site_at};
 ghost use Rattle.et_refs.specs.Changes.{IsNamedReference, MayExchange, MayStore, exchange_outcome, store_outcome};
 ghost use Rattle.et_refs.specs.NamedFields.{IsAnswered};
@@ -27,7 +27,7 @@ ghost use Rattle.et_refs.specs.Refusals.{outcome_of};
 ghost use Rattle.et_refs.specs.Slots.{IsInstanceField, IsSlotAt};
 
 use crate::changes::{Exchange, Store};
-use crate::checks::{ill_typed_unless, index_of, not_null, throws_unless};
+use crate::checks::{ill_typed_unless, not_null, throws_unless};
 use crate::kinds::{kind_of, narrowed};
 use crate::operands::{take_reference, take_typed, type_fits};
 use crate::refusals::Refusal;
@@ -35,9 +35,9 @@ use crate::slots::{SlotAt, read_slot};
 use et_base::{FieldId, ObjectId, Steps, ThreadId, Value};
 use et_class::flags::{STATIC, has};
 use et_event::GuestError;
-use et_parts::{MemberAt, Place, member_at};
+use et_parts::{Place, index_of, member_at};
 use et_pool::descriptor::is_field_descriptor;
-use et_program::{LinkError, Program};
+use et_program::{LinkError, MemberAt, Program};
 use et_state::Machine;
 use std::sync::ledger::Ledger;
 
@@ -75,7 +75,7 @@ pub(crate) fn field_named<'a>(
     requires index { natural_of place.now.instr.first < 2 ^ 16 }
     requires pool { (site_at place.now).pool ≡ pool_of_class program.now place.now.class }
     ensures is { (e : Moment) (go : Member → Outcome Kept) → with_field e
-        (site_member (site_at place.now)) go ≡ outcome_of e result (λ x. go (shown_member x.member)) }
+        (site_member (site_at place.now)) go ≡ outcome_of e result (λ x. go (shown_names x.member)) }
     ensures field { IfOk result (λ x. is_of_field x.member.descriptor.now ≡ true) }
     ensures answered { IfOk result (λ x. IsAnswered program.now x) }
 {
@@ -94,7 +94,7 @@ fn instance_field(program: &Program, named: &NamedField<'_>) -> Result<FieldId, 
     requires { IsAnswered program.now named.now }
     ensures is { (s : Kept) (t : ℕ) (go : ℕ → Outcome Kept) →
         resolved_field (record { program = program.now; before = s; thread = t }) (begins
-        (record { program = program.now; before = s; thread = t })) (shown_member named.now.member)
+        (record { program = program.now; before = s; thread = t })) (shown_names named.now.member)
         (λ f. throwing_unless (record { program = program.now; before = s; thread = t }) (begins
         (record { program = program.now; before = s; thread = t })) IncompatibleClassChangeError
         (not (is_static_at program.now f)) (go f))
@@ -152,7 +152,7 @@ fn field_slot<L: Ledger>(
     requires named { IsNamedReference machine.now (top machine.now.guest thread) reference }
     ensures is { (go : ℕ → ℕ → Outcome Kept) → resolved_field
         (moment program.now machine.now thread) (begins (moment program.now machine.now thread))
-        (shown_member named.now.member) (λ f. throwing_unless (moment program.now machine.now thread)
+        (shown_names named.now.member) (λ f. throwing_unless (moment program.now machine.now thread)
         (begins (moment program.now machine.now thread)) IncompatibleClassChangeError
         (not (is_static_at program.now f)) (with_holder (moment program.now machine.now thread)
         (begins (moment program.now machine.now thread)) f reference

@@ -9,7 +9,7 @@ ghost use Rattle.et_event.specs.Heap.{resolved_field, is_static_at, get_static, 
 ghost use Rattle.et_event.specs.Moments.{Moment, moment, begins};
 ghost use Rattle.et_event.specs.Sites.{natural_of};
 ghost use Rattle.et_event.specs.Sound.{IsSoundFor};
-ghost use Rattle.et_parts.specs.Members.{shown_member};
+ghost use Rattle.et_program.specs.Resolved.{shown_names};
 ghost use Rattle.et_parts.specs.Places.{site_at};
 ghost use Rattle.et_program.specs.Referring.{pool_of_class};
 ghost use Rattle.et_refs.specs.NamedFields.{IsAnswered};
@@ -59,7 +59,7 @@ fn static_field(program: &Program, named: &NamedField<'_>) -> Result<FieldId, Re
     requires { IsAnswered program.now named.now }
     ensures is { (s : Kept) (t : ℕ) (go : ℕ → Outcome Kept) →
         resolved_field (record { program = program.now; before = s; thread = t }) (begins
-        (record { program = program.now; before = s; thread = t })) (shown_member named.now.member)
+        (record { program = program.now; before = s; thread = t })) (shown_names named.now.member)
         (λ f. throwing_unless (record { program = program.now; before = s; thread = t }) (begins
         (record { program = program.now; before = s; thread = t })) IncompatibleClassChangeError
         (is_static_at program.now f) (go f))

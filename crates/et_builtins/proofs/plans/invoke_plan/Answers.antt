@@ -2,7 +2,7 @@ use Rattle.std.proofs.Common.{◌≡◌, ℕ, Bool, Option, Some, None, refl, sy
 use Rattle.std.specs.Prelude.{Result}
 use Rattle.et_pool.specs.Descriptors.{method_type}
 use Rattle.et_parts.specs.Places.{site_at}
-use Rattle.et_parts.specs.Members.{shown_member}
+use Rattle.et_program.specs.Resolved.{shown_names}
 use Rattle.et_event.specs.declared.errors.GuestError.{GuestError}
 use Rattle.et_program.specs.Members.{kept}
 use Rattle.et_event.specs.Calls.{arguments_of, is_static_call}
@@ -10,7 +10,7 @@ use Rattle.et_builtins.specs.Arguments.{fitting}
 use Rattle.et_builtins.specs.Deferred.{is_deferred, selected_from, selected_method}
 use Rattle.et_builtins.specs.Plans.{resolving}
 use Rattle.et_builtins.proofs.Planning.{checks, fitted, fitted_method, found_by, invoke_is, selected_is}
-use Rattle.et_builtins.proofs.Referred.{place_pool}
+use Rattle.et_parts.proofs.SiteAnswers.{place_pool}
 use Rattle.et_builtins.proofs.plans.invoke_plan.Goals as goal
 use Rattle.et_event.specs.Moments.{moment}
 
@@ -18,7 +18,7 @@ pub returns-in_default-fitting_call-clause-plan : goal.returns-in_default-fittin
 returns-in_default-fitting_call-clause-plan g c =
     let e = moment c.args.program.now c.args.machine.now c.args.thread in
     let at = site_at c.args.place.now in
-    let member = shown_member c.in-Some.member in
+    let member = shown_names c.in-Some.member in
     let none : fitting e (is_static_call c.args.kind) (method_type member.descriptor) ≡ None =
     ap (λ (b : Bool). fitting e b (method_type member.descriptor)) (sym c.is_static_call.ensures) ∙ sym (c.in_default-fitting_call.ensures.value c.args.program.now) in
     invoke_is e at c.args.kind member (sym c.in-Some.ensures) ∙ ap (fitted e at c.args.kind member) none
@@ -27,7 +27,7 @@ pub returns-in-Ok-clause-plan : goal.returns-in-Ok-clause-plan
 returns-in-Ok-clause-plan g c =
     let e = moment c.args.program.now c.args.machine.now c.args.thread in
     let at = site_at c.args.place.now in
-    let member = shown_member c.in-Some.member in
+    let member = shown_names c.in-Some.member in
     let count = c.in-Some-fitting_call.count in
     let some : fitting e (is_static_call c.args.kind) (method_type member.descriptor) ≡ Some count =
     ap (λ (b : Bool). fitting e b (method_type member.descriptor)) (sym c.is_static_call.ensures) ∙ sym (c.in-Some-fitting_call.ensures.value c.args.program.now) in
@@ -40,7 +40,7 @@ pub returns-in-Err-clause-plan : goal.returns-in-Err-clause-plan
 returns-in-Err-clause-plan g c =
     let e = moment c.args.program.now c.args.machine.now c.args.thread in
     let at = site_at c.args.place.now in
-    let member = shown_member c.in-Some.member in
+    let member = shown_names c.in-Some.member in
     let count = c.in-Some-fitting_call.count in
     let some : fitting e (is_static_call c.args.kind) (method_type member.descriptor) ≡ Some count =
     ap (λ (b : Bool). fitting e b (method_type member.descriptor)) (sym c.is_static_call.ensures) ∙ sym (c.in-Some-fitting_call.ensures.value c.args.program.now) in
@@ -55,7 +55,7 @@ pub returns-in_default-fitting_call-clause-deferred : goal.returns-in_default-fi
 returns-in_default-fitting_call-clause-deferred g c =
     let e = moment c.args.program.now c.args.machine.now c.args.thread in
     let at = site_at c.args.place.now in
-    let member = shown_member c.in-Some.member in
+    let member = shown_names c.in-Some.member in
     let none : fitting e (is_static_call c.args.kind) (method_type member.descriptor) ≡ None =
     ap (λ (b : Bool). fitting e b (method_type member.descriptor)) (sym c.is_static_call.ensures) ∙ sym (c.in_default-fitting_call.ensures.value c.args.program.now) in
     sym (ap (λ (r : Option ℕ). kept (is_deferred e.program) r) (selected_is e at c.args.kind member (sym c.in-Some.ensures) ∙ ap (fitted_method e at c.args.kind member) none))
@@ -64,7 +64,7 @@ pub returns-in-Ok-clause-deferred : goal.returns-in-Ok-clause-deferred
 returns-in-Ok-clause-deferred g c =
     let e = moment c.args.program.now c.args.machine.now c.args.thread in
     let at = site_at c.args.place.now in
-    let member = shown_member c.in-Some.member in
+    let member = shown_names c.in-Some.member in
     let count = c.in-Some-fitting_call.count in
     let some : fitting e (is_static_call c.args.kind) (method_type member.descriptor) ≡ Some count =
     ap (λ (b : Bool). fitting e b (method_type member.descriptor)) (sym c.is_static_call.ensures) ∙ sym (c.in-Some-fitting_call.ensures.value c.args.program.now) in
@@ -79,7 +79,7 @@ pub returns-in-Err-clause-deferred : goal.returns-in-Err-clause-deferred
 returns-in-Err-clause-deferred g c =
     let e = moment c.args.program.now c.args.machine.now c.args.thread in
     let at = site_at c.args.place.now in
-    let member = shown_member c.in-Some.member in
+    let member = shown_names c.in-Some.member in
     let count = c.in-Some-fitting_call.count in
     let some : fitting e (is_static_call c.args.kind) (method_type member.descriptor) ≡ Some count =
     ap (λ (b : Bool). fitting e b (method_type member.descriptor)) (sym c.is_static_call.ensures) ∙ sym (c.in-Some-fitting_call.ensures.value c.args.program.now) in

@@ -1,4 +1,4 @@
-use Rattle.et_refs.proofs.Referred.{place_pool}
+use Rattle.et_parts.proofs.SiteAnswers.{place_pool}
 use Rattle.et_refs.proofs.event.heap_row_event.Goals as goal
 
 pub plan_of-requires-clause-pool : goal.plan_of-requires-clause-pool

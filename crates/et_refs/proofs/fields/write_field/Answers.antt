@@ -4,7 +4,7 @@ use Rattle.et_heap.specs.Refs.{refs_of_value}
 use Rattle.et_state.specs.Words.{top}
 use Rattle.et_event.specs.Moments.{moment, begins, slot_written, goes}
 use Rattle.et_event.specs.Heap.{leaving_values}
-use Rattle.et_parts.specs.Members.{shown_member}
+use Rattle.et_program.specs.Resolved.{shown_names}
 use Rattle.et_parts.specs.Places.{site_at}
 use Rattle.et_refs.specs.Changes.{store_outcome}
 use Rattle.et_refs.proofs.Chains.{refusing, puts, puts_value, puts_slot, put}
@@ -15,7 +15,7 @@ pub returns-in_err-taken-clause-is : goal.returns-in_err-taken-clause-is
 returns-in_err-taken-clause-is g c =
     let e = moment c.args.program.now c.args.machine.now c.args.thread in
     let at = site_at c.args.place.now in
-    let m = shown_member c.in-Ok.named.member in
+    let m = shown_names c.in-Ok.named.member in
     let same : c.from_residual.result ≡ Err c.in_err-taken.field-0.0 = search rules in
     refusing e _ _ c.in_err-taken.field-0.0 (store_outcome e at) (c.in-Ok.ensures.is e (puts e at) ∙ c.in_err-taken.ensures.is e (puts_value e at m)) same
 
@@ -23,7 +23,7 @@ pub returns-in_err-reference-clause-is : goal.returns-in_err-reference-clause-is
 returns-in_err-reference-clause-is g c =
     let e = moment c.args.program.now c.args.machine.now c.args.thread in
     let at = site_at c.args.place.now in
-    let m = shown_member c.in-Ok.named.member in
+    let m = shown_names c.in-Ok.named.member in
     let v = c.in_ok-taken.taken.value in
     let same : c.from_residual-in_err-reference.result ≡ Err c.in_err-reference.field-0.0 = search rules in
     refusing e _ _ c.in_err-reference.field-0.0 (store_outcome e at)
@@ -33,7 +33,7 @@ pub returns-in_err-at-clause-is : goal.returns-in_err-at-clause-is
 returns-in_err-at-clause-is g c =
     let e = moment c.args.program.now c.args.machine.now c.args.thread in
     let at = site_at c.args.place.now in
-    let m = shown_member c.in-Ok.named.member in
+    let m = shown_names c.in-Ok.named.member in
     let v = c.in_ok-taken.taken.value in
     let below = drop (c.in_ok-taken.taken.width + 1) (top c.args.machine.now.guest c.args.thread).operands in
     let same : c.from_residual-in_err-at.result ≡ Err c.in_err-at.field-0.0 = search rules in
@@ -44,7 +44,7 @@ pub returns-clause-is : goal.returns-clause-is
 returns-clause-is g c =
     let e = moment c.args.program.now c.args.machine.now c.args.thread in
     let at = site_at c.args.place.now in
-    let m = shown_member c.in-Ok.named.member in
+    let m = shown_names c.in-Ok.named.member in
     let v = c.in_ok-taken.taken.value in
     let x = c.in_ok-at.at in
     let below = drop (c.in_ok-taken.taken.width + 1) (top c.args.machine.now.guest c.args.thread).operands in

@@ -6,7 +6,7 @@ use Rattle.et_program.specs.declared.info.FieldInfo.{FieldInfo}
 use Rattle.et_event.specs.declared.rows.Operand.{Operand}
 use Rattle.et_event.specs.Checks.{ill_typed_unless}
 use Rattle.et_event.specs.Kinds.{operand_kind}
-use Rattle.et_parts.specs.Members.{shown_member}
+use Rattle.et_program.specs.Resolved.{shown_names}
 use Rattle.et_parts.specs.Places.{site_at}
 use Rattle.et_event.specs.Moments.{moment}
 use Rattle.et_refs.proofs.Chains.{refusing}
@@ -20,7 +20,7 @@ pub returns-in_err-field-clause-is : goal.returns-in_err-field-clause-is
 returns-in_err-field-clause-is c =
     let e = moment c.args.program.now c.args.machine.now c.args.thread in
     let at = site_at c.args.place.now in
-    let m = shown_member c.in-Ok.named.member in
+    let m = shown_names c.in-Ok.named.member in
     let ops = (top c.args.machine.now.guest c.args.thread).operands in
     let room = (top c.args.machine.now.guest c.args.thread).room in
     let same : c.from_residual-in_err-field.result ≡ Err c.in_err-field.field-0.0 = search rules in
@@ -32,7 +32,7 @@ pub returns-clause-is : goal.returns-clause-is
 returns-clause-is c =
     let e = moment c.args.program.now c.args.machine.now c.args.thread in
     let at = site_at c.args.place.now in
-    let m = shown_member c.in-Ok.named.member in
+    let m = shown_names c.in-Ok.named.member in
     let ops = (top c.args.machine.now.guest c.args.thread).operands in
     let room = (top c.args.machine.now.guest c.args.thread).room in
     c.in-Ok.ensures.is e (gets e at) ∙ (ap (λ (w : ℕ). ill_typed_unless e (nat_le (w + length ops) room) (gets_field e at m)) (sym c.width_of.ensures.value)

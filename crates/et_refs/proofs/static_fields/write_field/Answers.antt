@@ -4,7 +4,7 @@ use Rattle.et_state.specs.State.{kept_of}
 use Rattle.et_state.specs.Words.{top}
 use Rattle.et_program.specs.declared.info.FieldInfo.{FieldInfo}
 use Rattle.et_event.specs.Kinds.{narrowed}
-use Rattle.et_parts.specs.Members.{shown_member}
+use Rattle.et_program.specs.Resolved.{shown_names}
 use Rattle.et_parts.specs.Places.{site_at}
 use Rattle.et_event.specs.Moments.{moment}
 use Rattle.et_refs.proofs.Chains.{refusing}
@@ -18,7 +18,7 @@ pub returns-in_err-taken-clause-is : goal.returns-in_err-taken-clause-is
 returns-in_err-taken-clause-is c =
     let e = moment c.args.program.now c.args.machine.now c.args.thread in
     let at = site_at c.args.place.now in
-    let m = shown_member c.in-Ok.named.member in
+    let m = shown_names c.in-Ok.named.member in
     let same : c.from_residual.result ≡ Err c.in_err-taken.field-0.0 = search rules in
     refusing e _ _ c.in_err-taken.field-0.0 (wanted_outcome e at) (c.in-Ok.ensures.is e (puts e at) ∙ c.in_err-taken.ensures.is e (puts_field e at m)) same
 
@@ -26,7 +26,7 @@ pub returns-in_err-field-clause-is : goal.returns-in_err-field-clause-is
 returns-in_err-field-clause-is c =
     let e = moment c.args.program.now c.args.machine.now c.args.thread in
     let at = site_at c.args.place.now in
-    let m = shown_member c.in-Ok.named.member in
+    let m = shown_names c.in-Ok.named.member in
     let v = c.in_ok-taken.taken.value in
     let below = drop c.in_ok-taken.taken.width (top c.args.machine.now.guest c.args.thread).operands in
     let same : c.from_residual-in_err-field.result ≡ Err c.in_err-field.field-0.0 = search rules in
@@ -37,7 +37,7 @@ pub returns-clause-is : goal.returns-clause-is
 returns-clause-is c =
     let e = moment c.args.program.now c.args.machine.now c.args.thread in
     let at = site_at c.args.place.now in
-    let m = shown_member c.in-Ok.named.member in
+    let m = shown_names c.in-Ok.named.member in
     let v = c.in_ok-taken.taken.value in
     let width = c.in_ok-taken.taken.width in
     let below = drop width (top c.args.machine.now.guest c.args.thread).operands in
