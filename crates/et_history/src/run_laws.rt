@@ -1,5 +1,5 @@
 //! The histories of every linked program. Each law is a function with an empty body: what it promises is its contract.
-//! `IsTabled` and `IsLinked` hold of each `Program`, as its calls `names_what_it_has` and `is_linked` tell.
+//! `IsTabled` and `IsLinked` hold of each `Program`, as its call `is_linked` tells.
 
 ghost use Rattle.std.specs.Prelude.{◌≡◌, ◌↔◌, ℕ, ◌+◌, ◌<◌, ◌≤◌, Bool, Some, Contains};
 ghost use Rattle.et_graph.specs.Graph.{Graph, Decides};

@@ -73,17 +73,11 @@ impl Model for Program {
 }
 
 impl Program {
-    /// Does nothing. Its contract is what holds of each program: what its tables name is in them.
-    pub fn names_what_it_has(&self)
-        ensures { IsTabled self.now }
-    {
-        let _ = &self.classes;
-    }
-
-    /// Does nothing. Its contract is what holds of each program: it is that of class files, which show no fault (JVMS 5.3,
-    /// 5.4).
+    /// Does nothing. Its contract is what holds of each program: what its tables name is in them, and it is that of class
+    /// files, which show no fault (JVMS 5.3, 5.4).
     pub fn is_linked(&self)
-        ensures { IsLinked self.now }
+        ensures tabled { IsTabled self.now }
+        ensures linked { IsLinked self.now }
     {
         let _ = &self.classes;
     }

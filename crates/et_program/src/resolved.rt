@@ -1,6 +1,6 @@
 //! What the entries of the pools refer to, resolved once and kept beside them.
 
-ghost use Rattle.std.specs.Prelude.{◌≡◌, ℕ, ◌<◌, [], ◌∷◌, ◌++◌, length, IfSome, IfOk, OnOk};
+ghost use Rattle.std.specs.Prelude.{◌≡◌, ℕ, ◌<◌, length, IfSome, IfOk};
 ghost use Rattle.std.specs.List.{slice_index_or};
 ghost use Rattle.et_program.specs.declared.resolved.Resolved.TheVariants.{Nothing};
 ghost use Rattle.et_program.specs.Referring.{class_referred, field_referred, method_referred};
@@ -49,22 +49,6 @@ impl Model for ResolvedPool {
 }
 
 impl ResolvedPool {
-    /// Nothing is kept yet; there is room for so many entries. The only error is want of memory.
-    fn begin(alloc: Global, count: usize) -> Result<Self, NoMemory>
-        ensures { IfOk result (λ r. r ≡ []) }
-    {
-        let entries = Vec::with_capacity(alloc, count)?;
-        Ok(ResolvedPool { entries })
-    }
-
-    /// Keeps this of the entry at the next index. The only error is want of memory.
-    fn push(&mut self, entry: Resolved) -> Result<(), NoMemory>
-        ensures { OnOk result (self.new ≡ self.old ++ entry ∷ []) }
-    {
-        self.entries.push(entry)?;
-        Ok(())
-    }
-
     /// What is kept of the entry at an index.
     pub(crate) fn at(&self, index: u16) -> Resolved
         ensures { result ≡ slice_index_or self.now index Nothing }
@@ -102,28 +86,22 @@ impl Program {
         }
     }
 
-    /// How many indices the pool of a class has; an index has 16 bits.
-    fn index_count(&self, class: ClassId) -> u16
-        requires { class < length self.now.classes }
-    {
-        match self.pool(class) {
-            Some(pool) => pool.len().min(65_535) as u16,
-            None => 0,
-        }
-    }
-
     /// What is to be kept of the entries of the pool of a class.
     fn pool_resolved(&self, alloc: Global, class: ClassId) -> Result<ResolvedPool, NoMemory>
         requires { class < length self.now.classes }
         ensures { IfOk result
             (λ r. (index : ℕ) → IsResolved self.now class index (slice_index_or r index Nothing)) }
     {
-        let count = self.index_count(class);
-        let mut entries = ResolvedPool::begin(alloc, count as usize)?;
+        // An index has 16 bits.
+        let count = match self.pool(class) {
+            Some(pool) => pool.len().min(65_535) as u16,
+            None => 0,
+        };
+        let mut entries = Vec::with_capacity(alloc, count as usize)?;
         for index in 0..count {
             entries.push(self.entry_resolved(class, index))?;
         }
-        Ok(entries)
+        Ok(ResolvedPool { entries })
     }
 
     /// What is to be kept of the entries of all pools. The only error is want of memory.

@@ -1,7 +1,6 @@
 //! The numbers by which methods are looked for.
 
-ghost use Rattle.std.specs.Prelude.{◌≡◌, map, unwrap_or, IfOk};
-ghost use Rattle.et_program.specs.Indices.{number_of_name};
+ghost use Rattle.std.specs.Prelude.{◌≡◌, map, IfOk};
 ghost use Rattle.et_program.specs.Signatures.{signature_of};
 
 use crate::info::MethodInfo;
@@ -28,13 +27,6 @@ pub(crate) enum Sought<'a> {
     Like(MethodId),
 }
 
-/// The number of a text, or 0 where it has none.
-fn number_of(texts: &NameIndex, text: &[u8]) -> u32
-    ensures { result ≡ unwrap_or (number_of_name texts.now text.now) 0 }
-{
-    texts.find(text).unwrap_or(0)
-}
-
 /// The numbers of the names and descriptors of these methods. The only error is want of memory.
 pub(crate) fn signatures_of(
     alloc: Global,
@@ -46,8 +38,8 @@ pub(crate) fn signatures_of(
     let mut signatures = Vec::with_capacity(alloc, methods.len())?;
     for method in methods {
         signatures.push(Signature {
-            name: number_of(texts, method.name.as_slice()),
-            descriptor: number_of(texts, method.descriptor.as_slice()),
+            name: texts.find(method.name.as_slice()).unwrap_or(0),
+            descriptor: texts.find(method.descriptor.as_slice()).unwrap_or(0),
         })?;
     }
     Ok(signatures)

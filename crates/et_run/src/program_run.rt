@@ -110,7 +110,6 @@ pub fn run<O: Sink, L: Ledger>(
     ensures never_falls { O.faults sink.old ≤ O.faults sink.new }
 {
     // Laws: they tell the prover, and do nothing.
-    program.names_what_it_has();
     program.is_linked();
     files_keep_rules();
     programs_may_run();

@@ -9,4 +9,4 @@ pub returns-clause-short : goal.returns-clause-short
 returns-clause-short c =
     let p : Linked = c.self.inside.program.now in
     let within : c.args.method < length p.methods = subst (λ (q : Linked). c.args.method < length q.methods) (sym c.self.view_is) c.requires in
-    subst (λ (name : List ℕ). IsShort name) (sym (c.as_slice.ensures ∙ ap (λ (m : MethodInfo). m.descriptor) c.method.ensures.value)) (descriptors_short p c.is_linked.ensures c.args.method within)
+    subst (λ (name : List ℕ). IsShort name) (sym (c.as_slice.ensures ∙ ap (λ (m : MethodInfo). m.descriptor) c.method.ensures.value)) (descriptors_short p c.is_linked.ensures.linked c.args.method within)
