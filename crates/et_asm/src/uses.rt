@@ -219,7 +219,8 @@ fn add_all_operands<'a>(
 /// Adds the classes that the handlers of a body catch.
 fn add_all_caught<'a>(pool: &mut IndexSet<Entry<'a>>, body: &[Parsed<'a>]) -> Result<(), AllocError>
     ensures { OnOk result
-        (pool.new.keys ≡ entry_added pool.old.keys (flat_map (λ p. catch_entries p.line) body.now)) }
+        (pool.new.keys ≡ entry_added pool.old.keys
+        (flat_map (λ p. catch_entries p.line) body.now)) }
 {
     for p in body {
         add_caught(pool, &p.line)?;

@@ -244,7 +244,8 @@ fn static_plan(
 fn state_plan(state: ClassState, thread: ThreadId, method: MethodId, count: u32) -> CallPlan
     ensures plan { (e : Moment) (at : Site) (class named : ℕ) → e.thread ≡ thread →
         (method_at e.program method).class ≡ class → state_of (begins e) class ≡ state →
-        dispatched e at kinds.Static (arguments_of e count) named method ≡ call_planned e at result }
+        dispatched e at kinds.Static (arguments_of e count) named method
+        ≡ call_planned e at result }
     ensures entered { (method_entered result ≡ None) ⊎ (method_entered result ≡ Some method) }
     ensures within { (e : Moment) → method < length e.program.methods →
         HasCallRoom e method count → count ≤ length (current_frame e).operands →
@@ -391,7 +392,8 @@ fn resolve(program: &Program, place: &Place<'_>) -> Result<(ClassId, MethodId), 
         resolved e (begins e) (resolve_class e.program m.owner) (λ owner. resolved e (begins e)
         (resolve_method e.program owner (is_of_interface (site_at place.now)) m.name m.descriptor)
         (go owner)) ≡ resolving e result go }
-    ensures found { (m : Member) (go : ℕ → ℕ → Option ℕ) → site_member (site_at place.now) ≡ Some m →
+    ensures found { (m : Member) (go : ℕ → ℕ → Option ℕ) → site_member (site_at place.now)
+        ≡ Some m →
         with_resolved program.now (is_of_interface (site_at place.now)) m go
         ≡ option_and_then (λ x. go x.0 x.1) (result_ok result) }
     ensures within { IfOk result

@@ -108,7 +108,8 @@ pub fn histories_tell_the_same()
         (pick : ℕ → ℕ) (e : ℕ) (end : End) → Decides reached → IsSoundRun p (start p) →
         AreOptions options →
         IsLastEvent reached (picked p options pick) (start p) (start_records p) e end
-        ↔ IsLastEvent reached (whole_picked p options pick) (whole_start p) (start_records p) e end }
+        ↔ IsLastEvent reached (whole_picked p options pick) (whole_start p) (start_records p)
+        e end }
 {}
 
 /// So a trace of one history is a trace of the other, and a prefix of it is too. A run may make as many visits of objects, up

@@ -18,7 +18,8 @@ use std::alloc::Global;
 
 /// The classes of the set by name.
 pub(crate) fn index_set(alloc: Global, set: &[ClassOutline]) -> Result<NameIndex, NoMemory>
-    ensures { IfOk result (λ x. (name : List ℕ) → number_of_name x name ≡ class_place set.now name) }
+    ensures { IfOk result
+        (λ x. (name : List ℕ) → number_of_name x name ≡ class_place set.now name) }
 {
     let mut places = NameIndex::begin(alloc);
     for (i, class) in set.iter().enumerate() {

@@ -114,7 +114,8 @@ fn take_slot(next: &mut Vec<u32>, statics: &mut u32, field: &FieldInfo) -> Resul
     requires { field.now.class < length next.old.items }
     ensures length { length next.new.items ≡ length next.old.items }
     ensures slot { IfOk result (λ slot. (base : ℕ → ℕ) (before : List FieldOf) →
-        Counts base before next.old.items statics.old → slot ≡ slot_of_field base before field.now) }
+        Counts base before next.old.items statics.old →
+        slot ≡ slot_of_field base before field.now) }
     ensures counts { IfOk result (λ slot. (base : ℕ → ℕ) (before : List FieldOf) →
         Counts base before next.old.items statics.old →
         Counts base (before ++ field.now ∷ []) next.new.items statics.new) }

@@ -65,8 +65,8 @@ fn move_one(machine: &mut Machine, thread: ThreadId, i: u16, next: u32)
           guest = with_top (ticked machine.old.guest) thread
               (record (top machine.old.guest thread) {
                 pc = next;
-                locals = one_stored i
-                    (operand_of (top machine.old.guest thread) 0) (top machine.old.guest thread).locals;
+                locals = one_stored i (operand_of (top machine.old.guest thread) 0)
+                    (top machine.old.guest thread).locals;
                 operands = drop 1 (top machine.old.guest thread).operands;
               });
         }) machine.new }

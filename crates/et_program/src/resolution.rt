@@ -38,7 +38,8 @@ impl Program {
     /// The method in the first of these classes that has it.
     fn first_method(&self, sought: &Sought<'_>, classes: &[ClassId]) -> Option<MethodId>
         requires { IsSought self.now sought.now }
-        ensures value { result ≡ first_in (method_in self.now (sought_name self.now sought.now) (sought_descriptor self.now sought.now)) classes.now }
+        ensures value { result ≡ first_in (method_in self.now (sought_name self.now sought.now)
+            (sought_descriptor self.now sought.now)) classes.now }
         ensures within { IfSome result (λ m. m < length self.now.methods) }
     {
         for class in classes {
@@ -61,7 +62,8 @@ impl Program {
     /// The method of a class with this name and descriptor, if it is neither private nor static.
     fn open_in(&self, sought: &Sought<'_>, class: ClassId) -> Option<MethodId>
         requires { IsSought self.now sought.now }
-        ensures value { result ≡ open_in self.now (sought_name self.now sought.now) (sought_descriptor self.now sought.now) class }
+        ensures value { result ≡ open_in self.now (sought_name self.now sought.now)
+            (sought_descriptor self.now sought.now) class }
         ensures within { IfSome result (λ m. m < length self.now.methods) }
     {
         match self.method_sought(sought, class) {
@@ -77,7 +79,8 @@ impl Program {
     /// The first such method in these classes.
     fn first_open(&self, sought: &Sought<'_>, classes: &[ClassId]) -> Option<MethodId>
         requires { IsSought self.now sought.now }
-        ensures value { result ≡ first_in (open_in self.now (sought_name self.now sought.now) (sought_descriptor self.now sought.now)) classes.now }
+        ensures value { result ≡ first_in (open_in self.now (sought_name self.now sought.now)
+            (sought_descriptor self.now sought.now)) classes.now }
         ensures within { IfSome result (λ m. m < length self.now.methods) }
     {
         for class in classes {
@@ -92,7 +95,8 @@ impl Program {
     fn is_overridden(&self, sought: &Sought<'_>, all: &[ClassId], interface: ClassId) -> bool
         requires sought { IsSought self.now sought.now }
         requires all { All (λ k. k < length self.now.classes) all.now }
-        ensures { result ≡ is_overridden self.now (sought_name self.now sought.now) (sought_descriptor self.now sought.now) all.now interface }
+        ensures { result ≡ is_overridden self.now (sought_name self.now sought.now)
+            (sought_descriptor self.now sought.now) all.now interface }
     {
         for other in all {
             if self.is_above(interface, *other) && self.open_in(sought, *other).is_some() {
@@ -111,7 +115,8 @@ impl Program {
     ) -> Option<MethodId>
         requires sought { IsSought self.now sought.now }
         requires all { All (λ k. k < length self.now.classes) all.now }
-        ensures value { result ≡ specific_in self.now (sought_name self.now sought.now) (sought_descriptor self.now sought.now) all.now interface }
+        ensures value { result ≡ specific_in self.now (sought_name self.now sought.now)
+            (sought_descriptor self.now sought.now) all.now interface }
         ensures within { IfSome result (λ m. m < length self.now.methods) }
     {
         if self.is_overridden(sought, all, interface) {
@@ -133,7 +138,8 @@ impl Program {
         requires sought { IsSought self.now sought.now }
         requires all { All (λ k. k < length self.now.classes) all.now }
         ensures value { result
-            ≡ amount (filter_map (specific_in self.now (sought_name self.now sought.now) (sought_descriptor self.now sought.now) all.now) all.now) }
+            ≡ amount (filter_map (specific_in self.now (sought_name self.now sought.now)
+            (sought_descriptor self.now sought.now) all.now) all.now) }
         ensures within { IsOneBelow (length self.now.methods) result }
     {
         let mut found = Specific::Nothing;
@@ -148,7 +154,8 @@ impl Program {
     fn resolved_above(&self, sought: &Sought<'_>, class: ClassId) -> Option<MethodId>
         requires sought { IsSought self.now sought.now }
         requires class { class < length self.now.classes }
-        ensures value { result ≡ resolved_above self.now (sought_name self.now sought.now) (sought_descriptor self.now sought.now) class }
+        ensures value { result ≡ resolved_above self.now (sought_name self.now sought.now)
+            (sought_descriptor self.now sought.now) class }
         ensures within { IfSome result (λ m. m < length self.now.methods) }
     {
         let all = self.entry(class).superinterfaces();

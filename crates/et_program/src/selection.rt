@@ -26,7 +26,8 @@ impl Program {
     /// The method of a class with this name and descriptor, if selection may stop there.
     fn selectable_in(&self, special: bool, sought: &Sought<'_>, class: ClassId) -> Option<MethodId>
         requires { IsSought self.now sought.now }
-        ensures value { result ≡ selectable_in self.now special (sought_name self.now sought.now) (sought_descriptor self.now sought.now) class }
+        ensures value { result ≡ selectable_in self.now special (sought_name self.now sought.now)
+            (sought_descriptor self.now sought.now) class }
         ensures within { IfSome result (λ m. m < length self.now.methods) }
     {
         match self.method_sought(sought, class) {
@@ -48,7 +49,8 @@ impl Program {
     ) -> Option<MethodId>
         requires { IsSought self.now sought.now }
         ensures value { result
-            ≡ first_in (selectable_in self.now special (sought_name self.now sought.now) (sought_descriptor self.now sought.now)) classes.now }
+            ≡ first_in (selectable_in self.now special (sought_name self.now sought.now)
+            (sought_descriptor self.now sought.now)) classes.now }
         ensures within { IfSome result (λ m. m < length self.now.methods) }
     {
         for class in classes {
@@ -69,7 +71,8 @@ impl Program {
         requires sought { IsSought self.now sought.now }
         requires class { class < length self.now.classes }
         ensures value { result ≡ first_in
-            (selectable_in self.now special (sought_name self.now sought.now) (sought_descriptor self.now sought.now)) (lineage self.now class) }
+            (selectable_in self.now special (sought_name self.now sought.now)
+            (sought_descriptor self.now sought.now)) (lineage self.now class) }
         ensures within { IfSome result (λ m. m < length self.now.methods) }
     {
         match self.selectable_in(special, sought, class) {
@@ -87,7 +90,8 @@ impl Program {
     ) -> Result<MethodId, LinkError>
         requires sought { IsSought self.now sought.now }
         requires class { class < length self.now.classes }
-        ensures value { result ≡ select_from self.now special (sought_name self.now sought.now) (sought_descriptor self.now sought.now) class }
+        ensures value { result ≡ select_from self.now special (sought_name self.now sought.now)
+            (sought_descriptor self.now sought.now) class }
         ensures within { IfOk result (λ m. m < length self.now.methods) }
     {
         match self.selectable_upward(special, sought, class) {

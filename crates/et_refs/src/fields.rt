@@ -75,7 +75,8 @@ pub(crate) fn field_named<'a>(
     requires index { natural_of place.now.instr.first < 2 ^ 16 }
     requires pool { (site_at place.now).pool ≡ pool_of_class program.now place.now.class }
     ensures is { (e : Moment) (go : Member → Outcome Kept) → with_field e
-        (site_member (site_at place.now)) go ≡ outcome_of e result (λ x. go (shown_names x.member)) }
+        (site_member (site_at place.now)) go ≡ outcome_of e result (λ x. go
+        (shown_names x.member)) }
     ensures field { IfOk result (λ x. is_of_field x.member.descriptor.now ≡ true) }
     ensures answered { IfOk result (λ x. IsAnswered program.now x) }
 {
@@ -152,7 +153,8 @@ fn field_slot<L: Ledger>(
     requires named { IsNamedReference machine.now (top machine.now.guest thread) reference }
     ensures is { (go : ℕ → ℕ → Outcome Kept) → resolved_field
         (moment program.now machine.now thread) (begins (moment program.now machine.now thread))
-        (shown_names named.now.member) (λ f. throwing_unless (moment program.now machine.now thread)
+        (shown_names named.now.member) (λ f. throwing_unless
+        (moment program.now machine.now thread)
         (begins (moment program.now machine.now thread)) IncompatibleClassChangeError
         (not (is_static_at program.now f)) (with_holder (moment program.now machine.now thread)
         (begins (moment program.now machine.now thread)) f reference

@@ -415,7 +415,8 @@ pub fn initialization_keeps_sound()
         KeepsSound e.program (go x)) → KeepsSound e.program (initialized e d c go) }
     ensures begins { (e : Moment) (c : ℕ) (d : Doing) →
         HasInitializers e.program → MakesSound e.program →
-        c < length e.program.classes → IsUnderWayAt e d → KeepsSound e.program (begins_class e c d) }
+        c < length e.program.classes → IsUnderWayAt e d →
+        KeepsSound e.program (begins_class e c d) }
     ensures step { (e : Moment) (c : ℕ) → IsSoundFor e.program e.before →
         e.before.guest.clock < 2 ^ 40 → HasFrame e.before.guest e.thread → (current_frame e).stage
         ≡ stages.Before c → c < length e.program.classes → HasInitializers e.program →
