@@ -3,7 +3,7 @@ use Rattle.std.proofs.Common.{◌≡◌, ℕ, ◌+◌, ◌<◌, List, [], ◌∷
 use Rattle.std.specs.List.{flat_map}
 use Rattle.std.proofs.lemmas.List.{get_or_default}
 use Rattle.et_hierarchy.specs.Links.{LinkEntry}
-use Rattle.et_hierarchy.specs.Ancestry.{Ancestry, no_ancestry, ancestry_at, class_added, added_all, once, supers_over, superinterfaces_over, field_order_over, ancestry_of}
+use Rattle.et_hierarchy.specs.Ancestry.{Ancestry, no_ancestry, ancestry_at, class_added, added_all, once, superinterfaces_over, field_order_over, ancestry_of}
 
 abbrev pub made : List ℕ → List ℕ → List ℕ → Ancestry
 made s i f = record { supers = s; superinterfaces = i; field_order = f }
@@ -31,15 +31,17 @@ add_pair list list' list'' part x e f = f ∙ (ap (λ l. class_added l x) e ∙ 
 pub record_is : (a a' b b' c c' : List ℕ) → a ≡ a' → b ≡ b' → c ≡ c' → made a b c ≡ made a' b' c'
 record_is a a' b b' c c' e f g = ap (λ x. made x b c) e ∙ (ap (λ x. made a' x c) f ∙ ap (λ x. made a' b' x) g)
 
-pub row_is : (l : LinkEntry) (rows : List Ancestry) (k : ℕ) (above : Option ℕ) (ints s w si si' v fo fo' fo'' : List ℕ) → above ≡ l.above → ints ≡ l.interfaces → s ≡ supers_over rows above
-    → w ≡ [] → si ≡ added_all w (superinterfaces_over rows above) → si' ≡ added_all si (flat_map (λ i. (ancestry_at rows i).superinterfaces ++ i ∷ []) ints)
-    → v ≡ [] → fo ≡ class_added v k → fo' ≡ added_all fo (flat_map (λ i. (ancestry_at rows i).field_order) ints) → fo'' ≡ added_all fo' (field_order_over rows above) → made s si' fo'' ≡ ancestry_of l rows k
-row_is l rows k above ints s w si si' v fo fo' fo'' ea ei es ew e1 e2 ev e3 e4 e5 =
+pub superinterfaces_are : (l : LinkEntry) (rows : List Ancestry) (k : ℕ) (above : Option ℕ) (ints w si si' : List ℕ) → above ≡ l.above → ints ≡ l.interfaces
+    → w ≡ [] → si ≡ added_all w (superinterfaces_over rows above) → si' ≡ added_all si (flat_map (λ i. (ancestry_at rows i).superinterfaces ++ i ∷ []) ints) → si' ≡ (ancestry_of l rows k).superinterfaces
+superinterfaces_are l rows k above ints w si si' ea ei ew e1 e2 =
     let F : ℕ → List ℕ = λ i. (ancestry_at rows i).superinterfaces ++ i ∷ [] in
+    e2 ∙ (ap (λ z. added_all z (flat_map F ints)) (e1 ∙ ap (λ z. added_all z (superinterfaces_over rows above)) ew) ∙ (sym (added_all-append [] (superinterfaces_over rows above) (flat_map F ints)) ∙ (ap (λ a. once (superinterfaces_over rows a ++ flat_map F ints)) ea ∙ ap (λ is. once (superinterfaces_over rows l.above ++ flat_map F is)) ei)))
+
+pub field_order_is : (l : LinkEntry) (rows : List Ancestry) (k : ℕ) (above : Option ℕ) (ints v fo fo' fo'' : List ℕ) → above ≡ l.above → ints ≡ l.interfaces
+    → v ≡ [] → fo ≡ class_added v k → fo' ≡ added_all fo (flat_map (λ i. (ancestry_at rows i).field_order) ints) → fo'' ≡ added_all fo' (field_order_over rows above) → fo'' ≡ (ancestry_of l rows k).field_order
+field_order_is l rows k above ints v fo fo' fo'' ea ei ev e3 e4 e5 =
     let G : ℕ → List ℕ = λ i. (ancestry_at rows i).field_order in
-    record_is _ _ _ _ _ _ (es ∙ ap (supers_over rows) ea)
-    (e2 ∙ (ap (λ z. added_all z (flat_map F ints)) (e1 ∙ ap (λ z. added_all z (superinterfaces_over rows above)) ew) ∙ (sym (added_all-append [] (superinterfaces_over rows above) (flat_map F ints)) ∙ (ap (λ a. once (superinterfaces_over rows a ++ flat_map F ints)) ea ∙ ap (λ is. once (superinterfaces_over rows l.above ++ flat_map F is)) ei))))
-    (e5 ∙ (ap (λ z. added_all z (field_order_over rows above)) (e4 ∙ ap (λ z. added_all z (flat_map G ints)) (e3 ∙ ap (λ z. class_added z k) ev)) ∙ (sym (added_all-append (class_added [] k) (flat_map G ints) (field_order_over rows above)) ∙ (ap (λ a. once (k ∷ flat_map G ints ++ field_order_over rows a)) ea ∙ ap (λ is. once (k ∷ flat_map G is ++ field_order_over rows l.above)) ei))))
+    e5 ∙ (ap (λ z. added_all z (field_order_over rows above)) (e4 ∙ ap (λ z. added_all z (flat_map G ints)) (e3 ∙ ap (λ z. class_added z k) ev)) ∙ (sym (added_all-append (class_added [] k) (flat_map G ints) (field_order_over rows above)) ∙ (ap (λ a. once (k ∷ flat_map G ints ++ field_order_over rows a)) ea ∙ ap (λ is. once (k ∷ flat_map G is ++ field_order_over rows l.above)) ei)))
 
 pub no_elements : (xs : List ℕ) → length xs ≡ 0 → xs ≡ []
 no_elements [] e = refl

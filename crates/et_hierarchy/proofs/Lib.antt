@@ -6,6 +6,7 @@ pub mod Sortings
 pub mod LinkLemmas
 pub mod FaultLemmas
 pub mod AddLemmas
+pub mod OnceLemmas
 pub mod BelowLemmas
 pub mod Rounds
 pub mod OrderedRows

@@ -9,6 +9,7 @@ ghost use Rattle.et_hierarchy.specs.Initialization.{interfaces_to_run, with_inte
 use crate::links::Links;
 use crate::rows::Row;
 use crate::tables::{add, add_all, add_interfaces};
+use et_base::ClassId;
 use indexmap::IndexSet;
 use std::alloc::{AllocError, Global};
 
@@ -56,6 +57,26 @@ fn marked_among(alloc: Global, marks: &[bool], classes: &[u32]) -> Result<Vec<u3
     Ok(list)
 }
 
+/// Puts the interfaces that are initialized with a class behind a list.
+fn add_interfaces_to_run(
+    alloc: Global,
+    list: &mut IndexSet<u32>,
+    needs: &[bool],
+    rows: &[Row],
+    links: &Links,
+) -> Result<(), AllocError>
+    requires { All (λ i. i < length rows.now) links.now.interfaces }
+    ensures { OnOk result (list.new.keys ≡ added_all list.old.keys
+        (interfaces_to_run (λ k. slice_index_or needs.now k false) rows.now links.now)) }
+{
+    if links.interfaces().is_empty() {
+        return Ok(());
+    }
+    let found = interfaces_to_run(alloc, needs, rows, links)?;
+    add_all(list, found.as_slice())?;
+    Ok(())
+}
+
 /// Puts a class, after the interfaces that are initialized with it, behind a list.
 fn add_with_interfaces(
     alloc: Global,
@@ -72,8 +93,7 @@ fn add_with_interfaces(
         (with_interfaces (λ k. slice_index_or needs.now k false) table.now rows.now class)) }
 {
     let links = &table[class as usize];
-    let found = interfaces_to_run(alloc, needs, rows, links)?;
-    add_all(list, found.as_slice())?;
+    add_interfaces_to_run(alloc, list, needs, rows, links)?;
     add(list, class)?;
     Ok(())
 }
@@ -85,7 +105,7 @@ fn add_downward(
     needs: &[bool],
     table: &[Links],
     rows: &[Row],
-    supers: &[u32],
+    supers: &[ClassId],
 ) -> Result<(), AllocError>
     requires supers { All (λ k. k < length table.now) supers.now }
     requires same { length rows.now ≡ length table.now }
@@ -96,7 +116,7 @@ fn add_downward(
     let mut left = supers.len();
     while left > 0 {
         left -= 1;
-        add_with_interfaces(alloc, list, needs, table, rows, supers[left])?;
+        add_with_interfaces(alloc, list, needs, table, rows, supers[left].number())?;
     }
     Ok(())
 }

@@ -1,16 +1,17 @@
 //! The lists of a class.
 
-ghost use Rattle.std.specs.Prelude.{◌≡◌, [], List};
+ghost use Rattle.std.specs.Prelude.{◌≡◌};
 
-use std::alloc::Global;
+use crate::lists::ClassList;
+use et_base::ClassId;
 use std::marker::Model;
 
 /// The superclasses and superinterfaces of a class, and where it looks for a field, by place.
 #[derive(Drop)]
 pub struct Row {
-    supers: Vec<u32>,
+    supers: ClassList,
     superinterfaces: Vec<u32>,
-    field_order: Vec<u32>,
+    field_order: ClassList,
 }
 
 impl Model for Row {
@@ -19,20 +20,18 @@ impl Model for Row {
     ghost Value = { Ancestry };
 
     ghost view = { λ r. record {
-      supers = r.supers.items;
+      supers = r.supers;
       superinterfaces = r.superinterfaces.items;
-      field_order = r.field_order.items;
+      field_order = r.field_order;
     } };
 }
 
 impl Row {
-    ghost use Rattle.et_hierarchy.specs.Ancestry.{no_ancestry};
-
-    pub(crate) fn new(supers: Vec<u32>, superinterfaces: Vec<u32>, field_order: Vec<u32>) -> Self
+    pub(crate) fn new(supers: ClassList, superinterfaces: Vec<u32>, field_order: ClassList) -> Self
         ensures { result ≡ record {
-          supers = supers.items;
+          supers = supers;
           superinterfaces = superinterfaces.items;
-          field_order = field_order.items;
+          field_order = field_order;
         } }
     {
         Row {
@@ -42,21 +41,18 @@ impl Row {
         }
     }
 
-    pub(crate) fn empty(alloc: Global) -> Self
-        ensures { result ≡ no_ancestry }
-    {
-        Row {
-            supers: Vec::new(alloc),
-            superinterfaces: Vec::new(alloc),
-            field_order: Vec::new(alloc),
-        }
-    }
-
     /// The superclasses, nearest first.
-    pub fn supers(&self) -> &[u32]
+    pub fn supers(&self) -> &[ClassId]
         ensures { result.now ≡ self.now.supers }
     {
         self.supers.as_slice()
+    }
+
+    /// The list of the superclasses, to be shared.
+    pub fn list_of_supers(&self) -> &ClassList
+        ensures { result.now ≡ self.now.supers }
+    {
+        &self.supers
     }
 
     /// All superinterfaces, each once: those of the superclass first, then by the interface list, each behind its own
@@ -68,9 +64,16 @@ impl Row {
     }
 
     /// Where a field is looked for, in order: the class itself, its superinterfaces, its superclasses (JVMS 5.4.3.2).
-    pub fn field_order(&self) -> &[u32]
+    pub fn field_order(&self) -> &[ClassId]
         ensures { result.now ≡ self.now.field_order }
     {
         self.field_order.as_slice()
+    }
+
+    /// The list of where a field is looked for, to be shared.
+    pub fn list_of_field_order(&self) -> &ClassList
+        ensures { result.now ≡ self.now.field_order }
+    {
+        &self.field_order
     }
 }

@@ -1,13 +1,16 @@
 //! The superclasses and superinterfaces of each class.
 
 ghost use Rattle.std.specs.Prelude.{◌≡◌, ℕ, ◌<◌, ◌^◌, List, [], ◌∷◌, ◌++◌, length, All, OnOk, IfOk, IfSome, Option};
+ghost use Rattle.std.specs.Bool.{OnTrue};
 ghost use Rattle.std.specs.List.{slice_index_or, flat_map};
 ghost use Rattle.et_hierarchy.specs.Links.{LinkEntry, parents_of, parents, no_links, IsAcyclic, HasLinksWithin};
-ghost use Rattle.et_hierarchy.specs.Ancestry.{ancestry_at, class_added, added_all, once, supers_over, superinterfaces_over, field_order_over, ancestry_of, IsAncestry, IsBelow};
+ghost use Rattle.et_hierarchy.specs.Ancestry.{ancestry_at, class_added, added_all, once, supers_over, superinterfaces_over, field_order_over, ancestry_of, IsAncestry, IsBelow, LooksUpward};
 
 use crate::links::Links;
+use crate::lists::ClassList;
 use crate::rows::Row;
 use crate::sorting::sort;
+use et_base::ClassId;
 use indexmap::IndexSet;
 use std::alloc::{AllocError, Global};
 
@@ -29,20 +32,47 @@ pub(crate) fn add_all(list: &mut IndexSet<u32>, classes: &[u32]) -> Result<(), A
     Ok(())
 }
 
-/// The superclasses of a class, upward.
-fn supers(alloc: Global, rows: &[Row], above: Option<u32>) -> Result<Vec<u32>, AllocError>
+/// Puts each of these classes behind a list, unless the list has it.
+fn add_each(list: &mut IndexSet<u32>, classes: &[ClassId]) -> Result<(), AllocError>
+    ensures { OnOk result (list.new.keys ≡ added_all list.old.keys classes.now) }
+{
+    for class in classes {
+        add(list, class.number())?;
+    }
+    Ok(())
+}
+
+/// A class, and then its superclasses upward.
+fn upward(
+    alloc: Global,
+    rows: &[Row],
+    class: u32,
+    above: Option<u32>,
+) -> Result<ClassList, AllocError>
     requires { IfSome above (λ s. s < length rows.now) }
-    ensures { IfOk result (λ list. list.items ≡ supers_over rows.now above) }
+    ensures { IfOk result (λ list. list ≡ class ∷ supers_over rows.now above) }
 {
     let mut list = Vec::new(alloc);
+    list.push(ClassId::new(class))?;
     match above {
-        Some(class) => {
-            let row = &rows[class as usize];
-            list.push(class)?;
+        Some(superclass) => {
+            let row = &rows[superclass as usize];
+            list.push(ClassId::new(superclass))?;
             list.extend_from_slice(row.supers())?;
-            Ok(list)
+            ClassList::of(list)
         }
-        None => Ok(list),
+        None => ClassList::of(list),
+    }
+}
+
+/// Where a superclass looks for a field.
+fn field_order_over(rows: &[Row], above: Option<u32>) -> &[ClassId]
+    requires { IfSome above (λ s. s < length rows.now) }
+    ensures { result.now ≡ field_order_over rows.now above }
+{
+    match above {
+        Some(class) => rows[class as usize].field_order(),
+        None => &[],
     }
 }
 
@@ -75,13 +105,7 @@ fn add_field_order_over(
     ensures { OnOk result
         (list.new.keys ≡ added_all list.old.keys (field_order_over rows.now above)) }
 {
-    match above {
-        Some(class) => {
-            let row = &rows[class as usize];
-            add_all(list, row.field_order())
-        }
-        None => Ok(()),
-    }
+    add_each(list, field_order_over(rows, above))
 }
 
 /// Puts interfaces, each after its superinterfaces, behind a list.
@@ -116,30 +140,105 @@ fn add_field_orders(
 {
     for interface in interfaces {
         let row = &rows[*interface as usize];
-        add_all(list, row.field_order())?;
+        add_each(list, row.field_order())?;
     }
     Ok(())
 }
 
-/// The lists of a class, by those of the classes right above it.
+/// All superinterfaces of a class, each once.
 #[tactic(auto, using(crate::proofs::AddLemmas::add_rules))]
-fn row_of(alloc: Global, links: &Links, rows: &[Row], class: u32) -> Result<Row, AllocError>
+fn superinterfaces(
+    alloc: Global,
+    links: &Links,
+    rows: &[Row],
+    class: u32,
+) -> Result<Vec<u32>, AllocError>
     requires above { IfSome links.now.above (λ s. s < length rows.now) }
     requires interfaces { All (λ i. i < length rows.now) links.now.interfaces }
-    ensures { IfOk result (λ row. row ≡ ancestry_of links.now rows.now class) }
+    ensures { IfOk result
+        (λ list. list.items ≡ (ancestry_of links.now rows.now class).superinterfaces) }
 {
     let above = links.above();
     let interfaces = links.interfaces();
-    let supers = supers(alloc, rows, above)?;
     let mut superinterfaces = IndexSet::new(alloc);
     add_superinterfaces_over(&mut superinterfaces, rows, above)?;
     add_interfaces(&mut superinterfaces, rows, interfaces)?;
+    let list = Vec::from_slice(alloc, superinterfaces.as_slice())?;
+    Ok(list)
+}
+
+/// Where a class looks for a field: itself, its interfaces, its superclass.
+#[tactic(auto, using(crate::proofs::AddLemmas::add_rules))]
+fn searched(alloc: Global, links: &Links, rows: &[Row], class: u32) -> Result<ClassList, AllocError>
+    requires above { IfSome links.now.above (λ s. s < length rows.now) }
+    requires interfaces { All (λ i. i < length rows.now) links.now.interfaces }
+    ensures { IfOk result (λ list. list ≡ (ancestry_of links.now rows.now class).field_order) }
+{
+    let above = links.above();
+    let interfaces = links.interfaces();
     let mut field_order = IndexSet::new(alloc);
     add(&mut field_order, class)?;
     add_field_orders(&mut field_order, rows, interfaces)?;
     add_field_order_over(&mut field_order, rows, above)?;
-    let superinterfaces = Vec::from_slice(alloc, superinterfaces.as_slice())?;
-    let field_order = Vec::from_slice(alloc, field_order.as_slice())?;
+    let list = ClassList::of_numbers(alloc, field_order.as_slice())?;
+    Ok(list)
+}
+
+/// Whether two lists are the same.
+fn are_same(classes: &[ClassId], others: &[ClassId]) -> bool
+    ensures { OnTrue result (classes.now ≡ others.now) }
+{
+    classes == others
+}
+
+/// Whether a class has no interfaces, isn't one of these superclasses, and they are where its superclass looks for a field.
+fn looks_upward(links: &Links, rows: &[Row], class: u32, supers: &[ClassId]) -> bool
+    requires { IfSome links.now.above (λ s. s < length rows.now) }
+    ensures { OnTrue result (LooksUpward links.now rows.now class supers.now) }
+{
+    if !links.interfaces().is_empty() {
+        return false;
+    }
+    if supers.contains(&ClassId::new(class)) {
+        return false;
+    }
+    are_same(field_order_over(rows, links.above()), supers)
+}
+
+/// Where a class looks for a field. Where that is the class and its superclasses, it is the very list of these.
+fn field_order(
+    alloc: Global,
+    links: &Links,
+    rows: &[Row],
+    class: u32,
+    upward: ClassList,
+    supers: &ClassList,
+) -> Result<ClassList, AllocError>
+    requires above { IfSome links.now.above (λ s. s < length rows.now) }
+    requires interfaces { All (λ i. i < length rows.now) links.now.interfaces }
+    requires once { once (field_order_over rows.now links.now.above)
+        ≡ field_order_over rows.now links.now.above }
+    requires upward { upward ≡ class ∷ supers.now }
+    ensures { IfOk result (λ list. list ≡ (ancestry_of links.now rows.now class).field_order) }
+{
+    if looks_upward(links, rows, class, supers.as_slice()) {
+        return Ok(upward);
+    }
+    searched(alloc, links, rows, class)
+}
+
+/// The lists of a class, by those of the classes right above it.
+fn row_of(alloc: Global, links: &Links, rows: &[Row], class: u32) -> Result<Row, AllocError>
+    requires above { IfSome links.now.above (λ s. s < length rows.now) }
+    requires interfaces { All (λ i. i < length rows.now) links.now.interfaces }
+    requires once { once (field_order_over rows.now links.now.above)
+        ≡ field_order_over rows.now links.now.above }
+    ensures { IfOk result (λ row. row ≡ ancestry_of links.now rows.now class) }
+{
+    let upward = upward(alloc, rows, class, links.above())?;
+    let supers = upward.rest()?;
+    let superinterfaces = superinterfaces(alloc, links, rows, class)?;
+    let field_order = field_order(alloc, links, rows, class, upward, &supers)?;
     Ok(Row::new(supers, superinterfaces, field_order))
 }
 
@@ -167,9 +266,11 @@ pub fn ancestries(alloc: Global, table: &[Links]) -> Result<Vec<Row>, AllocError
 fn empty_rows(alloc: Global, count: usize) -> Result<Vec<Row>, AllocError>
     ensures { IfOk result (λ rows. length rows.items ≡ count) }
 {
-    let mut rows = Vec::new(alloc);
+    let nothing = ClassList::of(Vec::new(alloc))?;
+    let mut rows = Vec::with_capacity(alloc, count)?;
     for _ in 0..count {
-        rows.push(Row::empty(alloc))?;
+        let row = Row::new(nothing.share()?, Vec::new(alloc), nothing.share()?);
+        rows.push(row)?;
     }
     Ok(rows)
 }

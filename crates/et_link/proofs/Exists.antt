@@ -19,7 +19,7 @@ use Rattle.et_program.specs.declared.fault.LinkFaultKind.{LinkFaultKind}
 use Rattle.et_program.specs.declared.fault.LinkFaultKind.TheVariants.{CrossPackage, NoMain, TooMany}
 use Rattle.et_program.specs.Loaded.{LoadedClass}
 use Rattle.et_program.specs.Files.{boots, set_of}
-use Rattle.et_program.specs.MembersOf.{methods_of, IsBootPool, AreBootPools, file_pool}
+use Rattle.et_program.specs.MembersOf.{methods_of, AreBootPools, file_pool}
 use Rattle.et_program.specs.ProgramOf.{main_of, program_with}
 use Rattle.et_link.specs.Crossing.{crosses, AnswersLeast}
 use Rattle.et_link.specs.Refusals.{link_kind, IsLate, LinkIs}

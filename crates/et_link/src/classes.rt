@@ -17,7 +17,7 @@ use crate::heads::FieldList;
 use crate::members::class_at_place;
 use crate::names::{ArrayNames, element_of, kind_of};
 use et_base::{ClassId, MethodId, Name, NoMemory};
-use et_hierarchy::{ClassOutline, Links, Row, init_order, interfaces_to_run};
+use et_hierarchy::{ClassList, ClassOutline, Links, Row, init_order, interfaces_to_run};
 use et_program::{Above, Class, ClassInfo, Element, Kind, Leaf, NameIndex};
 use std::alloc::Global;
 
@@ -40,7 +40,7 @@ pub(crate) struct Known {
 fn class_ids(alloc: Global, places: &[u32]) -> Result<Vec<ClassId>, NoMemory>
     ensures { IfOk result (λ ids. ids.items ≡ places.now) }
 {
-    let mut ids = Vec::new(alloc);
+    let mut ids = Vec::with_capacity(alloc, places.len())?;
     for place in places {
         ids.push(ClassId::new(*place))?;
     }
@@ -85,20 +85,20 @@ fn above_of(
     requires class { class < length known.now.table.items }
     requires sized { AreSized known.now }
     ensures supers { IfOk result
-        (λ a. a.supers.items ≡ (ancestry_at known.now.rows.items class).supers) }
+        (λ a. a.supers ≡ (ancestry_at known.now.rows.items class).supers) }
     ensures superinterfaces { IfOk result
         (λ a. a.superinterfaces.items ≡ (ancestry_at known.now.rows.items class).superinterfaces) }
     ensures field_order { IfOk result
-        (λ a. a.field_order.items ≡ (ancestry_at known.now.rows.items class).field_order) }
+        (λ a. a.field_order ≡ (ancestry_at known.now.rows.items class).field_order) }
     ensures init_order { IfOk result (λ a. a.init_order.items ≡ init_order is_interface
         (heads_in known.now).needs known.now.table.items known.now.rows.items class) }
 {
     let rows = known.rows.as_slice();
     let table = known.table.as_slice();
     let row = &rows[class.number() as usize];
-    let supers = class_ids(alloc, row.supers())?;
+    let supers = row.list_of_supers().share()?;
     let superinterfaces = class_ids(alloc, row.superinterfaces())?;
-    let field_order = class_ids(alloc, row.field_order())?;
+    let field_order = row.list_of_field_order().share()?;
     let needs = known.needs.as_slice();
     let order = init_order(alloc, is_interface, needs, table, rows, class.number())?;
     let init_order = class_ids(alloc, order.as_slice())?;
@@ -202,19 +202,20 @@ const ARRAY_FLAGS: u16 = 0x0411;
 
 /// The classes above an array class.
 fn above_array(alloc: Global, class: ClassId) -> Result<Above, NoMemory>
-    ensures supers { IfOk result (λ a. a.supers.items ≡ object ∷ []) }
+    ensures supers { IfOk result (λ a. a.supers ≡ object ∷ []) }
     ensures superinterfaces { IfOk result
         (λ a. a.superinterfaces.items ≡ cloneable ∷ serializable ∷ []) }
     ensures field_order { IfOk result
-        (λ a. a.field_order.items ≡ class ∷ cloneable ∷ object ∷ serializable ∷ []) }
+        (λ a. a.field_order ≡ class ∷ cloneable ∷ object ∷ serializable ∷ []) }
     ensures init_order { IfOk result (λ a. a.init_order.items ≡ class ∷ []) }
 {
     let object = ClassId::new(OBJECT);
     let cloneable = ClassId::new(CLONEABLE);
     let serializable = ClassId::new(SERIALIZABLE);
-    let supers = vec![in alloc; object]?;
+    let supers = ClassList::of(vec![in alloc; object]?)?;
     let superinterfaces = vec![in alloc; cloneable, serializable]?;
-    let field_order = vec![in alloc; class, cloneable, object, serializable]?;
+    let searched = vec![in alloc; class, cloneable, object, serializable]?;
+    let field_order = ClassList::of(searched)?;
     let init_order = vec![in alloc; class]?;
     Ok(Above {
         supers,

@@ -108,7 +108,7 @@ fn crosses(
     }
     let row = &rows[method.class.number() as usize];
     for class in row.supers() {
-        if hides(set, methods, index, method, ClassId::new(*class)) {
+        if hides(set, methods, index, method, *class) {
             return true;
         }
     }

@@ -9,7 +9,7 @@ ghost use Rattle.et_program.specs.Slots.{is_static_field, is_instance_of, own_sl
 ghost use Rattle.et_link.specs.Counts.{Counts};
 
 use crate::boots::{boot, boots};
-use et_base::{FieldId, NoMemory};
+use et_base::{ClassId, FieldId, NoMemory};
 use et_class::flags::{STATIC, has};
 use et_hierarchy::Row;
 use et_program::FieldInfo;
@@ -64,13 +64,13 @@ pub(crate) fn own_slots(
 }
 
 /// The sum of what these classes declare.
-fn sum_of(own: &[u32], classes: &[u32]) -> Result<u32, NoMemory>
+fn sum_of(own: &[u32], classes: &[ClassId]) -> Result<u32, NoMemory>
     requires { All (λ k. k < length own.now) classes.now }
     ensures { IfOk result (λ n. n ≡ sum_by (λ k. slice_index_or own.now k 0) classes.now) }
 {
     let mut sum: u32 = 0;
     for class in classes {
-        let Some(more) = sum.checked_add(own[*class as usize]) else {
+        let Some(more) = sum.checked_add(own[class.number() as usize]) else {
             return Err(NoMemory);
         };
         sum = more;

@@ -5,17 +5,18 @@ ghost use Rattle.std.specs.Prelude.{◌≡◌};
 use crate::info::ClassInfo;
 use crate::kind::Kind;
 use et_base::ClassId;
+use et_hierarchy::ClassList;
 use std::marker::Model;
 
 /// The classes above a class, in the orders in which they are looked at.
 #[derive(Drop)]
 pub struct Above {
     /// The superclasses, nearest first.
-    pub supers: Vec<ClassId>,
+    pub supers: ClassList,
     /// The superinterfaces, each once, in the order of method resolution (JVMS 5.4.3.3).
     pub superinterfaces: Vec<ClassId>,
     /// The class and all that is above it, each once, in the order of field resolution (JVMS 5.4.3.2).
-    pub field_order: Vec<ClassId>,
+    pub field_order: ClassList,
     /// What is initialized with it, and then itself (JVMS 5.5).
     pub init_order: Vec<ClassId>,
 }
@@ -24,9 +25,9 @@ pub struct Above {
 #[derive(Drop)]
 pub struct Class {
     info: ClassInfo,
-    supers: Vec<ClassId>,
+    supers: ClassList,
     superinterfaces: Vec<ClassId>,
-    field_order: Vec<ClassId>,
+    field_order: ClassList,
     init_order: Vec<ClassId>,
     kind: Kind,
     array: Option<ClassId>,
@@ -40,9 +41,9 @@ impl Model for Class {
 
     ghost view = { λ c. record {
       info = info_of c.info;
-      supers = c.supers.items;
+      supers = c.supers;
       superinterfaces = c.superinterfaces.items;
-      field_order = c.field_order.items;
+      field_order = c.field_order;
       init_order = c.init_order.items;
       kind = c.kind;
       array = c.array;
@@ -56,9 +57,9 @@ impl Class {
     pub fn new(info: ClassInfo, above: Above, kind: Kind, array: Option<ClassId>) -> Self
         ensures { result ≡ record {
           info = info_of info;
-          supers = above.supers.items;
+          supers = above.supers;
           superinterfaces = above.superinterfaces.items;
-          field_order = above.field_order.items;
+          field_order = above.field_order;
           init_order = above.init_order.items;
           kind = kind;
           array = array;

@@ -9,4 +9,4 @@ loop-interface-preserved c =
     let x = get_or c.args.interfaces.now c.loop-interface.interface-index 0 in
     let e = row_at c.args.rows.now x _ (c.requires c.loop-interface.interface-index 0 lt) c.index-rows-interface.is in
     add_more (λ i. (ancestry_at c.args.rows.now i).field_order) c.args.interfaces.now c.loop-interface.interface-index _ _ _ c.field_order.result.now lt c.loop-interface.invariant
-    (ap (λ r. r.field_order) e ∙ sym c.field_order.ensures) c.in_ok-add_all.ensures
+    (ap (λ r. r.field_order) e ∙ sym c.field_order.ensures) c.in_ok-add_each.ensures

@@ -1,6 +1,6 @@
 use Rattle.std.proofs.Common.{◌<◌, length, get_or, refl, ◌∙◌, ap, arith}
 use Rattle.et_hierarchy.proofs.Rounds.{next_above, next_interfaces}
-use Rattle.et_hierarchy.proofs.OrderedRows.{ordered_start, ordered_turn, ordered_end, ordered_below, ordered_inside}
+use Rattle.et_hierarchy.proofs.OrderedRows.{ordered_start, ordered_once, ordered_turn, ordered_end, ordered_below, ordered_inside}
 use Rattle.et_hierarchy.proofs.tables.ancestries.Goals as goal
 
 pub loop-class-init : goal.loop-class-init
@@ -22,6 +22,11 @@ row_of-requires-clause-interfaces c =
     let lt : c.loop-class.class-index < length c.order-order.result.now = omega arith in
     let inside = ordered_inside c.args.table.now _ _ _ c.loop-class.class-index (length c.args.table.now) c.in_ok-sorting.ensures c.order-order.ensures lt refl in
     next_interfaces c.args.table.now _ _ _ c.requires.within inside c.index-table-class.is (ap length c.as_slice.ensures.value ∙ c.loop-class.invariant.rows_length)
+
+pub row_of-requires-clause-once : goal.row_of-requires-clause-once
+row_of-requires-clause-once c =
+    let lt : c.loop-class.class-index < length c.order-order.result.now = omega arith in
+    ordered_once c.args.table.now _ _ _ _ _ c.loop-class.class-index _ c.in_ok-sorting.ensures c.order-order.ensures lt c.loop-class.invariant c.as_slice.ensures.value c.index-table-class.is
 
 pub index_mut-requires : goal.index_mut-requires
 index_mut-requires c =

@@ -1,5 +1,5 @@
 use Rattle.std.proofs.Common.{◌≡◌}
-use Rattle.et_code.specs.Bodies.{Body, body_of}
+use Rattle.et_code.specs.Bodies.{body_of}
 use Rattle.et_code.specs.declared.body.RawCode.{RawCode}
 use Rattle.et_boot.specs.Shown.{shown_code}
 use Rattle.et_program.specs.MembersOf.{boot_body}
