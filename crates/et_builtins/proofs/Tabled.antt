@@ -1,5 +1,5 @@
 -- Rows of the table of built-in methods.
-use Rattle.std.proofs.Common.{◌≡◌, ℕ, ◌≤◌, ◌&&◌, Bool, true, false, List, [], ◌∷◌, Option, Some, refl, sym, ◌∙◌, ap, subst, arith}
+use Rattle.std.proofs.Common.{◌≡◌, ℕ, ◌≤◌, ◌&&◌, Bool, true, false, List, [], ◌∷◌, Option, Some, refl, sym, subst, arith}
 use Rattle.std.specs.Prelude.{codes, find, option_map, if◌then◌else◌, IfSome}
 use Rattle.std.specs.Str.{bytes_eq}
 use Rattle.std.specs.Option.{option_map_or}
@@ -21,14 +21,6 @@ first_by m row rows false = refl
 
 first_is : (m : MethodInfo) (row : List ℕ × List ℕ × BuiltIn) (rows : List (List ℕ × List ℕ × BuiltIn)) → found_in m (row ∷ rows) ≡ (if is_called m row then Some row.2 else found_in m rows)
 first_is m row rows = first_by m row rows (is_called m row)
-
-pub found_first : (m : MethodInfo) (name descriptor : List ℕ) (b : BuiltIn) (rows : List (List ℕ × List ℕ × BuiltIn)) → (bytes_eq name m.name && bytes_eq descriptor m.descriptor) ≡ true
-    → Some b ≡ found_in m ((name, descriptor, b) ∷ rows)
-found_first m name descriptor b rows e = sym (first_is m (name, descriptor, b) rows ∙ ap (λ (x : Bool). if x then Some b else found_in m rows) e)
-
-pub found_behind : (m : MethodInfo) (name descriptor : List ℕ) (b : BuiltIn) (rows : List (List ℕ × List ℕ × BuiltIn)) (behind : Option BuiltIn) → (bytes_eq name m.name && bytes_eq descriptor m.descriptor) ≡ false
-    → behind ≡ found_in m rows → behind ≡ found_in m ((name, descriptor, b) ∷ rows)
-found_behind m name descriptor b rows behind e h = h ∙ sym (first_is m (name, descriptor, b) rows ∙ ap (λ (x : Bool). if x then Some b else found_in m rows) e)
 
 -- WHAT A METHOD ANSWERS HAS ROOM by its descriptor
 
