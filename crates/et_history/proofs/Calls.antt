@@ -39,7 +39,7 @@ use Rattle.et_history.proofs.Heaps.{slots_fine, referent_fine, first_waiting_fin
 use Rattle.et_history.proofs.Words.{Still, level, if_case, thread_now, still_thread, thread_still, as_entered_still, started_still, slot_still, written_held, referent_still, reference_still, first_taken_still}
 use Rattle.et_history.proofs.Taken.{fine_read, fine_value}
 use Rattle.et_history.proofs.Monitors.{way, HasMonitor, AllThere, is_there, first_monitor, monitor_same, entered_still}
-use Rattle.et_history.proofs.Ways.{Knows, Does, Fits, ground, thread_fine, pushed_fits, goes_does, ends_fit, throws_does, unless_ill_typed, unless_thrown, where_resolved, where_not_null, unless_waiting, where_frame_fits, initialized_does}
+use Rattle.et_history.proofs.Ways.{Knows, Does, Fits, moved_by, ground, thread_fine, pushed_fits, goes_does, ends_fit, throws_does, unless_ill_typed, unless_thrown, where_resolved, where_not_null, unless_waiting, where_frame_fits, initialized_does}
 use Rattle.et_history.proofs.Rows.{Stands, first, operands_fine, on_top}
 use Rattle.et_heap.specs.Queues.{first_value}
 
@@ -131,7 +131,7 @@ entered_frame e f lock d h fine has may same =
     let now : FineThread x.state.heap (entered_by f t) = record { frames = (kept, was.frames); pending = was.pending; entry = was.entry; object = was.object } in
     let after = thread_still e (entered_by f t) x.state there now in
     pushed_fits e f t.frames lock (with_thread_state e (entered_by f t) x).state (ap (λ (y : ThreadState). y.frames) (thread_now x.state e.thread (entered_by f t) there.thread)) there.frames same
-    (record { changes = after.changes; entered = may; left = tt })
+    (moved_by e lock None (with_thread_state e (entered_by f t) x).state after may tt)
 
 pub method_frame_fine : (e : Moment) (m : ℕ) (body : Body) (arguments : List Value) → Fines e.before.heap arguments → FineFrame e.before.heap (method_frame e.program m body arguments)
 method_frame_fine e m body arguments f = record {

@@ -14,7 +14,7 @@ use Rattle.et_sound.proofs.Arrays.{names_class}
 use Rattle.et_sound.proofs.Entering.{StandsIn, stands_in}
 use Rattle.et_sound.proofs.Turning.{parts, some_frame, runs_by}
 use Rattle.et_history.specs.Changing.{KeepsMonitors}
-use Rattle.et_history.proofs.Turns.{HasDimensions, turn_keeps}
+use Rattle.et_history.proofs.Turns.{HasDimensions, LeadsLined, turn_keeps, turn_lined}
 use Rattle.et_history.proofs.Ways.{Knows}
 
 -- a multianewarray of the code has a dimension
@@ -30,9 +30,18 @@ dimensions e knows may turn x decoded row name class named resolves =
     let s : StandsIn e x = stands_in e x some decoded in
     (may.arrays.multi s.method x class s.is row (names_class e x s name class named resolves)).0
 
-pub event_keeps : (p : Linked) (s : Kept) (t : ℕ) → IsSoundFor p s → IsUnended s.guest t → IsRunnable p → KeepsMonitors (record { program = p; before = s; thread = t }) (event p s t)
-unfolding event
-event_keeps p s t sound unended may =
-    let e : Moment = record { program = p; before = s; thread = t } in
-    let knows : Knows e = record { sound = sound; thread = unended; classes = may.owners } in
-    turn_keeps e knows (λ turn. dimensions e knows may turn)
+module _ (p : Linked) (s : Kept) (t : ℕ) (sound : IsSoundFor p s) (unended : IsUnended s.guest t) (may : IsRunnable p) where
+  abbrev pub here : Moment
+  here = record { program = p; before = s; thread = t }
+
+  known : Knows here
+  known = record { sound = sound; thread = unended; classes = may.owners }
+
+  pub event_keeps : KeepsMonitors here (event p s t)
+  unfolding event
+  event_keeps = turn_keeps here known (λ turn. dimensions here known may turn)
+
+  -- .. and to what waits
+  pub event_lined : LeadsLined here (event p s t)
+  unfolding event
+  event_lined = turn_lined here known (λ turn. dimensions here known may turn)

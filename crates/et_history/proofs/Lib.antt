@@ -2,6 +2,7 @@ pub mod Unended
 mod Values
 mod Heaps
 mod Taken
+mod WaitingLists
 mod Words
 mod Monitors
 mod Plain

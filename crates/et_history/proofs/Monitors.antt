@@ -15,6 +15,7 @@ use Rattle.et_sound.specs.WellFormed.{IsThere}
 use Rattle.et_history.specs.Holding.{is_lock, monitor_in}
 use Rattle.et_history.specs.Changing.{entered_once, left_by_owner, becomes, Changes}
 use Rattle.et_history.proofs.Heaps.{sound_guest, slots_fine, referent_fine, object_sound, rest_held}
+use Rattle.et_history.proofs.WaitingLists.{keep_then, keep_set}
 use Rattle.et_history.proofs.Words.{Way, Still}
 
 abbrev pub way : ℕ → Option Lock → Option Lock → Way
@@ -146,9 +147,15 @@ same_if lock k s m f same = by (is_lock lock k) refl
 was_first : (e : Moment) (lock : Lock) (d : Doing) → Changes e None None d.state → HasMonitor e lock → monitor_of d lock ≡ monitor_in e.before lock
 was_first e lock d h has = monitor_same d lock ∙ h.monitor lock (is_there e lock has)
 
-guest_marked : (e : Moment) (n : ℕ) (a b : Option Lock) (lock : Lock) (m : Monitor) (d : Doing) → Still e (way n None None) d.state → Changes e a b (with_monitor_of lock m d).state → Still e (way n a b) (with_monitor_of lock m d).state
-guest_marked e n a b (OfObject o) m d h changes = record { changes = changes; thread = h.thread; monitors = h.monitors; frames = h.frames }
-guest_marked e n a b (OfClass c) m d h changes = record { changes = changes; thread = h.thread; monitors = length-set d.state.guest.class_monitors c m ∙ h.monitors; frames = h.frames }
+guest_marked : (e : Moment) (n : ℕ) (a b : Option Lock) (lock : Lock) (m : Monitor) (d : Doing) → Still e (way n None None) d.state → IsIn d.state lock → Changes e a b (with_monitor_of lock m d).state → Still e (way n a b) (with_monitor_of lock m d).state
+guest_marked e n a b (OfObject o) m d h inside changes = record {
+  changes = changes;
+  lists = keep_then e.before.heap d.state.heap (with_monitor_of (OfObject o) m d).state.heap h.changes.longer h.lists (keep_set d.state.heap o (with_monitor m (object_at d.state.heap o)) inside refl refl);
+  thread = h.thread;
+  monitors = h.monitors;
+  frames = h.frames;
+}
+guest_marked e n a b (OfClass c) m d h inside changes = record { changes = changes; lists = h.lists; thread = h.thread; monitors = length-set d.state.guest.class_monitors c m ∙ h.monitors; frames = h.frames }
 
 -- ENTERED, AND LEFT
 
@@ -156,7 +163,7 @@ pub entered_still : (e : Moment) (n : ℕ) (lock : Lock) (d : Doing) → Still e
 entered_still e n lock d h has =
     let m : Monitor = record { owner = Some e.thread; count = (monitor_of d lock).count + 1 } in
     let same : m ≡ entered_once e.thread (monitor_in e.before lock) = ap (λ (x : Monitor). entered_once e.thread x) (was_first e lock d h.changes has) in
-    guest_marked e n (Some lock) None lock m d h
+    guest_marked e n (Some lock) None lock m d h (is_in e lock d.state h has)
     (changed e lock (Some lock) None m d h.changes has (is_in e lock d.state h has) (λ k. same_if lock k e.before m (entered_once e.thread) same))
 
 owner_case : (t : ℕ) (m : Monitor) (b : Bool) → is_owner t m.owner ≡ b → left_by_owner t m ≡ (if b then left_once m else m)
@@ -170,7 +177,7 @@ left_still e n lock d h has owned =
     let m : Monitor = left_once (monitor_of d lock) in
     let owner = owned_first e lock d true h.changes has owned in
     let same : m ≡ left_by_owner e.thread (monitor_in e.before lock) = ap (λ (x : Monitor). left_once x) (was_first e lock d h.changes has) ∙ sym (owner_case e.thread (monitor_in e.before lock) true owner) in
-    guest_marked e n None (Some lock) lock m d h
+    guest_marked e n None (Some lock) lock m d h (is_in e lock d.state h has)
     (changed e lock None (Some lock) m d h.changes has (is_in e lock d.state h has) (λ k. same_if lock k e.before m (left_by_owner e.thread) same))
 
 -- an exception drops a frame whose monitor its thread does not own
@@ -180,6 +187,7 @@ unowned_still e n lock d h has owned =
     let owner = owned_first e lock d false c has owned in
     record {
       changes = record { sound = c.sound; clock = c.clock; stays = c.stays; fresh = c.fresh; longer = c.longer; full = c.full; monitor = λ k there. c.monitor k there ∙ same k };
+      lists = h.lists;
       thread = h.thread;
       monitors = h.monitors;
       frames = h.frames;

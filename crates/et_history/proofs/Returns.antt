@@ -29,13 +29,12 @@ use Rattle.et_event.specs.Sites.{running_method, present_body}
 use Rattle.et_event.specs.Throw.{caught, handled, handler_of, left_if_owned, dropped, is_error, replaced, failed, unwound, unwound_clinit, by_handler, unwinds, unwinding_step}
 use Rattle.et_sound.specs.WellFormed.{IsThere}
 use Rattle.et_history.specs.Holding.{lock_beyond}
-use Rattle.et_history.specs.Changing.{MovesMonitors}
 use Rattle.et_history.proofs.Values.{Fines, FineSome, FineFrame, FineFrames, FineThread, Grows, some_grows, frame_grows, fines_append, fines_unset, rest_fine}
 use Rattle.et_history.proofs.Heaps.{new_held}
 use Rattle.et_history.proofs.Words.{Way, Still, level, with_frames, if_case, still_thread, thread_still, counted, top_still, state_still, instance_still, slot_still, written_held, made_held, pending_still, prepared_still}
 use Rattle.et_history.proofs.Taken.{any_value, fine_entries}
 use Rattle.et_history.proofs.Monitors.{way, HasMonitor, AllThere, is_there, left_still, unowned_still}
-use Rattle.et_history.proofs.Ways.{Knows, Does, Fits, thread_fine, frame_fine, beyond_none, beyond_one, fits_by, goes_does, ends_fit, ends_does, unless_ill_typed, unless_thrown, initialized_does}
+use Rattle.et_history.proofs.Ways.{Knows, Does, Moved, Fits, moved_by, thread_fine, frame_fine, beyond_none, beyond_one, fits_by, goes_does, ends_fit, ends_does, unless_ill_typed, unless_thrown, initialized_does}
 use Rattle.et_history.proofs.Rows.{Stands, first, operands_fine}
 use Rattle.et_history.proofs.Calls.{lock_there}
 
@@ -50,7 +49,7 @@ rest_shorter [] lt = absurd (omega arith)
 rest_shorter (f ∷ fs) lt = refl
 
 dropped_fits : (e : Moment) (lock : Option Lock) (s : Kept) → 0 < length (thread_of e).frames → length (thread_at s.guest e.thread).frames ≡ length (rest_of (thread_of e).frames)
-    → lock_in (current_frame e).stage (running_method e.program (current_frame e)) (current_frame e).lock ≡ lock → MovesMonitors e None lock s → Fits e s
+    → lock_in (current_frame e).stage (running_method e.program (current_frame e)) (current_frame e).lock ≡ lock → Moved e None lock s → Fits e s
 dropped_fits e lock s some shorter same h =
     let fs : List FrameState = (thread_at s.guest e.thread).frames in
     let more = rest_shorter (thread_of e).frames some in
@@ -137,7 +136,7 @@ returned_does e values here f owned =
     } in
     let after = thread_still e t x.state there now in
     dropped_fits e lock (frame_returned e values (begins e)).state here.some (after.frames ∙ returned_length p stage values below) refl
-    (record { changes = after.changes; entered = tt; left = all_there e lock has })
+    (moved_by e None lock (frame_returned e values (begins e)).state after tt (all_there e lock has))
 
 with_returned_does : (e : Moment) (kind : Option Operand) (ops : List Value) (go : List Value → Outcome Kept) → Fines e.before.heap ops → ((vs : List Value) → Fines e.before.heap vs → Does e (go vs)) → Does e (with_returned kind (ill_typed e) ops go)
 with_returned_does e None ops go f h = h [] tt
@@ -190,7 +189,7 @@ unwound_does e o here =
     let has : AllThere e lock = own_there e here.knows in
     let x : Doing = left_if_owned e lock (begins e) in
     let after = dropped_still e x refl (left_if_still e n lock (begins e) (first e here) has) in
-    dropped_fits e lock (dropped e x).state here.some after.frames refl (record { changes = after.changes; entered = tt; left = all_there e lock has })
+    dropped_fits e lock (dropped e x).state here.some after.frames refl (moved_by e None lock (dropped e x).state after tt (all_there e lock has))
 
 replaced_still : (e : Moment) {w : Way} (o : ℕ) (d : Doing) → Still e w d.state → IsHeld d.state.heap o → Still e w (replaced e o d).state
 replaced_still e o d h held =
@@ -217,7 +216,7 @@ failed_does e c o d here held same none =
     let n : ℕ = length (rest_of (thread_of e).frames) in
     let so : Still e (with_frames n (level e)) d.state = subst (λ (s : Kept). Still e (with_frames n (level e)) s) (sym same) (dropped_still e (begins e) refl (first e here)) in
     let after = failed_still e c o d so (so.changes.stays o held) in
-    ends_fit e (failed e c o d) (dropped_fits e None (failed e c o d).state here.some after.frames none (record { changes = after.changes; entered = tt; left = tt }))
+    ends_fit e (failed e c o d) (dropped_fits e None (failed e c o d).state here.some after.frames none (moved_by e None None (failed e c o d).state after tt tt))
 
 unwinds_does : (e : Moment) (o : ℕ) (stage : Stage) → Stands e → IsHeld e.before.heap o → (current_frame e).stage ≡ stage → Does e (unwinds e o stage)
 unwinds_does e o Plain here held same = handler_does e o (unwound e o) (handler_of e.program (current_frame e) (object_class (begins e) o)) here held (unwound_does e o here)
@@ -236,7 +235,7 @@ clinit_does : (e : Moment) (c : ℕ) (m : Option ℕ) (d : Doing) → Stands e �
 clinit_does e c None d here h none =
     let x : Doing = with_state c Done d in
     let after = dropped_still e x refl (state_still e c Done d.state h) in
-    ends_fit e (dropped e x) (dropped_fits e None (dropped e x).state here.some after.frames none (record { changes = after.changes; entered = tt; left = tt }))
+    ends_fit e (dropped e x) (dropped_fits e None (dropped e x).state here.some after.frames none (moved_by e None None (dropped e x).state after tt tt))
 clinit_does e c (Some m) d here h none =
     let body : Body = present_body (method_at e.program m).code in
     let f : FrameState = in_clinit m body.max_stack body.max_locals (current_frame e) in

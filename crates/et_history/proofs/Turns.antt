@@ -36,12 +36,13 @@ use Rattle.et_event.specs.Sites.{Site, site_of, decoded_at, pool_index, constant
 use Rattle.et_event.specs.Sync.{monitor_event, end_of_thread}
 use Rattle.et_event.specs.Table.{row_of}
 use Rattle.et_history.specs.Holding.{monitor_row, monitor_row_at, row_decoded, object_on, entered_by_row, left_by_row}
-use Rattle.et_history.specs.Changing.{MovesMonitors, KeepsMonitors}
+use Rattle.et_history.specs.Changing.{KeepsMonitors}
 use Rattle.et_history.proofs.Values.{Fines}
+use Rattle.et_history.proofs.WaitingLists.{KeepLists}
 use Rattle.et_history.proofs.Words.{Still, level, thread_now}
 use Rattle.et_history.proofs.Monitors.{way, entered_still, left_still}
 use Rattle.et_history.proofs.Plain.{after_fine}
-use Rattle.et_history.proofs.Ways.{Knows, Does, Throws, pushed_lock, dropped_lock, beyond_none, thread_fine, frame_fine, throws_pends}
+use Rattle.et_history.proofs.Ways.{Knows, Does, Throws, Moved, moved_by, pushed_lock, dropped_lock, beyond_none, thread_fine, frame_fine, throws_pends}
 use Rattle.et_history.proofs.Rows.{Stands, HasDimension, first, operands_fine, leaving_still, heap_does, throw_does, end_does, on_frame_does, constant_does, divides_does}
 use Rattle.et_history.proofs.Calls.{invoke_does, entry_does}
 use Rattle.et_history.proofs.Returns.{return_does, unwinding_does, step_does}
@@ -49,7 +50,7 @@ use Rattle.et_history.proofs.Returns.{return_does, unwinding_does, step_does}
 -- what an event does that is at this monitor instruction, or at none
 abbrev KeepsBy : Moment → Option MonitorRow → Option ℕ → Outcome Kept → Type 0
 KeepsBy e r o (outcome.Goes next records) =
-    MovesMonitors e (option_or (entered_by_row r o) (pushed_lock e next)) (option_or (left_by_row r (thread_at next.guest e.thread).pending o) (dropped_lock e next)) next
+    Moved e (option_or (entered_by_row r o) (pushed_lock e next)) (option_or (left_by_row r (thread_at next.guest e.thread).pending o) (dropped_lock e next)) next
 KeepsBy e r o (outcome.Waits next) = next ≡ later e.before
 KeepsBy e r o (outcome.IllTyped method pc) = Unit {0}
 KeepsBy e r o outcome.ObjectLimit = Unit {0}
@@ -79,7 +80,7 @@ enter_goes e at o below here held f may =
     let s : Kept = (entered e (OfObject o) d).state in
     let frame_after = entered_still e (length (thread_of e).frames) (OfObject o) d (leaving_still e at below (begins e) here (first e here) f) held in
     let none = level_moves e (Some (OfObject o)) None s frame_after in
-    subst (λ (x : Option Lock). MovesMonitors e (Some (OfObject o)) x s) (sym none.1) (record { changes = frame_after.changes; entered = (held, may); left = tt })
+    subst (λ (x : Option Lock). Moved e (Some (OfObject o)) x s) (sym none.1) (moved_by e (Some (OfObject o)) None s frame_after (held, may) tt)
 
 waits_case : (e : Moment) (o : ℕ) (b : Bool) (go : Outcome Kept) → (b ≡ true → KeepsBy e (Some monitor.Enter) (Some o) go) → KeepsBy e (Some monitor.Enter) (Some o) (waits_unless e b go)
 waits_case e o true go h = h refl
@@ -104,7 +105,7 @@ left_by_none o pending q e = ap (λ (p : Option ℕ). left_by_row (Some monitor.
 exit_throws : (e : Moment) (o : Option ℕ) (x : Outcome Kept) → Throws e x → KeepsBy e (Some monitor.Exit) o x
 exit_throws e o (outcome.Goes next records) h =
     let none : left_by_row (Some monitor.Exit) (thread_at next.guest e.thread).pending o ≡ None = left_by_none o (thread_at next.guest e.thread).pending h.1.0 h.1.1 in
-    subst (λ (x : Option Lock). MovesMonitors e (pushed_lock e next) (option_or x (dropped_lock e next)) next) (sym none) h.0
+    subst (λ (x : Option Lock). Moved e (pushed_lock e next) (option_or x (dropped_lock e next)) next) (sym none) h.0
 exit_throws e o (outcome.Waits next) h = absurd h
 exit_throws e o (outcome.IllTyped method pc) h = tt
 exit_throws e o outcome.ObjectLimit h = tt
@@ -120,8 +121,8 @@ exit_goes e at o below here quiet held f owned =
     let top : FrameState = record (current_frame e) { pc = at.next; operands = below } in
     let pending : (thread_at s.guest e.thread).pending ≡ None = ap (λ (t : ThreadState). t.pending) (thread_now (begins e).state e.thread (with_top_of (thread_of e) top) here.knows.thread.thread) ∙ quiet in
     let lock : left_by_row (Some monitor.Exit) (thread_at s.guest e.thread).pending (Some o) ≡ Some (OfObject o) = ap (λ (p : Option ℕ). left_by_row (Some monitor.Exit) p (Some o)) pending in
-    subst (λ (x : Option Lock). MovesMonitors e (pushed_lock e s) (option_or x (dropped_lock e s)) s) (sym lock)
-    (subst (λ (x : Option Lock). MovesMonitors e x (Some (OfObject o)) s) (sym none.0) (record { changes = frame_after.changes; entered = tt; left = held }))
+    subst (λ (x : Option Lock). Moved e (pushed_lock e s) (option_or x (dropped_lock e s)) s) (sym lock)
+    (subst (λ (x : Option Lock). Moved e x (Some (OfObject o)) s) (sym none.0) (moved_by e None (Some (OfObject o)) s frame_after tt held))
 
 thrown_case : (e : Moment) (o : ℕ) (b : Bool) (go : Outcome Kept) → Stands e → (b ≡ true → KeepsBy e (Some monitor.Exit) (Some o) go) → KeepsBy e (Some monitor.Exit) (Some o) (throws_unless e (begins e) errors.IllegalMonitorStateException b go)
 thrown_case e o true go here h = h refl
@@ -212,12 +213,32 @@ turn_does e Instruction knows says dimensions =
     instruction_does e (decoded_at e.program (current_frame e)) refl (stands e knows says.1) (none_pending (thread_of e).pending says.0) (dimensions refl)
 
 by_monitors : (e : Moment) (x : Outcome Kept) → KeepsBy e (monitor_row_at e (turn_of (thread_of e))) (object_on (current_frame e).operands) x → KeepsMonitors e x
-by_monitors e (outcome.Goes next records) h = h
+by_monitors e (outcome.Goes next records) h = h.moves
 by_monitors e (outcome.Waits next) h = h
 by_monitors e (outcome.IllTyped method pc) h = tt
 by_monitors e outcome.ObjectLimit h = tt
 
-pub turn_keeps : (e : Moment) → Knows e → (turn_of (thread_of e) ≡ Instruction → HasDimensions e) → KeepsMonitors e (does_turn e (turn_of (thread_of e)))
-turn_keeps e knows dimensions =
-    let x : ThreadState = thread_of e in
-    by_monitors e (does_turn e (turn_of x)) (turn_does e (turn_of x) knows (turn_says (is_some x.pending) (has_frame x.frames) (is_before_class (top_of x).stage) x.entered) dimensions)
+-- what waits waits in one list after it
+abbrev pub LeadsLined : Moment → Outcome Kept → Type 0
+LeadsLined e (outcome.Goes next records) = KeepLists e.before.heap next.heap
+LeadsLined e (outcome.Waits next) = next ≡ later e.before
+LeadsLined e (outcome.IllTyped method pc) = Unit {0}
+LeadsLined e outcome.ObjectLimit = Unit {0}
+
+by_lists : (e : Moment) (x : Outcome Kept) → KeepsBy e (monitor_row_at e (turn_of (thread_of e))) (object_on (current_frame e).operands) x → LeadsLined e x
+by_lists e (outcome.Goes next records) h = h.lists
+by_lists e (outcome.Waits next) h = h
+by_lists e (outcome.IllTyped method pc) h = tt
+by_lists e outcome.ObjectLimit h = tt
+
+module _ (e : Moment) (knows : Knows e) (dimensions : turn_of (thread_of e) ≡ Instruction → HasDimensions e) where
+  this_turn : KeepsBy e (monitor_row_at e (turn_of (thread_of e))) (object_on (current_frame e).operands) (does_turn e (turn_of (thread_of e)))
+  this_turn =
+      let x : ThreadState = thread_of e in
+      turn_does e (turn_of x) knows (turn_says (is_some x.pending) (has_frame x.frames) (is_before_class (top_of x).stage) x.entered) dimensions
+
+  pub turn_keeps : KeepsMonitors e (does_turn e (turn_of (thread_of e)))
+  turn_keeps = by_monitors e (does_turn e (turn_of (thread_of e))) this_turn
+
+  pub turn_lined : LeadsLined e (does_turn e (turn_of (thread_of e)))
+  turn_lined = by_lists e (does_turn e (turn_of (thread_of e))) this_turn

@@ -1,6 +1,6 @@
 -- How an event goes on and ends, and what each way does to monitors.
 use Rattle.std.proofs.Common.{◌≡◌, ℕ, suc, ◌<◌, ◌==◌, Bool, true, false, ltb, List, [], ◌∷◌, length, Option, Some, None, Result, Ok, Err, refl, sym, ◌∙◌, ap, subst, arith}
-use Rattle.std.specs.Prelude.{if◌then◌else◌}
+use Rattle.std.specs.Prelude.{if◌then◌else◌, IfSome}
 use Rattle.std.proofs.lemmas.Bool.{eqb-true, eq-eqb}
 use Rattle.et_program.specs.Entries.{Linked, class_at, method_at}
 use Rattle.et_program.specs.declared.errors.LinkError.{LinkError}
@@ -18,11 +18,13 @@ use Rattle.et_event.specs.Checks.{Reference, ill_typed_unless, resolved, throws_
 use Rattle.et_event.specs.Errors.{error_class, error_of}
 use Rattle.et_event.specs.Initialization.{state_of, with_state, constants_set, initializer_frame, is_quiet, quietly_done, begun_by, begins_class, needed, initialized}
 use Rattle.et_event.specs.Moments.{Moment, Doing, later, begins, thread_of, current_frame, next_object, instance_made, with_thread_state, entry_given_up, pending_now, fits_heap, goes, ends_event, throws, waits}
-use Rattle.et_event.specs.Monitors.{Lock, lock_in}
+use Rattle.et_event.specs.Monitors.{Lock, lock_in, may_enter}
 use Rattle.et_event.specs.Sites.{running_method}
 use Rattle.et_event.specs.Sound.{IsSoundFor}
+use Rattle.et_sound.specs.WellFormed.{IsThere}
 use Rattle.et_history.specs.Holding.{lock_beyond}
 use Rattle.et_history.specs.Changing.{MovesMonitors}
+use Rattle.et_history.proofs.WaitingLists.{KeepLists}
 use Rattle.et_history.proofs.Values.{FineFrame, FineThread, FineSome, first_fine}
 use Rattle.et_history.proofs.Heaps.{fine_thread, new_held}
 use Rattle.et_history.proofs.Words.{Still, level, if_case, begun, thread_now, still_thread, thread_still, state_still, instance_still, pending_still, given_up_still, constants_still, quietly_still}
@@ -50,8 +52,18 @@ pushed_lock e after = lock_beyond e.program (thread_at after.guest e.thread).fra
 abbrev pub dropped_lock : Moment → Kept → Option Lock
 dropped_lock e after = lock_beyond e.program (thread_of e).frames (thread_at after.guest e.thread).frames
 
+-- monitors are entered and left so, and what waits waits in one list
+pub record Moved (e : Moment) (entry exit : Option Lock) (after : Kept) : Type 0 where
+  pub moves : MovesMonitors e entry exit after
+  pub lists : KeepLists e.before.heap after.heap
+
+-- .. where the event has come so far
+pub moved_by : (e : Moment) {n : ℕ} (entry exit : Option Lock) (s : Kept) → Still e (record { frames = n; entry = entry; exit = exit }) s
+    → IfSome entry (λ lock. IsThere e.before lock × (may_enter e (begins e) lock ≡ true)) → IfSome exit (λ lock. IsThere e.before lock) → Moved e entry exit s
+moved_by e entry exit s h entered left = record { moves = record { changes = h.changes; entered = entered; left = left }; lists = h.lists }
+
 abbrev pub Fits : Moment → Kept → Type 0
-Fits e after = MovesMonitors e (pushed_lock e after) (dropped_lock e after) after
+Fits e after = Moved e (pushed_lock e after) (dropped_lock e after) after
 
 abbrev pub Does : Moment → Outcome Kept → Type 0
 Does e (outcome.Goes after records) = Fits e after
@@ -86,9 +98,9 @@ beyond_none p (f ∷ below) gs ne = by (length below == length gs) refl
 pub beyond_one : (p : Linked) (f : FrameState) (below gs : List FrameState) → length below ≡ length gs → lock_beyond p (f ∷ below) gs ≡ lock_in f.stage (running_method p f) f.lock
 beyond_one p f below gs same = ap (λ (b : Bool). if b then lock_in f.stage (running_method p f) f.lock else None) (eq-eqb (length below) (length gs) same)
 
-pub fits_by : (e : Moment) (a b : Option Lock) (after : Kept) → pushed_lock e after ≡ a → dropped_lock e after ≡ b → MovesMonitors e a b after → Fits e after
+pub fits_by : (e : Moment) (a b : Option Lock) (after : Kept) → pushed_lock e after ≡ a → dropped_lock e after ≡ b → Moved e a b after → Fits e after
 fits_by e a b after pushed dropped h =
-    subst (λ (x : Option Lock). MovesMonitors e x (dropped_lock e after) after) (sym pushed) (subst (λ (x : Option Lock). MovesMonitors e a x after) (sym dropped) h)
+    subst (λ (x : Option Lock). Moved e x (dropped_lock e after) after) (sym pushed) (subst (λ (x : Option Lock). Moved e a x after) (sym dropped) h)
 
 pub level_fits : (e : Moment) (s : Kept) → Still e (level e) s → Fits e s
 level_fits e s h =
@@ -96,7 +108,7 @@ level_fits e s h =
     fits_by e None None s
     (beyond_none e.program (thread_at s.guest e.thread).frames (thread_of e).frames (λ x. omega arith))
     (beyond_none e.program (thread_of e).frames (thread_at s.guest e.thread).frames (λ x. omega arith))
-    (record { changes = h.changes; entered = tt; left = tt })
+    (moved_by e None None s h tt tt)
 
 -- ENDS
 
@@ -158,7 +170,7 @@ where_frame_fits e d go h g = unless_thrown e d StackOverflowError (ltb (length 
 -- A FRAME IS PUSHED: its lock is entered, if it has one
 
 pub pushed_fits : (e : Moment) (f : FrameState) (fs : List FrameState) (lock : Option Lock) (s : Kept) → (thread_at s.guest e.thread).frames ≡ f ∷ fs → length fs ≡ length (thread_of e).frames
-    → lock_in f.stage (running_method e.program f) f.lock ≡ lock → MovesMonitors e lock None s → Fits e s
+    → lock_in f.stage (running_method e.program f) f.lock ≡ lock → Moved e lock None s → Fits e s
 pushed_fits e f fs lock s is same has h =
     fits_by e lock None s
     (ap (λ (gs : List FrameState). lock_beyond e.program gs (thread_of e).frames) is ∙ (beyond_one e.program f fs (thread_of e).frames same ∙ has))
@@ -177,7 +189,7 @@ begun_does e c d h =
     let now = thread_still e (entered_by f t) x.state there fine in
     ends_fit e (begun_by e c d)
     (pushed_fits e f t.frames None (begun_by e c d).state (ap (λ (y : ThreadState). y.frames) (thread_now x.state e.thread (entered_by f t) there.thread)) there.frames refl
-    (record { changes = now.changes; entered = tt; left = tt }))
+    (moved_by e None None (begun_by e c d).state now tt tt))
 
 pub begins_class_does : (e : Moment) (c : ℕ) (d : Doing) → Still e (level e) d.state → Does e (begins_class e c d)
 begins_class_does e c d h = where_frame_fits e d (ends_event (begun_by e c d)) h (begun_does e c d h)

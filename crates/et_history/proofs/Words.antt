@@ -32,6 +32,7 @@ use Rattle.et_sound.specs.WellFormed.{IsThere}
 use Rattle.et_history.specs.Holding.{monitor_in}
 use Rattle.et_history.specs.Changing.{becomes, Changes}
 use Rattle.et_history.proofs.Values.{Fine, Fines, FineSome, FineFrame, FineThread, fines_set, rest_fine}
+use Rattle.et_history.proofs.WaitingLists.{KeepLists, keep_then, keep_set, keep_push, keep_taken}
 use Rattle.et_history.proofs.Heaps.{Grown, grown_set, grown_push, sound_guest, fine_thread, thread_sound, new_thread_sound, string_sound, static_sound, slots_fine, referent_fine, object_sound, made_sound, new_held, AreRestHeld, rest_held, rest_with_queue, rest_without_first}
 use Rattle.et_heap.specs.Queues.{with_waits, without_first_waiting, take_first}
 use Rattle.et_heap.proofs.HeapLists.{held_set}
@@ -45,6 +46,8 @@ pub record Way : Type 0 where
 
 pub record Still (e : Moment) (w : Way) (s : Kept) : Type 0 where
   pub changes : Changes e w.entry w.exit s
+  -- a reference stands in one waiting list at most, and is marked then
+  pub lists : KeepLists e.before.heap s.heap
   pub thread : e.thread < length s.guest.threads
   pub monitors : length s.guest.class_monitors ≡ length e.before.guest.class_monitors
   pub frames : length (thread_at s.guest e.thread).frames ≡ w.frames
@@ -77,6 +80,7 @@ begun e sound lt = record {
     full = λ o le new. absurd (omega (arith, le, new));
     monitor = λ lock there. ticked_monitor e lock;
   };
+  lists = λ reported within lined. lined;
   thread = lt;
   monitors = refl;
   frames = refl;
@@ -123,13 +127,14 @@ thread_still e {w = w} x s h fine =
     let lt = h.thread in
     record {
       changes = changes_guest e w.entry w.exit s (with_thread s.guest e.thread x) h.changes (thread_sound s e.thread x h.changes.sound h.thread fine) refl refl;
+      lists = h.lists;
       thread = omega arith;
       monitors = h.monitors;
       frames = ap (λ (y : ThreadState). length y.frames) (thread_now s e.thread x h.thread);
     }
 
 pub counted : (e : Moment) {w : Way} (n : ℕ) (s : Kept) → w.frames ≡ n → Still e w s → Still e (with_frames n w) s
-counted e n s same h = record { changes = h.changes; thread = h.thread; monitors = h.monitors; frames = h.frames ∙ same }
+counted e n s same h = record { changes = h.changes; lists = h.lists; thread = h.thread; monitors = h.monitors; frames = h.frames ∙ same }
 
 length_first : (f : FrameState) (fs : List FrameState) → 0 < length fs → length (f ∷ rest_of fs) ≡ length fs
 length_first f [] lt = absurd (omega arith)
@@ -145,15 +150,15 @@ top_still e {w = w} f s some h fine =
 
 pub static_still : (e : Moment) {w : Way} (i : ℕ) (v : Value) (s : Kept) → Still e w s → Fine s.heap v → Still e w (record { heap = s.heap; guest = with_static s.guest i v })
 static_still e {w = w} i v s h fine =
-    record { changes = changes_guest e w.entry w.exit s (with_static s.guest i v) h.changes (static_sound s i v h.changes.sound fine) refl refl; thread = h.thread; monitors = h.monitors; frames = h.frames }
+    record { changes = changes_guest e w.entry w.exit s (with_static s.guest i v) h.changes (static_sound s i v h.changes.sound fine) refl refl; lists = h.lists; thread = h.thread; monitors = h.monitors; frames = h.frames }
 
 string_still : (e : Moment) {w : Way} (text : List ℕ) (o : ℕ) (s : Kept) → Still e w s → IsHeld s.heap o → Still e w (record { heap = s.heap; guest = with_string s.guest text o })
 string_still e {w = w} text o s h held =
-    record { changes = changes_guest e w.entry w.exit s (with_string s.guest text o) h.changes (string_sound s text o h.changes.sound held) refl refl; thread = h.thread; monitors = h.monitors; frames = h.frames }
+    record { changes = changes_guest e w.entry w.exit s (with_string s.guest text o) h.changes (string_sound s text o h.changes.sound held) refl refl; lists = h.lists; thread = h.thread; monitors = h.monitors; frames = h.frames }
 
 pub state_still : (e : Moment) {w : Way} (c : ℕ) (x : ClassState) (s : Kept) → Still e w s → Still e w (record { heap = s.heap; guest = with_class_state s.guest c x })
 state_still e {w = w} c x s h =
-    record { changes = changes_guest e w.entry w.exit s (with_class_state s.guest c x) h.changes (sound_guest s (with_class_state s.guest c x) h.changes.sound h.changes.sound.roots) refl refl; thread = h.thread; monitors = h.monitors; frames = h.frames }
+    record { changes = changes_guest e w.entry w.exit s (with_class_state s.guest c x) h.changes (sound_guest s (with_class_state s.guest c x) h.changes.sound h.changes.sound.roots) refl refl; lists = h.lists; thread = h.thread; monitors = h.monitors; frames = h.frames }
 
 abbrev started : ℕ → ThreadState
 started o = new_thread None (Some o)
@@ -168,6 +173,7 @@ started_still e {w = w} o d h held =
     let lt = h.thread in
     record {
       changes = changes_guest e w.entry w.exit s (with_new_thread s.guest (started o)) h.changes (new_thread_sound s (started o) h.changes.sound fine) refl refl;
+      lists = h.lists;
       thread = omega arith;
       monitors = h.monitors;
       frames = ap (λ (x : ThreadState). length x.frames) same ∙ h.frames;
@@ -179,15 +185,26 @@ some_held : (h : Objects) (o : ℕ) (y : ObjectState) → IsHeld h o → (q : Op
 some_held h o y held None fine = tt
 some_held h o y held (Some z) fine = held_set h o y z held fine
 
-object_still : (e : Moment) {w : Way} (o : ℕ) (y : ObjectState) (s : Kept) → Still e w s → IsHeld s.heap o → y.monitor ≡ (object_at s.heap o).monitor → Fines s.heap y.slots → FineSome s.heap y.referent → AreRestHeld s.heap y
-    → Still e w (record { heap = with_object_at s.heap o y; guest = s.guest })
-object_still e {w = w} o y s h held same slots referent rest =
-    record { changes = changes_heap e w.entry w.exit s (with_object_at s.heap o y) h.changes (object_sound s o y h.changes.sound held slots referent rest) (grown_set s.heap o y held same); thread = h.thread; monitors = h.monitors; frames = h.frames }
+object_still : (e : Moment) {w : Way} (o : ℕ) (y : ObjectState) (s : Kept) → Still e w s → IsHeld s.heap o → y.monitor ≡ (object_at s.heap o).monitor → y.waiting ≡ (object_at s.heap o).waiting → y.waits ≡ (object_at s.heap o).waits
+    → Fines s.heap y.slots → FineSome s.heap y.referent → AreRestHeld s.heap y → Still e w (record { heap = with_object_at s.heap o y; guest = s.guest })
+object_still e {w = w} o y s h held same list mark slots referent rest = record {
+  changes = changes_heap e w.entry w.exit s (with_object_at s.heap o y) h.changes (object_sound s o y h.changes.sound held slots referent rest) (grown_set s.heap o y held same);
+  lists = keep_then e.before.heap s.heap (with_object_at s.heap o y) h.changes.longer h.lists (keep_set s.heap o y held list mark);
+  thread = h.thread;
+  monitors = h.monitors;
+  frames = h.frames;
+}
 
 made_still : (e : Moment) {w : Way} (class elements slots : ℕ) (s : Kept) → Still e w s → Still e w (record { heap = s.heap ++ Some (new_object class elements slots) ∷ []; guest = s.guest })
 made_still e {w = w} class elements slots s h =
     let y : ObjectState = new_object class elements slots in
-    record { changes = changes_heap e w.entry w.exit s (s.heap ++ Some y ∷ []) h.changes (made_sound s class elements slots h.changes.sound) (grown_push s.heap y refl); thread = h.thread; monitors = h.monitors; frames = h.frames }
+    record {
+      changes = changes_heap e w.entry w.exit s (s.heap ++ Some y ∷ []) h.changes (made_sound s class elements slots h.changes.sound) (grown_push s.heap y refl);
+      lists = keep_then e.before.heap s.heap (s.heap ++ Some y ∷ []) h.changes.longer h.lists (keep_push s.heap y refl refl);
+      thread = h.thread;
+      monitors = h.monitors;
+      frames = h.frames;
+    }
 
 pub instance_still : (e : Moment) {w : Way} (class : ℕ) (d : Doing) → Still e w d.state → Still e w (instance_made e class d).state
 instance_still e class d h = made_still e class 0 (class_at e.program class).info.slots d.state h
@@ -208,17 +225,17 @@ slot_still e o i v d h held fine =
     let s : Kept = d.state in
     let x : ObjectState = object_at s.heap o in
     updated_still e o i (slot_of x i) v (record { state = record { heap = with_object_at s.heap o (with_slot i v x); guest = s.guest }; records = d.records })
-    (object_still e o (with_slot i v x) s h held refl (fines_set s.heap x.slots i v fine (slots_fine s o h.changes.sound)) (referent_fine s o h.changes.sound) (rest_held s o h.changes.sound))
+    (object_still e o (with_slot i v x) s h held refl refl refl (fines_set s.heap x.slots i v fine (slots_fine s o h.changes.sound)) (referent_fine s o h.changes.sound) (rest_held s o h.changes.sound))
 
 pub written_static_still : (e : Moment) {w : Way} (i : ℕ) (v : Value) (d : Doing) → Still e w d.state → Fine d.state.heap v → Still e w (static_written e i v d).state
 written_static_still e i v d h fine = updated_still e 0 i (static_at d.state.guest i) v (doing_with_guest (with_static d.state.guest i v) d) (static_still e i v d.state h fine)
 
 pub referent_still : (e : Moment) {w : Way} (o : ℕ) (r : Option ℕ) (d : Doing) → Still e w d.state → IsHeld d.state.heap o → FineSome d.state.heap r → Still e w (with_referent_of o r d).state
-referent_still e o r d h held fine = object_still e o (with_referent r (object_at d.state.heap o)) d.state h held refl (slots_fine d.state o h.changes.sound) fine (rest_held d.state o h.changes.sound)
+referent_still e o r d h held fine = object_still e o (with_referent r (object_at d.state.heap o)) d.state h held refl refl refl (slots_fine d.state o h.changes.sound) fine (rest_held d.state o h.changes.sound)
 
 pub queue_still : (e : Moment) {w : Way} (o : ℕ) (q : Option ℕ) (d : Doing) → Still e w d.state → IsHeld d.state.heap o → FineSome d.state.heap q → Still e w (with_queue_of o q d).state
 queue_still e o q d h held fine =
-    object_still e o (with_queue q (object_at d.state.heap o)) d.state h held refl (slots_fine d.state o h.changes.sound) (referent_fine d.state o h.changes.sound) (rest_with_queue d.state o q h.changes.sound fine)
+    object_still e o (with_queue q (object_at d.state.heap o)) d.state h held refl refl refl (slots_fine d.state o h.changes.sound) (referent_fine d.state o h.changes.sound) (rest_with_queue d.state o q h.changes.sound fine)
 
 -- a weak reference is made
 pub reference_still : (e : Moment) {w : Way} (o : ℕ) (r q : Option ℕ) (d : Doing) → Still e w d.state → IsHeld d.state.heap o → FineSome d.state.heap r → FineSome d.state.heap q → Still e w (with_reference_made o r q d).state
@@ -227,13 +244,23 @@ reference_still e o r q d h held fine queue =
     queue_still e o q (with_referent_of o r d) (referent_still e o r d h held fine) (held_set d.state.heap o y o held held) (some_held d.state.heap o y held q queue)
 
 taken_still : (e : Moment) {w : Way} (q : ℕ) (ws : List ℕ) (s : Kept) → (object_at s.heap q).waiting ≡ ws → Still e w s → IsHeld s.heap q → Still e w (record { heap = take_first ws q s.heap; guest = s.guest })
-taken_still e q [] s is h held = record { changes = h.changes; thread = h.thread; monitors = h.monitors; frames = h.frames }
-taken_still e q (r ∷ ws) s is h held =
+taken_still e q [] s is h held = record { changes = h.changes; lists = h.lists; thread = h.thread; monitors = h.monitors; frames = h.frames }
+taken_still e {w = w} q (r ∷ ws) s is h held =
     let y : ObjectState = without_first_waiting (object_at s.heap q) in
     let first : Kept = record { heap = with_object_at s.heap q y; guest = s.guest } in
     let there : IsHeld s.heap r = h.changes.sound.slots q r (waiting_pair s.heap q r (subst (λ (os : List ℕ). Contains os r) (sym is) (Contains-here r ws))) in
-    let still : Still e _ first = object_still e q y s h held refl (slots_fine s q h.changes.sound) (referent_fine s q h.changes.sound) (rest_without_first s q h.changes.sound) in
-    object_still e r (with_waits false (object_at first.heap r)) first still (held_set s.heap q y r held there) refl (slots_fine first r still.changes.sound) (referent_fine first r still.changes.sound) (rest_held first r still.changes.sound)
+    let sound : IsSound first = object_sound s q y h.changes.sound held (slots_fine s q h.changes.sound) (referent_fine s q h.changes.sound) (rest_without_first s q h.changes.sound) in
+    let changes : Changes e w.entry w.exit first = changes_heap e w.entry w.exit s first.heap h.changes sound (grown_set s.heap q y held refl) in
+    let z : ObjectState = with_waits false (object_at first.heap r) in
+    let now : Objects = with_object_at first.heap r z in
+    let after : IsHeld first.heap r = held_set s.heap q y r held there in
+    record {
+      changes = changes_heap e w.entry w.exit first now changes (object_sound first r z sound after (slots_fine first r sound) (referent_fine first r sound) (rest_held first r sound)) (grown_set first.heap r z after refl);
+      lists = keep_then e.before.heap s.heap now h.changes.longer h.lists (keep_taken s.heap q r ws is held there);
+      thread = h.thread;
+      monitors = h.monitors;
+      frames = h.frames;
+    }
 
 -- a queue is polled
 pub first_taken_still : (e : Moment) {w : Way} (q : ℕ) (d : Doing) → Still e w d.state → IsHeld d.state.heap q → Still e w (with_first_taken q d).state

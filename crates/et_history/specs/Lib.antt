@@ -9,3 +9,4 @@ pub mod Records
 pub mod Allocations
 pub mod Ends
 pub mod Telling
+pub mod Waiting
