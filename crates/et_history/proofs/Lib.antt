@@ -23,6 +23,8 @@ mod Agreeing
 mod Alike
 mod Wholes
 mod Freed
+mod FlushedLists
+mod Waits
 mod Histories
 mod NewStrings
 mod NewArrays

@@ -89,7 +89,7 @@ same_tests false false f g = refl
 pub reached_all : (s : State) (o : ℕ) → IsReached (graph_of s.kept) o → IsReached (graph s) o
 reached_all s o r = (r.0, r.1, (r.2.0, walk_more (pairs_of s.kept.heap) (pairs_of s.kept.heap ++ pairs_of s.reported) (λ u x c. Contains-append_left (pairs_of s.kept.heap) (pairs_of s.reported) (u, x) c) r.0 r.2.0 o r.2.1))
 
-same_reached : (reached : Graph → ℕ → Bool) → Decides reached → (s : State) → IsSound s.kept → IsPast s.kept.heap s.reported → reached (graph_of s.kept) ≡ reached (graph s)
+pub same_reached : (reached : Graph → ℕ → Bool) → Decides reached → (s : State) → IsSound s.kept → IsPast s.kept.heap s.reported → reached (graph_of s.kept) ≡ reached (graph s)
 same_reached reached decides s sound past =
     fun_ext (λ o. same_tests (reached (graph_of s.kept) o) (reached (graph s) o)
     (λ t. (decides (graph s) o).1 (reached_all s o ((decides (graph_of s.kept) o).0 t)))
@@ -114,7 +114,7 @@ is_now b t = search (rules, t)
 now_is : (b : Bool) → b ≡ true → IsTrue b
 now_is b e = search (rules, e)
 
-tells : (g : Graph) (here : ℕ → Bool) → ((o : ℕ) → IsTrue (here o) ↔ IsReached g o) → (o : ℕ) → (here o ≡ true) ↔ IsReached g o
+pub tells : (g : Graph) (here : ℕ → Bool) → ((o : ℕ) → IsTrue (here o) ↔ IsReached g o) → (o : ℕ) → (here o ≡ true) ↔ IsReached g o
 tells g here h o = (λ e. (h o).0 (now_is (here o) e), λ r. is_now (here o) ((h o).1 r))
 
 -- the thread that is picked was started and has not ended

@@ -1,5 +1,5 @@
 //! The histories of a program: no two threads hold one monitor, nothing is freed, what a machine keeps tells the same, what
-//! is made is reached then, and what an event tells names what the program has.
+//! is made is reached then, what an event tells names what the program has, and a reference waits in one queue at most.
 #![tactic(auto)]
 
 pub mod laws;
@@ -7,3 +7,4 @@ pub mod object_laws;
 pub mod record_laws;
 pub mod run_laws;
 pub mod telling_laws;
+pub mod waiting_laws;
