@@ -186,6 +186,20 @@ fn what_was_held_weakly_dies_at_its_last_stay(rt: HostRuntime) -> Result<(), Fai
     Ok(())
 }
 
+// Object 2 is tied to object 1 while both are roots. So it stays reached once it is a root no more, and dies with object 1.
+#[test]
+fn what_is_tied_dies_with_its_holder(rt: HostRuntime) -> Result<(), Fail> {
+    let alloc = rt.alloc();
+    let mut book = StampBook::begin(alloc);
+    book.take_step(step(alloc, &row!([1, 2], [], [1, 2], [], []))?)?;
+    book.tie(pairs(alloc, &[(1, 2)])?)?;
+    book.take_step(step(alloc, &row!([], [2], [1], [], []))?)?;
+    assert!(rt; book.flush().is_empty());
+    book.take_step(step(alloc, &row!([], [1], [], [], []))?)?;
+    assert_eq!(rt; book.flush(), [death(1, 1), death(2, 1)].as_slice());
+    Ok(())
+}
+
 /// Once object 2 is reported, a step that makes it a root again is not legal.
 fn reported_is_no_root()
     ensures { let g : Graph = record { made = 2; roots = 1 ∷ []; pairs = []; gone = 2 ∷ [] }
