@@ -114,7 +114,8 @@ pub(crate) fn enter_event<L: Ledger>(
     }
 }
 
-/// The event in which a static method is called, after its class, which is quiet, became done (JVMS 5.5, 2.6, 2.11.8, 2.11.10). It visits three objects at most. After `NoMemory` the event may be half done.
+/// The event in which a static method is called, after its class, which is quiet, became done (JVMS 5.5, 2.6, 2.11.8, 2.11.10).
+/// It visits three objects at most. After `NoMemory` the event may be half done.
 pub(crate) fn enter_after<L: Ledger>(
     alloc: Global,
     program: &Program,

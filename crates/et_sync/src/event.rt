@@ -1,4 +1,4 @@
-//! The event call of monitors, of the built-in methods of threads and of weak references, and of the end of a thread.
+//! The event call of monitors, of the built-in methods of threads, weak references and their queues, and of the end of a thread.
 ghost use Rattle.std.specs.Prelude.{◌≡◌, ◌+◌, ◌≤◌, ◌⊎◌, Some, IfOk, IsSome, OnErr};
 ghost use Rattle.et_state.specs.declared.stage.Turn.TheVariants as turns;
 ghost use Rattle.et_state.specs.State.{kept_of};
