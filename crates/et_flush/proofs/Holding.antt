@@ -1,14 +1,15 @@
 -- The objects that are held, listed one after the other.
-use Rattle.std.proofs.Common.{◌≡◌, ℕ, zero, suc, ◌+◌, ◌-◌, ◌<◌, ◌≤◌, List, [], ◌∷◌, ◌++◌, length, get_or, Contains, sym, ◌∙◌, ap, subst, arith}
+use Rattle.std.proofs.Common.{◌≡◌, ℕ, zero, suc, ◌+◌, ◌-◌, ◌<◌, ◌≤◌, List, [], ◌∷◌, ◌++◌, length, get_or, Contains, Option, Some, None, refl, sym, ◌∙◌, ap, subst, arith}
 use mathlib.Core.Logic.{⊎_elim}
 use Rattle.std.specs.List.Sorted.{IsStrictlyIncreasing}
-use Rattle.std.proofs.lemmas.Bool.{cases_lt}
+use Rattle.std.proofs.lemmas.Bool.{cases_eq, cases_lt}
 use Rattle.std.proofs.lemmas.List.{length-append, get_or_append_left, get_or_push, get_or_past, get_or_default}
 use Rattle.std.proofs.lemmas.List.Elements.{Contains-append_left, Contains-push, Contains-push_cases, Contains-get_or}
 use Rattle.std.proofs.lemmas.List.Kept.{AllPairs-from_increasing}
 use Rattle.et_graph.specs.Times.{AreWithin}
 use Rattle.et_base.proofs.Lists.{Contains-none}
-use Rattle.et_heap.specs.Objects.{Objects, IsHeld, IsNextHeld}
+use Rattle.et_heap.specs.Objects.{ObjectState, Objects, IsHeld, IsNextHeld, is_there, ones_in, held_count}
+use Rattle.std.proofs.lemmas.List.Sums.{sum_by-cons}
 use Rattle.et_heap.proofs.HeapLists.{held_within}
 use Rattle.et_flush.specs.Searches.{AreAllHeld}
 use Rattle.et_flush.proofs.Targets.{held_above}
@@ -142,3 +143,43 @@ module _ (heap : Objects) (held : List ℕ) (are : AreAllHeld heap held) where
       omega (arith, least_at k none inside, held_within heap (get_or held k 0) (here_held k 0 inside)))
       (λ empty. omega arith)
       (cases_lt 0 (length held))
+
+-- HOW MANY THERE ARE
+
+there_one : (x : Option ObjectState) → is_there x → ones_in x ≡ 1
+there_one None h = absurd h
+there_one (Some x) h = refl
+
+held_counted : (k : ℕ) (xs : Objects) (held : List ℕ) → IsStrictlyIncreasing held → ((j : ℕ) → j < length held → (k ≤ get_or held j 0) × is_there (get_or xs (get_or held j 0 - k) None)) → length held ≤ held_count xs
+held_counted k xs [] rising there = omega arith
+held_counted k [] (h ∷ hs) rising there = absurd (there 0 (omega arith)).1
+held_counted k (x ∷ xs) (h ∷ hs) rising there =
+    let least = (there 0 (omega arith)).0 in
+    let after : (o : ℕ) → k + 1 ≤ o → is_there (get_or (x ∷ xs) (o - k) None) → is_there (get_or xs (o - (k + 1)) None) = λ o le p.
+    let e : o - k ≡ suc (o - (k + 1)) = omega arith in
+    subst (λ (i : ℕ). is_there (get_or (x ∷ xs) i None)) e p in
+    ⊎_elim
+    (λ e.
+    let here : is_there x = subst (λ (i : ℕ). is_there (get_or (x ∷ xs) i None)) (let f : h - k ≡ 0 = omega arith in f) (there 0 (omega arith)).1 in
+    let rest = held_counted (k + 1) xs hs (λ j lt. AllPairs-from_increasing (h ∷ hs) rising (suc j) (suc (j + 1)) 0 (omega arith) (omega arith))
+    (λ j lt.
+    let later : h < get_or hs j 0 = AllPairs-from_increasing (h ∷ hs) rising 0 (suc j) 0 (omega arith) (omega arith) in
+    let more : k + 1 ≤ get_or hs j 0 = omega arith in
+    (more, after (get_or hs j 0) more (there (suc j) (omega arith)).1)) in
+    omega (arith, rest, there_one x here, sum_by-cons ones_in x xs))
+    (λ ne.
+    let rest = held_counted (k + 1) xs (h ∷ hs) rising
+    (λ j lt.
+    let more : k + 1 ≤ get_or (h ∷ hs) j 0 =
+    ⊎_elim
+    (λ (z : 0 < j). let later : h < get_or (h ∷ hs) j 0 = AllPairs-from_increasing (h ∷ hs) rising 0 j 0 z lt in omega arith)
+    (λ (z : j ≤ 0). let e : 0 ≡ j = omega arith in subst (λ (i : ℕ). k + 1 ≤ get_or (h ∷ hs) i 0) e (omega arith))
+    (cases_lt 0 j) in
+    (more, after (get_or (h ∷ hs) j 0) more (there j lt).1)) in
+    omega (arith, rest, sum_by-cons ones_in x xs))
+    (cases_eq h k)
+
+pub all_counted : (heap : Objects) (held : List ℕ) → AreAllHeld heap held → length held ≤ held_count heap
+all_counted heap held are =
+    held_counted 0 heap held are.rising
+    (λ j lt. (omega arith, subst (λ (i : ℕ). is_there (get_or heap i None)) (let e : get_or held j 0 ≡ get_or held j 0 - 0 = omega arith in e) ((are.exact (get_or held j 0)).0 (Contains-get_or held j 0 lt))))

@@ -1,4 +1,6 @@
+pub mod Ranking
 pub mod Targets
+pub mod Searching
 pub mod Orders
 pub mod Holding
 pub mod Listings
@@ -8,5 +10,6 @@ pub mod Clearing
 pub mod Tying
 pub mod Arriving
 pub mod Working
+pub mod Settling
 pub mod Reaching
 pub mod Leaving

@@ -1,17 +1,14 @@
 -- What the times of a flush tell.
-use Rattle.std.proofs.Common.{◌≡◌, ℕ, suc, ◌+◌, ◌-◌, ◌<◌, ◌≤◌, ◌⊎◌, ◌↔◌, Bool, true, false, List, [], ◌∷◌, ◌++◌, length, get_or, Contains, All, Option, Some, None, refl, sym, ◌∙◌, ap, subst, inl, inr, arith, true≢false}
+use Rattle.std.proofs.Common.{◌≡◌, ℕ, suc, ◌+◌, ◌<◌, ◌≤◌, ◌↔◌, Bool, true, false, List, [], ◌∷◌, ◌++◌, length, get_or, All, Option, Some, None, refl, sym, ◌∙◌, ap, subst, inl, inr, arith, true≢false}
 use Rattle.std.specs.Prelude.{if◌then◌else◌, not, ◌&&◌}
 use Rattle.std.proofs.lemmas.Bool.{cases_Bool, leb-true, le-leb}
 use Rattle.std.proofs.lemmas.List.{length-append}
 use Rattle.std.proofs.lemmas.List.Sums.{sum_by-cons}
-use Rattle.et_graph.specs.Graph.{IsWalk, Leads, IsReached, IsDead}
-use Rattle.et_graph.specs.Times.{AreSeenAmong, set_each, unset_count}
+use Rattle.et_graph.specs.Graph.{IsReached, IsDead}
 use Rattle.et_graph.proofs.Walks.{cases_reached}
-use Rattle.et_graph.proofs.Carrying.{carried_greatest, set_each_in, set_each_out}
 use Rattle.et_heap.specs.Objects.{ObjectState, Objects, IsHeld, is_there, found, object_at, held_count, ones_in}
-use Rattle.et_heap.specs.Refs.{pairs_of}
 use Rattle.et_heap.specs.Remaining.{kept_referent, left_place, remaining}
-use Rattle.et_heap.proofs.HeapLists.{pair_at, pair_held, held_within, gone_at, at_gone}
+use Rattle.et_heap.proofs.HeapLists.{held_within, gone_at, at_gone}
 use Rattle.et_graph.specs.Listed.{IsGreatest, AreListed}
 use Rattle.et_flush.specs.declared.times.TheConstants.{NOW}
 use Rattle.et_flush.specs.Searches.{AreDyingIn}
@@ -20,60 +17,25 @@ use Rattle.et_flush.specs.Works.{IsSettled}
 use Rattle.et_state.specs.Enqueuing.{is_cleared}
 use Rattle.et_flush.specs.Flushes.{loses_referent, cleared_references, heap_graph}
 use Rattle.et_flush.proofs.Targets.{held_above}
+use Rattle.et_flush.proofs.Settling.{lead_held}
 use Rattle.et_flush.proofs.Orders.{cases_held}
 
--- what leads to an object that is held is held
-walk_held : (heap : Objects) (u : ℕ) (walk : List ℕ) (o : ℕ) → IsWalk (pairs_of heap) u walk o → IsHeld heap o → IsHeld heap u
-walk_held heap u [] o w held = subst (λ (k : ℕ). IsHeld heap k) (sym w) held
-walk_held heap u (x ∷ walk) o w held = pair_held heap u x (pair_at heap u x w.0)
-
-lead_held : (heap : Objects) (u o : ℕ) → Leads (pairs_of heap) u o → IsHeld heap o → IsHeld heap u
-lead_held heap u o l held = walk_held heap u l.0 o l.1 held
-
-module _ (heap : Objects) (roots stamps times : List ℕ) (none : IsHeld heap 0 → ⊥) (roots_held : (o : ℕ) → Contains roots o → IsHeld heap o)
-    (long : length heap ≤ length stamps) (below : All (λ t. t < NOW) stamps) (settled : IsSettled heap roots stamps times) where
-  -- an object that is reached has a time of NOW at least
-  reached_time : (o : ℕ) → IsReached (heap_graph heap roots) o → NOW ≤ get_or times (o - 1) 0
-  reached_time o (root, c, leads) =
-      let held : IsHeld heap root = roots_held root c in
-      let above : 0 < root = held_above heap root none held in
-      let fits : root - 1 < length settled.first = omega (arith, held_within heap root held, settled.begins.long) in
-      let now : get_or (set_each roots NOW settled.first) (root - 1) 0 ≡ NOW = set_each_in roots NOW settled.first root (λ r d. held_above heap r none (roots_held r d)) above fits c in
-      omega (arith, now, carried_greatest (pairs_of heap) (set_each roots NOW settled.first) times settled.carries settled.settled root o leads)
-
-  -- one that leads to an object that isn't reached begins with its stamp
-  begins_stamped : (o u : ℕ) → IsHeld heap o → ¬ IsReached (heap_graph heap roots) o → Leads (pairs_of heap) u o → get_or (set_each roots NOW settled.first) (u - 1) 0 ≡ get_or stamps u 0
-  begins_stamped o u held unreached leads =
-      let here : IsHeld heap u = lead_held heap u o leads held in
-      let above : 0 < u = held_above heap u none here in
-      let out : ¬ Contains roots u = λ c. unreached (u, c, leads) in
-      set_each_out roots NOW settled.first u (λ r d. held_above heap r none (roots_held r d)) above out ∙ settled.begins.held u here
-
-  -- the time of an object that isn't reached is the greatest stamp that leads to it
-  unreached_time : (o : ℕ) → IsHeld heap o → ¬ IsReached (heap_graph heap roots) o → IsGreatest (heap_graph heap roots) (λ u. get_or stamps u 0) o (get_or times (o - 1) 0)
-  unreached_time o held unreached =
-      let from = settled.carries.carried o (held_above heap o none held) in
-      let here : IsHeld heap from.0 = lead_held heap from.0 o from.2 held in
-      record {
-        source = (from.0, (λ c. (gone_at heap from.0 c).2 here), from.2, sym (begins_stamped o from.0 held unreached from.2) ∙ sym from.3);
-        greatest = λ u _ leads. omega (arith, begins_stamped o u held unreached leads, carried_greatest (pairs_of heap) (set_each roots NOW settled.first) times settled.carries settled.settled u o leads);
-      }
-
-  unreached_below : (o : ℕ) → IsHeld heap o → ¬ IsReached (heap_graph heap roots) o → get_or times (o - 1) 0 < NOW
+module _ (heap : Objects) (roots stamps : List ℕ) (time : ℕ → ℕ) (none : IsHeld heap 0 → ⊥) (long : length heap ≤ length stamps) (below : All (λ t. t < NOW) stamps) (settled : IsSettled heap roots stamps time) where
+  unreached_below : (o : ℕ) → IsHeld heap o → ¬ IsReached (heap_graph heap roots) o → time o < NOW
   unreached_below o held unreached =
-      let s = (unreached_time o held unreached).source in
+      let s = (settled.unreached o held unreached).source in
       let here : IsHeld heap s.0 = lead_held heap s.0 o s.2 held in
       omega (arith, s.3, below s.0 0 (omega (arith, held_within heap s.0 here)))
 
   -- which are reached now
-  pub now_reached : (o : ℕ) → IsHeld heap o → (is_now times o ≡ true) ↔ IsReached (heap_graph heap roots) o
+  pub now_reached : (o : ℕ) → IsHeld heap o → (is_now time o ≡ true) ↔ IsReached (heap_graph heap roots) o
   now_reached o held = (
     λ now.
         elim (cases_reached (heap_graph heap roots) o) [
           | inl r ↦ r
-          | inr unreached ↦ absurd (omega (arith, unreached_below o held unreached, leb-true NOW (get_or times (o - 1) 0) now))
+          | inr unreached ↦ absurd (omega (arith, unreached_below o held unreached, leb-true NOW (time o) now))
         ],
-    λ r. le-leb NOW (get_or times (o - 1) 0) (reached_time o r),
+    λ r. le-leb NOW (time o) (settled.reached o held r),
   )
 
   dead_held : (o : ℕ) → IsDead (heap_graph heap roots) o → IsHeld heap o
@@ -87,20 +49,20 @@ module _ (heap : Objects) (roots stamps times : List ℕ) (none : IsHeld heap 0 
   held_dead o held unreached = let last : o < length heap = held_within heap o held in ((held_above heap o none held, omega arith), unreached, λ c. (gone_at heap o c).2 held)
 
   -- what is below NOW is dead, with the greatest stamp that leads to it
-  pub below_listed : (deaths : List (ℕ × ℕ)) → AreDyingIn heap times deaths → AreListed (heap_graph heap roots) (λ u. get_or stamps u 0) deaths
+  pub below_listed : (deaths : List (ℕ × ℕ)) → AreDyingIn heap time deaths → AreListed (heap_graph heap roots) (λ u. get_or stamps u 0) deaths
   below_listed deaths are = record {
     rising = are.rising;
     exact = λ o t. (
       λ c.
           let d = (are.exact o t).0 c in
-          let unreached : ¬ IsReached (heap_graph heap roots) o = λ r. omega (arith, reached_time o r, d.1, d.2) in
-          (held_dead o d.0 unreached, subst (λ (k : ℕ). IsGreatest (heap_graph heap roots) (λ u. get_or stamps u 0) o k) d.1 (unreached_time o d.0 unreached)),
+          let unreached : ¬ IsReached (heap_graph heap roots) o = λ r. omega (arith, settled.reached o d.0 r, d.1, d.2) in
+          (held_dead o d.0 unreached, subst (λ (k : ℕ). IsGreatest (heap_graph heap roots) (λ u. get_or stamps u 0) o k) d.1 (settled.unreached o d.0 unreached)),
       λ (dead, greatest).
           let held : IsHeld heap o = dead_held o dead in
-          let time = unreached_time o held dead.1 in
-          let least = time.greatest greatest.source.0 greatest.source.1 greatest.source.2 in
-          let most = greatest.greatest time.source.0 time.source.1 time.source.2 in
-          let same : get_or times (o - 1) 0 ≡ t = omega (arith, least, most, greatest.source.3, time.source.3) in
+          let most_is = settled.unreached o held dead.1 in
+          let least = most_is.greatest greatest.source.0 greatest.source.1 greatest.source.2 in
+          let most = greatest.greatest most_is.source.0 most_is.source.1 most_is.source.2 in
+          let same : time o ≡ t = omega (arith, least, most, greatest.source.3, most_is.source.3) in
           (are.exact o t).1 (held, same, omega (arith, same, unreached_below o held dead.1)),
     );
   }
@@ -212,36 +174,3 @@ cleared_from here other k (x ∷ xs) agree weak =
 
 pub cleared_same : (heap : Objects) (here other : ℕ → Bool) → ((o : ℕ) → IsHeld heap o → here o ≡ other o) → ((u r : ℕ) → (object_at heap u).referent ≡ Some r → IsHeld heap r) → cleared_references here 0 heap ≡ cleared_references other 0 heap
 cleared_same heap here other same referents = cleared_from here other 0 heap (agrees heap here other same) (λ j r e. same r (referents j r e))
-
-one_few : (before after : Bool) (x : Option ObjectState) → (after ≡ true → (before ≡ true) ⊎ is_there x) → (if before then 0 else 1) ≤ (if after then 0 else 1) + ones_in x
-one_few true after x there = omega arith
-one_few false false x there = omega arith
-one_few false true None there = elim (there refl) [ inl e ↦ absurd (true≢false (sym e)) | inr h ↦ absurd h ]
-one_few false true (Some x) there = omega arith
-
--- what was seen since is held
-seen_few : (before after : List Bool) (xs : Objects) → length before ≡ length after → ((j : ℕ) → get_or after j false ≡ true → (get_or before j false ≡ true) ⊎ is_there (get_or xs j None)) → unset_count before ≤ unset_count after + held_count xs
-seen_few [] after xs long seen = omega arith
-seen_few (b ∷ before) [] xs long seen = absurd (omega arith)
-seen_few (b ∷ before) (a ∷ after) [] long seen =
-    let rest = seen_few before after [] (omega arith) (λ j s. seen (suc j) s) in
-    let first = one_few b a None (λ s. seen 0 s) in
-    omega (arith, sum_by-cons (λ (c : Bool). if c then 0 else 1) b before, sum_by-cons (λ (c : Bool). if c then 0 else 1) a after)
-seen_few (b ∷ before) (a ∷ after) (x ∷ xs) long seen =
-    let rest = seen_few before after xs (omega arith) (λ j s. seen (suc j) s) in
-    let first = one_few b a x (λ s. seen 0 s) in
-    omega (arith, sum_by-cons (λ (c : Bool). if c then 0 else 1) b before, sum_by-cons (λ (c : Bool). if c then 0 else 1) a after, sum_by-cons ones_in x xs)
-
-flag_at : (flags : List Bool) (j : ℕ) → get_or flags j false ≡ get_or flags (suc j - 1) false
-flag_at flags j = ap (λ (i : ℕ). get_or flags i false) (let e : j ≡ suc j - 1 = omega arith in e)
-
-seen_at : (before after : List Bool) (xs : Objects) (j : ℕ) → AreSeenAmong (IsHeld xs) before after → get_or after j false ≡ true → (get_or before j false ≡ true) ⊎ IsHeld xs (suc j)
-seen_at before after xs j are s =
-    elim (are (suc j) (omega arith) (sym (flag_at after j) ∙ s)) [
-      | inl was ↦ inl (flag_at before j ∙ was)
-      | inr held ↦ inr held
-    ]
-
-pub few_visits : (heap : Objects) (before after : List Bool) → length before ≡ length after → AreSeenAmong (IsHeld heap) before after → unset_count before ≤ unset_count after + held_count heap
-few_visits [] before after long are = seen_few before after [] long (λ j s. seen_at before after [] j are s)
-few_visits (x ∷ xs) before after long are = omega (arith, seen_few before after xs long (λ j s. seen_at before after (x ∷ xs) j are s), sum_by-cons ones_in x xs)

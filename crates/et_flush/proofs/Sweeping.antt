@@ -1,5 +1,5 @@
 -- Objects that are swept one after the other.
-use Rattle.std.proofs.Common.{◌≡◌, ℕ, zero, suc, ◌+◌, ◌-◌, ◌<◌, ◌≤◌, Bool, true, false, List, [], ◌∷◌, length, get_or, set, Option, Some, None, refl, sym, ◌∙◌, ap, subst, inl, inr, arith, drop, drop-cons}
+use Rattle.std.proofs.Common.{◌≡◌, ℕ, zero, suc, ◌+◌, ◌-◌, ◌<◌, ◌≤◌, Bool, true, false, [], ◌∷◌, length, get_or, set, Option, Some, None, refl, sym, ◌∙◌, ap, subst, inl, inr, arith, drop, drop-cons}
 use Rattle.std.proofs.lemmas.List.{set-get_or, drop_all}
 use Rattle.std.specs.Prelude.{if◌then◌else◌}
 use Rattle.std.proofs.lemmas.Bool.{le-leb, cases_lt}
@@ -7,6 +7,7 @@ use Rattle.et_base.specs.declared.value.Value.TheVariants.{Ref}
 use Rattle.et_heap.specs.Objects.{ObjectState, Objects, IsHeld, is_there, at, found, object_at, with_referent, referent_value}
 use Rattle.et_heap.specs.Remaining.{kept_referent, left_place, remaining}
 use Rattle.et_flush.specs.declared.times.TheConstants.{NOW}
+use Rattle.et_flush.specs.declared.ranks.Ranks.{Ranks}
 use Rattle.et_flush.specs.Sweeps.{is_now, ReferentsWithin, clears, visits_of, visits_from}
 
 -- the first n places are swept
@@ -123,8 +124,8 @@ pub clears_none : (here : ℕ → Bool) (p : Option ℕ) (r : ℕ) → p ≡ Som
 clears_none here p r is on = subst (λ (q : Option ℕ). clears here q ≡ 0) (sym is) (ap (λ (b : Bool). if b then 0 else 1) on)
 
 -- an object is reached now where its time is no less than NOW
-pub now_is : (times : List ℕ) (o place : ℕ) → place + 1 ≡ o → NOW ≤ get_or times place 0 → is_now times o ≡ true
-now_is times o place at le = le-leb NOW (get_or times (o - 1) 0) (subst (λ (k : ℕ). NOW ≤ get_or times k 0) (let e : place ≡ o - 1 = omega arith in e) le)
+pub now_is : (time : ℕ → ℕ) (o t : ℕ) → t ≡ time o → NOW ≤ t → is_now time o ≡ true
+now_is time o t at le = le-leb NOW (time o) (subst (λ (k : ℕ). NOW ≤ k) at le)
 
 -- ALL
 
@@ -143,8 +144,8 @@ place_before here xs ys n o before same = ap (λ (k : ℕ). at ys k) same ∙ (a
 pub held_before : (here : ℕ → Bool) (xs ys : Objects) (n o : ℕ) → ys ≡ swept here n 0 xs → o ≡ n → IsHeld xs n → IsHeld ys o
 held_before here xs ys n o before same held = subst is_there (sym (place_before here xs ys n o before same)) held
 
-pub within_before : (here : ℕ → Bool) (xs ys : Objects) (n o m : ℕ) → ys ≡ swept here n 0 xs → o ≡ n → ReferentsWithin m (object_at xs n) → ReferentsWithin m (object_at ys o)
-within_before here xs ys n o m before same within = subst (λ (p : Option ObjectState). ReferentsWithin m (found p)) (sym (place_before here xs ys n o before same)) within
+pub within_before : (here : ℕ → Bool) (ranks : Ranks) (xs ys : Objects) (n o m : ℕ) → ys ≡ swept here n 0 xs → o ≡ n → ReferentsWithin ranks m (object_at xs n) → ReferentsWithin ranks m (object_at ys o)
+within_before here ranks xs ys n o m before same within = subst (λ (p : Option ObjectState). ReferentsWithin ranks m (found p)) (sym (place_before here xs ys n o before same)) within
 
 -- THE VISITS OF ALL
 

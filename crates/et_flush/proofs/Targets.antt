@@ -1,14 +1,10 @@
 -- What an object leads to, while a search looks into it.
-use Rattle.std.proofs.Common.{◌≡◌, ℕ, zero, suc, ◌+◌, ◌<◌, ◌≤◌, ◌⊎◌, Bool, List, [], ◌∷◌, length, Option, Some, None, Contains, refl, sym, ◌∙◌, subst, inl, inr, arith}
-use Rattle.et_graph.specs.Times.{ArePairsWithin, ArePairsAmong, AreSeenAmong, IsSet}
-use Rattle.et_graph.specs.Order.{IsOneOf, IsOrder}
+use Rattle.std.proofs.Common.{◌≡◌, ℕ, zero, suc, ◌<◌, ◌≤◌, ◌⊎◌, Bool, List, [], ◌∷◌, Option, Some, None, Contains, refl, sym, ◌∙◌, subst, inl, inr, arith}
+use Rattle.et_graph.specs.Times.{ArePairsWithin, IsSet}
 use Rattle.et_base.proofs.Lists.{Contains-none, Contains-here, Contains-there, Contains-cons}
 use Rattle.et_heap.specs.Objects.{ObjectState, Objects, IsHeld, is_there, at, found, object_at}
 use Rattle.et_heap.specs.Refs.{leads_to, targets_of, pairs_of}
-use Rattle.et_heap.proofs.HeapLists.{pair_at, at_pair, pair_held, held_within}
-use Rattle.et_graph.specs.declared.search.Source.{Source}
-use Rattle.et_state.proofs.UnderWay.{waiting_pair}
-use Rattle.et_flush.specs.Searches.{ArePairsHeld, IsHeldWhole}
+use Rattle.et_heap.proofs.HeapLists.{pair_at, at_pair}
 
 targets_found : (p : Option ObjectState) → is_there p → targets_of p ≡ leads_to (found p)
 targets_found None h = absurd h
@@ -51,30 +47,3 @@ all_done P ts seen none done x p =
 pub held_above : (heap : Objects) (o : ℕ) → (IsHeld heap 0 → ⊥) → IsHeld heap o → 0 < o
 held_above heap zero none held = absurd (none held)
 held_above heap (suc o) none held = omega arith
-
--- each object that is held was made
-pub held_one_of : (heap : Objects) (n : ℕ) → length heap ≤ n + 1 → (IsHeld heap 0 → ⊥) → (o : ℕ) → IsHeld heap o → IsOneOf n o
-held_one_of heap n long none o held =
-    let last : o < length heap = held_within heap o held in
-    (held_above heap o none held, omega arith)
-
--- each pair joins two of them
-pub held_pairs : (heap : Objects) → ArePairsHeld heap → ArePairsAmong (IsHeld heap) (pairs_of heap)
-held_pairs heap pairs u x c = (pair_held heap u x (pair_at heap u x c), pairs u x c)
-
--- .. and what waits in them is held too
-pub held_wholly : (heap : Objects) → ArePairsHeld heap → (o : ℕ) → IsHeld heap o → IsHeldWhole heap o
-held_wholly heap pairs o held = (held, λ r c. pairs o r (waiting_pair heap o r c))
-
-pub whole_pairs : (heap : Objects) → ArePairsHeld heap → ArePairsAmong (IsHeldWhole heap) (pairs_of heap)
-whole_pairs heap pairs u x c = (held_wholly heap pairs u (pair_held heap u x (pair_at heap u x c)), held_wholly heap pairs x (pairs u x c))
-
-pub order_wholly : (heap : Objects) (times : List ℕ) (order : List Source) → ArePairsHeld heap → IsOrder (IsHeld heap) times order → IsOrder (IsHeldWhole heap) times order
-order_wholly heap times order pairs is = record {
-  each = λ s c. held_wholly heap pairs s.object (is.each s c);
-  all = λ o h. is.all o h.0;
-  falls = is.falls;
-}
-
-pub seen_held : (heap : Objects) (before after : List Bool) → AreSeenAmong (IsHeldWhole heap) before after → AreSeenAmong (IsHeld heap) before after
-seen_held heap before after seen o positive s = elim (seen o positive s) [ inl was ↦ inl was | inr h ↦ inr h.0 ]

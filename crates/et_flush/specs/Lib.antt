@@ -1,3 +1,4 @@
+pub mod Ranks
 pub mod Searches
 pub mod Sweeps
 pub mod Works

@@ -1,36 +1,39 @@
 -- What a search over a heap keeps to.
-use Rattle.std.specs.Prelude.{◌≡◌, ℕ, ◌+◌, ◌-◌, ◌<◌, ◌≤◌, ◌↔◌, List, length, map, Contains, slice_index}
+use Rattle.std.specs.Prelude.{◌≡◌, ℕ, ◌<◌, ◌↔◌, List, length, map, Contains, slice_index}
 use Rattle.std.specs.List.Sorted.{IsStrictlyIncreasing}
+use Rattle.et_graph.specs.Order.{IsOneOf}
 use Rattle.et_heap.specs.Objects.{Objects, IsHeld}
-use Rattle.et_heap.specs.Queues.{IsWhole}
 use Rattle.et_heap.specs.Refs.{pairs_of}
 use Rattle.et_flush.specs.declared.times.TheConstants.{NOW}
-use Rattle.et_graph.specs.declared.search.Source.{Source}
+use Rattle.et_flush.specs.declared.ranks.Ranks.{Ranks}
+use Rattle.et_flush.specs.Ranks.{AreRanked}
 
 -- what an object leads to is held
 abbrev pub ArePairsHeld : Objects → Type 0
 ArePairsHeld heap = (u o : ℕ) → Contains (pairs_of heap) (u, o) → IsHeld heap o
-
--- the object is held, and so is what waits in it
-abbrev pub IsHeldWhole : Objects → ℕ → Type 0
-IsHeldWhole heap o = IsHeld heap o × IsWhole heap o
 
 -- the objects that are held, in rising order
 pub record AreAllHeld (heap : Objects) (held : List ℕ) : Type 0 where
   pub rising : IsStrictlyIncreasing held
   pub exact : (o : ℕ) → Contains held o ↔ IsHeld heap o
 
--- The times as a search begins, the one of object o at o - 1: each object that is held has its stamp.
-pub record AreTimes (heap : Objects) (stamps times : List ℕ) : Type 0 where
-  pub long : length heap ≤ length times + 1
-  pub held : (o : ℕ) → IsHeld heap o → slice_index times (o - 1) ≡ slice_index stamps o
+-- a search can go over the objects that are held, by their ranks
+pub record IsSearched (heap : Objects) (held : List ℕ) (ranks : Ranks) : Type 0 where
+  pub all : AreAllHeld heap held
+  pub pairs : ArePairsHeld heap
+  pub ranked : AreRanked held ranks
 
--- the objects that are held, each with the difference of its time from NOW
-pub record AreSources (heap : Objects) (times : List ℕ) (order : List Source) : Type 0 where
-  pub each : (s : Source) → Contains order s → IsHeld heap s.object × (s.age ≡ NOW - slice_index times (s.object - 1)) × (slice_index times (s.object - 1) ≤ NOW)
-  pub all : (o : ℕ) → IsHeld heap o → (s : Source) × Contains order s × (s.object ≡ o)
+-- .. and this is the rank of one of them
+pub record IsSearchedRank (heap : Objects) (held : List ℕ) (ranks : Ranks) (rank : ℕ) : Type 0 where
+  pub searched : IsSearched heap held ranks
+  pub one : IsOneOf (length held) rank
+
+-- The times as a search begins, by rank: each object that is held has its stamp.
+pub record AreTimes (held stamps times : List ℕ) : Type 0 where
+  pub long : length times ≡ length held
+  pub each : (k : ℕ) → k < length held → slice_index times k ≡ slice_index stamps (slice_index held k)
 
 -- the objects that are held and whose times are below NOW, in rising order, each with its time
-pub record AreDyingIn (heap : Objects) (times : List ℕ) (deaths : List (ℕ × ℕ)) : Type 0 where
+pub record AreDyingIn (heap : Objects) (time : ℕ → ℕ) (deaths : List (ℕ × ℕ)) : Type 0 where
   pub rising : IsStrictlyIncreasing (map (λ d. d.0) deaths)
-  pub exact : (o t : ℕ) → Contains deaths (o, t) ↔ (IsHeld heap o × (slice_index times (o - 1) ≡ t) × (t < NOW))
+  pub exact : (o t : ℕ) → Contains deaths (o, t) ↔ (IsHeld heap o × (time o ≡ t) × (t < NOW))

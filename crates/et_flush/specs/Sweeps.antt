@@ -1,15 +1,17 @@
 -- What a flush takes out and clears, by the times that it found.
-use Rattle.std.specs.Prelude.{◌≡◌, ℕ, ◌+◌, ◌-◌, ◌<◌, ◌≤◌, Bool, true, false, nat_le, if◌then◌else◌, List, [], ◌∷◌, Option, Some, None, slice_index}
+use Rattle.std.specs.Prelude.{◌≡◌, ℕ, ◌+◌, Bool, true, false, nat_le, if◌then◌else◌, [], ◌∷◌, Option, Some, None}
 use Rattle.et_heap.specs.Objects.{ObjectState, Objects}
 use Rattle.et_flush.specs.declared.times.TheConstants.{NOW}
+use Rattle.et_flush.specs.declared.ranks.Ranks.{Ranks}
+use Rattle.et_flush.specs.Ranks.{HasRank}
 
 -- the object is reached now
-abbrev pub is_now : List ℕ → ℕ → Bool
-is_now times o = nat_le NOW (slice_index times (o - 1))
+abbrev pub is_now : (ℕ → ℕ) → ℕ → Bool
+is_now time o = nat_le NOW (time o)
 
--- what the object refers to weakly is one of the first n objects
-abbrev pub ReferentsWithin : ℕ → ObjectState → Type 0
-ReferentsWithin n x = (r : ℕ) → x.referent ≡ Some r → (0 < r) × (r ≤ n)
+-- what the object refers to weakly has one of the first n ranks
+abbrev pub ReferentsWithin : Ranks → ℕ → ObjectState → Type 0
+ReferentsWithin ranks n x = (r : ℕ) → x.referent ≡ Some r → HasRank ranks n r
 
 -- HOW MANY VISITS OF OBJECTS THE SWEEP TAKES: one of each that stays, and one more where its weak reference is cleared
 

@@ -1,5 +1,5 @@
 //! The objects that a flush goes over.
-ghost use Rattle.std.specs.Prelude.{◌≤◌, vec_capacity};
+ghost use Rattle.std.specs.Prelude.{◌≤◌, ◌<◌, ◌^◌, length, vec_capacity};
 ghost use Rattle.et_heap.specs.Objects.{IsHeld, made_count};
 ghost use Rattle.et_flush.specs.Searches.{AreAllHeld};
 
@@ -11,6 +11,7 @@ pub(crate) fn list_held(heap: &Heap, held: &mut Vec<ObjectId>)
     requires none { ¬ IsHeld heap.now 0 }
     requires room { made_count heap.now ≤ vec_capacity held.old }
     ensures held { AreAllHeld heap.now held.new.items }
+    ensures few { length held.new.items < 2 ^ 32 }
     ensures room { vec_capacity held.old ≤ vec_capacity held.new }
 {
     held.clear();

@@ -7,6 +7,7 @@ mod held;
 mod machine;
 mod order;
 mod queues;
+mod ranks;
 mod room;
 mod search;
 mod sweep;

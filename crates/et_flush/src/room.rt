@@ -58,7 +58,7 @@ impl FlushRoom {
         ensures deaths { self.new.deaths ≡ self.old.deaths }
         ensures err { OnErr result (self.new ≡ self.old) }
     {
-        reserve(&mut self.work, objects as usize)?;
+        reserve(&mut self.work, objects)?;
         self.places = self.places.max(objects);
         Ok(())
     }
@@ -105,6 +105,7 @@ impl FlushRoom {
         sweep(
             heap,
             &self.work.held,
+            &self.work.ranks,
             &self.work.times,
             &mut self.work.cleared,
             visits,

@@ -1,24 +1,28 @@
 //! What a flush searches: the objects of a heap, with what they lead to.
-ghost use Rattle.et_flush.specs.Searches.{IsHeldWhole};
+ghost use Rattle.et_flush.specs.Ranks.{ranked_pairs};
+ghost use Rattle.et_flush.specs.Searches.{IsSearchedRank};
 ghost use Rattle.et_heap.specs.Refs.{pairs_of};
 
+use crate::ranks::{Ranks, rank_at};
 use et_base::{ObjectId, Steps};
 use et_graph::{References, mark, place_of};
 use et_heap::Heap;
 use std::sync::ledger::Ledger;
 
 /// The objects that are held, with what they lead to: the references in their slots, their queues, and the references that
-/// wait in them. What an object refers to weakly isn't one of these.
+/// wait in them. What an object refers to weakly isn't one of these. A search knows each object by its rank.
 #[derive(Clone, Copy)]
 pub(crate) struct HeldReferences<'a> {
     pub heap: &'a Heap,
+    pub held: &'a [ObjectId],
+    pub ranks: &'a Ranks,
 }
 
 /// Each visit is counted.
 impl<'a, L: Ledger> References<Steps<L>> for HeldReferences<'a> {
-    ghost pairs_in = { λ s. pairs_of s.heap.now };
+    ghost pairs_in = { λ s. ranked_pairs s.ranks.now (pairs_of s.heap.now) };
 
-    ghost has_object = { λ s. IsHeldWhole s.heap.now };
+    ghost has_object = { λ s. IsSearchedRank s.heap.now s.held.now s.ranks.now };
 
     ghost count_of = { λ n. n };
 
@@ -31,10 +35,12 @@ impl<'a, L: Ledger> References<Steps<L>> for HeldReferences<'a> {
         work: &mut Vec<ObjectId>,
         count: &mut Steps<L>,
     ) {
-        let mut targets = self.heap.refs_of(object, count);
+        let held = self.held[place_of(object)];
+        let mut targets = self.heap.refs_of(held, count);
         'targets: while let Some(target) = targets.next() {
-            if !seen[place_of(target)] {
-                mark(target, time, times, seen, work);
+            let rank = rank_at(self.ranks, target);
+            if !seen[place_of(rank)] {
+                mark(rank, time, times, seen, work);
             }
         }
     }

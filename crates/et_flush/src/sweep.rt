@@ -3,12 +3,13 @@ ghost use Rattle.std.specs.Prelude.{◌≡◌, ℕ, ◌+◌, ◌<◌, ◌≤◌,
 ghost use Rattle.et_heap.specs.Objects.{IsHeld, at, object_at};
 ghost use Rattle.et_heap.specs.Remaining.{left_place, remaining};
 ghost use Rattle.et_flush.specs.Flushes.{loses_referent, cleared_references};
+ghost use Rattle.et_flush.specs.Ranks.{HasRank, HaveRanks, time_of};
 ghost use Rattle.et_flush.specs.Searches.{AreAllHeld};
 ghost use Rattle.et_flush.specs.Sweeps.{is_now, ReferentsWithin, visits_of, visits_from};
 
+use crate::ranks::{Ranks, time_at};
 use crate::times::NOW;
 use et_base::{ObjectId, Steps, Value, within};
-use et_graph::place_of;
 use et_heap::Heap;
 use std::sync::ledger::Ledger;
 
@@ -16,21 +17,25 @@ use std::sync::ledger::Ledger;
 /// and once more where it clears.
 fn clear_referent<L: Ledger>(
     heap: &mut Heap,
+    ranks: &Ranks,
     times: &[u64],
     object: ObjectId,
     visits: &mut Steps<L>,
 ) -> bool
     requires held { IsHeld heap.old object }
-    requires within { ReferentsWithin (length times.now) (object_at heap.old object) }
+    requires within { ReferentsWithin ranks.now (length times.now) (object_at heap.old object) }
     ensures heap { heap.new ≡ slice_set heap.old object
-        (left_place (is_now times.now) true (Some (object_at heap.old object))) }
+        (left_place (is_now (time_of ranks.now times.now)) true
+        (Some (object_at heap.old object))) }
     ensures cleared { result
-        ≡ loses_referent (is_now times.now) true (Some (object_at heap.old object)) }
+        ≡ loses_referent (is_now (time_of ranks.now times.now)) true
+        (Some (object_at heap.old object)) }
     ensures visits { visits.new
-        ≡ visits.old + visits_of (is_now times.now) true (Some (object_at heap.old object)) }
+        ≡ visits.old + visits_of (is_now (time_of ranks.now times.now)) true
+        (Some (object_at heap.old object)) }
 {
     if let Value::Ref(referent) = heap.referent(object, visits) {
-        if times[place_of(referent)] < NOW {
+        if time_at(ranks, times, referent) < NOW {
             heap.set_referent(object, Value::Null, visits);
             return true;
         }
@@ -42,26 +47,29 @@ fn clear_referent<L: Ledger>(
 /// answers whether it cleared.
 fn sweep_one<L: Ledger>(
     heap: &mut Heap,
+    ranks: &Ranks,
     times: &[u64],
     object: ObjectId,
     visits: &mut Steps<L>,
 ) -> bool
     requires held { IsHeld heap.old object }
-    requires first { 0 < object }
-    requires last { object ≤ length times.now }
-    requires within { ReferentsWithin (length times.now) (object_at heap.old object) }
+    requires ranked { HasRank ranks.now (length times.now) object }
+    requires within { ReferentsWithin ranks.now (length times.now) (object_at heap.old object) }
     ensures heap { heap.new ≡ slice_set heap.old object
-        (left_place (is_now times.now) (is_now times.now object) (at heap.old object)) }
+        (left_place (is_now (time_of ranks.now times.now))
+        (is_now (time_of ranks.now times.now) object) (at heap.old object)) }
     ensures cleared { result
-        ≡ loses_referent (is_now times.now) (is_now times.now object) (at heap.old object) }
+        ≡ loses_referent (is_now (time_of ranks.now times.now))
+        (is_now (time_of ranks.now times.now) object) (at heap.old object) }
     ensures visits { visits.new
-        ≡ visits.old + visits_of (is_now times.now) (is_now times.now object) (at heap.old object) }
+        ≡ visits.old + visits_of (is_now (time_of ranks.now times.now))
+        (is_now (time_of ranks.now times.now) object) (at heap.old object) }
 {
-    if times[place_of(object)] < NOW {
+    if time_at(ranks, times, object) < NOW {
         heap.take_out(object);
         return false;
     }
-    clear_referent(heap, times, object, visits)
+    clear_referent(heap, ranks, times, object, visits)
 }
 
 /// Takes each object out whose time is below `NOW`, clears what the others refer to weakly, where that is below `NOW`, and
@@ -69,23 +77,26 @@ fn sweep_one<L: Ledger>(
 pub(crate) fn sweep<L: Ledger>(
     heap: &mut Heap,
     held: &[ObjectId],
+    ranks: &Ranks,
     times: &[u64],
     cleared: &mut Vec<ObjectId>,
     visits: &mut Steps<L>,
 )
     requires held { AreAllHeld heap.old held.now }
-    requires long { length heap.old ≤ length times.now + 1 }
-    requires none { ¬ IsHeld heap.old 0 }
-    requires within { (o : ℕ) → ReferentsWithin (length times.now) (object_at heap.old o) }
+    requires ranked { HaveRanks ranks.now (length times.now) held.now }
+    requires within { (o : ℕ) →
+        ReferentsWithin ranks.now (length times.now) (object_at heap.old o) }
     requires room { length held.now ≤ vec_capacity cleared.old }
-    ensures heap { heap.new ≡ remaining (is_now times.now) 0 heap.old }
-    ensures cleared { cleared.new.items ≡ cleared_references (is_now times.now) 0 heap.old }
+    ensures heap { heap.new ≡ remaining (is_now (time_of ranks.now times.now)) 0 heap.old }
+    ensures cleared { cleared.new.items
+        ≡ cleared_references (is_now (time_of ranks.now times.now)) 0 heap.old }
     ensures room { vec_capacity cleared.old ≤ vec_capacity cleared.new }
-    ensures visits { visits.new ≡ visits.old + visits_from (is_now times.now) 0 heap.old }
+    ensures visits { visits.new
+        ≡ visits.old + visits_from (is_now (time_of ranks.now times.now)) 0 heap.old }
 {
     cleared.clear();
     for object in held {
-        if sweep_one(heap, times, *object, visits) {
+        if sweep_one(heap, ranks, times, *object, visits) {
             within::push(cleared, *object);
         }
     }

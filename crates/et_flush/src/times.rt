@@ -1,38 +1,35 @@
-//! The times of objects as a search begins.
-ghost use Rattle.std.specs.Prelude.{◌≡◌, ℕ, ◌-◌, ◌<◌, length, slice_index, Contains};
-ghost use Rattle.et_graph.specs.Times.{set_each, ArePositive, AreWithin, IsSet};
+//! The times of objects as a search begins, by their ranks.
+ghost use Rattle.std.specs.Prelude.{◌≡◌, ℕ, ◌<◌, ◌≤◌, length, map, vec_capacity, Contains};
+ghost use Rattle.et_graph.specs.Times.{set_each};
+ghost use Rattle.et_flush.specs.Ranks.{HaveRanks, rank_of};
+ghost use Rattle.et_flush.specs.Searches.{AreTimes};
 
-use et_base::ObjectId;
+use crate::ranks::{Ranks, rank_at};
+use et_base::{ObjectId, within};
 use et_graph::place_of;
 
 /// Greater than the number of any event: the time of what is reached now.
 pub const NOW: u64 = 1_099_511_627_777;
 
-/// Gives each of the objects its stamp as its time, and takes its mark away.
-pub(crate) fn write_times(held: &[ObjectId], stamps: &[u64], times: &mut [u64], seen: &mut [bool])
-    requires within { AreWithin (length times.old) held.now }
+/// Lists the stamps of the objects as their times.
+pub(crate) fn write_times(held: &[ObjectId], stamps: &[u64], times: &mut Vec<u64>)
     requires stamped { (o : ℕ) → Contains held.now o → o < length stamps.now }
-    requires long { length seen.old ≡ length times.old }
-    ensures times { (o : ℕ) → Contains held.now o →
-        slice_index times.new (o - 1) ≡ slice_index stamps.now o }
-    ensures seen { (o : ℕ) → Contains held.now o → ¬ IsSet seen.new o }
+    requires room { length held.now ≤ vec_capacity times.old }
+    ensures times { AreTimes held.now stamps.now times.new.items }
+    ensures room { vec_capacity times.old ≤ vec_capacity times.new }
 {
+    times.clear();
     for object in held {
-        let place = place_of(*object);
-        times[place] = stamps[object.number() as usize];
-        seen[place] = false;
+        within::push(times, stamps[object.number() as usize]);
     }
 }
 
 /// Writes the time `NOW` at each of the roots.
-pub(crate) fn write_roots(times: &mut [u64], roots: &[ObjectId])
-    requires { ArePositive roots.now }
-    ensures { times.new ≡ set_each roots.now NOW times.old }
+pub(crate) fn write_roots(times: &mut [u64], ranks: &Ranks, roots: &[ObjectId])
+    requires { HaveRanks ranks.now (length times.old) roots.now }
+    ensures { times.new ≡ set_each (map (rank_of ranks.now) roots.now) NOW times.old }
 {
     for root in roots {
-        let place = place_of(*root);
-        if place < times.len() {
-            times[place] = NOW;
-        }
+        times[place_of(rank_at(ranks, *root))] = NOW;
     }
 }

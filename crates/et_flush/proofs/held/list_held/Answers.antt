@@ -1,7 +1,8 @@
-use Rattle.std.proofs.Common.{ℕ, ◌+◌, [], ◌∷◌, length, ap, subst, sym, arith}
+use Rattle.std.proofs.Common.{ℕ, ◌+◌, ◌≤◌, [], ◌∷◌, length, ap, subst, sym, arith}
 use Rattle.std.proofs.lemmas.List.{length-append}
-use Rattle.et_heap.specs.Objects.{IsNextHeld}
-use Rattle.et_flush.proofs.Holding.{AreHeldBelow, below_none, below_next}
+use Rattle.et_heap.specs.Objects.{IsHeld, IsNextHeld}
+use Rattle.et_heap.proofs.HeapLists.{held_within}
+use Rattle.et_flush.proofs.Holding.{AreHeldBelow, below_none, below_next, all_below, held_few}
 use Rattle.et_flush.proofs.held.list_held.Goals as goal
 
 pub loop-from-init : goal.loop-from-init
@@ -21,3 +22,8 @@ loop-from-preserved c =
       few = omega (arith, ap length c.push.ensures.items, length-append c.loop-from.held.items (c.in-Some.object ∷ []), next.from, c.number-from.ensures.value);
       room = omega (arith, c.push.ensures.grows);
     }
+
+pub returns-clause-few : goal.returns-clause-few
+returns-clause-few c =
+    let past : (u : ℕ) → c.loop-from.from ≤ u → IsHeld c.args.heap.now u → ⊥ = λ u le h. omega (arith, held_within c.args.heap.now u h, c.loop-from-test.false, c.count-last.ensures.value) in
+    omega (arith, held_few c.args.heap.now c.loop-from.held.items (all_below c.args.heap.now c.loop-from.from c.loop-from.held.items c.loop-from.invariant.listed past) c.requires.none, c.count-last.ensures.value, c.count-last.ensures.few)

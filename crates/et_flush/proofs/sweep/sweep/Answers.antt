@@ -2,8 +2,9 @@ use Rattle.std.proofs.Common.{◌≡◌, ℕ, ◌+◌, ◌<◌, ◌≤◌, List,
 use Rattle.std.proofs.lemmas.List.{length-append, get_or_default, get_or_past}
 use Rattle.et_heap.specs.Objects.{IsHeld, at}
 use Rattle.et_heap.proofs.HeapLists.{held_within}
+use Rattle.et_flush.specs.Ranks.{time_of}
 use Rattle.et_flush.specs.Sweeps.{is_now, visits_from}
-use Rattle.et_flush.proofs.Holding.{here_held, gap_first, gap_next, next_later, held_are_within}
+use Rattle.et_flush.proofs.Holding.{here_held, gap_first, gap_next, next_later}
 use Rattle.et_flush.proofs.Sweeping.{swept_to, swept_step, held_before, within_before, visits_to, visits_step, swept_end, visits_end}
 use Rattle.et_flush.specs.Flushes.{loses_referent, cleared_references}
 use Rattle.et_flush.proofs.Clearing.{cleared_to, cleared_step, listed_where, unlisted_where, all_cleared}
@@ -16,35 +17,30 @@ loop-object-init g c =
     let next : ℕ = get_or c.args.held.now 0 end in
     let gap : (u : ℕ) → 0 ≤ u → u < next → IsHeld c.args.heap.now u → ⊥ = λ u _ lt h. gap_first c.args.heap.now c.args.held.now c.requires.held end u lt h in
     record {
-      heap = swept_to (is_now c.args.times.now) 0 next c.args.heap.now (omega arith) gap;
+      heap = swept_to (is_now (time_of c.args.ranks.now c.args.times.now)) 0 next c.args.heap.now (omega arith) gap;
       cleared =
-          ap (λ (rs : List ℕ). rs ++ cleared_references (is_now c.args.times.now) next (drop next c.args.heap.now)) c.clear.ensures.items
-          ∙ sym (cleared_to (is_now c.args.times.now) 0 next c.args.heap.now (omega arith) gap);
+          ap (λ (rs : List ℕ). rs ++ cleared_references (is_now (time_of c.args.ranks.now c.args.times.now)) next (drop next c.args.heap.now)) c.clear.ensures.items
+          ∙ sym (cleared_to (is_now (time_of c.args.ranks.now c.args.times.now)) 0 next c.args.heap.now (omega arith) gap);
       few = omega (arith, ap length c.clear.ensures.items);
       room = omega (arith, c.clear.ensures.capacity);
-      visits = ap (λ (k : ℕ). c.args.visits.now + k) (sym (visits_to (is_now c.args.times.now) 0 next c.args.heap.now (omega arith) gap));
+      visits = ap (λ (k : ℕ). c.args.visits.now + k) (sym (visits_to (is_now (time_of c.args.ranks.now c.args.times.now)) 0 next c.args.heap.now (omega arith) gap));
     }
 
 pub sweep_one-requires-clause-held : goal.sweep_one-requires-clause-held
 sweep_one-requires-clause-held g c =
     let i : ℕ = c.loop-object.object-index in
     let end : ℕ = length c.args.heap.now in
-    held_before (is_now c.args.times.now) c.args.heap.now c.loop-object.heap (get_or c.args.held.now i end) c.object-item.result c.loop-object.invariant.heap
+    held_before (is_now (time_of c.args.ranks.now c.args.times.now)) c.args.heap.now c.loop-object.heap (get_or c.args.held.now i end) c.object-item.result c.loop-object.invariant.heap
     (c.object-item.is ∙ get_or_default c.args.held.now i c.object-item.result end c.loop-object-test.true) (here_held c.args.heap.now c.args.held.now c.requires.held i end c.loop-object-test.true)
 
-pub sweep_one-requires-clause-first : goal.sweep_one-requires-clause-first
-sweep_one-requires-clause-first g c =
-    (held_are_within c.args.heap.now c.args.held.now c.requires.held (length c.args.times.now) c.requires.none c.requires.long c.object-item.result (c.loop-object.object-index, c.loop-object-test.true, sym c.object-item.is)).0
-
-pub sweep_one-requires-clause-last : goal.sweep_one-requires-clause-last
-sweep_one-requires-clause-last g c =
-    (held_are_within c.args.heap.now c.args.held.now c.requires.held (length c.args.times.now) c.requires.none c.requires.long c.object-item.result (c.loop-object.object-index, c.loop-object-test.true, sym c.object-item.is)).1
+pub sweep_one-requires-clause-ranked : goal.sweep_one-requires-clause-ranked
+sweep_one-requires-clause-ranked g c = c.requires.ranked c.object-item.result (c.loop-object.object-index, c.loop-object-test.true, sym c.object-item.is)
 
 pub sweep_one-requires-clause-within : goal.sweep_one-requires-clause-within
 sweep_one-requires-clause-within g c =
     let i : ℕ = c.loop-object.object-index in
     let end : ℕ = length c.args.heap.now in
-    within_before (is_now c.args.times.now) c.args.heap.now c.loop-object.heap (get_or c.args.held.now i end) c.object-item.result (length c.args.times.now) c.loop-object.invariant.heap
+    within_before (is_now (time_of c.args.ranks.now c.args.times.now)) c.args.ranks.now c.args.heap.now c.loop-object.heap (get_or c.args.held.now i end) c.object-item.result (length c.args.times.now) c.loop-object.invariant.heap
     (c.object-item.is ∙ get_or_default c.args.held.now i c.object-item.result end c.loop-object-test.true) (c.requires.within (get_or c.args.held.now i end))
 
 pub push-requires : goal.push-requires
@@ -57,7 +53,7 @@ loop-object-preserved g c =
     let o : ℕ = c.object-item.result in
     let n : ℕ = get_or c.args.held.now i end in
     let m : ℕ = get_or c.args.held.now (i + 1) end in
-    let here = is_now c.args.times.now in
+    let here = is_now (time_of c.args.ranks.now c.args.times.now) in
     let all : List ℕ = cleared_references here 0 c.args.heap.now in
     let same : o ≡ n = c.object-item.is ∙ get_or_default c.args.held.now i o end c.loop-object-test.true in
     let within : n < end = held_within c.args.heap.now n (here_held c.args.heap.now c.args.held.now c.requires.held i end c.loop-object-test.true) in
@@ -100,17 +96,17 @@ pub returns-clause-cleared : goal.returns-clause-cleared
 returns-clause-cleared g c =
     let end : ℕ = length c.args.heap.now in
     let next : ℕ = get_or c.args.held.now c.loop-object.object-index end in
-    all_cleared (is_now c.args.times.now) c.args.heap.now next (cleared_references (is_now c.args.times.now) 0 c.args.heap.now) c.loop-object.cleared.items c.loop-object.invariant.cleared
+    all_cleared (is_now (time_of c.args.ranks.now c.args.times.now)) c.args.heap.now next (cleared_references (is_now (time_of c.args.ranks.now c.args.times.now)) 0 c.args.heap.now) c.loop-object.cleared.items c.loop-object.invariant.cleared
     (omega (arith, get_or_past c.args.held.now c.loop-object.object-index end c.loop-object-test.false))
 
 pub returns-clause-heap : goal.returns-clause-heap
 returns-clause-heap g c =
     let end : ℕ = length c.args.heap.now in
     let next : ℕ = get_or c.args.held.now c.loop-object.object-index end in
-    swept_end (is_now c.args.times.now) c.args.heap.now c.loop-object.heap next c.loop-object.invariant.heap (omega (arith, get_or_past c.args.held.now c.loop-object.object-index end c.loop-object-test.false))
+    swept_end (is_now (time_of c.args.ranks.now c.args.times.now)) c.args.heap.now c.loop-object.heap next c.loop-object.invariant.heap (omega (arith, get_or_past c.args.held.now c.loop-object.object-index end c.loop-object-test.false))
 
 pub returns-clause-visits : goal.returns-clause-visits
 returns-clause-visits g c =
     let end : ℕ = length c.args.heap.now in
     let next : ℕ = get_or c.args.held.now c.loop-object.object-index end in
-    omega (arith, c.loop-object.invariant.visits, visits_end (is_now c.args.times.now) next c.args.heap.now (omega (arith, get_or_past c.args.held.now c.loop-object.object-index end c.loop-object-test.false)))
+    omega (arith, c.loop-object.invariant.visits, visits_end (is_now (time_of c.args.ranks.now c.args.times.now)) next c.args.heap.now (omega (arith, get_or_past c.args.held.now c.loop-object.object-index end c.loop-object-test.false)))

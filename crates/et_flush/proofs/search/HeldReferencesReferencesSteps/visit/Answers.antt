@@ -1,72 +1,106 @@
-use Rattle.std.proofs.Common.{◌≡◌, ℕ, ◌-◌, ◌<◌, List, Bool, Contains, length, get_or, set, true, false, sym, ◌∙◌, ap, inl, arith}
+use Rattle.std.proofs.Common.{◌≡◌, ℕ, ◌-◌, ◌<◌, List, Bool, ◌∷◌, Contains, length, get_or, set, map, true, false, sym, ◌∙◌, ap, inl, arith}
 use Rattle.std.proofs.lemmas.Bool.{both_ways}
 use Rattle.et_graph.specs.Times.{IsSet}
 use Rattle.et_graph.proofs.Spreading.{set_here, set_keeps}
 use Rattle.et_graph.proofs.Visiting.{visiting_none, visiting_mark, visiting_all}
 use Rattle.et_heap.specs.Refs.{pairs_of}
-use Rattle.et_flush.proofs.Targets.{target_pair, pair_target, target_here, left_there, done_more, all_done}
+use Rattle.et_heap.specs.Objects.{IsHeld}
+use Rattle.et_flush.specs.Ranks.{rank_of, ranked_pairs}
+use Rattle.et_flush.proofs.Targets.{target_here, left_there, done_more, all_done}
+use Rattle.et_flush.proofs.Searching.{whole_at, here_at, targets_held, targets_left, targets_done, target_held, first_ranked}
 use Rattle.et_flush.proofs.search.HeldReferencesReferencesSteps.visit.Goals as goal
 
-pub targets-init : goal.targets-init
-targets-init g c = record {
-  ready = c.requires.ready;
-  visiting = visiting_none _ _ _ _ _ _;
-  left = target_pair c.args.self.now.heap.now c.args.object c.refs_of-targets.result c.requires.object.0 c.refs_of-targets.ensures.value;
-  done = λ x d. inl (pair_target c.args.self.now.heap.now c.args.object c.refs_of-targets.result c.requires.object.0 c.refs_of-targets.ensures.value x d);
-  room = omega arith;
-}
+pub refs_of-targets-requires-clause-whole : goal.refs_of-targets-requires-clause-whole
+refs_of-targets-requires-clause-whole g c = whole_at c.args.self.now.heap.now c.args.self.now.held.now c.args.self.now.ranks.now c.requires.object.searched _
 
-pub place_of-requires : goal.place_of-requires
-place_of-requires g c = (target_here (pairs_of c.args.self.now.heap.now) (length c.args.times.now) c.args.object c.in-Some.target c.targets.targets c.next.new.self c.requires.within c.in-Some.ensures.steps c.targets.invariant.left).1
+pub targets-init : goal.targets-init
+targets-init g c =
+    let o : ℕ = get_or c.args.self.now.held.now c.place_of.result c.index-self-place_of.result in
+    let here = here_at c.args.self.now.heap.now c.args.self.now.held.now c.args.self.now.ranks.now c.requires.object.searched c.args.object c.place_of.result c.index-self-place_of.result c.requires.object.one c.place_of.ensures.place in
+    record {
+      ready = c.requires.ready;
+      visiting = visiting_none (ranked_pairs c.args.self.now.ranks.now (pairs_of c.args.self.now.heap.now)) c.args.object c.args.time c.args.times.now c.args.seen.now c.args.work.now.items;
+      held = targets_held c.args.self.now.heap.now c.args.self.now.held.now c.args.self.now.ranks.now c.requires.object.searched o c.refs_of-targets.result here.0 c.refs_of-targets.ensures.value;
+      left = targets_left c.args.self.now.heap.now c.args.self.now.held.now c.args.self.now.ranks.now c.requires.object.searched c.args.object o c.refs_of-targets.result here.0 here.1 c.refs_of-targets.ensures.value;
+      done = λ k d. inl (targets_done c.args.self.now.heap.now c.args.self.now.held.now c.args.self.now.ranks.now c.requires.object.searched c.args.object o c.refs_of-targets.result here.0 here.1 c.refs_of-targets.ensures.value k d);
+      room = omega arith;
+    }
+
+pub rank_at-rank-requires : goal.rank_at-rank-requires
+rank_at-rank-requires g c = (target_held c.args.self.now.heap.now c.args.self.now.held.now c.args.self.now.ranks.now c.requires.object.searched c.targets.targets c.next.new.self c.in-Some.target c.in-Some.ensures.steps c.targets.invariant.held).1.entry
+
+pub place_of-requires-in-Some : goal.place_of-requires-in-Some
+place_of-requires-in-Some g c =
+    let rank = c.rank_at-rank.ensures in
+    let first = (target_held c.args.self.now.heap.now c.args.self.now.held.now c.args.self.now.ranks.now c.requires.object.searched c.targets.targets c.next.new.self c.in-Some.target c.in-Some.ensures.steps c.targets.invariant.held).1.first in
+    omega (arith, rank, first)
 
 pub bounds-seen-place_of : goal.bounds-seen-place_of
-bounds-seen-place_of g c = omega (arith, target_here (pairs_of c.args.self.now.heap.now) (length c.args.times.now) c.args.object c.in-Some.target c.targets.targets c.next.new.self c.requires.within c.in-Some.ensures.steps c.targets.invariant.left, c.place_of.ensures.place, c.targets.invariant.ready.long, c.targets.auto.times)
+bounds-seen-place_of g c =
+    let ranks = c.args.self.now.ranks.now in
+    let first = first_ranked c.args.self.now.ranks.now c.targets.targets c.next.new.self c.in-Some.target c.rank_at-rank.result c.in-Some.ensures.steps c.rank_at-rank.ensures in
+    let target = target_here (ranked_pairs c.args.self.now.ranks.now (pairs_of c.args.self.now.heap.now)) (length c.args.times.now) c.args.object c.rank_at-rank.result (map (rank_of c.args.self.now.ranks.now) c.targets.targets) (map (rank_of c.args.self.now.ranks.now) c.next.new.self) c.requires.within first c.targets.invariant.left in
+    omega (arith, target, c.place_of-in-Some.ensures.place, c.targets.invariant.ready.long, c.targets.auto.times)
 
 pub mark-requires-clause-last : goal.mark-requires-clause-last
-mark-requires-clause-last g c = omega (arith, target_here (pairs_of c.args.self.now.heap.now) (length c.args.times.now) c.args.object c.in-Some.target c.targets.targets c.next.new.self c.requires.within c.in-Some.ensures.steps c.targets.invariant.left, c.targets.auto.times)
+mark-requires-clause-last g c =
+    let first = first_ranked c.args.self.now.ranks.now c.targets.targets c.next.new.self c.in-Some.target c.rank_at-rank.result c.in-Some.ensures.steps c.rank_at-rank.ensures in
+    let target = target_here (ranked_pairs c.args.self.now.ranks.now (pairs_of c.args.self.now.heap.now)) (length c.args.times.now) c.args.object c.rank_at-rank.result (map (rank_of c.args.self.now.ranks.now) c.targets.targets) (map (rank_of c.args.self.now.ranks.now) c.next.new.self) c.requires.within first c.targets.invariant.left in
+    omega (arith, target, c.targets.auto.times)
 
 pub mark-requires-clause-unseen : goal.mark-requires-clause-unseen
-mark-requires-clause-unseen g c = λ s. both_ways (get_or c.targets.seen c.place_of.result false) c.if-not-seen-place_of.true (ap (λ (i : ℕ). get_or c.targets.seen i false) (omega (arith, c.place_of.ensures.place)) ∙ s)
+mark-requires-clause-unseen g c = λ s. both_ways (get_or c.targets.seen c.place_of-in-Some.result false) c.if-not-seen-place_of.true (ap (λ (i : ℕ). get_or c.targets.seen i false) (omega (arith, c.place_of-in-Some.ensures.place)) ∙ s)
 
 pub targets-preserved-then-not-seen-place_of : goal.targets-preserved-then-not-seen-place_of
 targets-preserved-then-not-seen-place_of g c =
-    let x : ℕ = c.in-Some.target in
+    let x : ℕ = c.rank_at-rank.result in
     let times : List ℕ = c.targets.times in
     let seen : List Bool = c.targets.seen in
-    let place : x - 1 ≡ c.place_of.result = omega (arith, c.place_of.ensures.place) in
-    let target = target_here (pairs_of c.args.self.now.heap.now) (length c.args.times.now) c.args.object x c.targets.targets c.next.new.self c.requires.within c.in-Some.ensures.steps c.targets.invariant.left in
+    let pairs : List (ℕ × ℕ) = ranked_pairs c.args.self.now.ranks.now (pairs_of c.args.self.now.heap.now) in
+    let ts : List ℕ = map (rank_of c.args.self.now.ranks.now) c.targets.targets in
+    let rest : List ℕ = map (rank_of c.args.self.now.ranks.now) c.next.new.self in
+    let first : ts ≡ x ∷ rest = first_ranked c.args.self.now.ranks.now c.targets.targets c.next.new.self c.in-Some.target x c.in-Some.ensures.steps c.rank_at-rank.ensures in
+    let place : x - 1 ≡ c.place_of-in-Some.result = omega (arith, c.place_of-in-Some.ensures.place) in
+    let target = target_here pairs (length c.args.times.now) c.args.object x ts rest c.requires.within first c.targets.invariant.left in
     let within : x - 1 < length times = omega (arith, target, c.targets.auto.times) in
     let long : length seen ≡ length times = c.targets.invariant.ready.long in
     let inside : x - 1 < length seen = omega (arith, long, within) in
-    let unseen : ¬ IsSet seen x = λ s. both_ways (get_or seen c.place_of.result false) c.if-not-seen-place_of.true (ap (λ (i : ℕ). get_or seen i false) (sym place) ∙ s) in
+    let unseen : ¬ IsSet seen x = λ s. both_ways (get_or seen c.place_of-in-Some.result false) c.if-not-seen-place_of.true (ap (λ (i : ℕ). get_or seen i false) (sym place) ∙ s) in
     record {
       ready = c.mark.ensures.ready;
       visiting =
           rw (c.mark.ensures.times, c.mark.ensures.seen, c.mark.ensures.work)
-          (visiting_mark (pairs_of c.args.self.now.heap.now) c.args.object c.args.time (length c.args.times.now) c.args.times.now c.args.seen.now c.args.work.now.items times seen c.targets.work.items x
+          (visiting_mark pairs c.args.object c.args.time (length c.args.times.now) c.args.times.now c.args.seen.now c.args.work.now.items times seen c.targets.work.items x
           c.requires.within target.0 long within unseen c.targets.invariant.visiting);
-      left = left_there (λ y. Contains (pairs_of c.args.self.now.heap.now) (c.args.object, y)) x c.targets.targets c.next.new.self c.in-Some.ensures.steps c.targets.invariant.left;
+      held = left_there (λ y. IsHeld c.args.self.now.heap.now y) c.in-Some.target c.targets.targets c.next.new.self c.in-Some.ensures.steps c.targets.invariant.held;
+      left = left_there (λ y. Contains pairs (c.args.object, y)) x ts rest first c.targets.invariant.left;
       done =
           rw c.mark.ensures.seen
-          (done_more (λ y. Contains (pairs_of c.args.self.now.heap.now) (c.args.object, y)) x c.targets.targets c.next.new.self seen (set seen (x - 1) true) c.in-Some.ensures.steps (set_keeps seen x inside) (set_here seen x inside) c.targets.invariant.done);
+          (done_more (λ y. Contains pairs (c.args.object, y)) x ts rest seen (set seen (x - 1) true) first (set_keeps seen x inside) (set_here seen x inside) c.targets.invariant.done);
       room = omega (arith, c.mark.ensures.grows, c.targets.invariant.room);
     }
 
 pub targets-preserved : goal.targets-preserved
 targets-preserved g c =
-    let x : ℕ = c.in-Some.target in
-    let place : x - 1 ≡ c.place_of.result = omega (arith, c.place_of.ensures.place) in
+    let x : ℕ = c.rank_at-rank.result in
+    let pairs : List (ℕ × ℕ) = ranked_pairs c.args.self.now.ranks.now (pairs_of c.args.self.now.heap.now) in
+    let ts : List ℕ = map (rank_of c.args.self.now.ranks.now) c.targets.targets in
+    let rest : List ℕ = map (rank_of c.args.self.now.ranks.now) c.next.new.self in
+    let first : ts ≡ x ∷ rest = first_ranked c.args.self.now.ranks.now c.targets.targets c.next.new.self c.in-Some.target x c.in-Some.ensures.steps c.rank_at-rank.ensures in
+    let place : x - 1 ≡ c.place_of-in-Some.result = omega (arith, c.place_of-in-Some.ensures.place) in
     let here : IsSet c.targets.seen x = ap (λ (i : ℕ). get_or c.targets.seen i false) place ∙ c.if-not-seen-place_of.false in
     record {
       ready = c.targets.invariant.ready;
       visiting = c.targets.invariant.visiting;
-      left = left_there (λ y. Contains (pairs_of c.args.self.now.heap.now) (c.args.object, y)) x c.targets.targets c.next.new.self c.in-Some.ensures.steps c.targets.invariant.left;
-      done = done_more (λ y. Contains (pairs_of c.args.self.now.heap.now) (c.args.object, y)) x c.targets.targets c.next.new.self c.targets.seen c.targets.seen c.in-Some.ensures.steps (λ y s. s) here c.targets.invariant.done;
+      held = left_there (λ y. IsHeld c.args.self.now.heap.now y) c.in-Some.target c.targets.targets c.next.new.self c.in-Some.ensures.steps c.targets.invariant.held;
+      left = left_there (λ y. Contains pairs (c.args.object, y)) x ts rest first c.targets.invariant.left;
+      done = done_more (λ y. Contains pairs (c.args.object, y)) x ts rest c.targets.seen c.targets.seen first (λ y s. s) here c.targets.invariant.done;
       room = c.targets.invariant.room;
     }
 
 pub returns-clause-visits : goal.returns-clause-visits
 returns-clause-visits g c =
-    visiting_all (pairs_of c.args.self.now.heap.now) c.args.object c.args.time c.args.times.now c.args.seen.now c.args.work.now.items c.targets.times c.targets.seen c.targets.work.items
-    (all_done (λ y. Contains (pairs_of c.args.self.now.heap.now) (c.args.object, y)) c.targets.targets c.targets.seen c.in_default.ensures.steps.0 c.targets.invariant.done)
+    let pairs : List (ℕ × ℕ) = ranked_pairs c.args.self.now.ranks.now (pairs_of c.args.self.now.heap.now) in
+    visiting_all pairs c.args.object c.args.time c.args.times.now c.args.seen.now c.args.work.now.items c.targets.times c.targets.seen c.targets.work.items
+    (all_done (λ y. Contains pairs (c.args.object, y)) (map (rank_of c.args.self.now.ranks.now) c.targets.targets) c.targets.seen (ap (λ (vs : List ℕ). map (rank_of c.args.self.now.ranks.now) vs) c.in_default.ensures.steps.0) c.targets.invariant.done)
     c.targets.invariant.visiting

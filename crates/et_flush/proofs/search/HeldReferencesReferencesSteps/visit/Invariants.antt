@@ -1,16 +1,19 @@
 -- What the object leads to is left, or was seen.
-use Rattle.std.proofs.Common.{ℕ, ◌≤◌, ◌⊎◌, length, Contains, vec_capacity}
+use Rattle.std.proofs.Common.{ℕ, ◌≤◌, ◌⊎◌, length, map, Contains, vec_capacity}
 use Rattle.et_graph.specs.Times.{IsSet, IsReady}
 use Rattle.et_graph.proofs.Visiting.{IsVisiting}
+use Rattle.et_heap.specs.Objects.{IsHeld}
 use Rattle.et_heap.specs.Refs.{pairs_of}
+use Rattle.et_flush.specs.Ranks.{rank_of, ranked_pairs}
 use Rattle.et_flush.proofs.search.HeldReferencesReferencesSteps.visit.Given as goal
 
 abbrev pub invariant-targets : goal.invariant-targets
-invariant-targets g l = record {
+invariant-targets g l = let pairs = ranked_pairs l.self.ranks.now (pairs_of l.self.heap.now) in record {
   ready : IsReady l.times l.seen l.work;
-  visiting : IsVisiting (pairs_of l.self.heap.now) l.fn.object l.time l.fn.times l.fn.seen l.fn.work.items l.times l.seen l.work.items;
-  left : (o : ℕ) → Contains l.targets o → Contains (pairs_of l.self.heap.now) (l.fn.object, o);
-  done : (o : ℕ) → Contains (pairs_of l.self.heap.now) (l.fn.object, o) → Contains l.targets o ⊎ IsSet l.seen o;
+  visiting : IsVisiting pairs l.fn.object l.time l.fn.times l.fn.seen l.fn.work.items l.times l.seen l.work.items;
+  held : (o : ℕ) → Contains l.targets o → IsHeld l.self.heap.now o;
+  left : (k : ℕ) → Contains (map (rank_of l.self.ranks.now) l.targets) k → Contains pairs (l.fn.object, k);
+  done : (k : ℕ) → Contains pairs (l.fn.object, k) → Contains (map (rank_of l.self.ranks.now) l.targets) k ⊎ IsSet l.seen k;
   room : vec_capacity l.fn.work ≤ vec_capacity l.work;
 }
 
