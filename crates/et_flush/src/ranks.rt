@@ -12,7 +12,8 @@ const PAGE: usize = 1_024;
 
 /// The ranks of listed objects: the rank of each is its place in the list, counted from 1. The objects stand in pages of 1,024
 /// numbers, as in a heap, and only a page of which an object is listed has a run of entries, one for each of its numbers. So
-/// this is as large as the pages of what is listed, but for four bytes for each page ever made.
+/// what is written is as large as the pages of what is listed, but for four bytes for each page ever made; there is room for
+/// all numbers.
 #[derive(Drop)]
 pub(crate) struct Ranks {
     /// By page, which of the runs it has. What stands here of a page without a run is left over.

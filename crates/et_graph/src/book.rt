@@ -17,7 +17,7 @@ pub struct GraphStep {
     pub lost: Vec<ObjectId>,
     /// The roots after the step.
     pub roots: Vec<ObjectId>,
-    /// The pairs that it takes away. A pair (u, x) says that x stands in a slot of u.
+    /// The pairs that it takes away. A pair (u, x) says that u leads to x.
     pub cut: Vec<(ObjectId, ObjectId)>,
     /// The pairs that it puts in.
     pub tied: Vec<(ObjectId, ObjectId)>,

@@ -50,8 +50,8 @@ without_stored_at places o = slice_set places o None
 
 -- WHAT IS CHANGED OF ONE OBJECT
 
-abbrev pub with_state : (ObjectState → ObjectState) → Stored → Stored
-with_state f x = record x { state = f x.state }
+abbrev pub on_state : (ObjectState → ObjectState) → Stored → Stored
+on_state f x = record x { state = f x.state }
 
 -- an object with no links
 abbrev pub unlinked : ObjectState → Stored

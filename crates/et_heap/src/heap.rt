@@ -211,8 +211,8 @@ impl Heap {
         }
     }
 
-    /// Takes the first reference out of the waiting list of a queue and answers it, or answers `Null` where none waits.
-    /// Each reference that waits in the queue must be held: where one was taken out, the queue can only be taken out.
+    /// Unlinks the reference that has waited longest in a queue, and answers it; `Null` where the list is empty. Each
+    /// reference in the list must be held: where one was taken out, nothing is left to do with the queue but to take it out.
     pub fn poll<L: Ledger>(&mut self, queue: ObjectId, visits: &mut Steps<L>) -> Value
         requires held { IsHeld self.old queue }
         requires whole { IsWhole self.old queue }

@@ -1,7 +1,7 @@
 //! A page of the heap.
 ghost use Rattle.std.specs.Prelude.{◌≡◌, ◌+◌, ◌<◌, ◌≤◌, ◌↔◌, ◌∷◌, ◌++◌, ℕ, [], length, IsTrue, IfOk, OnOk, OnErr, IfSome, Some, None};
 ghost use Rattle.et_heap.specs.Objects.{slot_of, with_slot, with_referent, with_queue, with_monitor, referent_value, referent_of};
-ghost use Rattle.et_heap.specs.Stored.{is_stored, IsStored, IsNextStored, stored_at, without_stored_at, with_state, with_next, with_last, without_first};
+ghost use Rattle.et_heap.specs.Stored.{is_stored, IsStored, IsNextStored, stored_at, without_stored_at, on_state, with_next, with_last, without_first};
 ghost use Rattle.et_heap.specs.Links.{stored_with};
 ghost use Rattle.et_heap.specs.Pages.{page_size};
 
@@ -96,7 +96,7 @@ impl Page {
         requires held { IsStored self.old place }
         requires slot { i < length (stored_at self.old place).state.slots }
         ensures old { result ≡ slot_of (stored_at self.old place).state i }
-        ensures new { self.new ≡ stored_with (with_state (with_slot i v)) place self.old }
+        ensures new { self.new ≡ stored_with (on_state (with_slot i v)) place self.old }
     {
         let object = &mut self.kept[place];
         object.set_slot(i, v)
@@ -106,7 +106,8 @@ impl Page {
     pub fn set_referent(&mut self, place: usize, v: Value) -> Value
         requires { IsStored self.old place }
         ensures old { result ≡ referent_value (stored_at self.old place).state.referent }
-        ensures new { self.new ≡ stored_with (with_state (with_referent (referent_of v))) place self.old }
+        ensures new { self.new
+            ≡ stored_with (on_state (with_referent (referent_of v))) place self.old }
     {
         let object = &mut self.kept[place];
         object.set_referent(v)
@@ -116,7 +117,8 @@ impl Page {
     pub fn set_queue(&mut self, place: usize, v: Value) -> Value
         requires { IsStored self.old place }
         ensures old { result ≡ referent_value (stored_at self.old place).state.queue }
-        ensures new { self.new ≡ stored_with (with_state (with_queue (referent_of v))) place self.old }
+        ensures new { self.new
+            ≡ stored_with (on_state (with_queue (referent_of v))) place self.old }
     {
         let object = &mut self.kept[place];
         object.set_queue(v)
@@ -126,7 +128,7 @@ impl Page {
     pub fn set_monitor(&mut self, place: usize, m: Monitor) -> Monitor
         requires { IsStored self.old place }
         ensures old { result ≡ (stored_at self.old place).state.monitor }
-        ensures new { self.new ≡ stored_with (with_state (with_monitor m)) place self.old }
+        ensures new { self.new ≡ stored_with (on_state (with_monitor m)) place self.old }
     {
         let object = &mut self.kept[place];
         object.set_monitor(m)

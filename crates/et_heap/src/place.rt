@@ -1,7 +1,7 @@
 //! One place of a page.
 ghost use Rattle.std.specs.Prelude.{◌≡◌, ◌<◌, ◌↔◌, length, IsTrue, Some, None, [], false};
 ghost use Rattle.et_heap.specs.Objects.{free_monitor, slot_of, with_slot, with_referent, with_queue, with_monitor, referent_value, referent_of};
-ghost use Rattle.et_heap.specs.Stored.{as_stored, is_stored, unlinked, with_state, with_next, with_last, without_first};
+ghost use Rattle.et_heap.specs.Stored.{as_stored, is_stored, unlinked, on_state, with_next, with_last, without_first};
 
 use crate::monitor::Monitor;
 use crate::waiting::{Newcomer, Waiting};
@@ -163,7 +163,7 @@ impl Place {
         requires held { is_stored self.old }
         requires slot { i < length (as_stored self.old).state.slots }
         ensures old { result ≡ slot_of (as_stored self.old).state i }
-        ensures new { self.new ≡ Some (with_state (with_slot i v) (as_stored self.old)) }
+        ensures new { self.new ≡ Some (on_state (with_slot i v) (as_stored self.old)) }
     {
         let old = self.slots[i as usize];
         self.slots[i as usize] = v;
@@ -181,7 +181,8 @@ impl Place {
     pub fn set_referent(&mut self, v: Value) -> Value
         requires { is_stored self.old }
         ensures old { result ≡ referent_value (as_stored self.old).state.referent }
-        ensures new { self.new ≡ Some (with_state (with_referent (referent_of v)) (as_stored self.old)) }
+        ensures new { self.new
+            ≡ Some (on_state (with_referent (referent_of v)) (as_stored self.old)) }
     {
         let old = self.referent();
         let referent = reference_of(v);
@@ -202,7 +203,7 @@ impl Place {
     pub fn set_queue(&mut self, v: Value) -> Value
         requires { is_stored self.old }
         ensures old { result ≡ referent_value (as_stored self.old).state.queue }
-        ensures new { self.new ≡ Some (with_state (with_queue (referent_of v)) (as_stored self.old)) }
+        ensures new { self.new ≡ Some (on_state (with_queue (referent_of v)) (as_stored self.old)) }
     {
         let old = value_of(self.queue());
         let queue = reference_of(v);
@@ -286,7 +287,7 @@ impl Place {
     pub fn set_monitor(&mut self, m: Monitor) -> Monitor
         requires { is_stored self.old }
         ensures old { result ≡ (as_stored self.old).state.monitor }
-        ensures new { self.new ≡ Some (with_state (with_monitor m) (as_stored self.old)) }
+        ensures new { self.new ≡ Some (on_state (with_monitor m) (as_stored self.old)) }
     {
         let old = self.monitor();
         self.has_owner = m.owner.is_some();

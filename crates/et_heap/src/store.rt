@@ -1,7 +1,7 @@
 //! Objects in pages.
 ghost use Rattle.std.specs.Prelude.{◌≡◌, ◌+◌, ◌-◌, ◌/◌, ◌%◌, ◌<◌, ◌≤◌, ◌↔◌, ◌∷◌, ◌++◌, ℕ, [], length, IsTrue, IfOk, IfSome, OnOk, OnErr, Err, None, Some, false};
 ghost use Rattle.et_heap.specs.Objects.{slot_of, with_slot, with_referent, with_queue, with_monitor, referent_value, referent_of, new_object, most_objects, most_slots};
-ghost use Rattle.et_heap.specs.Stored.{is_stored, IsStored, IsNextStored, stored_at, without_stored_at, with_state, unlinked, with_next, with_last, without_first, stored_slots, stored_count, has_stored_room};
+ghost use Rattle.et_heap.specs.Stored.{is_stored, IsStored, IsNextStored, stored_at, without_stored_at, on_state, unlinked, with_next, with_last, without_first, stored_slots, stored_count, has_stored_room};
 ghost use Rattle.et_heap.specs.Links.{stored_with};
 ghost use Rattle.et_heap.specs.Pages.{page_size, all_places, IsPaged};
 
@@ -131,7 +131,7 @@ impl Store {
         requires held { IsStored self.old o }
         requires slot { i < length (stored_at self.old o).state.slots }
         ensures old { result ≡ slot_of (stored_at self.old o).state i }
-        ensures new { self.new ≡ stored_with (with_state (with_slot i v)) o self.old }
+        ensures new { self.new ≡ stored_with (on_state (with_slot i v)) o self.old }
     {
         let page = &mut self.pages[page_of(o)];
         page.set_slot(place_of(o), i, v)
@@ -141,7 +141,7 @@ impl Store {
     pub fn set_referent(&mut self, o: ObjectId, v: Value) -> Value
         requires { IsStored self.old o }
         ensures old { result ≡ referent_value (stored_at self.old o).state.referent }
-        ensures new { self.new ≡ stored_with (with_state (with_referent (referent_of v))) o self.old }
+        ensures new { self.new ≡ stored_with (on_state (with_referent (referent_of v))) o self.old }
     {
         let page = &mut self.pages[page_of(o)];
         page.set_referent(place_of(o), v)
@@ -151,7 +151,7 @@ impl Store {
     pub fn set_queue(&mut self, o: ObjectId, v: Value) -> Value
         requires { IsStored self.old o }
         ensures old { result ≡ referent_value (stored_at self.old o).state.queue }
-        ensures new { self.new ≡ stored_with (with_state (with_queue (referent_of v))) o self.old }
+        ensures new { self.new ≡ stored_with (on_state (with_queue (referent_of v))) o self.old }
     {
         let page = &mut self.pages[page_of(o)];
         page.set_queue(place_of(o), v)
@@ -161,7 +161,7 @@ impl Store {
     pub fn set_monitor(&mut self, o: ObjectId, m: Monitor) -> Monitor
         requires { IsStored self.old o }
         ensures old { result ≡ (stored_at self.old o).state.monitor }
-        ensures new { self.new ≡ stored_with (with_state (with_monitor m)) o self.old }
+        ensures new { self.new ≡ stored_with (on_state (with_monitor m)) o self.old }
     {
         let page = &mut self.pages[page_of(o)];
         page.set_monitor(place_of(o), m)

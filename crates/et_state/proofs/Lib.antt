@@ -1,4 +1,3 @@
-pub mod Answered
 mod Stacks
 pub mod Strings
 pub mod Places

@@ -19,7 +19,7 @@ pub record Rule (S : Type 0) : Type 0 where
   pub event : S → ℕ → Outcome S
   -- the threads that have not ended, in order of start
   pub unended : S → List ℕ
-  -- the objects made, the root places, what stands in slots, and the objects that were reported
+  -- the objects made, the root places, what objects lead to, and the objects that were reported
   pub graph : S → Graph
   -- what a flush leaves, where the test says of each object whether it is reached
   pub flushed : (ℕ → Bool) → S → S

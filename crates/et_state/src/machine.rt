@@ -220,7 +220,6 @@ impl Machine {
     {
         let t = &mut self.threads[thread.number() as usize];
         self.lost.add_option(t.entry());
-        // Laws: they tell the prover, and do nothing.
         t.set_entered();
     }
 
@@ -237,7 +236,6 @@ impl Machine {
         self.lost.add_option(t.pending());
         self.lost.add_option(t.entry());
         self.lost.add_option(t.object());
-        // Laws: they tell the prover, and do nothing.
         t.end();
         threads::take_away(&mut self.unended, thread);
     }
@@ -348,7 +346,6 @@ impl Machine {
     {
         let t = &mut self.threads[thread.number() as usize];
         let v = t.top().operand(0);
-        // Laws: they tell the prover, and do nothing.
         t.pop();
         let lost = v;
         self.lost.add_value(lost);
@@ -367,7 +364,6 @@ impl Machine {
     {
         let t = &mut self.threads[thread.number() as usize];
         t.top().lose_operands(&mut self.lost);
-        // Laws: they tell the prover, and do nothing.
         t.clear_operands();
     }
 
@@ -454,7 +450,6 @@ impl Machine {
     {
         let t = &mut self.threads[thread.number() as usize];
         t.top().lose_all(&mut self.lost);
-        // Laws: they tell the prover, and do nothing.
         t.drop_frame();
     }
 

@@ -1,7 +1,7 @@
 use Rattle.std.proofs.Common.{refl, ap, subst, sym, ◌∙◌}
 use Rattle.et_heap.specs.Objects.{with_referent, referent_of, referent_value}
 use Rattle.et_heap.specs.Queues.{changed_at}
-use Rattle.et_heap.specs.Stored.{with_state, states_of}
+use Rattle.et_heap.specs.Stored.{on_state, states_of}
 use Rattle.et_heap.specs.Links.{AreLinked}
 use Rattle.et_heap.proofs.States.{there, shows, changed-shown}
 use Rattle.et_heap.proofs.Changes.{written-linked}
@@ -15,9 +15,9 @@ returns-clause-old g c = c.set_referent.ensures.old ∙ ap (λ x. referent_value
 
 pub returns-clause-new : goal.returns-clause-new
 returns-clause-new g c =
-    ap states_of c.set_referent.ensures.new ∙ (changed-shown (with_referent (referent_of c.args.v)) (with_state (with_referent (referent_of c.args.v))) c.self.inside.store c.args.o (λ x. refl) ∙ ap (changed_at (with_referent (referent_of c.args.v)) c.args.o) c.self.view_is)
+    ap states_of c.set_referent.ensures.new ∙ (changed-shown (with_referent (referent_of c.args.v)) (on_state (with_referent (referent_of c.args.v))) c.self.inside.store c.args.o (λ x. refl) ∙ ap (changed_at (with_referent (referent_of c.args.v)) c.args.o) c.self.view_is)
 
 pub invariant_of-self : goal.invariant_of-self
 invariant_of-self g c =
     subst AreLinked (sym c.set_referent.ensures.new)
-    (written-linked (with_state (with_referent (referent_of c.args.v))) c.self.inside.store c.args.o (there _ _ _ c.self.view_is c.requires) (λ x. refl) (λ x. refl) (λ x. refl) (λ x. refl) c.self.invariant)
+    (written-linked (on_state (with_referent (referent_of c.args.v))) c.self.inside.store c.args.o (there _ _ _ c.self.view_is c.requires) (λ x. refl) (λ x. refl) (λ x. refl) (λ x. refl) c.self.invariant)

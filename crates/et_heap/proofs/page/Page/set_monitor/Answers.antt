@@ -1,6 +1,6 @@
 use Rattle.std.proofs.Common.{ap, ◌∙◌, arith}
 use Rattle.et_heap.specs.Objects.{with_monitor}
-use Rattle.et_heap.specs.Stored.{with_state}
+use Rattle.et_heap.specs.Stored.{on_state}
 use Rattle.et_heap.proofs.Pages.{kept-within, kept-found, kept-stands, kept-changed}
 use Rattle.et_heap.proofs.page.Page.set_monitor.Goals as goal
 
@@ -16,4 +16,4 @@ returns-clause-old c =
     c.set_monitor.ensures.old ∙ ap (λ x. x.state.monitor) is
 
 pub returns-clause-new : goal.returns-clause-new
-returns-clause-new c = kept-changed _ _ _ _ _ (with_state (with_monitor c.args.m)) c.self.view_is c.requires c.index_mut-object.ensures.value c.set_monitor.ensures.new
+returns-clause-new c = kept-changed _ _ _ _ _ (on_state (with_monitor c.args.m)) c.self.view_is c.requires c.index_mut-object.ensures.value c.set_monitor.ensures.new

@@ -1,6 +1,6 @@
 use Rattle.std.proofs.Common.{ap, ◌∙◌, arith}
 use Rattle.et_heap.specs.Objects.{with_queue, referent_of, referent_value}
-use Rattle.et_heap.specs.Stored.{with_state}
+use Rattle.et_heap.specs.Stored.{on_state}
 use Rattle.et_heap.proofs.Pages.{kept-within, kept-found, kept-stands, kept-changed}
 use Rattle.et_heap.proofs.page.Page.set_queue.Goals as goal
 
@@ -16,4 +16,4 @@ returns-clause-old c =
     c.set_queue.ensures.old ∙ ap (λ x. referent_value x.state.queue) is
 
 pub returns-clause-new : goal.returns-clause-new
-returns-clause-new c = kept-changed _ _ _ _ _ (with_state (with_queue (referent_of c.args.v))) c.self.view_is c.requires c.index_mut-object.ensures.value c.set_queue.ensures.new
+returns-clause-new c = kept-changed _ _ _ _ _ (on_state (with_queue (referent_of c.args.v))) c.self.view_is c.requires c.index_mut-object.ensures.value c.set_queue.ensures.new

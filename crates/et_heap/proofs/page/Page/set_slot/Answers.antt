@@ -1,6 +1,6 @@
 use Rattle.std.proofs.Common.{◌<◌, length, sym, ap, subst, ◌∙◌, arith}
 use Rattle.et_heap.specs.Objects.{with_slot, slot_of}
-use Rattle.et_heap.specs.Stored.{with_state}
+use Rattle.et_heap.specs.Stored.{on_state}
 use Rattle.et_heap.proofs.Pages.{kept-within, kept-found, kept-stands, kept-changed}
 use Rattle.et_heap.proofs.page.Page.set_slot.Goals as goal
 
@@ -13,7 +13,7 @@ returns-clause-old c =
     c.set_slot.ensures.old ∙ ap (λ x. slot_of x.state c.args.i) is
 
 pub returns-clause-new : goal.returns-clause-new
-returns-clause-new c = kept-changed _ _ _ _ _ (with_state (with_slot c.args.i c.args.v)) c.self.view_is c.requires.held c.index_mut-object.ensures.value c.set_slot.ensures.new
+returns-clause-new c = kept-changed _ _ _ _ _ (on_state (with_slot c.args.i c.args.v)) c.self.view_is c.requires.held c.index_mut-object.ensures.value c.set_slot.ensures.new
 
 pub set_slot-requires : goal.set_slot-requires
 set_slot-requires c =

@@ -1,6 +1,6 @@
 use Rattle.std.proofs.Common.{refl, ap, sym, ◌∙◌, subst, arith}
 use Rattle.et_heap.specs.Objects.{with_referent, referent_of, referent_value}
-use Rattle.et_heap.specs.Stored.{as_stored, is_stored, with_state}
+use Rattle.et_heap.specs.Stored.{as_stored, is_stored, on_state}
 use Rattle.et_heap.proofs.Pages.{number_positive, page-held-within, at-page, page-changed, written-view, written-counts}
 use Rattle.et_heap.proofs.store.Store.set_referent.Goals as goal
 
@@ -25,12 +25,12 @@ returns-clause-old c =
 
 pub returns-clause-new : goal.returns-clause-new
 returns-clause-new c =
-    let written = page-changed _ _ _ _ _ _ _ _ (with_state (with_referent (referent_of c.args.v))) c.self.view_is c.self.invariant.paged c.requires c.page_of.ensures c.place_of.ensures c.index_mut-page.ensures.value c.set_referent.ensures.new in
+    let written = page-changed _ _ _ _ _ _ _ _ (on_state (with_referent (referent_of c.args.v))) c.self.view_is c.self.invariant.paged c.requires c.page_of.ensures c.place_of.ensures c.index_mut-page.ensures.value c.set_referent.ensures.new in
     written-view _ _ _ _ _ _ c.self.view_is c.requires written
 
 pub invariant_of-self : goal.invariant_of-self
 invariant_of-self c =
-    let written = page-changed _ _ _ _ _ _ _ _ (with_state (with_referent (referent_of c.args.v))) c.self.view_is c.self.invariant.paged c.requires c.page_of.ensures c.place_of.ensures c.index_mut-page.ensures.value c.set_referent.ensures.new in
+    let written = page-changed _ _ _ _ _ _ _ _ (on_state (with_referent (referent_of c.args.v))) c.self.view_is c.self.invariant.paged c.requires c.page_of.ensures c.place_of.ensures c.index_mut-page.ensures.value c.set_referent.ensures.new in
     let counts = written-counts _ _ _ _ _ _ c.self.view_is c.requires written refl in
     record {
       paged = written.paged;
