@@ -72,6 +72,21 @@ behind_wide code at = do
   opcode ← read w8 code at
   wide_at code opcode.0 opcode.1 (wide_form_of opcode.0)
 
+-- invokeinterface: the constant, a count, and a byte that is passed over
+abbrev pub interface_at : List ℕ → ℕ → ℕ → Result (Instr × ℕ) CodeFault
+interface_at code opcode at = do
+  m ← read w16 code at
+  n ← read w8 code m.1
+  passed ← read w8 code n.1
+  Ok (instr opcode false (pos m.0) (pos n.0) 0, passed.1)
+
+-- multianewarray: the constant and how many dimensions are made
+abbrev pub dimensions_at : List ℕ → ℕ → ℕ → Result (Instr × ℕ) CodeFault
+dimensions_at code opcode at = do
+  m ← read w16 code at
+  n ← read w8 code m.1
+  Ok (instr opcode false (pos m.0) (pos n.0) 0, n.1)
+
 -- the operands behind an opcode, of the form that it has
 abbrev pub operands_at : List ℕ → ℕ → ℕ → ℕ → Form → Result (Instr × ℕ) CodeFault
 operands_at code pc opcode at form.Plain = Ok (instr opcode false (pos 0) (pos 0) 0, at)
@@ -95,15 +110,8 @@ operands_at code pc opcode at form.Increment = do
   n ← read w8 code m.1
   Ok (instr opcode false (pos m.0) (cast_signed w8 n.0) 0, n.1)
 operands_at code pc opcode at form.LongIncrement = Err fault.Opcode
-operands_at code pc opcode at form.Interface = do
-  m ← read w16 code at
-  n ← read w8 code m.1
-  passed ← read w8 code n.1
-  Ok (instr opcode false (pos m.0) (pos n.0) 0, passed.1)
-operands_at code pc opcode at form.Dimensions = do
-  m ← read w16 code at
-  n ← read w8 code m.1
-  Ok (instr opcode false (pos m.0) (pos n.0) 0, n.1)
+operands_at code pc opcode at form.Interface = interface_at code opcode at
+operands_at code pc opcode at form.Dimensions = dimensions_at code opcode at
 operands_at code pc opcode at form.Wide = behind_wide code at
 operands_at code pc opcode at form.Table = table_at code pc opcode
 operands_at code pc opcode at form.Lookup = lookup_at code pc opcode

@@ -4,7 +4,7 @@
 
 ghost use Rattle.std.specs.Prelude.{◌≡◌, ◌<◌, ◌≤◌, pos, length, int_lt, false, true, IfOk};
 ghost use Rattle.std.specs.Int.{cast_signed, w8, w16, w32};
-ghost use Rattle.et_code.specs.Decoding.{Fits, read, instr, rows_at, row_count, table_instruction, table_place, table_at, lookup_at, wide_at, behind_wide, operands_at, instruction_at};
+ghost use Rattle.et_code.specs.Decoding.{Fits, read, instr, rows_at, row_count, table_instruction, table_place, table_at, lookup_at, wide_at, behind_wide, interface_at, dimensions_at, operands_at, instruction_at};
 
 use crate::form::{Form, form_behind, form_behind_wide};
 use crate::instr::{CodeFault, Instr};
@@ -236,6 +236,25 @@ fn wide(code: &[u8], at: usize) -> Result<(Instr, usize), CodeFault>
     }
 }
 
+/// The operands of `invokeinterface`: a constant and a count, before a byte that is passed over.
+fn interface(code: &[u8], opcode: u8, at: usize) -> Result<(Instr, usize), CodeFault>
+    ensures { result ≡ interface_at code.now opcode at }
+{
+    let (m, at) = short(code, at)?;
+    let (n, at) = byte(code, at)?;
+    let (_passed, at) = byte(code, at)?;
+    Ok((two(opcode, m, n), at))
+}
+
+/// The operands of `multianewarray`: a constant and how many dimensions are made.
+fn dimensions(code: &[u8], opcode: u8, at: usize) -> Result<(Instr, usize), CodeFault>
+    ensures { result ≡ dimensions_at code.now opcode at }
+{
+    let (m, at) = short(code, at)?;
+    let (n, at) = byte(code, at)?;
+    Ok((two(opcode, m, n), at))
+}
+
 fn operands(
     code: &[u8],
     pc: usize,
@@ -273,17 +292,8 @@ fn operands(
             let (n, at) = byte(code, at)?;
             Ok((increment(opcode, m, n), at))
         }
-        Form::Interface => {
-            let (m, at) = short(code, at)?;
-            let (n, at) = byte(code, at)?;
-            let (_passed, at) = byte(code, at)?;
-            Ok((two(opcode, m, n), at))
-        }
-        Form::Dimensions => {
-            let (m, at) = short(code, at)?;
-            let (n, at) = byte(code, at)?;
-            Ok((two(opcode, m, n), at))
-        }
+        Form::Interface => interface(code, opcode, at),
+        Form::Dimensions => dimensions(code, opcode, at),
         Form::Wide => wide(code, at),
         Form::Table => table(code, pc, opcode),
         Form::Lookup => lookup(code, pc, opcode),
