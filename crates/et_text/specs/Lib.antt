@@ -1,6 +1,7 @@
 pub mod ByStanding
 pub mod Extends
 pub mod Follows
+pub mod Kinds
 pub mod NameSets
 pub mod Ranges
 pub mod Reading
