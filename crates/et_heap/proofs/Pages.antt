@@ -1,5 +1,5 @@
 -- Lists that are cut in pages.
-use Rattle.std.proofs.Common.{◌≡◌, ℕ, zero, suc, ◌+◌, ◌-◌, ◌*◌, ◌/◌, ◌%◌, ◌<◌, ◌≤◌, List, [], ◌∷◌, ◌++◌, length, Option, Some, None, get_or, set, replicate, true, false, ◌&&◌, nat_le, ap, subst, refl, sym, ◌∙◌, inl, inr, arith}
+use Rattle.std.proofs.Common.{◌≡◌, ℕ, zero, suc, ◌+◌, ◌-◌, ◌*◌, ◌<◌, ◌≤◌, List, [], ◌∷◌, ◌++◌, length, Option, Some, None, get_or, set, replicate, true, false, ◌&&◌, nat_le, ap, subst, refl, sym, ◌∙◌, inl, inr, arith}
 use Rattle.std.proofs.lemmas.List.{append-nil, append_assoc, length-append, length-set, length-replicate, get_or_append_left, get_or-append_right, set-append_left, set-append_right, get_or_default}
 use Rattle.std.proofs.lemmas.List.Sums.{sum_by-cons}
 use Rattle.std.proofs.lemmas.Bool.{cases_lt}
@@ -7,7 +7,8 @@ use Rattle.std.proofs.lemmas.Bool.Decides.{nat_tests}
 use Rattle.et_heap.specs.Objects.{most_objects, most_slots}
 use Rattle.et_heap.specs.Stored.{Stored, StoredPlaces, stored_in, as_stored, stored_at, is_stored, IsStored, IsNextStored, with_stored_at, ones_stored, stored_count, stored_slots, has_stored_room}
 use Rattle.et_heap.specs.Links.{stored_with}
-use Rattle.et_heap.specs.Pages.{page_size, empty_places, places_of, all_places, IsPaged}
+use Rattle.et_heap.specs.Pages.{page_at, place_in_page, empty_places, places_of, all_places, IsPaged}
+use Rattle.et_heap.specs.declared.page.TheConstants.{PAGE_SIZE}
 use Rattle.et_heap.proofs.Places.{there_below, held-positive, at-below, set-below, stored_count-set, stored_count-written, stored_slots-written}
 
 -- ONE PAGE
@@ -19,7 +20,7 @@ none_there (suc n) (suc j) there = none_there n j there
 
 empty_places-none : (j : ℕ) → IsStored empty_places j → ⊥
 unfolding empty_places
-empty_places-none j held = none_there page_size j held
+empty_places-none j held = none_there PAGE_SIZE j held
 
 -- a page in which an object stands was not given back
 pub kept-held : (kept : StoredPlaces) (j : ℕ) → IsStored (places_of kept) j → (places_of kept ≡ kept) × (j < length kept)
@@ -67,11 +68,11 @@ stored_count-zero (None ∷ xs) none =
 stored_count-zero (Some x ∷ xs) none = let e = sum_by-cons ones_stored (Some x) xs in absurd (omega arith)
 
 -- a page with all its places, in which no object stands, shows as much when it was given back
-pub given_back : (kept : StoredPlaces) → stored_count kept ≡ 0 → length kept ≡ page_size → empty_places ≡ kept
+pub given_back : (kept : StoredPlaces) → stored_count kept ≡ 0 → length kept ≡ PAGE_SIZE → empty_places ≡ kept
 unfolding empty_places
 given_back kept none full = sym (stored_count-zero kept none ∙ ap (λ (n : ℕ). replicate {A = Option Stored} n None) full)
 
-pub kept-given_back : (page kept : StoredPlaces) (j : ℕ) (q : Option Stored) → places_of kept ≡ page → IsStored page j → q ≡ None → stored_count (set kept j q) ≡ 0 → length kept ≡ page_size → empty_places ≡ set page j None
+pub kept-given_back : (page kept : StoredPlaces) (j : ℕ) (q : Option Stored) → places_of kept ≡ page → IsStored page j → q ≡ None → stored_count (set kept j q) ≡ 0 → length kept ≡ PAGE_SIZE → empty_places ≡ set page j None
 kept-given_back page kept j q view held gone none full =
     let k = kept-held kept j (subst (λ h. IsStored h j) (sym view) held) in
     let none' : stored_count (set kept j None) ≡ 0 = subst (λ p. stored_count (set kept j p) ≡ 0) gone none in
@@ -98,12 +99,12 @@ kept-none page kept j view none held =
     let k = kept-held kept j (subst (λ h. IsStored h j) (sym view) held) in
     none_there (length kept) j (subst (λ h. IsStored h j) (sym view ∙ (k.0 ∙ stored_count-zero kept none)) held)
 
-length-empty_places : length empty_places ≡ page_size
+length-empty_places : length empty_places ≡ PAGE_SIZE
 unfolding empty_places
-length-empty_places = length-replicate {A = Option Stored} page_size None
+length-empty_places = length-replicate {A = Option Stored} PAGE_SIZE None
 
 -- a page that has room was not given back
-pub kept-push : (page kept more : StoredPlaces) (x : Option Stored) → places_of kept ≡ page → length page < page_size → more ≡ kept ++ x ∷ [] → places_of more ≡ page ++ x ∷ []
+pub kept-push : (page kept more : StoredPlaces) (x : Option Stored) → places_of kept ≡ page → length page < PAGE_SIZE → more ≡ kept ++ x ∷ [] → places_of more ≡ page ++ x ∷ []
 kept-push page [] more x view room e = let len = ap length view in absurd (omega (arith, length-empty_places))
 kept-push page (y ∷ ys) more x view room e = ap places_of e ∙ ap (λ (h : StoredPlaces). h ++ x ∷ []) view
 
@@ -114,21 +115,21 @@ length-all_places n [] paged = sym paged
 length-all_places n (p ∷ ps) paged =
     let len = paged.1 in
     let some = paged.0 in
-    let rest = length-all_places (n - page_size) ps paged.2 in
+    let rest = length-all_places (n - PAGE_SIZE) ps paged.2 in
     omega (arith, length-append p (all_places ps))
 
 -- the place of a number
 pub record IsPlaced (pages : List StoredPlaces) (k j : ℕ) : Type 0 where
   pub page : k < length pages
   pub place : j < length (get_or pages k [])
-  pub same : get_or (all_places pages) (page_size * k + j) None ≡ get_or (get_or pages k []) j None
+  pub same : get_or (all_places pages) (PAGE_SIZE * k + j) None ≡ get_or (get_or pages k []) j None
 
-pub place_of_pages : (n : ℕ) (pages : List StoredPlaces) (k j : ℕ) → IsPaged n pages → page_size * k + j < n → j < page_size → IsPlaced pages k j
+pub place_of_pages : (n : ℕ) (pages : List StoredPlaces) (k j : ℕ) → IsPaged n pages → PAGE_SIZE * k + j < n → j < PAGE_SIZE → IsPlaced pages k j
 place_of_pages n [] k j paged below short = absurd (omega arith)
 place_of_pages n (p ∷ ps) zero j paged below short =
     let len = paged.1 in
     let lt : j < length p = omega arith in
-    let e : page_size * 0 + j ≡ j = omega arith in
+    let e : PAGE_SIZE * 0 + j ≡ j = omega arith in
     record {
       page = omega arith;
       place = lt;
@@ -136,42 +137,42 @@ place_of_pages n (p ∷ ps) zero j paged below short =
     }
 place_of_pages n (p ∷ ps) (suc k) j paged below short =
     let len = paged.1 in
-    let full : length p ≡ page_size = omega arith in
-    let rest = place_of_pages (n - page_size) ps k j paged.2 (omega arith) short in
+    let full : length p ≡ PAGE_SIZE = omega arith in
+    let rest = place_of_pages (n - PAGE_SIZE) ps k j paged.2 (omega arith) short in
     let there = rest.page in
-    let e : page_size * suc k + j - page_size ≡ page_size * k + j = omega arith in
+    let e : PAGE_SIZE * suc k + j - PAGE_SIZE ≡ PAGE_SIZE * k + j = omega arith in
     record {
       page = omega arith;
       place = rest.place;
-      same = get_or-append_right p (all_places ps) page_size (page_size * suc k + j) None full (omega arith) ∙ (ap (λ (i : ℕ). get_or (all_places ps) i None) e ∙ rest.same);
+      same = get_or-append_right p (all_places ps) PAGE_SIZE (PAGE_SIZE * suc k + j) None full (omega arith) ∙ (ap (λ (i : ℕ). get_or (all_places ps) i None) e ∙ rest.same);
     }
 
 -- writing at a place of a page writes at its number
-pub pages_with : (n : ℕ) (pages : List StoredPlaces) (k j : ℕ) (y : Option Stored) → IsPaged n pages → page_size * k + j < n → j < page_size → all_places (set pages k (set (get_or pages k []) j y)) ≡ set (all_places pages) (page_size * k + j) y
+pub pages_with : (n : ℕ) (pages : List StoredPlaces) (k j : ℕ) (y : Option Stored) → IsPaged n pages → PAGE_SIZE * k + j < n → j < PAGE_SIZE → all_places (set pages k (set (get_or pages k []) j y)) ≡ set (all_places pages) (PAGE_SIZE * k + j) y
 pages_with n [] k j y paged below short = absurd (omega arith)
 pages_with n (p ∷ ps) zero j y paged below short =
     let len = paged.1 in
-    let e : j ≡ page_size * 0 + j = omega arith in
+    let e : j ≡ PAGE_SIZE * 0 + j = omega arith in
     sym (set-append_left p (all_places ps) j y (omega arith)) ∙ ap (λ (i : ℕ). set (p ++ all_places ps) i y) e
 pages_with n (p ∷ ps) (suc k) j y paged below short =
     let len = paged.1 in
-    let full : length p ≡ page_size = omega arith in
-    let e : page_size * k + j ≡ page_size * suc k + j - page_size = omega arith in
-    ap (λ (xs : StoredPlaces). p ++ xs) (pages_with (n - page_size) ps k j y paged.2 (omega arith) short ∙ ap (λ (i : ℕ). set (all_places ps) i y) e) ∙ sym (set-append_right p (all_places ps) page_size (page_size * suc k + j) y full (omega arith))
+    let full : length p ≡ PAGE_SIZE = omega arith in
+    let e : PAGE_SIZE * k + j ≡ PAGE_SIZE * suc k + j - PAGE_SIZE = omega arith in
+    ap (λ (xs : StoredPlaces). p ++ xs) (pages_with (n - PAGE_SIZE) ps k j y paged.2 (omega arith) short ∙ ap (λ (i : ℕ). set (all_places ps) i y) e) ∙ sym (set-append_right p (all_places ps) PAGE_SIZE (PAGE_SIZE * suc k + j) y full (omega arith))
 
 pub IsPaged-set : (n : ℕ) (pages : List StoredPlaces) (k : ℕ) (q : StoredPlaces) → IsPaged n pages → length q ≡ length (get_or pages k []) → IsPaged n (set pages k q)
 IsPaged-set n [] k q paged same = paged
 IsPaged-set n (p ∷ ps) zero q paged same = (paged.0, same ∙ paged.1, paged.2)
-IsPaged-set n (p ∷ ps) (suc k) q paged same = (paged.0, paged.1, IsPaged-set (n - page_size) ps k q paged.2 same)
+IsPaged-set n (p ∷ ps) (suc k) q paged same = (paged.0, paged.1, IsPaged-set (n - PAGE_SIZE) ps k q paged.2 same)
 
 -- the number of a place
-pub number_below : (n : ℕ) (pages : List StoredPlaces) (k j : ℕ) → IsPaged n pages → k < length pages → j < length (get_or pages k []) → (page_size * k + j < n) × (j < page_size)
+pub number_below : (n : ℕ) (pages : List StoredPlaces) (k j : ℕ) → IsPaged n pages → k < length pages → j < length (get_or pages k []) → (PAGE_SIZE * k + j < n) × (j < PAGE_SIZE)
 number_below n [] k j paged page place = absurd (omega arith)
 number_below n (p ∷ ps) zero j paged page place = let len = paged.1 in (omega arith, omega arith)
 number_below n (p ∷ ps) (suc k) j paged page place =
     let len = paged.1 in
     let some = paged.0 in
-    let rest = number_below (n - page_size) ps k j paged.2 (omega arith) place in
+    let rest = number_below (n - PAGE_SIZE) ps k j paged.2 (omega arith) place in
     let lt = rest.0 in
     (omega arith, rest.1)
 
@@ -186,26 +187,26 @@ number_within heap pages made o view paged held =
     let len = length-all_places made pages paged in
     omega arith
 
-object_placed : (pages : List StoredPlaces) (made o k j : ℕ) → IsPaged made pages → 0 < o → o ≤ made → k ≡ (o - 1) / page_size → j ≡ (o - 1) % page_size → (page_size * k + j ≡ o - 1) × (j < page_size) × IsPlaced pages k j
+object_placed : (pages : List StoredPlaces) (made o k j : ℕ) → IsPaged made pages → 0 < o → o ≤ made → k ≡ page_at o → j ≡ place_in_page o → (PAGE_SIZE * k + j ≡ o - 1) × (j < PAGE_SIZE) × IsPlaced pages k j
 object_placed pages made o k j paged some most page place =
-    let q : page_size * k + j ≡ o - 1 = omega arith in
+    let q : PAGE_SIZE * k + j ≡ o - 1 = omega arith in
     (q, omega arith, place_of_pages made pages k j paged (omega arith) (omega arith))
 
 -- an object that was made has a page
-pub page_of-within : (pages : List StoredPlaces) (made o k : ℕ) → IsPaged made pages → 0 < o → o ≤ made → k ≡ (o - 1) / page_size → k < length pages
-page_of-within pages made o k paged some most page = (object_placed pages made o k ((o - 1) % page_size) paged some most page refl).2.page
+pub page_of-within : (pages : List StoredPlaces) (made o k : ℕ) → IsPaged made pages → 0 < o → o ≤ made → k ≡ page_at o → k < length pages
+page_of-within pages made o k paged some most page = (object_placed pages made o k (place_in_page o) paged some most page refl).2.page
 
 -- what stands at a number stands at its place of its page p
-pub at-number : (heap : StoredPlaces) (pages : List StoredPlaces) (made o k j : ℕ) (p : StoredPlaces) → None ∷ all_places pages ≡ heap → IsPaged made pages → 0 < o → o ≤ made → k ≡ (o - 1) / page_size → j ≡ (o - 1) % page_size → p ≡ get_or pages k p → stored_in heap o ≡ stored_in p j
+pub at-number : (heap : StoredPlaces) (pages : List StoredPlaces) (made o k j : ℕ) (p : StoredPlaces) → None ∷ all_places pages ≡ heap → IsPaged made pages → 0 < o → o ≤ made → k ≡ page_at o → j ≡ place_in_page o → p ≡ get_or pages k p → stored_in heap o ≡ stored_in p j
 at-number heap pages made o k j p view paged some most page place is =
     let placed = object_placed pages made o k j paged some most page place in
     let same : get_or pages k [] ≡ p = sym (is ∙ get_or_default pages k p [] placed.2.page) in
     ap (λ h. stored_in h o) (sym view) ∙ (at-below (all_places pages) o some ∙ (ap (λ (i : ℕ). get_or (all_places pages) i None) (sym placed.0) ∙ (placed.2.same ∙ ap (λ h. stored_in h j) same)))
 
-pub page-held-within : (heap : StoredPlaces) (pages : List StoredPlaces) (made o k : ℕ) → None ∷ all_places pages ≡ heap → IsPaged made pages → IsStored heap o → k ≡ (o - 1) / page_size → k < length pages
+pub page-held-within : (heap : StoredPlaces) (pages : List StoredPlaces) (made o k : ℕ) → None ∷ all_places pages ≡ heap → IsPaged made pages → IsStored heap o → k ≡ page_at o → k < length pages
 page-held-within heap pages made o k view paged held page = page_of-within pages made o k paged (number_positive heap pages o view held) (number_within heap pages made o view paged held) page
 
-pub at-page : (heap : StoredPlaces) (pages : List StoredPlaces) (made o k j : ℕ) (p : StoredPlaces) → None ∷ all_places pages ≡ heap → IsPaged made pages → IsStored heap o → k ≡ (o - 1) / page_size → j ≡ (o - 1) % page_size → p ≡ get_or pages k p → stored_in heap o ≡ stored_in p j
+pub at-page : (heap : StoredPlaces) (pages : List StoredPlaces) (made o k j : ℕ) (p : StoredPlaces) → None ∷ all_places pages ≡ heap → IsPaged made pages → IsStored heap o → k ≡ page_at o → j ≡ place_in_page o → p ≡ get_or pages k p → stored_in heap o ≡ stored_in p j
 at-page heap pages made o k j p view paged held page place is = at-number heap pages made o k j p view paged (number_positive heap pages o view held) (number_within heap pages made o view paged held) page place is
 
 -- the pages after a write of y at the number of object o
@@ -213,7 +214,7 @@ pub record IsWritten (made : ℕ) (pages more : List StoredPlaces) (o : ℕ) (y 
   pub paged : IsPaged made more
   pub same : all_places more ≡ set (all_places pages) (o - 1) y
 
-pub page-written : (heap : StoredPlaces) (pages : List StoredPlaces) (made o k j : ℕ) (p q : StoredPlaces) (y : Option Stored) → None ∷ all_places pages ≡ heap → IsPaged made pages → IsStored heap o → k ≡ (o - 1) / page_size → j ≡ (o - 1) % page_size → p ≡ get_or pages k p → q ≡ set p j y → IsWritten made pages (set pages k q) o y
+pub page-written : (heap : StoredPlaces) (pages : List StoredPlaces) (made o k j : ℕ) (p q : StoredPlaces) (y : Option Stored) → None ∷ all_places pages ≡ heap → IsPaged made pages → IsStored heap o → k ≡ page_at o → j ≡ place_in_page o → p ≡ get_or pages k p → q ≡ set p j y → IsWritten made pages (set pages k q) o y
 page-written heap pages made o k j p q y view paged held page place is wrote =
     let most = number_within heap pages made o view paged held in
     let some = number_positive heap pages o view held in
@@ -226,7 +227,7 @@ page-written heap pages made o k j p q y view paged held page place is wrote =
     }
 
 -- the same where what stands at the number is changed
-pub page-changed : (heap : StoredPlaces) (pages : List StoredPlaces) (made o k j : ℕ) (p q : StoredPlaces) (f : Stored → Stored) → None ∷ all_places pages ≡ heap → IsPaged made pages → IsStored heap o → k ≡ (o - 1) / page_size → j ≡ (o - 1) % page_size → p ≡ get_or pages k p → q ≡ stored_with f j p → IsWritten made pages (set pages k q) o (Some (f (stored_at heap o)))
+pub page-changed : (heap : StoredPlaces) (pages : List StoredPlaces) (made o k j : ℕ) (p q : StoredPlaces) (f : Stored → Stored) → None ∷ all_places pages ≡ heap → IsPaged made pages → IsStored heap o → k ≡ page_at o → j ≡ place_in_page o → p ≡ get_or pages k p → q ≡ stored_with f j p → IsWritten made pages (set pages k q) o (Some (f (stored_at heap o)))
 page-changed heap pages made o k j p q f view paged held page place is changed =
     let same = at-page heap pages made o k j p view paged held page place is in
     page-written heap pages made o k j p q (Some (f (stored_at heap o))) view paged held page place is (changed ∙ ap (λ (z : Option Stored). with_stored_at p j (f (as_stored z))) (sym same))
@@ -245,34 +246,34 @@ written-counts heap pages more made o x view held written slots =
 
 -- THE NEXT OBJECT
 
-made-le : (n : ℕ) (pages : List StoredPlaces) → IsPaged n pages → n ≤ page_size * length pages
+made-le : (n : ℕ) (pages : List StoredPlaces) → IsPaged n pages → n ≤ PAGE_SIZE * length pages
 made-le n [] paged = let none : n ≡ 0 = paged in omega arith
 made-le n (p ∷ ps) paged =
     let len = paged.1 in
-    let rest = made-le (n - page_size) ps paged.2 in
+    let rest = made-le (n - PAGE_SIZE) ps paged.2 in
     omega arith
 
 -- a place of page p, from its number
-pub held-in_page : (pages : List StoredPlaces) (made k u : ℕ) (p : StoredPlaces) → IsPaged made pages → p ≡ get_or pages k p → page_size * k < u → u ≤ page_size * k + page_size → IsStored (None ∷ all_places pages) u → IsStored p (u - 1 - page_size * k)
+pub held-in_page : (pages : List StoredPlaces) (made k u : ℕ) (p : StoredPlaces) → IsPaged made pages → p ≡ get_or pages k p → PAGE_SIZE * k < u → u ≤ PAGE_SIZE * k + PAGE_SIZE → IsStored (None ∷ all_places pages) u → IsStored p (u - 1 - PAGE_SIZE * k)
 held-in_page pages made k u p paged is low high held =
-    let e = at-page (None ∷ all_places pages) pages made u k (u - 1 - page_size * k) p refl paged held (omega arith) (omega arith) is in
+    let e = at-page (None ∷ all_places pages) pages made u k (u - 1 - PAGE_SIZE * k) p refl paged held (omega arith) (omega arith) is in
     subst is_stored e held
 
 -- what is held in a page was made
-pub found_below : (pages : List StoredPlaces) (made k i : ℕ) (p : StoredPlaces) → IsPaged made pages → k < length pages → p ≡ get_or pages k p → IsStored p i → (page_size * k + i < made) × (i < page_size)
+pub found_below : (pages : List StoredPlaces) (made k i : ℕ) (p : StoredPlaces) → IsPaged made pages → k < length pages → p ≡ get_or pages k p → IsStored p i → (PAGE_SIZE * k + i < made) × (i < PAGE_SIZE)
 found_below pages made k i p paged there is held =
     let same : p ≡ get_or pages k [] = is ∙ get_or_default pages k p [] there in
     number_below made pages k i paged there (there_below (get_or pages k []) i (subst (λ h. IsStored h i) same held))
 
 -- nothing is held from number f on before place j of page k
 abbrev pub NoneBefore : List StoredPlaces → ℕ → ℕ → ℕ → Type 0
-NoneBefore pages f k j = (u : ℕ) → f ≤ u → u < page_size * k + j + 1 → IsStored (None ∷ all_places pages) u → ⊥
+NoneBefore pages f k j = (u : ℕ) → f ≤ u → u < PAGE_SIZE * k + j + 1 → IsStored (None ∷ all_places pages) u → ⊥
 
 pub none-page : (pages : List StoredPlaces) (made f k j : ℕ) (p : StoredPlaces) → IsPaged made pages → p ≡ get_or pages k p → ((v : ℕ) → j ≤ v → IsStored p v → ⊥) → NoneBefore pages f k j → NoneBefore pages f (k + 1) 0
 none-page pages made f k j p paged is out before u from below held =
-    elim (cases_lt u (page_size * k + j + 1)) [
+    elim (cases_lt u (PAGE_SIZE * k + j + 1)) [
       | inl lt ↦ before u from lt held
-      | inr le ↦ out (u - 1 - page_size * k) (omega arith) (held-in_page pages made k u p paged is (omega arith) (omega arith) held)
+      | inr le ↦ out (u - 1 - PAGE_SIZE * k) (omega arith) (held-in_page pages made k u p paged is (omega arith) (omega arith) held)
     ]
 
 pub none-end : (heap : StoredPlaces) (pages : List StoredPlaces) (made f k j : ℕ) → None ∷ all_places pages ≡ heap → IsPaged made pages → length pages ≤ k → NoneBefore pages f k j → (u : ℕ) → f ≤ u → IsStored heap u → ⊥
@@ -281,9 +282,9 @@ none-end heap pages made f k j view paged end before u from held =
     let le = made-le made pages paged in
     before u from (omega arith) (subst (λ h. IsStored h u) (sym view) held)
 
-pub next-found : (heap : StoredPlaces) (pages : List StoredPlaces) (made f k j i : ℕ) (p : StoredPlaces) → None ∷ all_places pages ≡ heap → IsPaged made pages → k < length pages → p ≡ get_or pages k p → f ≤ page_size * k + j + 1 → NoneBefore pages f k j → IsNextStored p j i → IsNextStored heap f (page_size * k + i + 1)
+pub next-found : (heap : StoredPlaces) (pages : List StoredPlaces) (made f k j i : ℕ) (p : StoredPlaces) → None ∷ all_places pages ≡ heap → IsPaged made pages → k < length pages → p ≡ get_or pages k p → f ≤ PAGE_SIZE * k + j + 1 → NoneBefore pages f k j → IsNextStored p j i → IsNextStored heap f (PAGE_SIZE * k + i + 1)
 next-found heap pages made f k j i p view paged there is from before next =
-    let o = page_size * k + i + 1 in
+    let o = PAGE_SIZE * k + i + 1 in
     let below = found_below pages made k i p paged there is next.held in
     let short = below.1 in
     let few = below.0 in
@@ -295,10 +296,10 @@ next-found heap pages made f k j i p view paged there is from before next =
       first = λ u low held. elim (cases_lt u o) [
         | inl lt ↦
             let held' : IsStored (None ∷ all_places pages) u = subst (λ h. IsStored h u) (sym view) held in
-            elim (cases_lt u (page_size * k + j + 1)) [
+            elim (cases_lt u (PAGE_SIZE * k + j + 1)) [
               | inl early ↦ absurd (before u low early held')
               | inr late ↦
-                  let le' = next.first (u - 1 - page_size * k) (omega arith) (held-in_page pages made k u p paged is (omega arith) (omega arith) held') in
+                  let le' = next.first (u - 1 - PAGE_SIZE * k) (omega arith) (held-in_page pages made k u p paged is (omega arith) (omega arith) held') in
                   absurd (omega arith)
             ]
         | inr le' ↦ le'
@@ -307,49 +308,49 @@ next-found heap pages made f k j i p view paged there is from before next =
 
 -- ONE OBJECT MORE
 
-pub IsPaged-new_page : (n : ℕ) (pages : List StoredPlaces) (k : ℕ) (x : Option Stored) → IsPaged n pages → n ≡ page_size * k → IsPaged (n + 1) (pages ++ (x ∷ []) ∷ [])
+pub IsPaged-new_page : (n : ℕ) (pages : List StoredPlaces) (k : ℕ) (x : Option Stored) → IsPaged n pages → n ≡ PAGE_SIZE * k → IsPaged (n + 1) (pages ++ (x ∷ []) ∷ [])
 IsPaged-new_page n [] k x paged e =
     let none : n ≡ 0 = paged in
     (omega arith, omega arith, omega arith)
 IsPaged-new_page n (p ∷ ps) zero x paged e = let some = paged.0 in absurd (omega arith)
 IsPaged-new_page n (p ∷ ps) (suc k) x paged e =
     let len = paged.1 in
-    let same : n - page_size + 1 ≡ n + 1 - page_size = omega arith in
-    (omega arith, omega arith, subst (λ (m : ℕ). IsPaged m (ps ++ (x ∷ []) ∷ [])) same (IsPaged-new_page (n - page_size) ps k x paged.2 (omega arith)))
+    let same : n - PAGE_SIZE + 1 ≡ n + 1 - PAGE_SIZE = omega arith in
+    (omega arith, omega arith, subst (λ (m : ℕ). IsPaged m (ps ++ (x ∷ []) ∷ [])) same (IsPaged-new_page (n - PAGE_SIZE) ps k x paged.2 (omega arith)))
 
 no_pages : (ps : List StoredPlaces) → IsPaged 0 ps → ps ≡ []
 no_pages [] paged = refl
 no_pages (p ∷ ps) paged = let some = paged.0 in absurd (omega arith)
 
 -- the last page of those that have n places has room while n is no multiple of the size
-pub last_page : (n : ℕ) (pages : List StoredPlaces) (k j : ℕ) → IsPaged n pages → n ≡ page_size * k + j → 0 < j → j < page_size → (k < length pages) × (length (get_or pages k []) ≡ j)
+pub last_page : (n : ℕ) (pages : List StoredPlaces) (k j : ℕ) → IsPaged n pages → n ≡ PAGE_SIZE * k + j → 0 < j → j < PAGE_SIZE → (k < length pages) × (length (get_or pages k []) ≡ j)
 last_page n [] k j paged e some short = let none : n ≡ 0 = paged in absurd (omega arith)
 last_page n (p ∷ ps) zero j paged e some short = let len = paged.1 in (omega arith, omega arith)
 last_page n (p ∷ ps) (suc k) j paged e some short =
-    let rest = last_page (n - page_size) ps k j paged.2 (omega arith) some short in
+    let rest = last_page (n - PAGE_SIZE) ps k j paged.2 (omega arith) some short in
     let lt = rest.0 in
     (omega arith, rest.1)
 
-pub all_places-push : (n : ℕ) (pages : List StoredPlaces) (k j : ℕ) (x : Option Stored) → IsPaged n pages → n ≡ page_size * k + j → 0 < j → j < page_size → all_places (set pages k (get_or pages k [] ++ x ∷ [])) ≡ all_places pages ++ x ∷ []
+pub all_places-push : (n : ℕ) (pages : List StoredPlaces) (k j : ℕ) (x : Option Stored) → IsPaged n pages → n ≡ PAGE_SIZE * k + j → 0 < j → j < PAGE_SIZE → all_places (set pages k (get_or pages k [] ++ x ∷ [])) ≡ all_places pages ++ x ∷ []
 all_places-push n [] k j x paged e some short = let none : n ≡ 0 = paged in absurd (omega arith)
 all_places-push n (p ∷ ps) zero j x paged e some short =
-    let z : n - page_size ≡ 0 = omega arith in
+    let z : n - PAGE_SIZE ≡ 0 = omega arith in
     let last : ps ≡ [] = no_pages ps (subst (λ (m : ℕ). IsPaged m ps) z paged.2) in
     ap (λ (qs : List StoredPlaces). p ++ x ∷ [] ++ all_places qs) last ∙ (append-nil (p ++ x ∷ []) ∙ (ap (λ (xs : StoredPlaces). xs ++ x ∷ []) (sym (append-nil p)) ∙ ap (λ (qs : List StoredPlaces). p ++ all_places qs ++ x ∷ []) (sym last)))
 all_places-push n (p ∷ ps) (suc k) j x paged e some short =
-    ap (λ (xs : StoredPlaces). p ++ xs) (all_places-push (n - page_size) ps k j x paged.2 (omega arith) some short) ∙ sym (append_assoc p (all_places ps) (x ∷ []))
+    ap (λ (xs : StoredPlaces). p ++ xs) (all_places-push (n - PAGE_SIZE) ps k j x paged.2 (omega arith) some short) ∙ sym (append_assoc p (all_places ps) (x ∷ []))
 
-pub IsPaged-push : (n : ℕ) (pages : List StoredPlaces) (k j : ℕ) (x : Option Stored) → IsPaged n pages → n ≡ page_size * k + j → 0 < j → j < page_size → IsPaged (n + 1) (set pages k (get_or pages k [] ++ x ∷ []))
+pub IsPaged-push : (n : ℕ) (pages : List StoredPlaces) (k j : ℕ) (x : Option Stored) → IsPaged n pages → n ≡ PAGE_SIZE * k + j → 0 < j → j < PAGE_SIZE → IsPaged (n + 1) (set pages k (get_or pages k [] ++ x ∷ []))
 IsPaged-push n [] k j x paged e some short = let none : n ≡ 0 = paged in absurd (omega arith)
 IsPaged-push n (p ∷ ps) zero j x paged e some short =
     let len = paged.1 in
     let more = length-append p (x ∷ []) in
-    let z : n - page_size ≡ n + 1 - page_size = omega arith in
+    let z : n - PAGE_SIZE ≡ n + 1 - PAGE_SIZE = omega arith in
     (omega arith, omega arith, subst (λ (m : ℕ). IsPaged m ps) z paged.2)
 IsPaged-push n (p ∷ ps) (suc k) j x paged e some short =
     let len = paged.1 in
-    let same : n - page_size + 1 ≡ n + 1 - page_size = omega arith in
-    (omega arith, omega arith, subst (λ (m : ℕ). IsPaged m (set ps k (get_or ps k [] ++ x ∷ []))) same (IsPaged-push (n - page_size) ps k j x paged.2 (omega arith) some short))
+    let same : n - PAGE_SIZE + 1 ≡ n + 1 - PAGE_SIZE = omega arith in
+    (omega arith, omega arith, subst (λ (m : ℕ). IsPaged m (set ps k (get_or ps k [] ++ x ∷ []))) same (IsPaged-push (n - PAGE_SIZE) ps k j x paged.2 (omega arith) some short))
 
 -- ROOM
 

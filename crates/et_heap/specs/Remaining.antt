@@ -1,11 +1,14 @@
 -- What a flush leaves of a heap. The test says of each object whether it stays.
-use Rattle.std.specs.Prelude.{ℕ, ◌+◌, Bool, true, false, if◌then◌else◌, [], ◌∷◌, Option, Some, None}
+use Rattle.std.specs.Prelude.{ℕ, ◌+◌, not, Bool, true, false, if◌then◌else◌, [], ◌∷◌, Option, Some, None}
 use Rattle.et_heap.specs.Objects.{ObjectState, Objects}
 
 -- a weak reference to what isn't here becomes null
+abbrev pub is_cleared : (ℕ → Bool) → Option ℕ → Bool
+is_cleared here None = false
+is_cleared here (Some o) = not (here o)
+
 abbrev pub kept_referent : (ℕ → Bool) → Option ℕ → Option ℕ
-kept_referent here None = None
-kept_referent here (Some o) = if here o then Some o else None
+kept_referent here r = if is_cleared here r then None else r
 
 abbrev pub left_place : (ℕ → Bool) → Bool → Option ObjectState → Option ObjectState
 left_place here b None = None

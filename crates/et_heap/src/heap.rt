@@ -73,6 +73,7 @@ impl Heap {
     }
 
     /// The class of an object.
+    #[inline]
     pub fn class_of<L: Ledger>(&self, o: ObjectId, visits: &mut Steps<L>) -> ClassId
         requires { IsHeld self.now o }
         ensures value { result ≡ (object_at self.now o).class }
@@ -83,6 +84,7 @@ impl Heap {
     }
 
     /// The length of an array, and 0 for what is no array.
+    #[inline]
     pub fn length_of<L: Ledger>(&self, o: ObjectId, visits: &mut Steps<L>) -> u32
         requires { IsHeld self.now o }
         ensures value { result ≡ (object_at self.now o).length }
@@ -93,6 +95,7 @@ impl Heap {
     }
 
     /// What a slot of an object holds. `Unset` stands for the 0 or null of a slot that was not written yet.
+    #[inline]
     pub fn slot<L: Ledger>(&self, o: ObjectId, i: u32, visits: &mut Steps<L>) -> Value
         requires held { IsHeld self.now o }
         requires slot { i < length (object_at self.now o).slots }
@@ -104,6 +107,7 @@ impl Heap {
     }
 
     /// Writes a slot of an object, and answers what stood there.
+    #[inline]
     pub fn set_slot<L: Ledger>(
         &mut self,
         o: ObjectId,

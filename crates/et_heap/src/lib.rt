@@ -19,6 +19,7 @@ mod waiting;
 pub use fault::MakeFault;
 pub use heap::Heap;
 pub use monitor::Monitor;
+pub use page::PAGE_SIZE;
 pub use refs::Refs;
 pub use root_list::RootList;
 pub use store::{MOST_OBJECTS, MOST_SLOTS};

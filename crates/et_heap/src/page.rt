@@ -3,7 +3,7 @@ ghost use Rattle.std.specs.Prelude.{◌≡◌, ◌+◌, ◌<◌, ◌≤◌, ◌�
 ghost use Rattle.et_heap.specs.Objects.{slot_of, with_slot, with_referent, with_queue, with_monitor, referent_value, referent_of};
 ghost use Rattle.et_heap.specs.Stored.{is_stored, IsStored, IsNextStored, stored_at, without_stored_at, on_state, with_next, with_last, without_first};
 ghost use Rattle.et_heap.specs.Links.{stored_with};
-ghost use Rattle.et_heap.specs.Pages.{page_size};
+ghost use Rattle.et_heap.specs.declared.page.TheConstants.{PAGE_SIZE};
 
 use crate::monitor::Monitor;
 use crate::place::Place;
@@ -12,9 +12,9 @@ use std::alloc::{AllocError, Global};
 use std::marker::Model;
 
 /// So many numbers in a row stand in one page.
-pub const PLACES: usize = 1_024;
+pub const PAGE_SIZE: usize = 1_024;
 
-/// The places of `PLACES` objects, or of fewer in the last page of a heap. Once it has all places and all objects were
+/// The places of `PAGE_SIZE` objects, or of fewer in the last page of a heap. Once it has all places and all objects were
 /// taken out, it keeps no list of them any more: the page is given back. A contract sees a page as the list of its
 /// places, which are empty where the object was taken out.
 #[derive(Drop)]
@@ -51,7 +51,7 @@ impl Page {
     /// Puts an object at the end. After an error the page is as before.
     pub fn push(&mut self, object: Place) -> Result<(), AllocError>
         requires held { is_stored object }
-        requires room { length self.old < page_size }
+        requires room { length self.old < PAGE_SIZE }
         ensures ok { OnOk result (self.new ≡ self.old ++ object ∷ []) }
         ensures err { OnErr result (self.new ≡ self.old) }
     {
@@ -84,6 +84,7 @@ impl Page {
     }
 
     /// The object at this place.
+    #[inline(always)]
     pub fn object(&self, place: usize) -> &Place
         requires { IsStored self.now place }
         ensures { result.now ≡ Some (stored_at self.now place) }
@@ -92,6 +93,7 @@ impl Page {
     }
 
     /// Writes a slot of an object, and answers what stood there.
+    #[inline]
     pub fn set_slot(&mut self, place: usize, i: u32, v: Value) -> Value
         requires held { IsStored self.old place }
         requires slot { i < length (stored_at self.old place).state.slots }
@@ -169,7 +171,7 @@ impl Page {
         let object = &mut self.kept[place];
         object.take_out();
         self.held -= 1;
-        if self.held == 0 && self.kept.len() == PLACES {
+        if self.held == 0 && self.kept.len() == PAGE_SIZE {
             self.kept = Vec::new(*self.kept.allocator());
         }
     }

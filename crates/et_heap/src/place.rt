@@ -128,6 +128,7 @@ impl Place {
         self.held = false;
     }
 
+    #[inline(always)]
     pub fn class(&self) -> ClassId
         requires { is_stored self.now }
         ensures { result ≡ (as_stored self.now).state.class }
@@ -135,6 +136,7 @@ impl Place {
         self.class
     }
 
+    #[inline(always)]
     pub fn length(&self) -> u32
         requires { is_stored self.now }
         ensures { result ≡ (as_stored self.now).state.length }
@@ -150,6 +152,7 @@ impl Place {
         self.slots.as_slice()
     }
 
+    #[inline(always)]
     pub fn slot(&self, i: u32) -> Value
         requires held { is_stored self.now }
         requires slot { i < length (as_stored self.now).state.slots }
@@ -159,6 +162,7 @@ impl Place {
     }
 
     /// Writes a slot, and answers what stood there.
+    #[inline(always)]
     pub fn set_slot(&mut self, i: u32, v: Value) -> Value
         requires held { is_stored self.old }
         requires slot { i < length (as_stored self.old).state.slots }

@@ -3,11 +3,11 @@ ghost use Rattle.std.specs.Prelude.{◌≡◌, ◌+◌, ◌-◌, ◌/◌, ◌%�
 ghost use Rattle.et_heap.specs.Objects.{slot_of, with_slot, with_referent, with_queue, with_monitor, referent_value, referent_of, new_object, most_objects, most_slots};
 ghost use Rattle.et_heap.specs.Stored.{is_stored, IsStored, IsNextStored, stored_at, without_stored_at, on_state, unlinked, with_next, with_last, without_first, stored_slots, stored_count, has_stored_room};
 ghost use Rattle.et_heap.specs.Links.{stored_with};
-ghost use Rattle.et_heap.specs.Pages.{page_size, all_places, IsPaged};
+ghost use Rattle.et_heap.specs.Pages.{page_at, place_in_page, all_places, IsPaged};
 
 use crate::fault::MakeFault;
 use crate::monitor::Monitor;
-use crate::page::{PLACES, Page};
+use crate::page::{PAGE_SIZE, Page};
 use crate::place::Place;
 use et_base::{ClassId, ObjectId, Value};
 use std::alloc::{AllocError, Global};
@@ -48,19 +48,21 @@ impl Model for Store {
 }
 
 /// In which page an object stands.
+#[inline(always)]
 fn page_of(o: ObjectId) -> usize
     requires { 0 < o }
-    ensures { result ≡ (o - 1) / page_size }
+    ensures { result ≡ page_at o }
 {
-    (o.number() as usize - 1) / PLACES
+    (o.number() as usize - 1) / PAGE_SIZE
 }
 
 /// At which place of its page an object stands.
+#[inline(always)]
 fn place_of(o: ObjectId) -> usize
     requires { 0 < o }
-    ensures { result ≡ (o - 1) % page_size }
+    ensures { result ≡ place_in_page o }
 {
-    (o.number() as usize - 1) % PLACES
+    (o.number() as usize - 1) % PAGE_SIZE
 }
 
 /// Puts an object at the end, into a new page where the last one has all places. After an error the places are as
@@ -73,10 +75,10 @@ fn push(alloc: Global, pages: &mut Vec<Page>, made: usize, object: Place) -> Res
         (all_places pages.new.items ≡ all_places pages.old.items ++ object ∷ []) }
     ensures err { OnErr result (pages.new.items ≡ pages.old.items) }
 {
-    if made % PLACES == 0 {
+    if made % PAGE_SIZE == 0 {
         pages.push(Page::begin(alloc, object)?)?;
     } else {
-        let page = &mut pages[made / PLACES];
+        let page = &mut pages[made / PAGE_SIZE];
         page.push(object)?;
     }
     Ok(())
@@ -119,6 +121,7 @@ impl Store {
     }
 
     /// The object of a number.
+    #[inline(always)]
     pub fn object(&self, o: ObjectId) -> &Place
         requires { IsStored self.now o }
         ensures { result.now ≡ Some (stored_at self.now o) }
@@ -127,6 +130,8 @@ impl Store {
     }
 
     /// Writes a slot of an object, and answers what stood there.
+    #[tactic(auto, using(crate::proofs::Pages::number_positive, crate::proofs::Writes::page_there))]
+    #[inline]
     pub fn set_slot(&mut self, o: ObjectId, i: u32, v: Value) -> Value
         requires held { IsStored self.old o }
         requires slot { i < length (stored_at self.old o).state.slots }
@@ -138,6 +143,7 @@ impl Store {
     }
 
     /// Writes the referent of an object, and answers the one before.
+    #[tactic(auto, using(crate::proofs::Pages::number_positive, crate::proofs::Writes::page_there, crate::proofs::Writes::place_held))]
     pub fn set_referent(&mut self, o: ObjectId, v: Value) -> Value
         requires { IsStored self.old o }
         ensures old { result ≡ referent_value (stored_at self.old o).state.referent }
@@ -148,6 +154,7 @@ impl Store {
     }
 
     /// Writes the queue of an object, and answers the one before.
+    #[tactic(auto, using(crate::proofs::Pages::number_positive, crate::proofs::Writes::page_there, crate::proofs::Writes::place_held))]
     pub fn set_queue(&mut self, o: ObjectId, v: Value) -> Value
         requires { IsStored self.old o }
         ensures old { result ≡ referent_value (stored_at self.old o).state.queue }
@@ -158,6 +165,7 @@ impl Store {
     }
 
     /// Writes the monitor of an object, and answers the one before.
+    #[tactic(auto, using(crate::proofs::Pages::number_positive, crate::proofs::Writes::page_there, crate::proofs::Writes::place_held))]
     pub fn set_monitor(&mut self, o: ObjectId, m: Monitor) -> Monitor
         requires { IsStored self.old o }
         ensures old { result ≡ (stored_at self.old o).state.monitor }
@@ -168,6 +176,7 @@ impl Store {
     }
 
     /// Writes the reference behind an object; it waits exactly where there is one.
+    #[tactic(auto, using(crate::proofs::Pages::number_positive, crate::proofs::Writes::page_there, crate::proofs::Writes::place_held))]
     pub fn set_next(&mut self, o: ObjectId, next: Option<ObjectId>)
         requires { IsStored self.old o }
         ensures { self.new ≡ stored_with (with_next next) o self.old }
@@ -177,6 +186,7 @@ impl Store {
     }
 
     /// Makes a reference the last of those that wait in an object.
+    #[tactic(auto, using(crate::proofs::Pages::number_positive, crate::proofs::Writes::page_there, crate::proofs::Writes::place_held))]
     pub fn push_last(&mut self, o: ObjectId, reference: ObjectId)
         requires { IsStored self.old o }
         ensures { self.new ≡ stored_with (with_last reference) o self.old }
@@ -186,6 +196,7 @@ impl Store {
     }
 
     /// Forgets the first of those that wait in an object. The last one is given: it is none where none is left.
+    #[tactic(auto, using(crate::proofs::Pages::number_positive, crate::proofs::Writes::page_there, crate::proofs::Writes::place_held))]
     pub fn drop_first(&mut self, o: ObjectId, last: Option<ObjectId>)
         requires { IsStored self.old o }
         ensures { self.new ≡ stored_with (without_first last) o self.old }
@@ -209,10 +220,10 @@ impl Store {
         ensures none { result ≡ None → (u : ℕ) → from ≤ u → ¬ IsStored self.now u }
     {
         let start = from.number().saturating_sub(1) as usize;
-        let mut place = start % PLACES;
-        for k in start / PLACES..self.pages.len() {
+        let mut place = start % PAGE_SIZE;
+        for k in start / PAGE_SIZE..self.pages.len() {
             if let Some(found) = self.pages[k].next_held(place) {
-                return Some(ObjectId::new((k * PLACES + found) as u32 + 1));
+                return Some(ObjectId::new((k * PAGE_SIZE + found) as u32 + 1));
             }
             place = 0;
         }
@@ -220,6 +231,7 @@ impl Store {
     }
 
     /// Takes an object out. Its number is not used again.
+    #[tactic(auto, using(crate::proofs::Writes::page_there, crate::proofs::Writes::place_held))]
     pub fn take_out(&mut self, o: ObjectId)
         requires { IsStored self.old o }
         ensures { self.new ≡ without_stored_at self.old o }

@@ -1,35 +1,10 @@
-use Rattle.std.proofs.Common.{refl, subst, sym, arith, ◌∙◌}
-use Rattle.et_heap.specs.Stored.{is_stored, without_first}
-use Rattle.et_heap.proofs.Pages.{number_positive, page-held-within, at-page, page-changed, written-view, written-counts}
+use Rattle.std.proofs.Common.{refl}
+use Rattle.et_heap.specs.Stored.{without_first}
+use Rattle.et_heap.proofs.Writes.{place_changed, change_kept}
 use Rattle.et_heap.proofs.store.Store.drop_first.Goals as goal
 
-pub page_of-requires : goal.page_of-requires
-page_of-requires c = number_positive _ c.self.inside.pages.items _ c.self.view_is c.requires
-
-pub place_of-requires : goal.place_of-requires
-place_of-requires c = number_positive _ c.self.inside.pages.items _ c.self.view_is c.requires
-
-pub index_mut-page-requires : goal.index_mut-page-requires
-index_mut-page-requires c = omega (arith, c.self.inside.pages.ok.0, page-held-within _ _ _ _ _ c.self.view_is c.self.invariant.paged c.requires c.page_of.ensures)
-
-pub drop_first-requires : goal.drop_first-requires
-drop_first-requires c =
-    let is = at-page _ _ _ _ _ _ _ c.self.view_is c.self.invariant.paged c.requires c.page_of.ensures c.place_of.ensures c.index_mut-page.ensures.value in
-    subst is_stored is c.requires
-
 pub returns : goal.returns
-returns c =
-    let written = page-changed _ _ _ _ _ _ _ _ (without_first c.args.last) c.self.view_is c.self.invariant.paged c.requires c.page_of.ensures c.place_of.ensures c.index_mut-page.ensures.value c.drop_first.ensures in
-    written-view _ _ _ _ _ _ c.self.view_is c.requires written
+returns c = place_changed (without_first c.args.last) _ _ _ _ _ _ _ c.self.view_is c.self.invariant c.requires c.page_of.ensures c.place_of.ensures c.index_mut-page.ensures.value c.drop_first.ensures
 
 pub invariant_of-self : goal.invariant_of-self
-invariant_of-self c =
-    let written = page-changed _ _ _ _ _ _ _ _ (without_first c.args.last) c.self.view_is c.self.invariant.paged c.requires c.page_of.ensures c.place_of.ensures c.index_mut-page.ensures.value c.drop_first.ensures in
-    let counts = written-counts _ _ _ _ _ _ c.self.view_is c.requires written refl in
-    record {
-      paged = written.paged;
-      held = c.self.invariant.held ∙ sym counts.0;
-      slots = c.self.invariant.slots ∙ sym counts.1;
-      few = c.self.invariant.few;
-      small = omega (arith, counts.1);
-    }
+invariant_of-self c = change_kept (without_first c.args.last) _ _ _ _ _ _ _ c.self.view_is c.self.invariant c.requires c.page_of.ensures c.place_of.ensures c.index_mut-page.ensures.value c.drop_first.ensures refl

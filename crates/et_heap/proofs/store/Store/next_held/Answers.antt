@@ -1,6 +1,6 @@
 use Rattle.std.proofs.Common.{◌≡◌, ◌+◌, ◌*◌, ℕ, refl, subst, arith}
 use Rattle.et_heap.specs.Stored.{IsNextStored}
-use Rattle.et_heap.specs.Pages.{page_size}
+use Rattle.et_heap.specs.declared.page.TheConstants.{PAGE_SIZE}
 use Rattle.et_heap.proofs.Pages.{found_below, next-found, none-page, none-end}
 use Rattle.et_heap.proofs.store.Store.next_held.Goals as goal
 
@@ -27,7 +27,7 @@ overflow_add-k-in-Some c =
 pub returns-in-Some-clause-some : goal.returns-in-Some-clause-some
 returns-in-Some-clause-some c =
     let next = next-found _ _ _ _ c.loop-k.k _ _ _ c.self.view_is c.self.invariant.paged (omega (arith, c.self.inside.pages.ok.0)) c.index.ensures c.loop-k.invariant.reached c.loop-k.invariant.none c.in-Some.ensures.some in
-    let e : page_size * c.loop-k.k + c.in-Some.found + 1 ≡ c.new.result = omega (arith, c.new.ensures) in
+    let e : PAGE_SIZE * c.loop-k.k + c.in-Some.found + 1 ≡ c.new.result = omega (arith, c.new.ensures) in
     subst (λ (o : ℕ). IsNextStored c.args.self.now c.args.from o) e next
 
 pub loop-k-preserved : goal.loop-k-preserved

@@ -1,17 +1,9 @@
 use Rattle.std.proofs.Common.{◌≡◌, ◌∷◌, length, None, ap, subst, sym, ◌∙◌, arith}
-use Rattle.et_heap.specs.Stored.{as_stored, IsStored, stored_at, is_stored, stored_slots, stored_count}
+use Rattle.et_heap.specs.Stored.{as_stored, IsStored, stored_at, stored_slots, stored_count}
 use Rattle.et_heap.specs.Pages.{all_places}
 use Rattle.et_heap.proofs.Places.{stored_count-without, stored_slots-without}
-use Rattle.et_heap.proofs.Pages.{page-held-within, at-page, page-written, written-view}
+use Rattle.et_heap.proofs.Pages.{page-written, written-view}
 use Rattle.et_heap.proofs.store.Store.take_out.Goals as goal
-
-pub index_mut-page-requires : goal.index_mut-page-requires
-index_mut-page-requires c = omega (arith, c.self.inside.pages.ok.0, page-held-within _ _ _ _ _ c.self.view_is c.self.invariant.paged c.requires c.page_of.ensures)
-
-pub take_out-requires : goal.take_out-requires
-take_out-requires c =
-    let is = at-page _ _ _ _ _ _ _ c.self.view_is c.self.invariant.paged c.requires c.page_of.ensures c.place_of.ensures c.index_mut-page.ensures.value in
-    subst is_stored is c.requires
 
 pub invariant_of-self : goal.invariant_of-self
 invariant_of-self c =
