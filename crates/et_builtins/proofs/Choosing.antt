@@ -13,7 +13,7 @@ use Rattle.et_program.specs.declared.info.MethodInfo.{MethodInfo}
 use Rattle.et_program.specs.declared.errors.LinkError.{LinkError}
 use Rattle.et_program.specs.declared.errors.LinkError.TheVariants.{NoSuchMethod, IncompatibleClassChange, AbstractMethod}
 use Rattle.et_event.specs.Moments.{Moment, current_frame}
-use Rattle.et_event.specs.Kinds.{returned_width}
+use Rattle.et_event.specs.Operands.{returned_width}
 use Rattle.et_builtins.specs.Plans.{HasCallRoom}
 use Rattle.et_builtins.specs.Types.{returned_in}
 

@@ -10,10 +10,10 @@ use Rattle.et_base.specs.declared.value.Value.{Value}
 use Rattle.et_base.specs.declared.value.Value.TheVariants.{Int, Long, LongHigh, Null, Ref}
 use Rattle.et_pool.specs.Descriptors.{MethodType, method_type, shape_of_method, is_return, returning, types_of, width_of}
 use Rattle.et_pool.specs.declared.descriptor.MethodShape.{MethodShape}
-use Rattle.et_event.specs.declared.rows.Operand.{Operand}
-use Rattle.et_event.specs.declared.rows.Operand.TheVariants as operand
+use Rattle.et_event.specs.PoolOperands.Operand.{Operand}
+use Rattle.et_event.specs.PoolOperands.Operand.TheVariants as operand
 use Rattle.et_event.specs.Calls.{are_of, are_arguments, arguments_of, begin_with, call_fits, entry_count}
-use Rattle.et_event.specs.Kinds.{operand_kind, kind_of_letter, returned_width}
+use Rattle.et_event.specs.Operands.{operand_kind, kind_of_letter, returned_width}
 use Rattle.et_event.specs.Moments.{Moment, current_frame}
 use Rattle.et_state.specs.Threads.{FrameState}
 use Rattle.et_builtins.specs.Arguments.{arguments_in}

@@ -7,10 +7,10 @@ use Rattle.et_base.specs.declared.value.Value.{Value}
 use Rattle.et_base.specs.declared.value.Value.TheVariants.{Unset, Int, Long, LongHigh, Null, Ref}
 use Rattle.et_pool.specs.Descriptors.{after_type, first_type, types_of}
 use Rattle.et_pool.proofs.Types.{with_types, types_front, types_end, types_none}
-use Rattle.et_event.specs.declared.rows.Operand.{Operand}
-use Rattle.et_event.specs.declared.rows.Operand.TheVariants as operand
+use Rattle.et_event.specs.PoolOperands.Operand.{Operand}
+use Rattle.et_event.specs.PoolOperands.Operand.TheVariants as operand
 use Rattle.et_event.specs.Calls.{are_of, begin_with, is_empty}
-use Rattle.et_event.specs.Kinds.{operand_kind}
+use Rattle.et_event.specs.Operands.{operand_kind}
 use Rattle.et_builtins.specs.Arguments.{entries_in, are_of_types, are_passed}
 
 -- ONE ARGUMENT

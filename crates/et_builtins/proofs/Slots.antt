@@ -15,7 +15,7 @@ use Rattle.et_program.specs.Entries.{Linked, class_at}
 use Rattle.et_program.specs.Members.{is_subclass}
 use Rattle.et_program.specs.declared.info.Element.{Element}
 use Rattle.et_program.specs.declared.info.Element.TheVariants.{NoArray}
-use Rattle.et_event.specs.declared.rows.Operand.TheVariants as operand
+use Rattle.et_event.specs.PoolOperands.Operand.TheVariants as operand
 use Rattle.et_event.specs.BuiltIns.{argument, is_fit_for, is_null_or_of_class, is_object_of_class, reference_of, takes_queue, uses_thread, uses_throwable}
 use Rattle.et_event.specs.Checks.{reference_value}
 use Rattle.et_event.specs.Errors.{class_called}

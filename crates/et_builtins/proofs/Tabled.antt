@@ -10,7 +10,7 @@ use Rattle.et_program.specs.declared.info.MethodInfo.{MethodInfo}
 use Rattle.et_event.specs.declared.rows.BuiltIn.{BuiltIn}
 use Rattle.et_event.specs.declared.rows.BuiltIn.TheVariants.{GetMessage, GetCause, GetReferent, Poll}
 use Rattle.et_event.specs.BuiltIns.{is_called, built_ins}
-use Rattle.et_event.specs.Kinds.{returned_width}
+use Rattle.et_event.specs.Operands.{returned_width}
 use Rattle.et_event.specs.Sound.{returned_of}
 use Rattle.et_builtins.specs.Kinds.{entries_answered, found_in}
 

@@ -5,10 +5,10 @@ use Rattle.et_base.specs.declared.value.Value.{Value}
 use Rattle.et_base.specs.declared.value.Value.TheVariants.{Int, Long, LongHigh, Null, Ref}
 use Rattle.et_pool.specs.Descriptors.{MethodType, types_of}
 use Rattle.et_state.specs.Threads.{FrameState}
-use Rattle.et_event.specs.declared.rows.Operand.{Operand}
-use Rattle.et_event.specs.declared.rows.Operand.TheVariants as operand
+use Rattle.et_event.specs.PoolOperands.Operand.{Operand}
+use Rattle.et_event.specs.PoolOperands.Operand.TheVariants as operand
 use Rattle.et_event.specs.Moments.{Moment}
-use Rattle.et_event.specs.Kinds.{returned_width}
+use Rattle.et_event.specs.Operands.{returned_width}
 use Rattle.et_event.specs.Calls.{are_of, begin_with, entry_count, call_fits}
 use Rattle.et_builtins.specs.Types.{returned_in}
 

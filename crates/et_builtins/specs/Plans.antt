@@ -9,7 +9,7 @@ use Rattle.et_event.specs.declared.errors.GuestError.{GuestError}
 use Rattle.et_event.specs.Calls.{arguments_of, dispatched, enters_method}
 use Rattle.et_event.specs.Moments.{Moment, begins, current_frame, ill_typed, throws, waits}
 use Rattle.et_event.specs.Initialization.{state_of}
-use Rattle.et_event.specs.Kinds.{returned_width}
+use Rattle.et_event.specs.Operands.{returned_width}
 use Rattle.et_event.specs.Sites.{Site}
 use Rattle.et_event.specs.Sound.{returned_of}
 use Rattle.et_builtins.specs.declared.plans.CallPlan.{CallPlan}

@@ -11,7 +11,7 @@ ghost use Rattle.et_state.specs.Words.{HasFrame, top};
 ghost use Rattle.et_program.specs.Entries.{Linked};
 ghost use Rattle.et_parts.specs.Tops.{IsIn};
 ghost use Rattle.et_event.specs.Frames.{first_reference};
-ghost use Rattle.et_event.specs.Kinds.{returned_width as width_returned};
+ghost use Rattle.et_event.specs.Operands.{returned_width as width_returned};
 ghost use Rattle.et_event.specs.Moments.{moment};
 ghost use Rattle.et_builtins.specs.Arguments.{arguments_in, are_of_types, are_passed, entries_in as entries_among, fitting, is_passing};
 ghost use Rattle.et_builtins.specs.Types.{returned_in};

@@ -2,7 +2,7 @@
 ghost use Rattle.std.specs.Str.{bytes_eq};
 ghost use Rattle.std.specs.Prelude.{◌≡◌, ◌&&◌, ◌≤◌, drop, IfSome};
 ghost use Rattle.et_event.specs.BuiltIns.{built_in_of as kind_of, built_ins};
-ghost use Rattle.et_event.specs.Kinds.{returned_width};
+ghost use Rattle.et_event.specs.Operands.{returned_width};
 ghost use Rattle.et_event.specs.Sound.{returned_of};
 ghost use Rattle.et_builtins.specs.Kinds.{entries_answered, found_in};
 

@@ -16,7 +16,7 @@ ghost use Rattle.et_event.specs.Calls.{arguments_of};
 ghost use Rattle.et_event.specs.Checks.{reference_value, waits_unless};
 ghost use Rattle.et_event.specs.Kinds.{or_zero};
 ghost use Rattle.et_event.specs.Moments.{moment, begins, goes};
-ghost use Rattle.et_event.specs.declared.rows.Operand.TheVariants as operand;
+ghost use Rattle.et_event.specs.PoolOperands.Operand.TheVariants as operand;
 ghost use Rattle.et_event.specs.Sites.{Site};
 ghost use Rattle.et_event.specs.Sound.{IsSoundFor};
 ghost use Rattle.et_event.specs.Programs.{HasMachineSlots};

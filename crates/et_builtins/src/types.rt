@@ -1,7 +1,7 @@
 //! The types in a method descriptor (JVMS 4.3.3), one after another.
 ghost use Rattle.std.specs.Prelude.{◌≡◌, ◌≤◌, length, option_map};
 ghost use Rattle.et_pool.specs.Descriptors.{types_of};
-ghost use Rattle.et_event.specs.Kinds.{operand_kind as kind, returned_width as width};
+ghost use Rattle.et_event.specs.Operands.{operand_kind as kind, returned_width as width};
 ghost use Rattle.et_builtins.specs.Types.{returned_in, returned_after};
 
 use et_event::Operand;

@@ -28,12 +28,12 @@ use Rattle.et_event.specs.declared.errors.GuestError.TheVariants.{IllegalMonitor
 use Rattle.et_event.specs.Answered.{EventAnswers}
 use Rattle.et_event.specs.Calls.{class_done_by, frame_returned, return, returned_by}
 use Rattle.et_event.specs.Checks.{throws_unless}
-use Rattle.et_event.specs.Kinds.{returned_width}
+use Rattle.et_event.specs.Operands.{returned_width}
 use Rattle.et_event.specs.Moments.{Moment, moment, Doing, begins, later, told, with_thread_state, goes, ill_typed, throws}
 use Rattle.et_event.specs.Monitors.{Lock, OfObject, OfClass, lock_in, left_once, left_some, owns_some}
 use Rattle.et_event.specs.Sites.{running_method}
 use Rattle.et_event.specs.Sound.{IsSoundFor, AreSoundFrames, IsAbove, IsStaged}
-use Rattle.et_event.specs.declared.rows.Operand.{Operand}
+use Rattle.et_event.specs.PoolOperands.Operand.{Operand}
 use Rattle.et_calls.proofs.Coming.{after_return, came_after_return}
 use Rattle.et_calls.proofs.Values.{by_values, entries_are_in, return_is, width_returned}
 use Rattle.et_calls.specs.Returned.{FitsBelow, IsValueIn, entries_returned, returned_values, returning_frame}

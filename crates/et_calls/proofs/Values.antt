@@ -10,8 +10,8 @@ use Rattle.et_base.proofs.Lists.{Contains-none}
 use Rattle.et_heap.specs.Refs.{refs_of}
 use Rattle.et_state.specs.Threads.{FrameState}
 use Rattle.et_state.specs.ThreadRoots.{frame_roots}
-use Rattle.et_event.specs.declared.rows.Operand.{Operand}
-use Rattle.et_event.specs.declared.rows.Operand.TheVariants as operand
+use Rattle.et_event.specs.PoolOperands.Operand.{Operand}
+use Rattle.et_event.specs.PoolOperands.Operand.TheVariants as operand
 use Rattle.et_state.specs.State.{Kept}
 use Rattle.et_state.specs.Outcome.{Outcome}
 use Rattle.et_event.specs.declared.errors.GuestError.TheVariants.{IllegalMonitorStateException}
@@ -20,7 +20,7 @@ use Rattle.et_event.specs.Checks.{with_value, entries_of, ill_typed_unless, thro
 use Rattle.et_event.specs.Moments.{Moment, begins, current_frame, goes, ill_typed}
 use Rattle.et_event.specs.Monitors.{lock_in, owns_some}
 use Rattle.et_event.specs.Sites.{running_method}
-use Rattle.et_event.specs.Kinds.{operand_kind, kind_of_letter, is_kind, may_return, returned_width}
+use Rattle.et_event.specs.Operands.{operand_kind, kind_of_letter, is_kind, may_return, returned_width}
 use Rattle.et_parts.specs.Tops.{IsIn}
 use Rattle.et_calls.specs.Returned.{IsValueIn, returned_value, value_in, values_of, entries_returned, returned_values, returning_frame}
 

@@ -5,8 +5,8 @@ use Rattle.et_base.specs.declared.value.Value.TheVariants.{Int, Long, LongHigh, 
 use Rattle.et_state.specs.declared.stage.Stage.{Stage}
 use Rattle.et_state.specs.declared.stage.Stage.TheVariants.{Plain, Before, Clinit}
 use Rattle.et_state.specs.Threads.{FrameState}
-use Rattle.et_event.specs.declared.rows.Operand.{Operand}
-use Rattle.et_event.specs.declared.rows.Operand.TheVariants as operand
+use Rattle.et_event.specs.PoolOperands.Operand.{Operand}
+use Rattle.et_event.specs.PoolOperands.Operand.TheVariants as operand
 use Rattle.et_state.specs.State.{Kept}
 use Rattle.et_state.specs.Outcome.{Outcome}
 use Rattle.et_event.specs.declared.errors.GuestError.TheVariants.{IllegalMonitorStateException}
@@ -15,7 +15,7 @@ use Rattle.et_event.specs.Checks.{with_value, entries_of, throws_unless}
 use Rattle.et_event.specs.Moments.{Moment, begins, current_frame, goes}
 use Rattle.et_event.specs.Monitors.{lock_in, owns_some}
 use Rattle.et_event.specs.Sites.{running_method}
-use Rattle.et_event.specs.Kinds.{may_return}
+use Rattle.et_event.specs.Operands.{may_return}
 use Rattle.et_parts.specs.Tops.{IsIn}
 
 -- the value of a kind that stands on top

@@ -1,7 +1,7 @@
 //! What a return hands to the caller, and the checks of it (JVMS 6.5, the returns).
 ghost use Rattle.std.specs.Prelude.{◌≡◌};
 ghost use Rattle.et_state.specs.Words.{HasFrame, top};
-ghost use Rattle.et_event.specs.Kinds.{is_kind as kind_is, may_return as may};
+ghost use Rattle.et_event.specs.Operands.{is_kind as kind_is, may_return as may};
 ghost use Rattle.et_calls.specs.Returned.{AreValuesIn, IsValueIn, value_in as value_among, returned_value, values_of, returned_values as values};
 ghost use Rattle.et_builtins.specs.Types.{returned_in};
 

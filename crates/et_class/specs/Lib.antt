@@ -17,6 +17,8 @@ pub use Rattle.et_pool.specs.Entries
 pub use Rattle.et_pool.specs.Looks
 pub use Rattle.et_pool.specs.Pools
 pub use Rattle.et_pool.specs.Descriptors
+pub use Rattle.et_pool.specs.Operands
+pub use Rattle.et_pool.specs.declared.operand as PoolOperands
 pub use Rattle.et_pool.specs.declared.tags as PoolTags
 pub use Rattle.et_code.specs.Bodies
 pub use Rattle.et_code.specs.Decoding

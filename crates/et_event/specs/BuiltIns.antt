@@ -21,7 +21,7 @@ use Rattle.et_event.specs.Moments.{Moment, Doing, current_frame, doing_with_gues
 use Rattle.et_event.specs.Errors.{class_called}
 use Rattle.et_event.specs.Checks.{Reference, reference_value, ill_typed_unless, throws_unless, waits_unless}
 use Rattle.et_event.specs.Kinds.{or_zero}
-use Rattle.et_event.specs.declared.rows.Operand.TheVariants as operand
+use Rattle.et_class.specs.PoolOperands.Operand.TheVariants as operand
 use Rattle.et_event.specs.Sites.{Site}
 use Rattle.et_event.specs.Frames.{first_reference}
 

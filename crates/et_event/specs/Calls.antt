@@ -18,8 +18,8 @@ use Rattle.et_state.specs.State.{Kept}
 use Rattle.et_state.specs.Words.{thread_at}
 use Rattle.et_state.specs.declared.records.Record.TheVariants.{Exit}
 use Rattle.et_state.specs.Outcome.{Outcome}
-use Rattle.et_event.specs.declared.rows.Operand.{Operand}
-use Rattle.et_event.specs.declared.rows.Operand.TheVariants as operand
+use Rattle.et_class.specs.PoolOperands.Operand.{Operand}
+use Rattle.et_class.specs.PoolOperands.Operand.TheVariants as operand
 use Rattle.et_event.specs.declared.rows.CallKind.{CallKind}
 use Rattle.et_event.specs.declared.rows.CallKind.TheVariants.{Virtual, Special, Static, Interface}
 use Rattle.et_event.specs.declared.rows.CallRow.{CallRow}
@@ -29,7 +29,7 @@ use Rattle.et_event.specs.Errors.{class_called}
 use Rattle.et_event.specs.Moments.{Moment, Doing, thread_of, current_frame, begins, told, with_thread_state, with_frame, object_class, ill_typed, goes, throws}
 use Rattle.et_event.specs.Checks.{with_value, entries_of, ill_typed_unless, resolved, after_selection, throws_unless, not_null}
 use Rattle.et_event.specs.Sites.{Site, Member, site_member, names_interface, running_method}
-use Rattle.et_event.specs.Kinds.{operand_kind, may_return, returned_width}
+use Rattle.et_class.specs.Operands.{operand_kind, may_return, returned_width}
 use Rattle.et_event.specs.Initialization.{initialized, with_state}
 use Rattle.et_event.specs.Monitors.{lock_in, owns_some, left_some}
 use Rattle.et_event.specs.Frames.{first_reference, enters, frames_after_return}

@@ -23,8 +23,8 @@ use Rattle.et_program.specs.declared.errors.LinkError.{LinkError}
 use Rattle.et_state.specs.Outcome.{Outcome}
 use Rattle.et_event.specs.declared.errors.GuestError.{GuestError}
 use Rattle.et_event.specs.declared.errors.GuestError.TheVariants.{NullPointerException, StackOverflowError}
-use Rattle.et_event.specs.declared.rows.Operand.{Operand}
-use Rattle.et_event.specs.declared.rows.Operand.TheVariants as operand
+use Rattle.et_class.specs.PoolOperands.Operand.{Operand}
+use Rattle.et_class.specs.PoolOperands.Operand.TheVariants as operand
 use Rattle.et_event.specs.Errors.{error_of}
 use Rattle.et_event.specs.Moments.{Moment, Doing, ill_typed, waits, throws}
 

@@ -23,7 +23,8 @@ use Rattle.et_event.specs.declared.errors.GuestError.TheVariants.{ArrayIndexOutO
 use Rattle.et_event.specs.Moments.{Moment, Doing, current_frame, begins, with_frame, object_class, next_object, instance_made, array_made, slot_written, static_written, ill_typed, goes, ends_event}
 use Rattle.et_event.specs.Checks.{Reference, with_int, with_reference, with_value, entries_of, ill_typed_unless, resolved, throws_unless, not_null}
 use Rattle.et_event.specs.Sites.{Site, Member, site_member, class_operand, natural_of}
-use Rattle.et_event.specs.Kinds.{operand_kind, kind_of_field, or_zero, narrowed, kind_of_elements, are_elements, is_array_element, kept_element, in_bounds}
+use Rattle.et_event.specs.Kinds.{kind_of_field, or_zero, narrowed, kind_of_elements, are_elements, is_array_element, kept_element, in_bounds}
+use Rattle.et_class.specs.Operands.{operand_kind}
 use Rattle.et_event.specs.Initialization.{initialized}
 
 -- the instruction is done, and its operands became these

@@ -3,43 +3,18 @@ use Rattle.std.specs.Prelude.{ℕ, ℤ, pos, ◌==◌, ◌||◌, ◌&&◌, Bool,
 use Rattle.et_base.specs.declared.value.Value.{Value}
 use Rattle.et_base.specs.declared.value.Value.TheVariants.{Unset, Int, Long, LongHigh, Null, Ref}
 use Rattle.et_base.specs.Integers.{to_byte, to_char, to_short}
-use Rattle.et_class.specs.Descriptors.{is_field_descriptor, is_void, width_of}
+use Rattle.et_class.specs.Descriptors.{is_field_descriptor}
+use Rattle.et_class.specs.Operands.{operand_kind}
 use Rattle.et_program.specs.declared.info.Element.{Element}
 use Rattle.et_program.specs.declared.info.Element.TheVariants.{NoArray, Base, Class}
-use Rattle.et_event.specs.declared.rows.Operand.{Operand}
-use Rattle.et_event.specs.declared.rows.Operand.TheVariants as operand
+use Rattle.et_class.specs.PoolOperands.Operand.{Operand}
+use Rattle.et_class.specs.PoolOperands.Operand.TheVariants as operand
 use Rattle.et_event.specs.declared.rows.Elements.{Elements}
 use Rattle.et_event.specs.declared.rows.Elements.TheVariants as elements
-
--- the operands of a type, by its first letter: B, C, I, S and Z; J; L and arrays. No operand is of type D or F
-abbrev pub kind_of_letter : ℕ → Option Operand
-kind_of_letter a =
-    if (a == 66) || (a == 67) || (a == 73) || (a == 83) || (a == 90) then Some operand.Int
-    else (if a == 74 then Some operand.Long
-    else (if (a == 76) || (a == 91) then Some operand.Reference else None))
-
-abbrev pub operand_kind : List ℕ → Option Operand
-operand_kind [] = None
-operand_kind (a ∷ rest) = kind_of_letter a
 
 -- no operand is of what isn't a type
 abbrev pub kind_of_field : List ℕ → Option Operand
 kind_of_field descriptor = if is_field_descriptor descriptor then operand_kind descriptor else None
-
--- an instruction that returns this kind, or nothing, may return that type (JVMS 6.5)
-abbrev pub is_kind : Operand → Option Operand → Bool
-is_kind operand.Int (Some operand.Int) = true
-is_kind operand.Long (Some operand.Long) = true
-is_kind operand.Reference (Some operand.Reference) = true
-is_kind kind other = false
-
-abbrev pub may_return : Option Operand → List ℕ → Bool
-may_return None returned = is_void returned
-may_return (Some kind) returned = is_kind kind (operand_kind returned)
-
--- how many entries what is returned takes
-abbrev pub returned_width : List ℕ → ℕ
-returned_width returned = if is_void returned then 0 else width_of returned
 
 -- 0 or null (JVMS 2.3, 2.4): what a field or element holds to which nothing was written
 abbrev pub zero_of : Option Operand → Value

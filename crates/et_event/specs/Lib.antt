@@ -25,3 +25,5 @@ pub mod Interfaces
 pub mod Runnable
 pub mod Families
 pub mod Beginning
+pub use Rattle.et_class.specs.Operands
+pub use Rattle.et_class.specs.PoolOperands

@@ -9,8 +9,8 @@ use Rattle.et_code.specs.Switches.{target_of}
 use Rattle.et_state.specs.Threads.{FrameState, local_of}
 use Rattle.et_state.specs.State.{Kept}
 use Rattle.et_state.specs.Outcome.{Outcome}
-use Rattle.et_event.specs.declared.rows.Operand.{Operand}
-use Rattle.et_event.specs.declared.rows.Operand.TheVariants as operand
+use Rattle.et_class.specs.PoolOperands.Operand.{Operand}
+use Rattle.et_class.specs.PoolOperands.Operand.TheVariants as operand
 use Rattle.et_event.specs.declared.rows.Local.TheVariants.{Named}
 use Rattle.et_event.specs.declared.rows.Number.{Number}
 use Rattle.et_event.specs.declared.rows.Number.TheVariants as number

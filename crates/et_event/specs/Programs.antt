@@ -27,7 +27,8 @@ use Rattle.et_event.specs.Table.{row_of}
 use Rattle.et_event.specs.Calls.{entry_count}
 use Rattle.et_event.specs.Errors.{error_name, class_called}
 use Rattle.et_event.specs.Heap.{may_be_made}
-use Rattle.et_event.specs.Kinds.{is_array_element, operand_kind}
+use Rattle.et_event.specs.Kinds.{is_array_element}
+use Rattle.et_class.specs.Operands.{operand_kind}
 use Rattle.et_event.specs.Sites.{Site, Member, LoadedConstant, AnInt, ALong, AString, constant_at, site_member, pool_of_class, natural_of}
 use Rattle.et_event.specs.Sound.{is_of_kind, kind_of_element, returned_of, IsSoundObject}
 

@@ -25,8 +25,8 @@ use Rattle.et_state.specs.declared.class_state.ClassState.TheVariants.{Untouched
 use Rattle.et_state.specs.State.{GuestState, Kept}
 use Rattle.et_state.specs.Words.{thread_at, class_state_at, static_at}
 use Rattle.et_state.specs.Sound.{IsSound}
-use Rattle.et_event.specs.declared.rows.Operand.{Operand}
-use Rattle.et_event.specs.declared.rows.Operand.TheVariants as operand
+use Rattle.et_class.specs.PoolOperands.Operand.{Operand}
+use Rattle.et_class.specs.PoolOperands.Operand.TheVariants as operand
 use Rattle.et_event.specs.declared.rows.CallKind.{CallKind}
 use Rattle.et_event.specs.declared.rows.CallRow.TheVariants.{Invoke}
 use Rattle.et_event.specs.declared.rows.Row.TheVariants.{Call}
@@ -34,7 +34,7 @@ use Rattle.et_event.specs.Table.{row_of}
 use Rattle.et_event.specs.Errors.{class_called}
 use Rattle.et_event.specs.Moments.{fits_heap}
 use Rattle.et_event.specs.Sites.{Member, site_member, site_of, running_method, decoded_at}
-use Rattle.et_event.specs.Kinds.{operand_kind, returned_width}
+use Rattle.et_class.specs.Operands.{operand_kind, returned_width}
 
 -- VALUES IN SLOTS: nothing was written to it, or a value of its type
 

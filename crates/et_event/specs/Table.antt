@@ -1,7 +1,7 @@
 -- THE TABLE OF INSTRUCTIONS: the row of each opcode, in the groups of JVMS chapter 7. The section of 6.5 of that name says
 -- what an instruction does. Opcodes that aren't here are of instructions that no class file of the profile has.
 use Rattle.std.specs.Prelude.{ℕ, pos, negsuc, ◌==◌, if◌then◌else◌, List, [], ◌∷◌, ◌++◌, Option, Some, None}
-use Rattle.et_event.specs.declared.rows.Operand.TheVariants as operand
+use Rattle.et_class.specs.PoolOperands.Operand.TheVariants as operand
 use Rattle.et_event.specs.declared.rows.Number.TheVariants as number
 use Rattle.et_event.specs.declared.rows.Local.TheVariants.{Named, At}
 use Rattle.et_event.specs.declared.rows.Rearrangement.TheVariants as stack

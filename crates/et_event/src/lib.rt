@@ -8,9 +8,10 @@ mod rows;
 mod table;
 
 pub use errors::GuestError;
+pub use et_class::Operand;
 pub use families::Family;
 pub use rows::{
     Arithmetic, BuiltIn, CallKind, CallRow, Comparison, Condition, Conversion, Division, Elements,
-    FrameRow, HeapRow, Local, MonitorRow, Number, Operand, Rearrangement, Row, Shift,
+    FrameRow, HeapRow, Local, MonitorRow, Number, Rearrangement, Row, Shift,
 };
 pub use table::row_of;

@@ -1,14 +1,5 @@
 //! The rows of the table: what an instruction does, by its shape and its parameters.
-/// A kind of operands (JVMS 2.11.1). Of the types boolean, byte, char, short and int all operands are ints.
-#[derive(Clone, Copy, Debug, PartialEq, Eq)]
-pub enum Operand {
-    /// An int, in one entry.
-    Int,
-    /// A long, in two entries.
-    Long,
-    /// A reference to an object, or null, in one entry.
-    Reference,
-}
+use et_class::Operand;
 
 /// The two types of numbers that operands have (JVMS 2.11.1).
 #[derive(Clone, Copy, Debug, PartialEq, Eq)]

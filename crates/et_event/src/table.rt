@@ -18,8 +18,9 @@ use crate::rows::HeapRow::{
 use crate::rows::MonitorRow::{Enter, Exit};
 use crate::rows::Row::{Call, Divide, Frame, Heap, Monitor, PoolConstant, Throw};
 use crate::rows::{
-    Arithmetic, Condition, Elements, FrameRow, Local, Number, Operand, Rearrangement, Row, Shift,
+    Arithmetic, Condition, Elements, FrameRow, Local, Number, Rearrangement, Row, Shift,
 };
+use et_class::Operand;
 
 /// The rows in the order of the opcodes.
 static ROWS: [Option<Row>; 256] = [

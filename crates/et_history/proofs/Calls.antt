@@ -29,7 +29,7 @@ use Rattle.et_event.specs.Calls.{is_static_call, call_fits, with_type, with_meth
 use Rattle.et_event.specs.Checks.{after_selection, ill_typed_unless, reference_value}
 use Rattle.et_event.specs.Errors.{class_called}
 use Rattle.et_event.specs.Frames.{first_reference, receiver_of, lock_slot, frame_entered, method_frame, by_code, enters}
-use Rattle.et_event.specs.declared.rows.Operand.TheVariants as operand
+use Rattle.et_event.specs.PoolOperands.Operand.TheVariants as operand
 use Rattle.et_event.specs.Moments.{Moment, Doing, object_class, current_frame, thread_of, begins, with_thread_state, slot_written, goes, throws}
 use Rattle.et_event.specs.Monitors.{Lock, OfObject, OfClass, monitor_of, lock_for, lock_in, is_open_to, may_enter, may_enter_some, entered_some}
 use Rattle.et_event.specs.Sites.{Site, Member, site_member, names_interface, running_method}

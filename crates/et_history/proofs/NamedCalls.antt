@@ -29,7 +29,7 @@ use Rattle.et_event.specs.declared.rows.CallKind.{CallKind}
 use Rattle.et_event.specs.declared.rows.CallKind.TheVariants.{Virtual, Special, Static, Interface}
 use Rattle.et_event.specs.declared.rows.CallRow.{CallRow}
 use Rattle.et_event.specs.declared.rows.CallRow.TheVariants as row
-use Rattle.et_event.specs.declared.rows.Operand.{Operand}
+use Rattle.et_event.specs.PoolOperands.Operand.{Operand}
 use Rattle.et_event.specs.declared.errors.GuestError.TheVariants as errors
 use Rattle.et_event.specs.BuiltIns.{built_in_of, argument, answering, reference_in, with_referent_of, reference_of, starts_thread, with_thread_for, has_thread_ended, built_in_row, done_by, built_in_event, with_reference_made, with_first_taken, is_null_or_of_class}
 use Rattle.et_event.specs.Calls.{is_static_call, call_fits, with_type, with_method, taking, enters_method, is_of_owner, special_class, dispatched, is_as, invoke, with_returned, class_done_by, frame_returned, returned_by, return, call_event, entering_frame, entry_arguments, enters_first, enters_run, entry_call}
@@ -37,7 +37,7 @@ use Rattle.et_event.specs.Checks.{after_selection, ill_typed_unless, entries_of}
 use Rattle.et_event.specs.Errors.{class_called, error_class}
 use Rattle.et_event.specs.Frames.{first_reference, receiver_of, frame_entered, method_frame, by_code, enters, frames_after_return}
 use Rattle.et_event.specs.Initialization.{with_state, prepared, is_ready, enters_clinit, step_by, initialization_step}
-use Rattle.et_event.specs.Kinds.{may_return}
+use Rattle.et_event.specs.Operands.{may_return}
 use Rattle.et_event.specs.Moments.{Moment, Doing, object_class, current_frame, thread_of, begins, told, with_frame, with_thread_state, next_object, instance_made, slot_written, ill_typed, ends_event, goes, throws}
 use Rattle.et_event.specs.Monitors.{Lock, lock_for, lock_in, may_enter_some, entered_some, owns, owns_some, left, left_some}
 use Rattle.et_event.specs.Sites.{Site, Member, site_member, names_interface, running_method, present_body}

@@ -13,8 +13,8 @@ use Rattle.et_state.specs.Outcome.{Outcome}
 use Rattle.et_state.specs.Outcome as outcome
 use Rattle.et_event.specs.declared.errors.GuestError.{GuestError}
 use Rattle.et_event.specs.declared.errors.GuestError.TheVariants.{NullPointerException, StackOverflowError, NoClassDefFoundError}
-use Rattle.et_event.specs.declared.rows.Operand.{Operand}
-use Rattle.et_event.specs.declared.rows.Operand.TheVariants as operand
+use Rattle.et_event.specs.PoolOperands.Operand.{Operand}
+use Rattle.et_event.specs.PoolOperands.Operand.TheVariants as operand
 use Rattle.et_event.specs.Checks.{Reference, reference_value, with_int, with_long, with_reference, with_value, ill_typed_unless, resolved, throws_unless, not_null, waits_unless, frame_fits}
 use Rattle.et_event.specs.Errors.{class_called, error_class, error_of}
 use Rattle.et_event.specs.Initialization.{state_of, is_quiet, quietly_done, begun_by, begins_class, needed, initialized}

@@ -30,7 +30,7 @@ use Rattle.et_event.specs.declared.rows.BuiltIn.TheVariants as built
 use Rattle.et_event.specs.declared.rows.CallKind.{CallKind}
 use Rattle.et_event.specs.declared.rows.CallKind.TheVariants.{Virtual, Special, Static, Interface}
 use Rattle.et_event.specs.declared.rows.CallRow.TheVariants as calls
-use Rattle.et_event.specs.declared.rows.Operand.{Operand}
+use Rattle.et_event.specs.PoolOperands.Operand.{Operand}
 use Rattle.et_event.specs.declared.rows.Row.{Row}
 use Rattle.et_event.specs.declared.rows.Row.TheVariants as row
 use Rattle.et_event.specs.declared.errors.GuestError.TheVariants as errors
@@ -41,7 +41,7 @@ use Rattle.et_event.specs.Errors.{class_called, error_class}
 use Rattle.et_event.specs.Event.{by_row, by_instruction, initializes, does_turn, event}
 use Rattle.et_event.specs.Frames.{first_reference, receiver_of, frame_entered, method_frame, by_code, enters, frames_after_return}
 use Rattle.et_event.specs.Initialization.{with_state, prepared, is_ready, enters_clinit, step_by, initialization_step}
-use Rattle.et_event.specs.Kinds.{may_return}
+use Rattle.et_event.specs.Operands.{may_return}
 use Rattle.et_event.specs.Moments.{Moment, Doing, object_class, current_frame, thread_of, begins, told, with_frame, with_thread_state, next_object, instance_made, slot_written, pending_now, ill_typed, ends_event, goes, throws}
 use Rattle.et_event.specs.Monitors.{Lock, monitor_of, lock_for, lock_in, may_enter_some, entered_some, owns, owns_some, left, left_some, left_once}
 use Rattle.et_event.specs.Plain.{frame_after}

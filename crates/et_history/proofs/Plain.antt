@@ -5,8 +5,8 @@ use Rattle.et_base.specs.declared.value.Value.{Value}
 use Rattle.et_base.specs.declared.value.Value.TheVariants.{Unset, Int, Long, LongHigh, Null, Ref}
 use Rattle.et_heap.specs.Objects.{Objects}
 use Rattle.et_state.specs.Threads.{FrameState, local_of}
-use Rattle.et_event.specs.declared.rows.Operand.{Operand}
-use Rattle.et_event.specs.declared.rows.Operand.TheVariants as operand
+use Rattle.et_event.specs.PoolOperands.Operand.{Operand}
+use Rattle.et_event.specs.PoolOperands.Operand.TheVariants as operand
 use Rattle.et_event.specs.declared.rows.Local.TheVariants.{Named}
 use Rattle.et_event.specs.declared.rows.Number.{Number}
 use Rattle.et_event.specs.declared.rows.Number.TheVariants as number

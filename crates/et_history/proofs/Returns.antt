@@ -15,14 +15,14 @@ use Rattle.et_state.specs.State.{Kept}
 use Rattle.et_state.specs.Words.{thread_at}
 use Rattle.et_state.specs.declared.records.Record.TheVariants.{Enter, Unwind}
 use Rattle.et_state.specs.Outcome.{Outcome}
-use Rattle.et_event.specs.declared.rows.Operand.{Operand}
+use Rattle.et_event.specs.PoolOperands.Operand.{Operand}
 use Rattle.et_event.specs.declared.errors.GuestError.TheVariants as errors
 use Rattle.et_event.specs.Calls.{with_returned, class_done_by, frame_returned, returned_by, return}
 use Rattle.et_event.specs.Checks.{entries_of}
 use Rattle.et_event.specs.Errors.{error_class}
 use Rattle.et_event.specs.Frames.{resumed, frames_after_return}
 use Rattle.et_event.specs.Initialization.{with_state, prepared, is_ready, enters_clinit, step_by, initialization_step}
-use Rattle.et_event.specs.Kinds.{may_return}
+use Rattle.et_event.specs.Operands.{may_return}
 use Rattle.et_event.specs.Moments.{Moment, Doing, object_class, current_frame, thread_of, begins, told, with_frame, with_thread_state, next_object, instance_made, slot_written, ill_typed, ends_event, goes}
 use Rattle.et_event.specs.Monitors.{Lock, lock_in, owns, owns_some, left, left_some}
 use Rattle.et_event.specs.Sites.{running_method, present_body}

@@ -28,7 +28,8 @@ use Rattle.et_event.specs.Checks.{Reference, entries_of, resolved}
 use Rattle.et_event.specs.Errors.{error_of}
 use Rattle.et_event.specs.Heap.{naturals, field_fits, is_static_at, element_of_array, length_of, passes_element, may_be_made, leaving_values, with_field, with_class, with_holder, with_element, resolved_class, resolved_field, get_static, put_static, get_field, put_field, load_element, store_element, array_length, new_instance, new_array_of, new_array, new_reference_array, with_lengths, element_class, filled, arrays_made, new_multi_array, cast, type_tested, truth, heap_event}
 use Rattle.et_event.specs.Moments.{Moment, Doing, object_class, current_frame, thread_of, begins, next_object, instance_made, array_made, slot_written, static_written, pending_now, with_frame, with_thread_state, ill_typed, ends_event, goes}
-use Rattle.et_event.specs.Kinds.{operand_kind, kind_of_field, or_zero, narrowed, are_elements, in_bounds, is_array_element, kept_element, kind_of_elements}
+use Rattle.et_event.specs.Kinds.{kind_of_field, or_zero, narrowed, are_elements, in_bounds, is_array_element, kept_element, kind_of_elements}
+use Rattle.et_event.specs.Operands.{operand_kind}
 use Rattle.et_event.specs.Plain.{on_frame, constant, divided, quotient, divides, put}
 use Rattle.et_event.specs.Sites.{Site, Member, LoadedConstant, AnInt, ALong, AString, site_member, class_operand, natural_of}
 use Rattle.et_event.specs.Strings.{interned, string_object}

@@ -29,7 +29,7 @@ use Rattle.et_program.specs.LinkFaults.{IsLinkable}
 use Rattle.et_program.specs.MembersOf.{numbered, methods_of, fields_of, boot_field, boot_fields, file_field, file_fields, AreBootPools, HasPools, file_pool}
 use Rattle.et_program.specs.ProgramOf.{class_names_of, heads_of, program_with, IsProgramOf}
 use Rattle.et_program.specs.Slots.{is_static_field, is_instance_of, slots_above, slot_of_field}
-use Rattle.et_event.specs.Kinds.{operand_kind}
+use Rattle.et_event.specs.Operands.{operand_kind}
 use Rattle.et_event.specs.Sites.{LoadedConstant, constant_at, no_constants, pool_of_class}
 use Rattle.et_event.specs.Sound.{is_of_kind, returned_of}
 use Rattle.et_event.specs.Programs.{HasConstant, IsInitializer, HasInitializers, value_like}

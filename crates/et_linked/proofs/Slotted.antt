@@ -31,7 +31,8 @@ use Rattle.et_program.specs.Slots.{is_static_field, is_instance_of, own_slots, s
 use Rattle.et_link.proofs.TabledLemmas.{length-singles, length-classes, length-placed, fields_within}
 use Rattle.et_heap.specs.Objects.{new_object}
 use Rattle.et_event.specs.Heap.{may_be_made}
-use Rattle.et_event.specs.Kinds.{is_array_element, operand_kind}
+use Rattle.et_event.specs.Kinds.{is_array_element}
+use Rattle.et_event.specs.Operands.{operand_kind}
 use Rattle.et_event.specs.Sound.{is_of_kind, kind_of_element, slots_by, HasField, IsSoundObject}
 use Rattle.et_event.specs.Programs.{HasInstanceField, HasSlots}
 use Rattle.et_linked.specs.Interfaces.{HaveStaticFields}

@@ -23,9 +23,9 @@ use Rattle.et_state.specs.Roots.{roots_of}
 use Rattle.et_state.specs.Sound.{IsSound}
 use Rattle.et_state.specs.declared.records.Record.TheVariants.{Alloc}
 use Rattle.et_state.specs.Naming.{Names, IsNamed}
-use Rattle.et_event.specs.declared.rows.Operand.{Operand}
-use Rattle.et_event.specs.declared.rows.Operand.TheVariants as operand
-use Rattle.et_event.specs.Kinds.{operand_kind}
+use Rattle.et_event.specs.PoolOperands.Operand.{Operand}
+use Rattle.et_event.specs.PoolOperands.Operand.TheVariants as operand
+use Rattle.et_event.specs.Operands.{operand_kind}
 use Rattle.et_event.specs.Sound.{is_of_kind, IsSoundObject, IsSoundMonitor, IsSoundThread, IsSoundClassState, IsSoundStatic, IsSoundFor}
 use Rattle.et_state.specs.Start.{argument_class, is_class_of_file, first_class_state, class_states_from, start}
 use Rattle.et_event.specs.Start.{start_records}

@@ -19,10 +19,10 @@ use Rattle.et_class.specs.Fields.{is_constant, is_constant_for, is_constant_valu
 use Rattle.et_class.specs.Layout.{ClassOf, MemberOf, AttributeOf}
 use Rattle.et_class.specs.Names.{has}
 use Rattle.et_hierarchy.proofs.Names.{same_name}
-use Rattle.et_event.specs.Kinds.{operand_kind, kind_of_letter}
+use Rattle.et_event.specs.Operands.{operand_kind, kind_of_letter}
 use Rattle.et_event.specs.Sites.{LoadedConstant, AnInt, ALong, AString, constant_at}
 use Rattle.et_event.specs.Sound.{is_of_kind}
-use Rattle.et_event.specs.declared.rows.Operand.TheVariants as operand
+use Rattle.et_event.specs.PoolOperands.Operand.TheVariants as operand
 use Rattle.et_program.specs.Files.{or_empty}
 use Rattle.et_program.specs.Loaded.{LoadedMember, loaded_class, loaded_field}
 use Rattle.et_program.specs.MembersOf.{pool_text}

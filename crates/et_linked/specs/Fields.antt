@@ -2,7 +2,7 @@
 use Rattle.std.specs.Prelude.{◌≡◌, true, false, ◌==◌, All, Some}
 use Rattle.et_class.specs.Names.{has}
 use Rattle.et_class.specs.declared.flags.TheConstants.{STATIC, INTERFACE}
-use Rattle.et_event.specs.Kinds.{operand_kind}
+use Rattle.et_event.specs.Operands.{operand_kind}
 use Rattle.et_event.specs.Sites.{LoadedConstant, constant_at}
 use Rattle.et_event.specs.Sound.{is_of_kind}
 use Rattle.et_program.specs.Loaded.{LoadedClass, LoadedMember}

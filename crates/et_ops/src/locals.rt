@@ -6,7 +6,7 @@ ghost use Rattle.et_state.specs.Words.{HasFrame, top};
 ghost use Rattle.et_state.specs.Sound.{IsSound};
 ghost use Rattle.et_event.specs.Answered.{StepsFrame};
 ghost use Rattle.et_event.specs.Plain.{loaded, put_some};
-ghost use Rattle.et_event.specs.declared.rows.Operand.TheVariants as operand;
+ghost use Rattle.et_event.specs.PoolOperands.Operand.TheVariants as operand;
 ghost use Rattle.et_parts.specs.Tops.{IsIn};
 
 use et_base::{ThreadId, Value};

@@ -8,7 +8,7 @@ ghost use Rattle.et_state.specs.Sound.{IsSound};
 ghost use Rattle.et_state.specs.Moves.{Led};
 ghost use Rattle.et_event.specs.Answered.{StepsFrame};
 ghost use Rattle.et_event.specs.Plain.{increased, long_stored, one_stored, stored};
-ghost use Rattle.et_event.specs.declared.rows.Operand.TheVariants as operand;
+ghost use Rattle.et_event.specs.PoolOperands.Operand.TheVariants as operand;
 ghost use Rattle.et_ops.specs.Tops.{half_beside as half, half_of, unset_at, refs_at};
 
 use crate::locals::local_at;

@@ -2,6 +2,7 @@
 use Rattle.std.proofs.Common.{◌≡◌, ℕ, ◌+◌, ◌-◌, ◌<◌, ◌≤◌, ◌*◌, zero, suc, ◌||◌, Bool, true, false, cond, eqb, List, [], ◌∷◌, length, get_or, drop, Option, Some, None, refl, sym, ap, ◌∙◌, arith}
 use Rattle.std.specs.Prelude.{option_map, option_and_then, fold}
 use Rattle.std.specs.List.{list_any}
+use Rattle.std.proofs.lemmas.Bool.{eqb-true}
 use Rattle.std.proofs.lemmas.List.{at_drop_more}
 use Rattle.et_pool.specs.Descriptors.{after_name, after_element, after_dimensions, first_type, types_of, parameters_of, width_of, is_floating}
 
@@ -12,6 +13,15 @@ name_at s i lt = at_drop_more after_name s i 0 lt
 pub dimensions_at : (more : ℕ) (s : List ℕ) (i : ℕ) → i < length s → after_dimensions more (drop i s) ≡ cond (eqb (get_or s i 0) 91) (cond (eqb more 0) None (after_dimensions (more - 1) (drop (i + 1) s))) (after_element (get_or s i 0) (drop (i + 1) s))
 unfolding after_dimensions
 dimensions_at more s i lt = at_drop_more (after_dimensions more) s i 0 lt
+
+pub some_left : (s : List ℕ) → false ≡ eqb (length s) 0 → 0 < length s
+some_left s e = grind arith
+
+pub none_left : (s : List ℕ) → true ≡ eqb (length s) 0 → length s ≡ 0
+none_left s e = eqb-true _ _ (sym e)
+
+pub not_end : (n : ℕ) → ¬ (n ≡ 41) → eqb n 41 ≡ false
+not_end n h = grind arith
 
 -- a type and the types behind it
 abbrev pub with_types : ℕ → List ℕ × List ℕ → Option (List (List ℕ) × List ℕ)
@@ -67,7 +77,7 @@ with_first : (entries : ℕ) (floating : Bool) (first : List ℕ) (o : Option (L
 with_first entries floating first None = refl
 with_first entries floating first (Some x) = ap (λ (f : Bool). Some (fold (λ n t. n + width_of t) (entries + width_of first) x.0, f, x.1)) (sym (or_assoc floating (is_floating first) (list_any is_floating x.0)))
 
-width_small : (t : List ℕ) → width_of t ≤ 2
+pub width_small : (t : List ℕ) → width_of t ≤ 2
 width_small [] = omega arith
 width_small (a ∷ rest) = elim ((eqb a 68) || (eqb a 74)) as (λ b. cond b 2 1 ≤ 2) [ true ↦ omega arith | false ↦ omega arith ]
 

@@ -4,5 +4,6 @@ pub mod Entries
 pub mod Reading
 pub mod Pools
 pub mod Descriptors
+pub mod Operands
 pub mod Looks
 pub mod Spelling

@@ -98,13 +98,13 @@ pub fn is_void_text(s: &[u8]) -> bool
     }
 }
 
-fn is_return_text(s: &[u8]) -> bool
+pub(crate) fn is_return_text(s: &[u8]) -> bool
     ensures { result ≡ is_return s.now }
 {
     is_void_text(s) || is_field_descriptor(s)
 }
 
-fn type_and_rest(s: &[u8]) -> Option<(&[u8], &[u8])>
+pub(crate) fn type_and_rest(s: &[u8]) -> Option<(&[u8], &[u8])>
     ensures value { option_map (λ x. (x.0.now, x.1.now)) result ≡ first_type s.now }
     ensures shorter { IfSome result (λ x. length x.1.now < length s.now) }
 {
@@ -112,8 +112,10 @@ fn type_and_rest(s: &[u8]) -> Option<(&[u8], &[u8])>
     Some((&s[..s.len() - rest.len()], rest))
 }
 
-fn entries_of_type(s: &[u8]) -> usize
-    ensures { result ≡ width_of s.now }
+/// How many entries a value of a type takes.
+pub(crate) fn entries_of_type(s: &[u8]) -> usize
+    ensures value { result ≡ width_of s.now }
+    ensures few { result ≤ 2 }
 {
     match s {
         [] => 1,

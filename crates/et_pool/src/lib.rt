@@ -7,10 +7,12 @@ mod fault;
 mod items;
 pub mod laws;
 mod look;
+mod operand;
 mod reading;
 pub mod tags;
 mod text;
 
 pub use fault::PoolFault;
 pub use look::Pool;
+pub use operand::{CallShape, Operand, Returned, call_shape, kind_of};
 pub use reading::read_pool;

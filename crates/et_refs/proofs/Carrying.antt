@@ -31,7 +31,7 @@ use Rattle.et_event.specs.Kinds.{or_zero}
 use Rattle.et_event.specs.Moments.{Moment, moment, Doing, current_frame, fits_heap, updated}
 use Rattle.et_event.specs.Sites.{Site}
 use Rattle.et_event.specs.Sound.{is_of_kind}
-use Rattle.et_event.specs.declared.rows.Operand.{Operand}
+use Rattle.et_event.specs.PoolOperands.Operand.{Operand}
 use Rattle.et_parts.proofs.Taking.{replaced}
 use Rattle.et_parts.proofs.Throwing.{ends_fit, ends_full}
 use Rattle.et_refs.proofs.Leading.{moves_held, entries_refer}

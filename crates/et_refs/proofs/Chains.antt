@@ -14,7 +14,8 @@ use Rattle.et_event.specs.declared.errors.GuestError.TheVariants.{ArrayIndexOutO
 use Rattle.et_event.specs.Moments.{Moment, current_frame, begins, object_class, next_object, array_made, slot_written, ill_typed, goes, ends_event}
 use Rattle.et_event.specs.Checks.{Reference, with_int, with_reference, with_value, entries_of, ill_typed_unless, throws_unless, not_null}
 use Rattle.et_event.specs.Heap.{leaving_values, field_fits, resolved_field, is_static_at, with_holder, with_element, element_of_array, length_of, passes_element, resolved_class, cast, type_tested, truth, new_array_of}
-use Rattle.et_event.specs.Kinds.{operand_kind, kind_of_field, or_zero, narrowed, kind_of_elements, kept_element, is_array_element, are_elements, in_bounds}
+use Rattle.et_event.specs.Kinds.{kind_of_field, or_zero, narrowed, kind_of_elements, kept_element, is_array_element, are_elements, in_bounds}
+use Rattle.et_event.specs.Operands.{operand_kind}
 use Rattle.et_event.specs.Sites.{Site, Member, natural_of}
 use Rattle.et_refs.specs.declared.refusals.Refusal.{Refusal}
 use Rattle.et_refs.specs.Changes.{put_outcome}

@@ -11,7 +11,8 @@ use Rattle.et_event.specs.Moments.{Moment, current_frame, begins, next_object, i
 use Rattle.et_event.specs.Checks.{with_value, entries_of, ill_typed_unless, throws_unless}
 use Rattle.et_event.specs.Heap.{leaving_values, field_fits, resolved_field, resolved_class, is_static_at, may_be_made}
 use Rattle.et_event.specs.Initialization.{initialized}
-use Rattle.et_event.specs.Kinds.{operand_kind, kind_of_field, or_zero, narrowed}
+use Rattle.et_event.specs.Kinds.{kind_of_field, or_zero, narrowed}
+use Rattle.et_event.specs.Operands.{operand_kind}
 use Rattle.et_event.specs.Sites.{Site, Member}
 use Rattle.std.specs.Prelude.{nat_le, ◌+◌, length}
 

@@ -7,9 +7,10 @@ use Rattle.et_heap.specs.Refs.{refs_of_value}
 use Rattle.et_state.specs.Threads.{FrameState}
 use Rattle.et_program.specs.declared.info.FieldInfo.{FieldInfo}
 use Rattle.et_program.specs.Entries.{Linked, field_at}
-use Rattle.et_event.specs.declared.rows.Operand.{Operand}
+use Rattle.et_event.specs.PoolOperands.Operand.{Operand}
 use Rattle.et_event.specs.Checks.{entries_of}
-use Rattle.et_event.specs.Kinds.{operand_kind, or_zero, narrowed}
+use Rattle.et_event.specs.Kinds.{or_zero, narrowed}
+use Rattle.et_event.specs.Operands.{operand_kind}
 use Rattle.et_event.specs.Sound.{is_of_kind}
 use Rattle.et_parts.specs.Tops.{IsIn}
 use Rattle.et_refs.proofs.Reading.{kept_refers}

@@ -16,8 +16,8 @@ use Rattle.et_program.specs.Members.{is_field, field_in, first_in}
 use Rattle.et_program.specs.Resolution.{resolve_field}
 use Rattle.et_event.specs.declared.rows.Elements.{Elements}
 use Rattle.et_event.specs.declared.rows.Elements.TheVariants as elements
-use Rattle.et_event.specs.declared.rows.Operand.{Operand}
-use Rattle.et_event.specs.declared.rows.Operand.TheVariants as operand
+use Rattle.et_event.specs.PoolOperands.Operand.{Operand}
+use Rattle.et_event.specs.PoolOperands.Operand.TheVariants as operand
 use Rattle.et_event.specs.Kinds.{or_zero, zero_of, narrowed, kept_element}
 
 -- SLOTS

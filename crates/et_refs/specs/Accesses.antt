@@ -17,7 +17,8 @@ use Rattle.et_state.specs.Outcome.{Outcome}
 use Rattle.et_event.specs.Checks.{entries_of}
 use Rattle.et_event.specs.Heap.{leaving_values}
 use Rattle.et_event.specs.Initialization.{initialized}
-use Rattle.et_event.specs.Kinds.{operand_kind, or_zero}
+use Rattle.et_event.specs.Kinds.{or_zero}
+use Rattle.et_event.specs.Operands.{operand_kind}
 use Rattle.et_event.specs.Moments.{Moment, Doing, current_frame, begins, next_object, instance_made, static_written, updated, ends_event}
 use Rattle.et_event.specs.Sites.{Site}
 use Rattle.et_event.specs.Sound.{is_of_kind}

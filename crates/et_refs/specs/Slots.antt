@@ -5,8 +5,8 @@ use Rattle.et_class.specs.declared.flags.TheConstants.{STATIC}
 use Rattle.et_program.specs.Entries.{Linked, field_at}
 use Rattle.et_heap.specs.Objects.{IsHeld, object_at, slot_of}
 use Rattle.et_state.specs.State.{MachineState}
-use Rattle.et_event.specs.declared.rows.Operand.{Operand}
-use Rattle.et_event.specs.declared.rows.Operand.TheVariants as operand
+use Rattle.et_event.specs.PoolOperands.Operand.{Operand}
+use Rattle.et_event.specs.PoolOperands.Operand.TheVariants as operand
 use Rattle.et_event.specs.Sound.{is_of_kind}
 use Rattle.et_refs.specs.declared.slots.SlotAt.{SlotAt}
 

@@ -1,6 +1,7 @@
 //! Types, and what fields and elements hold of them (JVMS 2.2 to 2.4, 4.3.2).
 ghost use Rattle.std.specs.Prelude.{◌≡◌, ◌≤◌, pos, int_le};
-ghost use Rattle.et_event.specs.Kinds.{kind_of_letter as letter_kind, operand_kind as descriptor_kind, zero_of as zero, or_zero as zero_or, narrowed_letter as letter_narrowed, narrowed_int as int_narrowed, narrowed as narrowed_by, kind_of_elements as elements_kind, are_elements as are_such, is_array_element as is_such, kept_element as kept_by, in_bounds as is_within};
+ghost use Rattle.et_event.specs.Kinds.{zero_of as zero, or_zero as zero_or, narrowed_letter as letter_narrowed, narrowed_int as int_narrowed, narrowed as narrowed_by, kind_of_elements as elements_kind, are_elements as are_such, is_array_element as is_such, kept_element as kept_by, in_bounds as is_within};
+ghost use Rattle.et_event.specs.Operands.{kind_of_letter as letter_kind, operand_kind as descriptor_kind};
 ghost use Rattle.et_pool.specs.Descriptors.{width_of as descriptor_width};
 ghost use Rattle.et_event.specs.Sites.{natural_of};
 ghost use Rattle.et_event.specs.Moments.{base_width as width_of_base, element_width as width_of_element};

@@ -20,7 +20,7 @@ use Rattle.et_state.specs.Threads.{FrameState, most_threads, thread_with}
 use Rattle.et_state.specs.State.{Kept}
 use Rattle.et_state.specs.Outcome.{Outcome}
 use Rattle.et_event.specs.declared.rows.BuiltIn.{BuiltIn}
-use Rattle.et_event.specs.declared.rows.Operand.TheVariants as operand
+use Rattle.et_event.specs.PoolOperands.Operand.TheVariants as operand
 use Rattle.et_event.specs.declared.rows.BuiltIn.TheVariants as built_in
 use Rattle.et_event.specs.declared.errors.GuestError.TheVariants.{AbstractMethodError, IllegalThreadStateException, OutOfMemoryError}
 use Rattle.et_event.specs.BuiltIns.{built_ins, is_called, built_in_of, argument, answering, reference_in, with_referent_of, reference_of, starts_thread, with_thread_for, has_thread_ended, is_object_of_class, built_in_row, done_by, built_in_event, with_reference_made, with_first_taken, is_null_or_of_class}
@@ -28,7 +28,7 @@ use Rattle.et_event.specs.Calls.{begin_with, is_empty, are_arguments}
 use Rattle.et_event.specs.Checks.{reference_value, ill_typed_unless}
 use Rattle.et_event.specs.Errors.{class_called}
 use Rattle.et_event.specs.Frames.{first_reference}
-use Rattle.et_event.specs.Kinds.{operand_kind, returned_width}
+use Rattle.et_event.specs.Operands.{operand_kind, returned_width}
 use Rattle.et_event.specs.Moments.{Moment, Doing, current_frame, begins, object_class, slot_written, goes, fits_heap}
 use Rattle.et_event.specs.Sites.{Site}
 use Rattle.et_event.specs.Sound.{is_of_kind, returned_of}

@@ -20,7 +20,7 @@ use Rattle.et_event.specs.declared.rows.Row.TheVariants.{Call}
 use Rattle.et_event.specs.declared.errors.GuestError.TheVariants.{UnsatisfiedLinkError}
 use Rattle.et_event.specs.Calls.{entry_count, arguments_of, is_static_call, are_arguments, taking}
 use Rattle.et_event.specs.Frames.{first_reference, receiver_of, method_frame, by_code, enters}
-use Rattle.et_event.specs.Kinds.{returned_width}
+use Rattle.et_event.specs.Operands.{returned_width}
 use Rattle.et_event.specs.Moments.{Moment, Doing, current_frame, thread_of}
 use Rattle.et_event.specs.Monitors.{lock_for}
 use Rattle.et_event.specs.Sites.{Site, Member, site_member}

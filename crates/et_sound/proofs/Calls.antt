@@ -16,7 +16,7 @@ use Rattle.et_state.specs.Words.{thread_at, HasFrame}
 use Rattle.et_state.proofs.Places.{top_root, lock_root}
 use Rattle.et_event.specs.Calls.{class_done_by, frame_returned}
 use Rattle.et_event.specs.Frames.{receiver_of, method_frame, frame_entered, frames_after_return}
-use Rattle.et_event.specs.Kinds.{returned_width}
+use Rattle.et_event.specs.Operands.{returned_width}
 use Rattle.et_event.specs.Moments.{Moment, Doing, current_frame, thread_of, begins, goes, fits_heap}
 use Rattle.et_event.specs.Monitors.{Lock, OfObject, OfClass, entered, lock_for, lock_in, entered_some, left_some}
 use Rattle.et_event.specs.Sites.{running_method}

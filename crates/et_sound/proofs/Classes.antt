@@ -21,7 +21,8 @@ use Rattle.et_event.specs.declared.errors.GuestError.TheVariants.{IncompatibleCl
 use Rattle.et_event.specs.Checks.{entries_of, with_int}
 use Rattle.et_event.specs.Heap.{leaving_values, with_class, resolved_class, new_array_of, is_static_at, field_fits, may_be_made, get_static, put_static, new_instance, new_array, new_reference_array}
 use Rattle.et_event.specs.Initialization.{state_of}
-use Rattle.et_event.specs.Kinds.{operand_kind, kind_of_field, or_zero, narrowed, is_array_element}
+use Rattle.et_event.specs.Kinds.{kind_of_field, or_zero, narrowed, is_array_element}
+use Rattle.et_event.specs.Operands.{operand_kind}
 use Rattle.et_event.specs.Moments.{Moment, Doing, current_frame, begins, next_object, instance_made, static_written, ill_typed}
 use Rattle.et_event.specs.Sites.{Site, site_member, class_operand, natural_of}
 use Rattle.et_event.specs.Sound.{is_of_kind, IsSoundObject}

@@ -27,10 +27,11 @@ use Rattle.et_state.proofs.Places.{top_root}
 use Rattle.et_state.specs.Outcome.{Outcome}
 use Rattle.et_event.specs.declared.errors.GuestError.TheVariants.{ArrayIndexOutOfBoundsException, ArrayStoreException, IncompatibleClassChangeError}
 use Rattle.et_event.specs.declared.rows.Elements.{Elements}
-use Rattle.et_event.specs.declared.rows.Operand.{Operand}
+use Rattle.et_event.specs.PoolOperands.Operand.{Operand}
 use Rattle.et_event.specs.Checks.{Reference, entries_of}
 use Rattle.et_event.specs.Heap.{leaving_values, is_static_at, resolved_field, with_field, field_fits, with_holder, get_field, put_field, element_of_array, length_of, with_element, load_element, passes_element, store_element}
-use Rattle.et_event.specs.Kinds.{operand_kind, kind_of_field, or_zero, narrowed, kind_of_elements, are_elements, kept_element, in_bounds}
+use Rattle.et_event.specs.Kinds.{kind_of_field, or_zero, narrowed, kind_of_elements, are_elements, kept_element, in_bounds}
+use Rattle.et_event.specs.Operands.{operand_kind}
 use Rattle.et_event.specs.Moments.{Moment, Doing, current_frame, begins, object_class, ill_typed, goes, slot_written}
 use Rattle.et_event.specs.Sites.{Site, Member, site_member, natural_of}
 use Rattle.et_event.specs.Sound.{is_of_kind}

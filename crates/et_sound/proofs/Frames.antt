@@ -24,7 +24,7 @@ use Rattle.et_event.specs.Frames.{first_reference, method_frame, behind_or, fram
 use Rattle.et_event.specs.Initialization.{initializer_frame}
 use Rattle.et_event.specs.Sites.{present_body, code_of_frame, decoded_at, running_method}
 use Rattle.et_event.specs.Sound.{IsPc, RunsMethod, IsVoid, returned_of, IsStaged, IsCaller, IsAbove, AreSoundFrames}
-use Rattle.et_event.specs.Kinds.{returned_width}
+use Rattle.et_event.specs.Operands.{returned_width}
 use Rattle.et_parts.proofs.Constants.{at_end}
 use Rattle.et_sound.specs.WellFormed.{IsWellFormed, KeepsFrame, MayTake}
 use Rattle.et_sound.proofs.Threads.{guest_now, with_thread_well, may_have_frames}

@@ -15,11 +15,12 @@ use Rattle.et_state.specs.State.{GuestState, Kept}
 use Rattle.et_state.specs.Words.{thread_at, static_at, with_static, class_state_at, with_class_state, with_string}
 use Rattle.et_state.specs.Outcome.{Outcome}
 use Rattle.et_event.specs.declared.errors.GuestError.TheVariants.{NoClassDefFoundError}
-use Rattle.et_event.specs.declared.rows.Operand.{Operand}
-use Rattle.et_event.specs.declared.rows.Operand.TheVariants as operand
+use Rattle.et_event.specs.PoolOperands.Operand.{Operand}
+use Rattle.et_event.specs.PoolOperands.Operand.TheVariants as operand
 use Rattle.et_event.specs.Errors.{class_called}
 use Rattle.et_event.specs.Initialization.{state_of, with_state, constant_set, field_set, constants_set, is_quiet, class_done, quietly_done, initializer_frame, begun_by, begins_class, needed, initialized}
-use Rattle.et_event.specs.Kinds.{operand_kind, narrowed}
+use Rattle.et_event.specs.Kinds.{narrowed}
+use Rattle.et_event.specs.Operands.{operand_kind}
 use Rattle.et_event.specs.Moments.{Moment, Doing, doing_with_guest, next_object, instance_made, static_written, waits, ends_event}
 use Rattle.et_event.specs.Sites.{LoadedConstant, AnInt, ALong, AString, constant_at, pool_of_class}
 use Rattle.et_event.specs.Strings.{interned, string_object}

@@ -19,7 +19,7 @@ use Rattle.et_event.specs.declared.errors.GuestError.TheVariants.{IncompatibleCl
 use Rattle.et_event.specs.BuiltIns.{built_in_event}
 use Rattle.et_event.specs.Calls.{entry_count, arguments_of, is_static_call, call_fits, are_arguments, with_type, with_method, taking, enters_method, is_of_owner, special_class, dispatched, is_as, invoke}
 use Rattle.et_event.specs.Frames.{first_reference, receiver_of}
-use Rattle.et_event.specs.Kinds.{returned_width}
+use Rattle.et_event.specs.Operands.{returned_width}
 use Rattle.et_event.specs.Moments.{Moment, Doing, current_frame, begins, object_class}
 use Rattle.et_event.specs.Monitors.{lock_for}
 use Rattle.et_event.specs.Sites.{Site, Member, site_member, names_interface, site_of, pool_of_class}

@@ -9,8 +9,8 @@ use Rattle.et_base.specs.declared.value.Value.TheVariants.{Unset, Int, Long, Lon
 use Rattle.et_code.specs.Bodies.{Body}
 use Rattle.et_code.specs.Switches.{target_of}
 use Rattle.et_state.specs.Threads.{FrameState, local_of}
-use Rattle.et_event.specs.declared.rows.Operand.{Operand}
-use Rattle.et_event.specs.declared.rows.Operand.TheVariants as operand
+use Rattle.et_event.specs.PoolOperands.Operand.{Operand}
+use Rattle.et_event.specs.PoolOperands.Operand.TheVariants as operand
 use Rattle.et_event.specs.declared.rows.Local.TheVariants.{Named}
 use Rattle.et_event.specs.declared.rows.Condition.{Condition}
 use Rattle.et_event.specs.declared.rows.Condition.TheVariants as when

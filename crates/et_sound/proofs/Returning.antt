@@ -6,12 +6,12 @@ use Rattle.std.proofs.lemmas.Bool.Decides.{nat_tests}
 use Rattle.et_base.specs.declared.value.Value.{Value}
 use Rattle.et_base.specs.declared.value.Value.TheVariants.{Unset, Int, Long, LongHigh, Null, Ref}
 use Rattle.et_class.specs.Descriptors.{width_of}
-use Rattle.et_event.specs.declared.rows.Operand.{Operand}
-use Rattle.et_event.specs.declared.rows.Operand.TheVariants as operand
+use Rattle.et_event.specs.PoolOperands.Operand.{Operand}
+use Rattle.et_event.specs.PoolOperands.Operand.TheVariants as operand
 use Rattle.et_event.specs.declared.errors.GuestError.TheVariants.{IllegalMonitorStateException}
 use Rattle.et_event.specs.Calls.{return, returned_by, frame_returned}
 use Rattle.et_event.specs.Checks.{entries_of, throws_unless}
-use Rattle.et_event.specs.Kinds.{operand_kind, kind_of_letter, is_kind, may_return, returned_width}
+use Rattle.et_event.specs.Operands.{operand_kind, kind_of_letter, is_kind, may_return, returned_width}
 use Rattle.et_event.specs.Moments.{Moment, current_frame, begins, ill_typed, goes}
 use Rattle.et_event.specs.Monitors.{lock_in, owns_some}
 use Rattle.et_event.specs.Sites.{Site, running_method}

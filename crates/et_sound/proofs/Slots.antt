@@ -16,8 +16,8 @@ use Rattle.et_heap.proofs.HeapLists.{held_within, held_set}
 use Rattle.et_state.specs.declared.class_state.ClassState.TheVariants.{Untouched}
 use Rattle.et_state.specs.State.{GuestState, Kept}
 use Rattle.et_state.specs.Words.{static_at, with_static, class_state_at}
-use Rattle.et_event.specs.declared.rows.Operand.{Operand}
-use Rattle.et_event.specs.Kinds.{operand_kind}
+use Rattle.et_event.specs.PoolOperands.Operand.{Operand}
+use Rattle.et_event.specs.Operands.{operand_kind}
 use Rattle.et_event.specs.Moments.{Moment, Doing, updated, slot_written, static_written, fits_heap}
 use Rattle.et_event.specs.BuiltIns.{with_referent_of, with_queue_of, with_reference_made, with_first_taken}
 use Rattle.et_event.specs.Sound.{is_of_kind, kind_of_element, HasField, IsSoundObject, IsSoundStatic}

@@ -11,10 +11,11 @@ use Rattle.et_program.specs.declared.info.Element.{Element}
 use Rattle.et_program.specs.declared.info.Element.TheVariants.{NoArray, Base, Class}
 use Rattle.et_event.specs.declared.rows.Elements.{Elements}
 use Rattle.et_event.specs.declared.rows.Elements.TheVariants as elements
-use Rattle.et_event.specs.declared.rows.Operand.{Operand}
-use Rattle.et_event.specs.declared.rows.Operand.TheVariants as operand
+use Rattle.et_event.specs.PoolOperands.Operand.{Operand}
+use Rattle.et_event.specs.PoolOperands.Operand.TheVariants as operand
 use Rattle.et_event.specs.Checks.{entries_of}
-use Rattle.et_event.specs.Kinds.{operand_kind, or_zero, narrowed, kind_of_elements, are_elements, is_array_element, kept_element}
+use Rattle.et_event.specs.Kinds.{or_zero, narrowed, kind_of_elements, are_elements, is_array_element, kept_element}
+use Rattle.et_event.specs.Operands.{operand_kind}
 use Rattle.et_event.specs.Sound.{is_of_kind, kind_of_base, kind_of_element}
 use Rattle.et_event.specs.Programs.{HasInstanceField, HasSlots, MayHold}
 

@@ -5,7 +5,7 @@ ghost use Rattle.et_event.specs.Calls.{invoke, call_event, entry_call};
 ghost use Rattle.et_event.specs.declared.rows.CallKind.{CallKind};
 ghost use Rattle.et_event.specs.declared.rows.CallRow.TheVariants as calls;
 ghost use Rattle.et_event.specs.declared.rows.HeapRow.TheVariants as heap;
-ghost use Rattle.et_event.specs.declared.rows.Operand.{Operand};
+ghost use Rattle.et_event.specs.PoolOperands.Operand.{Operand};
 ghost use Rattle.et_event.specs.declared.rows.Row.{Row};
 ghost use Rattle.et_event.specs.declared.rows.Row.TheVariants as rows;
 ghost use Rattle.et_event.specs.Event.{does, event};

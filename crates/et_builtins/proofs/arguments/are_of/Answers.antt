@@ -1,7 +1,7 @@
 use Rattle.std.proofs.Common.{◌≡◌, ℕ, ◌+◌, ◌<◌, true, false, eqb, List, length, get_or, reverse, take, Option, arith, sym, ap, ◌∙◌}
 use Rattle.std.proofs.lemmas.Bool.{eqb-true}
 use Rattle.et_base.specs.declared.value.Value.TheVariants.{Unset}
-use Rattle.et_event.specs.declared.rows.Operand.{Operand}
+use Rattle.et_event.specs.PoolOperands.Operand.{Operand}
 use Rattle.et_state.specs.Words.{top}
 use Rattle.et_builtins.specs.Arguments.{entries_in}
 use Rattle.et_builtins.proofs.Standing.{length_arguments}

@@ -1,7 +1,7 @@
 use Rattle.std.proofs.Common.{◌≡◌, [], ◌∷◌, Some, rules, ◌∙◌, ap, subst}
 use Rattle.et_base.specs.declared.value.Value.{Value}
 use Rattle.et_heap.specs.Objects.{object_at, slot_of}
-use Rattle.et_event.specs.declared.rows.Operand.TheVariants as operand
+use Rattle.et_event.specs.PoolOperands.Operand.TheVariants as operand
 use Rattle.et_event.specs.Answered.{EventAnswers}
 use Rattle.et_event.specs.BuiltIns.{answering}
 use Rattle.et_event.specs.Calls.{arguments_of}

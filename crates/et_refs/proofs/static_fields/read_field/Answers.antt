@@ -3,9 +3,9 @@ use Rattle.std.specs.Prelude.{ℕ, nat_le, length}
 use Rattle.et_state.specs.State.{kept_of}
 use Rattle.et_state.specs.Words.{top}
 use Rattle.et_program.specs.declared.info.FieldInfo.{FieldInfo}
-use Rattle.et_event.specs.declared.rows.Operand.{Operand}
+use Rattle.et_event.specs.PoolOperands.Operand.{Operand}
 use Rattle.et_event.specs.Checks.{ill_typed_unless}
-use Rattle.et_event.specs.Kinds.{operand_kind}
+use Rattle.et_event.specs.Operands.{operand_kind}
 use Rattle.et_program.specs.Resolved.{shown_names}
 use Rattle.et_parts.specs.Places.{site_at}
 use Rattle.et_event.specs.Moments.{moment}
