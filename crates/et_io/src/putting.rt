@@ -17,6 +17,7 @@ pub enum RunFault {
 /// Puts the whole piece, in as many calls as the sink wants, and none where the piece is empty. It ends with the first
 /// put that fails, which is answered `Write`: then the sink counted one fault, and otherwise none. After `Write` and
 /// after `NoMemory` the sink took a prefix of the piece.
+#[inline(always)]
 pub fn put_all<S: Sink>(sink: &mut S, piece: &[u8]) -> Result<(), RunFault>
     ensures ok { OnOk result (S.taken sink.new ≡ with_more (S.taken sink.old) piece.now) }
     ensures write { S.faults sink.new ≡ count_after (is_write_fault result) (S.faults sink.old) }

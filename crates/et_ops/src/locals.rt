@@ -16,6 +16,7 @@ use et_state::Machine;
 
 /// What a local variable holds; `Unset` where there is none of that index.
 #[tactic(auto, using(et_parts::proofs::Groups::unset_is_in))]
+#[inline(always)]
 pub(crate) fn local_at(machine: &Machine, thread: ThreadId, i: u32) -> Value
     requires frame { HasFrame machine.now.guest thread }
     requires locals { length (top machine.now.guest thread).locals < 2 ^ 16 }
@@ -30,6 +31,7 @@ pub(crate) fn local_at(machine: &Machine, thread: ThreadId, i: u32) -> Value
 }
 
 /// `iload`.
+#[inline(always)]
 fn load_int(machine: &mut Machine, thread: ThreadId, i: u32, next: u32) -> bool
     requires frame { HasFrame machine.old.guest thread }
     requires sound { IsSound (kept_of machine.old) }
@@ -48,6 +50,7 @@ fn load_int(machine: &mut Machine, thread: ThreadId, i: u32, next: u32) -> bool
 }
 
 /// `lload`.
+#[inline(always)]
 fn load_long(machine: &mut Machine, thread: ThreadId, i: u32, next: u32) -> bool
     requires frame { HasFrame machine.old.guest thread }
     requires sound { IsSound (kept_of machine.old) }
@@ -71,6 +74,7 @@ fn load_long(machine: &mut Machine, thread: ThreadId, i: u32, next: u32) -> bool
 }
 
 /// `aload`.
+#[inline(always)]
 fn load_reference(machine: &mut Machine, thread: ThreadId, i: u32, next: u32) -> bool
     requires frame { HasFrame machine.old.guest thread }
     requires sound { IsSound (kept_of machine.old) }
@@ -90,6 +94,7 @@ fn load_reference(machine: &mut Machine, thread: ThreadId, i: u32, next: u32) ->
 }
 
 /// A local variable that holds the kind is pushed.
+#[inline(always)]
 pub(crate) fn load(
     machine: &mut Machine,
     thread: ThreadId,

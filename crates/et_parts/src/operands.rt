@@ -14,6 +14,7 @@ use et_base::{ThreadId, Value};
 use et_state::Machine;
 
 /// Takes so many operands.
+#[inline(always)]
 pub fn take(machine: &mut Machine, thread: ThreadId, count: u32)
     requires frame { HasFrame machine.old.guest thread }
     requires operands { count ≤ length (top machine.old.guest thread).operands }
@@ -28,6 +29,7 @@ pub fn take(machine: &mut Machine, thread: ThreadId, count: u32)
 }
 
 /// Puts these operands on top, the first of them topmost.
+#[inline(always)]
 pub fn give(machine: &mut Machine, thread: ThreadId, values: &[Value])
     requires frame { HasFrame machine.old.guest thread }
     requires room { length values.now + length (top machine.old.guest thread).operands
@@ -42,6 +44,7 @@ pub fn give(machine: &mut Machine, thread: ThreadId, values: &[Value])
 
 /// The event in which so many operands are taken, these are put in their place, the first of them topmost, and the pc goes
 /// on. The references among them stood in the frame.
+#[inline(always)]
 pub fn put(machine: &mut Machine, thread: ThreadId, taken: u32, values: &[Value], pc: u32)
     requires frame { HasFrame machine.old.guest thread }
     requires sound { IsSound (kept_of machine.old) }
@@ -70,6 +73,7 @@ pub fn put(machine: &mut Machine, thread: ThreadId, taken: u32, values: &[Value]
 
 /// The event in which so many operands are taken, these are put in their place, the first of them topmost, and the pc goes
 /// on; `false`, and nothing is done, where they don't fit.
+#[inline(always)]
 pub fn replace(
     machine: &mut Machine,
     thread: ThreadId,

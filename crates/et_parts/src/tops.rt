@@ -10,6 +10,7 @@ use et_state::Machine;
 
 /// The operand so far below the topmost one; `Unset` where there is none.
 #[tactic(auto, using(crate::proofs::Groups::unset_is_in))]
+#[inline(always)]
 pub fn operand_at(machine: &Machine, thread: ThreadId, k: u32) -> Value
     requires { HasFrame machine.now.guest thread }
     ensures value { result ≡ operand_of (top machine.now.guest thread) k }
@@ -23,6 +24,7 @@ pub fn operand_at(machine: &Machine, thread: ThreadId, k: u32) -> Value
 }
 
 /// The int so far below the top.
+#[inline(always)]
 pub fn int_at(machine: &Machine, thread: ThreadId, k: u32) -> Option<i32>
     requires { HasFrame machine.now.guest thread }
     ensures { result ≡ int_of (operand_of (top machine.now.guest thread) k) }
@@ -34,6 +36,7 @@ pub fn int_at(machine: &Machine, thread: ThreadId, k: u32) -> Option<i32>
 }
 
 /// The long whose upper entry is so far below the top.
+#[inline(always)]
 pub fn long_at(machine: &Machine, thread: ThreadId, k: u32) -> Option<i64>
     requires frame { HasFrame machine.now.guest thread }
     requires small { k + 1 < 2 ^ 32 }
@@ -50,6 +53,7 @@ pub fn long_at(machine: &Machine, thread: ThreadId, k: u32) -> Option<i64>
 }
 
 /// The reference so far below the top.
+#[inline(always)]
 pub fn reference_at(machine: &Machine, thread: ThreadId, k: u32) -> Option<Option<ObjectId>>
     requires { HasFrame machine.now.guest thread }
     ensures { result ≡ entry_reference (operand_of (top machine.now.guest thread) k) }
@@ -62,6 +66,7 @@ pub fn reference_at(machine: &Machine, thread: ThreadId, k: u32) -> Option<Optio
 }
 
 /// Whether an entry is a value by itself.
+#[inline(always)]
 fn is_single(value: Value) -> bool
     ensures { result ≡ single value }
 {
@@ -80,6 +85,7 @@ fn are_together(upper: Value, lower: Value) -> bool
 
 /// Whether the operand so far below the top is there, and a value by itself.
 #[tactic(auto, using(crate::proofs::Groups::one_at, crate::proofs::Groups::one_deep))]
+#[inline(always)]
 pub fn is_one(machine: &Machine, thread: ThreadId, k: u32) -> bool
     requires { HasFrame machine.now.guest thread }
     ensures is { result ≡ one_first (drop k (top machine.now.guest thread).operands) }

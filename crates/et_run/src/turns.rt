@@ -53,6 +53,7 @@ fn call_turn_event<L: Ledger>(
 /// and classes. It visits eight objects at most, and one for each that the event makes. After `NoMemory` the machine may only
 /// be dropped.
 #[tactic(auto, using(et_event::proofs::FamilyTurns::family_at))]
+#[inline(always)]
 fn instruction_event<L: Ledger>(
     alloc: Global,
     program: &Program,
