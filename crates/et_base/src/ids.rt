@@ -100,7 +100,7 @@ impl MethodId {
     }
 }
 
-/// The number of a field of a program, below its `field_count`.
+/// The number of a field of a program, by which its table of fields has it.
 #[derive(Clone, Copy, Debug, PartialEq, Eq, PartialOrd, Ord, Hash)]
 pub struct FieldId(u32);
 

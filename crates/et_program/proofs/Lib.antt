@@ -7,3 +7,4 @@ pub mod IndexLemmas
 pub mod Puts
 pub mod PoolLemmas
 pub mod SignatureLemmas
+pub mod ShapeLemmas

@@ -1,8 +1,6 @@
 -- A place that was found is one of the list.
-use Rattle.std.proofs.Common.{◌≡◌, ℕ, ◌+◌, ◌<◌, suc, Bool, true, false, cond, List, [], ◌∷◌, length, Option, None, Some, IfSome, IfOk, Result, sym, subst, arith}
+use Rattle.std.proofs.Common.{◌≡◌, ℕ, ◌+◌, ◌<◌, suc, Bool, true, false, cond, List, [], ◌∷◌, length, Option, Some, IfSome, sym, subst, arith}
 use Rattle.std.specs.List.{position_from}
-use Rattle.std.specs.Option.{ok_or}
-use Rattle.et_program.specs.declared.errors.LinkError.{LinkError}
 use Rattle.et_program.specs.Entries.{Linked}
 use Rattle.et_program.specs.Members.{class_named, method_in, field_in, is_method, is_field, base_array}
 
@@ -31,11 +29,3 @@ class_found_within p name o e = subst (λ (r : Option ℕ). IfSome r (λ c. c < 
 
 pub base_array_within : (p : Linked) (kind : ℕ) (o : Option ℕ) → o ≡ base_array p kind → IfSome o (λ c. c < length p.classes)
 base_array_within p kind o e = subst (λ (r : Option ℕ). IfSome r (λ c. c < length p.classes)) (sym e) (position_within _ p.classes)
-
-ok_within : {E : Type 0} (n : ℕ) (o : Option ℕ) (e : E) → IfSome o (λ c. c < n) → IfOk (ok_or o e) (λ c. c < n)
-ok_within n None e h = tt
-ok_within n (Some c) e h = h
-
-pub resolved_within : (p : Linked) (name : List ℕ) (o : Option ℕ) (e : LinkError) (r : Result ℕ LinkError) → o ≡ class_named p name → r ≡ ok_or o e → IfOk r (λ c. c < length p.classes)
-resolved_within p name o e r found is =
-    subst (λ (q : Result ℕ LinkError). IfOk q (λ c. c < length p.classes)) (sym is) (ok_within (length p.classes) o e (class_found_within p name o found))

@@ -3,6 +3,7 @@ pub mod Members
 pub mod Resolution
 pub mod Referring
 pub mod Resolved
+pub mod Shapes
 pub mod Signatures
 pub mod Types
 pub mod Words

@@ -1,5 +1,6 @@
--- The numbers by which methods are looked for.
+-- The numbers by which methods are looked for, and what calls read off their descriptors.
 use Rattle.std.specs.Prelude.{◌≡◌, ℕ, ◌<◌, List, length, map, unwrap_or}
+use Rattle.et_class.specs.Operands.{shape_in}
 use Rattle.et_program.specs.declared.names.NameIndex.{NameIndex}
 use Rattle.et_program.specs.declared.info.MethodInfo.{MethodInfo}
 use Rattle.et_program.specs.declared.signatures.Signature.{Signature}
@@ -9,11 +10,15 @@ use Rattle.et_program.specs.Entries.{Linked, method_at}
 use Rattle.et_program.specs.Indices.{number_of_name}
 use Rattle.et_program.specs.Indexed.{HasIndexedMethods}
 
--- the numbers of the name and of the descriptor of a method
+-- the numbers of the name and of the descriptor of a method, and what a call reads off the descriptor
 abbrev pub signature_of : NameIndex → MethodInfo → Signature
-signature_of texts m = record { name = unwrap_or (number_of_name texts m.name) 0; descriptor = unwrap_or (number_of_name texts m.descriptor) 0 }
+signature_of texts m = record {
+  name = unwrap_or (number_of_name texts m.name) 0;
+  descriptor = unwrap_or (number_of_name texts m.descriptor) 0;
+  shape = shape_in m.descriptor;
+}
 
--- the texts of all methods have numbers, which are kept at the numbers of the methods
+-- the texts of all methods have numbers, which are kept at the numbers of the methods with what calls read off them
 pub record AreSigned (texts : NameIndex) (methods : List MethodInfo) (signatures : List Signature) : Type 0 where
   pub numbered : HasIndexedMethods texts methods
   pub signed : signatures ≡ map (signature_of texts) methods

@@ -17,6 +17,7 @@ mod referring;
 mod resolution;
 mod resolved;
 mod selection;
+mod shapes;
 mod signatures;
 mod tables;
 mod types;

@@ -1,6 +1,6 @@
 //! The program: its tables, and what stands at each number.
 
-ghost use Rattle.std.specs.Prelude.{◌≡◌, ℕ, ◌<◌, ◌==◌, length, All, IfOk, IfSome, slice_get};
+ghost use Rattle.std.specs.Prelude.{◌≡◌, ℕ, ◌<◌, ◌==◌, length, All, IfOk, IfSome, option_map, slice_get};
 ghost use Rattle.std.specs.List.{list_any};
 ghost use Rattle.std.specs.Option.{option_copied};
 
@@ -11,10 +11,11 @@ use crate::info::{ClassInfo, FieldInfo, MethodInfo};
 use crate::members::MemberIndex;
 use crate::names::NameIndex;
 use crate::resolved::{Resolved, ResolvedPool};
+use crate::shapes::{PoolShapes, shapes_of};
 use crate::signatures::{Signature, Sought, signatures_of};
 use crate::tables::Tables;
 use et_base::{ClassId, FieldId, MethodId, NoMemory};
-use et_class::Pool;
+use et_class::{CallShape, Pool};
 use std::alloc::Global;
 use std::marker::Model;
 
@@ -35,6 +36,7 @@ pub struct Program {
     method_places: MemberIndex,
     field_places: MemberIndex,
     signatures: Vec<Signature>,
+    shapes: Vec<PoolShapes>,
     resolved: Vec<ResolvedPool>,
 }
 
@@ -43,6 +45,7 @@ impl Model for Program {
     ghost use Rattle.et_program.specs.Tables.{IsTabled, AreIndexed};
     ghost use Rattle.et_program.specs.Linking.{IsLinked};
     ghost use Rattle.et_program.specs.Resolved.{AreResolved};
+    ghost use Rattle.et_program.specs.Shapes.{AreShaped};
     ghost use Rattle.et_program.specs.Signatures.{AreSigned};
 
     ghost Value = { Linked };
@@ -69,6 +72,7 @@ impl Model for Program {
         × AreIndexed l p.base_arrays.items p.places p.texts p.method_places p.field_places
         × IsLinked l
         × AreSigned p.texts p.methods.items p.signatures.items
+        × AreShaped p.pools.items p.shapes.items
         × AreResolved l p.resolved.items };
 }
 
@@ -83,7 +87,7 @@ impl Program {
     }
 
     /// The program of these tables, which are those of class files that link. What the entries of its pools refer to is
-    /// resolved once, here. The only error is want of memory.
+    /// resolved once, here, and what calls read off descriptors is read. The only error is want of memory.
     pub fn of(alloc: Global, tables: Tables) -> Result<Program, NoMemory>
         requires tabled { IsTabled (shown_tables tables) }
         requires linked { IsLinked (shown_tables tables) }
@@ -117,6 +121,7 @@ impl Program {
         let signatures = signatures_of(alloc, &texts, methods)?;
         let method_places = index_methods(alloc, &texts, methods)?;
         let field_places = index_fields(alloc, &texts, fields)?;
+        let shapes = shapes_of(alloc, tables.pools.as_slice())?;
         let Tables {
             classes,
             methods,
@@ -140,6 +145,7 @@ impl Program {
             method_places,
             field_places,
             signatures,
+            shapes,
             resolved: Vec::new(alloc),
         })
     }
@@ -153,6 +159,8 @@ impl Program {
     ghost use Rattle.et_program.specs.Members.{class_named, method_in, field_in, is_above, is_subclass, base_array};
     ghost use Rattle.et_program.specs.Resolution.{resolve_class};
     ghost use Rattle.et_program.specs.Resolved.{IsResolved, AreResolved};
+    ghost use Rattle.et_class.specs.Operands.{shape_in};
+    ghost use Rattle.et_program.specs.Shapes.{shape_referred};
     ghost use Rattle.et_program.specs.Signatures.{IsSought, sought_name, sought_descriptor};
 
     /// The class of this name, or `NoClassDefFound` exactly where the program has none (JVMS 5.4.3.1).
@@ -160,15 +168,10 @@ impl Program {
         ensures value { result ≡ resolve_class self.now name.now }
         ensures within { IfOk result (λ c. c < length self.now.classes) }
     {
-        self.class_by_name(name).ok_or(LinkError::NoClassDefFound)
-    }
-
-    /// The class of this name.
-    fn class_by_name(&self, name: &[u8]) -> Option<ClassId>
-        ensures value { result ≡ class_named self.now name.now }
-    {
-        let class = self.places.find(name)?;
-        Some(ClassId::new(class))
+        match self.places.find(name) {
+            Some(class) => Ok(ClassId::new(class)),
+            None => Err(LinkError::NoClassDefFound),
+        }
     }
 
     /// The class of this number.
@@ -224,13 +227,6 @@ impl Program {
         self.methods.len() as u32
     }
 
-    /// How many fields there are; their numbers are those below.
-    pub fn field_count(&self) -> u32
-        ensures { result ≡ length self.now.fields }
-    {
-        self.fields.len() as u32
-    }
-
     /// The static fields, in the order of their slots.
     pub fn statics(&self) -> &[FieldId]
         ensures value { result.now ≡ self.now.statics }
@@ -273,6 +269,25 @@ impl Program {
         }
     }
 
+    /// What a call reads off the descriptor of the member that the entry at an index of the pool of a class gives; `None`
+    /// where it gives none, or one whose descriptor is not that of a method. It was read as the program was linked.
+    pub fn call_shape(&self, class: ClassId, index: u16) -> Option<&CallShape>
+        ensures { option_map (λ s. s.now) result ≡ shape_referred self.now class index }
+    {
+        match self.shapes.get(class.number() as usize) {
+            Some(pool) => pool.at(index),
+            None => None,
+        }
+    }
+
+    /// What a call reads off the descriptor of a method; `None` where that is none. It was read as the program was linked.
+    pub fn method_shape(&self, method: MethodId) -> Option<&CallShape>
+        requires { method < length self.now.methods }
+        ensures { option_map (λ s. s.now) result ≡ shape_in (method_at self.now method).descriptor }
+    {
+        self.signatures[method.number() as usize].shape.as_ref()
+    }
+
     /// The class of the arrays of these elements, or `None` where the program has none.
     pub fn array_over(&self, element: ClassId) -> Option<ClassId>
         requires { element < length self.now.classes }
@@ -287,13 +302,6 @@ impl Program {
     pub fn base_array(&self, kind: u8) -> Option<ClassId>
         ensures value { result ≡ base_array self.now kind }
         ensures within { IfSome result (λ c. c < length self.now.classes) }
-    {
-        self.base_array_by_kind(kind)
-    }
-
-    /// What the table of arrays over base types has.
-    fn base_array_by_kind(&self, kind: u8) -> Option<ClassId>
-        ensures { result ≡ base_array self.now kind }
     {
         self.base_arrays.get(kind as usize).copied().flatten()
     }
@@ -340,22 +348,11 @@ impl Program {
         ensures { result ≡ method_in self.now (method_at self.now method).name
             (method_at self.now method).descriptor class }
     {
-        let signature = self.signatures[method.number() as usize];
-        let Signature { name, descriptor } = signature;
-        let found = self.method_places.find(class.number(), name, descriptor)?;
+        let signature = &self.signatures[method.number() as usize];
+        let found = self
+            .method_places
+            .find(class.number(), signature.name, signature.descriptor)?;
         Some(MethodId::new(found))
-    }
-
-    /// What the maps have of the method of a class that is looked for.
-    fn sought_by_key(&self, sought: &Sought<'_>, class: ClassId) -> Option<MethodId>
-        requires { IsSought self.now sought.now }
-        ensures { result ≡ method_in self.now (sought_name self.now sought.now)
-            (sought_descriptor self.now sought.now) class }
-    {
-        match *sought {
-            Sought::Named { name, descriptor } => self.method_by_key(name, descriptor, class),
-            Sought::Like(method) => self.method_like(method, class),
-        }
     }
 
     /// The method of a class that is looked for.
@@ -365,17 +362,10 @@ impl Program {
             (sought_descriptor self.now sought.now) class }
         ensures within { IfSome result (λ m. m < length self.now.methods) }
     {
-        self.sought_by_key(sought, class)
-    }
-
-    /// What the maps have of a field of a class.
-    fn field_by_key(&self, name: &[u8], descriptor: &[u8], class: ClassId) -> Option<FieldId>
-        ensures { result ≡ field_in self.now name.now descriptor.now class }
-    {
-        let name = self.texts.find(name)?;
-        let descriptor = self.texts.find(descriptor)?;
-        let field = self.field_places.find(class.number(), name, descriptor)?;
-        Some(FieldId::new(field))
+        match *sought {
+            Sought::Named { name, descriptor } => self.method_by_key(name, descriptor, class),
+            Sought::Like(method) => self.method_like(method, class),
+        }
     }
 
     /// The field of a class with this name and descriptor.
@@ -383,6 +373,9 @@ impl Program {
         ensures value { result ≡ field_in self.now name.now descriptor.now class }
         ensures within { IfSome result (λ f. f < length self.now.fields) }
     {
-        self.field_by_key(name, descriptor, class)
+        let name = self.texts.find(name)?;
+        let descriptor = self.texts.find(descriptor)?;
+        let field = self.field_places.find(class.number(), name, descriptor)?;
+        Some(FieldId::new(field))
     }
 }

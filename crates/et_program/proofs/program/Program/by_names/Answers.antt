@@ -6,6 +6,8 @@ use Rattle.et_program.specs.declared.info.FieldInfo.{FieldInfo}
 use Rattle.et_program.specs.Entries.{ClassEntry}
 use Rattle.et_program.specs.Members.{is_method, is_field, is_base_array}
 use Rattle.et_program.specs.Indexed.{HasIndexedMethods}
+use Rattle.et_class.specs.Entries.{Constants}
+use Rattle.et_program.specs.Shapes.{AreShaped}
 use Rattle.et_program.specs.Signatures.{signature_of}
 use Rattle.et_program.proofs.PoolLemmas.{nothing_kept}
 use Rattle.et_program.proofs.program.Program.by_names.Goals as goal
@@ -41,5 +43,6 @@ invariant_of-result c = (
     numbered = subst (λ (xs : List MethodInfo). HasIndexedMethods c.in_ok-texts.texts xs) c.as_slice-methods.ensures.value c.in_ok-texts.ensures.methods;
     signed = c.in_ok-signatures.ensures ∙ ap (λ (xs : List MethodInfo). map (signature_of c.in_ok-texts.texts) xs) c.as_slice-methods.ensures.value;
   },
+  subst (λ (xs : List Constants). AreShaped xs c.in_ok-shapes.shapes.items) c.as_slice-3.ensures.value c.in_ok-shapes.ensures,
   nothing_kept _ _ c.new.ensures.items,
 )

@@ -9,5 +9,6 @@ invariant_of-self c = (
   c.self.invariant.1,
   c.self.invariant.2,
   c.self.invariant.3,
+  c.self.invariant.4,
   subst (λ (l : Linked). AreResolved l c.args.resolved.items) (sym c.self.view_is) c.requires,
 )

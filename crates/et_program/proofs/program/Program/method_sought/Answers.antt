@@ -1,6 +1,9 @@
-use Rattle.et_program.specs.Signatures.{sought_name, sought_descriptor}
 use Rattle.et_program.proofs.PlaceLemmas.{method_within}
+use Rattle.et_program.specs.Entries.{method_at}
 use Rattle.et_program.proofs.program.Program.method_sought.Goals as goal
 
-pub returns-clause-within : goal.returns-clause-within
-returns-clause-within c = method_within c.args.self.now (sought_name c.args.self.now c.args.sought.now) (sought_descriptor c.args.self.now c.args.sought.now) c.args.class _ c.sought_by_key.ensures
+pub returns-in-Named-clause-within : goal.returns-in-Named-clause-within
+returns-in-Named-clause-within c = method_within c.args.self.now c.in-Named.name.now c.in-Named.descriptor.now c.args.class _ c.method_by_key.ensures
+
+pub returns-in-Like-clause-within : goal.returns-in-Like-clause-within
+returns-in-Like-clause-within c = method_within c.args.self.now (method_at c.args.self.now c.in-Like.method).name (method_at c.args.self.now c.in-Like.method).descriptor c.args.class _ c.method_like.ensures

@@ -1,5 +1,9 @@
-use Rattle.et_program.proofs.PlaceLemmas.{resolved_within}
+use Rattle.std.proofs.Common.{◌≡◌, Some, rules}
+use Rattle.et_program.specs.Members.{class_named}
+use Rattle.et_program.proofs.PlaceLemmas.{class_found_within}
 use Rattle.et_program.proofs.program.Program.resolve_class.Goals as goal
 
-pub returns-clause-within : goal.returns-clause-within
-returns-clause-within c = resolved_within c.args.self.now c.args.name.now _ _ _ c.class_by_name.ensures.value c.ok_or.ensures.value
+pub returns-in-Some-clause-within : goal.returns-in-Some-clause-within
+returns-in-Some-clause-within c =
+    let is : Some c.new.result ≡ class_named c.args.self.now c.args.name.now = search rules in
+    class_found_within c.args.self.now c.args.name.now (Some c.new.result) is
