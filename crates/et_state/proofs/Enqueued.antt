@@ -252,11 +252,6 @@ flushed_held here xs o h =
     let e : 0 + o ≡ o = omega arith in
     (r.0, subst (λ (n : ℕ). here n ≡ true) e r.1)
 
-pub held_flushed : (here : ℕ → Bool) (xs : Objects) (o : ℕ) → IsHeld xs o → here o ≡ true → IsHeld (flushed_heap here xs) o
-held_flushed here xs o h t =
-    let e : o ≡ 0 + o = omega arith in
-    joined_held (newcomers here xs) (begins_to_wait here xs) (remaining here 0 xs) o (held_remaining here 0 xs o h (subst (λ (n : ℕ). here n ≡ true) e t))
-
 pub remaining_at : (here : ℕ → Bool) (k : ℕ) (xs : Objects) (o : ℕ) → at (remaining here k xs) o ≡ left_place here (here (k + o)) (at xs o)
 remaining_at here k [] o = refl
 remaining_at here k (x ∷ xs) zero = ap (λ (i : ℕ). left_place here (here i) x) (let same : k ≡ k + 0 = omega arith in same)

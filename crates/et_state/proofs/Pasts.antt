@@ -14,26 +14,6 @@ use Rattle.et_state.specs.Past.{IsPast, reporting, first_of}
 use Rattle.et_state.specs.Sound.{IsSound}
 use Rattle.et_state.specs.Moves.{IsUnderWay}
 
--- an object is written
-pub past_set : (heap reported : Objects) (o : ℕ) (y : ObjectState) → IsHeld heap o → IsPast heap reported → IsPast (set heap o (Some y)) reported
-past_set heap reported o y h past = record {
-  within = subst (λ (n : ℕ). length reported ≤ n) (sym (length-set heap o (Some y))) past.within;
-  apart = λ u a b. past.apart u (set_held heap o y u h a) b;
-}
-
-push_apart : (heap reported : Objects) (y : ObjectState) (u : ℕ) → IsPast heap reported → IsHeld (heap ++ Some y ∷ []) u → IsHeld reported u → ⊥
-push_apart [] reported y u past a b = let lt = held_within reported u b in let le = past.within in absurd (omega arith)
-push_apart (x ∷ xs) [] y u past a b = absurd b
-push_apart (x ∷ xs) (r ∷ rs) y zero past a b = past.apart 0 a b
-push_apart (x ∷ xs) (r ∷ rs) y (suc u) past a b = push_apart xs rs y u (record { within = (let le = past.within in omega arith); apart = λ o c d. past.apart (suc o) c d }) a b
-
--- an object is made
-pub past_push : (heap reported : Objects) (y : ObjectState) → IsPast heap reported → IsPast (heap ++ Some y ∷ []) reported
-past_push heap reported y past = record {
-  within = (let le = past.within in let len = length_push heap (Some y) in omega arith);
-  apart = λ u a b. push_apart heap reported y u past a b;
-}
-
 length-reporting : (here : ℕ → Bool) (k : ℕ) (xs rs : Objects) → length (reporting here k xs rs) ≡ length xs
 length-reporting here k [] rs = refl
 length-reporting here k (x ∷ xs) [] = ap suc (length-reporting here (k + 1) xs [])

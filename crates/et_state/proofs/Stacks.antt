@@ -171,10 +171,6 @@ local_frames h below vs i v n a lt =
       frames_are h below (set vs (h.base + i) v) (set own i v) (take h.base vs) d t ∙ ap (λ f. f ∷ frames_in below (take h.base vs)) (local_in h own i v below_locals),
     )
 
--- the place of a local
-pub local_fits : (h : FrameHead) (below : List FrameHead) (vs : List Value) (i : ℕ) (n : ℕ) → AreFrames n (h ∷ below) vs → i < length (frame_in h (drop h.base vs)).locals → h.base + i < length vs
-local_fits h below vs i n a lt = omega (arith, lt, length-take h.locals (drop h.base vs), length-drop h.base vs, a.0.base)
-
 -- the values of a new frame
 pub locals_behind : (vs args : List Value) (count k m : ℕ) → length args ≤ count → k ≡ length vs + count → m ≡ length (vs ++ args) → take k (vs ++ args) ++ replicate (k - m) Unset ≡ vs ++ locals_with count args
 locals_behind vs args count k m le e w =
@@ -290,12 +286,6 @@ keeps_cleared n m hs vs ws x h i v a some k g e same =
     stepped without_operands m hs h t.below ws (take h.base vs) (frame_in h (drop h.base vs)) x t.heads
     (subst (λ j. AreFrames j (h ∷ t.below) ws) (sym same) p.0) p.1 t.first t.rest
 
--- the place of a local is there
-pub local_is_there : (n : ℕ) (hs : List FrameHead) (vs : List Value) (x : List FrameState) (h : FrameHead) (i j : ℕ) → frames_in (reverse hs) vs ≡ x → AreFrames n (reverse hs) vs → 0 < length x → i ≡ length hs - 1 → h ≡ get_or hs i h → j < length (first_frame x).locals → h.base + j < length vs
-local_is_there n hs vs x h i j v a some k g lt =
-    let t = top_head n hs vs x h i v a some k g in
-    local_fits h t.below vs j n t.frames (subst (λ (f : FrameState). j < length f.locals) t.first lt)
-
 pub keeps_local : (n : ℕ) (hs : List FrameHead) (vs : List Value) (x : List FrameState) (h : FrameHead) (i j : ℕ) (o : Value) → frames_in (reverse hs) vs ≡ x → AreFrames n (reverse hs) vs → 0 < length x → i ≡ length hs - 1 → h ≡ get_or hs i h → j < length (first_frame x).locals → Keeps n hs (set vs (h.base + j) o) (with_local j o (first_frame x) ∷ rest_of x)
 keeps_local n hs vs x h i j o v a some k g lt =
     let t = top_head n hs vs x h i v a some k g in
@@ -390,8 +380,3 @@ listed_more n hs vs start room room' left k ws own below h is some e g o b more 
 pub listed_all : (n : ℕ) (hs : List FrameHead) (vs : List Value) (start room : List ℕ) (left : ℕ) (ws : List Value) (x : List FrameState) → IsListed n hs vs start room left ws → left ≡ 0 → frames_in (reverse hs) vs ≡ x → room ≡ start ++ flat_map frame_roots x
 listed_all n hs vs start room left ws x is e v =
     sym (append-nil room) ∙ (sym (ap (λ j. room ++ flat_map frame_roots (frames_in (reverse (take j hs)) ws)) e) ∙ (is.roots ∙ ap (λ fs. start ++ flat_map frame_roots fs) v))
-
--- one frame is not topmost
-pub rest_length : (xs : List FrameState) → length (rest_of xs) ≡ length xs - 1
-rest_length [] = refl
-rest_length (f ∷ below) = omega arith

@@ -113,11 +113,6 @@ pub did_set_local : (s : Kept) (b : MachineState) (t : ℕ) (f : FrameState) (l 
     → Did s b t (with_local i v f) (l ++ refs_of_value (local_of f i)) m₂
 did_set_local s b t f l m₁ m₂ i v has d e lt h r = did_step s (with_local i v) (λ g. refs_of_value (local_of g i)) b t f l m₁ m₂ has d e (frame_set_local (MayEnter b) (MayBeLost s b) f i v lt h r)
 
-pub did_enter_clinit : (s : Kept) (b : MachineState) (t : ℕ) (f : FrameState) (l : List ℕ) (m₁ m₂ : MachineState) (method room locals : ℕ) → HasFrame b.guest t → Did s b t f l m₁
-    → m₂ ≡ steps_top m₁ t (in_clinit method room locals (top m₁.guest t)) [] → f.locals ≡ [] → f.operands ≡ [] → Did s b t (in_clinit method room locals f) (l ++ []) m₂
-did_enter_clinit s b t f l m₁ m₂ method room locals has d e noLocals noOperands =
-    did_step s (in_clinit method room locals) (λ g. []) b t f l m₁ m₂ has d e (frame_in_clinit (MayEnter b) (MayBeLost s b) f method room locals noLocals noOperands)
-
 -- the event is still under way
 pub did_on_way : (s : Kept) (b : MachineState) (t : ℕ) (f : FrameState) (l : List ℕ) (m : MachineState) → IsOnWay s b → HasFrame b.guest t → Did s b t f l m → IsOnWay s m
 did_on_way s b t f l m w has d =
@@ -167,9 +162,6 @@ operand_held m t k sound has lt o c = sound.roots o (top_root m.guest t o has (o
 
 pub operand_there : (m : MachineState) (x : Kept) (t k : ℕ) → HasFrame m.guest t → k < length (top m.guest t).operands → (o : ℕ) → Contains (refs_of_value (operand_of (top m.guest t) k)) o → WasThere (kept_of m) x o
 operand_there m x t k has lt o c = root_there (kept_of m) x o (top_root m.guest t o has (operand_root (top m.guest t) k o lt c))
-
-pub local_held : (m : MachineState) (t i : ℕ) → IsSound (kept_of m) → HasFrame m.guest t → i < length (top m.guest t).locals → (o : ℕ) → Contains (refs_of_value (local_of (top m.guest t) i)) o → IsHeld m.heap o
-local_held m t i sound has lt o c = sound.roots o (top_root m.guest t o has (local_root (top m.guest t) i o lt c))
 
 pub local_there : (m : MachineState) (x : Kept) (t i : ℕ) → HasFrame m.guest t → i < length (top m.guest t).locals → (o : ℕ) → Contains (refs_of_value (local_of (top m.guest t) i)) o → WasThere (kept_of m) x o
 local_there m x t i has lt o c = root_there (kept_of m) x o (top_root m.guest t o has (local_root (top m.guest t) i o lt c))
@@ -238,67 +230,3 @@ did_write m t f l m₁ m₂ o i v sound has d e held reached lt h r =
     let is : m₂ ≡ steps_object b o (with_slot i v (object_at m.heap o)) (refs_of_value (slot_of (object_at m.heap o) i)) =
     e ∙ ap (λ (n : MachineState). steps_object n o (with_slot i v (object_at n.heap o)) (refs_of_value (slot_of (object_at n.heap o) i))) d.is in
     led_plain s _ m₂ (subst (λ (n : MachineState). IsOnWay s n) (sym is) next) (ap (λ (n : MachineState). length n.heap) is ∙ length-set m.heap o (Some (with_slot i v (object_at m.heap o)))) (ap (λ (n : MachineState). kept_of n) is)
-
--- an event that dropped the topmost frame
-pub dropped_led : (m : MachineState) (t : ℕ) (m₀ m₁ : MachineState) → IsSound (kept_of m) → HasFrame m.guest t → m₀ ≡ begun m
-    → m₁ ≡ steps_thread m₀ t (without_top (thread_at m₀.guest t)) (frame_roots (top m₀.guest t))
-    → Led (kept_of m) (record { heap = m.heap; guest = with_thread (ticked m.guest) t (without_top (thread_at m.guest t)) }) m₁
-dropped_led m t m₀ m₁ sound has e h =
-    let s : Kept = kept_of m in
-    let is : m₁ ≡ steps_thread (begun m) t (without_top (thread_at m.guest t)) (frame_roots (top m.guest t)) =
-    h ∙ ap (λ (n : MachineState). steps_thread n t (without_top (thread_at n.guest t)) (frame_roots (top n.guest t))) e in
-    let moves = guest_dropped (MayEnter (begun m)) (MayBeLost s (begun m)) (ticked m.guest) t (record { thread = has.thread; frame = has.frame }) (λ o c. root_there s (kept_of (begun m)) o (top_root m.guest t o has c)) in
-    let next : IsOnWay s (steps_thread (begun m) t (without_top (thread_at m.guest t)) (frame_roots (top m.guest t))) =
-    law_guest s (kept_of (begun m)) [] (with_thread (ticked m.guest) t (without_top (thread_at m.guest t))) (frame_roots (top m.guest t)) (on_begin_event m sound) moves in
-    led_plain s _ m₁ (subst (λ (n : MachineState). IsOnWay s n) (sym is) next) (ap (λ (n : MachineState). length n.heap) is) (ap (λ (n : MachineState). kept_of n) is)
-
--- an event that changed the topmost frame and then entered another, of what was held
-pub did_enter : (m : MachineState) (t : ℕ) (f new : FrameState) (l : List ℕ) (m₁ m₂ : MachineState) → IsSound (kept_of m) → HasFrame m.guest t → Did (kept_of m) (begun m) t f l m₁
-    → m₂ ≡ steps_thread m₁ t (entered_by new (thread_at m₁.guest t)) [] → ((o : ℕ) → Contains (frame_roots new) o → IsHeld m.heap o)
-    → Led (kept_of m) (record { heap = m.heap; guest = with_thread (ticked m.guest) t (record (thread_at m.guest t) { frames = new ∷ f ∷ rest_of (thread_at m.guest t).frames }) }) m₂
-did_enter m t f new l m₁ m₂ sound has d e h =
-    let s : Kept = kept_of m in
-    let b : MachineState = steps_top (begun m) t f l in
-    let w : IsOnWay s b = subst (λ (n : MachineState). IsOnWay s n) d.is (did_on_way s (begun m) t f l m₁ (on_begin_event m sound) (record { thread = has.thread; frame = has.frame }) d) in
-    let long : t < length b.guest.threads = subst (λ (n : ℕ). t < n) (sym (length-set m.guest.threads t (with_top_of (thread_at m.guest t) f))) has.thread in
-    let g : GuestState = with_thread b.guest t (entered_by new (thread_at b.guest t)) in
-    let next : IsOnWay s (steps_guest b g []) = law_guest s (kept_of b) b.lost g [] w (guest_entered (MayEnter b) (MayBeLost s b) b.guest t new long h) in
-    let is : m₂ ≡ steps_guest b g [] = e ∙ ap (λ (n : MachineState). steps_thread n t (entered_by new (thread_at n.guest t)) []) d.is in
-    let same : g ≡ with_thread (ticked m.guest) t (record (thread_at m.guest t) { frames = new ∷ f ∷ rest_of (thread_at m.guest t).frames }) =
-    ap (λ (z : ThreadState). with_thread b.guest t (entered_by new z)) (get_or-set_same m.guest.threads t (with_top_of (thread_at m.guest t) f) no_thread has.thread)
-    ∙ ap (λ (zs : List ThreadState). record (ticked m.guest) { threads = zs }) (set-set m.guest.threads t (with_top_of (thread_at m.guest t) f) (entered_by new (with_top_of (thread_at m.guest t) f))) in
-    led_plain s _ m₂ (subst (λ (n : MachineState). IsOnWay s n) (sym is) next) (ap (λ (n : MachineState). length n.heap) is)
-    (ap (λ (n : MachineState). kept_of n) is ∙ ap (λ (k : GuestState). record { heap = m.heap; guest = k }) same)
-
--- SEVERAL OPERANDS
-
-record PopsMore (n : ℕ) (vs : List Value) : Type 0 where
-  left : drop 1 (drop n vs) ≡ drop (n + 1) vs
-  lost : refs_of (take n vs) ++ refs_of_value (get_or (drop n vs) 0 Unset) ≡ refs_of (take (n + 1) vs)
-  there : 0 < length (drop n vs)
-  first : get_or (drop n vs) 0 Unset ≡ get_or vs n Unset
-
-pops_more : (n : ℕ) (vs : List Value) → n < length vs → PopsMore n vs
-pops_more n [] lt = absurd (omega arith)
-pops_more zero (v ∷ vs) lt = record { left = refl; lost = sym (append-nil (refs_of_value v)); there = omega arith; first = refl }
-pops_more (suc n) (v ∷ vs) lt =
-    let e : suc (n + 1) ≡ suc n + 1 = omega arith in
-    let more : PopsMore n vs = pops_more n vs (omega arith) in
-    record {
-      left = more.left ∙ ap (λ (k : ℕ). drop k (v ∷ vs)) e;
-      lost = append_assoc (refs_of_value v) (refs_of (take n vs)) (refs_of_value (get_or (drop n vs) 0 Unset)) ∙ (ap (λ (os : List ℕ). refs_of_value v ++ os) more.lost ∙ ap (λ (k : ℕ). refs_of (take k (v ∷ vs))) e);
-      there = more.there;
-      first = more.first;
-    }
-
--- one operand more is popped
-pub did_pop_more : (s : Kept) (b : MachineState) (t : ℕ) (f : FrameState) (n : ℕ) (m₁ m₂ : MachineState) → HasFrame b.guest t → Did s b t (popped n f) (refs_of (take n f.operands)) m₁
-    → m₂ ≡ steps_top m₁ t (popped 1 (top m₁.guest t)) (refs_of_value (operand_of (top m₁.guest t) 0))
-    → n < length f.operands → ((o : ℕ) → Contains (refs_of_value (operand_of f n)) o → MayBeLost s b o)
-    → Did s b t (popped (n + 1) f) (refs_of (take (n + 1) f.operands)) m₂
-did_pop_more s b t f n m₁ m₂ has d e lt r =
-    let more : PopsMore n f.operands = pops_more n f.operands lt in
-    let next : Did s b t (popped 1 (popped n f)) (refs_of (take n f.operands) ++ refs_of_value (operand_of (popped n f) 0)) m₂ =
-    did_pop s b t (popped n f) (refs_of (take n f.operands)) m₁ m₂ has d e more.there (λ o c. r o (subst (λ (v : Value). Contains (refs_of_value v) o) more.first c)) in
-    subst (λ (vs : List Value). Did s b t (record f { operands = vs }) (refs_of (take (n + 1) f.operands)) m₂) more.left
-    (subst (λ (os : List ℕ). Did s b t (popped 1 (popped n f)) os m₂) more.lost next)

@@ -307,11 +307,6 @@ no_fresh s x len o c =
     let e : length x.heap - length s.heap ≡ 0 = omega arith in
     Contains-none o (subst (λ (n : ℕ). Contains (numbers_from (length s.heap) n) o) e c)
 
--- an event that changes root places alone
-pub guest_event : (s : Kept) (g : GuestState) (l : List ℕ) → IsSound s → Moves (IsHeld s.heap) (WasThere s s) (roots_of (ticked s.guest)) (roots_of g) l → IsEventOf s (record { heap = s.heap; guest = g }) l
-guest_event s g l sound m =
-    finish s (record { heap = s.heap; guest = g }) l (law_guest s (record { heap = s.heap; guest = ticked s.guest }) [] g l (start s sound) m) (λ o c. absurd (no_fresh s (record { heap = s.heap; guest = g }) refl o c))
-
 -- WHAT IS REACHED
 pub root_is_reached : (s : Kept) (o : ℕ) → Contains (roots_of s.guest) o → IsReached (graph_of s) o
 root_is_reached s o c = root_reached (graph_of s) o c

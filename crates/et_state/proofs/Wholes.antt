@@ -1,5 +1,5 @@
 -- Legal steps and clearing over a state with its reported objects.
-use Rattle.std.proofs.Common.{◌≡◌, ℕ, zero, suc, ◌+◌, ◌<◌, ◌⊎◌, Bool, true, false, List, [], ◌∷◌, ◌++◌, length, Option, Some, None, Contains, refl, sym, ap, subst, inl, inr, arith, ◌↔◌, if◌then◌else◌}
+use Rattle.std.proofs.Common.{◌≡◌, ℕ, zero, suc, ◌+◌, ◌<◌, ◌⊎◌, Bool, true, false, List, [], ◌∷◌, ◌++◌, length, Option, Some, None, Contains, refl, sym, ap, subst, inl, inr, arith, ◌↔◌, if◌then◌else◌, not}
 use Rattle.std.proofs.lemmas.List.Elements.{Contains-append_left, Contains-append_right, Contains-append_cases}
 use Rattle.et_graph.specs.Graph.{Graph, IsReached}
 use Rattle.et_graph.specs.Steps.{IsKnown, IsLegalStep, IsRemoved, IsAdded}
@@ -154,7 +154,7 @@ remaining_pair_stays here k [] u z t c = c
 remaining_pair_stays here k (x ∷ xs) zero z t c = let e : k + 0 ≡ k = omega arith in place_pair_stays here (here k) x z (subst (λ (n : ℕ). here n ≡ true) e t) c
 remaining_pair_stays here k (x ∷ xs) (suc u) z t c = let e : k + suc u ≡ k + 1 + u = omega arith in remaining_pair_stays here (k + 1) xs u z (subst (λ (n : ℕ). here n ≡ true) e t) c
 
-referent_stays : (b : Bool) (here : ℕ → Bool) (o q : ℕ) → b ≡ here o → (if b then Some o else None) ≡ Some q → (o ≡ q) × (here q ≡ true)
+referent_stays : (b : Bool) (here : ℕ → Bool) (o q : ℕ) → b ≡ here o → (if not b then None else Some o) ≡ Some q → (o ≡ q) × (here q ≡ true)
 referent_stays true here o q e h = let same : o ≡ q = cc in (same, subst (λ (n : ℕ). here n ≡ true) same (sym e))
 referent_stays false here o q e h = absurd (none_some q h) where
   none_some : (n : ℕ) → None ≡ Some n → ⊥

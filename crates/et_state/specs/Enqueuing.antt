@@ -2,12 +2,7 @@
 use Rattle.std.specs.Prelude.{ℕ, ◌+◌, ◌==◌, ◌&&◌, ◌||◌, not, Bool, false, if◌then◌else◌, List, [], ◌∷◌, ◌++◌, Option, Some, None}
 use Rattle.std.specs.Option.{is_some, option_map_or}
 use Rattle.et_heap.specs.Objects.{ObjectState, Objects, at}
-use Rattle.et_heap.specs.Remaining.{remaining}
-
--- a weak reference to what isn't here becomes null
-abbrev pub is_cleared : (ℕ → Bool) → Option ℕ → Bool
-is_cleared here None = false
-is_cleared here (Some o) = not (here o)
+use Rattle.et_heap.specs.Remaining.{is_cleared, remaining}
 
 -- the reference stays, its referent becomes null, and it waits nowhere
 abbrev pub is_free_to_wait : (ℕ → Bool) → Bool → Option ObjectState → Bool

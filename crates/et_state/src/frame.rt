@@ -49,6 +49,7 @@ impl<'a> Model for Frame<'a> {
 
 impl<'a> Frame<'a> {
     /// The frame with this head and these values.
+    #[inline(always)]
     pub fn of(head: &'a FrameHead, values: &'a [Value]) -> Self
         requires { IsFrame head.now values.now }
         ensures { result ≡ frame_in head.now values.now }
@@ -56,12 +57,14 @@ impl<'a> Frame<'a> {
         Frame { head, values }
     }
 
+    #[inline(always)]
     pub fn method(&self) -> Option<MethodId>
         ensures { result ≡ self.now.method }
     {
         self.head.method
     }
 
+    #[inline(always)]
     pub fn stage(&self) -> Stage
         ensures { result ≡ self.now.stage }
     {
@@ -74,6 +77,7 @@ impl<'a> Frame<'a> {
         self.head.lock
     }
 
+    #[inline(always)]
     pub fn pc(&self) -> u32
         ensures { result ≡ self.now.pc }
     {
@@ -81,6 +85,7 @@ impl<'a> Frame<'a> {
     }
 
     /// The most operands that there may be.
+    #[inline(always)]
     pub fn room(&self) -> u16
         ensures { result ≡ self.now.room }
     {
@@ -88,6 +93,7 @@ impl<'a> Frame<'a> {
     }
 
     /// The number of operands.
+    #[inline(always)]
     pub fn depth(&self) -> u32
         ensures value { result ≡ length self.now.operands }
         ensures few { length self.now.operands ≤ self.now.room }
@@ -96,6 +102,7 @@ impl<'a> Frame<'a> {
     }
 
     /// The operand so far below the topmost one.
+    #[inline(always)]
     pub fn operand(&self, from_top: u32) -> Value
         requires { from_top < length self.now.operands }
         ensures { result ≡ operand_of self.now from_top }
@@ -104,12 +111,14 @@ impl<'a> Frame<'a> {
     }
 
     /// The number of locals.
+    #[inline(always)]
     pub fn locals(&self) -> usize
         ensures { result ≡ length self.now.locals }
     {
         self.head.locals as usize
     }
 
+    #[inline(always)]
     pub fn local(&self, i: u16) -> Value
         requires { i < length self.now.locals }
         ensures { result ≡ local_of self.now i }

@@ -59,6 +59,7 @@ impl FrameStack {
     }
 
     /// The number of frames.
+    #[inline(always)]
     pub fn len(&self) -> usize
         ensures { result ≡ length self.now }
     {
@@ -66,6 +67,7 @@ impl FrameStack {
     }
 
     /// The topmost frame.
+    #[inline(always)]
     pub fn top(&self) -> Frame<'_>
         requires { 0 < length self.now }
         ensures { result ≡ first_frame self.now }
@@ -108,6 +110,7 @@ impl FrameStack {
         self.values.truncate(head.base);
     }
 
+    #[inline(always)]
     pub fn set_pc(&mut self, pc: u32)
         requires { 0 < length self.old }
         ensures { self.new ≡ at_pc pc (first_frame self.old) ∷ rest_of self.old }
@@ -117,6 +120,7 @@ impl FrameStack {
         self.heads[last] = FrameHead { pc, ..head };
     }
 
+    #[inline(always)]
     pub fn push(&mut self, v: Value)
         requires frame { 0 < length self.old }
         requires room { length (first_frame self.old).operands < (first_frame self.old).room }
@@ -126,6 +130,7 @@ impl FrameStack {
     }
 
     /// Takes the topmost operand away.
+    #[inline(always)]
     pub fn pop(&mut self)
         requires frame { 0 < length self.old }
         requires operand { 0 < length (first_frame self.old).operands }
@@ -143,6 +148,7 @@ impl FrameStack {
         self.values.truncate(head.base + head.locals as usize);
     }
 
+    #[inline(always)]
     pub fn set_local(&mut self, i: u16, v: Value)
         requires frame { 0 < length self.old }
         requires local { i < length (first_frame self.old).locals }

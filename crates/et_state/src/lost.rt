@@ -53,6 +53,7 @@ impl Lost {
     }
 
     /// Adds an object.
+    #[inline]
     pub fn add(&mut self, o: ObjectId)
         requires { length self.old < lost_room }
         ensures { self.new ≡ self.old ++ o ∷ [] }
@@ -64,6 +65,7 @@ impl Lost {
     }
 
     /// Adds the object that a value refers to, if it does.
+    #[inline(always)]
     pub fn add_value(&mut self, v: Value)
         requires { length self.old < lost_room }
         ensures new { self.new ≡ self.old ++ refs_of_value v }

@@ -99,6 +99,7 @@ impl Machine {
     }
 
     /// The number of the last event.
+    #[inline(always)]
     pub fn clock(&self) -> u64
         ensures { result ≡ self.now.guest.clock }
     {
@@ -106,6 +107,7 @@ impl Machine {
     }
 
     /// Goes on to the next event, which has lost nothing yet.
+    #[inline(always)]
     pub fn begin_event(&mut self)
         requires { self.old.guest.clock < 2 ^ 40 }
         ensures { self.new ≡ begun self.old }
@@ -116,6 +118,7 @@ impl Machine {
 
     /// The objects that this event has taken a reference away from, in order. There is room for 16 of them, and for all
     /// that stands in any one frame besides.
+    #[inline(always)]
     pub fn lost(&self) -> &[ObjectId]
         ensures { result.now ≡ self.now.lost }
     {
@@ -139,6 +142,7 @@ impl Machine {
     }
 
     /// The k-th thread that has not ended, from 0, in order of start.
+    #[inline(always)]
     pub fn unended(&self, k: u32) -> Option<ThreadId>
         ensures { result ≡ slice_get (unended_of self.now.guest.threads) k }
     {
@@ -146,6 +150,7 @@ impl Machine {
     }
 
     /// The number of threads that have not ended.
+    #[inline(always)]
     pub fn unended_count(&self) -> usize
         ensures { result ≡ length (unended_of self.now.guest.threads) }
     {
@@ -153,6 +158,7 @@ impl Machine {
     }
 
     /// What a thread does next.
+    #[inline(always)]
     pub fn turn(&self, thread: ThreadId) -> Turn
         requires { thread < length self.now.guest.threads }
         ensures { result ≡ turn_of (thread_at self.now.guest thread) }
@@ -250,6 +256,7 @@ impl Machine {
     }
 
     /// The method of the frame, or none where it initializes a class and has not entered its `<clinit>`.
+    #[inline(always)]
     pub fn frame_method(&self, thread: ThreadId) -> Option<MethodId>
         requires { HasFrame self.now.guest thread }
         ensures { result ≡ (top self.now.guest thread).method }
@@ -258,6 +265,7 @@ impl Machine {
     }
 
     /// What the frame is for.
+    #[inline(always)]
     pub fn stage(&self, thread: ThreadId) -> Stage
         requires { HasFrame self.now.guest thread }
         ensures { result ≡ (top self.now.guest thread).stage }
@@ -274,6 +282,7 @@ impl Machine {
     }
 
     /// The pc of the frame.
+    #[inline(always)]
     pub fn pc(&self, thread: ThreadId) -> u32
         requires { HasFrame self.now.guest thread }
         ensures { result ≡ (top self.now.guest thread).pc }
@@ -283,6 +292,7 @@ impl Machine {
 
     /// Sets the pc of the frame.
     #[tactic(auto, using(crate::proofs::Unended::stays))]
+    #[inline(always)]
     pub fn set_pc(&mut self, thread: ThreadId, pc: u32)
         requires { HasFrame self.old.guest thread }
         ensures { self.new ≡ steps_top self.old thread (at_pc pc (top self.old.guest thread)) [] }
@@ -292,6 +302,7 @@ impl Machine {
     }
 
     /// The most operands that the frame may have.
+    #[inline(always)]
     pub fn room(&self, thread: ThreadId) -> u16
         requires { HasFrame self.now.guest thread }
         ensures { result ≡ (top self.now.guest thread).room }
@@ -300,6 +311,7 @@ impl Machine {
     }
 
     /// The number of operands of the frame. A long has two.
+    #[inline(always)]
     pub fn depth(&self, thread: ThreadId) -> u32
         requires { HasFrame self.now.guest thread }
         ensures value { result ≡ length (top self.now.guest thread).operands }
@@ -310,6 +322,7 @@ impl Machine {
     }
 
     /// The operand so far below the topmost one.
+    #[inline(always)]
     pub fn operand(&self, thread: ThreadId, from_top: u32) -> Value
         requires frame { HasFrame self.now.guest thread }
         requires operand { from_top < length (top self.now.guest thread).operands }
@@ -322,6 +335,7 @@ impl Machine {
 
     /// Puts an operand on top.
     #[tactic(auto, using(crate::proofs::Unended::stays))]
+    #[inline(always)]
     pub fn push(&mut self, thread: ThreadId, v: Value)
         requires frame { HasFrame self.old.guest thread }
         requires room { length (top self.old.guest thread).operands
@@ -334,6 +348,7 @@ impl Machine {
 
     /// Takes the topmost operand away, and loses the object that it refers to.
     #[tactic(auto, using(crate::proofs::Unended::stays))]
+    #[inline(always)]
     pub fn pop(&mut self, thread: ThreadId) -> Value
         requires frame { HasFrame self.old.guest thread }
         requires operand { 0 < length (top self.old.guest thread).operands }
@@ -368,6 +383,7 @@ impl Machine {
     }
 
     /// The number of locals of the frame. A long has two.
+    #[inline(always)]
     pub fn locals(&self, thread: ThreadId) -> usize
         requires { HasFrame self.now.guest thread }
         ensures { result ≡ length (top self.now.guest thread).locals }
@@ -376,6 +392,7 @@ impl Machine {
     }
 
     /// What a local holds.
+    #[inline(always)]
     pub fn local(&self, thread: ThreadId, i: u16) -> Value
         requires frame { HasFrame self.now.guest thread }
         requires local { i < length (top self.now.guest thread).locals }
@@ -386,6 +403,7 @@ impl Machine {
 
     /// Writes a local, and loses the object that it referred to.
     #[tactic(auto, using(crate::proofs::Unended::stays))]
+    #[inline(always)]
     pub fn set_local(&mut self, thread: ThreadId, i: u16, v: Value)
         requires frame { HasFrame self.old.guest thread }
         requires local { i < length (top self.old.guest thread).locals }

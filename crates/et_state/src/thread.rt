@@ -53,6 +53,7 @@ impl Thread {
     }
 
     /// The number of frames.
+    #[inline(always)]
     pub fn frames(&self) -> u32
         ensures value { result ≡ length self.now.frames }
         ensures few { result ≤ most_frames }
@@ -61,6 +62,7 @@ impl Thread {
     }
 
     /// What the thread does next.
+    #[inline(always)]
     pub fn turn(&self) -> Turn
         ensures { result ≡ turn_of self.now }
     {
@@ -82,6 +84,7 @@ impl Thread {
     }
 
     /// The topmost frame.
+    #[inline(always)]
     pub fn top(&self) -> Frame<'_>
         requires { 0 < length self.now.frames }
         ensures { result ≡ top_of self.now }
@@ -155,6 +158,7 @@ impl Thread {
         self.frames.drop_top();
     }
 
+    #[inline(always)]
     pub fn set_pc(&mut self, pc: u32)
         requires { 0 < length self.old.frames }
         ensures { self.new ≡ with_top_of self.old (at_pc pc (top_of self.old)) }
@@ -162,6 +166,7 @@ impl Thread {
         self.frames.set_pc(pc);
     }
 
+    #[inline(always)]
     pub fn push(&mut self, v: Value)
         requires frame { 0 < length self.old.frames }
         requires room { length (top_of self.old).operands < (top_of self.old).room }
@@ -171,6 +176,7 @@ impl Thread {
     }
 
     /// Takes the topmost operand away.
+    #[inline(always)]
     pub fn pop(&mut self)
         requires frame { 0 < length self.old.frames }
         requires operand { 0 < length (top_of self.old).operands }
@@ -187,6 +193,7 @@ impl Thread {
         self.frames.clear_operands();
     }
 
+    #[inline(always)]
     pub fn set_local(&mut self, i: u16, v: Value)
         requires frame { 0 < length self.old.frames }
         requires local { i < length (top_of self.old).locals }
