@@ -16,8 +16,7 @@ use Rattle.et_program.specs.Members.{is_subclass}
 use Rattle.et_program.specs.declared.info.Element.{Element}
 use Rattle.et_program.specs.declared.info.Element.TheVariants.{NoArray}
 use Rattle.et_event.specs.PoolOperands.Operand.TheVariants as operand
-use Rattle.et_event.specs.BuiltIns.{argument, is_fit_for, is_null_or_of_class, is_object_of_class, reference_of, takes_queue, uses_thread, uses_throwable}
-use Rattle.et_event.specs.Checks.{reference_value}
+use Rattle.et_event.specs.BuiltIns.{argument, is_fit_for, is_null_or_of_class, is_object_of_class, takes_queue, uses_thread, uses_throwable}
 use Rattle.et_event.specs.Errors.{class_called}
 use Rattle.et_event.specs.Kinds.{or_zero}
 use Rattle.et_event.specs.Sound.{IsSoundFor, IsSoundObject, slots_by}
@@ -77,18 +76,6 @@ same_of (Some u) o c = elim (Contains-cons u [] o c) [ inl e ↦ ap (λ (k : ℕ
 
 pub referent_held : (m : MachineState) (u : ℕ) (v : Value) → IsSound (kept_of m) → v ≡ referent_value (object_at m.heap u).referent → (o : ℕ) → Contains (refs_of_value v) o → IsHeld m.heap o
 referent_held m u v sound e o c = sound.referents u o (same_of (object_at m.heap u).referent o (subst (λ (x : Value). Contains (refs_of_value x) o) e c))
-
-pub referent_is : (r : Option ℕ) → referent_value r ≡ reference_value r
-referent_is None = refl
-referent_is (Some o) = refl
-
-pub reference_is : (v : Value) → referent_of v ≡ reference_of v
-reference_is Unset = refl
-reference_is (Int n) = refl
-reference_is (Long n) = refl
-reference_is LongHigh = refl
-reference_is Null = refl
-reference_is (Ref o) = refl
 
 -- THE THREAD OF A THREAD OBJECT is one that was started
 

@@ -1,7 +1,7 @@
 //! What each built-in method does (`java.lang.Throwable`, `Thread`, and the weak references and reference queues of
 //! `java.lang.ref`).
 ghost use Rattle.std.specs.Prelude.{◌≡◌, ℕ, ◌+◌, ◌<◌, ◌≤◌, ◌^◌, ◌∷◌, [], true, Some, List, IfOk, IfSome, Contains, length, drop, codes};
-ghost use Rattle.et_heap.specs.Objects.{IsHeld, object_at};
+ghost use Rattle.et_heap.specs.Objects.{IsHeld, object_at, referent_value};
 ghost use Rattle.et_heap.specs.Refs.{refs_of_value};
 ghost use Rattle.et_state.specs.ThreadRoots.{frame_roots};
 ghost use Rattle.et_state.specs.Threads.{thread_with};
@@ -13,7 +13,7 @@ ghost use Rattle.et_state.specs.declared.records.Record.{Record};
 ghost use Rattle.et_event.specs.Answered.{EventAnswers};
 ghost use Rattle.et_event.specs.BuiltIns.{answering, built_in_row as row_of, has_thread_ended as has_ended_in, is_fit_for as fits_row, is_object_of_class as is_of_class, reference_in, is_null_or_of_class, row_done, starts_thread, takes_queue as has_queue_argument, uses_thread as is_on_thread, uses_throwable as is_on_throwable, with_thread_for};
 ghost use Rattle.et_event.specs.Calls.{arguments_of};
-ghost use Rattle.et_event.specs.Checks.{reference_value, waits_unless};
+ghost use Rattle.et_event.specs.Checks.{waits_unless};
 ghost use Rattle.et_event.specs.Kinds.{or_zero};
 ghost use Rattle.et_event.specs.Moments.{moment, begins, goes};
 ghost use Rattle.et_event.specs.PoolOperands.Operand.TheVariants as operand;
@@ -199,7 +199,7 @@ fn give_referent<L: Ledger>(
     ensures ok { (p : Linked) (at : Site) (out : List Record) → at.next ≡ call.now.next →
         EventAnswers (goes (answering (moment p machine.old call.now.thread) at
         (arguments_of (moment p machine.old call.now.thread) call.now.count)
-        (reference_value (object_at machine.old.heap object).referent ∷ [])
+        (referent_value (object_at machine.old.heap object).referent ∷ [])
         (begins (moment p machine.old call.now.thread)))) result machine.old machine.new out out }
     ensures visits { visits.new ≡ visits.old + 1 }
 {

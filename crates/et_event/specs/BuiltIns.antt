@@ -8,7 +8,7 @@ use Rattle.et_class.specs.Names.{has}
 use Rattle.et_class.specs.declared.flags.TheConstants.{ABSTRACT}
 use Rattle.et_program.specs.Members.{is_subclass}
 use Rattle.et_program.specs.declared.info.MethodInfo.{MethodInfo}
-use Rattle.et_heap.specs.Objects.{object_at, slot_of, with_referent, with_queue, with_object_at}
+use Rattle.et_heap.specs.Objects.{object_at, slot_of, with_referent, with_queue, with_object_at, referent_of, referent_value}
 use Rattle.et_heap.specs.Queues.{first_value, polled}
 use Rattle.et_state.specs.Threads.{new_thread, thread_with, most_threads}
 use Rattle.et_state.specs.State.{Kept}
@@ -19,7 +19,7 @@ use Rattle.et_event.specs.declared.rows.BuiltIn.TheVariants.{Nothing, SetMessage
 use Rattle.et_event.specs.declared.errors.GuestError.TheVariants.{AbstractMethodError, IllegalThreadStateException, OutOfMemoryError}
 use Rattle.et_event.specs.Moments.{Moment, Doing, current_frame, doing_with_guest, with_frame, object_class, slot_written, goes, throws}
 use Rattle.et_event.specs.Errors.{class_called}
-use Rattle.et_event.specs.Checks.{Reference, reference_value, ill_typed_unless, throws_unless, waits_unless}
+use Rattle.et_event.specs.Checks.{ill_typed_unless, throws_unless, waits_unless}
 use Rattle.et_event.specs.Kinds.{or_zero}
 use Rattle.et_class.specs.PoolOperands.Operand.TheVariants as operand
 use Rattle.et_event.specs.Sites.{Site}
@@ -91,10 +91,6 @@ with_reference_made o r q d = with_queue_of o q (with_referent_of o r d)
 abbrev pub with_first_taken : ℕ → Doing → Doing
 with_first_taken q d = record { state = record { heap = polled q d.state.heap; guest = d.state.guest }; records = d.records }
 
-abbrev pub reference_of : Value → Reference
-reference_of (Ref o) = Some o
-reference_of other = None
-
 -- start: a thread more, which is entered by an event of its own
 abbrev pub starts_thread : Moment → Doing → ℕ → Outcome Kept → Option ℕ → Outcome Kept
 starts_thread e d o go (Some k) = throws e IllegalThreadStateException d
@@ -125,7 +121,8 @@ uses_thread other = false
 abbrev pub is_object_of_class : Moment → Doing → ℕ → List ℕ → Bool
 is_object_of_class e d o name = is_subclass e.program (object_class d o) (class_called e.program name)
 
--- null, or an object of a class or of one below it
+-- Null, or an object of a class or of one below it. It is true of an int, too: that an argument is of the kind that the
+-- descriptor names was tested before.
 abbrev pub is_null_or_of_class : Moment → Doing → Value → List ℕ → Bool
 is_null_or_of_class e d (Ref o) name = is_object_of_class e d o name
 is_null_or_of_class e d other name = true
@@ -155,10 +152,10 @@ row_done e at d arguments o SetTarget = goes (slot_written e o 0 (argument argum
 row_done e at d arguments o Start =
     starts_thread e d o (goes (with_thread_for o (answering e at arguments [] d))) (thread_with d.state.guest.threads o)
 row_done e at d arguments o Join = waits_unless e (has_thread_ended d (thread_with d.state.guest.threads o)) (goes (answering e at arguments [] d))
-row_done e at d arguments o SetReferent = goes (with_reference_made o (reference_of (argument arguments 1)) None (answering e at arguments [] d))
+row_done e at d arguments o SetReferent = goes (with_reference_made o (referent_of (argument arguments 1)) None (answering e at arguments [] d))
 row_done e at d arguments o SetReferentAndQueue =
-    goes (with_reference_made o (reference_of (argument arguments 1)) (reference_of (argument arguments 2)) (answering e at arguments [] d))
-row_done e at d arguments o GetReferent = goes (answering e at arguments (reference_value (object_at d.state.heap o).referent ∷ []) d)
+    goes (with_reference_made o (referent_of (argument arguments 1)) (referent_of (argument arguments 2)) (answering e at arguments [] d))
+row_done e at d arguments o GetReferent = goes (answering e at arguments (referent_value (object_at d.state.heap o).referent ∷ []) d)
 row_done e at d arguments o ClearReferent = goes (with_referent_of o None (answering e at arguments [] d))
 row_done e at d arguments o Poll = goes (with_first_taken o (answering e at arguments (first_value (object_at d.state.heap o).waiting ∷ []) d))
 

@@ -16,6 +16,7 @@
 use Rattle.std.specs.Prelude.{ℕ, ℤ, nat_lt, Bool, true, false, List, [], ◌∷◌, length, Option, Some, None, Result, Ok, Err}
 use Rattle.et_base.specs.declared.value.Value.{Value}
 use Rattle.et_base.specs.declared.value.Value.TheVariants.{Unset, Int, Long, LongHigh, Null, Ref}
+use Rattle.et_heap.specs.Objects.{referent_value}
 use Rattle.et_state.specs.Threads.{most_frames}
 use Rattle.et_state.specs.State.{Kept}
 use Rattle.et_state.specs.Words.{thread_at}
@@ -31,10 +32,6 @@ use Rattle.et_event.specs.Moments.{Moment, Doing, ill_typed, waits, throws}
 -- a reference that isn't null names an object
 abbrev pub Reference : Type 0
 Reference = Option ℕ
-
-abbrev pub reference_value : Reference → Value
-reference_value None = Null
-reference_value (Some o) = Ref o
 
 -- OPERANDS, the topmost first: what a row takes, and what is below it
 
@@ -57,7 +54,7 @@ abbrev pub with_value : {A : Type 0} → Option Operand → A → List Value →
 with_value None refused ops go = refused
 with_value (Some operand.Int) refused ops go = with_int refused ops (λ n. go (Int n))
 with_value (Some operand.Long) refused ops go = with_long refused ops (λ n. go (Long n))
-with_value (Some operand.Reference) refused ops go = with_reference refused ops (λ r. go (reference_value r))
+with_value (Some operand.Reference) refused ops go = with_reference refused ops (λ r. go (referent_value r))
 
 -- the entries that a value takes, the upper one first
 abbrev pub entries_of : Value → List Value

@@ -8,9 +8,9 @@ use Rattle.std.proofs.lemmas.Bool.{cases_Bool, cases_eq, eqb-true, eq-eqb}
 use Rattle.et_base.proofs.Lists.{Contains-here, Contains-there}
 use Rattle.et_heap.specs.Objects.{ObjectState, Objects, IsHeld, is_there, at, found, object_at}
 use Rattle.et_heap.specs.Queues.{with_waits, with_one_waiting, changed_at, put_in, enqueued}
-use Rattle.et_heap.specs.Remaining.{left_place, remaining}
+use Rattle.et_heap.specs.Remaining.{is_cleared, left_place, remaining}
 use Rattle.et_heap.proofs.HeapLists.{held_within, held_set}
-use Rattle.et_state.specs.Enqueuing.{is_cleared, is_free_to_wait, has_queue, has_this_queue, newcomers_from, newcomers, begins_to_wait, joined_place, flushed_heap}
+use Rattle.et_state.specs.Enqueuing.{is_free_to_wait, has_queue, has_this_queue, newcomers_from, newcomers, begins_to_wait, joined_place, flushed_heap}
 use Rattle.et_state.proofs.Enqueued.{length-joined, joined_now, remaining_at}
 use Rattle.et_flush.specs.Flushes.{loses_referent, cleared_references, all_enqueued}
 use Rattle.et_flush.proofs.Clearing.{cleared_at}

@@ -5,8 +5,10 @@ use Rattle.std.proofs.lemmas.Bool.{cases_eq, cases_lt}
 use Rattle.std.proofs.lemmas.List.{length-append, get_or_append_left, get_or_push, get_or_default}
 use Rattle.std.proofs.lemmas.List.Elements.{Contains-append_left, Contains-push, Contains-get_or}
 use Rattle.std.proofs.lemmas.List.Kept.{AllPairs-from_increasing}
+use Rattle.et_heap.specs.Pages.{page_at}
+use Rattle.et_heap.specs.declared.page.TheConstants.{PAGE_SIZE}
 use Rattle.et_flush.specs.declared.ranks.Ranks.{Ranks}
-use Rattle.et_flush.specs.Ranks.{page_at, rank_entry, AreRuns, IsPageAdded, rank_of, AreRanked}
+use Rattle.et_flush.specs.Ranks.{rank_entry, AreRuns, IsPageAdded, rank_of, AreRanked}
 
 -- PAGES
 
@@ -98,7 +100,7 @@ run_of runs pages g are c =
     let run : get_or runs g 0 ≡ c.0 = ap (λ (p : ℕ). get_or runs p 0) (sym at) ∙ (are c.0 c.1).1 in
     (omega (arith, run, c.1), ap (λ (r : ℕ). get_or pages r 0) run ∙ at)
 
-pub entry_within : (runs pages : List ℕ) (o : ℕ) → AreRuns runs pages → Contains pages (page_at o) → rank_entry runs o < length pages * 1024
+pub entry_within : (runs pages : List ℕ) (o : ℕ) → AreRuns runs pages → Contains pages (page_at o) → rank_entry runs o < length pages * PAGE_SIZE
 entry_within runs pages o are c = let run = (run_of runs pages (page_at o) are c).0 in omega (arith, run)
 
 -- objects that share an entry are the same

@@ -7,14 +7,13 @@ use Rattle.std.proofs.lemmas.List.Sums.{sum_by-cons}
 use Rattle.et_graph.specs.Graph.{IsReached, IsDead}
 use Rattle.et_graph.proofs.Walks.{cases_reached}
 use Rattle.et_heap.specs.Objects.{ObjectState, Objects, IsHeld, is_there, found, object_at, held_count, ones_in}
-use Rattle.et_heap.specs.Remaining.{kept_referent, left_place, remaining}
+use Rattle.et_heap.specs.Remaining.{is_cleared, kept_referent, left_place, remaining}
 use Rattle.et_heap.proofs.HeapLists.{held_within, gone_at, at_gone}
 use Rattle.et_graph.specs.Listed.{IsGreatest, AreListed}
 use Rattle.et_flush.specs.declared.times.TheConstants.{NOW}
 use Rattle.et_flush.specs.Searches.{AreDyingIn}
-use Rattle.et_flush.specs.Sweeps.{is_now, clears, visits_of, visits_from}
+use Rattle.et_flush.specs.Sweeps.{is_now, visits_of, visits_from}
 use Rattle.et_flush.specs.Works.{IsSettled}
-use Rattle.et_state.specs.Enqueuing.{is_cleared}
 use Rattle.et_flush.specs.Flushes.{loses_referent, cleared_references, heap_graph}
 use Rattle.et_flush.proofs.Targets.{held_above}
 use Rattle.et_flush.proofs.Settling.{lead_held}
@@ -93,9 +92,12 @@ agree_next here other k x xs agree j there =
     let e : k + suc j ≡ k + 1 + j = omega arith in
     subst (λ (i : ℕ). here i ≡ other i) e (agree (suc j) there)
 
+cleared_same : (here other : ℕ → Bool) (p : Option ℕ) → ((r : ℕ) → p ≡ Some r → here r ≡ other r) → is_cleared here p ≡ is_cleared other p
+cleared_same here other None same = refl
+cleared_same here other (Some r) same = ap (λ (b : Bool). not b) (same r refl)
+
 referent_same : (here other : ℕ → Bool) (p : Option ℕ) → ((r : ℕ) → p ≡ Some r → here r ≡ other r) → kept_referent here p ≡ kept_referent other p
-referent_same here other None same = refl
-referent_same here other (Some r) same = ap (λ (b : Bool). if b then Some r else None) (same r refl)
+referent_same here other p same = ap (λ (b : Bool). if b then None else p) (cleared_same here other p same)
 
 stays_same : (here other : ℕ → Bool) (b : Bool) (x : ObjectState) → ((r : ℕ) → x.referent ≡ Some r → here r ≡ other r) → left_place here b (Some x) ≡ left_place other b (Some x)
 stays_same here other false x weak = refl
@@ -120,14 +122,6 @@ remaining_same heap here other same referents = remaining_from here other 0 heap
 
 -- VISITS
 
-turned : (b : Bool) → let kept : ℕ = if b then 0 else 1 in kept ≡ (if not b then 1 else 0)
-turned true = refl
-turned false = refl
-
-clears_in : (here other : ℕ → Bool) (p : Option ℕ) → ((r : ℕ) → p ≡ Some r → here r ≡ other r) → clears here p ≡ (if is_cleared other p then 1 else 0)
-clears_in here other None same = refl
-clears_in here other (Some r) same = ap (λ (b : Bool). if b then 0 else 1) (same r refl) ∙ turned (other r)
-
 -- the reference at number k, where its referent becomes null
 abbrev cleared_one : (ℕ → Bool) → Bool → ℕ → Option ObjectState → List ℕ
 cleared_one here b k x = if loses_referent here b x then k ∷ [] else []
@@ -140,8 +134,8 @@ visits_in : (here other : ℕ → Bool) (a b : Bool) (k : ℕ) (x : Option Objec
 visits_in here other a b k None same weak = omega arith
 visits_in here other false b k (Some x) same weak = omega arith
 visits_in here other true b k (Some x) same weak =
-    let e : length (if b && is_cleared other x.referent then k ∷ [] else []) ≡ clears here x.referent =
-    ap (λ (c : Bool). length (if c && is_cleared other x.referent then k ∷ [] else [])) (sym (same tt)) ∙ (one_long (is_cleared other x.referent) k ∙ sym (clears_in here other x.referent weak)) in
+    let e : length (if b && is_cleared other x.referent then k ∷ [] else []) ≡ (if is_cleared here x.referent then 1 else 0) =
+    ap (λ (c : Bool). length (if c && is_cleared other x.referent then k ∷ [] else [])) (sym (same tt)) ∙ (one_long (is_cleared other x.referent) k ∙ ap (λ (c : Bool). if c then 1 else 0) (sym (cleared_same here other x.referent weak))) in
     omega arith
 
 visits_at : (here other : ℕ → Bool) (k : ℕ) (xs : Objects) → Agree here other k xs → AgreeWeakly here other xs → visits_from here k xs ≤ held_count xs + length (cleared_references other k xs)
@@ -159,11 +153,7 @@ visits_bound heap here other same referents = visits_at here other 0 heap (agree
 cleared_same_place : (here other : ℕ → Bool) (a b : Bool) (x : Option ObjectState) → (is_there x → a ≡ b) → ((r : ℕ) → (found x).referent ≡ Some r → here r ≡ other r) → loses_referent here a x ≡ loses_referent other b x
 cleared_same_place here other a b None same weak = refl
 cleared_same_place here other a b (Some x) same weak =
-    ap (λ (c : Bool). c && is_cleared here x.referent) (same tt) ∙ ap (λ (c : Bool). b && c) (referent_cleared x.referent weak)
-  where
-    referent_cleared : (p : Option ℕ) → ((r : ℕ) → p ≡ Some r → here r ≡ other r) → is_cleared here p ≡ is_cleared other p
-    referent_cleared None w = refl
-    referent_cleared (Some r) w = ap (λ (c : Bool). not c) (w r refl)
+    ap (λ (c : Bool). c && is_cleared here x.referent) (same tt) ∙ ap (λ (c : Bool). b && c) (cleared_same here other x.referent weak)
 
 cleared_from : (here other : ℕ → Bool) (k : ℕ) (xs : Objects) → Agree here other k xs → AgreeWeakly here other xs → cleared_references here k xs ≡ cleared_references other k xs
 cleared_from here other k [] agree weak = refl

@@ -1,25 +1,20 @@
 -- Objects that are swept one after the other.
 use Rattle.std.proofs.Common.{◌≡◌, ℕ, zero, suc, ◌+◌, ◌-◌, ◌<◌, ◌≤◌, Bool, true, false, [], ◌∷◌, length, get_or, set, Option, Some, None, refl, sym, ◌∙◌, ap, subst, inl, inr, arith, drop, drop-cons}
 use Rattle.std.proofs.lemmas.List.{set-get_or, drop_all}
-use Rattle.std.specs.Prelude.{if◌then◌else◌}
+use Rattle.std.specs.Prelude.{if◌then◌else◌, not}
 use Rattle.std.proofs.lemmas.Bool.{le-leb, cases_lt}
 use Rattle.et_base.specs.declared.value.Value.TheVariants.{Ref}
 use Rattle.et_heap.specs.Objects.{ObjectState, Objects, IsHeld, is_there, at, found, object_at, with_referent, referent_value}
 use Rattle.et_heap.specs.Remaining.{kept_referent, left_place, remaining}
 use Rattle.et_flush.specs.declared.times.TheConstants.{NOW}
 use Rattle.et_flush.specs.declared.ranks.Ranks.{Ranks}
-use Rattle.et_flush.specs.Sweeps.{is_now, ReferentsWithin, clears, visits_of, visits_from}
+use Rattle.et_flush.specs.Sweeps.{is_now, ReferentsWithin, visits_of, visits_from}
 
 -- the first n places are swept
 abbrev pub swept : (ℕ → Bool) → ℕ → ℕ → Objects → Objects
 swept here zero k xs = xs
 swept here (suc n) k [] = []
 swept here (suc n) k (x ∷ xs) = left_place here (here k) x ∷ swept here n (k + 1) xs
-
-pub swept_length : (here : ℕ → Bool) (n k : ℕ) (xs : Objects) → length (swept here n k xs) ≡ length xs
-swept_length here zero k xs = refl
-swept_length here (suc n) k [] = refl
-swept_length here (suc n) k (x ∷ xs) = let e = swept_length here n (k + 1) xs in omega arith
 
 -- the next place is as it was
 pub swept_at : (here : ℕ → Bool) (n k : ℕ) (xs : Objects) → get_or (swept here n k xs) n None ≡ get_or xs n None
@@ -71,35 +66,13 @@ swept_to here n m xs le out =
 
 -- ONE PLACE
 
-taken : (here : ℕ → Bool) (p : Option ObjectState) → None ≡ left_place here false p
-taken here None = refl
-taken here (Some x) = refl
-
-pub taken_out : (here : ℕ → Bool) (b : Bool) (xs ys : Objects) (o : ℕ) → b ≡ false → ys ≡ set xs o None → ys ≡ set xs o (left_place here b (at xs o))
-taken_out here b xs ys o off is = is ∙ (ap (λ (p : Option ObjectState). set xs o p) (taken here (at xs o)) ∙ ap (λ (c : Bool). set xs o (left_place here c (at xs o))) (sym off))
-
 found_there : (p : Option ObjectState) → is_there p → Some (found p) ≡ p
 found_there None h = absurd h
 found_there (Some x) h = refl
 
-pub kept_place : (here : ℕ → Bool) (b : Bool) (xs ys : Objects) (o : ℕ) → IsHeld xs o → b ≡ true → ys ≡ set xs o (left_place here true (Some (object_at xs o))) → ys ≡ set xs o (left_place here b (at xs o))
-kept_place here b xs ys o held on is =
-    is ∙ (ap (λ (p : Option ObjectState). set xs o (left_place here true p)) (found_there (at xs o) held) ∙ ap (λ (c : Bool). set xs o (left_place here c (at xs o))) (sym on))
-
 no_visit : (here : ℕ → Bool) (b : Bool) (p : Option ObjectState) → (is_there p → ⊥) → visits_of here b p ≡ 0
 no_visit here b None out = refl
 no_visit here b (Some x) out = absurd (out tt)
-
-none_taken : (here : ℕ → Bool) (p : Option ObjectState) → visits_of here false p ≡ 0
-none_taken here None = refl
-none_taken here (Some x) = refl
-
-pub taken_visits : (here : ℕ → Bool) (b : Bool) (xs : Objects) (o visits : ℕ) → b ≡ false → visits ≡ visits + visits_of here b (at xs o)
-taken_visits here b xs o visits off = let e : visits_of here b (at xs o) ≡ 0 = ap (λ (c : Bool). visits_of here c (at xs o)) off ∙ none_taken here (at xs o) in omega arith
-
-pub kept_visits : (here : ℕ → Bool) (b : Bool) (xs : Objects) (o old new : ℕ) → IsHeld xs o → b ≡ true → new ≡ old + visits_of here true (Some (object_at xs o)) → new ≡ old + visits_of here b (at xs o)
-kept_visits here b xs o old new held on is =
-    is ∙ (ap (λ (p : Option ObjectState). old + visits_of here true p) (found_there (at xs o) held) ∙ ap (λ (c : Bool). old + visits_of here c (at xs o)) (sym on))
 
 -- THE REFERENT OF ONE OBJECT
 
@@ -108,20 +81,14 @@ pub referent_kept : (here : ℕ → Bool) (xs : Objects) (o : ℕ) → IsHeld xs
 referent_kept here xs o held same =
     sym (ap (λ (r : Option ℕ). set xs o (Some (record (object_at xs o) { referent = r }))) same ∙ (ap (λ (p : Option ObjectState). set xs o p) (found_there (at xs o) held) ∙ set-get_or xs o None))
 
-pub referent_gone : (here : ℕ → Bool) (xs ys : Objects) (o : ℕ) → kept_referent here (object_at xs o).referent ≡ None → ys ≡ set xs o (Some (with_referent None (object_at xs o))) → ys ≡ set xs o (left_place here true (Some (object_at xs o)))
-referent_gone here xs ys o gone is = is ∙ ap (λ (r : Option ℕ). set xs o (Some (record (object_at xs o) { referent = r }))) (sym gone)
-
 -- what stays refers to what stays
 pub kept_same : (here : ℕ → Bool) (p : Option ℕ) (r : ℕ) → p ≡ Some r → here r ≡ true → kept_referent here p ≡ p
 kept_same here p r is on =
-    subst (λ (q : Option ℕ). kept_referent here q ≡ q) (sym is) (ap (λ (b : Bool). if b then Some r else None) on)
+    subst (λ (q : Option ℕ). kept_referent here q ≡ q) (sym is) (ap (λ (b : Bool). if not b then None else Some r) on)
 
 pub referent_is : (p : Option ℕ) (r : ℕ) → Ref r ≡ referent_value p → p ≡ Some r
 referent_is None r e = absurd (cc)
 referent_is (Some q) r e = cc
-
-pub clears_none : (here : ℕ → Bool) (p : Option ℕ) (r : ℕ) → p ≡ Some r → here r ≡ true → clears here p ≡ 0
-clears_none here p r is on = subst (λ (q : Option ℕ). clears here q ≡ 0) (sym is) (ap (λ (b : Bool). if b then 0 else 1) on)
 
 -- an object is reached now where its time is no less than NOW
 pub now_is : (time : ℕ → ℕ) (o t : ℕ) → t ≡ time o → NOW ≤ t → is_now time o ≡ true

@@ -4,7 +4,7 @@ use Rattle.et_graph.specs.Graph.{Graph}
 use Rattle.et_heap.specs.Objects.{ObjectState, Objects, made_count}
 use Rattle.et_heap.specs.Queues.{enqueued}
 use Rattle.et_heap.specs.Refs.{pairs_of, gone_of}
-use Rattle.et_state.specs.Enqueuing.{is_cleared}
+use Rattle.et_heap.specs.Remaining.{is_cleared}
 
 -- the objects made, the root places, what the objects lead to, and what was taken out
 abbrev pub heap_graph : Objects → List ℕ → Graph

@@ -1,14 +1,12 @@
 -- The ranks of objects that are listed, and the table by which they are found.
-use Rattle.std.specs.Prelude.{◌≡◌, ℕ, ◌+◌, ◌-◌, ◌*◌, ◌/◌, ◌%◌, ◌<◌, ◌≤◌, ◌⊎◌, List, [], ◌∷◌, ◌++◌, length, map, Contains, vec_capacity, slice_index}
+use Rattle.std.specs.Prelude.{◌≡◌, ℕ, ◌+◌, ◌-◌, ◌*◌, ◌<◌, ◌≤◌, ◌⊎◌, List, [], ◌∷◌, ◌++◌, length, map, Contains, vec_capacity, slice_index}
+use Rattle.et_heap.specs.Pages.{page_at, place_in_page}
+use Rattle.et_heap.specs.declared.page.TheConstants.{PAGE_SIZE}
 use Rattle.et_flush.specs.declared.ranks.Ranks.{Ranks}
 
--- the page of object o: each has 1,024 numbers
-abbrev pub page_at : ℕ → ℕ
-page_at o = (o - 1) / 1024
-
--- the place of its entry, in the run of its page
+-- the place of the entry of object o, in the run of its page
 abbrev pub rank_entry : List ℕ → ℕ → ℕ
-rank_entry runs o = slice_index runs (page_at o) * 1024 + (o - 1) % 1024
+rank_entry runs o = slice_index runs (page_at o) * PAGE_SIZE + place_in_page o
 
 -- each page of these has a run of its own
 abbrev pub AreRuns : List ℕ → List ℕ → Type 0
@@ -21,7 +19,7 @@ IsPageAdded pages page after = ((after ≡ pages) × Contains pages page) ⊎ ((
 -- there is room for a run of each page
 pub record HasRankRoom (r : Ranks) : Type 0 where
   pub pages : length r.runs.items ≤ vec_capacity r.pages
-  pub ranks : length r.runs.items * 1024 ≤ vec_capacity r.ranks
+  pub ranks : length r.runs.items * PAGE_SIZE ≤ vec_capacity r.ranks
 
 -- the rank of object o
 abbrev pub rank_of : Ranks → ℕ → ℕ

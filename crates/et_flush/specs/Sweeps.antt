@@ -1,6 +1,7 @@
 -- What a flush takes out and clears, by the times that it found.
 use Rattle.std.specs.Prelude.{◌≡◌, ℕ, ◌+◌, Bool, true, false, nat_le, if◌then◌else◌, [], ◌∷◌, Option, Some, None}
 use Rattle.et_heap.specs.Objects.{ObjectState, Objects}
+use Rattle.et_heap.specs.Remaining.{is_cleared}
 use Rattle.et_flush.specs.declared.times.TheConstants.{NOW}
 use Rattle.et_flush.specs.declared.ranks.Ranks.{Ranks}
 use Rattle.et_flush.specs.Ranks.{HasRank}
@@ -15,14 +16,10 @@ ReferentsWithin ranks n x = (r : ℕ) → x.referent ≡ Some r → HasRank rank
 
 -- HOW MANY VISITS OF OBJECTS THE SWEEP TAKES: one of each that stays, and one more where its weak reference is cleared
 
-abbrev pub clears : (ℕ → Bool) → Option ℕ → ℕ
-clears here None = 0
-clears here (Some r) = if here r then 0 else 1
-
 abbrev pub visits_of : (ℕ → Bool) → Bool → Option ObjectState → ℕ
 visits_of here stays None = 0
 visits_of here false (Some x) = 0
-visits_of here true (Some x) = 1 + clears here x.referent
+visits_of here true (Some x) = 1 + (if is_cleared here x.referent then 1 else 0)
 
 -- .. of the objects from number k on
 abbrev pub visits_from : (ℕ → Bool) → ℕ → Objects → ℕ

@@ -5,6 +5,7 @@ use Rattle.et_graph.specs.Listed.{IsGreatest}
 use Rattle.et_graph.specs.Order.{IsOneOf, IsOrder}
 use Rattle.et_graph.specs.Times.{set_each, IsSet}
 use Rattle.et_heap.specs.Objects.{Objects, IsHeld}
+use Rattle.et_heap.specs.declared.page.TheConstants.{PAGE_SIZE}
 use Rattle.et_flush.specs.declared.times.TheConstants.{NOW}
 use Rattle.et_flush.specs.declared.work.Work.{Work}
 use Rattle.et_flush.specs.Ranks.{rank_of, HasRankRoom, AreRanked}
@@ -13,7 +14,7 @@ use Rattle.et_flush.specs.Flushes.{heap_graph}
 
 -- there are places for n objects
 pub record HasWorkPlaces (n : ℕ) (w : Work) : Type 0 where
-  pub runs : n ≤ length w.ranks.runs.items * 1024
+  pub runs : n ≤ length w.ranks.runs.items * PAGE_SIZE
   pub ranks : HasRankRoom w.ranks
   pub times : n ≤ vec_capacity w.times
   pub seen : n ≤ vec_capacity w.seen

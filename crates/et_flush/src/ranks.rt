@@ -1,17 +1,17 @@
 //! The ranks of the objects that a flush goes over.
 ghost use Rattle.std.specs.Prelude.{◌≡◌, ℕ, ◌+◌, ◌*◌, ◌<◌, ◌≤◌, ◌^◌, ◌↔◌, IsTrue, length, slice_index, vec_capacity, Contains, OnOk};
 ghost use Rattle.std.specs.List.Sorted.{IsStrictlyIncreasing};
-ghost use Rattle.et_flush.specs.Ranks.{page_at, rank_entry, AreRuns, IsPageAdded, HasRankRoom, HasRankEntry, HasRank, AreRanked, rank_of, time_of};
+ghost use Rattle.et_heap.specs.Pages.{page_at};
+ghost use Rattle.et_heap.specs.declared.page.TheConstants.{PAGE_SIZE};
+ghost use Rattle.et_flush.specs.Ranks.{rank_entry, AreRuns, IsPageAdded, HasRankRoom, HasRankEntry, HasRank, AreRanked, rank_of, time_of};
 
 use et_base::{ObjectId, within};
 use et_graph::place_of;
+use et_heap::PAGE_SIZE;
 use std::alloc::{AllocError, Global};
 
-/// How many numbers a page has.
-const PAGE: usize = 1_024;
-
-/// The ranks of listed objects: the rank of each is its place in the list, counted from 1. The objects stand in pages of 1,024
-/// numbers, as in a heap, and only a page of which an object is listed has a run of entries, one for each of its numbers. So
+/// The ranks of listed objects: the rank of each is its place in the list, counted from 1. The objects stand in pages of
+/// `PAGE_SIZE` numbers, as in a heap, and only a page of which an object is listed has a run of entries, one for each of its numbers. So
 /// what is written is as large as the pages of what is listed, but for four bytes for each page ever made; there is room for
 /// all numbers.
 #[derive(Drop)]
@@ -39,14 +39,14 @@ pub(crate) fn no_ranks(alloc: Global) -> Ranks
 pub(crate) fn reserve_ranks(ranks: &mut Ranks, count: usize) -> Result<(), AllocError>
     requires room { HasRankRoom ranks.old }
     requires small { count < 2 ^ 32 }
-    ensures ok { OnOk result (count ≤ length ranks.new.runs.items * 1024) }
+    ensures ok { OnOk result (count ≤ length ranks.new.runs.items * PAGE_SIZE) }
     ensures room { HasRankRoom ranks.new }
     ensures kept { length ranks.old.runs.items ≤ length ranks.new.runs.items }
 {
-    let pages = count.div_ceil(PAGE);
+    let pages = count.div_ceil(PAGE_SIZE);
     within::reserve(&mut ranks.runs, pages)?;
     within::reserve(&mut ranks.pages, pages)?;
-    within::reserve(&mut ranks.ranks, pages * PAGE)?;
+    within::reserve(&mut ranks.ranks, pages * PAGE_SIZE)?;
     if ranks.runs.len() < pages {
         within::resize(&mut ranks.runs, pages, 0);
     }
@@ -59,7 +59,7 @@ fn page_of(object: ObjectId) -> usize
     ensures page { result ≡ page_at object }
     ensures fits { result < 2 ^ 32 }
 {
-    place_of(object) / PAGE
+    place_of(object) / PAGE_SIZE
 }
 
 /// The place of the object's entry.
@@ -68,7 +68,7 @@ fn entry_of(runs: &[u32], object: ObjectId) -> usize
     requires within { page_at object < length runs.now }
     ensures { result ≡ rank_entry runs.now object }
 {
-    runs[page_of(object)] as usize * PAGE + place_of(object) % PAGE
+    runs[page_of(object)] as usize * PAGE_SIZE + place_of(object) % PAGE_SIZE
 }
 
 /// The rank of an object.
@@ -161,6 +161,6 @@ pub(crate) fn list_ranks(held: &[ObjectId], ranks: &mut Ranks)
 {
     list_pages(held, &mut ranks.runs, &mut ranks.pages);
     ranks.ranks.clear();
-    within::resize(&mut ranks.ranks, ranks.pages.len() * PAGE, 0);
+    within::resize(&mut ranks.ranks, ranks.pages.len() * PAGE_SIZE, 0);
     write_ranks(held, &ranks.runs, &mut ranks.ranks);
 }

@@ -13,7 +13,7 @@ use Rattle.et_program.specs.Members.{is_subclass}
 use Rattle.et_program.specs.Resolution.{resolve_class, resolve_method, select, select_special}
 use Rattle.et_program.specs.declared.info.MethodInfo.{MethodInfo}
 use Rattle.et_program.specs.declared.errors.LinkError.{LinkError}
-use Rattle.et_heap.specs.Objects.{IsHeld, new_object, object_at, slot_of}
+use Rattle.et_heap.specs.Objects.{IsHeld, new_object, object_at, slot_of, referent_of, referent_value}
 use Rattle.et_state.specs.declared.stage.Stage.{Stage}
 use Rattle.et_state.specs.declared.stage.Stage.TheVariants.{Plain, Before, Clinit}
 use Rattle.et_state.specs.Threads.{FrameState, ThreadState, rest_of, with_pending, with_top_of, without_top, in_clinit, entered_by, thread_with, most_threads}
@@ -29,9 +29,9 @@ use Rattle.et_event.specs.declared.rows.CallKind.TheVariants.{Virtual, Special, 
 use Rattle.et_event.specs.PoolOperands.Operand.{Operand}
 use Rattle.et_event.specs.PoolOperands.Operand.TheVariants as operand
 use Rattle.et_event.specs.declared.errors.GuestError.TheVariants as errors
-use Rattle.et_event.specs.BuiltIns.{built_in_of, argument, answering, reference_in, reference_of, starts_thread, with_thread_for, has_thread_ended, built_in_row, done_by, built_in_event, is_null_or_of_class}
+use Rattle.et_event.specs.BuiltIns.{built_in_of, argument, answering, reference_in, starts_thread, with_thread_for, has_thread_ended, built_in_row, done_by, built_in_event, is_null_or_of_class}
 use Rattle.et_event.specs.Calls.{is_static_call, call_fits, with_type, with_method, taking, enters_method, is_of_owner, special_class, dispatched, is_as, arguments_of, entry_count, invoke, entering_frame, entry_arguments, enters_first, enters_run, entry_call, with_returned, class_done_by, frame_returned, returned_by, return}
-use Rattle.et_event.specs.Checks.{after_selection, ill_typed_unless, reference_value, entries_of}
+use Rattle.et_event.specs.Checks.{after_selection, ill_typed_unless, entries_of}
 use Rattle.et_event.specs.Errors.{class_called, error_class}
 use Rattle.et_event.specs.Frames.{first_reference, receiver_of, frame_entered, method_frame, by_code, enters, frames_after_return}
 use Rattle.et_event.specs.Initialization.{with_state, prepared, is_ready, enters_clinit, step_by, initialization_step}
@@ -162,16 +162,16 @@ module _ (e : Moment) (ready : Ready e) where
   built_in_says at d arguments o built.Join h f held =
       unless_waiting e ready (has_thread_ended d (thread_with d.state.guest.threads o)) _ (answering_told at arguments [] d h tt)
   built_in_says at d arguments o built.SetReferent h f held =
-      reference_told e o (reference_of (argument arguments 1)) None (answering e at arguments [] d) (answering_told at arguments [] d h tt) held (reference_fine d.state.heap (argument arguments 1) (fine_at d.state.heap arguments 1 f)) tt
+      reference_told e o (referent_of (argument arguments 1)) None (answering e at arguments [] d) (answering_told at arguments [] d h tt) held (reference_fine d.state.heap (argument arguments 1) (fine_at d.state.heap arguments 1 f)) tt
   built_in_says at d arguments o built.SetReferentAndQueue h f held =
       unless_ill_typed e ready (is_null_or_of_class e d (argument arguments 2) (codes "java/lang/ref/ReferenceQueue")) _
-      (reference_told e o (reference_of (argument arguments 1)) (reference_of (argument arguments 2)) (answering e at arguments [] d) (answering_told at arguments [] d h tt) held (reference_fine d.state.heap (argument arguments 1) (fine_at d.state.heap arguments 1 f))
+      (reference_told e o (referent_of (argument arguments 1)) (referent_of (argument arguments 2)) (answering e at arguments [] d) (answering_told at arguments [] d h tt) held (reference_fine d.state.heap (argument arguments 1) (fine_at d.state.heap arguments 1 f))
       (reference_fine d.state.heap (argument arguments 2) (fine_at d.state.heap arguments 2 f)))
   built_in_says at d arguments o built.Poll h f held =
       let first : List Value = first_value (object_at d.state.heap o).waiting ∷ [] in
       first_taken_told e o (answering e at arguments first d) (answering_told at arguments first d h (first_waiting_fine d.state o h.sound, tt)) held
   built_in_says at d arguments o built.GetReferent h f held =
-      answering_told at arguments (reference_value (object_at d.state.heap o).referent ∷ []) d h (fine_value d.state.heap (object_at d.state.heap o).referent (referent_fine d.state o h.sound), tt)
+      answering_told at arguments (referent_value (object_at d.state.heap o).referent ∷ []) d h (fine_value d.state.heap (object_at d.state.heap o).referent (referent_fine d.state o h.sound), tt)
   built_in_says at d arguments o built.ClearReferent h f held =
       referent_told e o None (answering e at arguments [] d) (answering_told at arguments [] d h tt) held tt
 

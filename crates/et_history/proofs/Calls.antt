@@ -14,7 +14,7 @@ use Rattle.et_program.specs.Resolution.{resolve_class, resolve_method, select, s
 use Rattle.et_program.specs.declared.info.MethodInfo.{MethodInfo}
 use Rattle.et_program.specs.declared.errors.LinkError.{LinkError}
 use Rattle.et_heap.specs.declared.monitor.Monitor.{Monitor}
-use Rattle.et_heap.specs.Objects.{Objects, IsHeld, object_at, slot_of}
+use Rattle.et_heap.specs.Objects.{Objects, IsHeld, object_at, slot_of, referent_of, referent_value}
 use Rattle.et_state.specs.Threads.{FrameState, ThreadState, entered_by, thread_with, most_threads}
 use Rattle.et_state.specs.State.{Kept}
 use Rattle.et_state.specs.Words.{thread_at}
@@ -24,9 +24,9 @@ use Rattle.et_event.specs.declared.rows.BuiltIn.TheVariants as built
 use Rattle.et_event.specs.declared.rows.CallKind.{CallKind}
 use Rattle.et_event.specs.declared.rows.CallKind.TheVariants.{Virtual, Special, Static, Interface}
 use Rattle.et_event.specs.declared.errors.GuestError.TheVariants as errors
-use Rattle.et_event.specs.BuiltIns.{built_in_of, argument, answering, reference_in, with_referent_of, reference_of, starts_thread, with_thread_for, has_thread_ended, built_in_row, done_by, built_in_event, with_reference_made, with_first_taken, is_null_or_of_class}
+use Rattle.et_event.specs.BuiltIns.{built_in_of, argument, answering, reference_in, with_referent_of, starts_thread, with_thread_for, has_thread_ended, built_in_row, done_by, built_in_event, with_reference_made, with_first_taken, is_null_or_of_class}
 use Rattle.et_event.specs.Calls.{is_static_call, call_fits, with_type, with_method, taking, enters_method, is_of_owner, special_class, dispatched, is_as, arguments_of, entry_count, invoke, entering_frame, entry_arguments, enters_first, enters_run, entry_call}
-use Rattle.et_event.specs.Checks.{after_selection, ill_typed_unless, reference_value}
+use Rattle.et_event.specs.Checks.{after_selection, ill_typed_unless}
 use Rattle.et_event.specs.Errors.{class_called}
 use Rattle.et_event.specs.Frames.{first_reference, receiver_of, lock_slot, frame_entered, method_frame, by_code, enters}
 use Rattle.et_event.specs.PoolOperands.Operand.TheVariants as operand
@@ -176,7 +176,7 @@ starts_does e d o go None h g = unless_thrown e d errors.OutOfMemoryError (nat_l
 on_does : (e : Moment) (d : Doing) (name : List ℕ) (o : ℕ) (go : Outcome Kept) → Does e go → Does e (ill_typed_unless e (is_subclass e.program (object_class d o) (class_called e.program name)) go)
 on_does e d name o go g = unless_ill_typed e (is_subclass e.program (object_class d o) (class_called e.program name)) go g
 
-pub reference_fine : (h : Objects) (v : Value) → Fine h v → FineSome h (reference_of v)
+pub reference_fine : (h : Objects) (v : Value) → Fine h v → FineSome h (referent_of v)
 reference_fine h Unset f = tt
 reference_fine h (Int n) f = tt
 reference_fine h (Long n) f = tt
@@ -217,20 +217,20 @@ built_in_does e at d arguments o built.Join here h f held =
     unless_waiting e (has_thread_ended d (thread_with d.state.guest.threads o)) _ (λ ended. answered_does e at arguments [] d here h tt)
 built_in_does e at d arguments o built.SetReferent here h f held =
     let x : Doing = answering e at arguments [] d in
-    goes_does e (with_reference_made o (reference_of (argument arguments 1)) None x)
-    (reference_still e o (reference_of (argument arguments 1)) None x (answering_still e at arguments [] d here h tt) held (reference_fine d.state.heap (argument arguments 1) (fine_at d.state.heap arguments 1 f)) tt)
+    goes_does e (with_reference_made o (referent_of (argument arguments 1)) None x)
+    (reference_still e o (referent_of (argument arguments 1)) None x (answering_still e at arguments [] d here h tt) held (reference_fine d.state.heap (argument arguments 1) (fine_at d.state.heap arguments 1 f)) tt)
 built_in_does e at d arguments o built.SetReferentAndQueue here h f held =
     let x : Doing = answering e at arguments [] d in
     unless_ill_typed e (is_null_or_of_class e d (argument arguments 2) (codes "java/lang/ref/ReferenceQueue")) _
-    (goes_does e (with_reference_made o (reference_of (argument arguments 1)) (reference_of (argument arguments 2)) x)
-    (reference_still e o (reference_of (argument arguments 1)) (reference_of (argument arguments 2)) x (answering_still e at arguments [] d here h tt) held (reference_fine d.state.heap (argument arguments 1) (fine_at d.state.heap arguments 1 f))
+    (goes_does e (with_reference_made o (referent_of (argument arguments 1)) (referent_of (argument arguments 2)) x)
+    (reference_still e o (referent_of (argument arguments 1)) (referent_of (argument arguments 2)) x (answering_still e at arguments [] d here h tt) held (reference_fine d.state.heap (argument arguments 1) (fine_at d.state.heap arguments 1 f))
     (reference_fine d.state.heap (argument arguments 2) (fine_at d.state.heap arguments 2 f))))
 built_in_does e at d arguments o built.Poll here h f held =
     let first : List Value = first_value (object_at d.state.heap o).waiting ∷ [] in
     let x : Doing = answering e at arguments first d in
     goes_does e (with_first_taken o x) (first_taken_still e o x (answering_still e at arguments first d here h (first_waiting_fine d.state o h.changes.sound, tt)) held)
 built_in_does e at d arguments o built.GetReferent here h f held =
-    answered_does e at arguments (reference_value (object_at d.state.heap o).referent ∷ []) d here h (fine_value d.state.heap (object_at d.state.heap o).referent (referent_fine d.state o h.changes.sound), tt)
+    answered_does e at arguments (referent_value (object_at d.state.heap o).referent ∷ []) d here h (fine_value d.state.heap (object_at d.state.heap o).referent (referent_fine d.state o h.changes.sound), tt)
 built_in_does e at d arguments o built.ClearReferent here h f held =
     let x : Doing = answering e at arguments [] d in
     goes_does e (with_referent_of o None x) (referent_still e o None x (answering_still e at arguments [] d here h tt) held tt)

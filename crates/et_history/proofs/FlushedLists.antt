@@ -7,8 +7,8 @@ use Rattle.std.proofs.lemmas.List.Elements.{Contains-append_left, Contains-appen
 use Rattle.et_base.proofs.Lists.{Contains-none, Contains-here, Contains-cons}
 use Rattle.et_heap.specs.Links.{StandOnce}
 use Rattle.et_heap.specs.Objects.{ObjectState, Objects, IsHeld, is_there, at, found, object_at}
-use Rattle.et_heap.specs.Remaining.{left_place}
-use Rattle.et_state.specs.Enqueuing.{is_cleared, is_free_to_wait, has_queue, has_this_queue, newcomers_from, newcomers, begins_to_wait, joined_place, flushed_heap}
+use Rattle.et_heap.specs.Remaining.{is_cleared, left_place}
+use Rattle.et_state.specs.Enqueuing.{is_free_to_wait, has_queue, has_this_queue, newcomers_from, newcomers, begins_to_wait, joined_place, flushed_heap}
 use Rattle.et_state.specs.Past.{IsPast, first_of, reporting}
 use Rattle.et_state.proofs.Enqueued.{flushed_at}
 use Rattle.et_history.specs.Whole.{cleared}

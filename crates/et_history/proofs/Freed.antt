@@ -3,7 +3,7 @@ use Rattle.std.proofs.Common.{◌≡◌, ℕ, zero, suc, ◌+◌, ◌<◌, ◌�
 use Rattle.std.specs.Prelude.{if◌then◌else◌, map}
 use Rattle.et_graph.specs.Graph.{Graph, Decides}
 use Rattle.et_heap.specs.Objects.{ObjectState, Objects, IsHeld, at, with_referent}
-use Rattle.et_heap.specs.Remaining.{kept_referent}
+use Rattle.et_heap.specs.Remaining.{is_cleared, kept_referent}
 use Rattle.et_heap.proofs.HeapLists.{gone_at}
 use Rattle.et_state.specs.History.{ending, is_flush_point, left_by}
 use Rattle.et_state.specs.History as history
@@ -48,12 +48,11 @@ at_cleared here (r ∷ rs) zero = refl
 at_cleared here (r ∷ rs) (suc o) = at_cleared here rs o
 
 referent_or : (here : ℕ → Bool) (r : Option ℕ) → (kept_referent here r ≡ r) ⊎ (kept_referent here r ≡ None)
-referent_or here None = inl refl
-referent_or here (Some o) = by (here o)
+referent_or here r = by (is_cleared here r)
   where
-    by : (b : Bool) → ((if b then Some o else None) ≡ Some o) ⊎ ((if b then Some o else None) ≡ None)
-    by true = inl refl
-    by false = inr refl
+    by : (b : Bool) → ((if b then None else r) ≡ r) ⊎ ((if b then None else r) ≡ None)
+    by true = inr refl
+    by false = inl refl
 
 cleared_as : (here : ℕ → Bool) (x : ObjectState) → (cleared here (Some x) ≡ Some x) ⊎ (cleared here (Some x) ≡ Some (with_referent None x))
 cleared_as here x = elim (referent_or here x.referent) [

@@ -55,10 +55,6 @@ is_same (OfObject o) (OfClass k) e = absurd (false≢true e)
 is_same (OfClass c) (OfObject k) e = absurd (false≢true e)
 is_same (OfClass c) (OfClass k) e = ap (λ (i : ℕ). OfClass i) (eqb-true c k e)
 
-pub same_is : (lock : Lock) → is_lock lock lock ≡ true
-same_is (OfObject o) = eq-eqb o o refl
-same_is (OfClass c) = eq-eqb c c refl
-
 other_number : (a b : ℕ) → (a == b) ≡ false → b ≡ a → ⊥
 other_number a b e same = true≢false (sym (eq-eqb a b (sym same)) ∙ e)
 

@@ -31,7 +31,7 @@ use Rattle.et_event.specs.declared.rows.CallRow.{CallRow}
 use Rattle.et_event.specs.declared.rows.CallRow.TheVariants as row
 use Rattle.et_event.specs.PoolOperands.Operand.{Operand}
 use Rattle.et_event.specs.declared.errors.GuestError.TheVariants as errors
-use Rattle.et_event.specs.BuiltIns.{built_in_of, argument, answering, reference_in, with_referent_of, reference_of, starts_thread, with_thread_for, has_thread_ended, built_in_row, done_by, built_in_event, with_reference_made, with_first_taken, is_null_or_of_class}
+use Rattle.et_event.specs.BuiltIns.{built_in_of, argument, answering, reference_in, with_referent_of, starts_thread, with_thread_for, has_thread_ended, built_in_row, done_by, built_in_event, with_reference_made, with_first_taken, is_null_or_of_class}
 use Rattle.et_event.specs.Calls.{is_static_call, call_fits, with_type, with_method, taking, enters_method, is_of_owner, special_class, dispatched, is_as, invoke, with_returned, class_done_by, frame_returned, returned_by, return, call_event, entering_frame, entry_arguments, enters_first, enters_run, entry_call}
 use Rattle.et_event.specs.Checks.{after_selection, ill_typed_unless, entries_of}
 use Rattle.et_event.specs.Errors.{class_called, error_class}
@@ -48,7 +48,7 @@ use Rattle.et_history.proofs.NamedWords.{Tells, IsMethodOf, if_case, begun, gues
 use Rattle.et_history.proofs.NamedWays.{Told, goes_told, ends_told, throws_told, unless_ill_typed, unless_thrown, where_resolved, where_not_null, unless_waiting, where_frame_fits, any_value, initialized_told}
 use Rattle.et_history.proofs.NamedRows.{Knows}
 use Rattle.et_heap.specs.Queues.{first_value}
-use Rattle.et_heap.specs.Objects.{object_at}
+use Rattle.et_heap.specs.Objects.{object_at, referent_of}
 
 is_method : (e : Moment) (m : ℕ) → Knows e → m < length e.program.methods → IsMethodOf e.program m
 is_method e m knows lt = record { method = lt; class = All-get_or (λ (x : MethodInfo). x.class < length e.program.classes) e.program.methods m no_method lt knows.tabled.methods }
@@ -113,11 +113,11 @@ built_in_told e at d arguments o built.Join knows h =
     unless_waiting e (has_thread_ended d (thread_with d.state.guest.threads o)) _ (answered_told e at arguments [] d h)
 built_in_told e at d arguments o built.SetReferent knows h =
     let x : Doing = answering e at arguments [] d in
-    goes_told e (with_reference_made o (reference_of (argument arguments 1)) None x) (reference_told e o (reference_of (argument arguments 1)) None x (answering_told e at arguments [] d h))
+    goes_told e (with_reference_made o (referent_of (argument arguments 1)) None x) (reference_told e o (referent_of (argument arguments 1)) None x (answering_told e at arguments [] d h))
 built_in_told e at d arguments o built.SetReferentAndQueue knows h =
     let x : Doing = answering e at arguments [] d in
     unless_ill_typed e (is_null_or_of_class e d (argument arguments 2) (codes "java/lang/ref/ReferenceQueue")) _
-    (λ is. goes_told e (with_reference_made o (reference_of (argument arguments 1)) (reference_of (argument arguments 2)) x) (reference_told e o (reference_of (argument arguments 1)) (reference_of (argument arguments 2)) x (answering_told e at arguments [] d h)))
+    (λ is. goes_told e (with_reference_made o (referent_of (argument arguments 1)) (referent_of (argument arguments 2)) x) (reference_told e o (referent_of (argument arguments 1)) (referent_of (argument arguments 2)) x (answering_told e at arguments [] d h)))
 built_in_told e at d arguments o built.Poll knows h =
     let first : List Value = first_value (object_at d.state.heap o).waiting ∷ [] in
     let x : Doing = answering e at arguments first d in

@@ -4,6 +4,7 @@ use Rattle.std.specs.Prelude.{ℤ, codes}
 use Rattle.et_base.specs.declared.value.Value.{Value}
 use Rattle.et_base.specs.declared.value.Value.TheVariants.{Unset, Int, Long, LongHigh, Null, Ref}
 use Rattle.et_program.specs.declared.errors.LinkError.{LinkError}
+use Rattle.et_heap.specs.Objects.{referent_value}
 use Rattle.et_state.specs.Threads.{most_frames}
 use Rattle.et_state.specs.declared.class_state.ClassState.{ClassState}
 use Rattle.et_state.specs.declared.class_state.ClassState.TheVariants.{Untouched, Begun, Done, Failed}
@@ -15,7 +16,7 @@ use Rattle.et_event.specs.declared.errors.GuestError.{GuestError}
 use Rattle.et_event.specs.declared.errors.GuestError.TheVariants.{NullPointerException, StackOverflowError, NoClassDefFoundError}
 use Rattle.et_event.specs.PoolOperands.Operand.{Operand}
 use Rattle.et_event.specs.PoolOperands.Operand.TheVariants as operand
-use Rattle.et_event.specs.Checks.{Reference, reference_value, with_int, with_long, with_reference, with_value, ill_typed_unless, resolved, throws_unless, not_null, waits_unless, frame_fits}
+use Rattle.et_event.specs.Checks.{Reference, with_int, with_long, with_reference, with_value, ill_typed_unless, resolved, throws_unless, not_null, waits_unless, frame_fits}
 use Rattle.et_event.specs.Errors.{class_called, error_class, error_of}
 use Rattle.et_event.specs.Initialization.{state_of, is_quiet, quietly_done, begun_by, begins_class, needed, initialized}
 use Rattle.et_event.specs.Moments.{Moment, Doing, next_object, instance_made, entry_given_up, pending_now, fits_heap, goes, ends_event, throws, waits}
@@ -113,7 +114,7 @@ module _ {A : Type 0} (P : A → Type 0) (refused : A) (ill : P refused) where
   any_value None ops go h = ill
   any_value (Some operand.Int) ops go h = any_int ops (λ n. go (Int n)) (λ n below. h (Int n) below)
   any_value (Some operand.Long) ops go h = any_long ops (λ n. go (Long n)) (λ n below. h (Long n) below)
-  any_value (Some operand.Reference) ops go h = any_reference ops (λ r. go (reference_value r)) (λ r below. h (reference_value r) below)
+  any_value (Some operand.Reference) ops go h = any_reference ops (λ r. go (referent_value r)) (λ r below. h (referent_value r) below)
 
 -- A CLASS IS NEEDED
 

@@ -14,7 +14,7 @@ use Rattle.et_code.specs.declared.body.TableRow.{TableRow}
 use Rattle.et_program.specs.Entries.{Linked, class_at, method_at, is_static}
 use Rattle.et_program.specs.Resolution.{resolve_class, resolve_method, select, select_special}
 use Rattle.et_program.specs.declared.info.MethodInfo.{MethodInfo}
-use Rattle.et_heap.specs.Objects.{ObjectState, new_object, object_at, with_slot}
+use Rattle.et_heap.specs.Objects.{ObjectState, new_object, object_at, with_slot, referent_of, referent_value}
 use Rattle.et_state.specs.declared.stage.Stage.{Stage}
 use Rattle.et_state.specs.declared.stage.Stage.TheVariants.{Plain, Before, Clinit}
 use Rattle.et_state.specs.declared.stage.Turn.{Turn}
@@ -34,9 +34,9 @@ use Rattle.et_event.specs.PoolOperands.Operand.{Operand}
 use Rattle.et_event.specs.declared.rows.Row.{Row}
 use Rattle.et_event.specs.declared.rows.Row.TheVariants as row
 use Rattle.et_event.specs.declared.errors.GuestError.TheVariants as errors
-use Rattle.et_event.specs.BuiltIns.{built_in_of, argument, answering, reference_in, with_referent_of, reference_of, starts_thread, with_thread_for, has_thread_ended, is_fit_for, row_done, done_by, built_in_event, with_reference_made, with_first_taken}
+use Rattle.et_event.specs.BuiltIns.{built_in_of, argument, answering, reference_in, with_referent_of, starts_thread, with_thread_for, has_thread_ended, is_fit_for, row_done, done_by, built_in_event, with_reference_made, with_first_taken}
 use Rattle.et_event.specs.Calls.{is_static_call, call_fits, with_type, with_method, taking, enters_method, is_of_owner, special_class, dispatched, is_as, arguments_of, entry_count, invoke, entering_frame, entry_arguments, enters_first, enters_run, entry_call, with_returned, class_done_by, frame_returned, returned_by, return}
-use Rattle.et_event.specs.Checks.{entries_of, reference_value}
+use Rattle.et_event.specs.Checks.{entries_of}
 use Rattle.et_event.specs.Errors.{class_called, error_class}
 use Rattle.et_event.specs.Event.{by_row, by_instruction, initializes, does_turn, event}
 use Rattle.et_event.specs.Frames.{first_reference, receiver_of, frame_entered, method_frame, by_code, enters, frames_after_return}
@@ -109,16 +109,16 @@ row_new e at d arguments o built.Start h =
 row_new e at d arguments o built.Join h = unless_waiting e (has_thread_ended d (thread_with d.state.guest.threads o)) _ (answered_new e at arguments [] d h)
 row_new e at d arguments o built.SetReferent h =
     let x : Doing = answering e at arguments [] d in
-    goes_new e (with_reference_made o (reference_of (argument arguments 1)) None x) (reference_strings e o (reference_of (argument arguments 1)) None x (answering_strings e at arguments [] d h))
+    goes_new e (with_reference_made o (referent_of (argument arguments 1)) None x) (reference_strings e o (referent_of (argument arguments 1)) None x (answering_strings e at arguments [] d h))
 row_new e at d arguments o built.SetReferentAndQueue h =
     let x : Doing = answering e at arguments [] d in
-    goes_new e (with_reference_made o (reference_of (argument arguments 1)) (reference_of (argument arguments 2)) x)
-    (reference_strings e o (reference_of (argument arguments 1)) (reference_of (argument arguments 2)) x (answering_strings e at arguments [] d h))
+    goes_new e (with_reference_made o (referent_of (argument arguments 1)) (referent_of (argument arguments 2)) x)
+    (reference_strings e o (referent_of (argument arguments 1)) (referent_of (argument arguments 2)) x (answering_strings e at arguments [] d h))
 row_new e at d arguments o built.Poll h =
     let first : List Value = first_value (object_at d.state.heap o).waiting ∷ [] in
     let x : Doing = answering e at arguments first d in
     goes_new e (with_first_taken o x) (first_taken_strings e o x (answering_strings e at arguments first d h))
-row_new e at d arguments o built.GetReferent h = answered_new e at arguments (reference_value (object_at d.state.heap o).referent ∷ []) d h
+row_new e at d arguments o built.GetReferent h = answered_new e at arguments (referent_value (object_at d.state.heap o).referent ∷ []) d h
 row_new e at d arguments o built.ClearReferent h =
     let x : Doing = answering e at arguments [] d in
     goes_new e (with_referent_of o None x) (referent_strings e o None x (answering_strings e at arguments [] d h))

@@ -9,7 +9,7 @@ use Rattle.et_base.proofs.Lists.{Contains-here}
 use Rattle.et_graph.specs.Graph.{IsReached}
 use Rattle.et_program.specs.Entries.{class_at}
 use Rattle.et_program.specs.declared.errors.LinkError.{LinkError}
-use Rattle.et_heap.specs.Objects.{ObjectState, new_object}
+use Rattle.et_heap.specs.Objects.{ObjectState, new_object, referent_value}
 use Rattle.et_state.specs.Threads.{ThreadState, most_frames, has_frame, as_entered, entered_by, with_pending}
 use Rattle.et_state.specs.declared.class_state.ClassState.{ClassState}
 use Rattle.et_state.specs.declared.class_state.ClassState.TheVariants.{Untouched, Begun, Done, Failed}
@@ -25,7 +25,7 @@ use Rattle.et_event.specs.declared.errors.GuestError.{GuestError}
 use Rattle.et_event.specs.declared.errors.GuestError.TheVariants.{NullPointerException, StackOverflowError, NoClassDefFoundError}
 use Rattle.et_event.specs.PoolOperands.Operand.{Operand}
 use Rattle.et_event.specs.PoolOperands.Operand.TheVariants as operand
-use Rattle.et_event.specs.Checks.{Reference, reference_value, with_int, with_long, with_reference, with_value, ill_typed_unless, resolved, throws_unless, not_null, waits_unless, frame_fits}
+use Rattle.et_event.specs.Checks.{Reference, with_int, with_long, with_reference, with_value, ill_typed_unless, resolved, throws_unless, not_null, waits_unless, frame_fits}
 use Rattle.et_event.specs.Errors.{error_class, error_of}
 use Rattle.et_event.specs.Initialization.{state_of, with_state, constants_set, initializer_frame, is_quiet, quietly_done, begun_by, begins_class, needed, initialized}
 use Rattle.et_event.specs.Moments.{Moment, Doing, next_object, instance_made, with_thread_state, pending_now, fits_heap, goes, ends_event, throws, waits}
@@ -178,4 +178,4 @@ module _ (e : Moment) (refused : Outcome Kept) (ill : New e refused) where
   each_value None ops go h = ill
   each_value (Some operand.Int) ops go h = each_int ops (λ n. go (Int n)) (λ n below. h (Int n) below)
   each_value (Some operand.Long) ops go h = each_long ops (λ n. go (Long n)) (λ n below. h (Long n) below)
-  each_value (Some operand.Reference) ops go h = each_reference ops (λ r. go (reference_value r)) (λ r below. h (reference_value r) below)
+  each_value (Some operand.Reference) ops go h = each_reference ops (λ r. go (referent_value r)) (λ r below. h (referent_value r) below)

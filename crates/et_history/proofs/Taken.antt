@@ -3,14 +3,14 @@ use Rattle.std.proofs.Common.{List, [], ◌∷◌, Option, Some, None}
 use Rattle.std.specs.Prelude.{ℤ}
 use Rattle.et_base.specs.declared.value.Value.{Value}
 use Rattle.et_base.specs.declared.value.Value.TheVariants.{Unset, Int, Long, LongHigh, Null, Ref}
-use Rattle.et_heap.specs.Objects.{Objects}
+use Rattle.et_heap.specs.Objects.{Objects, referent_value}
 use Rattle.et_event.specs.PoolOperands.Operand.{Operand}
 use Rattle.et_event.specs.PoolOperands.Operand.TheVariants as operand
-use Rattle.et_event.specs.Checks.{Reference, reference_value, entries_of, with_int, with_long, with_reference, with_value}
+use Rattle.et_event.specs.Checks.{Reference, entries_of, with_int, with_long, with_reference, with_value}
 use Rattle.et_event.specs.Kinds.{or_zero}
 use Rattle.et_history.proofs.Values.{Fine, Fines, FineSome}
 
-pub fine_value : (heap : Objects) (r : Reference) → FineSome heap r → Fine heap (reference_value r)
+pub fine_value : (heap : Objects) (r : Reference) → FineSome heap r → Fine heap (referent_value r)
 fine_value heap None f = tt
 fine_value heap (Some o) f = f
 
@@ -55,7 +55,7 @@ module _ {A : Type 0} (P : A → Type 0) (refused : A) (ill : P refused) (heap :
   any_value None ops go f h = ill
   any_value (Some operand.Int) ops go f h = any_int ops (λ n. go (Int n)) f (λ n below g. h (Int n) below tt g)
   any_value (Some operand.Long) ops go f h = any_long ops (λ n. go (Long n)) f (λ n below g. h (Long n) below tt g)
-  any_value (Some operand.Reference) ops go f h = any_reference ops (λ r. go (reference_value r)) f (λ r below held g. h (reference_value r) below (fine_value heap r held) g)
+  any_value (Some operand.Reference) ops go f h = any_reference ops (λ r. go (referent_value r)) f (λ r below held g. h (referent_value r) below (fine_value heap r held) g)
 
 -- the entries of a value
 pub fine_entries : (heap : Objects) (v : Value) → Fine heap v → Fines heap (entries_of v)

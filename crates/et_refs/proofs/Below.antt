@@ -3,6 +3,7 @@ use Rattle.std.proofs.Common.{◌≡◌, ℕ, zero, suc, ◌+◌, ◌<◌, ◌�
 use Rattle.et_base.specs.declared.value.Value.{Value}
 use Rattle.et_base.specs.declared.value.Value.TheVariants.{Unset, Int, Long, LongHigh, Null, Ref}
 use Rattle.et_base.proofs.Lists.{Contains-here, Contains-none, Contains-cons}
+use Rattle.et_heap.specs.Objects.{referent_value}
 use Rattle.et_heap.specs.Refs.{refs_of_value}
 use Rattle.et_state.specs.Threads.{FrameState, operand_of}
 use Rattle.et_state.specs.ThreadRoots.{frame_roots}
@@ -10,7 +11,7 @@ use Rattle.et_state.specs.State.{MachineState, kept_of}
 use Rattle.et_state.specs.Words.{HasFrame, top}
 use Rattle.et_state.specs.Sound.{IsSound}
 use Rattle.et_state.proofs.Places.{top_root}
-use Rattle.et_event.specs.Checks.{Reference, with_int, with_long, with_reference, reference_value}
+use Rattle.et_event.specs.Checks.{Reference, with_int, with_long, with_reference}
 use Rattle.et_parts.specs.Tops.{int_of, long_of, entry_reference}
 use Rattle.et_parts.proofs.Groups.{operand_is_in}
 use Rattle.et_refs.specs.Changes.{IsNamedReference}
@@ -171,7 +172,7 @@ reference_named m t k r has sound e =
     (sound.roots o (top_root m.guest t o has inside), inside)
 
 -- .. and as a value it refers to that object alone
-pub named_in : (m : MachineState) (f : FrameState) (r : Reference) → IsNamedReference m f r → (o : ℕ) → Contains (refs_of_value (reference_value r)) o → Contains (frame_roots f) o
+pub named_in : (m : MachineState) (f : FrameState) (r : Reference) → IsNamedReference m f r → (o : ℕ) → Contains (refs_of_value (referent_value r)) o → Contains (frame_roots f) o
 named_in m f None named o c = absurd (Contains-none o c)
 named_in m f (Some x) named o c = (named o (only x o c)).1
   where

@@ -3,12 +3,13 @@ ghost use Rattle.std.specs.Prelude.{◌≡◌, ℕ, ℤ, ◌+◌, ◌<◌, ◌�
 ghost use Rattle.et_pool.specs.Descriptors.{is_field_descriptor, width_of as descriptor_width};
 ghost use Rattle.et_event.specs.Kinds.{kind_of_field, kind_of_elements as elements_kind};
 ghost use Rattle.et_base.specs.declared.value.Value.{Value as Entry};
+ghost use Rattle.et_heap.specs.Objects.{referent_value};
 ghost use Rattle.et_state.specs.State.{Kept, kept_of};
 ghost use Rattle.et_state.specs.Sound.{IsSound};
 ghost use Rattle.et_state.specs.Words.{HasFrame, top};
 ghost use Rattle.et_state.specs.Outcome.{Outcome};
 ghost use Rattle.et_event.specs.Moments.{Moment, ill_typed};
-ghost use Rattle.et_event.specs.Checks.{Reference, with_int, with_long, with_reference, with_value, reference_value as value_named, ill_typed_unless as ill_unless};
+ghost use Rattle.et_event.specs.Checks.{Reference, with_int, with_long, with_reference, with_value, ill_typed_unless as ill_unless};
 ghost use Rattle.et_parts.specs.Tops.{IsIn};
 ghost use Rattle.et_refs.specs.Refusals.{outcome_of};
 ghost use Rattle.et_refs.specs.Changes.{IsNamedReference};
@@ -82,7 +83,7 @@ pub(crate) fn take_reference(
 
 /// A reference as a value.
 fn value_of(reference: Option<ObjectId>) -> Value
-    ensures { result ≡ value_named reference }
+    ensures { result ≡ referent_value reference }
 {
     match reference {
         Some(o) => Value::Ref(o),

@@ -11,7 +11,7 @@ use Rattle.et_base.specs.declared.value.Value.TheVariants.{Unset, Int, Long, Lon
 use Rattle.et_class.specs.Descriptors.{MethodType, method_type, types_of, after_dimensions, after_name}
 use Rattle.et_class.specs.Names.{has}
 use Rattle.et_class.specs.declared.flags.TheConstants.{ABSTRACT}
-use Rattle.et_heap.specs.Objects.{ObjectState, IsHeld, object_at, slot_of, with_slot, with_referent, with_object_at, is_there, at, found}
+use Rattle.et_heap.specs.Objects.{ObjectState, IsHeld, object_at, slot_of, with_slot, with_referent, with_object_at, is_there, at, found, referent_of, referent_value}
 use Rattle.et_heap.proofs.HeapLists.{held_within}
 use Rattle.et_program.specs.Entries.{Linked, field_at}
 use Rattle.et_program.specs.Members.{is_subclass}
@@ -23,9 +23,9 @@ use Rattle.et_event.specs.declared.rows.BuiltIn.{BuiltIn}
 use Rattle.et_event.specs.PoolOperands.Operand.TheVariants as operand
 use Rattle.et_event.specs.declared.rows.BuiltIn.TheVariants as built_in
 use Rattle.et_event.specs.declared.errors.GuestError.TheVariants.{AbstractMethodError, IllegalThreadStateException, OutOfMemoryError}
-use Rattle.et_event.specs.BuiltIns.{built_ins, is_called, built_in_of, argument, answering, reference_in, with_referent_of, reference_of, starts_thread, with_thread_for, has_thread_ended, is_object_of_class, built_in_row, done_by, built_in_event, with_reference_made, with_first_taken, is_null_or_of_class}
+use Rattle.et_event.specs.BuiltIns.{built_ins, is_called, built_in_of, argument, answering, reference_in, with_referent_of, starts_thread, with_thread_for, has_thread_ended, is_object_of_class, built_in_row, done_by, built_in_event, with_reference_made, with_first_taken, is_null_or_of_class}
 use Rattle.et_event.specs.Calls.{begin_with, is_empty, are_arguments}
-use Rattle.et_event.specs.Checks.{reference_value, ill_typed_unless}
+use Rattle.et_event.specs.Checks.{ill_typed_unless}
 use Rattle.et_event.specs.Errors.{class_called}
 use Rattle.et_event.specs.Frames.{first_reference}
 use Rattle.et_event.specs.Operands.{operand_kind, returned_width}
@@ -312,11 +312,11 @@ module _ (e : Moment) (at : Site) (arguments : List Value) (o : ℕ) where
   row_sound built_in.Start is = on_class (codes "java/lang/Thread") _ (λ below. starting is below (thread_with e.before.guest.threads o))
   row_sound built_in.Join is =
       unless_waiting e.program e (has_thread_ended (begins e) (thread_with e.before.guest.threads o)) _ is.here.sound is.here.clock (λ ended. answers built_in.Join [] is (no_entries built_in.Join))
-  row_sound built_in.SetReferent is = making built_in.SetReferent (reference_of (argument arguments 1)) None is
+  row_sound built_in.SetReferent is = making built_in.SetReferent (referent_of (argument arguments 1)) None is
   row_sound built_in.SetReferentAndQueue is =
       unless_ill_typed e.program e (is_null_or_of_class e (begins e) (argument arguments 2) (codes "java/lang/ref/ReferenceQueue")) _
-      (λ fit. making built_in.SetReferentAndQueue (reference_of (argument arguments 1)) (reference_of (argument arguments 2)) is)
-  row_sound built_in.GetReferent is = answers built_in.GetReferent (reference_value (object_at e.before.heap o).referent ∷ []) is (omega arith)
+      (λ fit. making built_in.SetReferentAndQueue (referent_of (argument arguments 1)) (referent_of (argument arguments 2)) is)
+  row_sound built_in.GetReferent is = answers built_in.GetReferent (referent_value (object_at e.before.heap o).referent ∷ []) is (omega arith)
   row_sound built_in.ClearReferent is = referring built_in.ClearReferent None is
   row_sound built_in.Poll is = polling is
 

@@ -4,11 +4,11 @@ use Rattle.std.specs.Prelude.{ℤ}
 use Rattle.et_base.specs.declared.value.Value.{Value}
 use Rattle.et_base.specs.declared.value.Value.TheVariants.{Unset, Int, Long, LongHigh, Null, Ref}
 use Rattle.et_base.proofs.Lists.{Contains-here, Contains-there}
-use Rattle.et_heap.specs.Objects.{Objects, IsHeld}
+use Rattle.et_heap.specs.Objects.{Objects, IsHeld, referent_value}
 use Rattle.et_heap.specs.Refs.{refs_of}
 use Rattle.et_event.specs.PoolOperands.Operand.{Operand}
 use Rattle.et_event.specs.PoolOperands.Operand.TheVariants as operand
-use Rattle.et_event.specs.Checks.{Reference, reference_value, with_int, with_long, with_reference, with_value}
+use Rattle.et_event.specs.Checks.{Reference, with_int, with_long, with_reference, with_value}
 use Rattle.et_event.specs.Sound.{is_of_kind}
 
 -- there are at most so many operands, and what they refer to is held
@@ -69,7 +69,7 @@ module _ {A : Type 0} (P : A → Type 0) (refused : A) (ill : P refused) (heap :
   taken_reference (Ref o ∷ below) go a h =
       h (Some o) below (ref_held o (a.held o (Contains-here o (refs_of below)))) (record { few = omega (arith, a.few); held = λ q c. a.held q (Contains-there o (refs_of below) q c) }) (omega (arith, a.few))
 
-reference_kind : (r : Reference) → is_of_kind (Some operand.Reference) (reference_value r) ≡ true
+reference_kind : (r : Reference) → is_of_kind (Some operand.Reference) (referent_value r) ≡ true
 reference_kind None = refl
 reference_kind (Some o) = refl
 
@@ -79,4 +79,4 @@ pub taken_value : {A : Type 0} (P : A → Type 0) (refused : A) (heap : Objects)
 taken_value P refused heap k None ops go ill a h = ill
 taken_value P refused heap k (Some operand.Int) ops go ill a h = taken_int P refused ill heap k ops (λ n. go (Int n)) a (λ n below b few. h (Int n) below refl b few)
 taken_value P refused heap k (Some operand.Long) ops go ill a h = taken_long P refused ill heap k ops (λ n. go (Long n)) a (λ n below b few. h (Long n) below refl b (omega arith))
-taken_value P refused heap k (Some operand.Reference) ops go ill a h = taken_reference P refused ill heap k ops (λ r. go (reference_value r)) a (λ r below held b few. h (reference_value r) below (reference_kind r) b few)
+taken_value P refused heap k (Some operand.Reference) ops go ill a h = taken_reference P refused ill heap k ops (λ r. go (referent_value r)) a (λ r below held b few. h (referent_value r) below (reference_kind r) b few)

@@ -3,11 +3,10 @@ use Rattle.et_base.specs.declared.value.Value.{Value}
 use Rattle.et_heap.specs.Objects.{referent_of}
 use Rattle.et_event.specs.declared.rows.BuiltIn.{BuiltIn}
 use Rattle.et_event.specs.Answered.{EventAnswers}
-use Rattle.et_event.specs.BuiltIns.{answering, argument, reference_of, row_done, with_reference_made}
+use Rattle.et_event.specs.BuiltIns.{answering, argument, row_done, with_reference_made}
 use Rattle.et_event.specs.Calls.{arguments_of}
 use Rattle.et_event.specs.Moments.{moment, begins, goes, slot_written}
 use Rattle.et_parts.proofs.Answering.{if_ok}
-use Rattle.et_builtins.proofs.Slots.{reference_is}
 use Rattle.et_builtins.proofs.rows.fit_row_event.Goals as goal
 
 pub returns-in-Nothing-clause-ok : goal.returns-in-Nothing-clause-ok
@@ -64,7 +63,7 @@ returns-in-SetReferent-clause-ok g c = λ at same.
     let m = c.args.machine.now in
     let e = moment c.args.program.now m c.args.call.now.thread in
     let args = arguments_of e c.args.call.now.count in
-    let value : referent_of c.argument_at-value.result ≡ reference_of (argument args 1) = reference_is c.argument_at-value.result ∙ ap reference_of c.argument_at-value.ensures.value in
+    let value : referent_of c.argument_at-value.result ≡ referent_of (argument args 1) = ap referent_of c.argument_at-value.ensures.value in
     subst (λ (b : BuiltIn). EventAnswers (row_done e at (begins e) args c.args.object b) c.make_reference.result m c.make_reference.new.machine c.args.out.now c.args.out.now) (sym c.in-SetReferent.is)
     (subst (λ (r : Option ℕ). EventAnswers (goes (with_reference_made c.args.object r None (answering e at args [] (begins e)))) c.make_reference.result m c.make_reference.new.machine c.args.out.now c.args.out.now) value
     (c.make_reference.ensures.ok c.args.program.now at c.args.out.now same))
@@ -76,10 +75,10 @@ returns-in-SetReferentAndQueue-clause-ok g c = λ at same.
     let end = c.make_reference-in-SetReferentAndQueue.result in
     let e = moment c.args.program.now m c.args.call.now.thread in
     let args = arguments_of e c.args.call.now.count in
-    let value : referent_of c.argument_at-value.result ≡ reference_of (argument args 1) = reference_is c.argument_at-value.result ∙ ap reference_of c.argument_at-value.ensures.value in
-    let queue : referent_of c.argument_at-queue.result ≡ reference_of (argument args 2) = reference_is c.argument_at-queue.result ∙ ap reference_of c.argument_at-queue.ensures.value in
+    let value : referent_of c.argument_at-value.result ≡ referent_of (argument args 1) = ap referent_of c.argument_at-value.ensures.value in
+    let queue : referent_of c.argument_at-queue.result ≡ referent_of (argument args 2) = ap referent_of c.argument_at-queue.ensures.value in
     subst (λ (b : BuiltIn). EventAnswers (row_done e at (begins e) args c.args.object b) end m m' c.args.out.now c.args.out.now) (sym c.in-SetReferentAndQueue.is)
-    (subst (λ (q : Option ℕ). EventAnswers (goes (with_reference_made c.args.object (reference_of (argument args 1)) q (answering e at args [] (begins e)))) end m m' c.args.out.now c.args.out.now) queue
+    (subst (λ (q : Option ℕ). EventAnswers (goes (with_reference_made c.args.object (referent_of (argument args 1)) q (answering e at args [] (begins e)))) end m m' c.args.out.now c.args.out.now) queue
     (subst (λ (r : Option ℕ). EventAnswers (goes (with_reference_made c.args.object r (referent_of c.argument_at-queue.result) (answering e at args [] (begins e)))) end m m' c.args.out.now c.args.out.now) value
     (c.make_reference-in-SetReferentAndQueue.ensures.ok c.args.program.now at c.args.out.now same)))
 

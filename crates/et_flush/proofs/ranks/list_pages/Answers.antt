@@ -1,6 +1,7 @@
 use Rattle.std.proofs.Common.{◌≡◌, ℕ, get_or, Contains, sym, ◌∙◌, ap, subst, arith}
 use Rattle.std.proofs.lemmas.List.{get_or_default}
-use Rattle.et_flush.specs.Ranks.{page_at, IsPageAdded}
+use Rattle.et_heap.specs.Pages.{page_at}
+use Rattle.et_flush.specs.Ranks.{IsPageAdded}
 use Rattle.et_flush.proofs.Listings.{each_at}
 use Rattle.et_flush.proofs.Ranking.{pages_none, no_runs, pages_few, pages_more, pages_within}
 use Rattle.et_flush.proofs.ranks.list_pages.Goals as goal
