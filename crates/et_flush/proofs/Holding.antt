@@ -6,7 +6,6 @@ use Rattle.std.proofs.lemmas.Bool.{cases_eq, cases_lt}
 use Rattle.std.proofs.lemmas.List.{length-append, get_or_append_left, get_or_push, get_or_past, get_or_default}
 use Rattle.std.proofs.lemmas.List.Elements.{Contains-append_left, Contains-push, Contains-push_cases, Contains-get_or}
 use Rattle.std.proofs.lemmas.List.Kept.{AllPairs-from_increasing}
-use Rattle.et_graph.specs.Times.{AreWithin}
 use Rattle.et_base.proofs.Lists.{Contains-none}
 use Rattle.et_heap.specs.Objects.{ObjectState, Objects, IsHeld, IsNextHeld, is_there, ones_in, held_count}
 use Rattle.std.proofs.lemmas.List.Sums.{sum_by-cons}
@@ -121,13 +120,6 @@ module _ (heap : Objects) (held : List ℕ) (are : AreAllHeld heap held) where
       (λ more. rises i (i + 1) (length heap) (omega arith) more)
       (λ last. omega (arith, get_or_past held (i + 1) (length heap) last, held_within heap (get_or held i (length heap)) (here_held i (length heap) lt)))
       (cases_lt (i + 1) (length held))
-
-  -- each has a number from 1 on, and one of those that were made
-  pub held_are_within : (n : ℕ) → (IsHeld heap 0 → ⊥) → length heap ≤ n + 1 → AreWithin n held
-  held_are_within n none long o c =
-      let h = (are.exact o).0 c in
-      let last = held_within heap o h in
-      (held_above heap o none h, omega arith)
 
   least_at : (k : ℕ) → (IsHeld heap 0 → ⊥) → k < length held → k < get_or held k 0
   least_at zero none lt = held_above heap (get_or held 0 0) none (here_held 0 0 lt)

@@ -10,6 +10,10 @@ pub mod Clearing
 pub mod Tying
 pub mod Arriving
 pub mod Working
+pub mod Marking
+pub mod Joining
+pub mod Ordering
 pub mod Settling
 pub mod Reaching
 pub mod Leaving
+pub mod Living

@@ -92,12 +92,12 @@ agree_next here other k x xs agree j there =
     let e : k + suc j ≡ k + 1 + j = omega arith in
     subst (λ (i : ℕ). here i ≡ other i) e (agree (suc j) there)
 
-cleared_same : (here other : ℕ → Bool) (p : Option ℕ) → ((r : ℕ) → p ≡ Some r → here r ≡ other r) → is_cleared here p ≡ is_cleared other p
-cleared_same here other None same = refl
-cleared_same here other (Some r) same = ap (λ (b : Bool). not b) (same r refl)
+is_cleared_same : (here other : ℕ → Bool) (p : Option ℕ) → ((r : ℕ) → p ≡ Some r → here r ≡ other r) → is_cleared here p ≡ is_cleared other p
+is_cleared_same here other None same = refl
+is_cleared_same here other (Some r) same = ap (λ (b : Bool). not b) (same r refl)
 
 referent_same : (here other : ℕ → Bool) (p : Option ℕ) → ((r : ℕ) → p ≡ Some r → here r ≡ other r) → kept_referent here p ≡ kept_referent other p
-referent_same here other p same = ap (λ (b : Bool). if b then None else p) (cleared_same here other p same)
+referent_same here other p same = ap (λ (b : Bool). if b then None else p) (is_cleared_same here other p same)
 
 stays_same : (here other : ℕ → Bool) (b : Bool) (x : ObjectState) → ((r : ℕ) → x.referent ≡ Some r → here r ≡ other r) → left_place here b (Some x) ≡ left_place other b (Some x)
 stays_same here other false x weak = refl
@@ -135,7 +135,7 @@ visits_in here other a b k None same weak = omega arith
 visits_in here other false b k (Some x) same weak = omega arith
 visits_in here other true b k (Some x) same weak =
     let e : length (if b && is_cleared other x.referent then k ∷ [] else []) ≡ (if is_cleared here x.referent then 1 else 0) =
-    ap (λ (c : Bool). length (if c && is_cleared other x.referent then k ∷ [] else [])) (sym (same tt)) ∙ (one_long (is_cleared other x.referent) k ∙ ap (λ (c : Bool). if c then 1 else 0) (sym (cleared_same here other x.referent weak))) in
+    ap (λ (c : Bool). length (if c && is_cleared other x.referent then k ∷ [] else [])) (sym (same tt)) ∙ (one_long (is_cleared other x.referent) k ∙ ap (λ (c : Bool). if c then 1 else 0) (sym (is_cleared_same here other x.referent weak))) in
     omega arith
 
 visits_at : (here other : ℕ → Bool) (k : ℕ) (xs : Objects) → Agree here other k xs → AgreeWeakly here other xs → visits_from here k xs ≤ held_count xs + length (cleared_references other k xs)
@@ -153,7 +153,7 @@ visits_bound heap here other same referents = visits_at here other 0 heap (agree
 cleared_same_place : (here other : ℕ → Bool) (a b : Bool) (x : Option ObjectState) → (is_there x → a ≡ b) → ((r : ℕ) → (found x).referent ≡ Some r → here r ≡ other r) → loses_referent here a x ≡ loses_referent other b x
 cleared_same_place here other a b None same weak = refl
 cleared_same_place here other a b (Some x) same weak =
-    ap (λ (c : Bool). c && is_cleared here x.referent) (same tt) ∙ ap (λ (c : Bool). b && c) (cleared_same here other x.referent weak)
+    ap (λ (c : Bool). c && is_cleared here x.referent) (same tt) ∙ ap (λ (c : Bool). b && c) (is_cleared_same here other x.referent weak)
 
 cleared_from : (here other : ℕ → Bool) (k : ℕ) (xs : Objects) → Agree here other k xs → AgreeWeakly here other xs → cleared_references here k xs ≡ cleared_references other k xs
 cleared_from here other k [] agree weak = refl

@@ -1,10 +1,10 @@
 -- A search over the objects that are held, by their ranks.
-use Rattle.std.proofs.Common.{◌≡◌, ℕ, ◌+◌, ◌-◌, ◌<◌, List, [], ◌∷◌, length, get_or, map, Contains, refl, sym, ◌∙◌, ap, subst, inl, inr, arith}
+use Rattle.std.proofs.Common.{◌≡◌, ℕ, ◌+◌, ◌-◌, ◌<◌, Bool, List, [], ◌∷◌, length, get_or, map, Contains, refl, sym, ◌∙◌, ap, subst, inl, inr, arith}
 use Rattle.std.proofs.lemmas.List.{get_or_default}
 use Rattle.std.proofs.lemmas.List.Elements.{Contains-get_or}
 use Rattle.et_base.proofs.Lists.{Contains-none, Contains-here, Contains-there, Contains-cons}
 use Rattle.et_graph.specs.Graph.{IsWalk, Leads}
-use Rattle.et_graph.specs.Times.{ArePairsAmong}
+use Rattle.et_graph.specs.Times.{ArePairsAmong, IsSet}
 use Rattle.et_graph.specs.Order.{IsOneOf, IsOrder}
 use Rattle.et_graph.specs.declared.search.Source.{Source}
 use Rattle.et_heap.specs.Objects.{Objects, IsHeld, object_at}
@@ -13,8 +13,9 @@ use Rattle.et_heap.specs.Refs.{leads_to, pairs_of}
 use Rattle.et_heap.proofs.HeapLists.{pair_at, pair_held}
 use Rattle.et_state.proofs.UnderWay.{waiting_pair}
 use Rattle.et_flush.specs.declared.ranks.Ranks.{Ranks}
-use Rattle.et_flush.specs.Ranks.{rank_of, HasRank, AreRanked, ranked_pairs}
-use Rattle.et_flush.specs.Searches.{AreAllHeld, IsSearched, IsSearchedRank}
+use Rattle.et_flush.specs.Ranks.{rank_of, time_of, HasRank, AreRanked, ranked_pairs}
+use Rattle.et_flush.specs.Searches.{AreAllHeld, AreFlagsOf, IsLeft, IsSearched, IsSearchedRank, pairs_left}
+use Rattle.et_flush.proofs.Joining.{pair_left}
 use Rattle.et_flush.proofs.Targets.{target_pair, pair_target}
 
 -- MAPPED LISTS
@@ -59,6 +60,10 @@ pub rank_once : (heap : Objects) (held : List ℕ) (ranks : Ranks) → AreAllHel
 rank_once heap held ranks all ranked o u h k same =
     sym (held_rank heap held ranks all ranked o h).1 ∙ (ap (λ (r : ℕ). get_or held (r - 1) 0) same ∙ (held_rank heap held ranks all ranked u k).1)
 
+-- the time of a listed object stands at its place
+pub time_ranked : (held times : List ℕ) (ranks : Ranks) (i : ℕ) → AreRanked held ranks → i < length held → get_or times i 0 ≡ time_of ranks times (get_or held i 0)
+time_ranked held times ranks i ranked lt = ap (λ (k : ℕ). get_or times k 0) (let e = (ranked i lt).1 in let place : i ≡ rank_of ranks (get_or held i 0) - 1 = omega (arith, e) in place)
+
 -- the object with a rank
 pub rank_held : (heap : Objects) (held : List ℕ) (ranks : Ranks) → AreAllHeld heap held → AreRanked held ranks → (rank : ℕ) → IsOneOf (length held) rank → IsHeld heap (get_or held (rank - 1) 0) × (rank_of ranks (get_or held (rank - 1) 0) ≡ rank)
 rank_held heap held ranks all ranked rank one =
@@ -88,21 +93,37 @@ module _ (heap : Objects) (held : List ℕ) (ranks : Ranks) (is : IsSearched hea
   pub lead_back : (a o : ℕ) → IsHeld heap o → Leads (ranked_pairs ranks (pairs_of heap)) a (rank_of ranks o) → (u : ℕ) × IsHeld heap u × (rank_of ranks u ≡ a) × Leads (pairs_of heap) u o
   lead_back a o h (walk, w) = walk_back walk a o h w
 
-  searched_one : (o : ℕ) → IsHeld heap o → IsSearchedRank heap held ranks (rank_of ranks o)
-  searched_one o h = let r = (held_rank heap held ranks is.all is.ranked o h).0 in record { searched = is; one = (r.first, r.last) }
+  pub rank_one : (o : ℕ) → IsHeld heap o → IsOneOf (length held) (rank_of ranks o)
+  rank_one o h = let r = (held_rank heap held ranks is.all is.ranked o h).0 in (r.first, r.last)
+
+  pub ranks_within : (n : ℕ) (os : List ℕ) → n ≡ length held → ((o : ℕ) → Contains os o → IsHeld heap o) → (k : ℕ) → Contains (map (rank_of ranks) os) k → IsOneOf n k
+  ranks_within n os long are k c =
+      let m = mapped_from (rank_of ranks) os k c in
+      subst (λ (i : ℕ). IsOneOf i k) (sym long) (subst (λ (i : ℕ). IsOneOf (length held) i) m.2 (rank_one m.0 (are m.0 m.1)))
 
   -- each pair joins the ranks of two objects
-  pub pairs_searched : ArePairsAmong (IsSearchedRank heap held ranks) (ranked_pairs ranks (pairs_of heap))
-  pairs_searched a b c =
+  pub pairs_one : ArePairsAmong (IsOneOf (length held)) (ranked_pairs ranks (pairs_of heap))
+  pairs_one a b c =
       let p = ranked_pair ranks (pairs_of heap) a b c in
-      (subst (λ (k : ℕ). IsSearchedRank heap held ranks k) p.3 (searched_one p.0 (pair_held heap p.0 p.1 (pair_at heap p.0 p.1 p.2))), subst (λ (k : ℕ). IsSearchedRank heap held ranks k) p.4 (searched_one p.1 (is.pairs p.0 p.1 p.2)))
+      (subst (λ (k : ℕ). IsOneOf (length held) k) p.3 (rank_one p.0 (pair_held heap p.0 p.1 (pair_at heap p.0 p.1 p.2))), subst (λ (k : ℕ). IsOneOf (length held) k) p.4 (rank_one p.1 (is.pairs p.0 p.1 p.2)))
 
-  pub order_searched : (n : ℕ) (times : List ℕ) (order : List Source) → n ≡ length held → IsOrder (IsOneOf n) times order → IsOrder (IsSearchedRank heap held ranks) times order
-  order_searched n times order long are = record {
-    each = λ s c. record { searched = is; one = let e = are.each s c in let first = e.0 in let last = e.1 in (first, omega arith) };
-    all = λ k h. are.all k (let one = h.one in (one.0, let last = one.1 in omega arith));
-    falls = are.falls;
-  }
+  -- WHAT IS LEFT OUT leads to nothing else
+
+  module _ (left_out : List Bool) (flags : AreFlagsOf held left_out) where
+    pub pairs_searched : ((a b : ℕ) → Contains (ranked_pairs ranks (pairs_of heap)) (a, b) → IsSet left_out a → IsSet left_out b) → ArePairsAmong (IsSearchedRank heap held ranks left_out) (pairs_left left_out (ranked_pairs ranks (pairs_of heap)))
+    pairs_searched closed a b c =
+        let kept = pair_left left_out (ranked_pairs ranks (pairs_of heap)) a b c in
+        let one = pairs_one a b kept.0 in (
+          record { searched = is; flags = flags; one = record { one = one.0; left = λ s. kept.1 (closed a b kept.0 s) } },
+          record { searched = is; flags = flags; one = record { one = one.1; left = kept.1 } },
+        )
+
+    pub order_searched : (n : ℕ) (times : List ℕ) (order : List Source) → n ≡ length held → IsOrder (IsLeft n left_out) times order → IsOrder (IsSearchedRank heap held ranks left_out) times order
+    order_searched n times order long are = record {
+      each = λ s c. record { searched = is; flags = flags; one = subst (λ (m : ℕ). IsLeft m left_out s.object) long (are.each s c) };
+      all = λ k h. are.all k (subst (λ (m : ℕ). IsLeft m left_out k) (sym long) h.one);
+      falls = are.falls;
+    }
 
   -- what waits in an object is held
   pub whole_at : (o : ℕ) → IsWhole heap o

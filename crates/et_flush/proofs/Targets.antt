@@ -1,6 +1,6 @@
 -- What an object leads to, while a search looks into it.
-use Rattle.std.proofs.Common.{◌≡◌, ℕ, zero, suc, ◌<◌, ◌≤◌, ◌⊎◌, Bool, List, [], ◌∷◌, Option, Some, None, Contains, refl, sym, ◌∙◌, subst, inl, inr, arith}
-use Rattle.et_graph.specs.Times.{ArePairsWithin, IsSet}
+use Rattle.std.proofs.Common.{◌≡◌, ℕ, zero, suc, ◌<◌, ◌⊎◌, Bool, List, [], ◌∷◌, Option, Some, None, Contains, refl, sym, ◌∙◌, subst, inl, inr, arith}
+use Rattle.et_graph.specs.Times.{IsSet}
 use Rattle.et_base.proofs.Lists.{Contains-none, Contains-here, Contains-there, Contains-cons}
 use Rattle.et_heap.specs.Objects.{ObjectState, Objects, IsHeld, is_there, at, found, object_at}
 use Rattle.et_heap.specs.Refs.{leads_to, targets_of, pairs_of}
@@ -17,20 +17,17 @@ pub pair_target : (heap : Objects) (o : ℕ) (ts : List ℕ) → IsHeld heap o �
 pair_target heap o ts held is x c = subst (λ (vs : List ℕ). Contains vs x) (sym (is ∙ sym (targets_found (at heap o) held))) (pair_at heap o x c)
 
 -- the first of those that are left
-pub target_here : (pairs : List (ℕ × ℕ)) (n o t : ℕ) (ts rest : List ℕ) → ArePairsWithin n pairs → ts ≡ t ∷ rest → ((x : ℕ) → Contains ts x → Contains pairs (o, x)) → Contains pairs (o, t) × (0 < t) × (t ≤ n)
-target_here pairs n o t ts rest within first left =
-    let here : Contains pairs (o, t) = left t (subst (λ (vs : List ℕ). Contains vs t) (sym first) (Contains-here t rest)) in
-    let at = within o t here in
-    (here, at.2, at.3)
+pub first_left : (pairs : List (ℕ × ℕ)) (o t : ℕ) (ts rest : List ℕ) → ts ≡ t ∷ rest → ((x : ℕ) → Contains ts x → Contains pairs (o, x)) → Contains pairs (o, t)
+first_left pairs o t ts rest first left = left t (subst (λ (vs : List ℕ). Contains vs t) (sym first) (Contains-here t rest))
 
 pub left_there : (P : ℕ → Type 0) (t : ℕ) (ts rest : List ℕ) → ts ≡ t ∷ rest → ((x : ℕ) → Contains ts x → P x) → (x : ℕ) → Contains rest x → P x
 left_there P t ts rest first left x c = left x (subst (λ (vs : List ℕ). Contains vs x) (sym first) (Contains-there t rest x c))
 
-pub done_more : (P : ℕ → Type 0) (t : ℕ) (ts rest : List ℕ) (seen seen' : List Bool) → ts ≡ t ∷ rest → ((x : ℕ) → IsSet seen x → IsSet seen' x) → IsSet seen' t → ((x : ℕ) → P x → Contains ts x ⊎ IsSet seen x) → (x : ℕ) → P x → Contains rest x ⊎ IsSet seen' x
+pub done_more : (P : ℕ → Type 0) (t : ℕ) (ts rest : List ℕ) (seen seen' : List Bool) → ts ≡ t ∷ rest → ((x : ℕ) → IsSet seen x → IsSet seen' x) → (P t → IsSet seen' t) → ((x : ℕ) → P x → Contains ts x ⊎ IsSet seen x) → (x : ℕ) → P x → Contains rest x ⊎ IsSet seen' x
 done_more P t ts rest seen seen' first grows here done x p =
     elim (done x p) [
       | inl c ↦ elim (Contains-cons t rest x (subst (λ (vs : List ℕ). Contains vs x) first c)) [
-        | inl e ↦ inr (subst (λ (z : ℕ). IsSet seen' z) e here)
+        | inl e ↦ inr (subst (λ (z : ℕ). IsSet seen' z) e (here (subst P (sym e) p)))
         | inr d ↦ inl d
       ]
       | inr s ↦ inr (grows x s)

@@ -1,5 +1,6 @@
 pub mod Ranks
 pub mod Searches
+pub mod Reaches
 pub mod Sweeps
 pub mod Works
 pub mod Rooms

@@ -1,7 +1,9 @@
 -- What a search over a heap keeps to.
-use Rattle.std.specs.Prelude.{◌≡◌, ℕ, ◌<◌, ◌↔◌, List, length, map, Contains, slice_index}
+use Rattle.std.specs.Prelude.{◌≡◌, ℕ, ◌-◌, ◌<◌, ◌↔◌, Bool, not, false, List, length, map, filter, Contains, slice_index, slice_index_or}
 use Rattle.std.specs.List.Sorted.{IsStrictlyIncreasing}
+use Rattle.et_graph.specs.declared.search.Source.{Source}
 use Rattle.et_graph.specs.Order.{IsOneOf}
+use Rattle.et_graph.specs.Times.{IsSet}
 use Rattle.et_heap.specs.Objects.{Objects, IsHeld}
 use Rattle.et_heap.specs.Refs.{pairs_of}
 use Rattle.et_flush.specs.declared.times.TheConstants.{NOW}
@@ -23,10 +25,29 @@ pub record IsSearched (heap : Objects) (held : List ℕ) (ranks : Ranks) : Type 
   pub pairs : ArePairsHeld heap
   pub ranked : AreRanked held ranks
 
--- .. and this is the rank of one of them
-pub record IsSearchedRank (heap : Objects) (held : List ℕ) (ranks : Ranks) (rank : ℕ) : Type 0 where
+-- there is a flag for each
+abbrev pub AreFlagsOf : List ℕ → List Bool → Type 0
+AreFlagsOf held flags = length flags ≡ length held
+
+-- the pairs that lead to what is not left out
+abbrev pub pairs_left : List Bool → List (ℕ × ℕ) → List (ℕ × ℕ)
+pairs_left left_out pairs = filter (λ p. not (slice_index_or left_out (p.1 - 1) false)) pairs
+
+-- one of the first n ranks, and not left out
+pub record IsLeft (n : ℕ) (left_out : List Bool) (rank : ℕ) : Type 0 where
+  pub one : IsOneOf n rank
+  pub left : ¬ IsSet left_out rank
+
+-- the rank of an object that is held, and that the search over these does not leave out
+pub record IsSearchedRank (heap : Objects) (held : List ℕ) (ranks : Ranks) (left_out : List Bool) (rank : ℕ) : Type 0 where
   pub searched : IsSearched heap held ranks
-  pub one : IsOneOf (length held) rank
+  pub flags : AreFlagsOf held left_out
+  pub one : IsLeft (length held) left_out rank
+
+-- these are the ranks of what wasn't reached, each with how far its time lies before NOW
+pub record AreSources (times : List ℕ) (reached : List Bool) (order : List Source) : Type 0 where
+  pub each : (s : Source) → Contains order s → IsLeft (length times) reached s.object × (s.age ≡ NOW - slice_index times (s.object - 1))
+  pub all : (rank : ℕ) → IsLeft (length times) reached rank → (s : Source) × Contains order s × (s.object ≡ rank)
 
 -- The times as a search begins, by rank: each object that is held has its stamp.
 pub record AreTimes (held stamps times : List ℕ) : Type 0 where

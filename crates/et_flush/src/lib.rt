@@ -8,6 +8,7 @@ mod machine;
 mod order;
 mod queues;
 mod ranks;
+mod reach;
 mod room;
 mod search;
 mod sweep;

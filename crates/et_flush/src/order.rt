@@ -1,39 +1,42 @@
-//! The order in which a flush takes the objects, by their ranks: those with the greatest time first.
+//! The order in which a flush takes what the roots don't lead to, by ranks: what has the greatest time comes first.
 ghost use Rattle.std.specs.Prelude.{◌≡◌, ◌^◌, ◌<◌, ◌≤◌, length, All, vec_capacity};
-ghost use Rattle.et_graph.specs.Order.{sources, IsOneOf, IsOrder};
+ghost use Rattle.et_graph.specs.Order.{IsOrder};
+ghost use Rattle.et_flush.specs.Searches.{AreSources, IsLeft};
 
 use crate::times::NOW;
 use et_base::{ObjectId, within};
 use et_graph::Source;
 
-/// Lists the ranks as sources.
-fn list_sources(times: &[u64], order: &mut Vec<Source>)
+/// Lists the ranks of what wasn't reached as sources.
+fn list_sources(times: &[u64], reached: &[bool], order: &mut Vec<Source>)
     requires below { All (λ t. t ≤ NOW) times.now }
+    requires long { length reached.now ≡ length times.now }
     requires small { length times.now < 2 ^ 32 }
     requires room { length times.now ≤ vec_capacity order.old }
-    ensures sources { order.new.items ≡ sources 1 NOW times.now }
+    ensures sources { AreSources times.now reached.now order.new.items }
     ensures room { vec_capacity order.old ≤ vec_capacity order.new }
 {
     order.clear();
-    let mut rank: u32 = 0;
-    for time in times {
-        rank += 1;
-        let source = Source {
-            age: NOW - *time,
-            object: ObjectId::new(rank),
-        };
-        within::push(order, source);
+    for (i, time) in times.iter().enumerate() {
+        if !reached[i] {
+            let source = Source {
+                age: NOW - *time,
+                object: ObjectId::new(i as u32 + 1),
+            };
+            within::push(order, source);
+        }
     }
 }
 
-/// Lists the ranks as sources, those with the greatest time first.
-pub(crate) fn order_sources(times: &[u64], order: &mut Vec<Source>)
+/// Lists the ranks of what wasn't reached as sources, those with the greatest time first.
+pub(crate) fn order_sources(times: &[u64], reached: &[bool], order: &mut Vec<Source>)
     requires below { All (λ t. t ≤ NOW) times.now }
+    requires long { length reached.now ≡ length times.now }
     requires small { length times.now < 2 ^ 32 }
     requires room { length times.now ≤ vec_capacity order.old }
-    ensures order { IsOrder (IsOneOf (length times.now)) times.now order.new.items }
+    ensures order { IsOrder (IsLeft (length times.now) reached.now) times.now order.new.items }
     ensures room { vec_capacity order.old ≤ vec_capacity order.new }
 {
-    list_sources(times, order);
+    list_sources(times, reached, order);
     order.sort_unstable_by_key(|source| source.age);
 }

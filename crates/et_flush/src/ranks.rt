@@ -160,7 +160,6 @@ pub(crate) fn list_ranks(held: &[ObjectId], ranks: &mut Ranks)
     ensures runs { length ranks.new.runs.items ≡ length ranks.old.runs.items }
 {
     list_pages(held, &mut ranks.runs, &mut ranks.pages);
-    ranks.ranks.clear();
     within::resize(&mut ranks.ranks, ranks.pages.len() * PAGE_SIZE, 0);
     write_ranks(held, &ranks.runs, &mut ranks.ranks);
 }

@@ -107,6 +107,7 @@ impl FlushRoom {
             &self.work.held,
             &self.work.ranks,
             &self.work.times,
+            &self.work.deaths,
             &mut self.work.cleared,
             visits,
         );

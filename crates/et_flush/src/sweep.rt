@@ -1,15 +1,17 @@
 //! What a flush takes out, and what it clears.
-ghost use Rattle.std.specs.Prelude.{◌≡◌, ℕ, ◌+◌, ◌<◌, ◌≤◌, length, slice_set, vec_capacity, true, Some};
+ghost use Rattle.std.specs.Prelude.{◌≡◌, ℕ, ◌+◌, ◌≤◌, length, slice_set, vec_capacity, true, Some};
+ghost use Rattle.et_graph.specs.Listing.{death_pairs};
 ghost use Rattle.et_heap.specs.Objects.{IsHeld, at, object_at};
 ghost use Rattle.et_heap.specs.Remaining.{left_place, remaining};
 ghost use Rattle.et_flush.specs.Flushes.{loses_referent, cleared_references};
-ghost use Rattle.et_flush.specs.Ranks.{HasRank, HaveRanks, time_of};
-ghost use Rattle.et_flush.specs.Searches.{AreAllHeld};
+ghost use Rattle.et_flush.specs.Ranks.{AreRanked, time_of};
+ghost use Rattle.et_flush.specs.Searches.{AreAllHeld, AreDyingIn};
 ghost use Rattle.et_flush.specs.Sweeps.{is_now, ReferentsWithin, visits_of, visits_from};
 
 use crate::ranks::{Ranks, time_at};
 use crate::times::NOW;
 use et_base::{ObjectId, Steps, Value, within};
+use et_graph::Death;
 use et_heap::Heap;
 use std::sync::ledger::Ledger;
 
@@ -50,10 +52,11 @@ fn sweep_one<L: Ledger>(
     ranks: &Ranks,
     times: &[u64],
     object: ObjectId,
+    time: u64,
     visits: &mut Steps<L>,
 ) -> bool
     requires held { IsHeld heap.old object }
-    requires ranked { HasRank ranks.now (length times.now) object }
+    requires time { time ≡ time_of ranks.now times.now object }
     requires within { ReferentsWithin ranks.now (length times.now) (object_at heap.old object) }
     ensures heap { heap.new ≡ slice_set heap.old object
         (left_place (is_now (time_of ranks.now times.now))
@@ -65,7 +68,7 @@ fn sweep_one<L: Ledger>(
         ≡ visits.old + visits_of (is_now (time_of ranks.now times.now))
         (is_now (time_of ranks.now times.now) object) (at heap.old object) }
 {
-    if time_at(ranks, times, object) < NOW {
+    if time < NOW {
         heap.take_out(object);
         return false;
     }
@@ -74,7 +77,7 @@ fn sweep_one<L: Ledger>(
 
 /// Takes each object out whose time is below `NOW`, clears what the others refer to weakly, where that is below `NOW`, and
 /// lists those whose referents it cleared, in rising order.
-pub(crate) fn sweep<L: Ledger>(
+fn sweep_all<L: Ledger>(
     heap: &mut Heap,
     held: &[ObjectId],
     ranks: &Ranks,
@@ -83,7 +86,8 @@ pub(crate) fn sweep<L: Ledger>(
     visits: &mut Steps<L>,
 )
     requires held { AreAllHeld heap.old held.now }
-    requires ranked { HaveRanks ranks.now (length times.now) held.now }
+    requires ranked { AreRanked held.now ranks.now }
+    requires long { length times.now ≡ length held.now }
     requires within { (o : ℕ) →
         ReferentsWithin ranks.now (length times.now) (object_at heap.old o) }
     requires room { length held.now ≤ vec_capacity cleared.old }
@@ -95,9 +99,40 @@ pub(crate) fn sweep<L: Ledger>(
         ≡ visits.old + visits_from (is_now (time_of ranks.now times.now)) 0 heap.old }
 {
     cleared.clear();
-    for object in held {
-        if sweep_one(heap, ranks, times, *object, visits) {
+    for (i, object) in held.iter().enumerate() {
+        if sweep_one(heap, ranks, times, *object, times[i], visits) {
             within::push(cleared, *object);
         }
+    }
+}
+
+/// Sweeps all objects where one died. Where none did, none is taken out, and none is cleared.
+pub(crate) fn sweep<L: Ledger>(
+    heap: &mut Heap,
+    held: &[ObjectId],
+    ranks: &Ranks,
+    times: &[u64],
+    deaths: &[Death],
+    cleared: &mut Vec<ObjectId>,
+    visits: &mut Steps<L>,
+)
+    requires held { AreAllHeld heap.old held.now }
+    requires ranked { AreRanked held.now ranks.now }
+    requires long { length times.now ≡ length held.now }
+    requires deaths { AreDyingIn
+        heap.old (time_of ranks.now times.now) (death_pairs deaths.now) }
+    requires referents { (u o : ℕ) → (object_at heap.old u).referent ≡ Some o → IsHeld heap.old o }
+    requires room { length held.now ≤ vec_capacity cleared.old }
+    ensures heap { heap.new ≡ remaining (is_now (time_of ranks.now times.now)) 0 heap.old }
+    ensures cleared { cleared.new.items
+        ≡ cleared_references (is_now (time_of ranks.now times.now)) 0 heap.old }
+    ensures room { vec_capacity cleared.old ≤ vec_capacity cleared.new }
+    ensures visits { visits.new
+        ≤ visits.old + visits_from (is_now (time_of ranks.now times.now)) 0 heap.old }
+{
+    if deaths.is_empty() {
+        cleared.clear();
+    } else {
+        sweep_all(heap, held, ranks, times, cleared, visits);
     }
 }

@@ -1,12 +1,8 @@
 //! The times of objects as a search begins, by their ranks.
-ghost use Rattle.std.specs.Prelude.{◌≡◌, ℕ, ◌<◌, ◌≤◌, length, map, vec_capacity, Contains};
-ghost use Rattle.et_graph.specs.Times.{set_each};
-ghost use Rattle.et_flush.specs.Ranks.{HaveRanks, rank_of};
+ghost use Rattle.std.specs.Prelude.{ℕ, ◌<◌, ◌≤◌, length, vec_capacity, Contains};
 ghost use Rattle.et_flush.specs.Searches.{AreTimes};
 
-use crate::ranks::{Ranks, rank_at};
 use et_base::{ObjectId, within};
-use et_graph::place_of;
 
 /// Greater than the number of any event: the time of what is reached now.
 pub const NOW: u64 = 1_099_511_627_777;
@@ -21,15 +17,5 @@ pub(crate) fn write_times(held: &[ObjectId], stamps: &[u64], times: &mut Vec<u64
     times.clear();
     for object in held {
         within::push(times, stamps[object.number() as usize]);
-    }
-}
-
-/// Writes the time `NOW` at each of the roots.
-pub(crate) fn write_roots(times: &mut [u64], ranks: &Ranks, roots: &[ObjectId])
-    requires { HaveRanks ranks.now (length times.old) roots.now }
-    ensures { times.new ≡ set_each (map (rank_of ranks.now) roots.now) NOW times.old }
-{
-    for root in roots {
-        times[place_of(rank_at(ranks, *root))] = NOW;
     }
 }

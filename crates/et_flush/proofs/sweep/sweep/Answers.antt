@@ -1,112 +1,24 @@
-use Rattle.std.proofs.Common.{◌≡◌, ℕ, ◌+◌, ◌<◌, ◌≤◌, List, [], ◌∷◌, ◌++◌, length, get_or, sym, ◌∙◌, ap, arith, drop}
-use Rattle.std.proofs.lemmas.List.{length-append, get_or_default, get_or_past}
-use Rattle.et_heap.specs.Objects.{IsHeld, at}
-use Rattle.et_heap.proofs.HeapLists.{held_within}
-use Rattle.et_flush.specs.Ranks.{time_of}
-use Rattle.et_flush.specs.Sweeps.{is_now, visits_from}
-use Rattle.et_flush.proofs.Holding.{here_held, gap_first, gap_next, next_later}
-use Rattle.et_flush.proofs.Sweeping.{swept_to, swept_step, held_before, within_before, visits_to, visits_step, swept_end, visits_end}
-use Rattle.et_flush.specs.Flushes.{loses_referent, cleared_references}
-use Rattle.et_flush.proofs.Clearing.{cleared_to, cleared_step, listed_where, unlisted_where, all_cleared}
+use Rattle.std.proofs.Common.{ℕ, sym, ◌∙◌, ap, subst}
+use Rattle.std.proofs.lemmas.Bool.{eqb-true}
+use Rattle.et_base.proofs.Lists.{none_long}
+use Rattle.et_graph.specs.Listing.{death_pairs}
+use Rattle.et_flush.specs.Ranks.{HasRank, time_of}
+use Rattle.et_flush.proofs.Living.{all_remain, none_cleared}
+use Rattle.et_flush.proofs.Searching.{held_rank}
 use Rattle.et_flush.proofs.sweep.sweep.Goals as goal
-use Rattle.et_flush.proofs.sweep.sweep.Goals.{then-sweep_one, else-sweep_one}
 
-pub loop-object-init : goal.loop-object-init
-loop-object-init g c =
-    let end : ℕ = length c.args.heap.now in
-    let next : ℕ = get_or c.args.held.now 0 end in
-    let gap : (u : ℕ) → 0 ≤ u → u < next → IsHeld c.args.heap.now u → ⊥ = λ u _ lt h. gap_first c.args.heap.now c.args.held.now c.requires.held end u lt h in
-    record {
-      heap = swept_to (is_now (time_of c.args.ranks.now c.args.times.now)) 0 next c.args.heap.now (omega arith) gap;
-      cleared =
-          ap (λ (rs : List ℕ). rs ++ cleared_references (is_now (time_of c.args.ranks.now c.args.times.now)) next (drop next c.args.heap.now)) c.clear.ensures.items
-          ∙ sym (cleared_to (is_now (time_of c.args.ranks.now c.args.times.now)) 0 next c.args.heap.now (omega arith) gap);
-      few = omega (arith, ap length c.clear.ensures.items);
-      room = omega (arith, c.clear.ensures.capacity);
-      visits = ap (λ (k : ℕ). c.args.visits.now + k) (sym (visits_to (is_now (time_of c.args.ranks.now c.args.times.now)) 0 next c.args.heap.now (omega arith) gap));
-    }
+pub sweep_all-requires-clause-within : goal.sweep_all-requires-clause-within
+sweep_all-requires-clause-within g c = λ o r e.
+    subst (λ (n : ℕ). HasRank c.args.ranks.now n r) (sym c.requires.long)
+    (held_rank c.args.heap.now c.args.held.now c.args.ranks.now c.requires.held c.requires.ranked r (c.requires.referents o r e)).0
 
-pub sweep_one-requires-clause-held : goal.sweep_one-requires-clause-held
-sweep_one-requires-clause-held g c =
-    let i : ℕ = c.loop-object.object-index in
-    let end : ℕ = length c.args.heap.now in
-    held_before (is_now (time_of c.args.ranks.now c.args.times.now)) c.args.heap.now c.loop-object.heap (get_or c.args.held.now i end) c.object-item.result c.loop-object.invariant.heap
-    (c.object-item.is ∙ get_or_default c.args.held.now i c.object-item.result end c.loop-object-test.true) (here_held c.args.heap.now c.args.held.now c.requires.held i end c.loop-object-test.true)
+pub returns-then-is_empty-clause-heap : goal.returns-then-is_empty-clause-heap
+returns-then-is_empty-clause-heap g c =
+    all_remain c.args.heap.now (time_of c.args.ranks.now c.args.times.now) (death_pairs c.args.deaths.now) c.requires.deaths
+    (ap death_pairs (none_long c.args.deaths.now (eqb-true _ _ (sym c.is_empty.ensures ∙ c.if-is_empty.true)))) c.requires.referents
 
-pub sweep_one-requires-clause-ranked : goal.sweep_one-requires-clause-ranked
-sweep_one-requires-clause-ranked g c = c.requires.ranked c.object-item.result (c.loop-object.object-index, c.loop-object-test.true, sym c.object-item.is)
-
-pub sweep_one-requires-clause-within : goal.sweep_one-requires-clause-within
-sweep_one-requires-clause-within g c =
-    let i : ℕ = c.loop-object.object-index in
-    let end : ℕ = length c.args.heap.now in
-    within_before (is_now (time_of c.args.ranks.now c.args.times.now)) c.args.ranks.now c.args.heap.now c.loop-object.heap (get_or c.args.held.now i end) c.object-item.result (length c.args.times.now) c.loop-object.invariant.heap
-    (c.object-item.is ∙ get_or_default c.args.held.now i c.object-item.result end c.loop-object-test.true) (c.requires.within (get_or c.args.held.now i end))
-
-pub push-requires : goal.push-requires
-push-requires g c = record { room = omega (arith, c.loop-object.cleared.ok.0, c.loop-object.invariant.few, c.loop-object.invariant.room, c.loop-object-test.true, c.requires.room) }
-
-pub loop-object-preserved : goal.loop-object-preserved
-loop-object-preserved g c =
-    let i : ℕ = c.loop-object.object-index in
-    let end : ℕ = length c.args.heap.now in
-    let o : ℕ = c.object-item.result in
-    let n : ℕ = get_or c.args.held.now i end in
-    let m : ℕ = get_or c.args.held.now (i + 1) end in
-    let here = is_now (time_of c.args.ranks.now c.args.times.now) in
-    let all : List ℕ = cleared_references here 0 c.args.heap.now in
-    let same : o ≡ n = c.object-item.is ∙ get_or_default c.args.held.now i o end c.loop-object-test.true in
-    let within : n < end = held_within c.args.heap.now n (here_held c.args.heap.now c.args.held.now c.requires.held i end c.loop-object-test.true) in
-    let more : n + 1 ≤ m = omega (arith, next_later c.args.heap.now c.args.held.now c.requires.held i c.loop-object-test.true) in
-    let gap : (u : ℕ) → n + 1 ≤ u → u < m → IsHeld c.args.heap.now u → ⊥ = λ u from lt h. gap_next c.args.heap.now c.args.held.now c.requires.held i end u c.loop-object-test.true (omega (arith, from)) lt h in
-    let heap =
-    swept_step here c.args.heap.now c.loop-object.heap c.sweep_one.new.heap n o c.loop-object.invariant.heap same within c.sweep_one.ensures.heap
-    ∙ swept_to here (n + 1) m c.args.heap.now more gap in
-    let visits =
-    ap (λ (k : ℕ). c.sweep_one.new.visits + k) (sym (visits_to here (n + 1) m c.args.heap.now more gap))
-    ∙ visits_step here c.args.heap.now c.loop-object.heap n o (visits_from here 0 c.args.heap.now) c.args.visits.now c.loop-object.visits c.sweep_one.new.visits
-    c.loop-object.invariant.heap same within c.loop-object.invariant.visits c.sweep_one.ensures.visits in
-    elim c.if-sweep_one.branch [
-      | then-sweep_one w ↦
-          let push : c.if-sweep_one.cleared.items ≡ c.loop-object.cleared.items ++ o ∷ [] = ap (λ v. v.items) w.cleared-is ∙ w.push.ensures.items in
-          record {
-            heap = heap;
-            cleared =
-                ap (λ (rs : List ℕ). c.if-sweep_one.cleared.items ++ rs) (sym (cleared_to here (n + 1) m c.args.heap.now more gap))
-                ∙ cleared_step here c.args.heap.now c.loop-object.heap n o all c.loop-object.cleared.items c.if-sweep_one.cleared.items c.loop-object.invariant.heap same within c.loop-object.invariant.cleared
-                (push ∙ listed_where c.sweep_one.result (loses_referent here (here o) (at c.loop-object.heap o)) c.loop-object.cleared.items o c.sweep_one.ensures.cleared w.if-sweep_one.true);
-            few = omega (arith, ap length push, length-append c.loop-object.cleared.items (o ∷ []), c.loop-object.invariant.few);
-            room = rw w.cleared-is (omega (arith, w.push.ensures.grows, c.loop-object.invariant.room));
-            visits = visits;
-          }
-      | else-sweep_one w ↦
-          rw w.cleared-is (record {
-            heap = heap;
-            cleared =
-                ap (λ (rs : List ℕ). c.loop-object.cleared.items ++ rs) (sym (cleared_to here (n + 1) m c.args.heap.now more gap))
-                ∙ cleared_step here c.args.heap.now c.loop-object.heap n o all c.loop-object.cleared.items c.loop-object.cleared.items c.loop-object.invariant.heap same within c.loop-object.invariant.cleared
-                (unlisted_where c.sweep_one.result (loses_referent here (here o) (at c.loop-object.heap o)) c.loop-object.cleared.items o c.sweep_one.ensures.cleared w.if-sweep_one.false);
-            few = omega (arith, c.loop-object.invariant.few);
-            room = omega (arith, c.loop-object.invariant.room);
-            visits = visits;
-          })
-    ]
-
-pub returns-clause-cleared : goal.returns-clause-cleared
-returns-clause-cleared g c =
-    let end : ℕ = length c.args.heap.now in
-    let next : ℕ = get_or c.args.held.now c.loop-object.object-index end in
-    all_cleared (is_now (time_of c.args.ranks.now c.args.times.now)) c.args.heap.now next (cleared_references (is_now (time_of c.args.ranks.now c.args.times.now)) 0 c.args.heap.now) c.loop-object.cleared.items c.loop-object.invariant.cleared
-    (omega (arith, get_or_past c.args.held.now c.loop-object.object-index end c.loop-object-test.false))
-
-pub returns-clause-heap : goal.returns-clause-heap
-returns-clause-heap g c =
-    let end : ℕ = length c.args.heap.now in
-    let next : ℕ = get_or c.args.held.now c.loop-object.object-index end in
-    swept_end (is_now (time_of c.args.ranks.now c.args.times.now)) c.args.heap.now c.loop-object.heap next c.loop-object.invariant.heap (omega (arith, get_or_past c.args.held.now c.loop-object.object-index end c.loop-object-test.false))
-
-pub returns-clause-visits : goal.returns-clause-visits
-returns-clause-visits g c =
-    let end : ℕ = length c.args.heap.now in
-    let next : ℕ = get_or c.args.held.now c.loop-object.object-index end in
-    omega (arith, c.loop-object.invariant.visits, visits_end (is_now (time_of c.args.ranks.now c.args.times.now)) next c.args.heap.now (omega (arith, get_or_past c.args.held.now c.loop-object.object-index end c.loop-object-test.false)))
+pub returns-then-is_empty-clause-cleared : goal.returns-then-is_empty-clause-cleared
+returns-then-is_empty-clause-cleared g c =
+    c.clear.ensures.items
+    ∙ none_cleared c.args.heap.now (time_of c.args.ranks.now c.args.times.now) (death_pairs c.args.deaths.now) c.requires.deaths
+    (ap death_pairs (none_long c.args.deaths.now (eqb-true _ _ (sym c.is_empty.ensures ∙ c.if-is_empty.true)))) c.requires.referents

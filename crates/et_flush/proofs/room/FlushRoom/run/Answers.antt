@@ -1,12 +1,13 @@
 use Rattle.std.proofs.Common.{◌≡◌, ℕ, ◌<◌, ◌≤◌, ◌^◌, ◌↔◌, Bool, true, List, Contains, All, length, get_or, sym, ◌∙◌, ap, subst, arith}
 use Rattle.et_graph.specs.Graph.{IsReached}
 use Rattle.et_graph.specs.Listing.{death_pairs}
+use Rattle.et_graph.specs.declared.objects.Death.{Death}
 use Rattle.et_heap.specs.Objects.{Objects, IsHeld, made_count}
 use Rattle.et_heap.specs.Remaining.{remaining}
 use Rattle.et_flush.specs.declared.times.TheConstants.{NOW}
-use Rattle.et_flush.specs.Ranks.{time_of, HasRank, HaveRanks}
+use Rattle.et_flush.specs.Ranks.{time_of, AreRanked}
 use Rattle.et_flush.specs.Sweeps.{is_now, visits_from}
-use Rattle.et_flush.specs.Searches.{AreAllHeld, ArePairsHeld}
+use Rattle.et_flush.specs.Searches.{AreAllHeld, AreDyingIn, ArePairsHeld}
 use Rattle.et_flush.specs.Works.{IsSettled}
 use Rattle.et_flush.specs.Rooms.{Room}
 use Rattle.et_flush.specs.Flushes.{heap_graph, cleared_references, all_enqueued}
@@ -32,19 +33,20 @@ pub sweep-requires-clause-held : goal.sweep-requires-clause-held
 sweep-requires-clause-held g c = subst (λ (xs : List ℕ). AreAllHeld c.args.heap.now xs) (sym c.deref.ensures.value) c.find_deaths.ensures.held
 
 pub sweep-requires-clause-ranked : goal.sweep-requires-clause-ranked
-sweep-requires-clause-ranked g c =
-    subst (λ (ts : List ℕ). HaveRanks c.find_deaths.new.work.ranks (length ts) c.deref.result.now) (sym c.deref-2.ensures.value)
-    (subst (λ (xs : List ℕ). HaveRanks c.find_deaths.new.work.ranks (length c.find_deaths.new.work.times.items) xs) (sym c.deref.ensures.value) c.find_deaths.ensures.ranked)
+sweep-requires-clause-ranked g c = subst (λ (xs : List ℕ). AreRanked xs c.find_deaths.new.work.ranks) (sym c.deref.ensures.value) c.find_deaths.ensures.ranked
 
-pub sweep-requires-clause-within : goal.sweep-requires-clause-within
-sweep-requires-clause-within g c = λ o r e.
-    subst (λ (ts : List ℕ). HasRank c.find_deaths.new.work.ranks (length ts) r) (sym c.deref-2.ensures.value)
-    (c.find_deaths.ensures.ranked r ((c.find_deaths.ensures.held.exact r).1 (c.requires.referents o r e)))
+pub sweep-requires-clause-long : goal.sweep-requires-clause-long
+sweep-requires-clause-long g c = ap length c.deref-2.ensures.value ∙ (c.find_deaths.ensures.long ∙ sym (ap length c.deref.ensures.value))
+
+pub sweep-requires-clause-deaths : goal.sweep-requires-clause-deaths
+sweep-requires-clause-deaths g c =
+    subst (λ (ds : List Death). AreDyingIn c.args.heap.now (time_of c.find_deaths.new.work.ranks c.deref-2.result.now) (death_pairs ds)) (sym c.deref-3.ensures.value)
+    (subst (λ (ts : List ℕ). AreDyingIn c.args.heap.now (time_of c.find_deaths.new.work.ranks ts) (death_pairs c.find_deaths.new.work.deaths.items)) (sym c.deref-2.ensures.value) c.find_deaths.ensures.deaths)
 
 pub invariant_of-self : goal.invariant_of-self
 invariant_of-self g c =
     let s = c.find_deaths.ensures.places c.self.inside.places c.self.invariant in
-    record { runs = s.runs; ranks = s.ranks; times = s.times; seen = s.seen; waiting = s.waiting; held = s.held; order = s.order; deaths = s.deaths; cleared = omega (arith, s.cleared, c.sweep.ensures.room) }
+    record { runs = s.runs; ranks = s.ranks; times = s.times; reached = s.reached; seen = s.seen; waiting = s.waiting; held = s.held; order = s.order; deaths = s.deaths; cleared = omega (arith, s.cleared, c.sweep.ensures.room) }
 
 stamps_below : (seen stamps : List ℕ) → seen ≡ stamps → All (λ t. t ≤ 2 ^ 40) seen → All (λ t. t < NOW) stamps
 stamps_below seen stamps same are k d lt = omega (arith, subst (λ (ts : List ℕ). k < length ts → get_or ts k d ≤ 2 ^ 40) same (are k d) lt)
@@ -104,15 +106,15 @@ sweep-requires-clause-room g c =
 pub enqueue_all-requires-clause-held : goal.enqueue_all-requires-clause-held
 enqueue_all-requires-clause-held g c = λ r d.
     subst (λ (h : Objects). IsHeld h r) (sym (swept_is_before g c))
-    (cleared_remain c.args.heap.now c.args.roots.now (is_now (time_of c.find_deaths.new.work.ranks c.find_deaths.new.work.times.items)) c.requires.slots (told_now_before g c) r (subst (λ (rs : List ℕ). Contains rs r) (c.deref-3.ensures.value ∙ cleared_is_before g c) d))
+    (cleared_remain c.args.heap.now c.args.roots.now (is_now (time_of c.find_deaths.new.work.ranks c.find_deaths.new.work.times.items)) c.requires.slots (told_now_before g c) r (subst (λ (rs : List ℕ). Contains rs r) (c.deref-4.ensures.value ∙ cleared_is_before g c) d))
 
 pub enqueue_all-requires-clause-pairs : goal.enqueue_all-requires-clause-pairs
 enqueue_all-requires-clause-pairs g c =
     subst ArePairsHeld (sym (swept_is_before g c)) (remaining_pairs c.args.heap.now c.args.roots.now (is_now (time_of c.find_deaths.new.work.ranks c.find_deaths.new.work.times.items)) c.requires.slots (told_now_before g c))
 
 -- the references that were handed on are those that the test names
-listed_is : (g : given.Over) (c : goal.After-enqueue_all g) (here : ℕ → Bool) → ((o : ℕ) → IsHeld c.args.heap.now o → is_now (time_of c.find_deaths.new.work.ranks c.find_deaths.new.work.times.items) o ≡ here o) → c.deref-3.result.now ≡ cleared_references here 0 c.args.heap.now
-listed_is g c here alike = c.deref-3.ensures.value ∙ (cleared_is g c ∙ cleared_same c.args.heap.now (is_now (time_of c.find_deaths.new.work.ranks c.find_deaths.new.work.times.items)) here alike c.requires.referents)
+listed_is : (g : given.Over) (c : goal.After-enqueue_all g) (here : ℕ → Bool) → ((o : ℕ) → IsHeld c.args.heap.now o → is_now (time_of c.find_deaths.new.work.ranks c.find_deaths.new.work.times.items) o ≡ here o) → c.deref-4.result.now ≡ cleared_references here 0 c.args.heap.now
+listed_is g c here alike = c.deref-4.ensures.value ∙ (cleared_is g c ∙ cleared_same c.args.heap.now (is_now (time_of c.find_deaths.new.work.ranks c.find_deaths.new.work.times.items)) here alike c.requires.referents)
 
 pub returns-clause-heap : goal.returns-clause-heap
 returns-clause-heap g c = λ here decides.
