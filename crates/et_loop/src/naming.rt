@@ -1,7 +1,7 @@
 //! Records become lines, and classes and methods get their numbers.
-ghost use Rattle.std.specs.Prelude.{◌≡◌, ◌+◌, ◌<◌, ◌++◌, ◌∷◌, [], All, IfOk, OnOk};
+ghost use Rattle.std.specs.Prelude.{◌≡◌, ◌+◌, ◌<◌, ◌++◌, ◌∷◌, [], length, All, IfOk, OnOk};
 ghost use Rattle.et_base.specs.declared.line.TraceLine.TheVariants.{Class, Method};
-ghost use Rattle.et_state.specs.Naming.{IsNamed, nothing_mentioned, with_new, with_mentions, mentions_after, number_in, class_line, record_lines, lines_of};
+ghost use Rattle.et_state.specs.Naming.{IsNamed, methods_named_by, nothing_mentioned, with_new, with_mentions, mentions_after, number_in, class_line, record_lines, lines_of};
 ghost use Rattle.et_binary.specs.Formats.{written_in, lines_written_in};
 ghost use Rattle.et_loop.specs.Naming.{mentions_method, method_lines};
 
@@ -144,7 +144,62 @@ impl Numbering {
         Ok(number)
     }
 
+    /// Writes the lines of a record that mentions a method: it is entered, returns or is left by an exception.
+    #[inline]
+    fn write_passage<P: Program>(
+        &mut self,
+        format: Format,
+        code: &P,
+        entry: Record,
+        buffer: &mut Vec<u8>,
+    ) -> Result<(), NoMemory>
+        requires named { IsNamed (P.names code.now) entry }
+        requires method { length (methods_named_by entry) ≡ 1 }
+        ensures mentions { OnOk result
+            (self.new ≡ with_mentions (P.names code.now) self.old entry) }
+        ensures lines { OnOk result (buffer.new.items
+            ≡ buffer.old.items
+            ++ lines_written_in format (record_lines (P.names code.now) self.old entry)) }
+    {
+        let line = match entry {
+            Record::Enter {
+                event,
+                thread,
+                method,
+                receiver,
+            } => TraceLine::Enter {
+                event,
+                thread,
+                method: self.mention_method(format, code, method, buffer)?,
+                receiver,
+            },
+            Record::Exit {
+                event,
+                thread,
+                method,
+            } => TraceLine::Exit {
+                event,
+                thread,
+                method: self.mention_method(format, code, method, buffer)?,
+            },
+            Record::Unwind {
+                event,
+                thread,
+                method,
+                exception,
+            } => TraceLine::Unwind {
+                event,
+                thread,
+                method: self.mention_method(format, code, method, buffer)?,
+                exception,
+            },
+            Record::Alloc { .. } | Record::Update { .. } => unreachable!(),
+        };
+        write_line_in(format, &line, buffer)
+    }
+
     /// Writes the lines of a record.
+    #[inline(never)]
     fn write_record<P: Program>(
         &mut self,
         format: Format,
@@ -190,42 +245,13 @@ impl Numbering {
                 old,
                 new,
             },
-            Record::Enter {
-                event,
-                thread,
-                method,
-                receiver,
-            } => TraceLine::Enter {
-                event,
-                thread,
-                method: self.mention_method(format, code, method, buffer)?,
-                receiver,
-            },
-            Record::Exit {
-                event,
-                thread,
-                method,
-            } => TraceLine::Exit {
-                event,
-                thread,
-                method: self.mention_method(format, code, method, buffer)?,
-            },
-            Record::Unwind {
-                event,
-                thread,
-                method,
-                exception,
-            } => TraceLine::Unwind {
-                event,
-                thread,
-                method: self.mention_method(format, code, method, buffer)?,
-                exception,
-            },
+            _ => return self.write_passage(format, code, entry, buffer),
         };
         write_line_in(format, &line, buffer)
     }
 
-    /// Writes the lines of records, in order.
+    /// Writes the lines of records, in order. Where there are none it returns at once.
+    #[inline(always)]
     pub fn write_records<P: Program>(
         &mut self,
         format: Format,
