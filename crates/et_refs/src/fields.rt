@@ -29,7 +29,7 @@ ghost use Rattle.et_refs.specs.Slots.{IsInstanceField, IsSlotAt};
 
 use crate::changes::{Exchange, Store};
 use crate::checks::{ill_typed_unless, not_null, throws_unless};
-use crate::kinds::{kind_of, narrowed};
+use crate::kinds::narrowed;
 use crate::operands::{take_reference, take_typed, type_fits};
 use crate::refusals::Refusal;
 use crate::slots::{SlotAt, read_slot};
@@ -38,6 +38,7 @@ use et_class::flags::{STATIC, has};
 use et_event::GuestError;
 use et_parts::{Place, index_of, member_at};
 use et_pool::descriptor::is_field_descriptor;
+use et_pool::kind_of;
 use et_program::{LinkError, MemberAt, Program};
 use et_state::Machine;
 use std::sync::ledger::Ledger;

@@ -1,7 +1,6 @@
 //! Types, and what fields and elements hold of them (JVMS 2.2 to 2.4, 4.3.2).
 ghost use Rattle.std.specs.Prelude.{◌≡◌, ◌≤◌, pos, int_le};
 ghost use Rattle.et_event.specs.Kinds.{zero_of as zero, or_zero as zero_or, narrowed_letter as letter_narrowed, narrowed_int as int_narrowed, narrowed as narrowed_by, kind_of_elements as elements_kind, are_elements as are_such, is_array_element as is_such, kept_element as kept_by, in_bounds as is_within};
-ghost use Rattle.et_event.specs.Operands.{kind_of_letter as letter_kind, operand_kind as descriptor_kind};
 ghost use Rattle.et_pool.specs.Descriptors.{width_of as descriptor_width};
 ghost use Rattle.et_event.specs.Sites.{natural_of};
 ghost use Rattle.et_event.specs.Moments.{base_width as width_of_base, element_width as width_of_element};
@@ -9,28 +8,6 @@ ghost use Rattle.et_event.specs.Moments.{base_width as width_of_base, element_wi
 use et_base::{Value, to_byte, to_char, to_short};
 use et_event::{Elements, Operand};
 use et_program::Element;
-
-/// The operands of a type, by the first letter of its descriptor.
-fn kind_of_letter(letter: u8) -> Option<Operand>
-    ensures { result ≡ letter_kind letter }
-{
-    match letter {
-        b'B' | b'C' | b'I' | b'S' | b'Z' => Some(Operand::Int),
-        b'J' => Some(Operand::Long),
-        b'L' | b'[' => Some(Operand::Reference),
-        _ => None,
-    }
-}
-
-/// The operands of a type, by its descriptor. None are floats or doubles.
-pub fn kind_of(descriptor: &[u8]) -> Option<Operand>
-    ensures { result ≡ descriptor_kind descriptor.now }
-{
-    match descriptor {
-        [letter, ..] => kind_of_letter(*letter),
-        [] => None,
-    }
-}
 
 /// The 0 or null of a kind.
 fn zero_of(kind: Option<Operand>) -> Value

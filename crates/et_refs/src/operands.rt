@@ -15,11 +15,12 @@ ghost use Rattle.et_refs.specs.Refusals.{outcome_of};
 ghost use Rattle.et_refs.specs.Changes.{IsNamedReference};
 
 use crate::checks::ill_typed_unless;
-use crate::kinds::{kind_of, kind_of_elements, width_of};
+use crate::kinds::{kind_of_elements, width_of};
 use crate::refusals::Refusal;
 use et_base::{ObjectId, ThreadId, Value};
 use et_event::{Elements, Operand};
 use et_parts::{int_at, long_at, reference_at};
+use et_pool::kind_of;
 use et_state::Machine;
 
 /// A value on top, and how many entries it takes.

@@ -20,13 +20,14 @@ ghost use Rattle.et_refs.specs.Accesses.{IsStaticField, MayWant, wanted_outcome}
 use crate::accesses::{Access, Read, Wanted, Write};
 use crate::checks::{ill_typed_unless, throws_unless};
 use crate::fields::{NamedField, field_named};
-use crate::kinds::{kind_of, narrowed, width_of};
+use crate::kinds::{narrowed, width_of};
 use crate::operands::take_typed;
 use crate::refusals::Refusal;
 use et_base::{FieldId, ThreadId};
 use et_class::flags::{STATIC, has};
 use et_event::GuestError;
 use et_parts::Place;
+use et_pool::kind_of;
 use et_program::Program;
 use et_state::Machine;
 
