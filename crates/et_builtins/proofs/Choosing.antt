@@ -1,11 +1,14 @@
 -- Methods that are resolved and selected have the descriptor by which they are looked for.
-use Rattle.std.proofs.Common.{◌≡◌, ℕ, suc, ◌+◌, ◌-◌, ◌≤◌, Bool, true, false, List, [], ◌∷◌, length, drop, get_or, Option, Some, None, refl, sym, subst, arith}
+use Rattle.std.proofs.Common.{◌≡◌, ℕ, suc, ◌+◌, ◌-◌, ◌≤◌, Bool, true, false, List, [], ◌∷◌, length, drop, get_or, Option, Some, None, refl, sym, ap, ◌∙◌, subst, arith}
 use Rattle.std.specs.Prelude.{Result, Ok, Err, IfOk, IfSome, if◌then◌else◌, not, ◌||◌, ◌==◌, codes}
 use Rattle.std.specs.List.{position_from, filter_map, cons_option}
-use Rattle.std.specs.Option.{option_or, ok_or}
+use Rattle.std.specs.Option.{option_or, ok_or, option_map_or}
 use Rattle.std.specs.Str.{bytes_eq}
 use Rattle.std.proofs.lemmas.Bool.{and_parts}
 use Rattle.std.proofs.lemmas.Slice.Eq.{bytes_eq-Decides}
+use Rattle.et_pool.specs.Descriptors.{MethodType, method_type}
+use Rattle.et_pool.specs.Operands.{Shape, shape_of, entries_returned, returned_width}
+use Rattle.et_pool.proofs.Returns.{width_returned}
 use Rattle.et_program.specs.Entries.{Linked, method_at, no_method, class_at, is_interface, is_private, is_abstract}
 use Rattle.et_program.specs.Members.{amount, first_in, is_method, is_open_method, is_overridden, is_subclass, kept, lineage, method_in, only, open_in, resolved_above, specific_in, specific_methods}
 use Rattle.et_program.specs.Resolution.{is_selectable, resolve_method, select, select_from, select_special, selectable_in, selected, selected_above, special_start}
@@ -13,7 +16,6 @@ use Rattle.et_program.specs.declared.info.MethodInfo.{MethodInfo}
 use Rattle.et_program.specs.declared.errors.LinkError.{LinkError}
 use Rattle.et_program.specs.declared.errors.LinkError.TheVariants.{NoSuchMethod, IncompatibleClassChange, AbstractMethod}
 use Rattle.et_event.specs.Moments.{Moment, current_frame}
-use Rattle.et_event.specs.Operands.{returned_width}
 use Rattle.et_builtins.specs.Plans.{HasCallRoom}
 use Rattle.et_builtins.specs.Types.{returned_in}
 
@@ -179,5 +181,13 @@ pub special_room : (e : Moment) (current named m count : ℕ) (r : Result ℕ Li
 special_room e current named m count r is room =
     room_of e m count r room (subst (λ (q : Result ℕ LinkError). IfOk q (λ n. (method_at e.program n).descriptor ≡ (method_at e.program m).descriptor)) (sym is) (special_same e.program current named m))
 
-pub resolved_room : (e : Moment) (m count : ℕ) (d : List ℕ) → (method_at e.program m).descriptor ≡ d → length (drop count (current_frame e).operands) + returned_width (returned_in d) ≤ (current_frame e).room → HasCallRoom e m count
-resolved_room e m count d same room = subst (λ (s : List ℕ). length (drop count (current_frame e).operands) + returned_width (returned_in s) ≤ (current_frame e).room) (sym same) room
+returned_type : (d : List ℕ) (type : MethodType) → method_type d ≡ Some type → returned_in d ≡ type.returned
+returned_type d type e = ap (λ (o : Option MethodType). option_map_or (λ (t : MethodType). t.returned) o []) e
+
+pub resolved_room : (e : Moment) (m count : ℕ) (d : List ℕ) (type : MethodType) (shape : Shape) → (method_at e.program m).descriptor ≡ d → method_type d ≡ Some type → shape ≡ shape_of type
+    → length (drop count (current_frame e).operands) + entries_returned shape.returned ≤ (current_frame e).room → HasCallRoom e m count
+resolved_room e m count d type shape same typed is room =
+    let width : entries_returned shape.returned ≡ returned_width (returned_in d) =
+    ap (λ (x : Shape). entries_returned x.returned) is ∙ (width_returned type.returned ∙ ap returned_width (sym (returned_type d type typed))) in
+    let fits : length (drop count (current_frame e).operands) + returned_width (returned_in d) ≤ (current_frame e).room = omega arith in
+    subst (λ (s : List ℕ). length (drop count (current_frame e).operands) + returned_width (returned_in s) ≤ (current_frame e).room) (sym same) fits

@@ -1,55 +1,47 @@
--- Whether a call may be done, by the descriptor of its method.
-use Rattle.std.proofs.Common.{◌≡◌, ℕ, zero, suc, ◌+◌, ◌-◌, ◌<◌, ◌≤◌, ◌&&◌, Bool, true, false, List, [], ◌∷◌, length, take, drop, reverse, Option, Some, None, refl, sym, ◌∙◌, ap, arith}
-use Rattle.std.specs.Prelude.{option_map, option_and_then, sum_by, ◌==◌, nat_le, if◌then◌else◌}
-use Rattle.std.specs.Option.{option_map_or}
+-- Whether a call may be done, by its shape.
+use Rattle.std.proofs.Common.{◌≡◌, ℕ, zero, suc, ◌+◌, ◌-◌, ◌<◌, ◌≤◌, ◌&&◌, Bool, true, false, List, [], ◌∷◌, length, take, drop, reverse, map, Option, Some, None, refl, sym, ◌∙◌, ap, arith}
+use Rattle.std.specs.Prelude.{sum_by, nat_le, if◌then◌else◌}
 use Rattle.std.proofs.lemmas.List.Sums.{sum_by-cons}
 use Rattle.std.proofs.lemmas.Bool.{and_parts, leb-true}
 use Rattle.std.proofs.lemmas.Bool.Decides.{nat_tests}
 use Rattle.std.proofs.lemmas.List.{length-reverse, length-drop}
 use Rattle.et_base.specs.declared.value.Value.{Value}
 use Rattle.et_base.specs.declared.value.Value.TheVariants.{Int, Long, LongHigh, Null, Ref}
-use Rattle.et_pool.specs.Descriptors.{MethodType, method_type, shape_of_method, is_return, returning, types_of, width_of}
-use Rattle.et_pool.specs.declared.descriptor.MethodShape.{MethodShape}
+use Rattle.et_pool.specs.Descriptors.{MethodType, width_of}
+use Rattle.et_pool.specs.Operands.{Shape, shape_of, return_of, entries_returned}
+use Rattle.et_pool.proofs.Returns.{width_returned}
 use Rattle.et_event.specs.PoolOperands.Operand.{Operand}
 use Rattle.et_event.specs.PoolOperands.Operand.TheVariants as operand
 use Rattle.et_event.specs.Calls.{are_of, are_arguments, arguments_of, begin_with, call_fits, entry_count}
 use Rattle.et_event.specs.Operands.{operand_kind, kind_of_letter, returned_width}
 use Rattle.et_event.specs.Moments.{Moment, current_frame}
 use Rattle.et_state.specs.Threads.{FrameState}
-use Rattle.et_builtins.specs.Arguments.{arguments_in}
-use Rattle.et_builtins.specs.Arguments.{are_of_types, are_passed, fitting, is_passing}
-use Rattle.et_builtins.specs.Types.{returned_in}
+use Rattle.et_builtins.specs.Arguments.{arguments_in, are_of_kinds, are_passed, fitting, is_passing}
 
--- THE PARTS OF A DESCRIPTOR
+-- KINDS AND TYPES
 
-abbrev parts : List (List ℕ) → List ℕ → MethodType
-parts parameters returned = record { parameters = parameters; returned = returned }
+begin_same : (kind : Option Operand) (g h : List Value → Bool) (vs : List Value) → ((ws : List Value) → g ws ≡ h ws) → begin_with kind g vs ≡ begin_with kind h vs
+begin_same None g h vs same = refl
+begin_same (Some operand.Int) g h [] same = refl
+begin_same (Some operand.Int) g h (Int n ∷ vs) same = same vs
+begin_same (Some operand.Int) g h (v ∷ vs) same = refl
+begin_same (Some operand.Long) g h [] same = refl
+begin_same (Some operand.Long) g h (Long n ∷ []) same = refl
+begin_same (Some operand.Long) g h (Long n ∷ LongHigh ∷ vs) same = same vs
+begin_same (Some operand.Long) g h (Long n ∷ v ∷ vs) same = refl
+begin_same (Some operand.Long) g h (v ∷ vs) same = refl
+begin_same (Some operand.Reference) g h [] same = refl
+begin_same (Some operand.Reference) g h (Null ∷ vs) same = same vs
+begin_same (Some operand.Reference) g h (Ref o ∷ vs) same = same vs
+begin_same (Some operand.Reference) g h (v ∷ vs) same = refl
 
-checked_types : (r : Bool) (x : List (List ℕ) × List ℕ) (type : MethodType) (vs : List Value) → (if r then Some (parts x.0 x.1) else None) ≡ Some type → are_of x.0 vs ≡ are_of type.parameters vs
-checked_types true x type vs e = let s : parts x.0 x.1 ≡ type = cc in ap (λ (t : MethodType). are_of t.parameters vs) s
-checked_types false x type vs e = cc
+kinds_of_types : (types : List (List ℕ)) (vs : List Value) → are_of_kinds (map operand_kind types) vs ≡ are_of types vs
+kinds_of_types [] vs = refl
+kinds_of_types (t ∷ types) vs = begin_same (operand_kind t) (are_of_kinds (map operand_kind types)) (are_of types) vs (kinds_of_types types)
 
-found_types : (b : Bool) (o : Option (List (List ℕ) × List ℕ)) (type : MethodType) (vs : List Value) → (if b then option_and_then returning o else None) ≡ Some type
-    → option_map_or (λ (x : List (List ℕ) × List ℕ). are_of x.0 vs) o false ≡ are_of type.parameters vs
-found_types true None type vs e = cc
-found_types true (Some x) type vs e = checked_types (is_return x.1) x type vs e
-found_types false o type vs e = cc
-
-types_behind : (a : ℕ) (s : List ℕ) (type : MethodType) (vs : List Value) → method_type (a ∷ s) ≡ Some type → are_of_types s vs ≡ are_of type.parameters vs
-types_behind a s type vs e = found_types (a == 40) (types_of (length s) s) type vs e
-
-passed_is : (static : Bool) (a : ℕ) (s : List ℕ) (type : MethodType) (vs : List Value) → method_type (a ∷ s) ≡ Some type → are_passed static s vs ≡ are_arguments static type vs
-passed_is true a s type vs e = types_behind a s type vs e
-passed_is false a s type vs e = begins vs
-  where
-    begins : (vs : List Value) → begin_with (Some operand.Reference) (are_of_types s) vs ≡ begin_with (Some operand.Reference) (are_of type.parameters) vs
-    begins [] = refl
-    begins (Null ∷ vs) = types_behind a s type vs e
-    begins (Ref o ∷ vs) = types_behind a s type vs e
-    begins (v ∷ vs) = refl
-
-returned_is : (d : List ℕ) (type : MethodType) → method_type d ≡ Some type → returned_in d ≡ type.returned
-returned_is d type e = ap (λ (o : Option MethodType). option_map_or (λ (t : MethodType). t.returned) o []) e
+passed_is : (static : Bool) (type : MethodType) (vs : List Value) → are_passed static (map operand_kind type.parameters) vs ≡ are_arguments static type vs
+passed_is true type vs = kinds_of_types type.parameters vs
+passed_is false type vs = begin_same (Some operand.Reference) (are_of_kinds (map operand_kind type.parameters)) (are_of type.parameters) vs (kinds_of_types type.parameters)
 
 -- HOW MANY ENTRIES ARGUMENTS ARE
 
@@ -132,39 +124,22 @@ fitting_few e static type lt =
     ap (λ (b : Bool). if b && nat_le (length (drop (entry_count static type) (current_frame e).operands) + returned_width type.returned) (current_frame e).room then Some (entry_count static type) else None)
     (too_few static type (current_frame e).operands (are_arguments static type (arguments_of e (entry_count static type))) lt refl)
 
-passing_type : (e : Moment) (static : Bool) (d : List ℕ) (type : MethodType) (count : ℕ) → method_type d ≡ Some type → count ≡ entry_count static type → is_passing (current_frame e) static d count ≡ call_fits e static type
-passing_type e static [] type count m n = cc
-passing_type e static (a ∷ s) type count m n =
+passing_type : (e : Moment) (static : Bool) (type : MethodType) (count : ℕ) → count ≡ entry_count static type → is_passing (current_frame e) static (shape_of type) count ≡ call_fits e static type
+passing_type e static type count n =
     let ops : List Value = (current_frame e).operands in
     let left : length ops - count ≡ length (drop count ops) = sym (length-drop count ops) in
-    ap (λ (b : Bool). b && nat_le (length ops - count + returned_width (returned_in (a ∷ s))) (current_frame e).room) (passed_is static a s type (arguments_in (current_frame e) count) m)
-    ∙ (ap (λ (k : ℕ). are_arguments static type (arguments_in (current_frame e) count) && nat_le (k + returned_width (returned_in (a ∷ s))) (current_frame e).room) left
-    ∙ (ap (λ (r : List ℕ). are_arguments static type (arguments_in (current_frame e) count) && nat_le (length (drop count ops) + returned_width r) (current_frame e).room) (returned_is (a ∷ s) type m)
+    ap (λ (b : Bool). b && nat_le (length ops - count + entries_returned (return_of type.returned)) (current_frame e).room) (passed_is static type (arguments_in (current_frame e) count))
+    ∙ (ap (λ (k : ℕ). are_arguments static type (arguments_in (current_frame e) count) && nat_le (k + entries_returned (return_of type.returned)) (current_frame e).room) left
+    ∙ (ap (λ (w : ℕ). are_arguments static type (arguments_in (current_frame e) count) && nat_le (length (drop count ops) + w) (current_frame e).room) (width_returned type.returned)
     ∙ ap (λ (k : ℕ). are_arguments static type (arguments_in (current_frame e) k) && nat_le (length (drop k ops) + returned_width type.returned) (current_frame e).room) n))
 
-pub fitting_is : (e : Moment) (static : Bool) (d : List ℕ) (type : MethodType) (count : ℕ) → method_type d ≡ Some type → count ≡ entry_count static type
-    → (if is_passing (current_frame e) static d count then Some count else None) ≡ fitting e static (method_type d)
-fitting_is e static d type count m n =
-    ap (λ (b : Bool). if b then Some count else None) (passing_type e static d type count m n)
-    ∙ (ap (λ (k : ℕ). if call_fits e static type then Some k else None) n
-    ∙ sym (ap (λ (o : Option MethodType). fitting e static o) m))
+-- by the shape of a call
 
--- by the shape of the descriptor
+abbrev counted : ℕ → Bool → ℕ
+counted entries static = entries + (if static then 0 else 1)
 
-record Shaped (o : Option MethodType) (shape : MethodShape) : Type 0 where
-  type : MethodType
-  is : o ≡ Some type
-  entries : shape.entries ≡ sum_by width_of type.parameters
-
-shaped : (o : Option MethodType) (shape : MethodShape) → Some shape ≡ option_map shape_of_method o → Shaped o shape
-shaped None shape e = cc
-shaped (Some type) shape e = let s : shape ≡ shape_of_method type = cc in record { type = type; is = refl; entries = ap (λ (x : MethodShape). x.entries) s }
-
-abbrev counted : MethodShape → Bool → ℕ
-counted shape static = shape.entries + (if static then 0 else 1)
-
-counted_is : (d : List ℕ) (shape : MethodShape) (static : Bool) (s : Shaped (method_type d) shape) → counted shape static ≡ entry_count static s.type
-counted_is d shape static s = ap (λ (n : ℕ). n + (if static then 0 else 1)) s.entries
+counted_is : (entries : ℕ) (static : Bool) (shape : Shape) (type : MethodType) → entries ≡ shape.entries → shape ≡ shape_of type → counted entries static ≡ entry_count static type
+counted_is entries static shape type same is = ap (λ (n : ℕ). counted n static) (same ∙ ap (λ (x : Shape). x.entries) is)
 
 none_counted : (n depth : ℕ) → None ≡ (if nat_le n depth then Some n else None) → depth < n
 none_counted n depth e = small (nat_le n depth) n depth refl e
@@ -177,28 +152,26 @@ some_counted : (b : Bool) (n count : ℕ) → Some count ≡ (if b then Some n e
 some_counted true n count e = cc
 some_counted false n count e = cc
 
-pub count_refused : (e : Moment) (static : Bool) (d : List ℕ) (shape : MethodShape) (depth : ℕ) → Some shape ≡ option_map shape_of_method (method_type d) → depth ≡ length (current_frame e).operands
-    → None ≡ (if nat_le (counted shape static) depth then Some (counted shape static) else None) → fitting e static (method_type d) ≡ None
-count_refused e static d shape depth is deep none =
-    let s : Shaped (method_type d) shape = shaped (method_type d) shape is in
-    let n : counted shape static ≡ entry_count static s.type = counted_is d shape static s in
-    let few : depth < counted shape static = none_counted (counted shape static) depth none in
-    ap (λ (o : Option MethodType). fitting e static o) s.is ∙ fitting_few e static s.type (omega arith)
+pub count_refused : (e : Moment) (static : Bool) (shape : Shape) (type : MethodType) (entries depth : ℕ) → shape ≡ shape_of type → entries ≡ shape.entries → depth ≡ length (current_frame e).operands
+    → None ≡ (if nat_le (counted entries static) depth then Some (counted entries static) else None) → None ≡ fitting e static (Some type)
+count_refused e static shape type entries depth is same deep none =
+    let n : counted entries static ≡ entry_count static type = counted_is entries static shape type same is in
+    let few : depth < counted entries static = none_counted (counted entries static) depth none in
+    sym (fitting_few e static type (omega arith))
 
-pub passes_by : (e : Moment) (static : Bool) (d : List ℕ) (shape : MethodShape) (depth count : ℕ) → Some shape ≡ option_map shape_of_method (method_type d)
-    → Some count ≡ (if nat_le (counted shape static) depth then Some (counted shape static) else None) → is_passing (current_frame e) static d count ≡ true → Some count ≡ fitting e static (method_type d)
-passes_by e static d shape depth count is some passes =
-    let s : Shaped (method_type d) shape = shaped (method_type d) shape is in
-    let n : count ≡ entry_count static s.type = some_counted (nat_le (counted shape static) depth) (counted shape static) count some ∙ counted_is d shape static s in
-    sym (ap (λ (b : Bool). if b then Some count else None) passes) ∙ fitting_is e static d s.type count s.is n
+pub passes_by : (e : Moment) (static : Bool) (shape : Shape) (type : MethodType) (entries depth count : ℕ) (passes : Bool) → shape ≡ shape_of type → entries ≡ shape.entries
+    → Some count ≡ (if nat_le (counted entries static) depth then Some (counted entries static) else None) → is_passing (current_frame e) static shape count ≡ passes → (if passes then Some count else None) ≡ fitting e static (Some type)
+passes_by e static shape type entries depth count passes is same some by =
+    let n : count ≡ entry_count static type = some_counted (nat_le (counted entries static) depth) (counted entries static) count some ∙ counted_is entries static shape type same is in
+    let fits : passes ≡ call_fits e static type = sym by ∙ (ap (λ (x : Shape). is_passing (current_frame e) static x count) is ∙ passing_type e static type count n) in
+    ap (λ (b : Bool). if b then Some count else None) fits ∙ ap (λ (k : ℕ). if call_fits e static type then Some k else None) n
 
 -- what is returned fits then
 
-pub passing_room : (f : FrameState) (static : Bool) (d : List ℕ) (count : ℕ) → is_passing f static d count ≡ true → length (drop count f.operands) + returned_width (returned_in d) ≤ f.room
-passing_room f static [] count e = cc
-passing_room f static (a ∷ s) count e =
+pub passing_room : (f : FrameState) (static : Bool) (shape : Shape) (count : ℕ) → is_passing f static shape count ≡ true → length (drop count f.operands) + entries_returned shape.returned ≤ f.room
+passing_room f static shape count e =
     let left : length (drop count f.operands) ≡ length f.operands - count = length-drop count f.operands in
-    let h : length f.operands - count + returned_width (returned_in (a ∷ s)) ≤ f.room =
-    leb-true (length f.operands - count + returned_width (returned_in (a ∷ s))) f.room
-    (and_parts (are_passed static s (arguments_in f count)) (nat_le (length f.operands - count + returned_width (returned_in (a ∷ s))) f.room) e).1 in
+    let h : length f.operands - count + entries_returned shape.returned ≤ f.room =
+    leb-true (length f.operands - count + entries_returned shape.returned) f.room
+    (and_parts (are_passed static shape.kinds (arguments_in f count)) (nat_le (length f.operands - count + entries_returned shape.returned) f.room) e).1 in
     omega arith

@@ -4,11 +4,11 @@ mod Changing
 mod Queueing
 mod Slots
 mod Selected
-mod Walking
 mod Passing
 mod Fitting
 mod Planning
 mod Referred
+mod Shaping
 mod Choosing
 pub mod ByCode
 pub mod Deferring

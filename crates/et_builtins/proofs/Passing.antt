@@ -1,17 +1,14 @@
 -- Arguments, from left to right.
-use Rattle.std.proofs.Common.{◌≡◌, ℕ, zero, suc, ◌+◌, ◌-◌, ◌<◌, ◌≤◌, Bool, true, false, eqb, List, [], ◌∷◌, length, get_or, take, drop, Option, Some, None, refl, sym, ◌∙◌, ap, arith}
-use Rattle.std.specs.Prelude.{option_map, option_and_then}
+use Rattle.std.proofs.Common.{◌≡◌, ℕ, zero, suc, ◌+◌, ◌<◌, ◌≤◌, Bool, false, eqb, List, [], ◌∷◌, length, get_or, drop, Option, Some, None, refl, sym, ◌∙◌, ap, arith}
 use Rattle.std.specs.Option.{option_map_or}
 use Rattle.std.proofs.lemmas.Bool.Decides.{nat_tests}
+use Rattle.std.proofs.lemmas.List.{at_drop_more, drop_all}
 use Rattle.et_base.specs.declared.value.Value.{Value}
 use Rattle.et_base.specs.declared.value.Value.TheVariants.{Unset, Int, Long, LongHigh, Null, Ref}
-use Rattle.et_pool.specs.Descriptors.{after_type, first_type, types_of}
-use Rattle.et_pool.proofs.Types.{with_types, types_front, types_end, types_none}
 use Rattle.et_event.specs.PoolOperands.Operand.{Operand}
 use Rattle.et_event.specs.PoolOperands.Operand.TheVariants as operand
-use Rattle.et_event.specs.Calls.{are_of, begin_with, is_empty}
-use Rattle.et_event.specs.Operands.{operand_kind}
-use Rattle.et_builtins.specs.Arguments.{entries_in, are_of_types, are_passed}
+use Rattle.et_event.specs.Calls.{begin_with, is_empty}
+use Rattle.et_builtins.specs.Arguments.{entries_in, are_of_kinds, are_passed}
 
 -- ONE ARGUMENT
 
@@ -58,17 +55,12 @@ begins_from kind g vs k =
     mapped None = refl
     mapped (Some n) = ap g (dropped_twice vs k n)
 
--- THE TYPES
+-- THE KINDS
 
--- the arguments from one on are values of the types in `rest` exactly where all are values of those in s
-pub record Passing (s rest : List ℕ) (vs : List Value) (from at : ℕ) : Type 0 where
-  pub most : ℕ
-  pub enough : length rest ≤ most
-  pub same : option_map_or (λ (x : List (List ℕ) × List ℕ). are_of x.0 (drop at vs)) (types_of most rest) false ≡ are_of_types s (drop from vs)
+-- the arguments from `at` on are values of the kinds from the i-th on exactly where those from `from` on are values of all kinds
+pub record Passing (kinds : List (Option Operand)) (vs : List Value) (from i at : ℕ) : Type 0 where
+  pub same : are_of_kinds (drop i kinds) (drop at vs) ≡ are_of_kinds kinds (drop from vs)
   pub within : at ≤ length vs
-
-pub passing_all : (s : List ℕ) (vs : List Value) (from : ℕ) → from ≤ length vs → Passing s s vs from from
-passing_all s vs from le = record { most = length s; enough = omega arith; same = refl; within = le }
 
 ended : (vs : List Value) (at : ℕ) → at ≤ length vs → is_empty (drop at vs) ≡ eqb at (length vs)
 ended [] zero le = refl
@@ -76,61 +68,19 @@ ended [] (suc at) le = absurd (omega arith)
 ended (v ∷ vs) zero le = grind (arith, nat_tests)
 ended (v ∷ vs) (suc at) le = ended vs at (omega arith) ∙ grind (arith, nat_tests)
 
-pub passing_end : (s rest : List ℕ) (vs : List Value) (from at : ℕ) → Passing s rest vs from at → 0 < length rest → eqb (get_or rest 0 0) 41 ≡ true → are_of_types s (drop from vs) ≡ eqb at (length vs)
-passing_end s [] vs from at b some e = absurd (omega arith)
-passing_end s (a ∷ rest) vs from at b some e =
-    sym b.same ∙ (ap (λ (o : Option (List (List ℕ) × List ℕ)). option_map_or (λ (x : List (List ℕ) × List ℕ). are_of x.0 (drop at vs)) o false) (types_end b.most a rest e) ∙ ended vs at b.within)
+pub kinds_end : (kinds : List (Option Operand)) (vs : List Value) (from i at : ℕ) → Passing kinds vs from i at → length kinds ≤ i → are_of_kinds kinds (drop from vs) ≡ eqb at (length vs)
+kinds_end kinds vs from i at b all =
+    sym b.same ∙ (ap (λ (ks : List (Option Operand)). are_of_kinds ks (drop at vs)) (drop_all i kinds all) ∙ ended vs at b.within)
 
-pub passing_empty : (s rest : List ℕ) (vs : List Value) (from at : ℕ) → Passing s rest vs from at → length rest ≡ 0 → are_of_types s (drop from vs) ≡ false
-passing_empty s [] vs from at b e = sym b.same ∙ ap (λ (o : Option (List (List ℕ) × List ℕ)). option_map_or (λ (x : List (List ℕ) × List ℕ). are_of x.0 (drop at vs)) o false) (types_none b.most)
-passing_empty s (a ∷ rest) vs from at b e = absurd (omega arith)
+one_kind : (kinds : List (Option Operand)) (vs : List Value) (from i at : ℕ) → Passing kinds vs from i at → i < length kinds
+    → are_of_kinds kinds (drop from vs) ≡ option_map_or (λ n. are_of_kinds (drop (i + 1) kinds) (drop (at + n) vs)) (entries_in (get_or kinds i None) (get_or vs at Unset) (get_or vs (at + 1) Unset)) false
+one_kind kinds vs from i at b lt =
+    sym b.same ∙ (at_drop_more (λ (ks : List (Option Operand)). are_of_kinds ks (drop at vs)) kinds i None lt ∙ begins_from (get_or kinds i None) (are_of_kinds (drop (i + 1) kinds)) vs at)
 
-pub passing_none : (s rest : List ℕ) (vs : List Value) (from at : ℕ) → Passing s rest vs from at → 0 < length rest → eqb (get_or rest 0 0) 41 ≡ false → after_type rest ≡ None → are_of_types s (drop from vs) ≡ false
-passing_none s [] vs from at b some e h = absurd (omega arith)
-passing_none s (a ∷ rest) vs from at b some e h =
-    let first : first_type (a ∷ rest) ≡ None = ap (option_map (λ (r : List ℕ). (take (length (a ∷ rest) - length r) (a ∷ rest), r))) h in
-    let here : types_of b.most (a ∷ rest) ≡ None = types_front b.most a rest e b.enough ∙ ap (option_and_then (with_types (b.most - 1))) first in
-    sym b.same ∙ ap (λ (o : Option (List (List ℕ) × List ℕ)). option_map_or (λ (x : List (List ℕ) × List ℕ). are_of x.0 (drop at vs)) o false) here
-
--- one type more
-
-kind_first : (a : ℕ) (rest after : List ℕ) → after_type (a ∷ rest) ≡ Some after → length after < length (a ∷ rest) → operand_kind (take (length (a ∷ rest) - length after) (a ∷ rest)) ≡ operand_kind (a ∷ rest)
-kind_first a rest after h lt = taken_first (length (a ∷ rest) - length after) (omega arith)
-  where
-    taken_first : (n : ℕ) → 0 < n → operand_kind (take n (a ∷ rest)) ≡ operand_kind (a ∷ rest)
-    taken_first zero le = absurd (omega arith)
-    taken_first (suc n) le = refl
-
-typed : (s rest after : List ℕ) (vs : List Value) (from at : ℕ) (b : Passing s rest vs from at) → 0 < length rest → eqb (get_or rest 0 0) 41 ≡ false → after_type rest ≡ Some after → length after < length rest
-    → are_of_types s (drop from vs) ≡ option_map_or (λ n. option_map_or (λ (x : List (List ℕ) × List ℕ). are_of x.0 (drop (at + n) vs)) (types_of (b.most - 1) after) false) (entries_in (operand_kind rest) (get_or vs at Unset) (get_or vs (at + 1) Unset)) false
-typed s [] after vs from at b some e h lt = absurd (omega arith)
-typed s (a ∷ rest) after vs from at b some e h lt =
-    let first : List ℕ = take (length (a ∷ rest) - length after) (a ∷ rest) in
-    let is : first_type (a ∷ rest) ≡ Some (first, after) = ap (option_map (λ (r : List ℕ). (take (length (a ∷ rest) - length r) (a ∷ rest), r))) h in
-    let here : types_of b.most (a ∷ rest) ≡ with_types (b.most - 1) (first, after) = types_front b.most a rest e b.enough ∙ ap (option_and_then (with_types (b.most - 1))) is in
-    sym b.same
-    ∙ (ap (λ (o : Option (List (List ℕ) × List ℕ)). option_map_or (λ (x : List (List ℕ) × List ℕ). are_of x.0 (drop at vs)) o false) here
-    ∙ (one first (types_of (b.most - 1) after)
-    ∙ (ap (λ (k : Option Operand). begin_with k (λ ws. option_map_or (λ (x : List (List ℕ) × List ℕ). are_of x.0 ws) (types_of (b.most - 1) after) false) (drop at vs)) (kind_first a rest after h lt)
-    ∙ begins_from (operand_kind (a ∷ rest)) (λ ws. option_map_or (λ (x : List (List ℕ) × List ℕ). are_of x.0 ws) (types_of (b.most - 1) after) false) vs at)))
-  where
-    never : (k : Option Operand) (ws : List Value) → begin_with k (λ us. false) ws ≡ false
-    never k ws = begins_here k (λ us. false) ws ∙ const (entries_in k (get_or ws 0 Unset) (get_or ws 1 Unset))
-      where
-        const : (o : Option ℕ) → option_map_or (λ n. false) o false ≡ false
-        const None = refl
-        const (Some n) = refl
-
-    one : (t : List ℕ) (o : Option (List (List ℕ) × List ℕ)) → option_map_or (λ (x : List (List ℕ) × List ℕ). are_of x.0 (drop at vs)) (option_map (λ (more : List (List ℕ) × List ℕ). (t ∷ more.0, more.1)) o) false
-        ≡ begin_with (operand_kind t) (λ ws. option_map_or (λ (x : List (List ℕ) × List ℕ). are_of x.0 ws) o false) (drop at vs)
-    one t None = sym (never (operand_kind t) (drop at vs))
-    one t (Some x) = refl
-
-pub passing_refused : (s rest after : List ℕ) (vs : List Value) (from at : ℕ) → Passing s rest vs from at → 0 < length rest → eqb (get_or rest 0 0) 41 ≡ false → after_type rest ≡ Some after → length after < length rest
-    → entries_in (operand_kind rest) (get_or vs at Unset) (get_or vs (at + 1) Unset) ≡ None → are_of_types s (drop from vs) ≡ false
-passing_refused s rest after vs from at b some e h lt none =
-    typed s rest after vs from at b some e h lt
-    ∙ ap (λ (o : Option ℕ). option_map_or (λ n. option_map_or (λ (x : List (List ℕ) × List ℕ). are_of x.0 (drop (at + n) vs)) (types_of (b.most - 1) after) false) o false) none
+pub kinds_refused : (kinds : List (Option Operand)) (vs : List Value) (from i at : ℕ) → Passing kinds vs from i at → i < length kinds
+    → None ≡ entries_in (get_or kinds i None) (get_or vs at Unset) (get_or vs (at + 1) Unset) → false ≡ are_of_kinds kinds (drop from vs)
+kinds_refused kinds vs from i at b lt none =
+    sym (one_kind kinds vs from i at b lt ∙ ap (λ (o : Option ℕ). option_map_or (λ n. are_of_kinds (drop (i + 1) kinds) (drop (at + n) vs)) o false) (sym none))
 
 nothing_in : (kind : Option Operand) (n : ℕ) → entries_in kind Unset Unset ≡ Some n → ⊥
 nothing_in None n e = cc
@@ -168,13 +118,11 @@ entries_deep kind (v ∷ vs) (suc at) n le e =
     let k : suc at + 1 ≡ suc (at + 1) = omega arith in
     let h : at + n ≤ length vs = entries_deep kind vs at n (omega arith) (ap (λ (i : ℕ). entries_in kind (get_or vs at Unset) (get_or (v ∷ vs) i Unset)) (sym k) ∙ e) in omega arith
 
-pub passing_more : (s rest after : List ℕ) (vs : List Value) (from at n : ℕ) → Passing s rest vs from at → 0 < length rest → eqb (get_or rest 0 0) 41 ≡ false → after_type rest ≡ Some after → length after < length rest
-    → entries_in (operand_kind rest) (get_or vs at Unset) (get_or vs (at + 1) Unset) ≡ Some n → Passing s after vs from (at + n)
-passing_more s rest after vs from at n b some e h lt one = record {
-  most = b.most - 1;
-  enough = omega (arith, b.enough, lt);
-  same = sym (typed s rest after vs from at b some e h lt ∙ ap (λ (o : Option ℕ). option_map_or (λ n. option_map_or (λ (x : List (List ℕ) × List ℕ). are_of x.0 (drop (at + n) vs)) (types_of (b.most - 1) after) false) o false) one);
-  within = entries_deep (operand_kind rest) vs at n b.within one;
+pub kinds_more : (kinds : List (Option Operand)) (vs : List Value) (from i at n : ℕ) → Passing kinds vs from i at → i < length kinds
+    → Some n ≡ entries_in (get_or kinds i None) (get_or vs at Unset) (get_or vs (at + 1) Unset) → Passing kinds vs from (i + 1) (at + n)
+kinds_more kinds vs from i at n b lt one = record {
+  same = sym (one_kind kinds vs from i at b lt ∙ ap (λ (o : Option ℕ). option_map_or (λ n. are_of_kinds (drop (i + 1) kinds) (drop (at + n) vs)) o false) (sym one));
+  within = entries_deep (get_or kinds i None) vs at n b.within (sym one);
 }
 
 -- THE RECEIVER
@@ -187,5 +135,5 @@ receiver_entries v w n e = cc
 pub receiver_deep : (vs : List Value) (n : ℕ) → entries_in (Some operand.Reference) (get_or vs 0 Unset) (get_or vs (0 + 1) Unset) ≡ Some n → n ≤ length vs
 receiver_deep vs n e = let h : 0 + n ≤ length vs = entries_deep (Some operand.Reference) vs 0 n (omega arith) e in omega arith
 
-pub received : (s : List ℕ) (vs : List Value) → are_passed false s vs ≡ option_map_or (λ n. are_of_types s (drop n vs)) (entries_in (Some operand.Reference) (get_or vs 0 Unset) (get_or vs (0 + 1) Unset)) false
-received s vs = begins_here (Some operand.Reference) (are_of_types s) vs
+pub received : (kinds : List (Option Operand)) (vs : List Value) → are_passed false kinds vs ≡ option_map_or (λ n. are_of_kinds kinds (drop n vs)) (entries_in (Some operand.Reference) (get_or vs 0 Unset) (get_or vs (0 + 1) Unset)) false
+received kinds vs = begins_here (Some operand.Reference) (are_of_kinds kinds) vs

@@ -1,16 +1,14 @@
 -- The arguments of a call, among the operands.
 use Rattle.std.specs.Prelude.{ℕ, ◌+◌, ◌-◌, ◌&&◌, nat_le, Bool, true, false, if◌then◌else◌, List, [], ◌∷◌, length, take, reverse, Option, Some, None}
-use Rattle.std.specs.Option.{option_map_or}
 use Rattle.et_base.specs.declared.value.Value.{Value}
 use Rattle.et_base.specs.declared.value.Value.TheVariants.{Int, Long, LongHigh, Null, Ref}
-use Rattle.et_pool.specs.Descriptors.{MethodType, types_of}
+use Rattle.et_pool.specs.Descriptors.{MethodType}
+use Rattle.et_pool.specs.Operands.{Shape, entries_returned}
 use Rattle.et_state.specs.Threads.{FrameState}
 use Rattle.et_event.specs.PoolOperands.Operand.{Operand}
 use Rattle.et_event.specs.PoolOperands.Operand.TheVariants as operand
 use Rattle.et_event.specs.Moments.{Moment}
-use Rattle.et_event.specs.Operands.{returned_width}
-use Rattle.et_event.specs.Calls.{are_of, begin_with, entry_count, call_fits}
-use Rattle.et_builtins.specs.Types.{returned_in}
+use Rattle.et_event.specs.Calls.{begin_with, is_empty, entry_count, call_fits}
 
 -- the topmost entries of a frame, as arguments in their order
 abbrev pub arguments_in : FrameState → ℕ → List Value
@@ -24,20 +22,20 @@ entries_in (Some operand.Reference) Null next = Some 1
 entries_in (Some operand.Reference) (Ref o) next = Some 1
 entries_in kind first next = None
 
--- these are values of the types up to `)`, and no others
-abbrev pub are_of_types : List ℕ → List Value → Bool
-are_of_types s vs = option_map_or (λ (x : List (List ℕ) × List ℕ). are_of x.0 vs) (types_of (length s) s) false
+-- these are values of the kinds, and no others
+abbrev pub are_of_kinds : List (Option Operand) → List Value → Bool
+are_of_kinds [] vs = is_empty vs
+are_of_kinds (kind ∷ kinds) vs = begin_with kind (are_of_kinds kinds) vs
 
 -- .. behind a receiver, where the method isn't static
-abbrev pub are_passed : Bool → List ℕ → List Value → Bool
-are_passed true s vs = are_of_types s vs
-are_passed false s vs = begin_with (Some operand.Reference) (are_of_types s) vs
+abbrev pub are_passed : Bool → List (Option Operand) → List Value → Bool
+are_passed true kinds vs = are_of_kinds kinds vs
+are_passed false kinds vs = begin_with (Some operand.Reference) (are_of_kinds kinds) vs
 
--- so many entries may be passed by this descriptor, and what is returned will fit
-abbrev pub is_passing : FrameState → Bool → List ℕ → ℕ → Bool
-is_passing f static [] count = false
-is_passing f static (a ∷ types) count =
-    are_passed static types (arguments_in f count) && nat_le (length f.operands - count + returned_width (returned_in (a ∷ types))) f.room
+-- so many entries may be passed to a call of this shape, and what is returned will fit
+abbrev pub is_passing : FrameState → Bool → Shape → ℕ → Bool
+is_passing f static shape count =
+    are_passed static shape.kinds (arguments_in f count) && nat_le (length f.operands - count + entries_returned shape.returned) f.room
 
 -- how many entries a call takes that may be done; none where the operands or the room are not those that it wants
 abbrev pub fitting : Moment → Bool → Option MethodType → Option ℕ

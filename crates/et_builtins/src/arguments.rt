@@ -2,7 +2,8 @@
 //! the invokes).
 ghost use Rattle.std.specs.Prelude.{◌≡◌, ◌+◌, ◌<◌, ◌≤◌, ◌^◌, nat_le, if◌then◌else◌, Some, None, IfSome, Contains, length, drop, slice_index_or};
 ghost use Rattle.et_base.specs.declared.value.Value.TheVariants.{Unset};
-ghost use Rattle.et_pool.specs.Descriptors.{method_type};
+ghost use Rattle.et_pool.specs.Descriptors.{MethodType};
+ghost use Rattle.et_pool.specs.Operands.{entries_returned, shape_of};
 ghost use Rattle.et_heap.specs.Objects.{IsHeld};
 ghost use Rattle.et_state.specs.ThreadRoots.{frame_roots};
 ghost use Rattle.et_state.specs.State.{kept_of};
@@ -11,16 +12,12 @@ ghost use Rattle.et_state.specs.Words.{HasFrame, top};
 ghost use Rattle.et_program.specs.Entries.{Linked};
 ghost use Rattle.et_parts.specs.Tops.{IsIn};
 ghost use Rattle.et_event.specs.Frames.{first_reference};
-ghost use Rattle.et_event.specs.Operands.{returned_width as width_returned};
 ghost use Rattle.et_event.specs.Moments.{moment};
-ghost use Rattle.et_builtins.specs.Arguments.{arguments_in, are_of_types, are_passed, entries_in as entries_among, fitting, is_passing};
-ghost use Rattle.et_builtins.specs.Types.{returned_in};
+ghost use Rattle.et_builtins.specs.Arguments.{arguments_in, are_of_kinds, are_passed, entries_in as entries_among, fitting, is_passing};
 
-use crate::types::{kind_of, returned_type, returned_width};
 use et_base::{ObjectId, ThreadId, Value};
-use et_event::Operand;
 use et_parts::operand_at;
-use et_pool::descriptor::{behind_type, method_shape};
+use et_pool::{CallShape, Operand};
 use et_state::Machine;
 
 /// A frame has no more operands than it has room for, and that is for fewer than 65,536.
@@ -98,55 +95,53 @@ fn entries_at(
     entries_in(kind, first, next)
 }
 
-/// Whether the arguments from one on are values of the types up to `)`, and no others.
-fn are_of(machine: &Machine, thread: ThreadId, types: &[u8], count: u32, from: u32) -> bool
+/// Whether the arguments from one on are values of these kinds, and no others.
+fn are_of(
+    machine: &Machine,
+    thread: ThreadId,
+    kinds: &[Option<Operand>],
+    count: u32,
+    from: u32,
+) -> bool
     requires frame { HasFrame machine.now.guest thread }
     requires operands { count ≤ length (top machine.now.guest thread).operands }
     requires from { from ≤ count }
     requires small { count < 2 ^ 16 }
     ensures { result
-        ≡ are_of_types types.now (drop from (arguments_in (top machine.now.guest thread) count)) }
+        ≡ are_of_kinds kinds.now (drop from (arguments_in (top machine.now.guest thread) count)) }
 {
-    let mut rest = types;
     let mut at = from;
-    'types: while !rest.is_empty() {
-        if rest[0] == b')' {
-            return at == count;
-        }
-        let Some(after) = behind_type(rest) else {
-            return false;
-        };
-        let Some(entries) = entries_at(machine, thread, kind_of(rest), count, at) else {
+    for kind in kinds {
+        let Some(entries) = entries_at(machine, thread, *kind, count, at) else {
             return false;
         };
         at += entries;
-        rest = after;
     }
-    false
+    at == count
 }
 
-/// Whether the arguments are values of the types up to `)`, behind a receiver where the method isn't static, and no others.
+/// Whether the arguments are values of these kinds, behind a receiver where the method isn't static, and no others.
 #[tactic(auto, using(crate::proofs::Passing::received, crate::proofs::Passing::receiver_deep))]
 fn are_arguments(
     machine: &Machine,
     thread: ThreadId,
     is_static: bool,
-    types: &[u8],
+    kinds: &[Option<Operand>],
     count: u32,
 ) -> bool
     requires frame { HasFrame machine.now.guest thread }
     requires operands { count ≤ length (top machine.now.guest thread).operands }
     requires small { count < 2 ^ 16 }
     ensures { result
-        ≡ are_passed is_static types.now (arguments_in (top machine.now.guest thread) count) }
+        ≡ are_passed is_static kinds.now (arguments_in (top machine.now.guest thread) count) }
 {
     if is_static {
-        return are_of(machine, thread, types, count, 0);
+        return are_of(machine, thread, kinds, count, 0);
     }
     let Some(entries) = entries_at(machine, thread, Some(Operand::Reference), count, 0) else {
         return false;
     };
-    are_of(machine, thread, types, count, entries)
+    are_of(machine, thread, kinds, count, entries)
 }
 
 /// How many entries a call takes whose parameters take so many, if there are as many operands.
@@ -166,50 +161,45 @@ fn count_within(entries: usize, is_static: bool, depth: u32) -> Option<u32>
     if count <= depth { Some(count) } else { None }
 }
 
-/// Whether a call may be done with the topmost entries as arguments, by the descriptor of its method: they are of its types,
-/// and what is returned will fit.
+/// Whether a call of this shape may be done with the topmost entries as arguments: they are of its kinds, and what is
+/// returned will fit.
 fn passes(
     machine: &Machine,
     thread: ThreadId,
     is_static: bool,
-    descriptor: &[u8],
+    shape: &CallShape,
     count: u32,
 ) -> bool
     requires frame { HasFrame machine.now.guest thread }
     requires operands { count ≤ length (top machine.now.guest thread).operands }
     requires small { count < 2 ^ 16 }
-    ensures { result ≡ is_passing (top machine.now.guest thread) is_static descriptor.now count }
+    ensures { result ≡ is_passing (top machine.now.guest thread) is_static shape.now count }
 {
-    let [_, types @ ..] = descriptor else {
-        return false;
-    };
     let left = machine.depth(thread) - count;
     let room = machine.room(thread) as u32;
-    let fits = left + returned_width(returned_type(descriptor)) <= room;
-    are_arguments(machine, thread, is_static, types, count) && fits
+    let fits = left + shape.returned().entries() as u32 <= room;
+    are_arguments(machine, thread, is_static, shape.kinds(), count) && fits
 }
 
-/// How many entries a call takes by the descriptor of its method, if it may be done: the arguments are there, and what is
-/// returned will fit.
+/// How many entries a call of this shape takes, if it may be done: the arguments are there, and what is returned will fit.
 pub(crate) fn fitting_call(
     machine: &Machine,
     thread: ThreadId,
     is_static: bool,
-    descriptor: &[u8],
+    shape: &CallShape,
 ) -> Option<u32>
     requires frame { HasFrame machine.now.guest thread }
-    ensures value { (p : Linked) →
-        result ≡ fitting (moment p machine.now thread) is_static (method_type descriptor.now) }
+    ensures value { (p : Linked) (type : MethodType) → shape.now ≡ shape_of type →
+        result ≡ fitting (moment p machine.now thread) is_static (Some type) }
     ensures operands { IfSome result
         (λ count. count ≤ length (top machine.now.guest thread).operands) }
     ensures room { IfSome result
         (λ count. length (drop count (top machine.now.guest thread).operands)
-        + width_returned (returned_in descriptor.now) ≤ (top machine.now.guest thread).room) }
+        + entries_returned shape.now.returned ≤ (top machine.now.guest thread).room) }
 {
-    let shape = method_shape(descriptor)?;
     operands_are_few(machine, thread);
-    let count = count_within(shape.entries, is_static, machine.depth(thread))?;
-    if passes(machine, thread, is_static, descriptor, count) {
+    let count = count_within(shape.entries(), is_static, machine.depth(thread))?;
+    if passes(machine, thread, is_static, shape, count) {
         Some(count)
     } else {
         None

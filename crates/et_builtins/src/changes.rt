@@ -14,7 +14,7 @@ ghost use Rattle.et_state.specs.declared.records.Record.{Record};
 ghost use Rattle.et_event.specs.Answered.{EventAnswers};
 ghost use Rattle.et_event.specs.BuiltIns.{answering, with_first_taken, with_reference_made, with_referent_of, with_thread_for};
 ghost use Rattle.et_event.specs.Calls.{arguments_of};
-ghost use Rattle.et_event.specs.Moments.{Moment, moment, begins, goes, number_of_value as number_in, slot_written, updated};
+ghost use Rattle.et_event.specs.Moments.{moment, begins, goes, number_of_value as number_in, slot_written, updated};
 ghost use Rattle.et_event.specs.Sites.{Site};
 ghost use Rattle.et_parts.specs.Tops.{IsIn};
 
@@ -232,13 +232,11 @@ fn set_referent<L: Ledger>(
     machine.heap.set_referent(object, value, visits);
 }
 
-/// The event in which a method sets what an object refers to weakly (`java.lang.ref`). A value
-/// that is no reference counts as null.
-pub(crate) fn write_referent<L: Ledger>(
+/// The event in which a method makes an object refer to nothing weakly (`java.lang.ref`).
+pub(crate) fn clear_referent<L: Ledger>(
     machine: &mut Machine,
     call: &Called,
     object: ObjectId,
-    value: Value,
     visits: &mut Steps<L>,
 ) -> EventEnd
     requires frame { HasFrame machine.old.guest call.now.thread }
@@ -247,16 +245,15 @@ pub(crate) fn write_referent<L: Ledger>(
     requires operands { call.now.count ≤ length (top machine.old.guest call.now.thread).operands }
     requires small { call.now.count < 2 ^ 16 }
     requires held { IsHeld machine.old.heap object }
-    requires value { IsIn (top machine.old.guest call.now.thread) value }
     ensures ok { (p : Linked) (at : Site) (out : List Record) →
         at.next ≡ call.now.next → EventAnswers (goes (with_referent_of object
-        (referent_of value) (answering (moment p machine.old call.now.thread) at
+        None (answering (moment p machine.old call.now.thread) at
         (arguments_of (moment p machine.old call.now.thread) call.now.count) []
         (begins (moment p machine.old call.now.thread))))) result machine.old machine.new out out }
     ensures visits { visits.new ≡ visits.old + 1 }
 {
     pass(machine, call);
-    set_referent(machine, object, value, visits);
+    set_referent(machine, object, Value::Null, visits);
     EventEnd::Done
 }
 

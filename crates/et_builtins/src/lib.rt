@@ -7,9 +7,7 @@ mod events;
 mod kinds;
 mod plans;
 mod rows;
-mod types;
 
 pub use arguments::{argument_at, operands_are_few, receiver};
 pub use events::built_in_method_event;
 pub use plans::{Call, CallPlan, deferred_method, invoke_plan};
-pub use types::{kind_of, returned_type};

@@ -1,8 +1,6 @@
 //! What an invoke comes to (JVMS 6.5, the invokes; 5.4.3), found out without a change.
 ghost use Rattle.std.specs.Prelude.{◌≡◌, ℕ, ◌+◌, ◌<◌, ◌≤◌, ◌^◌, ◌⊎◌, true, Option, Some, None, IfOk, IfSome, IsSome, codes, length, option_and_then};
 ghost use Rattle.std.specs.Result.{result_ok};
-ghost use Rattle.et_heap.specs.Objects.{IsHeld};
-ghost use Rattle.et_state.specs.Sound.{IsSound};
 ghost use Rattle.et_state.specs.Words.{HasFrame, top};
 ghost use Rattle.et_event.specs.declared.rows.CallKind.TheVariants as kinds;
 ghost use Rattle.et_state.specs.State.{Kept, kept_of};
@@ -22,7 +20,6 @@ ghost use Rattle.et_event.specs.Moments.{Moment, begins, current_frame, moment};
 ghost use Rattle.et_event.specs.Sites.{Member, Site, natural_of, site_member, names_interface as is_of_interface};
 ghost use Rattle.et_event.specs.Initialization.{state_of};
 ghost use Rattle.et_event.specs.Sound.{IsSoundFor};
-ghost use Rattle.et_builtins.specs.Arguments.{arguments_in};
 ghost use Rattle.et_builtins.specs.Deferred.{is_deferred as is_deferred_in, is_deferring_class, selected_from, selected_method, selected_on, with_resolved};
 ghost use Rattle.et_builtins.specs.Plans.{method_entered, call_planned, HasCallRoom, IsCallPlan, resolving};
 
@@ -30,7 +27,7 @@ use crate::arguments::{fitting_call, receiver};
 use et_base::{ClassId, MethodId, Steps, ThreadId};
 use et_class::flags::{ABSTRACT, NATIVE, STATIC, has};
 use et_event::{CallKind, GuestError};
-use et_parts::{Place, index_of, member_at};
+use et_parts::{Place, index_of};
 use et_program::{Element, LinkError, NamedMethod, Program};
 use et_state::{ClassState, Machine};
 use std::sync::ledger::Ledger;
@@ -430,10 +427,10 @@ pub fn invoke_plan<L: Ledger>(
     ensures within { IsCallPlan (moment program.now machine.now thread) result }
     ensures visits { visits.new ≤ visits.old + 1 }
 {
-    let Some(member) = member_at(place) else {
+    let Some(shape) = program.call_shape(place.class, index_of(place)) else {
         return CallPlan::IllTyped;
     };
-    let Some(count) = fitting_call(machine, thread, is_static_call(kind), member.descriptor) else {
+    let Some(count) = fitting_call(machine, thread, is_static_call(kind), shape) else {
         return CallPlan::IllTyped;
     };
     match resolve(program, place) {

@@ -1,6 +1,6 @@
 //! What each built-in method does (`java.lang.Throwable`, `Thread`, and the weak references and reference queues of
 //! `java.lang.ref`).
-ghost use Rattle.std.specs.Prelude.{◌≡◌, ℕ, ◌+◌, ◌<◌, ◌≤◌, ◌^◌, ◌∷◌, [], true, Some, List, IfOk, IfSome, Contains, length, drop, codes};
+ghost use Rattle.std.specs.Prelude.{◌≡◌, ℕ, ◌+◌, ◌<◌, ◌≤◌, ◌^◌, ◌∷◌, [], true, Some, List, IfOk, Contains, length, drop};
 ghost use Rattle.et_heap.specs.Objects.{IsHeld, object_at, referent_value};
 ghost use Rattle.et_heap.specs.Refs.{refs_of_value};
 ghost use Rattle.et_state.specs.ThreadRoots.{frame_roots};
@@ -24,7 +24,7 @@ ghost use Rattle.et_builtins.specs.Kinds.{entries_answered, slots_used};
 
 use crate::arguments::argument_at;
 use crate::changes::{
-    Called, give, give_first, give_nothing, make_reference, start, write_one, write_referent,
+    Called, clear_referent, give, give_first, give_nothing, make_reference, start, write_one,
     write_two,
 };
 use et_base::{NoMemory, ObjectId, Steps, Value};
@@ -326,7 +326,7 @@ fn fit_row_event<L: Ledger>(
             Ok(make_reference(machine, call, object, value, queue, visits))
         }
         BuiltIn::GetReferent => Ok(give_referent(machine, call, object, visits)),
-        BuiltIn::ClearReferent => Ok(write_referent(machine, call, object, Value::Null, visits)),
+        BuiltIn::ClearReferent => Ok(clear_referent(machine, call, object, visits)),
         BuiltIn::Poll => Ok(give_first(machine, call, object, visits)),
     }
 }

@@ -5,7 +5,11 @@ use Rattle.std.specs.Prelude.{option_map, if◌then◌else◌}
 use Rattle.std.specs.Option.{option_map_or}
 use Rattle.et_base.specs.declared.value.Value.{Value}
 use Rattle.et_base.specs.declared.value.Value.TheVariants.{Unset, Int, Long, LongHigh, Null, Ref}
-use Rattle.et_pool.specs.Descriptors.{is_void, width_of}
+use Rattle.et_pool.specs.declared.operand.Returned.{Returned}
+use Rattle.et_pool.specs.Descriptors.{MethodType, method_type, is_void, width_of}
+use Rattle.et_pool.specs.Operands.{Shape, shape_of, shape_in, return_of, is_returnable}
+use Rattle.et_pool.proofs.Returns.{kind_returned}
+use Rattle.et_builtins.specs.Types.{returned_in}
 use Rattle.et_base.proofs.Lists.{Contains-none}
 use Rattle.et_heap.specs.Refs.{refs_of}
 use Rattle.et_state.specs.Threads.{FrameState}
@@ -95,6 +99,33 @@ pub return_is : (e : Moment) (kind : Option Operand) → return e kind ≡ by_va
 return_is e kind =
     checked e (may_return kind (returned_by e)) kind (current_frame e).operands
     (λ values. throws_unless e (begins e) IllegalMonitorStateException (owns_some e (begins e) (lock_in (current_frame e).stage (running_method e.program (current_frame e)) (current_frame e).lock)) (goes (frame_returned e values (begins e))))
+
+-- BY THE SHAPE OF THE METHOD
+
+no_kind : (kind : Option Operand) → may_return kind [] ≡ false
+no_kind None = refl
+no_kind (Some operand.Int) = refl
+no_kind (Some operand.Long) = refl
+no_kind (Some operand.Reference) = refl
+
+nothing_in : (o : Option MethodType) → None ≡ option_map (λ (s : Shape). s.returned) (option_map shape_of o) → option_map_or (λ (type : MethodType). type.returned) o [] ≡ []
+nothing_in None e = refl
+nothing_in (Some type) e = cc
+
+pub returned_none : (kind : Option Operand) (d : List ℕ) (ops : List Value) → None ≡ option_map (λ (s : Shape). s.returned) (shape_in d) → returned_values kind (returned_in d) ops ≡ None
+returned_none kind d ops e =
+    ap (λ (r : List ℕ). returned_values kind r ops) (nothing_in (method_type d) e) ∙ ap (λ (b : Bool). if b then values_of kind ops else None) (no_kind kind)
+
+by_type : (kind : Option Operand) (ops : List Value) (returned : Returned) (o : Option MethodType) → Some returned ≡ option_map (λ (s : Shape). s.returned) (option_map shape_of o)
+    → returned_values kind (option_map_or (λ (type : MethodType). type.returned) o []) ops ≡ (if is_returnable kind returned then values_of kind ops else None)
+by_type kind ops returned None e = cc
+by_type kind ops returned (Some type) e =
+    let s : returned ≡ return_of type.returned = cc in
+    ap (λ (b : Bool). if b then values_of kind ops else None) (sym (kind_returned kind type.returned) ∙ ap (is_returnable kind) (sym s))
+
+pub returned_some : (kind : Option Operand) (d : List ℕ) (ops : List Value) (returned : Returned) → Some returned ≡ option_map (λ (s : Shape). s.returned) (shape_in d)
+    → returned_values kind (returned_in d) ops ≡ (if is_returnable kind returned then values_of kind ops else None)
+returned_some kind d ops returned e = by_type kind ops returned (method_type d) e
 
 -- HOW MANY ENTRIES IT TAKES
 

@@ -1,36 +1,29 @@
 //! What a return hands to the caller, and the checks of it (JVMS 6.5, the returns).
-ghost use Rattle.std.specs.Prelude.{◌≡◌};
+ghost use Rattle.std.specs.Prelude.{◌≡◌, option_map};
+ghost use Rattle.et_pool.specs.Operands.{shape_in};
 ghost use Rattle.et_state.specs.Words.{HasFrame, top};
-ghost use Rattle.et_event.specs.Operands.{is_kind as kind_is, may_return as may};
+ghost use Rattle.et_event.specs.Sites.{running_method};
+ghost use Rattle.et_parts.specs.Places.{Runs};
 ghost use Rattle.et_calls.specs.Returned.{AreValuesIn, IsValueIn, value_in as value_among, returned_value, values_of, returned_values as values};
 ghost use Rattle.et_builtins.specs.Types.{returned_in};
 
-use et_base::{ThreadId, Value};
-use et_builtins::{kind_of, returned_type};
-use et_event::Operand;
+use et_base::{MethodId, ThreadId, Value};
 use et_parts::operand_at;
-use et_pool::descriptor::is_void_text;
+use et_pool::{Operand, Returned};
+use et_program::Program;
 use et_state::Machine;
 
-/// Whether a type has operands of this kind.
-fn is_kind(kind: Operand, other: Option<Operand>) -> bool
-    ensures { result ≡ kind_is kind other }
+/// What the method that the topmost frame runs returns; `None` where its descriptor is none.
+fn returned_by(program: &Program, machine: &Machine, thread: ThreadId) -> Option<Returned>
+    requires frame { HasFrame machine.now.guest thread }
+    requires runs { Runs program.now (top machine.now.guest thread) }
+    ensures { result ≡ option_map (λ s. s.returned) (shape_in (running_method program.now
+        (top machine.now.guest thread)).descriptor) }
 {
-    matches!(
-        (kind, other),
-        (Operand::Int, Some(Operand::Int))
-            | (Operand::Long, Some(Operand::Long))
-            | (Operand::Reference, Some(Operand::Reference))
-    )
-}
-
-/// Whether an instruction that returns this kind, or nothing, may return that type.
-fn may_return(kind: Option<Operand>, returned: &[u8]) -> bool
-    ensures { result ≡ may kind returned.now }
-{
-    match kind {
-        None => is_void_text(returned),
-        Some(kind) => is_kind(kind, kind_of(returned)),
+    let method = machine.frame_method(thread).unwrap_or(MethodId::new(0));
+    match program.method_shape(method) {
+        Some(shape) => Some(shape.returned()),
+        None => None,
     }
 }
 
@@ -75,20 +68,23 @@ fn values_on_top(
     Some(Some(value))
 }
 
-/// What an instruction returns from a method of this descriptor: `None` where it isn't there, or is of another kind than the
-/// method returns.
+/// What an instruction returns from the method that the topmost frame runs: `None` where it isn't there, or is of another kind
+/// than the method returns.
+#[tactic(auto, using(crate::proofs::Values::returned_none, crate::proofs::Values::returned_some))]
 pub(crate) fn returned_values(
+    program: &Program,
     machine: &Machine,
     thread: ThreadId,
     kind: Option<Operand>,
-    descriptor: &[u8],
 ) -> Option<Option<Value>>
-    requires { HasFrame machine.now.guest thread }
-    ensures value { result
-        ≡ values kind (returned_in descriptor.now) (top machine.now.guest thread).operands }
+    requires frame { HasFrame machine.now.guest thread }
+    requires runs { Runs program.now (top machine.now.guest thread) }
+    ensures value { result ≡ values kind (returned_in (running_method program.now
+        (top machine.now.guest thread)).descriptor) (top machine.now.guest thread).operands }
     ensures there { AreValuesIn (top machine.now.guest thread) result }
 {
-    if !may_return(kind, returned_type(descriptor)) {
+    let returned = returned_by(program, machine, thread)?;
+    if !returned.may_be(kind) {
         return None;
     }
     values_on_top(machine, thread, kind)

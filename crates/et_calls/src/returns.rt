@@ -257,7 +257,7 @@ pub(crate) fn return_event<L: Ledger>(
     ensures visits { visits.new ≤ visits.old + 3 }
 {
     let method = method_of(program, machine, thread);
-    let Some(value) = returned_values(machine, thread, kind, method.descriptor.as_slice()) else {
+    let Some(value) = returned_values(program, machine, thread, kind) else {
         return Ok(ill_typed(machine, thread));
     };
     return_value(program, machine, thread, method, value, out, visits)

@@ -48,8 +48,8 @@ pub returns-in-ClearReferent-clause-ok : goal.returns-in-ClearReferent-clause-ok
 returns-in-ClearReferent-clause-ok g c = λ at same.
     let m = c.args.machine.now in
     let e = moment c.args.program.now m c.args.call.now.thread in
-    subst (λ (b : BuiltIn). EventAnswers (row_done e at (begins e) (arguments_of e c.args.call.now.count) c.args.object b) c.write_referent.result m c.write_referent.new.machine c.args.out.now c.args.out.now) (sym c.in-ClearReferent.is)
-    (c.write_referent.ensures.ok c.args.program.now at c.args.out.now same)
+    subst (λ (b : BuiltIn). EventAnswers (row_done e at (begins e) (arguments_of e c.args.call.now.count) c.args.object b) c.clear_referent.result m c.clear_referent.new.machine c.args.out.now c.args.out.now) (sym c.in-ClearReferent.is)
+    (c.clear_referent.ensures.ok c.args.program.now at c.args.out.now same)
 
 pub returns-in-Poll-clause-ok : goal.returns-in-Poll-clause-ok
 returns-in-Poll-clause-ok g c = λ at same.

@@ -1,0 +1,72 @@
+-- The shape of a call, and the member that its instruction names.
+use Rattle.std.proofs.Common.{◌≡◌, ℕ, Bool, List, Option, Some, None, refl, sym, ◌∙◌, ap}
+use Rattle.std.specs.Prelude.{option_map, option_and_then}
+use Rattle.et_pool.specs.Descriptors.{MethodType, method_type}
+use Rattle.et_pool.specs.Entries.{Item}
+use Rattle.et_pool.specs.Operands.{Shape, shape_of, shape_in}
+use Rattle.et_program.specs.Entries.{Linked}
+use Rattle.et_program.specs.Referring.{Member, pool_of_class, member_described}
+use Rattle.et_program.specs.Shapes.{shape_referred}
+use Rattle.et_event.specs.declared.rows.CallKind.{CallKind}
+use Rattle.et_event.specs.Calls.{call_fits, entry_count, invoke, is_static_call, with_method}
+use Rattle.et_event.specs.Checks.{ill_typed_unless}
+use Rattle.et_event.specs.Moments.{Moment, ill_typed}
+use Rattle.et_event.specs.Sites.{Site, site_member, names_interface, pool_index}
+use Rattle.et_builtins.specs.Arguments.{fitting}
+use Rattle.et_builtins.specs.Deferred.{selected_by, selected_method}
+use Rattle.et_builtins.proofs.Planning.{checks, fitted, fitted_method, invoke_is, resolves, selected_is}
+
+abbrev named_shape : Option Member → Option Shape
+named_shape o = option_and_then (λ (m : Member). shape_in m.descriptor) o
+
+shape_is : (p : Linked) (class index : ℕ) (at : Site) → at.pool ≡ pool_of_class p class → index ≡ pool_index at → shape_referred p class index ≡ named_shape (site_member at)
+shape_is p class index at pool same =
+    ap (λ (s : List (Option Item)). named_shape (member_described s index)) (sym pool) ∙ ap (λ (i : ℕ). named_shape (member_described at.pool i)) same
+
+-- THE MEMBER AND THE TYPE of which a shape is
+
+pub record HasShape (at : Site) (shape : Shape) : Type 0 where
+  pub member : Member
+  pub named : site_member at ≡ Some member
+  pub type : MethodType
+  pub typed : method_type member.descriptor ≡ Some type
+  pub is : shape ≡ shape_of type
+
+by_type : (at : Site) (shape : Shape) (m : Member) (o : Option MethodType) → site_member at ≡ Some m → method_type m.descriptor ≡ o → Some shape ≡ option_map shape_of o → HasShape at shape
+by_type at shape m None named typed e = cc
+by_type at shape m (Some type) named typed e = let s : shape ≡ shape_of type = cc in record { member = m; named = named; type = type; typed = typed; is = s }
+
+by_member : (at : Site) (shape : Shape) (o : Option Member) → site_member at ≡ o → Some shape ≡ named_shape o → HasShape at shape
+by_member at shape None named e = cc
+by_member at shape (Some m) named e = by_type at shape m (method_type m.descriptor) named refl e
+
+pub shaped : (p : Linked) (class index : ℕ) (at : Site) (shape : Shape) → at.pool ≡ pool_of_class p class → index ≡ pool_index at → Some shape ≡ shape_referred p class index → HasShape at shape
+shaped p class index at shape pool same e = by_member at shape (site_member at) refl (e ∙ shape_is p class index at pool same)
+
+-- how many entries a call takes, by the type
+pub typed_fitting : (e : Moment) (at : Site) (shape : Shape) (h : HasShape at shape) (b static : Bool) (r : Option ℕ) → b ≡ static → r ≡ fitting e b (Some h.type) → fitting e static (method_type h.member.descriptor) ≡ r
+typed_fitting e at shape h b static r same is =
+    ap (λ (o : Option MethodType). fitting e static o) h.typed ∙ (ap (λ (s : Bool). fitting e s (Some h.type)) (sym same) ∙ sym is)
+
+-- WHERE THERE IS NONE, a call has no meaning
+
+no_type : (o : Option MethodType) → None ≡ option_map shape_of o → o ≡ None
+no_type None e = refl
+no_type (Some type) e = cc
+
+by_no_member : (e : Moment) (at : Site) (kind : CallKind) (o : Option Member) → site_member at ≡ o → None ≡ named_shape o → invoke e at kind ≡ ill_typed e
+by_no_member e at kind None named none =
+    ap (λ (o : Option Member). with_method e o (λ n type. ill_typed_unless e (call_fits e (is_static_call kind) type) (resolves e n (names_interface at) (checks e at kind (entry_count (is_static_call kind) type))))) named
+by_no_member e at kind (Some m) named none =
+    invoke_is e at kind m named ∙ ap (λ (o : Option MethodType). fitted e at kind m (fitting e (is_static_call kind) o)) (no_type (method_type m.descriptor) none)
+
+pub ill_called : (e : Moment) (at : Site) (kind : CallKind) (p : Linked) (class index : ℕ) → at.pool ≡ pool_of_class p class → index ≡ pool_index at → None ≡ shape_referred p class index → invoke e at kind ≡ ill_typed e
+ill_called e at kind p class index pool same none = by_no_member e at kind (site_member at) refl (none ∙ shape_is p class index at pool same)
+
+by_none_selected : (e : Moment) (at : Site) (kind : CallKind) (o : Option Member) → site_member at ≡ o → None ≡ named_shape o → selected_method e at kind ≡ None
+by_none_selected e at kind None named none = ap (λ (o : Option Member). option_and_then (λ (n : Member). option_and_then (selected_by e at kind n) (method_type n.descriptor)) o) named
+by_none_selected e at kind (Some m) named none =
+    selected_is e at kind m named ∙ ap (λ (o : Option MethodType). fitted_method e at kind m (fitting e (is_static_call kind) o)) (no_type (method_type m.descriptor) none)
+
+pub none_selected : (e : Moment) (at : Site) (kind : CallKind) (p : Linked) (class index : ℕ) → at.pool ≡ pool_of_class p class → index ≡ pool_index at → None ≡ shape_referred p class index → selected_method e at kind ≡ None
+none_selected e at kind p class index pool same none = by_none_selected e at kind (site_member at) refl (none ∙ shape_is p class index at pool same)
