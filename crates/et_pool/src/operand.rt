@@ -25,11 +25,12 @@ pub enum Operand {
 pub enum Returned {
     /// Nothing.
     Void,
-    /// A value, and how many entries it takes. No operand is of the type double or float.
+    /// A value: its operands, which are `None` for a double and a float, and how many entries it takes, one or two.
     Value { kind: Option<Operand>, entries: u8 },
 }
 
-/// What a call reads off a method descriptor.
+/// What a call reads off a method descriptor (JVMS 4.3.3): the arguments that it takes (JVMS 2.6.1, 6.5, the invokes), and what
+/// is returned.
 #[derive(Debug, Drop)]
 pub struct CallShape {
     kinds: Vec<Option<Operand>>,
@@ -60,7 +61,7 @@ impl CallShape {
         self.entries
     }
 
-    /// What is returned.
+    /// What is returned: nothing, or a value.
     pub fn returned(&self) -> Returned
         ensures { result ≡ self.now.returned }
     {
@@ -69,7 +70,7 @@ impl CallShape {
 }
 
 impl Returned {
-    /// How many entries it takes.
+    /// How many entries it takes (JVMS 2.6.2): none, one, or two for a long and a double.
     pub fn entries(self) -> u8
         ensures { result ≡ entries_returned self }
     {
@@ -103,7 +104,8 @@ fn is_kind(kind: Operand, other: Option<Operand>) -> bool
     )
 }
 
-/// The operands of a type (JVMS 2.11.1), by its first letter.
+/// The operands of a type (JVMS 2.11.1), by the first letter of its descriptor (JVMS 4.3.2); `None` for a double and a float, of
+/// which there are no operands, and where no descriptor begins with that letter.
 pub fn kind_of(s: &[u8]) -> Option<Operand>
     ensures { result ≡ operand_kind s.now }
 {
