@@ -1,4 +1,5 @@
 pub mod Mentioning
+pub mod Tables
 pub mod Writing
 pub mod Headers
 pub mod TurnLemmas

@@ -1,7 +1,8 @@
 -- The lines of one mention.
-use Rattle.std.specs.Prelude.{ℕ, List, ◌++◌}
+use Rattle.std.specs.Prelude.{◌≡◌, ℕ, ◌==◌, true, if◌then◌else◌, List, ◌++◌, Option, Some, None, slice_index_or}
+use Rattle.std.specs.List.{list_any}
 use Rattle.et_base.specs.declared.line.TraceLine.{TraceLine}
-use Rattle.et_state.specs.Naming.{Names, Mentions, with_new, class_line, method_line}
+use Rattle.et_state.specs.Naming.{Names, Mentions, with_new, number_in, class_line, method_line}
 
 -- what is mentioned once a method and its class are
 abbrev pub mentions_method : Names → Mentions → ℕ → Mentions
@@ -12,3 +13,15 @@ abbrev pub method_lines : Names → Mentions → ℕ → List TraceLine
 method_lines names m method =
     class_line names m.classes (names.method_class method)
     ++ method_line names (with_new m.classes (names.method_class method)) m.methods method
+
+-- the class of each method that was mentioned was mentioned
+pub record HasClasses (names : Names) (m : Mentions) : Type 0 where
+  pub each : (x : ℕ) → list_any (λ y. x == y) m.methods ≡ true → list_any (λ y. names.method_class x == y) m.classes ≡ true
+
+-- the number that a trace gave, if it mentioned x
+abbrev pub number_if_in : List ℕ → ℕ → Option ℕ
+number_if_in seen x = if list_any (λ y. x == y) seen then Some (number_in seen x) else None
+
+-- a table has the number of each x at x
+abbrev pub AreNumbersOf : List ℕ → List (Option ℕ) → Type 0
+AreNumbersOf seen numbers = (x : ℕ) → slice_index_or numbers x None ≡ number_if_in seen x

@@ -6,6 +6,7 @@ mod flushes;
 mod guest;
 pub mod laws;
 mod marks;
+mod mentioned;
 mod naming;
 mod next_flush;
 mod options;

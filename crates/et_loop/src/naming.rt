@@ -1,15 +1,15 @@
 //! Records become lines, and classes and methods get their numbers.
-ghost use Rattle.std.specs.Prelude.{◌≡◌, ◌+◌, ◌<◌, ◌++◌, ◌∷◌, [], length, All, IfOk, OnOk};
+ghost use Rattle.std.specs.Prelude.{◌≡◌, ◌<◌, ◌++◌, ◌∷◌, [], length, All, IfOk, OnOk};
 ghost use Rattle.et_base.specs.declared.line.TraceLine.TheVariants.{Class, Method};
 ghost use Rattle.et_state.specs.Naming.{IsNamed, methods_named_by, nothing_mentioned, with_new, with_mentions, mentions_after, number_in, class_line, record_lines, lines_of};
 ghost use Rattle.et_binary.specs.Formats.{written_in, lines_written_in};
-ghost use Rattle.et_loop.specs.Naming.{mentions_method, method_lines};
+ghost use Rattle.et_loop.specs.Naming.{mentions_method, method_lines, HasClasses};
 
+use crate::mentioned::Mentioned;
 use crate::program::Program;
 use et_base::{ClassId, Format, MethodId, Name, NoMemory, TraceLine};
 use et_binary::write_line_in;
 use et_state::Record;
-use indexmap::IndexSet;
 use std::alloc::Global;
 use std::marker::Model;
 
@@ -17,8 +17,8 @@ use std::marker::Model;
 #[derive(Drop)]
 pub struct Numbering {
     alloc: Global,
-    classes: IndexSet<ClassId>,
-    methods: IndexSet<MethodId>,
+    classes: Mentioned,
+    methods: Mentioned,
 }
 
 impl Model for Numbering {
@@ -26,17 +26,7 @@ impl Model for Numbering {
 
     ghost Value = { Mentions };
 
-    ghost view = { λ n. record { classes = n.classes.keys; methods = n.methods.keys } };
-}
-
-/// The number of a place, from 1 on.
-fn number_at(place: usize) -> Result<u32, NoMemory>
-    ensures { IfOk result (λ n. n ≡ place + 1) }
-{
-    match u32::try_from(place) {
-        Ok(n) if n < u32::MAX => Ok(n + 1),
-        _ => Err(NoMemory),
-    }
+    ghost view = { λ n. record { classes = n.classes; methods = n.methods } };
 }
 
 /// Writes the C line of a class.
@@ -89,8 +79,8 @@ impl Numbering {
     {
         Numbering {
             alloc,
-            classes: IndexSet::new(alloc),
-            methods: IndexSet::new(alloc),
+            classes: Mentioned::begin(alloc),
+            methods: Mentioned::begin(alloc),
         }
     }
 
@@ -110,15 +100,16 @@ impl Numbering {
             ≡ buffer.old.items
             ++ lines_written_in format (class_line (P.names code.now) self.old.classes class)) }
     {
-        let (place, is_new) = self.classes.insert_full(class)?;
-        let number = number_at(place)?;
-        if is_new {
-            write_class(self.alloc, format, code, class, number, buffer)?;
+        if let Some(number) = self.classes.number(class.number()) {
+            return Ok(number);
         }
+        let number = self.classes.add(class.number())?;
+        write_class(self.alloc, format, code, class, number, buffer)?;
         Ok(number)
     }
 
-    /// Mentions a method, with its N line where it is new, behind its class, and answers its number.
+    /// Mentions a method, with its N line where it is new, behind its class, and answers its number. Where it was mentioned,
+    /// its class was too, and is not looked for.
     fn mention_method<P: Program>(
         &mut self,
         format: Format,
@@ -128,6 +119,7 @@ impl Numbering {
     ) -> Result<u32, NoMemory>
         requires method { method < (P.names code.now).method_count }
         requires class { (P.names code.now).method_class method < (P.names code.now).class_count }
+        requires classes { HasClasses (P.names code.now) self.old }
         ensures number { IfOk result (λ n. n ≡ number_in self.new.methods method) }
         ensures mentions { OnOk result
             (self.new ≡ mentions_method (P.names code.now) self.old method) }
@@ -135,12 +127,12 @@ impl Numbering {
             ≡ buffer.old.items
             ++ lines_written_in format (method_lines (P.names code.now) self.old method)) }
     {
-        let class = self.mention_class(format, code, code.method_class(method), buffer)?;
-        let (place, is_new) = self.methods.insert_full(method)?;
-        let number = number_at(place)?;
-        if is_new {
-            write_method(self.alloc, format, code, method, number, class, buffer)?;
+        if let Some(number) = self.methods.number(method.number()) {
+            return Ok(number);
         }
+        let class = self.mention_class(format, code, code.method_class(method), buffer)?;
+        let number = self.methods.add(method.number())?;
+        write_method(self.alloc, format, code, method, number, class, buffer)?;
         Ok(number)
     }
 
@@ -155,6 +147,7 @@ impl Numbering {
     ) -> Result<(), NoMemory>
         requires named { IsNamed (P.names code.now) entry }
         requires method { length (methods_named_by entry) ≡ 1 }
+        requires classes { HasClasses (P.names code.now) self.old }
         ensures mentions { OnOk result
             (self.new ≡ with_mentions (P.names code.now) self.old entry) }
         ensures lines { OnOk result (buffer.new.items
@@ -207,7 +200,8 @@ impl Numbering {
         entry: Record,
         buffer: &mut Vec<u8>,
     ) -> Result<(), NoMemory>
-        requires { IsNamed (P.names code.now) entry }
+        requires named { IsNamed (P.names code.now) entry }
+        requires classes { HasClasses (P.names code.now) self.old }
         ensures mentions { OnOk result
             (self.new ≡ with_mentions (P.names code.now) self.old entry) }
         ensures lines { OnOk result (buffer.new.items
@@ -259,7 +253,9 @@ impl Numbering {
         records: &[Record],
         buffer: &mut Vec<u8>,
     ) -> Result<(), NoMemory>
-        requires { All (IsNamed (P.names code.now)) records.now }
+        requires named { All (IsNamed (P.names code.now)) records.now }
+        requires classes { HasClasses (P.names code.now) self.old }
+        ensures classes { OnOk result (HasClasses (P.names code.now) self.new) }
         ensures mentions { OnOk result
             (self.new ≡ mentions_after (P.names code.now) self.old records.now) }
         ensures lines { OnOk result (buffer.new.items

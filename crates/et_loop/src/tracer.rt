@@ -8,6 +8,7 @@ ghost use Rattle.et_state.specs.Options.{AreOptions};
 ghost use Rattle.et_text.specs.Ranges.{header_version};
 ghost use Rattle.et_binary.specs.Formats.{lines_written_in};
 ghost use Rattle.et_loop.specs.Options.{setting_of};
+ghost use Rattle.et_loop.specs.Naming.{HasClasses};
 ghost use Rattle.et_loop.specs.Run.{time_noted, Goes, Turns};
 ghost use Rattle.et_graph.specs.Listed.{AreListed};
 ghost use Rattle.et_loop.specs.Pace.{IsNextFlush, IsRota};
@@ -39,6 +40,8 @@ pub struct Tracer<R: Drop> {
     pub numbering: Numbering,
     /// The format of the trace.
     pub format: Format,
+    /// The records of the newest event. The list is emptied before each event, and keeps its room.
+    pub records: Lines,
     /// Lines that are to be put.
     pub buffer: Vec<u8>,
     /// When the next flush is due.
@@ -66,6 +69,7 @@ fn step<G: Guest, L: Ledger>(
         IsMade (G.graph_of (G.state machine.old)) o }
     requires stamps { HasStamps (G.graph_of (G.state machine.old)) tracer.old.stamps }
     requires room { G.has_places tracer.old.room (G.graph_of (G.state machine.old)).made }
+    requires classes { HasClasses (G.Code.names code.now) tracer.old.numbering }
     requires format { tracer.old.format ≡ options.now.format }
     requires rota { IsRota options.now.schedule e tracer.old.rota }
     ensures goes { IfOk result
@@ -80,6 +84,7 @@ fn step<G: Guest, L: Ledger>(
     ensures stamps { OnOk result (HasStamps (G.graph_of (G.state machine.new)) tracer.new.stamps) }
     ensures room { OnOk result
         (G.has_places tracer.new.room (G.graph_of (G.state machine.new)).made) }
+    ensures classes { OnOk result (HasClasses (G.Code.names code.now) tracer.new.numbering) }
     ensures format { OnOk result (tracer.new.format ≡ options.now.format) }
     ensures sound { OnOk result (G.is_sound code.now (G.state machine.new)) }
     ensures limit { IfOk result (λ end. IfNone end (e < options.now.limit)) }
@@ -97,13 +102,13 @@ fn step<G: Guest, L: Ledger>(
     }
     let thread = machine.unended_at(tracer.rota.next_place(options, e, count));
     let before = machine.made();
-    let mut records = Lines::begin(alloc);
-    match machine.event(alloc, code, thread, &mut records, visits)? {
+    tracer.records.clear();
+    match machine.event(alloc, code, thread, &mut tracer.records, visits)? {
         EventEnd::Done | EventEnd::Waited => {
             tracer.numbering.write_records(
                 options.format,
                 code,
-                records.records(),
+                tracer.records.records(),
                 &mut tracer.buffer,
             )?;
             restamp(machine, e, before, &mut tracer.stamps, &mut tracer.room)?;
@@ -132,6 +137,7 @@ impl<R: Drop> Tracer<R> {
         ensures room { IfOk result (λ t. t.room ≡ room) }
         ensures mentions { IfOk result
             (λ t. t.numbering ≡ mentions_after (P.names code.now) nothing_mentioned made.now) }
+        ensures classes { IfOk result (λ t. HasClasses (P.names code.now) t.numbering) }
         ensures format { IfOk result (λ t. t.format ≡ options.now.format) }
         ensures lines { IfOk result (λ t. t.buffer.items ≡ lines_written_in options.now.format
             (Header (header_version options.now.format) options.now.interval
@@ -156,6 +162,7 @@ impl<R: Drop> Tracer<R> {
             room,
             numbering,
             format,
+            records: Lines::begin(alloc),
             buffer,
             next_flush: NextFlush::begin(options.interval),
             rota: Rota::begin(),
@@ -182,6 +189,7 @@ pub fn turn<G: Guest, L: Ledger>(
         IsMade (G.graph_of (G.state machine.old)) o }
     requires stamps { HasStamps (G.graph_of (G.state machine.old)) tracer.old.stamps }
     requires room { G.has_places tracer.old.room (G.graph_of (G.state machine.old)).made }
+    requires classes { HasClasses (G.Code.names code.now) tracer.old.numbering }
     requires format { tracer.old.format ≡ options.now.format }
     requires next_flush { IsNextFlush options.now.interval e tracer.old.next_flush.event }
     requires rota { IsRota options.now.schedule e tracer.old.rota }
@@ -204,6 +212,8 @@ pub fn turn<G: Guest, L: Ledger>(
         (λ end. IfNone end (HasStamps (G.graph_of (G.state machine.new)) tracer.new.stamps)) }
     ensures room { IfOk result
         (λ end. IfNone end (G.has_places tracer.new.room (G.graph_of (G.state machine.new)).made)) }
+    ensures classes { IfOk result
+        (λ end. IfNone end (HasClasses (G.Code.names code.now) tracer.new.numbering)) }
     ensures format { IfOk result (λ end. IfNone end (tracer.new.format ≡ options.now.format)) }
     ensures sound { IfOk result
         (λ end. IfNone end (G.is_sound code.now (G.state machine.new))) }

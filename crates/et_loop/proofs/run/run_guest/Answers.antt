@@ -4,6 +4,7 @@ use Rattle.et_io.specs.Sink.{with_more, TakesPrefix}
 use Rattle.et_graph.proofs.Walks.{is_reached, is_reached_decides}
 use Rattle.et_state.specs.History.{is_flush_point}
 use Rattle.et_loop.specs.Options.{setting_of}
+use Rattle.et_loop.specs.Naming.{HasClasses}
 use Rattle.et_loop.proofs.RunLemmas.{running_start, turn_end, front_start, front_nothing, front_now, front_turn, on_any, noted_before}
 use Rattle.et_loop.specs.Stamping.{HasStamps, Passes}
 use Rattle.et_loop.specs.Pace.{IsNextFlush, IsRota}
@@ -58,6 +59,7 @@ events-init g c =
         places = omega (arith, made, c.in-Ok-begin.ensures.places);
       };
       room = subst (λ x. g.G.Guest.has_places x (g.G.Guest.graph_of (g.G.Guest.state c.args.machine.now)).made) (sym c.in-Ok-begin.ensures.room) (subst (λ (n : ℕ). g.G.Guest.has_places c.in-Ok.room n) c.made-objects.ensures c.in-Ok.ensures);
+      classes = c.in-Ok-begin.ensures.classes;
       format = c.in-Ok-begin.ensures.format;
       next_flush = c.in-Ok-begin.ensures.next_flush;
       rota = c.in-Ok-begin.ensures.rota;
@@ -148,6 +150,7 @@ events-preserved g c =
           (passes_grow due c.events.e (graph c.events.machine) (graph c.turn.new.machine) (λ o. get_or c.events.tracer.stamps o 0) (λ o. get_or c.turn.new.tracer.stamps o 0) passes) turn (c.events.e + 1) (add-one c.events.e);
       stamps = subst (λ (end : Option End). IfNone end (HasStamps (graph c.turn.new.machine) c.turn.new.tracer.stamps)) c.in-None.is c.in-Ok-turn.ensures.stamps;
       room = subst (λ (end : Option End). IfNone end (g.G.Guest.has_places c.turn.new.tracer.room (graph c.turn.new.machine).made)) c.in-None.is c.in-Ok-turn.ensures.room;
+      classes = subst (λ (end : Option End). IfNone end (HasClasses (g.G.Code.Program.names c.args.code.now) c.turn.new.tracer.numbering)) c.in-None.is c.in-Ok-turn.ensures.classes;
       format = subst (λ (end : Option End). IfNone end (c.turn.new.tracer.format ≡ c.args.options.now.format)) c.in-None.is c.in-Ok-turn.ensures.format;
       next_flush = subst (λ (end : Option End). IfNone end (IsNextFlush c.args.options.now.interval (c.events.e + 1) c.turn.new.tracer.next_flush.event)) c.in-None.is c.in-Ok-turn.ensures.next_flush;
       rota = subst (λ (end : Option End). IfNone end (IsRota c.args.options.now.schedule (c.events.e + 1) c.turn.new.tracer.rota)) c.in-None.is c.in-Ok-turn.ensures.rota;

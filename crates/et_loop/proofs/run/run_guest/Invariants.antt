@@ -1,6 +1,7 @@
 use Rattle.std.proofs.Common.{◌≡◌, ℕ, Bool, ◌+◌, ◌-◌, ◌≤◌, get_or}
 use Rattle.et_graph.specs.Graph.{Graph, Decides}
 use Rattle.et_loop.specs.Options.{setting_of}
+use Rattle.et_loop.specs.Naming.{HasClasses}
 use Rattle.et_loop.proofs.RunLemmas.{Running, noted_before}
 use Rattle.et_loop.specs.Stamping.{HasStamps}
 use Rattle.et_loop.specs.Told.{IsToldByStamps}
@@ -19,6 +20,7 @@ invariant-events g l =
       visits : (reached : Graph → ℕ → Bool) → Decides reached → AreSoFar reached given G.flush_visits_of (G.state l.fn.machine) l.made l.e (G.state l.machine) l.fn.visits l.visits;
       stamps : HasStamps (G.graph_of (G.state l.machine)) l.tracer.stamps;
       room : G.has_places l.tracer.room (G.graph_of (G.state l.machine)).made;
+      classes : HasClasses (g.G.Code.Program.names l.code) l.tracer.numbering;
       format : l.tracer.format ≡ l.options.format;
       next_flush : IsNextFlush l.options.interval l.e l.tracer.next_flush.event;
       rota : IsRota l.options.schedule l.e l.tracer.rota;

@@ -4,13 +4,13 @@ use Rattle.et_loop.proofs.Marking.{done_lost_made}
 use Rattle.et_loop.proofs.tracer.step.Goals as goal
 
 -- no record stands there before the event, and the event's are named
-pub write_records-requires : goal.write_records-requires
-write_records-requires g c =
+pub write_records-requires-clause-named : goal.write_records-requires-clause-named
+write_records-requires-clause-named g c =
     let P = IsNamed (g.G.Code.Program.names c.args.code.now) in
-    let none : c.begin-records.result ≡ [] = c.begin-records.ensures in
-    let before : All P c.begin-records.result = subst (λ rs. All P rs) (sym none) (λ k d lt. absurd (omega arith)) in
+    let none : c.clear.new.self ≡ [] = c.clear.ensures in
+    let before : All P c.clear.new.self = subst (λ rs. All P rs) (sym none) (λ k d lt. absurd (omega arith)) in
     let after = c.in_ok-event.ensures.named before in
-    subst (λ rs. All P rs) (sym c.records-in-Done.ensures) after
+    subst (λ rs. All P rs) (sym c.records.ensures) after
 
 pub restamp-requires-clause-lost : goal.restamp-requires-clause-lost
 restamp-requires-clause-lost g c =

@@ -4,6 +4,8 @@ use Rattle.et_base.specs.declared.value.End.{End}
 use Rattle.et_binary.specs.Formats.{lines_written_in}
 use Rattle.et_graph.specs.Graph.{IsReached}
 use Rattle.et_state.specs.History.{flush_lines}
+use Rattle.et_state.specs.Naming.{Mentions}
+use Rattle.et_loop.specs.Naming.{HasClasses}
 use Rattle.et_loop.specs.Options.{setting_of}
 use Rattle.et_loop.specs.Run.{due_lines, due_state, last_lines, Goes}
 use Rattle.et_loop.specs.declared.next_flush.NextFlush.{NextFlush}
@@ -22,6 +24,10 @@ step-requires-clause-made g c =
 pub step-requires-clause-rota : goal.step-requires-clause-rota
 step-requires-clause-rota g c =
     subst (λ (r : Rota). IsRota c.args.options.now.schedule c.args.e r) (sym c.in_ok-settle.ensures.rota) c.requires.rota
+
+pub step-requires-clause-classes : goal.step-requires-clause-classes
+step-requires-clause-classes g c =
+    subst (λ (m : Mentions). HasClasses (g.G.Code.Program.names c.args.code.now) m) (sym c.in_ok-settle.ensures.numbering) c.requires.classes
 
 pub returns-in-None-clause-next_flush : goal.returns-in-None-clause-next_flush
 returns-in-None-clause-next_flush g c =
