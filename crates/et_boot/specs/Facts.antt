@@ -1,7 +1,8 @@
 -- What is true of the whole table.
-use Rattle.std.specs.Prelude.{ℕ, ◌==◌, ◌&&◌, not, Bool, true, false, List, [], ◌∷◌, Option, None, Some, is_some, codes}
+use Rattle.std.specs.Prelude.{ℕ, ◌==◌, ◌&&◌, not, Bool, true, false, List, [], ◌∷◌, Option, None, Some, is_some}
 use Rattle.std.specs.List.{list_any, list_all}
 use Rattle.std.specs.Str.{bytes_eq}
+use Rattle.et_boot.specs.BuiltIns.{is_deferring_class}
 use Rattle.et_boot.specs.Classes.{BootClassOf, public_interface}
 
 abbrev pub is_class_named : List ℕ → BootClassOf → Bool
@@ -26,20 +27,10 @@ abbrev pub are_in_order : List BootClassOf → List BootClassOf → Bool
 are_in_order before [] = true
 are_in_order before (c ∷ cs) = (has_super before c.super_name && list_all (has_kind before true) c.interfaces) && are_in_order (c ∷ before) cs
 
--- Thread, Reference, WeakReference or ReferenceQueue
-abbrev pub is_deferring : BootClassOf → Bool
-is_deferring c =
-    list_any (λ name. is_class_named name c)
-    (codes "java/lang/Thread"
-    ∷ codes "java/lang/ref/Reference"
-    ∷ codes "java/lang/ref/WeakReference"
-    ∷ codes "java/lang/ref/ReferenceQueue"
-    ∷ [])
-
 abbrev pub same_flag : Bool → Bool → Bool
 same_flag true b = b
 same_flag false b = not b
 
 -- deferred is exactly a method without code of one of those four
 abbrev pub defers_exactly : BootClassOf → Bool
-defers_exactly c = list_all (λ m. same_flag m.deferred (is_deferring c && not (is_some m.code))) c.methods
+defers_exactly c = list_all (λ m. same_flag m.deferred (is_deferring_class c.name && not (is_some m.code))) c.methods

@@ -2,3 +2,5 @@ pub mod Classes
 pub mod Shown
 pub mod Facts
 pub mod Pools
+pub mod BuiltIns
+pub mod Names

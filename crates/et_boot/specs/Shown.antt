@@ -1,10 +1,12 @@
--- What contracts see of a row of the table.
-use Rattle.std.specs.Prelude.{map, option_map}
+-- What contracts see of a row of the tables.
+use Rattle.std.specs.Prelude.{ℕ, List, map, option_map}
 use Rattle.std.specs.Option.{option_copied}
 use Rattle.et_boot.specs.declared.entries.BootClass.{BootClass}
 use Rattle.et_boot.specs.declared.entries.BootField.{BootField}
 use Rattle.et_boot.specs.declared.entries.BootMethod.{BootMethod}
 use Rattle.et_boot.specs.declared.entries.BootCode.{BootCode}
+use Rattle.et_boot.specs.declared.built_ins.BuiltIn.{BuiltIn}
+use Rattle.et_boot.specs.declared.built_ins.BuiltInRow.{BuiltInRow}
 use Rattle.et_boot.specs.Classes.{BootClassOf, BootFieldOf, BootMethodOf, BootCodeOf}
 
 abbrev pub shown_field : BootField → BootFieldOf
@@ -27,3 +29,6 @@ shown c = record {
   fields = map shown_field c.fields.now;
   methods = map shown_method c.methods.now;
 }
+
+abbrev pub shown_row : BuiltInRow → List ℕ × List ℕ × BuiltIn
+shown_row row = (row.name.now, row.descriptor.now, row.built_in)

@@ -6,12 +6,16 @@ ghost use Rattle.et_boot.specs.Classes.{boot_classes, no_boot_class};
 ghost use Rattle.et_boot.specs.Shown.{shown};
 ghost use Rattle.std.specs.List.{slice_index_or};
 
+mod built_ins;
 mod entries;
 pub mod laws;
+mod names;
 #[cfg(test)]
 mod tests;
 
+pub use built_ins::{BuiltIn, built_in_called, is_deferring};
 pub use entries::{BootClass, BootCode, BootField, BootMethod};
+pub use names::BuiltInClass;
 
 const PUBLIC: u16 = 0x0001;
 

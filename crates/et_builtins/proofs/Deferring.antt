@@ -6,6 +6,8 @@ use Rattle.et_code.specs.declared.instr.Instr.{Instr}
 use Rattle.et_code.specs.declared.instr.CodeFault.{CodeFault}
 use Rattle.et_class.specs.Names.{has}
 use Rattle.et_class.specs.declared.flags.TheConstants.{NATIVE}
+use Rattle.et_program.specs.BootTable.{is_deferring_class}
+use Rattle.et_program.specs.BuiltIns.{is_deferred}
 use Rattle.et_program.specs.Entries.{Linked, class_at, method_at, is_abstract, is_static}
 use Rattle.et_program.specs.Members.{kept}
 use Rattle.et_state.specs.declared.stage.Turn.{Turn}
@@ -25,7 +27,7 @@ use Rattle.et_event.specs.Moments.{Moment, current_frame, moment}
 use Rattle.et_event.specs.Sites.{Site, decoded_at, site_of}
 use Rattle.et_parts.specs.Places.{IsPlace, site_at}
 use Rattle.et_parts.specs.declared.places.Place.{Place}
-use Rattle.et_builtins.specs.Deferred.{DefersOrAnswers, deferred_at, deferred_by, deferred_call, deferred_in, is_deferred, is_deferring_class}
+use Rattle.et_builtins.specs.Deferred.{DefersOrAnswers, deferred_at, deferred_by, deferred_call, deferred_in}
 
 -- WHICH TURN IT IS
 

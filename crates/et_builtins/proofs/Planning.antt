@@ -5,6 +5,7 @@ use Rattle.std.specs.Result.{result_ok}
 use Rattle.et_base.specs.declared.value.Value.{Value}
 use Rattle.et_heap.specs.Objects.{ObjectState, IsHeld, at, found, is_there, object_at}
 use Rattle.et_state.specs.State.{Kept, MachineState, kept_of}
+use Rattle.et_program.specs.BuiltIns.{is_deferred}
 use Rattle.et_program.specs.Entries.{Linked, is_static}
 use Rattle.et_program.specs.Members.{kept}
 use Rattle.et_program.specs.Resolution.{resolve_class, resolve_method, select, select_special}
@@ -14,7 +15,7 @@ use Rattle.et_event.specs.declared.rows.CallKind.TheVariants.{Virtual, Special, 
 use Rattle.et_event.specs.Calls.{arguments_of, call_fits, dispatched, enters_method, entry_count, invoke, is_as, is_of_owner, is_static_call, special_class, with_method, with_type}
 use Rattle.et_event.specs.declared.rows.CallKind.{CallKind}
 use Rattle.et_builtins.specs.Arguments.{fitting}
-use Rattle.et_builtins.specs.Deferred.{is_deferred, selected_by, selected_from, selected_method, selected_on, with_resolved}
+use Rattle.et_builtins.specs.Deferred.{selected_by, selected_from, selected_method, selected_on, with_resolved}
 use Rattle.et_pool.specs.Descriptors.{MethodType, method_type}
 use Rattle.et_state.specs.Outcome.{Outcome}
 use Rattle.et_event.specs.Checks.{ill_typed_unless, not_null, resolved, after_selection, throws_unless}

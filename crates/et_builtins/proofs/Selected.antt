@@ -11,9 +11,10 @@ use Rattle.et_state.specs.declared.ends.EventEnd.{EventEnd}
 use Rattle.et_state.specs.Outcome.{Outcome}
 use Rattle.et_program.specs.declared.info.MethodInfo.{MethodInfo}
 use Rattle.et_event.specs.declared.errors.GuestError.TheVariants.{AbstractMethodError, OutOfMemoryError}
-use Rattle.et_event.specs.declared.rows.BuiltIn.{BuiltIn}
+use Rattle.et_program.specs.BootMethods.BuiltIn.{BuiltIn}
 use Rattle.et_event.specs.Answered.{EventAnswers}
-use Rattle.et_event.specs.BuiltIns.{built_in_event, built_in_of, built_in_row, done_by, is_fit_for, row_done, starts_thread}
+use Rattle.et_program.specs.BuiltIns.{built_in_of}
+use Rattle.et_event.specs.BuiltIns.{built_in_event, built_in_row, done_by, is_fit_for, row_done, starts_thread}
 use Rattle.et_event.specs.Checks.{ill_typed_unless, throws_unless, waits_unless}
 use Rattle.et_event.specs.Frames.{first_reference}
 use Rattle.et_event.specs.Moments.{Moment, begins, ill_typed, throws, waits}

@@ -21,8 +21,8 @@ use Rattle.et_event.specs.Errors.{class_called}
 use Rattle.et_event.specs.Kinds.{or_zero}
 use Rattle.et_event.specs.Sound.{IsSoundFor, IsSoundObject, slots_by}
 use Rattle.et_event.specs.Moments.{Moment, Doing}
-use Rattle.et_event.specs.declared.rows.BuiltIn.{BuiltIn}
-use Rattle.et_event.specs.declared.rows.BuiltIn.TheVariants.{Nothing, SetMessage, SetMessageAndCause, GetMessage, GetCause, SetTarget, Start, Join, SetReferent, SetReferentAndQueue, GetReferent, ClearReferent, Poll}
+use Rattle.et_program.specs.BootMethods.BuiltIn.{BuiltIn}
+use Rattle.et_program.specs.BootMethods.BuiltIn.TheVariants.{Nothing, SetMessage, SetMessageAndCause, GetMessage, GetCause, SetTarget, Start, Join, SetReferent, SetReferentAndQueue, GetReferent, ClearReferent, Poll}
 use Rattle.et_builtins.specs.Kinds.{slots_used}
 use Rattle.et_event.specs.Programs.{HasMachineSlots, KeepsFree, KeepsTarget}
 

@@ -1,14 +1,12 @@
 -- DEFERRED CALLS: those of the built-in methods of threads, of weak references and of their queues. The event call that does
 -- calls leaves them to the one that does monitors and threads.
-use Rattle.std.specs.Prelude.{◌≡◌, ℕ, ◌&&◌, ◌||◌, not, Bool, true, false, if◌then◌else◌, List, codes, Option, Some, None, is_none, option_and_then, Result, Ok, Err}
+use Rattle.std.specs.Prelude.{◌≡◌, ℕ, Bool, true, false, if◌then◌else◌, List, Option, Some, None, option_and_then, Result, Ok, Err}
 use Rattle.std.specs.Result.{result_ok}
-use Rattle.std.specs.Str.{bytes_eq}
 use Rattle.et_pool.specs.Descriptors.{MethodType, method_type}
 use Rattle.et_code.specs.declared.instr.Instr.{Instr}
 use Rattle.et_code.specs.declared.instr.CodeFault.{CodeFault}
-use Rattle.et_class.specs.Names.{has}
-use Rattle.et_class.specs.declared.flags.TheConstants.{NATIVE}
-use Rattle.et_program.specs.Entries.{Linked, class_at, method_at, is_abstract, is_static}
+use Rattle.et_program.specs.BuiltIns.{is_deferred}
+use Rattle.et_program.specs.Entries.{Linked, is_static}
 use Rattle.et_program.specs.Members.{kept}
 use Rattle.et_program.specs.Resolution.{resolve_class, resolve_method, select, select_special}
 use Rattle.et_base.specs.declared.value.Value.{Value}
@@ -31,23 +29,6 @@ use Rattle.et_event.specs.Frames.{first_reference}
 use Rattle.et_event.specs.Moments.{Moment, begins, object_class, current_frame, thread_of}
 use Rattle.et_event.specs.Sites.{Member, Site, decoded_at, site_member, names_interface, site_of}
 use Rattle.et_event.specs.Table.{row_of}
-
--- THE METHODS
-
--- java.lang.Thread, and java.lang.ref.Reference, WeakReference and ReferenceQueue
-abbrev pub is_deferring_class : List ℕ → Bool
-is_deferring_class name =
-    bytes_eq name (codes "java/lang/Thread")
-    || bytes_eq name (codes "java/lang/ref/Reference")
-    || bytes_eq name (codes "java/lang/ref/WeakReference")
-    || bytes_eq name (codes "java/lang/ref/ReferenceQueue")
-
--- a method of one of these classes that has no code and is built in: it is called on an object, and neither native nor abstract
-abbrev pub is_deferred : Linked → ℕ → Bool
-is_deferred p m =
-    is_none (method_at p m).code
-    && not (is_static p m || has (method_at p m).flags NATIVE || is_abstract p m)
-    && is_deferring_class (class_at p (method_at p m).class).info.name
 
 -- WHICH METHOD IS SELECTED (JVMS 5.4.3.3, 5.4.3.4, 5.4.6 and 6.5 invokevirtual, invokespecial, invokeinterface), where no check
 -- of the table of events refuses. An invokestatic selects none: it calls the method that was resolved.

@@ -1,12 +1,7 @@
--- Which built-in method a method without code is, among some rows of the table.
-use Rattle.std.specs.Prelude.{ℕ, List, Option, option_map, find}
-use Rattle.et_program.specs.declared.info.MethodInfo.{MethodInfo}
-use Rattle.et_event.specs.declared.rows.BuiltIn.{BuiltIn}
-use Rattle.et_event.specs.declared.rows.BuiltIn.TheVariants.{Nothing, SetMessage, SetMessageAndCause, GetMessage, GetCause, SetTarget, Start, Join, SetReferent, SetReferentAndQueue, GetReferent, ClearReferent, Poll}
-use Rattle.et_event.specs.BuiltIns.{is_called}
-
-abbrev pub found_in : MethodInfo → List (List ℕ × List ℕ × BuiltIn) → Option BuiltIn
-found_in m rows = option_map (λ (row : List ℕ × List ℕ × BuiltIn). row.2) (find (is_called m) rows)
+-- What a built-in method answers, and what it uses of its object.
+use Rattle.std.specs.Prelude.{ℕ}
+use Rattle.et_program.specs.BootMethods.BuiltIn.{BuiltIn}
+use Rattle.et_program.specs.BootMethods.BuiltIn.TheVariants.{Nothing, SetMessage, SetMessageAndCause, GetMessage, GetCause, SetTarget, Start, Join, SetReferent, SetReferentAndQueue, GetReferent, ClearReferent, Poll}
 
 -- how many entries it answers
 abbrev pub entries_answered : BuiltIn → ℕ

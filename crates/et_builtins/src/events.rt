@@ -51,9 +51,8 @@ pub fn built_in_method_event<L: Ledger>(
     ensures visits { visits.new ≤ visits.old + 3 }
 {
     operands_are_few(machine, thread);
-    let info = program.method(call.method);
     let receiver = receiver(machine, thread, call.count);
-    match (receiver, built_in_of(info)) {
+    match (receiver, built_in_of(program, call.method)) {
         (Some(object), Some(built_in)) => {
             let called = Called {
                 thread,

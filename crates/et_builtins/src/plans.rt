@@ -1,10 +1,11 @@
 //! What an invoke comes to (JVMS 6.5, the invokes; 5.4.3), found out without a change.
-ghost use Rattle.std.specs.Prelude.{◌≡◌, ℕ, ◌+◌, ◌<◌, ◌≤◌, ◌^◌, ◌⊎◌, true, Option, Some, None, IfOk, IfSome, IsSome, codes, length, option_and_then};
+ghost use Rattle.std.specs.Prelude.{◌≡◌, ℕ, ◌+◌, ◌<◌, ◌≤◌, ◌^◌, ◌⊎◌, true, Option, Some, None, IfOk, IfSome, IsSome, length, option_and_then};
 ghost use Rattle.std.specs.Result.{result_ok};
 ghost use Rattle.et_state.specs.Words.{HasFrame, top};
 ghost use Rattle.et_event.specs.declared.rows.CallKind.TheVariants as kinds;
 ghost use Rattle.et_state.specs.State.{Kept, kept_of};
 ghost use Rattle.et_parts.specs.Places.{IsPlace, site_at};
+ghost use Rattle.et_program.specs.BuiltIns.{is_deferred as is_deferred_in};
 ghost use Rattle.et_program.specs.Entries.{is_static, method_at};
 ghost use Rattle.et_program.specs.Members.{kept};
 ghost use Rattle.et_program.specs.Referring.{method_of_member, pool_of_class};
@@ -14,21 +15,20 @@ ghost use Rattle.et_state.specs.Outcome.{Outcome};
 ghost use Rattle.et_event.specs.declared.errors.GuestError.TheVariants as errors;
 ghost use Rattle.et_event.specs.Calls.{arguments_of, dispatched, enters_method, invoke, is_as, is_static_call as calls_static, special_class as class_of_special};
 ghost use Rattle.et_event.specs.Checks.{resolved, after_selection as selected_in, throws_unless};
-ghost use Rattle.et_event.specs.Errors.{class_called};
 ghost use Rattle.et_event.specs.Frames.{first_reference};
 ghost use Rattle.et_event.specs.Moments.{Moment, begins, current_frame, moment};
 ghost use Rattle.et_event.specs.Sites.{Member, Site, natural_of, site_member, names_interface as is_of_interface};
 ghost use Rattle.et_event.specs.Initialization.{state_of};
 ghost use Rattle.et_event.specs.Sound.{IsSoundFor};
-ghost use Rattle.et_builtins.specs.Deferred.{is_deferred as is_deferred_in, is_deferring_class, selected_from, selected_method, selected_on, with_resolved};
+ghost use Rattle.et_builtins.specs.Deferred.{selected_from, selected_method, selected_on, with_resolved};
 ghost use Rattle.et_builtins.specs.Plans.{method_entered, call_planned, HasCallRoom, IsCallPlan, resolving};
 
 use crate::arguments::{fitting_call, receiver};
 use et_base::{ClassId, MethodId, Steps, ThreadId};
-use et_class::flags::{ABSTRACT, NATIVE, STATIC, has};
+use et_class::flags::{STATIC, has};
 use et_event::{CallKind, GuestError};
-use et_parts::{Place, index_of};
-use et_program::{Element, LinkError, NamedMethod, Program};
+use et_parts::{Place, class_called, index_of};
+use et_program::{BuiltInClass, Element, LinkError, NamedMethod, Program};
 use et_state::{ClassState, Machine};
 use std::sync::ledger::Ledger;
 
@@ -149,18 +149,6 @@ fn interface_plan<L: Ledger>(
     selected(program.select(class, method, true), count)
 }
 
-/// The class `java/lang/Object`.
-fn object_class(program: &Program) -> ClassId
-    requires { 0 < length program.now.classes }
-    ensures value { result ≡ class_called program.now (codes "java/lang/Object") }
-    ensures within { result < length program.now.classes }
-{
-    match program.resolve_class(b"java/lang/Object") {
-        Ok(class) => class,
-        Err(_) => ClassId::new(0),
-    }
-}
-
 /// The class from which `invokespecial` selects: the one that it names, or Object for an array class.
 fn special_class(program: &Program, named: ClassId) -> ClassId
     requires { named < length program.now.classes }
@@ -169,7 +157,7 @@ fn special_class(program: &Program, named: ClassId) -> ClassId
 {
     match program.class(named).element {
         Element::NoArray => named,
-        Element::Base(_) | Element::Class(_) => object_class(program),
+        Element::Base(_) | Element::Class(_) => class_called(program, BuiltInClass::Object),
     }
 }
 
@@ -447,34 +435,13 @@ pub fn invoke_plan<L: Ledger>(
     }
 }
 
-/// Whether a class is one of those whose built-in methods are deferred.
-fn is_deferring(name: &[u8]) -> bool
-    ensures { result ≡ is_deferring_class name.now }
-{
-    name == b"java/lang/Thread".as_slice()
-        || name == b"java/lang/ref/Reference".as_slice()
-        || name == b"java/lang/ref/WeakReference".as_slice()
-        || name == b"java/lang/ref/ReferenceQueue".as_slice()
-}
-
-/// Whether a method is a built-in one without code of threads, of weak references or of their queues.
-fn is_deferred(program: &Program, method: MethodId) -> bool
-    requires { method < length program.now.methods }
-    ensures { result ≡ is_deferred_in program.now method }
-{
-    let info = program.method(method);
-    let flags = info.flags;
-    let is_other = has(flags, STATIC) || has(flags, NATIVE) || has(flags, ABSTRACT);
-    info.code.is_none() && !is_other && is_deferring(program.class(info.class).name.as_slice())
-}
-
 /// The method that a plan enters, where it is a built-in one without code of threads, of weak references or of their queues.
 pub fn deferred_method(program: &Program, plan: CallPlan) -> Option<MethodId>
     requires { IfSome (method_entered plan) (λ method. method < length program.now.methods) }
     ensures { result ≡ kept (is_deferred_in program.now) (method_entered plan) }
 {
     match plan {
-        CallPlan::Enters { method, .. } => if is_deferred(program, method) {
+        CallPlan::Enters { method, .. } => if program.is_deferred(method) {
             Some(method)
         } else {
             None

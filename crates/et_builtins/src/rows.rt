@@ -8,6 +8,7 @@ ghost use Rattle.et_state.specs.Threads.{thread_with};
 ghost use Rattle.et_state.specs.State.{kept_of};
 ghost use Rattle.et_state.specs.Sound.{IsSound};
 ghost use Rattle.et_state.specs.Words.{HasFrame, top};
+ghost use Rattle.et_program.specs.BootNames.{name_of};
 ghost use Rattle.et_program.specs.Entries.{Linked};
 ghost use Rattle.et_state.specs.declared.records.Record.{Record};
 ghost use Rattle.et_event.specs.Answered.{EventAnswers};
@@ -28,32 +29,32 @@ use crate::changes::{
     write_two,
 };
 use et_base::{NoMemory, ObjectId, Steps, Value};
-use et_event::{BuiltIn, GuestError};
+use et_event::GuestError;
 use et_parts::{class_called, ill_typed, throw_error};
-use et_program::Program;
+use et_program::{BuiltIn, BuiltInClass, Program};
 use et_state::{EventEnd, Lines, Machine};
 use std::sync::ledger::Ledger;
 
 /// At most so many threads are ever started.
 const MOST_THREADS: u32 = 64;
 
-/// Whether an object is of the class of this name, or of one below it.
+/// Whether an object is of this built-in class, or of one below it.
 #[tactic(auto, using(crate::proofs::Slots::class_within))]
 fn is_of<L: Ledger>(
     program: &Program,
     machine: &Machine,
     object: ObjectId,
-    name: &[u8],
+    class: BuiltInClass,
     visits: &mut Steps<L>,
 ) -> bool
     requires sound { IsSoundFor program.now (kept_of machine.now) }
     requires held { IsHeld machine.now.heap object }
     ensures value { (t : ℕ) → result ≡ is_of_class (moment program.now machine.now t)
-        (begins (moment program.now machine.now t)) object name.now }
+        (begins (moment program.now machine.now t)) object (name_of class) }
     ensures visits { visits.new ≡ visits.old + 1 }
 {
-    let class = machine.heap.class_of(object, visits);
-    program.is_subclass(class, class_called(program, name))
+    let own = machine.heap.class_of(object, visits);
+    program.is_subclass(own, class_called(program, class))
 }
 
 /// Whether a built-in method uses the slots of a Throwable.
@@ -80,22 +81,22 @@ fn takes_queue(built_in: BuiltIn) -> bool
     built_in == BuiltIn::SetReferentAndQueue
 }
 
-/// Whether an argument is null, or an object of the class of this name or of one below it.
+/// Whether an argument is null, or an object of this built-in class or of one below it.
 fn is_null_or_of<L: Ledger>(
     program: &Program,
     machine: &Machine,
     value: Value,
-    name: &[u8],
+    class: BuiltInClass,
     visits: &mut Steps<L>,
 ) -> bool
     requires sound { IsSoundFor program.now (kept_of machine.now) }
     requires held { (o : ℕ) → Contains (refs_of_value value) o → IsHeld machine.now.heap o }
     ensures value { (t : ℕ) → result ≡ is_null_or_of_class (moment program.now machine.now t)
-        (begins (moment program.now machine.now t)) value name.now }
+        (begins (moment program.now machine.now t)) value (name_of class) }
     ensures visits { visits.new ≤ visits.old + 1 }
 {
     match value {
-        Value::Ref(object) => is_of(program, machine, object, name, visits),
+        Value::Ref(object) => is_of(program, machine, object, class, visits),
         Value::Unset | Value::Int(_) | Value::Long(_) | Value::LongHigh | Value::Null => true,
     }
 }
@@ -124,10 +125,10 @@ fn is_fit<L: Ledger>(
     ensures visits { visits.new ≤ visits.old + 1 }
 {
     if uses_throwable(built_in) {
-        return is_of(program, machine, object, b"java/lang/Throwable", visits);
+        return is_of(program, machine, object, BuiltInClass::Throwable, visits);
     }
     if uses_thread(built_in) {
-        return is_of(program, machine, object, b"java/lang/Thread", visits);
+        return is_of(program, machine, object, BuiltInClass::Thread, visits);
     }
     if takes_queue(built_in) {
         let queue = argument_at(machine, call.thread, call.count, 2);
@@ -135,7 +136,7 @@ fn is_fit<L: Ledger>(
             program,
             machine,
             queue,
-            b"java/lang/ref/ReferenceQueue",
+            BuiltInClass::ReferenceQueue,
             visits,
         );
     }

@@ -1,8 +1,7 @@
 -- The call of a static method after quiet classes became done, by its code.
 use Rattle.std.proofs.Common.{◌≡◌, ℕ, zero, suc, ◌<◌, ◌≤◌, ◌&&◌, Bool, true, false, List, [], ◌∷◌, length, Option, Some, None, All, refl, ◌∙◌, ap, arith}
-use Rattle.std.specs.Prelude.{not, codes, find, if◌then◌else◌, option_map}
+use Rattle.std.specs.Prelude.{not, codes, if◌then◌else◌}
 use Rattle.std.specs.List.{list_all}
-use Rattle.std.specs.Str.{bytes_eq}
 use Rattle.std.proofs.lemmas.Slice.Eq.{bytes_eq-Decides}
 use Rattle.et_base.specs.declared.value.Value.{Value}
 use Rattle.et_class.specs.Names.{has}
@@ -13,8 +12,10 @@ use Rattle.et_program.specs.Entries.{Linked, method_at, is_static}
 use Rattle.et_program.specs.declared.info.MethodInfo.{MethodInfo}
 use Rattle.et_event.specs.declared.errors.GuestError.{GuestError}
 use Rattle.et_event.specs.declared.errors.GuestError.TheVariants.{AbstractMethodError, UnsatisfiedLinkError}
-use Rattle.et_event.specs.declared.rows.BuiltIn.{BuiltIn}
-use Rattle.et_event.specs.BuiltIns.{built_in_event, built_in_of, built_ins, done_by}
+use Rattle.et_program.specs.BootMethods.BuiltIn.{BuiltIn}
+use Rattle.et_program.specs.BootTable.{built_in_called}
+use Rattle.et_program.specs.BuiltIns.{built_in_of}
+use Rattle.et_event.specs.BuiltIns.{built_in_event, done_by}
 use Rattle.et_event.specs.Calls.{arguments_of, enters_method}
 use Rattle.et_event.specs.Checks.{throws_unless}
 use Rattle.et_event.specs.Frames.{first_reference}
@@ -26,10 +27,9 @@ use Rattle.et_event.specs.Programs.{HasBuiltInMethods, is_initializing}
 
 -- A METHOD NAMED <clinit> is no built-in one
 
-no_row : (abstract : Bool) (m : MethodInfo) (name : List ℕ) → name ≡ codes "<clinit>"
-    → (if abstract then None else option_map (λ (row : List ℕ × List ℕ × BuiltIn). row.2) (find (λ (row : List ℕ × List ℕ × BuiltIn). bytes_eq row.0 name && bytes_eq row.1 m.descriptor) built_ins)) ≡ None
+no_row : (abstract : Bool) (m : MethodInfo) (name : List ℕ) → name ≡ codes "<clinit>" → (if abstract then None else built_in_called name m.descriptor) ≡ None
 no_row true m name e = refl
-no_row false m name e = ap (λ (n : List ℕ). option_map (λ (row : List ℕ × List ℕ × BuiltIn). row.2) (find (λ (row : List ℕ × List ℕ × BuiltIn). bytes_eq row.0 n && bytes_eq row.1 m.descriptor) built_ins)) e
+no_row false m name e = ap (λ (n : List ℕ). built_in_called n m.descriptor) e
 
 none_built : (m : MethodInfo) → m.name ≡ codes "<clinit>" → built_in_of m ≡ None
 none_built m e = no_row (has m.flags ABSTRACT) m m.name e

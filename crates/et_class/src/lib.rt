@@ -19,7 +19,7 @@ mod reading;
 
 pub use class::{ClassFile, read_class};
 pub use et_code::Code;
-pub use et_pool::{CallShape, Operand, Pool, Returned, call_shape, tags};
+pub use et_pool::{CallShape, Operand, Pool, Returned, call_shape, descriptor, tags};
 pub use fault::{
     ATTRIBUTE, ClassFault, DESCRIPTOR, FLAGS, MAGIC, MEMBER, POOL, SHORT, TRAILING, VERSION,
 };

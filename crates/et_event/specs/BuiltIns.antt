@@ -1,11 +1,9 @@
 -- THE BUILT-IN METHODS WITHOUT CODE. Each takes one event and no frame: its arguments are taken, what it gives is pushed,
 -- and the pc goes on.
-use Rattle.std.specs.Prelude.{ℕ, ◌&&◌, nat_lt, Bool, true, false, if◌then◌else◌, List, [], ◌∷◌, ◌++◌, length, drop, codes, Option, Some, None, option_map, slice_index_or, find}
-use Rattle.std.specs.Str.{bytes_eq}
+use Rattle.std.specs.Prelude.{ℕ, nat_lt, Bool, true, false, if◌then◌else◌, List, [], ◌∷◌, ◌++◌, length, drop, codes, Option, Some, None, slice_index_or}
 use Rattle.et_base.specs.declared.value.Value.{Value}
 use Rattle.et_base.specs.declared.value.Value.TheVariants.{Unset, Ref}
-use Rattle.et_class.specs.Names.{has}
-use Rattle.et_class.specs.declared.flags.TheConstants.{ABSTRACT}
+use Rattle.et_program.specs.BuiltIns.{built_in_of}
 use Rattle.et_program.specs.Members.{is_subclass}
 use Rattle.et_program.specs.declared.info.MethodInfo.{MethodInfo}
 use Rattle.et_heap.specs.Objects.{object_at, slot_of, with_referent, with_queue, with_object_at, referent_of, referent_value}
@@ -14,8 +12,8 @@ use Rattle.et_state.specs.Threads.{new_thread, thread_with, most_threads}
 use Rattle.et_state.specs.State.{Kept}
 use Rattle.et_state.specs.Words.{thread_at, with_new_thread}
 use Rattle.et_state.specs.Outcome.{Outcome}
-use Rattle.et_event.specs.declared.rows.BuiltIn.{BuiltIn}
-use Rattle.et_event.specs.declared.rows.BuiltIn.TheVariants.{Nothing, SetMessage, SetMessageAndCause, GetMessage, GetCause, SetTarget, Start, Join, SetReferent, SetReferentAndQueue, GetReferent, ClearReferent, Poll}
+use Rattle.et_program.specs.BootMethods.BuiltIn.{BuiltIn}
+use Rattle.et_program.specs.BootMethods.BuiltIn.TheVariants.{Nothing, SetMessage, SetMessageAndCause, GetMessage, GetCause, SetTarget, Start, Join, SetReferent, SetReferentAndQueue, GetReferent, ClearReferent, Poll}
 use Rattle.et_event.specs.declared.errors.GuestError.TheVariants.{AbstractMethodError, IllegalThreadStateException, OutOfMemoryError}
 use Rattle.et_event.specs.Moments.{Moment, Doing, current_frame, doing_with_guest, with_frame, object_class, slot_written, goes, throws}
 use Rattle.et_event.specs.Errors.{class_called}
@@ -24,37 +22,6 @@ use Rattle.et_event.specs.Kinds.{or_zero}
 use Rattle.et_class.specs.PoolOperands.Operand.TheVariants as operand
 use Rattle.et_event.specs.Sites.{Site}
 use Rattle.et_event.specs.Frames.{first_reference}
-
--- WHICH ONE: by name and descriptor, which no two with different rows share
-abbrev pub built_ins : List (List ℕ × List ℕ × BuiltIn)
-built_ins =
-    -- of Object, of Thread, of ReferenceQueue, and of Throwable and each built-in class below it
-    (codes "<init>", codes "()V", Nothing)
-    -- of Throwable and each built-in class below it: slot 0 is the message, slot 1 the cause
-    ∷ (codes "<init>", codes "(Ljava/lang/String;)V", SetMessage)
-    ∷ (codes "<init>", codes "(Ljava/lang/String;Ljava/lang/Throwable;)V", SetMessageAndCause)
-    ∷ (codes "getMessage", codes "()Ljava/lang/String;", GetMessage)
-    ∷ (codes "getCause", codes "()Ljava/lang/Throwable;", GetCause)
-    ∷ (codes "addSuppressed", codes "(Ljava/lang/Throwable;)V", Nothing)
-    -- of Thread: slot 0 is the target
-    ∷ (codes "<init>", codes "(Ljava/lang/Runnable;)V", SetTarget)
-    ∷ (codes "start", codes "()V", Start)
-    ∷ (codes "join", codes "()V", Join)
-    -- of WeakReference, and of Reference
-    ∷ (codes "<init>", codes "(Ljava/lang/Object;)V", SetReferent)
-    ∷ (codes "<init>", codes "(Ljava/lang/Object;Ljava/lang/ref/ReferenceQueue;)V", SetReferentAndQueue)
-    ∷ (codes "get", codes "()Ljava/lang/Object;", GetReferent)
-    ∷ (codes "clear", codes "()V", ClearReferent)
-    -- of ReferenceQueue
-    ∷ (codes "poll", codes "()Ljava/lang/ref/Reference;", Poll)
-    ∷ []
-
-abbrev pub is_called : MethodInfo → List ℕ × List ℕ × BuiltIn → Bool
-is_called m row = bytes_eq row.0 m.name && bytes_eq row.1 m.descriptor
-
--- a method without code that is abstract is none
-abbrev pub built_in_of : MethodInfo → Option BuiltIn
-built_in_of m = if has m.flags ABSTRACT then None else option_map (λ row. row.2) (find (is_called m) built_ins)
 
 -- WHAT IT DOES
 

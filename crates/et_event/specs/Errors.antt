@@ -1,5 +1,8 @@
 -- The classes of what the machine itself throws.
-use Rattle.std.specs.Prelude.{ℕ, List, codes, unwrap_or}
+use Rattle.std.specs.Prelude.{ℕ, List, unwrap_or}
+use Rattle.et_program.specs.BootNames.{name_of}
+use Rattle.et_program.specs.BootNamed.BuiltInClass.{BuiltInClass}
+use Rattle.et_program.specs.BootNamed.BuiltInClass.TheVariants as class
 use Rattle.et_program.specs.Entries.{Linked}
 use Rattle.et_program.specs.Members.{class_named}
 use Rattle.et_program.specs.declared.errors.LinkError.{LinkError}
@@ -7,25 +10,28 @@ use Rattle.et_program.specs.declared.errors.LinkError.TheVariants.{NoClassDefFou
 use Rattle.et_event.specs.declared.errors.GuestError.{GuestError}
 use Rattle.et_event.specs.declared.errors.GuestError.TheVariants.{AbstractMethodError, ArithmeticException, ArrayIndexOutOfBoundsException, ArrayStoreException, ClassCastException, ExceptionInInitializerError, IllegalMonitorStateException, IllegalThreadStateException, IncompatibleClassChangeError, InstantiationError, NegativeArraySizeException, NoClassDefFoundError, NoSuchFieldError, NoSuchMethodError, NullPointerException, OutOfMemoryError, StackOverflowError, UnsatisfiedLinkError}
 
+abbrev pub class_of_error : GuestError → BuiltInClass
+class_of_error AbstractMethodError = class.AbstractMethodError
+class_of_error ArithmeticException = class.ArithmeticException
+class_of_error ArrayIndexOutOfBoundsException = class.ArrayIndexOutOfBoundsException
+class_of_error ArrayStoreException = class.ArrayStoreException
+class_of_error ClassCastException = class.ClassCastException
+class_of_error ExceptionInInitializerError = class.ExceptionInInitializerError
+class_of_error IllegalMonitorStateException = class.IllegalMonitorStateException
+class_of_error IllegalThreadStateException = class.IllegalThreadStateException
+class_of_error IncompatibleClassChangeError = class.IncompatibleClassChangeError
+class_of_error InstantiationError = class.InstantiationError
+class_of_error NegativeArraySizeException = class.NegativeArraySizeException
+class_of_error NoClassDefFoundError = class.NoClassDefFoundError
+class_of_error NoSuchFieldError = class.NoSuchFieldError
+class_of_error NoSuchMethodError = class.NoSuchMethodError
+class_of_error NullPointerException = class.NullPointerException
+class_of_error OutOfMemoryError = class.OutOfMemoryError
+class_of_error StackOverflowError = class.StackOverflowError
+class_of_error UnsatisfiedLinkError = class.UnsatisfiedLinkError
+
 abbrev pub error_name : GuestError → List ℕ
-error_name AbstractMethodError = codes "java/lang/AbstractMethodError"
-error_name ArithmeticException = codes "java/lang/ArithmeticException"
-error_name ArrayIndexOutOfBoundsException = codes "java/lang/ArrayIndexOutOfBoundsException"
-error_name ArrayStoreException = codes "java/lang/ArrayStoreException"
-error_name ClassCastException = codes "java/lang/ClassCastException"
-error_name ExceptionInInitializerError = codes "java/lang/ExceptionInInitializerError"
-error_name IllegalMonitorStateException = codes "java/lang/IllegalMonitorStateException"
-error_name IllegalThreadStateException = codes "java/lang/IllegalThreadStateException"
-error_name IncompatibleClassChangeError = codes "java/lang/IncompatibleClassChangeError"
-error_name InstantiationError = codes "java/lang/InstantiationError"
-error_name NegativeArraySizeException = codes "java/lang/NegativeArraySizeException"
-error_name NoClassDefFoundError = codes "java/lang/NoClassDefFoundError"
-error_name NoSuchFieldError = codes "java/lang/NoSuchFieldError"
-error_name NoSuchMethodError = codes "java/lang/NoSuchMethodError"
-error_name NullPointerException = codes "java/lang/NullPointerException"
-error_name OutOfMemoryError = codes "java/lang/OutOfMemoryError"
-error_name StackOverflowError = codes "java/lang/StackOverflowError"
-error_name UnsatisfiedLinkError = codes "java/lang/UnsatisfiedLinkError"
+error_name error = name_of (class_of_error error)
 
 -- a built-in class, which each program has
 abbrev pub class_called : Linked → List ℕ → ℕ

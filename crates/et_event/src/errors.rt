@@ -1,9 +1,9 @@
 //! What the machine itself throws.
 
 ghost use Rattle.std.specs.Prelude.{◌≡◌};
-ghost use Rattle.et_event.specs.Errors.{error_of, error_name};
+ghost use Rattle.et_event.specs.Errors.{class_of_error, error_of};
 
-use et_program::LinkError;
+use et_program::{BuiltInClass, LinkError};
 
 /// The class of an exception or error that an instruction throws (JVMS 2.10), in `java/lang`.
 #[derive(Clone, Copy, Debug, PartialEq, Eq)]
@@ -42,31 +42,30 @@ impl GuestError {
         }
     }
 
-    /// The name of the class, as a class file spells it.
-    pub fn class_name(self) -> &'static [u8]
-        ensures { result.now ≡ error_name self }
+    /// The built-in class that it is.
+    pub fn class(self) -> BuiltInClass
+        ensures { result ≡ class_of_error self }
     {
         match self {
-            GuestError::AbstractMethodError => b"java/lang/AbstractMethodError",
-            GuestError::ArithmeticException => b"java/lang/ArithmeticException",
-            GuestError::ArrayIndexOutOfBoundsException => {
-                b"java/lang/ArrayIndexOutOfBoundsException"
-            }
-            GuestError::ArrayStoreException => b"java/lang/ArrayStoreException",
-            GuestError::ClassCastException => b"java/lang/ClassCastException",
-            GuestError::ExceptionInInitializerError => b"java/lang/ExceptionInInitializerError",
-            GuestError::IllegalMonitorStateException => b"java/lang/IllegalMonitorStateException",
-            GuestError::IllegalThreadStateException => b"java/lang/IllegalThreadStateException",
-            GuestError::IncompatibleClassChangeError => b"java/lang/IncompatibleClassChangeError",
-            GuestError::InstantiationError => b"java/lang/InstantiationError",
-            GuestError::NegativeArraySizeException => b"java/lang/NegativeArraySizeException",
-            GuestError::NoClassDefFoundError => b"java/lang/NoClassDefFoundError",
-            GuestError::NoSuchFieldError => b"java/lang/NoSuchFieldError",
-            GuestError::NoSuchMethodError => b"java/lang/NoSuchMethodError",
-            GuestError::NullPointerException => b"java/lang/NullPointerException",
-            GuestError::OutOfMemoryError => b"java/lang/OutOfMemoryError",
-            GuestError::StackOverflowError => b"java/lang/StackOverflowError",
-            GuestError::UnsatisfiedLinkError => b"java/lang/UnsatisfiedLinkError",
+            GuestError::AbstractMethodError => BuiltInClass::AbstractMethodError,
+            GuestError::ArithmeticException => BuiltInClass::ArithmeticException,
+            GuestError::ArrayIndexOutOfBoundsException =>
+                BuiltInClass::ArrayIndexOutOfBoundsException,
+            GuestError::ArrayStoreException => BuiltInClass::ArrayStoreException,
+            GuestError::ClassCastException => BuiltInClass::ClassCastException,
+            GuestError::ExceptionInInitializerError => BuiltInClass::ExceptionInInitializerError,
+            GuestError::IllegalMonitorStateException => BuiltInClass::IllegalMonitorStateException,
+            GuestError::IllegalThreadStateException => BuiltInClass::IllegalThreadStateException,
+            GuestError::IncompatibleClassChangeError => BuiltInClass::IncompatibleClassChangeError,
+            GuestError::InstantiationError => BuiltInClass::InstantiationError,
+            GuestError::NegativeArraySizeException => BuiltInClass::NegativeArraySizeException,
+            GuestError::NoClassDefFoundError => BuiltInClass::NoClassDefFoundError,
+            GuestError::NoSuchFieldError => BuiltInClass::NoSuchFieldError,
+            GuestError::NoSuchMethodError => BuiltInClass::NoSuchMethodError,
+            GuestError::NullPointerException => BuiltInClass::NullPointerException,
+            GuestError::OutOfMemoryError => BuiltInClass::OutOfMemoryError,
+            GuestError::StackOverflowError => BuiltInClass::StackOverflowError,
+            GuestError::UnsatisfiedLinkError => BuiltInClass::UnsatisfiedLinkError,
         }
     }
 }

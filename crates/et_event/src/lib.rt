@@ -11,7 +11,7 @@ pub use errors::GuestError;
 pub use et_class::Operand;
 pub use families::Family;
 pub use rows::{
-    Arithmetic, BuiltIn, CallKind, CallRow, Comparison, Condition, Conversion, Division, Elements,
-    FrameRow, HeapRow, Local, MonitorRow, Number, Rearrangement, Row, Shift,
+    Arithmetic, CallKind, CallRow, Comparison, Condition, Conversion, Division, Elements, FrameRow,
+    HeapRow, Local, MonitorRow, Number, Rearrangement, Row, Shift,
 };
 pub use table::row_of;

@@ -209,28 +209,3 @@ pub enum Row {
     Throw,
     Monitor(MonitorRow),
 }
-
-/// What a built-in method without code does.
-#[derive(Clone, Copy, Debug, PartialEq, Eq)]
-pub enum BuiltIn {
-    /// Nothing: the constructors without parameters, and `addSuppressed`.
-    Nothing,
-    /// The constructor of a throwable with a message.
-    SetMessage,
-    /// The constructor of a throwable with a message and a cause.
-    SetMessageAndCause,
-    GetMessage,
-    GetCause,
-    /// The constructor of a thread with a target.
-    SetTarget,
-    Start,
-    Join,
-    /// The constructor of a weak reference without a queue.
-    SetReferent,
-    /// The constructor of a weak reference with a queue.
-    SetReferentAndQueue,
-    GetReferent,
-    ClearReferent,
-    /// `poll` of a reference queue.
-    Poll,
-}

@@ -22,14 +22,15 @@ use Rattle.et_state.specs.State.{Kept}
 use Rattle.et_state.specs.Words.{thread_at}
 use Rattle.et_state.specs.declared.records.Record.TheVariants.{Enter, Exit, Unwind}
 use Rattle.et_state.specs.Outcome.{Outcome}
-use Rattle.et_event.specs.declared.rows.BuiltIn.{BuiltIn}
-use Rattle.et_event.specs.declared.rows.BuiltIn.TheVariants as built
+use Rattle.et_program.specs.BootMethods.BuiltIn.{BuiltIn}
+use Rattle.et_program.specs.BootMethods.BuiltIn.TheVariants as built
 use Rattle.et_event.specs.declared.rows.CallKind.{CallKind}
 use Rattle.et_event.specs.declared.rows.CallKind.TheVariants.{Virtual, Special, Static, Interface}
 use Rattle.et_event.specs.PoolOperands.Operand.{Operand}
 use Rattle.et_event.specs.PoolOperands.Operand.TheVariants as operand
 use Rattle.et_event.specs.declared.errors.GuestError.TheVariants as errors
-use Rattle.et_event.specs.BuiltIns.{built_in_of, argument, answering, reference_in, starts_thread, with_thread_for, has_thread_ended, built_in_row, done_by, built_in_event, is_null_or_of_class}
+use Rattle.et_program.specs.BuiltIns.{built_in_of}
+use Rattle.et_event.specs.BuiltIns.{argument, answering, reference_in, starts_thread, with_thread_for, has_thread_ended, built_in_row, done_by, built_in_event, is_null_or_of_class}
 use Rattle.et_event.specs.Calls.{is_static_call, call_fits, with_type, with_method, taking, enters_method, is_of_owner, special_class, dispatched, is_as, arguments_of, entry_count, invoke, entering_frame, entry_arguments, enters_first, enters_run, entry_call, with_returned, class_done_by, frame_returned, returned_by, return}
 use Rattle.et_event.specs.Checks.{after_selection, ill_typed_unless, entries_of}
 use Rattle.et_event.specs.Errors.{class_called, error_class}

@@ -14,7 +14,7 @@ use Rattle.et_linked.specs.ClassNames.{HasClassName}
 use Rattle.et_linked.proofs.Arguments.{arguments_called, arguments_at}
 use Rattle.et_linked.proofs.BuiltIn.{IsFieldless, of_string, no_fields_within}
 use Rattle.et_linked.proofs.Making.{class_in, named_in}
-use Rattle.et_linked.proofs.PlacesAbove.{place_in_set}
+use Rattle.et_program.proofs.Standing.{place_in_set}
 use Rattle.et_history.specs.Allocations.{HasArguments}
 use Rattle.et_history.specs.Records.{HasPlainStrings}
 

@@ -25,8 +25,8 @@ use Rattle.et_state.specs.State.{Kept}
 use Rattle.et_state.specs.Words.{thread_at}
 use Rattle.et_state.specs.declared.records.Record.TheVariants as records
 use Rattle.et_state.specs.Outcome.{Outcome}
-use Rattle.et_event.specs.declared.rows.BuiltIn.{BuiltIn}
-use Rattle.et_event.specs.declared.rows.BuiltIn.TheVariants as built
+use Rattle.et_program.specs.BootMethods.BuiltIn.{BuiltIn}
+use Rattle.et_program.specs.BootMethods.BuiltIn.TheVariants as built
 use Rattle.et_event.specs.declared.rows.CallKind.{CallKind}
 use Rattle.et_event.specs.declared.rows.CallKind.TheVariants.{Virtual, Special, Static, Interface}
 use Rattle.et_event.specs.declared.rows.CallRow.TheVariants as calls
@@ -34,7 +34,8 @@ use Rattle.et_event.specs.PoolOperands.Operand.{Operand}
 use Rattle.et_event.specs.declared.rows.Row.{Row}
 use Rattle.et_event.specs.declared.rows.Row.TheVariants as row
 use Rattle.et_event.specs.declared.errors.GuestError.TheVariants as errors
-use Rattle.et_event.specs.BuiltIns.{built_in_of, argument, answering, reference_in, with_referent_of, starts_thread, with_thread_for, has_thread_ended, is_fit_for, row_done, done_by, built_in_event, with_reference_made, with_first_taken}
+use Rattle.et_program.specs.BuiltIns.{built_in_of}
+use Rattle.et_event.specs.BuiltIns.{argument, answering, reference_in, with_referent_of, starts_thread, with_thread_for, has_thread_ended, is_fit_for, row_done, done_by, built_in_event, with_reference_made, with_first_taken}
 use Rattle.et_event.specs.Calls.{is_static_call, call_fits, with_type, with_method, taking, enters_method, is_of_owner, special_class, dispatched, is_as, arguments_of, entry_count, invoke, entering_frame, entry_arguments, enters_first, enters_run, entry_call, with_returned, class_done_by, frame_returned, returned_by, return}
 use Rattle.et_event.specs.Checks.{entries_of}
 use Rattle.et_event.specs.Errors.{class_called, error_class}

@@ -7,7 +7,6 @@ ghost use Rattle.et_state.specs.declared.records.Record.TheVariants.{Alloc};
 ghost use Rattle.et_state.specs.Words.{static_at, with_static, steps_guest, with_new_object};
 ghost use Rattle.et_state.specs.Interned.{object_of, interned_objects};
 ghost use Rattle.et_program.specs.Entries.{field_at};
-ghost use Rattle.et_event.specs.Errors.{class_called};
 ghost use Rattle.et_event.specs.Kinds.{narrowed_int};
 ghost use Rattle.et_event.specs.Moments.{moment, fits_heap};
 ghost use Rattle.et_event.specs.Sites.{AString, constant_at, pool_of_class};
@@ -19,7 +18,7 @@ use et_base::{ClassId, FieldId, NoMemory, ObjectId, ThreadId, Value, to_byte, to
 use et_heap::MakeFault;
 use et_parts::{class_called, slots_of};
 use et_pool::Pool;
-use et_program::{FieldInfo, Program};
+use et_program::{BuiltInClass, FieldInfo, Program};
 use et_state::{Lines, Machine, Record};
 
 /// What a field of this descriptor keeps of an int (JVMS 2.3.1).
@@ -53,7 +52,7 @@ fn make_string(
         bytes.now
         (so_far machine.old out.old)) machine.old machine.new out.new) }
 {
-    let class = class_called(program, b"java/lang/String");
+    let class = class_called(program, BuiltInClass::String);
     let slots = slots_of(program, class);
     let object = match machine.heap.make_object(class, slots) {
         Ok(object) => object,

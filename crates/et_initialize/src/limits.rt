@@ -16,7 +16,7 @@ ghost use Rattle.et_initialize.specs.Texts.{constant_text as text_in, has_text, 
 use et_base::{ClassId, FieldId, NoMemory};
 use et_heap::{MOST_OBJECTS, MOST_SLOTS};
 use et_parts::{class_called, slots_of};
-use et_program::Program;
+use et_program::{BuiltInClass, Program};
 use et_state::{ClassState, Machine};
 use std::alloc::Global;
 
@@ -159,7 +159,7 @@ fn count_classes(
 fn string_slots(program: &Program) -> u32
     ensures { result ≡ slots_of_string program.now }
 {
-    slots_of(program, class_called(program, b"java/lang/String"))
+    slots_of(program, class_called(program, BuiltInClass::String))
 }
 
 /// Whether so many strings, of so many slots each, and so many objects and slots besides may be made.

@@ -236,7 +236,7 @@ fn throw_prepared(
         (prepared (moment program.now machine.old thread) classes.now (begins
         (moment program.now machine.old thread)))) end machine.old machine.new out.old out.new) }
 {
-    let class = class_called(program, error.class_name());
+    let class = class_called(program, error.class());
     let slots = slots_of(program, class);
     begin_prepared(program, machine, thread, classes, out)?;
     let object = make_object(machine, thread, class, slots, out)?;
@@ -266,7 +266,7 @@ pub fn throw_after(
         (prepared (moment program.now machine.old thread) classes.now (begins
         (moment program.now machine.old thread)))) end machine.old machine.new out.old out.new) }
 {
-    let slots = slots_of(program, class_called(program, error.class_name()));
+    let slots = slots_of(program, class_called(program, error.class()));
     if !prepared_fit(alloc, program, machine, classes, 1, slots)? {
         return Ok(EventEnd::ObjectLimit);
     }

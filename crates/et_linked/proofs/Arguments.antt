@@ -35,7 +35,8 @@ use Rattle.et_state.specs.Start.{argument_class}
 use Rattle.et_linked.specs.ClassNames.{HasClassName}
 use Rattle.et_linked.proofs.Places.{at_behind, first_behind, first_numbered_behind, none_first, one_of}
 use Rattle.et_linked.proofs.BuiltIn.{has_no_fields, of_string, no_boot_array, object_fieldless, cloneable_fieldless, serializable_fieldless}
-use Rattle.et_linked.proofs.PlacesAbove.{NoField, place_in_set}
+use Rattle.et_program.proofs.Standing.{place_in_set}
+use Rattle.et_linked.proofs.PlacesAbove.{NoField}
 use Rattle.et_linked.proofs.Making.{fields_elsewhere, placed_all}
 
 -- the type of the arguments of main

@@ -29,9 +29,10 @@ use Rattle.et_event.specs.declared.errors.GuestError.{GuestError}
 use Rattle.et_event.specs.Errors.{class_called, error_class, error_name}
 use Rattle.et_event.specs.Sound.{IsSoundObject, slots_by}
 use Rattle.et_event.specs.Programs.{MakesSound, new_of, MayHold}
-use Rattle.et_linked.proofs.Places.{at_numbered, first_numbered, one_of}
+use Rattle.et_program.proofs.Standing.{named_in_tables}
+use Rattle.et_linked.proofs.Places.{at_numbered, one_of}
 use Rattle.et_linked.proofs.BuiltIn.{has_no_fields, no_fields_within, none_behind, boot_place, fields_of_others, IsFieldless, of_error, of_string}
-use Rattle.et_linked.proofs.PlacesAbove.{NoField, IsFree, place_in_set, free_above}
+use Rattle.et_linked.proofs.PlacesAbove.{NoField, IsFree, free_above}
 
 -- FIELDS: each is of a class that declares one
 
@@ -64,11 +65,7 @@ class_in files rows pools k lt =
     ∙ ap (λ i. set_class h i (slice_index_or (set_of files) k no_outline)) (let same : 0 + k ≡ k = omega arith in same)
 
 pub named_in : (files : List LoadedClass) (rows : List Ancestry) (pools : List Constants) (name : List ℕ) (k : ℕ) → boot_place name ≡ Some k → class_called (program_with files rows pools) name ≡ k
-named_in files rows pools name k h =
-    let heads : Heads = heads_of files rows in
-    ap (λ (o : Option ℕ). unwrap_or o 0)
-    (first_numbered (λ (c : Outline). bytes_eq name c.name) (λ (c : ClassEntry). bytes_eq name c.info.name) (λ j c. set_class heads j c) (λ i c. refl) 0 (set_of files)
-    (numbered (λ j n. array_class heads j n ∷ []) (length (set_of files)) (class_names_of files)) k (place_in_set files name k h))
+named_in files rows pools name k h = ap (λ (o : Option ℕ). unwrap_or o 0) (named_in_tables files rows pools name k h)
 
 -- what a class that declares no field is below declares none either
 pub no_field_above : (p : Linked) (c q : ℕ) → NoField c → All NoField (class_at p c).supers → All NoField (class_at p c).superinterfaces → is_subclass p c q ≡ true → NoField q

@@ -6,6 +6,7 @@ use Rattle.std.specs.List.{slice_index_or, position_from, list_any}
 use Rattle.std.proofs.lemmas.Bool.{eqb-true, or_cases}
 use Rattle.std.proofs.lemmas.List.Elements.{All-head, All-tail}
 use Rattle.et_program.specs.MembersOf.{numbered}
+use Rattle.et_program.proofs.Standing.{first_or}
 
 -- at a place of the list in front
 pub at_map : {X Y : Type 0} (f : X → Y) (xs : List X) (ys : List Y) (k : ℕ) (d : X) (e : Y) → k < length xs → slice_index_or (map f xs ++ ys) k e ≡ f (slice_index_or xs k d)
@@ -31,33 +32,12 @@ at_behind (x ∷ xs) ys e = at_behind xs ys e
 
 -- THE FIRST PLACE at which a test holds
 
-abbrev first_or : Bool → ℕ → Option ℕ → Option ℕ
-first_or b k o = cond b (Some k) o
-
--- one element, of which two tests say the same
-front_step : (b c : Bool) (k j : ℕ) (o r : Option ℕ) → c ≡ b → first_or b k o ≡ Some j → (o ≡ Some j → r ≡ Some j) → first_or c k r ≡ Some j
-front_step true c k j o r e h rest = ap (λ d. first_or d k r) e ∙ h
-front_step false c k j o r e h rest = ap (λ d. first_or d k r) e ∙ rest h
-
-nowhere : (j : ℕ) → None ≡ Some j → ⊥
-nowhere j h = cc
-
 not_here : (k : ℕ) → Some k ≡ None → ⊥
 not_here k h = cc
 
 behind_step : (b c : Bool) (k : ℕ) (o r s : Option ℕ) → c ≡ b → first_or b k o ≡ None → (o ≡ None → r ≡ s) → first_or c k r ≡ s
 behind_step true c k o r s e h rest = absurd (not_here k h)
 behind_step false c k o r s e h rest = ap (λ d. first_or d k r) e ∙ rest h
-
-pub first_in_front : {X Y : Type 0} (t : X → Bool) (u : Y → Bool) (f : X → Y) → ((x : X) → u (f x) ≡ t x) → (k : ℕ) (xs : List X) (ys : List Y) (j : ℕ) → position_from t k xs ≡ Some j → position_from u k (map f xs ++ ys) ≡ Some j
-first_in_front t u f same k [] ys j h = absurd (nowhere j h)
-first_in_front t u f same k (x ∷ xs) ys j h =
-    front_step (t x) (u (f x)) k j (position_from t (k + 1) xs) (position_from u (k + 1) (map f xs ++ ys)) (same x) h (first_in_front t u f same (k + 1) xs ys j)
-
-pub first_numbered : {X Y : Type 0} (t : X → Bool) (u : Y → Bool) (f : ℕ → X → Y) → ((i : ℕ) (x : X) → u (f i x) ≡ t x) → (k : ℕ) (xs : List X) (ys : List Y) (j : ℕ) → position_from t k xs ≡ Some j → position_from u k (numbered (λ i x. f i x ∷ []) k xs ++ ys) ≡ Some j
-first_numbered t u f same k [] ys j h = absurd (nowhere j h)
-first_numbered t u f same k (x ∷ xs) ys j h =
-    front_step (t x) (u (f k x)) k j (position_from t (k + 1) xs) (position_from u (k + 1) (numbered (λ i y. f i y ∷ []) (k + 1) xs ++ ys)) (same k x) h (first_numbered t u f same (k + 1) xs ys j)
 
 -- .. behind a list where it holds of none
 

@@ -13,8 +13,9 @@ use Rattle.et_hierarchy.specs.Links.{LinkEntry, links, links_of, no_links}
 use Rattle.et_hierarchy.specs.Ancestry.{Ancestry, ancestry_at, ancestry_of, class_added, added_all, supers_over, superinterfaces_over, IsAncestry}
 use Rattle.et_program.specs.Loaded.{LoadedClass}
 use Rattle.et_program.specs.Files.{boots, set_of, boot_outline, file_outline}
+use Rattle.et_program.proofs.Standing.{place_in_set}
 use Rattle.et_link.proofs.TabledLemmas.{length-set}
-use Rattle.et_linked.proofs.Places.{at_map, at_mapped, first_in_front}
+use Rattle.et_linked.proofs.Places.{at_map, at_mapped}
 use Rattle.et_linked.proofs.BuiltIn.{has_no_fields, no_fields_within, boot_place, is_before, above_in_table}
 
 -- LISTS PUT TOGETHER
@@ -74,9 +75,6 @@ row_of : (rows : List Ancestry) (k : ℕ) (l : LinkEntry) → AreFree rows l →
 row_of rows k l h = row_by rows k l.above l.interfaces h.superclass h.interfaces
 
 -- BY NAME: a name of the table is that of the same class in the set of a program
-
-pub place_in_set : (files : List LoadedClass) (name : List ℕ) (j : ℕ) → boot_place name ≡ Some j → class_place (set_of files) name ≡ Some j
-place_in_set files name j h = first_in_front (λ (c : BootClassOf). bytes_eq name c.name) (λ (o : Outline). bytes_eq name o.name) boot_outline (λ c. refl) 0 boots (map file_outline files) j h
 
 -- the class of this name stands before class k and declares no field
 record IsNamedBefore (files : List LoadedClass) (k : ℕ) (name : List ℕ) : Type 0 where

@@ -16,7 +16,7 @@ ghost use Rattle.et_event.specs.Sites.{AString};
 
 use et_base::{NoMemory, ObjectId, ThreadId, Value};
 use et_parts::{class_called, ill_typed, make_instance};
-use et_program::Program;
+use et_program::{BuiltInClass, Program};
 use et_state::{EventEnd, Lines, Machine};
 
 /// The event in which the string of a constant that has its object is pushed.
@@ -62,7 +62,7 @@ fn make_string(
         (Some (AString bytes.now))) end machine.old machine.new out.old out.new) }
     ensures err { OnErr result (machine.new.guest ≡ machine.old.guest) }
 {
-    let class = class_called(program, b"java/lang/String");
+    let class = class_called(program, BuiltInClass::String);
     let Some(object) = make_instance(program, machine, thread, class, out)? else {
         return Ok(EventEnd::ObjectLimit);
     };

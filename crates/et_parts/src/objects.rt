@@ -1,7 +1,8 @@
 //! Objects that an event makes.
-ghost use Rattle.std.specs.Prelude.{◌≡◌, ◌<◌, ◌^◌, IfOk, OnErr};
+ghost use Rattle.std.specs.Prelude.{◌≡◌, ◌<◌, ◌^◌, IfOk, OnErr, length};
 ghost use Rattle.et_state.specs.State.{kept_of};
 ghost use Rattle.et_state.specs.Sound.{IsSound};
+ghost use Rattle.et_program.specs.BootNames.{name_of};
 ghost use Rattle.et_program.specs.Entries.{class_at};
 ghost use Rattle.et_event.specs.Moments.{begins, instance_made, moment};
 ghost use Rattle.et_event.specs.Errors.{class_called as called};
@@ -9,14 +10,17 @@ ghost use Rattle.et_parts.specs.Making.{MakesObject};
 
 use et_base::{ClassId, NoMemory, ObjectId, ThreadId};
 use et_heap::MakeFault;
-use et_program::Program;
+use et_program::{BuiltInClass, Program};
 use et_state::{Lines, Machine, Record};
 
-/// The built-in class of this name.
-pub fn class_called(program: &Program, name: &[u8]) -> ClassId
-    ensures { result ≡ called program.now name.now }
+/// The number of a built-in class. The built-in classes are the first of each program, in the order of their table.
+pub fn class_called(program: &Program, class: BuiltInClass) -> ClassId
+    ensures value { result ≡ called program.now (name_of class) }
+    ensures within { result < length program.now.classes }
 {
-    program.resolve_class(name).unwrap_or(ClassId::new(0))
+    // A law: it tells the prover, and does nothing.
+    program.is_linked();
+    ClassId::new(class.place())
 }
 
 /// How many slots an instance of a class has; 0 for a number that no class has.

@@ -31,7 +31,7 @@ pub fn throw_error(
         (moment program.now machine.old thread))) end machine.old machine.new out.old out.new) }
     ensures err { OnErr result (machine.new.guest ≡ machine.old.guest) }
 {
-    let class = class_called(program, error.class_name());
+    let class = class_called(program, error.class());
     let Some(object) = make_instance(program, machine, thread, class, out)? else {
         return Ok(EventEnd::ObjectLimit);
     };

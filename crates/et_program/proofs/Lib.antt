@@ -8,3 +8,4 @@ pub mod Puts
 pub mod PoolLemmas
 pub mod SignatureLemmas
 pub mod ShapeLemmas
+pub mod Standing

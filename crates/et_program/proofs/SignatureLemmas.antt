@@ -8,7 +8,7 @@ use Rattle.et_program.specs.declared.info.MethodInfo.{MethodInfo}
 use Rattle.et_program.specs.declared.signatures.Signature.{Signature}
 use Rattle.et_program.specs.Indices.{number_of_name, member_number}
 use Rattle.et_program.specs.Indexed.{HasTexts}
-use Rattle.et_program.specs.Entries.{no_method}
+use Rattle.et_program.specs.Entries.{ClassEntry, no_method}
 use Rattle.et_program.specs.Tables.{looked_up}
 use Rattle.et_program.specs.Signatures.{signature_of, AreSigned}
 
@@ -23,10 +23,10 @@ made_at f [] k x y lt is = absurd (omega arith)
 made_at f (z ∷ xs) zero x y lt is = is
 made_at f (z ∷ xs) (suc k) x y lt is = made_at f xs k x y (omega arith) is
 
-pub found_like : (texts : NameIndex) (members : MemberIndex) (methods : List MethodInfo) (signatures : List Signature) (m c : ℕ) (s : Signature) → AreSigned texts methods signatures → m < length methods → s ≡ slice_index_or signatures m s
+pub found_like : (texts : NameIndex) (members : MemberIndex) (classes : List ClassEntry) (methods : List MethodInfo) (signatures : List Signature) (m c : ℕ) (s : Signature) → AreSigned texts classes methods signatures → m < length methods → s ≡ slice_index_or signatures m s
     → member_number members c s.name s.descriptor ≡ looked_up texts members (slice_index_or methods m no_method).name (slice_index_or methods m no_method).descriptor c
-found_like texts members methods signatures m c s signed lt is =
+found_like texts members classes methods signatures m c s signed lt is =
     let x : MethodInfo = slice_index_or methods m no_method in
-    let at : s ≡ signature_of texts x = made_at (signature_of texts) methods m no_method s lt (is ∙ ap (λ (ss : List Signature). slice_index_or ss m s) signed.signed) in
+    let at : s ≡ signature_of texts classes x = made_at (signature_of texts classes) methods m no_method s lt (is ∙ ap (λ (ss : List Signature). slice_index_or ss m s) signed.signed) in
     let has : HasTexts texts x.name x.descriptor = signed.numbered m no_method lt in
     ap (λ (t : Signature). member_number members c t.name t.descriptor) at ∙ by_kept (λ n d. member_number members c n d) (number_of_name texts x.name) (number_of_name texts x.descriptor) has.name_has has.descriptor_has

@@ -5,6 +5,7 @@ pub mod Referring
 pub mod Resolved
 pub mod Shapes
 pub mod Signatures
+pub mod BuiltIns
 pub mod Types
 pub mod Words
 pub mod Shown
@@ -25,3 +26,8 @@ pub mod ProgramOf
 pub mod LinkFaults
 pub mod Linking
 pub use Rattle.et_boot.specs.Classes as BootClasses
+pub use Rattle.et_boot.specs.Names as BootNames
+pub use Rattle.et_boot.specs.declared.built_ins as BootMethods
+pub use Rattle.et_boot.specs.BuiltIns as BootTable
+pub use Rattle.et_boot.specs.declared.names as BootNamed
+pub use Rattle.et_boot.specs.BuiltIns as BootTable

@@ -1,5 +1,7 @@
 -- WHAT THE ENTRIES OF A POOL REFER TO in a program (JVMS 4.4.1, 4.4.2, 5.4.3): a class, or a field or method of a class.
-use Rattle.std.specs.Prelude.{ℕ, ◌==◌, Bool, List, [], Option, Result, Ok, Err, slice_index_or, option_map, option_and_then}
+use Rattle.std.specs.Prelude.{ℕ, ◌==◌, Bool, false, List, [], Option, Result, Ok, Err, slice_index_or, option_map, option_and_then}
+use Rattle.std.specs.Option.{option_map_or}
+use Rattle.et_class.specs.Descriptors.{is_field_descriptor}
 use Rattle.et_class.specs.Entries.{Item, Constants}
 use Rattle.et_class.specs.Looks.{tag_at, utf8_at, class_name_at, name_and_type_at, member_at}
 use Rattle.et_class.specs.PoolTags.TheConstants.{INTERFACE_METHODREF}
@@ -57,6 +59,10 @@ method_of_member p by_interface m = method_in_owner p by_interface m (resolve_cl
 
 abbrev pub class_referred : Linked → ℕ → ℕ → Option (Result ℕ LinkError)
 class_referred p class index = option_map (resolve_class p) (class_name_at (pool_of_class p class) index)
+
+-- whether it gives a member with the descriptor of a field (4.3.2)
+abbrev pub is_field_referred : Linked → ℕ → ℕ → Bool
+is_field_referred p class index = option_map_or (λ (m : Member). is_field_descriptor m.descriptor) (member_described (pool_of_class p class) index) false
 
 abbrev pub field_referred : Linked → ℕ → ℕ → Option (Result ℕ LinkError)
 field_referred p class index = option_map (field_of_member p) (member_described (pool_of_class p class) index)

@@ -1,8 +1,9 @@
 //! The program: its tables, and what stands at each number.
 
-ghost use Rattle.std.specs.Prelude.{◌≡◌, ℕ, ◌<◌, ◌==◌, length, All, IfOk, IfSome, option_map, slice_get};
+ghost use Rattle.std.specs.Prelude.{◌≡◌, ℕ, ◌<◌, ◌==◌, length, All, IfOk, IfSome, codes, option_map, slice_get};
 ghost use Rattle.std.specs.List.{list_any};
 ghost use Rattle.std.specs.Option.{option_copied};
+ghost use Rattle.std.specs.Str.{bytes_eq};
 
 use crate::class::Class;
 use crate::errors::LinkError;
@@ -15,6 +16,7 @@ use crate::shapes::{PoolShapes, shapes_of};
 use crate::signatures::{Signature, Sought, signatures_of};
 use crate::tables::Tables;
 use et_base::{ClassId, FieldId, MethodId, NoMemory};
+use et_boot::BuiltIn;
 use et_class::{CallShape, Pool};
 use std::alloc::Global;
 use std::marker::Model;
@@ -71,7 +73,7 @@ impl Model for Program {
     } in IsTabled l
         × AreIndexed l p.base_arrays.items p.places p.texts p.method_places p.field_places
         × IsLinked l
-        × AreSigned p.texts p.methods.items p.signatures.items
+        × AreSigned p.texts p.classes.items p.methods.items p.signatures.items
         × AreShaped p.pools.items p.shapes.items
         × AreResolved l p.resolved.items };
 }
@@ -118,7 +120,7 @@ impl Program {
         let methods = tables.methods.as_slice();
         let fields = tables.fields.as_slice();
         let texts = number_texts(alloc, methods, fields)?;
-        let signatures = signatures_of(alloc, &texts, methods)?;
+        let signatures = signatures_of(alloc, &texts, tables.classes.as_slice(), methods)?;
         let method_places = index_methods(alloc, &texts, methods)?;
         let field_places = index_fields(alloc, &texts, fields)?;
         let shapes = shapes_of(alloc, tables.pools.as_slice())?;
@@ -156,11 +158,12 @@ impl Program {
     ghost use Rattle.et_program.specs.Entries.{class_at, method_at, field_at};
     ghost use Rattle.et_program.specs.Tables.{IsWithinTables, IsInfoWithin};
     ghost use Rattle.et_program.specs.Shown.{info_of};
-    ghost use Rattle.et_program.specs.Members.{class_named, method_in, field_in, is_above, is_subclass, base_array};
+    ghost use Rattle.et_program.specs.Members.{method_in, field_in, is_above, is_subclass, base_array};
     ghost use Rattle.et_program.specs.Resolution.{resolve_class};
     ghost use Rattle.et_program.specs.Resolved.{IsResolved, AreResolved};
     ghost use Rattle.et_class.specs.Operands.{shape_in};
     ghost use Rattle.et_program.specs.Shapes.{shape_referred};
+    ghost use Rattle.et_program.specs.BuiltIns.{built_in_of, is_deferred};
     ghost use Rattle.et_program.specs.Signatures.{IsSought, sought_name, sought_descriptor};
 
     /// The class of this name, or `NoClassDefFound` exactly where the program has none (JVMS 5.4.3.1).
@@ -286,6 +289,32 @@ impl Program {
         ensures { option_map (λ s. s.now) result ≡ shape_in (method_at self.now method).descriptor }
     {
         self.signatures[method.number() as usize].shape.as_ref()
+    }
+
+    /// The built-in method that a method without code is; `None` exactly where it is abstract, or has the name and descriptor
+    /// of none. It was looked for as the program was linked.
+    pub fn built_in(&self, method: MethodId) -> Option<BuiltIn>
+        requires { method < length self.now.methods }
+        ensures { result ≡ built_in_of (method_at self.now method) }
+    {
+        self.signatures[method.number() as usize].built_in
+    }
+
+    /// Whether a method is a built-in one without code of threads, of weak references or of their queues. It was found out as
+    /// the program was linked.
+    pub fn is_deferred(&self, method: MethodId) -> bool
+        requires { method < length self.now.methods }
+        ensures { result ≡ is_deferred self.now method }
+    {
+        self.signatures[method.number() as usize].is_deferred
+    }
+
+    /// Whether a method is named `<init>` (JVMS 2.9.1).
+    pub(crate) fn is_constructor(&self, method: MethodId) -> bool
+        requires { method < length self.now.methods }
+        ensures { result ≡ bytes_eq (method_at self.now method).name (codes "<init>") }
+    {
+        self.signatures[method.number() as usize].is_constructor
     }
 
     /// The class of the arrays of these elements, or `None` where the program has none.

@@ -2,13 +2,14 @@
 
 ghost use Rattle.std.specs.Prelude.{◌≡◌, ◌<◌, length, IfSome, IfOk, option_map};
 ghost use Rattle.et_class.specs.Looks.{class_name_at, tag_at};
-ghost use Rattle.et_program.specs.Referring.{pool_of_class, member_described, field_of_member, method_of_member, class_referred, field_referred, method_referred};
+ghost use Rattle.et_program.specs.Referring.{pool_of_class, member_described, field_of_member, method_of_member, class_referred, field_referred, is_field_referred, method_referred};
 ghost use Rattle.et_program.specs.Resolved.{shown_names, IsNamedWithin};
 
 use crate::errors::LinkError;
 use crate::program::Program;
 use et_base::{ClassId, FieldId, MethodId};
 use et_class::Pool;
+use et_class::descriptor::is_field_descriptor;
 use et_class::tags::INTERFACE_METHODREF;
 
 /// A method that an entry of a pool refers to, as it was resolved (JVMS 5.4.3.3, 5.4.3.4).
@@ -67,6 +68,17 @@ impl Program {
         match self.pool(class) {
             Some(pool) => member_at(pool, index),
             None => None,
+        }
+    }
+
+    /// Whether the entry at an index of the pool of a class gives a member with the descriptor of a field (JVMS 4.3.2).
+    pub(crate) fn is_field_by_entry(&self, class: ClassId, index: u16) -> bool
+        requires { class < length self.now.classes }
+        ensures { result ≡ is_field_referred self.now class index }
+    {
+        match self.member_in(class, index) {
+            Some(member) => is_field_descriptor(member.descriptor),
+            None => false,
         }
     }
 

@@ -3,7 +3,7 @@
 ghost use Rattle.std.specs.Prelude.{◌≡◌, ℕ, ◌<◌, length, IfSome, IfOk};
 ghost use Rattle.std.specs.List.{slice_index_or};
 ghost use Rattle.et_program.specs.declared.resolved.Resolved.TheVariants.{Nothing};
-ghost use Rattle.et_program.specs.Referring.{class_referred, field_referred, method_referred};
+ghost use Rattle.et_program.specs.Referring.{class_referred, field_referred, is_field_referred, method_referred};
 ghost use Rattle.et_program.specs.Resolved.{IsResolved, IsNamedWithin, AreResolved};
 
 use crate::errors::LinkError;
@@ -23,9 +23,9 @@ pub(crate) enum Resolved {
     Class(ClassId),
     /// The error of a Class entry.
     NoClass(LinkError),
-    /// The field that a Fieldref entry refers to.
+    /// The field that a Fieldref entry refers to, whose descriptor is that of a field.
     Field(FieldId),
-    /// The error of a Fieldref entry.
+    /// The error of a Fieldref entry, whose descriptor is that of a field.
     NoField(LinkError),
     /// The class that a Methodref or InterfaceMethodref entry names, and the method that it refers to.
     Method(ClassId, MethodId),
@@ -72,7 +72,9 @@ impl Program {
                 Some(Err(error)) => Resolved::NoClass(error),
                 None => Resolved::Nothing,
             },
-            FIELDREF => match self.field_by_entry(class, index) {
+            FIELDREF if self.is_field_by_entry(class, index) => match self.field_by_entry(
+                class, index,
+            ) {
                 Some(Ok(found)) => Resolved::Field(found),
                 Some(Err(error)) => Resolved::NoField(error),
                 None => Resolved::Nothing,
@@ -128,6 +130,18 @@ impl Program {
             Resolved::Class(found) => Some(Ok(found)),
             Resolved::NoClass(error) => Some(Err(error)),
             _ => self.class_by_entry(class, index),
+        }
+    }
+
+    /// Whether the Fieldref, Methodref or InterfaceMethodref entry at an index of the pool of a class has the descriptor of a
+    /// field (JVMS 4.3.2); `false` where there is no such entry. That of a Fieldref was read as the program was linked.
+    pub fn is_field_at_index(&self, class: ClassId, index: u16) -> bool
+        requires { class < length self.now.classes }
+        ensures { result ≡ is_field_referred self.now class index }
+    {
+        match self.kept_at(class, index) {
+            Resolved::Field(_) | Resolved::NoField(_) => true,
+            _ => self.is_field_by_entry(class, index),
         }
     }
 

@@ -167,9 +167,8 @@ impl Program {
         ensures value { result ≡ select_special self.now current named method }
         ensures within { IfOk result (λ m. m < length self.now.methods) }
     {
-        let resolved = self.method(method);
-        if resolved.name.as_slice() == b"<init>".as_slice() {
-            return if resolved.class == named {
+        if self.is_constructor(method) {
+            return if self.method(method).class == named {
                 Ok(method)
             } else {
                 Err(LinkError::NoSuchMethod)

@@ -1,20 +1,31 @@
-//! The numbers by which methods are looked for, and what calls read off their descriptors.
+//! The numbers by which methods are looked for, and what calls read off their descriptors and their names.
 
-ghost use Rattle.std.specs.Prelude.{◌≡◌, map, IfOk};
-ghost use Rattle.et_program.specs.Signatures.{signature_of};
+ghost use Rattle.std.specs.Prelude.{◌≡◌, ◌<◌, length, map, All, IfOk};
+ghost use Rattle.et_program.specs.BuiltIns.{is_deferred_in};
+ghost use Rattle.et_program.specs.Signatures.{signature_of as signature_in};
+ghost use Rattle.et_program.specs.declared.info.MethodInfo.{MethodInfo as Method};
 
+use crate::class::Class;
 use crate::info::MethodInfo;
 use crate::names::NameIndex;
 use et_base::{MethodId, NoMemory};
+use et_boot::{BuiltIn, built_in_called, is_deferring};
+use et_class::flags::{ABSTRACT, NATIVE, STATIC, has};
 use et_class::{CallShape, call_shape};
 use std::alloc::Global;
 
-/// The numbers of the name and of the descriptor of a method, and what a call reads off the descriptor.
+/// The numbers of the name and of the descriptor of a method, and what a call reads off them.
 #[derive(Drop)]
 pub(crate) struct Signature {
     pub name: u32,
     pub descriptor: u32,
     pub shape: Option<CallShape>,
+    /// The built-in method that it is where it has no code.
+    pub built_in: Option<BuiltIn>,
+    /// Whether it is a built-in method without code of threads, of weak references or of their queues.
+    pub is_deferred: bool,
+    /// Whether it is named `<init>`.
+    pub is_constructor: bool,
 }
 
 /// What a method is looked for by.
@@ -29,21 +40,56 @@ pub(crate) enum Sought<'a> {
     Like(MethodId),
 }
 
+/// Whether a method is a built-in one without code of threads, of weak references or of their queues.
+fn is_deferred(classes: &[Class], method: &MethodInfo) -> bool
+    requires { method.now.class < length classes.now }
+    ensures { result ≡ is_deferred_in classes.now method.now }
+{
+    let flags = method.flags;
+    let is_other = has(flags, STATIC) || has(flags, NATIVE) || has(flags, ABSTRACT);
+    let class = classes[method.class.number() as usize].info();
+    method.code.is_none() && !is_other && is_deferring(class.name.as_slice())
+}
+
+/// The numbers of the name and descriptor of a method, and what calls read off them. The only error is want of memory.
+fn signature_of(
+    alloc: Global,
+    texts: &NameIndex,
+    classes: &[Class],
+    method: &MethodInfo,
+) -> Result<Signature, NoMemory>
+    requires { method.now.class < length classes.now }
+    ensures { IfOk result (λ s. s ≡ signature_in texts.now classes.now method.now) }
+{
+    let name = method.name.as_slice();
+    let descriptor = method.descriptor.as_slice();
+    Ok(Signature {
+        name: texts.find(name).unwrap_or(0),
+        descriptor: texts.find(descriptor).unwrap_or(0),
+        shape: call_shape(alloc, descriptor)?,
+        built_in: if has(method.flags, ABSTRACT) {
+            None
+        } else {
+            built_in_called(name, descriptor)
+        },
+        is_deferred: is_deferred(classes, method),
+        is_constructor: name == b"<init>".as_slice(),
+    })
+}
+
 /// The numbers of the names and descriptors of these methods, and what calls read off them. The only error is want of memory.
 pub(crate) fn signatures_of(
     alloc: Global,
     texts: &NameIndex,
+    classes: &[Class],
     methods: &[MethodInfo],
 ) -> Result<Vec<Signature>, NoMemory>
-    ensures { IfOk result (λ s. s.items ≡ map (signature_of texts.now) methods.now) }
+    requires { All (λ (m : Method). m.class < length classes.now) methods.now }
+    ensures { IfOk result (λ s. s.items ≡ map (signature_in texts.now classes.now) methods.now) }
 {
     let mut signatures = Vec::with_capacity(alloc, methods.len())?;
     for method in methods {
-        signatures.push(Signature {
-            name: texts.find(method.name.as_slice()).unwrap_or(0),
-            descriptor: texts.find(method.descriptor.as_slice()).unwrap_or(0),
-            shape: call_shape(alloc, method.descriptor.as_slice())?,
-        })?;
+        signatures.push(signature_of(alloc, texts, classes, method)?)?;
     }
     Ok(signatures)
 }

@@ -1,5 +1,5 @@
 -- An instruction at which a thread stands makes arrays of one dimension or more.
-use Rattle.std.proofs.Common.{◌≡◌, ℕ, ◌<◌, List, Some, None, Ok, Option, sym, ◌∙◌, ap, subst}
+use Rattle.std.proofs.Common.{◌≡◌, ℕ, ◌<◌, List, Some, Ok, Option, sym, ◌∙◌, ap, subst}
 use Rattle.et_pool.specs.Looks.{class_name_at}
 use Rattle.et_code.specs.declared.instr.Instr.{Instr}
 use Rattle.et_code.specs.Bodies.{Body}
@@ -14,8 +14,6 @@ use Rattle.et_state.specs.Words.{thread_at, top}
 use Rattle.et_event.specs.declared.rows.Row.{Row}
 use Rattle.et_event.specs.declared.rows.Row.TheVariants.{Heap}
 use Rattle.et_event.specs.declared.rows.HeapRow.TheVariants.{NewMultiArray}
-use Rattle.et_event.specs.Heap.{with_class, new_multi_array}
-use Rattle.et_event.specs.Moments.{Moment}
 use Rattle.et_event.specs.Sites.{Site, class_operand, pool_of_class, natural_of}
 use Rattle.et_event.specs.Sound.{IsSoundFor}
 use Rattle.et_event.specs.Table.{row_of}
@@ -23,11 +21,8 @@ use Rattle.et_parts.specs.declared.places.Place.{Place}
 use Rattle.et_parts.specs.Places.{Runs, IsPlace, site_at}
 use Rattle.et_parts.proofs.Placing.{method_runs, body_runs}
 use Rattle.et_parts.proofs.Running.{runs_there}
-use Rattle.et_refs.specs.Refusals.{refusal_outcome}
-use Rattle.et_refs.specs.declared.refusals.Refusal.TheVariants.{IllTyped}
 use Rattle.et_event.specs.Programs.{IsInstruction, NamesClass, HasArrays}
 use Rattle.et_sound.proofs.Frames.{starts_there}
-use Rattle.et_refs.proofs.Answering.{multi_array_of}
 
 pub some_dimension : (p : Linked) (m : MachineState) (t : ℕ) (place : Place) (name : List ℕ) (c : ℕ) → IsSoundFor p (kept_of m) → HasArrays p → turn_of (thread_at m.guest t) ≡ Instruction → IsPlace p (top m.guest t) place
     → place.row ≡ Heap NewMultiArray → Some name ≡ class_operand (site_at place) → resolve_class p name ≡ Ok c → 0 < natural_of place.instr.second
@@ -42,9 +37,3 @@ some_dimension p m t place name c sound arrays turn is row named found =
     let names : NamesClass p r.method x c = record { name = name; operand = operand; resolves = found } in
     let here : row_of place.instr.opcode ≡ Some (Heap NewMultiArray) = is.row ∙ ap (λ (k : Row). let o : Option Row = Some k in o) row in
     (arrays.multi r.method x c instruction here names).0
-
-pub with_name : (e : Moment) (at : Site) (name : List ℕ) → Some name ≡ class_operand at → new_multi_array e at ≡ multi_array_of e at name
-with_name e at name named = ap (λ (o : Option (List ℕ)). with_class e o (multi_array_of e at)) (sym named)
-
-pub without_name : (e : Moment) (at : Site) → None ≡ class_operand at → new_multi_array e at ≡ refusal_outcome e IllTyped
-without_name e at named = ap (λ (o : Option (List ℕ)). with_class e o (multi_array_of e at)) (sym named)

@@ -51,6 +51,7 @@ pub(crate) fn class_named<'a>(place: &Place<'a>) -> Result<NamedClass<'a>, Refus
     ensures named { (p : Linked) → place.now.class < length p.classes →
         (site_at place.now).pool ≡ pool_of_class p place.now.class →
         IfOk result (λ x. IsNamedAt p x) }
+    ensures operand { IfOk result (λ x. Some x.name.now ≡ operand_class (site_at place.now)) }
 {
     match class_operand(place) {
         Some(name) => Ok(NamedClass {

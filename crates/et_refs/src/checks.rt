@@ -52,20 +52,6 @@ pub(crate) fn not_null(reference: Option<ObjectId>) -> Result<ObjectId, Refusal>
     }
 }
 
-/// The class of a name (JVMS 5.4.3.1).
-pub fn resolve(program: &Program, name: &[u8]) -> Result<ClassId, Refusal>
-    ensures is { (s : Kept) (t : ℕ) (go : ℕ → Outcome Kept) →
-        resolved_class (record { program = program.now; before = s; thread = t })
-        (begins (record { program = program.now; before = s; thread = t })) name.now go
-        ≡ outcome_of (record { program = program.now; before = s; thread = t }) result go }
-    ensures within { IfOk result (λ c. c < length program.now.classes) }
-{
-    match program.resolve_class(name) {
-        Ok(class) => Ok(class),
-        Err(error) => Err(Refusal::Throws(GuestError::of(error))),
-    }
-}
-
 /// The class that an instruction names, as it was resolved when the program was linked (JVMS 5.4.3.1).
 pub(crate) fn resolve_named(program: &Program, named: &NamedClass<'_>) -> Result<ClassId, Refusal>
     requires { IsNamedAt program.now named.now }

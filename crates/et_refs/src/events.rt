@@ -18,9 +18,11 @@ ghost use Rattle.et_parts.specs.Places.{IsPlace, site_at};
 ghost use Rattle.et_refs.specs.Refusals.{outcome_of};
 ghost use Rattle.et_event.specs.Programs.{HasArrays};
 ghost use Rattle.et_refs.specs.Events.{new_arrays_outcome, with_checked_class};
+ghost use Rattle.et_refs.specs.NamedClasses.{IsNamedAt};
 
+use crate::casts::{NamedClass, class_named};
 use crate::changes::replace_top;
-use crate::checks::{resolve, throws_unless};
+use crate::checks::{resolve_named, throws_unless};
 use crate::counts::arrays_fit;
 use crate::filling::{NewArrays, make_arrays};
 use crate::kinds::natural;
@@ -28,7 +30,7 @@ use crate::lengths::{are_lengths, take_lengths};
 use crate::refusals::{Refusal, refuse};
 use et_base::{ClassId, NoMemory, Steps, ThreadId, Value};
 use et_event::GuestError;
-use et_parts::{Place, class_operand};
+use et_parts::Place;
 use et_program::Program;
 use et_state::{EventEnd, Lines, Machine};
 use std::alloc::Global;
@@ -52,15 +54,20 @@ fn dimensions(place: &Place<'_>) -> u32
     natural(place.instr.second)
 }
 
-/// The class of this name, over arrays of which arrays of these lengths may be made; a NegativeArraySizeException where one
-/// of them is less than 0.
-fn class_wanted(program: &Program, name: &[u8], lengths: &[i32]) -> Result<ClassId, Refusal>
+/// The class that an instruction names, over arrays of which arrays of these lengths may be made; a
+/// NegativeArraySizeException where one of them is less than 0.
+fn class_wanted(
+    program: &Program,
+    named: &NamedClass<'_>,
+    lengths: &[i32],
+) -> Result<ClassId, Refusal>
+    requires { IsNamedAt program.now named.now }
     ensures is { (s : Kept) (t : ℕ) (go : ℕ → Outcome Kept) → with_checked_class
-        (record { program = program.now; before = s; thread = t }) name.now lengths.now go
+        (record { program = program.now; before = s; thread = t }) named.now.name.now lengths.now go
         ≡ outcome_of (record { program = program.now; before = s; thread = t }) result go }
-    ensures resolves { IfOk result (λ c. resolve_class program.now name.now ≡ Ok c) }
+    ensures resolves { IfOk result (λ c. resolve_class program.now named.now.name.now ≡ Ok c) }
 {
-    let class = resolve(program, name)?;
+    let class = resolve_named(program, named)?;
     throws_unless(GuestError::NegativeArraySizeException, are_lengths(lengths))?;
     Ok(class)
 }
@@ -125,14 +132,15 @@ pub fn multi_array_event<L: Ledger>(
         (new_multi_array (moment program.now machine.old thread) (site_at place.now))).heap
         - length machine.old.heap) }
 {
-    let Some(name) = class_operand(place) else {
-        return refuse(program, machine, thread, Refusal::IllTyped, out);
+    let named = match class_named(place) {
+        Ok(named) => named,
+        Err(refusal) => return refuse(program, machine, thread, refusal, out),
     };
     let lengths = match take_lengths(alloc, machine, thread, dimensions(place))? {
         Ok(lengths) => lengths,
         Err(refusal) => return refuse(program, machine, thread, refusal, out),
     };
-    match class_wanted(program, name, &lengths) {
+    match class_wanted(program, &named, &lengths) {
         Ok(class) => {
             let arrays = NewArrays {
                 class,

@@ -37,7 +37,6 @@ use et_base::{FieldId, ObjectId, Steps, ThreadId, Value};
 use et_class::flags::{STATIC, has};
 use et_event::GuestError;
 use et_parts::{Place, index_of, member_at};
-use et_pool::descriptor::is_field_descriptor;
 use et_pool::kind_of;
 use et_program::{LinkError, MemberAt, Program};
 use et_state::Machine;
@@ -85,7 +84,7 @@ pub(crate) fn field_named<'a>(
     let Some(member) = member_at(place) else {
         return Err(Refusal::IllTyped);
     };
-    if !is_field_descriptor(member.descriptor) {
+    if !program.is_field_at_index(place.class, index_of(place)) {
         return Err(Refusal::IllTyped);
     }
     let answer = answer_at(program, place);

@@ -19,11 +19,13 @@ use Rattle.et_program.specs.declared.info.MethodInfo.{MethodInfo}
 use Rattle.et_state.specs.Threads.{FrameState, most_threads, thread_with}
 use Rattle.et_state.specs.State.{Kept}
 use Rattle.et_state.specs.Outcome.{Outcome}
-use Rattle.et_event.specs.declared.rows.BuiltIn.{BuiltIn}
+use Rattle.et_program.specs.BootMethods.BuiltIn.{BuiltIn}
 use Rattle.et_event.specs.PoolOperands.Operand.TheVariants as operand
-use Rattle.et_event.specs.declared.rows.BuiltIn.TheVariants as built_in
+use Rattle.et_program.specs.BootMethods.BuiltIn.TheVariants as built_in
 use Rattle.et_event.specs.declared.errors.GuestError.TheVariants.{AbstractMethodError, IllegalThreadStateException, OutOfMemoryError}
-use Rattle.et_event.specs.BuiltIns.{built_ins, is_called, built_in_of, argument, answering, reference_in, with_referent_of, starts_thread, with_thread_for, has_thread_ended, is_object_of_class, built_in_row, done_by, built_in_event, with_reference_made, with_first_taken, is_null_or_of_class}
+use Rattle.et_program.specs.BuiltIns.{built_in_of}
+use Rattle.et_program.specs.BootTable.{built_ins, is_called}
+use Rattle.et_event.specs.BuiltIns.{argument, answering, reference_in, with_referent_of, starts_thread, with_thread_for, has_thread_ended, is_object_of_class, built_in_row, done_by, built_in_event, with_reference_made, with_first_taken, is_null_or_of_class}
 use Rattle.et_event.specs.Calls.{begin_with, is_empty, are_arguments}
 use Rattle.et_event.specs.Checks.{ill_typed_unless}
 use Rattle.et_event.specs.Errors.{class_called}
@@ -83,15 +85,15 @@ none_some b o x y = cc
 some_same : (a b : BuiltIn) → Some a ≡ Some b → a ≡ b
 some_same a b e = cc
 
-given_by : (m : MethodInfo) (b : BuiltIn) (rows : List (List ℕ × List ℕ × BuiltIn)) → list_all is_given rows ≡ true → option_map (λ (row : List ℕ × List ℕ × BuiltIn). row.2) (find (is_called m) rows) ≡ Some b → given b ≤ returned_width (returned_of m)
+given_by : (m : MethodInfo) (b : BuiltIn) (rows : List (List ℕ × List ℕ × BuiltIn)) → list_all is_given rows ≡ true → option_map (λ (row : List ℕ × List ℕ × BuiltIn). row.2) (find (is_called m.name m.descriptor) rows) ≡ Some b → given b ≤ returned_width (returned_of m)
 given_by m b [] all e = absurd (none_some b None refl e)
-given_by m b (row ∷ rows) all e = by (is_called m row) refl e (given_by m b rows parts.1)
+given_by m b (row ∷ rows) all e = by (is_called m.name m.descriptor row) refl e (given_by m b rows parts.1)
   where
     parts : (is_given row ≡ true) × (list_all is_given rows ≡ true)
     parts = and_parts (is_given row) (list_all is_given rows) all
 
-    by : (x : Bool) → is_called m row ≡ x → option_map (λ (r : List ℕ × List ℕ × BuiltIn). r.2) (if x then Some row else find (is_called m) rows) ≡ Some b
-        → (option_map (λ (r : List ℕ × List ℕ × BuiltIn). r.2) (find (is_called m) rows) ≡ Some b → given b ≤ returned_width (returned_of m)) → given b ≤ returned_width (returned_of m)
+    by : (x : Bool) → is_called m.name m.descriptor row ≡ x → option_map (λ (r : List ℕ × List ℕ × BuiltIn). r.2) (if x then Some row else find (is_called m.name m.descriptor) rows) ≡ Some b
+        → (option_map (λ (r : List ℕ × List ℕ × BuiltIn). r.2) (find (is_called m.name m.descriptor) rows) ≡ Some b → given b ≤ returned_width (returned_of m)) → given b ≤ returned_width (returned_of m)
     by true is q more =
         let type : row.1 ≡ m.descriptor = (bytes_eq-Decides row.1 m.descriptor).0 (and_parts (bytes_eq row.0 m.name) (bytes_eq row.1 m.descriptor) is).1 in
         let few : given row.2 ≤ returned_width (returned_of (with_descriptor row.1)) = leb-true (given row.2) (returned_width (returned_of (with_descriptor row.1))) parts.0 in
@@ -102,7 +104,7 @@ given_by m b (row ∷ rows) all e = by (is_called m row) refl e (given_by m b ro
 pub gives : (m : MethodInfo) (b : BuiltIn) → built_in_of m ≡ Some b → given b ≤ returned_width (returned_of m)
 gives m b e = by (has m.flags ABSTRACT) e
   where
-    by : (x : Bool) → (if x then None else option_map (λ (row : List ℕ × List ℕ × BuiltIn). row.2) (find (is_called m) built_ins)) ≡ Some b → given b ≤ returned_width (returned_of m)
+    by : (x : Bool) → (if x then None else option_map (λ (row : List ℕ × List ℕ × BuiltIn). row.2) (find (is_called m.name m.descriptor) built_ins)) ≡ Some b → given b ≤ returned_width (returned_of m)
     by true q = absurd (none_some b None refl q)
     by false q = given_by m b built_ins all_given q
 
@@ -124,22 +126,22 @@ all_targets = refl
 type_if : (b : BuiltIn) (descriptor : List ℕ) → (if sets_target b then bytes_eq descriptor target_type else true) ≡ true → b ≡ built_in.SetTarget → descriptor ≡ target_type
 type_if b descriptor e is = (bytes_eq-Decides descriptor target_type).0 (subst (λ (k : BuiltIn). (if sets_target k then bytes_eq descriptor target_type else true) ≡ true) is e)
 
-targeted_by : (m : MethodInfo) (rows : List (List ℕ × List ℕ × BuiltIn)) → list_all is_target rows ≡ true → option_map (λ (row : List ℕ × List ℕ × BuiltIn). row.2) (find (is_called m) rows) ≡ Some built_in.SetTarget → m.descriptor ≡ target_type
+targeted_by : (m : MethodInfo) (rows : List (List ℕ × List ℕ × BuiltIn)) → list_all is_target rows ≡ true → option_map (λ (row : List ℕ × List ℕ × BuiltIn). row.2) (find (is_called m.name m.descriptor) rows) ≡ Some built_in.SetTarget → m.descriptor ≡ target_type
 targeted_by m [] all e = absurd (none_some built_in.SetTarget None refl e)
-targeted_by m (row ∷ rows) all e = by (is_called m row) refl e (targeted_by m rows parts.1)
+targeted_by m (row ∷ rows) all e = by (is_called m.name m.descriptor row) refl e (targeted_by m rows parts.1)
   where
     parts : (is_target row ≡ true) × (list_all is_target rows ≡ true)
     parts = and_parts (is_target row) (list_all is_target rows) all
 
-    by : (x : Bool) → is_called m row ≡ x → option_map (λ (r : List ℕ × List ℕ × BuiltIn). r.2) (if x then Some row else find (is_called m) rows) ≡ Some built_in.SetTarget
-        → (option_map (λ (r : List ℕ × List ℕ × BuiltIn). r.2) (find (is_called m) rows) ≡ Some built_in.SetTarget → m.descriptor ≡ target_type) → m.descriptor ≡ target_type
+    by : (x : Bool) → is_called m.name m.descriptor row ≡ x → option_map (λ (r : List ℕ × List ℕ × BuiltIn). r.2) (if x then Some row else find (is_called m.name m.descriptor) rows) ≡ Some built_in.SetTarget
+        → (option_map (λ (r : List ℕ × List ℕ × BuiltIn). r.2) (find (is_called m.name m.descriptor) rows) ≡ Some built_in.SetTarget → m.descriptor ≡ target_type) → m.descriptor ≡ target_type
     by true is q more = sym ((bytes_eq-Decides row.1 m.descriptor).0 (and_parts (bytes_eq row.0 m.name) (bytes_eq row.1 m.descriptor) is).1) ∙ type_if row.2 row.1 parts.0 (some_same row.2 built_in.SetTarget q)
     by false is q more = more q
 
 targets : (m : MethodInfo) → built_in_of m ≡ Some built_in.SetTarget → m.descriptor ≡ target_type
 targets m e = by (has m.flags ABSTRACT) e
   where
-    by : (x : Bool) → (if x then None else option_map (λ (row : List ℕ × List ℕ × BuiltIn). row.2) (find (is_called m) built_ins)) ≡ Some built_in.SetTarget → m.descriptor ≡ target_type
+    by : (x : Bool) → (if x then None else option_map (λ (row : List ℕ × List ℕ × BuiltIn). row.2) (find (is_called m.name m.descriptor) built_ins)) ≡ Some built_in.SetTarget → m.descriptor ≡ target_type
     by true q = absurd (none_some built_in.SetTarget None refl q)
     by false q = targeted_by m built_ins all_targets q
 

@@ -1,6 +1,7 @@
 -- The turns of the event call of monitors: among them are the calls of deferred methods.
 use Rattle.std.proofs.Common.{◌≡◌, ℕ, ◌≤◌, length, true, Option, Some, None, inl, inr, sym, ◌∙◌, ap, subst}
 use Rattle.std.specs.Prelude.{◌⊎◌, IsSome}
+use Rattle.et_program.specs.BuiltIns.{is_deferred}
 use Rattle.et_program.specs.Entries.{Linked, method_at}
 use Rattle.et_program.specs.Members.{kept}
 use Rattle.et_state.specs.declared.stage.Turn.{Turn}
@@ -21,7 +22,7 @@ use Rattle.et_event.specs.Sites.{Site, decoded_at}
 use Rattle.et_event.proofs.FamilyTurns.{family_at}
 use Rattle.et_parts.specs.Places.{IsPlace, site_at}
 use Rattle.et_parts.specs.declared.places.Place.{Place}
-use Rattle.et_builtins.specs.Deferred.{deferred_at, deferred_call, is_deferred, selected_method}
+use Rattle.et_builtins.specs.Deferred.{deferred_at, deferred_call, selected_method}
 use Rattle.et_builtins.specs.Plans.{method_entered, call_planned}
 use Rattle.et_builtins.specs.declared.plans.CallPlan.{CallPlan}
 use Rattle.et_builtins.specs.declared.plans.CallPlan.TheVariants.{Enters}

@@ -1,8 +1,7 @@
 -- Which handler catches an exception.
 use Rattle.std.proofs.Common.{◌≡◌, ℕ, ◌==◌, ◌||◌, ◌&&◌, Bool, true, false, not, refl, ◌∙◌, ap, List, length, Some, arith, ◌+◌, ◌<◌, ◌^◌}
-use Rattle.std.specs.Prelude.{Option, find, option_map, slice_get}
+use Rattle.std.specs.Prelude.{find, option_map}
 use Rattle.std.specs.List.{list_any}
-use Rattle.et_class.specs.Entries.{Item, Constants}
 use Rattle.et_code.specs.declared.body.TableRow.{TableRow}
 use Rattle.et_program.specs.Entries.{Linked, class_at, is_interface}
 use Rattle.et_program.specs.Members.{is_above, is_subclass}
@@ -10,8 +9,7 @@ use Rattle.et_state.specs.Threads.{FrameState}
 use Rattle.et_event.specs.Sites.{code_of_frame, running_method, pool_of_class}
 use Rattle.et_event.specs.Throw.{is_above_or_same, catches, handler_of}
 use Rattle.et_parts.specs.Places.{Runs}
-use Rattle.et_parts.specs.Pools.{pool_slots}
-use Rattle.et_parts.proofs.Placing.{locals_found, pool_found}
+use Rattle.et_parts.proofs.Placing.{locals_found}
 use Rattle.et_event.specs.Interfaces.{KnowsInterfaces}
 
 -- a class above is a superclass exactly where it is no interface
@@ -32,9 +30,9 @@ small_frame p f r few room =
     let locals : length f.locals < 2 ^ 16 = locals_found p f r few in
     omega (arith, r.runs.operands)
 
-pub handler_found : (p : Linked) (f : FrameState) (class k pc : ℕ) (pool : Option Constants) (rows : List TableRow) → pool ≡ slice_get p.pools k → k ≡ (running_method p f).class → pc ≡ f.pc → rows ≡ (code_of_frame p f).table
-    → option_map (λ (row : TableRow). row.handler) (find (catches p (pool_slots pool) pc class) rows) ≡ option_map (λ (row : TableRow). row.handler) (handler_of p f class)
-handler_found p f class k pc pool rows e same at table =
-    ap (λ (items : List (Option Item)). option_map (λ (row : TableRow). row.handler) (find (catches p items pc class) rows)) (pool_found p k (running_method p f).class pool e same)
+pub handler_found : (p : Linked) (f : FrameState) (class k pc : ℕ) (rows : List TableRow) → k ≡ (running_method p f).class → pc ≡ f.pc → rows ≡ (code_of_frame p f).table
+    → option_map (λ (row : TableRow). row.handler) (find (catches p (pool_of_class p k) pc class) rows) ≡ option_map (λ (row : TableRow). row.handler) (handler_of p f class)
+handler_found p f class k pc rows same at table =
+    ap (λ (j : ℕ). option_map (λ (row : TableRow). row.handler) (find (catches p (pool_of_class p j) pc class) rows)) same
     ∙ (ap (λ (n : ℕ). option_map (λ (row : TableRow). row.handler) (find (catches p (pool_of_class p (running_method p f).class) n class) rows)) at
     ∙ ap (λ (xs : List TableRow). option_map (λ (row : TableRow). row.handler) (find (catches p (pool_of_class p (running_method p f).class) f.pc class) xs)) table)

@@ -20,7 +20,7 @@ use et_base::{ClassId, NoMemory, ObjectId, Steps, ThreadId, Value};
 use et_event::GuestError;
 use et_heap::MakeFault;
 use et_parts::{class_called, slots_of};
-use et_program::Program;
+use et_program::{BuiltInClass, Program};
 use et_state::{ClassState, EventEnd, Lines, Machine};
 use std::sync::ledger::Ledger;
 
@@ -141,10 +141,7 @@ fn fail_by_exception<L: Ledger>(
     ensures err { OnErr result (machine.new.guest ≡ machine.old.guest) }
     ensures visits { visits.new ≤ visits.old + 1 }
 {
-    let error_class = class_called(
-        program,
-        GuestError::ExceptionInInitializerError.class_name(),
-    );
+    let error_class = class_called(program, GuestError::ExceptionInInitializerError.class());
     let slots = slots_of(program, error_class);
     let Some(error) = make(machine, error_class, slots)? else {
         return Ok(EventEnd::ObjectLimit);
@@ -182,7 +179,7 @@ pub(crate) fn fail_event<L: Ledger>(
     ensures visits { visits.new ≤ visits.old + 1 }
 {
     let exception = thrown.exception;
-    if program.is_subclass(thrown.class, class_called(program, b"java/lang/Error")) {
+    if program.is_subclass(thrown.class, class_called(program, BuiltInClass::Error)) {
         fail_by_error(machine, thread, initializer, exception, out)
     } else {
         fail_by_exception(

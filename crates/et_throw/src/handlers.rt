@@ -1,17 +1,15 @@
 //! The handler of an exception (JVMS 2.10, 4.7.3).
 ghost use Rattle.std.specs.Prelude.{◌≡◌, ◌<◌, Some, length, find, option_map};
-ghost use Rattle.std.specs.Option.{option_copied};
 ghost use Rattle.et_class.specs.Looks.{class_name_at};
 ghost use Rattle.et_code.specs.declared.body.TableRow.{TableRow as Row};
+ghost use Rattle.et_program.specs.Referring.{pool_of_class};
 ghost use Rattle.et_state.specs.Words.{HasFrame, top};
 ghost use Rattle.et_event.specs.Throw.{is_above_or_same, catches_name, catches as catches_there, handler_of};
 ghost use Rattle.et_parts.specs.Places.{Runs};
-ghost use Rattle.et_parts.specs.Pools.{pool_slots};
 ghost use Rattle.et_event.specs.Interfaces.{KnowsInterfaces};
 
 use crate::frames::table_of;
 use et_base::{ClassId, ThreadId};
-use et_class::Pool;
 use et_class::flags::{INTERFACE, has};
 use et_code::TableRow;
 use et_parts::method_of;
@@ -29,62 +27,52 @@ fn is_at_or_below(program: &Program, class: ClassId, above: ClassId) -> bool
     class == above || (!interface && program.is_subclass(class, above))
 }
 
-/// Whether a catch type of this name catches an exception of a class. An interface, and what is no class of the program,
-/// catches nothing.
-fn is_caught_by(program: &Program, class: ClassId, name: Option<&[u8]>) -> bool
+/// Whether the catch type at an index of the pool of a method's class catches an exception of a class, as it was resolved when
+/// the program was linked. An interface, and what is no class of the program, catches nothing.
+fn is_caught_by(program: &Program, method_class: ClassId, index: u16, class: ClassId) -> bool
+    requires method_class { method_class < length program.now.classes }
     requires class { class < length program.now.classes }
     requires interfaces { KnowsInterfaces program.now }
-    ensures { result ≡ catches_name program.now class (option_map (λ s. s.now) name.entry) }
+    ensures { result ≡ catches_name program.now class
+        (class_name_at (pool_of_class program.now method_class) index) }
 {
-    let Some(name) = name else {
-        return false;
-    };
-    match program.resolve_class(name) {
-        Ok(above) => is_at_or_below(program, class, above),
-        Err(_) => false,
+    match program.class_at_index(method_class, index) {
+        Some(Ok(above)) => is_at_or_below(program, class, above),
+        Some(Err(_)) | None => false,
     }
 }
 
-/// The name of a class in a pool.
-fn class_name(pool: Option<&Pool>, index: u16) -> Option<&[u8]>
-    ensures { option_map (λ s. s.now) result
-        ≡ class_name_at (pool_slots (option_copied pool.entry)) index }
-{
-    match pool {
-        Some(pool) => pool.class_name(index),
-        None => None,
-    }
-}
-
-/// Whether a row of an exception table handles an exception of a class at a pc.
-fn catches(program: &Program, pool: Option<&Pool>, pc: u32, class: ClassId, row: TableRow) -> bool
+/// Whether a row of the exception table of a method handles an exception of a class at a pc.
+fn catches(program: &Program, method_class: ClassId, pc: u32, class: ClassId, row: TableRow) -> bool
+    requires method_class { method_class < length program.now.classes }
     requires class { class < length program.now.classes }
     requires interfaces { KnowsInterfaces program.now }
     ensures { result
-        ≡ catches_there program.now (pool_slots (option_copied pool.entry)) pc class row }
+        ≡ catches_there program.now (pool_of_class program.now method_class) pc class row }
 {
     row.start as u32 <= pc
         && pc < row.end as u32
-        && (row.catch == 0 || is_caught_by(program, class, class_name(pool, row.catch)))
+        && (row.catch == 0 || is_caught_by(program, method_class, row.catch, class))
 }
 
-/// Where the first of these rows that handles an exception of a class at a pc has its handler.
+/// Where the first of these rows, those of a method, that handles an exception of a class at a pc has its handler.
 fn first_handler(
     program: &Program,
-    pool: Option<&Pool>,
+    method_class: ClassId,
     pc: u32,
     class: ClassId,
     rows: &[TableRow],
 ) -> Option<u32>
+    requires method_class { method_class < length program.now.classes }
     requires class { class < length program.now.classes }
     requires interfaces { KnowsInterfaces program.now }
-    ensures { result ≡ option_map (λ (row : Row). row.handler)
-        (find (catches_there program.now (pool_slots (option_copied pool.entry)) pc class)
+    ensures { result ≡ option_map (λ (row : Row). row.handler) (find
+        (catches_there program.now (pool_of_class program.now method_class) pc class)
         rows.now) }
 {
     let row = rows
         .iter()
-        .find(|row| catches(program, pool, pc, class, **row))?;
+        .find(|row| catches(program, method_class, pc, class, **row))?;
     Some(row.handler as u32)
 }
 
@@ -105,6 +93,6 @@ pub(crate) fn handler(
         (λ (row : Row). row.handler) (handler_of program.now (top machine.now.guest thread) class) }
 {
     let method = method_of(program, machine, thread);
-    let pool = program.pool(method.class);
-    first_handler(program, pool, machine.pc(thread), class, table_of(method))
+    let pc = machine.pc(thread);
+    first_handler(program, method.class, pc, class, table_of(method))
 }

@@ -16,7 +16,7 @@ ghost use Rattle.et_event.specs.Moments.{moment};
 use et_base::{NoMemory, ObjectId, Steps, ThreadId};
 use et_event::GuestError;
 use et_parts::{class_called, ill_typed, reference_at, throw_error};
-use et_program::Program;
+use et_program::{BuiltInClass, Program};
 use et_state::{EventEnd, Lines, Machine};
 use std::sync::ledger::Ledger;
 
@@ -51,7 +51,7 @@ fn is_exception<L: Ledger>(
     ensures visits { visits.new ≡ visits.old + 1 }
 {
     let class = machine.heap.class_of(exception, visits);
-    program.is_subclass(class, class_called(program, b"java/lang/Throwable"))
+    program.is_subclass(class, class_called(program, BuiltInClass::Throwable))
 }
 
 /// The event of `athrow` (JVMS 6.5): the Throwable on top of the operands becomes pending, and the frame stays as it is. Null

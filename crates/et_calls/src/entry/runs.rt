@@ -1,5 +1,6 @@
 //! The first method of each thread but the first: `run` of its Thread object (JVMS 5.4.3.3, 5.4.6).
-ghost use Rattle.std.specs.Prelude.{◌≡◌, ◌+◌, ◌<◌, ◌≤◌, ◌^◌, codes, IfOk, length};
+ghost use Rattle.std.specs.Prelude.{◌≡◌, ◌+◌, ◌<◌, ◌≤◌, ◌^◌, false, codes, IfOk, Ok, length};
+ghost use Rattle.et_program.specs.Resolution.{resolve_method};
 ghost use Rattle.et_state.specs.State.{kept_of};
 ghost use Rattle.et_state.specs.Words.{thread_at};
 ghost use Rattle.et_event.specs.Answered.{EventAnswers};
@@ -15,7 +16,7 @@ use crate::called::codeless_error;
 use crate::entering::enter_code;
 use crate::entry::throws::throw_first;
 use crate::new_frames::{Entered, Passed};
-use et_base::{ClassId, MethodId, NoMemory, Steps, ThreadId};
+use et_base::{MethodId, NoMemory, Steps, ThreadId};
 use et_event::GuestError;
 use et_program::Program;
 use et_state::{EventEnd, Lines, Machine};
@@ -33,16 +34,19 @@ pub(crate) enum RunPlan {
     Enters(MethodId),
 }
 
-/// The class `java/lang/Thread`.
-fn thread_class(program: &Program) -> ClassId
-    requires { 0 < length program.now.classes }
-    ensures value { result ≡ class_called program.now (codes "java/lang/Thread") }
-    ensures within { result < length program.now.classes }
+/// The place of `run` of Thread among the methods of a program: those of the built-in classes come first, class by class.
+const RUN: u32 = 7;
+
+/// `run` of Thread, as it is resolved in each program.
+fn thread_run(program: &Program) -> MethodId
+    ensures value { resolve_method program.now
+        (class_called program.now (codes "java/lang/Thread")) false (codes "run") (codes "()V")
+        ≡ Ok result }
+    ensures within { result < length program.now.methods }
 {
-    match program.resolve_class(b"java/lang/Thread") {
-        Ok(class) => class,
-        Err(_) => ClassId::new(0),
-    }
+    // A law: it tells the prover, and does nothing.
+    program.is_linked();
+    MethodId::new(RUN)
 }
 
 /// What a thread comes to: `run` is resolved in Thread, and selected by the class of its Thread object. It visits one object.
@@ -63,10 +67,7 @@ fn run_plan<L: Ledger>(
     let Some(object) = machine.object_of(thread) else {
         return RunPlan::IllTyped;
     };
-    let method = match program.resolve_method(thread_class(program), false, b"run", b"()V") {
-        Ok(method) => method,
-        Err(error) => return RunPlan::Throws(GuestError::of(error)),
-    };
+    let method = thread_run(program);
     let class = machine.heap.class_of(object, visits);
     if !program.is_subclass(class, program.method(method).class) {
         return RunPlan::IllTyped;

@@ -29,7 +29,7 @@ pub(crate) fn throw_first(
         (λ end. EventAnswers (throws (moment program.now machine.old thread) error (begins
         (moment program.now machine.old thread))) end machine.old machine.new out.old out.new) }
 {
-    let class = class_called(program, error.class_name());
+    let class = class_called(program, error.class());
     let Some(object) = make_instance(program, machine, thread, class, out)? else {
         return Ok(EventEnd::ObjectLimit);
     };

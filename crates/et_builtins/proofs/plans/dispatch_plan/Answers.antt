@@ -1,9 +1,9 @@
 use Rattle.std.proofs.Common.{◌≡◌, ℕ, Option, sym, ap, subst}
+use Rattle.et_program.specs.BuiltIns.{is_deferred}
 use Rattle.et_program.specs.Members.{kept}
 use Rattle.et_event.specs.declared.rows.CallKind.{CallKind}
 use Rattle.et_event.specs.declared.rows.CallKind.TheVariants.{Virtual, Special, Interface}
 use Rattle.et_event.specs.Calls.{arguments_of, dispatched}
-use Rattle.et_builtins.specs.Deferred.{is_deferred}
 use Rattle.et_builtins.specs.Plans.{method_entered, call_planned}
 use Rattle.et_builtins.proofs.Planning.{by_kind}
 use Rattle.et_builtins.proofs.plans.dispatch_plan.Goals as goal

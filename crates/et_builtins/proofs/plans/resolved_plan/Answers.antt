@@ -1,9 +1,9 @@
 use Rattle.std.proofs.Common.{◌≡◌, ℕ, true, Option, rules, sym, ◌∙◌, ap}
+use Rattle.et_program.specs.BuiltIns.{is_deferred}
 use Rattle.et_program.specs.Entries.{is_static}
 use Rattle.et_program.specs.Members.{kept}
 use Rattle.et_event.specs.Calls.{is_as, is_static_call}
 use Rattle.et_event.specs.Moments.{moment}
-use Rattle.et_builtins.specs.Deferred.{is_deferred}
 use Rattle.et_builtins.proofs.Planning.{from_by}
 use Rattle.et_builtins.proofs.plans.resolved_plan.Goals as goal
 

@@ -1,7 +1,7 @@
 use Rattle.std.proofs.Common.{◌≡◌, ℕ, [], Option, None, sym, ◌∙◌, ap, subst}
 use Rattle.et_base.specs.declared.value.Value.{Value}
 use Rattle.et_heap.specs.Objects.{referent_of}
-use Rattle.et_event.specs.declared.rows.BuiltIn.{BuiltIn}
+use Rattle.et_program.specs.BootMethods.BuiltIn.{BuiltIn}
 use Rattle.et_event.specs.Answered.{EventAnswers}
 use Rattle.et_event.specs.BuiltIns.{answering, argument, row_done, with_reference_made}
 use Rattle.et_event.specs.Calls.{arguments_of}

@@ -14,7 +14,7 @@ intern-requires-clause-object c =
 
 pub returns-clause-ok : goal.returns-clause-ok
 returns-clause-ok c =
-    let named = subst (λ (k : ℕ). MakesObject (instance_made (record { program = c.args.program.now; before = kept_of c.args.machine.now; thread = c.args.thread }) k (begins (record { program = c.args.program.now; before = kept_of c.args.machine.now; thread = c.args.thread }))) c.in_ok-object.field-0 c.args.machine.now c.make_instance.new.machine c.args.out.now c.make_instance.new.out) c.class_called-class.ensures c.in_ok-object.ensures.made in
+    let named = subst (λ (k : ℕ). MakesObject (instance_made (record { program = c.args.program.now; before = kept_of c.args.machine.now; thread = c.args.thread }) k (begins (record { program = c.args.program.now; before = kept_of c.args.machine.now; thread = c.args.thread }))) c.in_ok-object.field-0 c.args.machine.now c.make_instance.new.machine c.args.out.now c.make_instance.new.out) c.class_called-class.ensures.value c.in_ok-object.ensures.made in
     let made = subst (λ (o : Option ℕ). MakesObject (instance_made (record { program = c.args.program.now; before = kept_of c.args.machine.now; thread = c.args.thread }) (class_called c.args.program.now (codes "java/lang/String")) (begins (record { program = c.args.program.now; before = kept_of c.args.machine.now; thread = c.args.thread }))) o c.args.machine.now c.make_instance.new.machine c.args.out.now c.make_instance.new.out) c.in-Some.is named in
     λ instr code pool class. string_made c.args.program.now (record { instr = instr; next = c.args.next; code = code; pool = pool; class = class }) c.args.bytes.now c.in-Some.object c.args.thread c.args.machine.now c.make_instance.new.machine c.intern.new.self c.begin_event.new.self c.push.new.self c.set_pc.new.self c.args.out.now c.make_instance.new.out
     c.requires.sound c.requires.frame c.requires.room c.requires.first made c.in_ok-intern.ensures.ok c.begin_event.ensures c.push.ensures c.set_pc.ensures

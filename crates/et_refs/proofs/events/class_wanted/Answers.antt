@@ -17,4 +17,4 @@ returns-in_err-throws_unless-clause-is c =
     ∙ (ap (λ (b : Bool). throws_unless e (begins e) NegativeArraySizeException b (go c.in_ok-class.class)) (sym c.are_lengths.ensures) ∙ c.in_err-throws_unless.ensures.is e (go c.in_ok-class.class))) same
 
 pub returns-clause-resolves : goal.returns-clause-resolves
-returns-clause-resolves c = resolves c.args.program.now nowhere 0 c.in_ok-class.class c.args.name.now (c.in_ok-class.ensures.is nowhere 0)
+returns-clause-resolves c = resolves c.args.program.now nowhere 0 c.in_ok-class.class c.args.named.now.name.now (c.in_ok-class.ensures.is nowhere 0)

@@ -41,8 +41,11 @@ invariant_of-result c = (
   },
   record {
     numbered = subst (λ (xs : List MethodInfo). HasIndexedMethods c.in_ok-texts.texts xs) c.as_slice-methods.ensures.value c.in_ok-texts.ensures.methods;
-    signed = c.in_ok-signatures.ensures ∙ ap (λ (xs : List MethodInfo). map (signature_of c.in_ok-texts.texts) xs) c.as_slice-methods.ensures.value;
+    signed =
+        c.in_ok-signatures.ensures
+        ∙ (ap (λ (xs : List MethodInfo). map (signature_of c.in_ok-texts.texts c.as_slice-3.result.now) xs) c.as_slice-methods.ensures.value
+        ∙ ap (λ (cs : List ClassEntry). map (signature_of c.in_ok-texts.texts cs) c.args.tables.methods.items) c.as_slice-3.ensures.value);
   },
-  subst (λ (xs : List Constants). AreShaped xs c.in_ok-shapes.shapes.items) c.as_slice-3.ensures.value c.in_ok-shapes.ensures,
+  subst (λ (xs : List Constants). AreShaped xs c.in_ok-shapes.shapes.items) c.as_slice-4.ensures.value c.in_ok-shapes.ensures,
   nothing_kept _ _ c.new.ensures.items,
 )
