@@ -1,14 +1,13 @@
 -- The table of built-in methods in the code is that of the definition.
-use Rattle.std.proofs.Common.{◌≡◌, ℕ, ◌&&◌, Bool, true, false, List, [], ◌∷◌, map, Option, Some, None, refl, ◌∙◌, ap}
+use Rattle.std.proofs.Common.{◌≡◌, ℕ, Bool, true, false, List, [], ◌∷◌, map, Option, Some, refl, ◌∙◌, ap}
 use Rattle.std.specs.Prelude.{find, option_map, if◌then◌else◌}
-use Rattle.std.specs.Str.{bytes_eq}
 use Rattle.et_boot.specs.BuiltIns.{is_called, built_ins, built_in_called}
 use Rattle.et_boot.specs.declared.built_ins.BuiltIn.{BuiltIn}
 use Rattle.et_boot.specs.declared.built_ins.BuiltInRow.{BuiltInRow}
 use Rattle.et_boot.specs.Shown.{shown_row}
 
-abbrev pub row_is : List ℕ → List ℕ → BuiltInRow → Bool
-row_is name descriptor row = bytes_eq row.name.now name && bytes_eq row.descriptor.now descriptor
+abbrev row_is : List ℕ → List ℕ → BuiltInRow → Bool
+row_is name descriptor row = is_called name descriptor (shown_row row)
 
 abbrev built_in_at : Option BuiltInRow → Option BuiltIn
 built_in_at row = option_map (λ (r : BuiltInRow). r.built_in) row

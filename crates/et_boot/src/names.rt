@@ -4,7 +4,7 @@ ghost use Rattle.std.specs.Prelude.{◌≡◌, Some};
 ghost use Rattle.std.specs.List.{position_from};
 ghost use Rattle.et_boot.specs.Classes.{boot_classes};
 ghost use Rattle.et_boot.specs.Facts.{is_class_named};
-ghost use Rattle.et_boot.specs.Names.{name_of};
+ghost use Rattle.et_boot.specs.Names.{built_in_class_name};
 
 /// A built-in class that the machine itself names, with its place in the table. All but the first six are exceptions and
 /// errors that instructions throw (JVMS 2.10).
@@ -39,7 +39,8 @@ pub enum BuiltInClass {
 impl BuiltInClass {
     /// The place of the class in the table, from 0 on.
     pub fn place(self) -> u32
-        ensures { position_from (is_class_named (name_of self)) 0 boot_classes ≡ Some result }
+        ensures { position_from (is_class_named (built_in_class_name self)) 0 boot_classes
+            ≡ Some result }
     {
         self as u32
     }

@@ -12,36 +12,11 @@ use Rattle.et_pool.specs.Operands.{Shape, shape_of, return_of, entries_returned}
 use Rattle.et_pool.proofs.Returns.{width_returned}
 use Rattle.et_event.specs.PoolOperands.Operand.{Operand}
 use Rattle.et_event.specs.PoolOperands.Operand.TheVariants as operand
-use Rattle.et_event.specs.Calls.{are_of, are_arguments, arguments_of, begin_with, call_fits, entry_count}
+use Rattle.et_event.specs.Calls.{are_of, are_passed, are_arguments, arguments_of, begin_with, call_fits, entry_count}
 use Rattle.et_event.specs.Operands.{operand_kind, kind_of_letter, returned_width}
 use Rattle.et_event.specs.Moments.{Moment, current_frame}
 use Rattle.et_state.specs.Threads.{FrameState}
-use Rattle.et_builtins.specs.Arguments.{arguments_in, are_of_kinds, are_passed, fitting, is_passing}
-
--- KINDS AND TYPES
-
-begin_same : (kind : Option Operand) (g h : List Value → Bool) (vs : List Value) → ((ws : List Value) → g ws ≡ h ws) → begin_with kind g vs ≡ begin_with kind h vs
-begin_same None g h vs same = refl
-begin_same (Some operand.Int) g h [] same = refl
-begin_same (Some operand.Int) g h (Int n ∷ vs) same = same vs
-begin_same (Some operand.Int) g h (v ∷ vs) same = refl
-begin_same (Some operand.Long) g h [] same = refl
-begin_same (Some operand.Long) g h (Long n ∷ []) same = refl
-begin_same (Some operand.Long) g h (Long n ∷ LongHigh ∷ vs) same = same vs
-begin_same (Some operand.Long) g h (Long n ∷ v ∷ vs) same = refl
-begin_same (Some operand.Long) g h (v ∷ vs) same = refl
-begin_same (Some operand.Reference) g h [] same = refl
-begin_same (Some operand.Reference) g h (Null ∷ vs) same = same vs
-begin_same (Some operand.Reference) g h (Ref o ∷ vs) same = same vs
-begin_same (Some operand.Reference) g h (v ∷ vs) same = refl
-
-kinds_of_types : (types : List (List ℕ)) (vs : List Value) → are_of_kinds (map operand_kind types) vs ≡ are_of types vs
-kinds_of_types [] vs = refl
-kinds_of_types (t ∷ types) vs = begin_same (operand_kind t) (are_of_kinds (map operand_kind types)) (are_of types) vs (kinds_of_types types)
-
-passed_is : (static : Bool) (type : MethodType) (vs : List Value) → are_passed static (map operand_kind type.parameters) vs ≡ are_arguments static type vs
-passed_is true type vs = kinds_of_types type.parameters vs
-passed_is false type vs = begin_same (Some operand.Reference) (are_of_kinds (map operand_kind type.parameters)) (are_of type.parameters) vs (kinds_of_types type.parameters)
+use Rattle.et_builtins.specs.Arguments.{arguments_in, fitting, is_passing}
 
 -- HOW MANY ENTRIES ARGUMENTS ARE
 
@@ -82,11 +57,11 @@ begins (Some operand.Reference) g (Null ∷ vs) e = record { operand = operand.R
 begins (Some operand.Reference) g (Ref o ∷ vs) e = record { operand = operand.Reference; is = refl; rest = vs; passes = e; long = omega arith }
 begins (Some operand.Reference) g (v ∷ vs) e = cc
 
-are_of_length : (types : List (List ℕ)) (vs : List Value) → are_of types vs ≡ true → length vs ≡ sum_by width_of types
+are_of_length : (types : List (List ℕ)) (vs : List Value) → are_of (map operand_kind types) vs ≡ true → length vs ≡ sum_by width_of types
 are_of_length [] [] e = refl
 are_of_length [] (v ∷ vs) e = cc
 are_of_length (t ∷ types) vs e =
-    let b : Begins (operand_kind t) (are_of types) vs = begins (operand_kind t) (are_of types) vs e in
+    let b : Begins (operand_kind t) (are_of (map operand_kind types)) vs = begins (operand_kind t) (are_of (map operand_kind types)) vs e in
     let one : width_of t ≡ operand_width b.operand = type_width t b.operand b.is in
     let more : length b.rest ≡ sum_by width_of types = are_of_length types b.rest b.passes in
     let split : sum_by width_of (t ∷ types) ≡ width_of t + sum_by width_of types = sum_by-cons width_of t types in
@@ -95,7 +70,7 @@ are_of_length (t ∷ types) vs e =
 pub arguments_length : (static : Bool) (type : MethodType) (vs : List Value) → are_arguments static type vs ≡ true → length vs ≡ entry_count static type
 arguments_length true type vs e = let h : length vs ≡ sum_by width_of type.parameters = are_of_length type.parameters vs e in omega arith
 arguments_length false type vs e =
-    let b : Begins (Some operand.Reference) (are_of type.parameters) vs = begins (Some operand.Reference) (are_of type.parameters) vs e in
+    let b : Begins (Some operand.Reference) (are_of (map operand_kind type.parameters)) vs = begins (Some operand.Reference) (are_of (map operand_kind type.parameters)) vs e in
     let k : operand.Reference ≡ b.operand = some_same operand.Reference b.operand b.is in
     let one : operand_width b.operand ≡ 1 = ap operand_width (sym k) in
     let more : length b.rest ≡ sum_by width_of type.parameters = are_of_length type.parameters b.rest b.passes in
@@ -128,10 +103,9 @@ passing_type : (e : Moment) (static : Bool) (type : MethodType) (count : ℕ) �
 passing_type e static type count n =
     let ops : List Value = (current_frame e).operands in
     let left : length ops - count ≡ length (drop count ops) = sym (length-drop count ops) in
-    ap (λ (b : Bool). b && nat_le (length ops - count + entries_returned (return_of type.returned)) (current_frame e).room) (passed_is static type (arguments_in (current_frame e) count))
-    ∙ (ap (λ (k : ℕ). are_arguments static type (arguments_in (current_frame e) count) && nat_le (k + entries_returned (return_of type.returned)) (current_frame e).room) left
+    ap (λ (k : ℕ). are_arguments static type (arguments_in (current_frame e) count) && nat_le (k + entries_returned (return_of type.returned)) (current_frame e).room) left
     ∙ (ap (λ (w : ℕ). are_arguments static type (arguments_in (current_frame e) count) && nat_le (length (drop count ops) + w) (current_frame e).room) (width_returned type.returned)
-    ∙ ap (λ (k : ℕ). are_arguments static type (arguments_in (current_frame e) k) && nat_le (length (drop k ops) + returned_width type.returned) (current_frame e).room) n))
+    ∙ ap (λ (k : ℕ). are_arguments static type (arguments_in (current_frame e) k) && nat_le (length (drop k ops) + returned_width type.returned) (current_frame e).room) n)
 
 -- by the shape of a call
 

@@ -1,5 +1,4 @@
 pub mod Standing
-mod Tabled
 mod Changing
 mod Queueing
 mod Slots

@@ -7,8 +7,8 @@ use Rattle.et_base.specs.declared.value.Value.{Value}
 use Rattle.et_base.specs.declared.value.Value.TheVariants.{Unset, Int, Long, LongHigh, Null, Ref}
 use Rattle.et_event.specs.PoolOperands.Operand.{Operand}
 use Rattle.et_event.specs.PoolOperands.Operand.TheVariants as operand
-use Rattle.et_event.specs.Calls.{begin_with, is_empty}
-use Rattle.et_builtins.specs.Arguments.{entries_in, are_of_kinds, are_passed}
+use Rattle.et_event.specs.Calls.{begin_with, is_empty, are_of, are_passed}
+use Rattle.et_builtins.specs.Arguments.{entries_in}
 
 -- ONE ARGUMENT
 
@@ -59,7 +59,7 @@ begins_from kind g vs k =
 
 -- the arguments from `at` on are values of the kinds from the i-th on exactly where those from `from` on are values of all kinds
 pub record Passing (kinds : List (Option Operand)) (vs : List Value) (from i at : ℕ) : Type 0 where
-  pub same : are_of_kinds (drop i kinds) (drop at vs) ≡ are_of_kinds kinds (drop from vs)
+  pub same : are_of (drop i kinds) (drop at vs) ≡ are_of kinds (drop from vs)
   pub within : at ≤ length vs
 
 ended : (vs : List Value) (at : ℕ) → at ≤ length vs → is_empty (drop at vs) ≡ eqb at (length vs)
@@ -68,19 +68,19 @@ ended [] (suc at) le = absurd (omega arith)
 ended (v ∷ vs) zero le = grind (arith, nat_tests)
 ended (v ∷ vs) (suc at) le = ended vs at (omega arith) ∙ grind (arith, nat_tests)
 
-pub kinds_end : (kinds : List (Option Operand)) (vs : List Value) (from i at : ℕ) → Passing kinds vs from i at → length kinds ≤ i → are_of_kinds kinds (drop from vs) ≡ eqb at (length vs)
+pub kinds_end : (kinds : List (Option Operand)) (vs : List Value) (from i at : ℕ) → Passing kinds vs from i at → length kinds ≤ i → are_of kinds (drop from vs) ≡ eqb at (length vs)
 kinds_end kinds vs from i at b all =
-    sym b.same ∙ (ap (λ (ks : List (Option Operand)). are_of_kinds ks (drop at vs)) (drop_all i kinds all) ∙ ended vs at b.within)
+    sym b.same ∙ (ap (λ (ks : List (Option Operand)). are_of ks (drop at vs)) (drop_all i kinds all) ∙ ended vs at b.within)
 
 one_kind : (kinds : List (Option Operand)) (vs : List Value) (from i at : ℕ) → Passing kinds vs from i at → i < length kinds
-    → are_of_kinds kinds (drop from vs) ≡ option_map_or (λ n. are_of_kinds (drop (i + 1) kinds) (drop (at + n) vs)) (entries_in (get_or kinds i None) (get_or vs at Unset) (get_or vs (at + 1) Unset)) false
+    → are_of kinds (drop from vs) ≡ option_map_or (λ n. are_of (drop (i + 1) kinds) (drop (at + n) vs)) (entries_in (get_or kinds i None) (get_or vs at Unset) (get_or vs (at + 1) Unset)) false
 one_kind kinds vs from i at b lt =
-    sym b.same ∙ (at_drop_more (λ (ks : List (Option Operand)). are_of_kinds ks (drop at vs)) kinds i None lt ∙ begins_from (get_or kinds i None) (are_of_kinds (drop (i + 1) kinds)) vs at)
+    sym b.same ∙ (at_drop_more (λ (ks : List (Option Operand)). are_of ks (drop at vs)) kinds i None lt ∙ begins_from (get_or kinds i None) (are_of (drop (i + 1) kinds)) vs at)
 
 pub kinds_refused : (kinds : List (Option Operand)) (vs : List Value) (from i at : ℕ) → Passing kinds vs from i at → i < length kinds
-    → None ≡ entries_in (get_or kinds i None) (get_or vs at Unset) (get_or vs (at + 1) Unset) → false ≡ are_of_kinds kinds (drop from vs)
+    → None ≡ entries_in (get_or kinds i None) (get_or vs at Unset) (get_or vs (at + 1) Unset) → false ≡ are_of kinds (drop from vs)
 kinds_refused kinds vs from i at b lt none =
-    sym (one_kind kinds vs from i at b lt ∙ ap (λ (o : Option ℕ). option_map_or (λ n. are_of_kinds (drop (i + 1) kinds) (drop (at + n) vs)) o false) (sym none))
+    sym (one_kind kinds vs from i at b lt ∙ ap (λ (o : Option ℕ). option_map_or (λ n. are_of (drop (i + 1) kinds) (drop (at + n) vs)) o false) (sym none))
 
 nothing_in : (kind : Option Operand) (n : ℕ) → entries_in kind Unset Unset ≡ Some n → ⊥
 nothing_in None n e = cc
@@ -121,7 +121,7 @@ entries_deep kind (v ∷ vs) (suc at) n le e =
 pub kinds_more : (kinds : List (Option Operand)) (vs : List Value) (from i at n : ℕ) → Passing kinds vs from i at → i < length kinds
     → Some n ≡ entries_in (get_or kinds i None) (get_or vs at Unset) (get_or vs (at + 1) Unset) → Passing kinds vs from (i + 1) (at + n)
 kinds_more kinds vs from i at n b lt one = record {
-  same = sym (one_kind kinds vs from i at b lt ∙ ap (λ (o : Option ℕ). option_map_or (λ n. are_of_kinds (drop (i + 1) kinds) (drop (at + n) vs)) o false) (sym one));
+  same = sym (one_kind kinds vs from i at b lt ∙ ap (λ (o : Option ℕ). option_map_or (λ n. are_of (drop (i + 1) kinds) (drop (at + n) vs)) o false) (sym one));
   within = entries_deep (get_or kinds i None) vs at n b.within (sym one);
 }
 
@@ -135,5 +135,5 @@ receiver_entries v w n e = cc
 pub receiver_deep : (vs : List Value) (n : ℕ) → entries_in (Some operand.Reference) (get_or vs 0 Unset) (get_or vs (0 + 1) Unset) ≡ Some n → n ≤ length vs
 receiver_deep vs n e = let h : 0 + n ≤ length vs = entries_deep (Some operand.Reference) vs 0 n (omega arith) e in omega arith
 
-pub received : (kinds : List (Option Operand)) (vs : List Value) → are_passed false kinds vs ≡ option_map_or (λ n. are_of_kinds kinds (drop n vs)) (entries_in (Some operand.Reference) (get_or vs 0 Unset) (get_or vs (0 + 1) Unset)) false
-received kinds vs = begins_here (Some operand.Reference) (are_of_kinds kinds) vs
+pub received : (kinds : List (Option Operand)) (vs : List Value) → are_passed false kinds vs ≡ option_map_or (λ n. are_of kinds (drop n vs)) (entries_in (Some operand.Reference) (get_or vs 0 Unset) (get_or vs (0 + 1) Unset)) false
+received kinds vs = begins_here (Some operand.Reference) (are_of kinds) vs

@@ -9,15 +9,12 @@ use Rattle.et_state.specs.State.{Kept, MachineState}
 use Rattle.et_state.specs.declared.records.Record.{Record}
 use Rattle.et_state.specs.declared.ends.EventEnd.{EventEnd}
 use Rattle.et_state.specs.Outcome.{Outcome}
-use Rattle.et_program.specs.declared.info.MethodInfo.{MethodInfo}
-use Rattle.et_event.specs.declared.errors.GuestError.TheVariants.{AbstractMethodError, OutOfMemoryError}
+use Rattle.et_event.specs.declared.errors.GuestError.TheVariants.{OutOfMemoryError}
 use Rattle.et_program.specs.BootMethods.BuiltIn.{BuiltIn}
 use Rattle.et_event.specs.Answered.{EventAnswers}
-use Rattle.et_program.specs.BuiltIns.{built_in_of}
-use Rattle.et_event.specs.BuiltIns.{built_in_event, built_in_row, done_by, is_fit_for, row_done, starts_thread}
+use Rattle.et_event.specs.BuiltIns.{built_in_row, is_fit_for, row_done, starts_thread}
 use Rattle.et_event.specs.Checks.{ill_typed_unless, throws_unless, waits_unless}
-use Rattle.et_event.specs.Frames.{first_reference}
-use Rattle.et_event.specs.Moments.{Moment, begins, ill_typed, throws, waits}
+use Rattle.et_event.specs.Moments.{Moment, begins, ill_typed, waits}
 use Rattle.et_event.specs.Sites.{Site}
 
 pub fit_answers : (e : Moment) (at : Site) (args : List Value) (o : ℕ) (b : BuiltIn) (end : EventEnd) (m m' : MachineState) (out out' : List Record) → is_fit_for e (begins e) args o b ≡ true
@@ -29,30 +26,6 @@ pub unfit_answers : (e : Moment) (at : Site) (args : List Value) (o : ℕ) (b : 
     → EventAnswers (ill_typed e) end m m' out out' → EventAnswers (built_in_row e at (begins e) args o b) end m m' out out'
 unfit_answers e at args o b end m m' out out' unfit a =
     subst (λ (x : Outcome Kept). EventAnswers x end m m' out out') (sym (ap (λ (c : Bool). ill_typed_unless e c (row_done e at (begins e) args o b)) unfit)) a
-
-pub built_in_answers : (e : Moment) (at : Site) (args : List Value) (i : MethodInfo) (o : ℕ) (b : BuiltIn) (end : EventEnd) (m m' : MachineState) (out out' : List Record)
-    → first_reference args ≡ Some o → built_in_of i ≡ Some b → EventAnswers (built_in_row e at (begins e) args o b) end m m' out out' → EventAnswers (built_in_event e at (begins e) args i) end m m' out out'
-built_in_answers e at args i o b end m m' out out' first kind a =
-    subst (λ (x : Outcome Kept). EventAnswers x end m m' out out')
-    (sym (ap (λ (r : Option ℕ). done_by e at (begins e) args r (built_in_of i)) first ∙ ap (λ (k : Option BuiltIn). done_by e at (begins e) args (Some o) k) kind)) a
-
-no_receiver : (e : Moment) (at : Site) (args : List Value) (k : Option BuiltIn) → done_by e at (begins e) args None k ≡ throws e AbstractMethodError (begins e)
-no_receiver e at args None = refl
-no_receiver e at args (Some b) = refl
-
-not_built_in : (e : Moment) (at : Site) (args : List Value) (r : Option ℕ) → done_by e at (begins e) args r None ≡ throws e AbstractMethodError (begins e)
-not_built_in e at args None = refl
-not_built_in e at args (Some o) = refl
-
-pub uncalled_answers : (e : Moment) (at : Site) (args : List Value) (i : MethodInfo) (end : EventEnd) (m m' : MachineState) (out out' : List Record) → first_reference args ≡ None
-    → EventAnswers (throws e AbstractMethodError (begins e)) end m m' out out' → EventAnswers (built_in_event e at (begins e) args i) end m m' out out'
-uncalled_answers e at args i end m m' out out' first a =
-    subst (λ (x : Outcome Kept). EventAnswers x end m m' out out') (sym (ap (λ (r : Option ℕ). done_by e at (begins e) args r (built_in_of i)) first ∙ no_receiver e at args (built_in_of i))) a
-
-pub abstract_answers : (e : Moment) (at : Site) (args : List Value) (i : MethodInfo) (end : EventEnd) (m m' : MachineState) (out out' : List Record) → built_in_of i ≡ None
-    → EventAnswers (throws e AbstractMethodError (begins e)) end m m' out out' → EventAnswers (built_in_event e at (begins e) args i) end m m' out out'
-abstract_answers e at args i end m m' out out' kind a =
-    subst (λ (x : Outcome Kept). EventAnswers x end m m' out out') (sym (ap (λ (k : Option BuiltIn). done_by e at (begins e) args (first_reference args) k) kind ∙ not_built_in e at args (first_reference args))) a
 
 -- START AND JOIN
 

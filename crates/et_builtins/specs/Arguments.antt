@@ -1,5 +1,5 @@
 -- The arguments of a call, among the operands.
-use Rattle.std.specs.Prelude.{ℕ, ◌+◌, ◌-◌, ◌&&◌, nat_le, Bool, true, false, if◌then◌else◌, List, [], ◌∷◌, length, take, reverse, Option, Some, None}
+use Rattle.std.specs.Prelude.{ℕ, ◌+◌, ◌-◌, ◌&&◌, nat_le, Bool, if◌then◌else◌, List, [], length, take, reverse, Option, Some, None}
 use Rattle.et_base.specs.declared.value.Value.{Value}
 use Rattle.et_base.specs.declared.value.Value.TheVariants.{Int, Long, LongHigh, Null, Ref}
 use Rattle.et_pool.specs.Descriptors.{MethodType}
@@ -8,7 +8,7 @@ use Rattle.et_state.specs.Threads.{FrameState}
 use Rattle.et_event.specs.PoolOperands.Operand.{Operand}
 use Rattle.et_event.specs.PoolOperands.Operand.TheVariants as operand
 use Rattle.et_event.specs.Moments.{Moment}
-use Rattle.et_event.specs.Calls.{begin_with, is_empty, entry_count, call_fits}
+use Rattle.et_event.specs.Calls.{are_passed, entry_count, call_fits}
 
 -- the topmost entries of a frame, as arguments in their order
 abbrev pub arguments_in : FrameState → ℕ → List Value
@@ -21,16 +21,6 @@ entries_in (Some operand.Long) (Long n) LongHigh = Some 2
 entries_in (Some operand.Reference) Null next = Some 1
 entries_in (Some operand.Reference) (Ref o) next = Some 1
 entries_in kind first next = None
-
--- these are values of the kinds, and no others
-abbrev pub are_of_kinds : List (Option Operand) → List Value → Bool
-are_of_kinds [] vs = is_empty vs
-are_of_kinds (kind ∷ kinds) vs = begin_with kind (are_of_kinds kinds) vs
-
--- .. behind a receiver, where the method isn't static
-abbrev pub are_passed : Bool → List (Option Operand) → List Value → Bool
-are_passed true kinds vs = are_of_kinds kinds vs
-are_passed false kinds vs = begin_with (Some operand.Reference) (are_of_kinds kinds) vs
 
 -- so many entries may be passed to a call of this shape, and what is returned will fit
 abbrev pub is_passing : FrameState → Bool → Shape → ℕ → Bool

@@ -1,23 +1,7 @@
--- What a built-in method answers, and what it uses of its object.
+-- What a built-in method uses of its object.
 use Rattle.std.specs.Prelude.{ℕ}
 use Rattle.et_program.specs.BootMethods.BuiltIn.{BuiltIn}
 use Rattle.et_program.specs.BootMethods.BuiltIn.TheVariants.{Nothing, SetMessage, SetMessageAndCause, GetMessage, GetCause, SetTarget, Start, Join, SetReferent, SetReferentAndQueue, GetReferent, ClearReferent, Poll}
-
--- how many entries it answers
-abbrev pub entries_answered : BuiltIn → ℕ
-entries_answered Nothing = 0
-entries_answered SetMessage = 0
-entries_answered SetMessageAndCause = 0
-entries_answered GetMessage = 1
-entries_answered GetCause = 1
-entries_answered SetTarget = 0
-entries_answered Start = 0
-entries_answered Join = 0
-entries_answered SetReferent = 0
-entries_answered SetReferentAndQueue = 0
-entries_answered GetReferent = 1
-entries_answered ClearReferent = 0
-entries_answered Poll = 1
 
 -- how many of the slots that the machine itself uses
 abbrev pub slots_used : BuiltIn → ℕ

@@ -13,7 +13,8 @@ ghost use Rattle.et_program.specs.Entries.{Linked};
 ghost use Rattle.et_parts.specs.Tops.{IsIn};
 ghost use Rattle.et_event.specs.Frames.{first_reference};
 ghost use Rattle.et_event.specs.Moments.{moment};
-ghost use Rattle.et_builtins.specs.Arguments.{arguments_in, are_of_kinds, are_passed, entries_in as entries_among, fitting, is_passing};
+ghost use Rattle.et_event.specs.Calls.{are_of as are_of_kinds, are_passed};
+ghost use Rattle.et_builtins.specs.Arguments.{arguments_in, entries_in as entries_among, fitting, is_passing};
 
 use et_base::{ObjectId, ThreadId, Value};
 use et_parts::operand_at;

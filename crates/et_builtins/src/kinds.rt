@@ -4,7 +4,7 @@ ghost use Rattle.et_program.specs.BuiltIns.{built_in_of as kind_of};
 ghost use Rattle.et_program.specs.Entries.{method_at};
 ghost use Rattle.et_event.specs.Operands.{returned_width};
 ghost use Rattle.et_event.specs.Sound.{returned_of};
-ghost use Rattle.et_builtins.specs.Kinds.{entries_answered};
+ghost use Rattle.et_event.specs.BuiltIns.{entries_answered};
 
 use et_base::MethodId;
 use et_program::{BuiltIn, Program};

@@ -8,11 +8,11 @@ ghost use Rattle.et_state.specs.Threads.{thread_with};
 ghost use Rattle.et_state.specs.State.{kept_of};
 ghost use Rattle.et_state.specs.Sound.{IsSound};
 ghost use Rattle.et_state.specs.Words.{HasFrame, top};
-ghost use Rattle.et_program.specs.BootNames.{name_of};
+ghost use Rattle.et_program.specs.BootNames.{built_in_class_name};
 ghost use Rattle.et_program.specs.Entries.{Linked};
 ghost use Rattle.et_state.specs.declared.records.Record.{Record};
 ghost use Rattle.et_event.specs.Answered.{EventAnswers};
-ghost use Rattle.et_event.specs.BuiltIns.{answering, built_in_row as row_of, has_thread_ended as has_ended_in, is_fit_for as fits_row, is_object_of_class as is_of_class, reference_in, is_null_or_of_class, row_done, starts_thread, takes_queue as has_queue_argument, uses_thread as is_on_thread, uses_throwable as is_on_throwable, with_thread_for};
+ghost use Rattle.et_event.specs.BuiltIns.{answering, built_in_row as row_of, entries_answered, has_thread_ended as has_ended_in, is_fit_for as fits_row, is_object_of_class as is_of_class, reference_in, is_null_or_of_class, row_done, starts_thread, takes_queue as has_queue_argument, uses_thread as is_on_thread, uses_throwable as is_on_throwable, with_thread_for};
 ghost use Rattle.et_event.specs.Calls.{arguments_of};
 ghost use Rattle.et_event.specs.Checks.{waits_unless};
 ghost use Rattle.et_event.specs.Kinds.{or_zero};
@@ -21,7 +21,7 @@ ghost use Rattle.et_event.specs.PoolOperands.Operand.TheVariants as operand;
 ghost use Rattle.et_event.specs.Sites.{Site};
 ghost use Rattle.et_event.specs.Sound.{IsSoundFor};
 ghost use Rattle.et_event.specs.Programs.{HasMachineSlots};
-ghost use Rattle.et_builtins.specs.Kinds.{entries_answered, slots_used};
+ghost use Rattle.et_builtins.specs.Kinds.{slots_used};
 
 use crate::arguments::argument_at;
 use crate::changes::{
@@ -50,7 +50,7 @@ fn is_of<L: Ledger>(
     requires sound { IsSoundFor program.now (kept_of machine.now) }
     requires held { IsHeld machine.now.heap object }
     ensures value { (t : ℕ) → result ≡ is_of_class (moment program.now machine.now t)
-        (begins (moment program.now machine.now t)) object (name_of class) }
+        (begins (moment program.now machine.now t)) object (built_in_class_name class) }
     ensures visits { visits.new ≡ visits.old + 1 }
 {
     let own = machine.heap.class_of(object, visits);
@@ -92,7 +92,7 @@ fn is_null_or_of<L: Ledger>(
     requires sound { IsSoundFor program.now (kept_of machine.now) }
     requires held { (o : ℕ) → Contains (refs_of_value value) o → IsHeld machine.now.heap o }
     ensures value { (t : ℕ) → result ≡ is_null_or_of_class (moment program.now machine.now t)
-        (begins (moment program.now machine.now t)) value (name_of class) }
+        (begins (moment program.now machine.now t)) value (built_in_class_name class) }
     ensures visits { visits.new ≤ visits.old + 1 }
 {
     match value {

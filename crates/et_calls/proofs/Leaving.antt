@@ -36,7 +36,7 @@ use Rattle.et_event.specs.Sound.{IsSoundFor, AreSoundFrames, IsAbove, IsStaged}
 use Rattle.et_event.specs.PoolOperands.Operand.{Operand}
 use Rattle.et_calls.proofs.Coming.{after_return, came_after_return}
 use Rattle.et_calls.proofs.Values.{by_values, entries_are_in, return_is, width_returned}
-use Rattle.et_calls.specs.Returned.{FitsBelow, IsValueIn, entries_returned, returned_values, returning_frame}
+use Rattle.et_calls.specs.Returned.{FitsBelow, IsValueIn, returned_entries, returned_values, returning_frame}
 use Rattle.et_builtins.specs.Types.{returned_in}
 use Rattle.et_calls.specs.Stages.{IsClassIn}
 use Rattle.et_calls.specs.Ways.{Came}
@@ -74,16 +74,16 @@ left_answers p t values m m' out out' x beside came e = (
 pub frame_left : (p : Linked) (t : ℕ) (value : Option Value) (lock : Option Lock) (m m₂ m₃ : MachineState) (out out' : List Record) → HasFrame m.guest t → IsValueIn (top m.guest t) value
     → lock_in (top m.guest t).stage (running_method p (top m.guest t)) (top m.guest t).lock ≡ lock
     → Came (kept_of m) (class_done_by (top m.guest t).stage (left_some lock (begins (moment p m t)))) m₂ → m₂.guest.threads ≡ m.guest.threads
-    → m₃ ≡ steps_thread m₂ t (after_return p (entries_returned value) (thread_at m₂.guest t)) (frame_roots (top m₂.guest t))
+    → m₃ ≡ steps_thread m₂ t (after_return p (returned_entries value) (thread_at m₂.guest t)) (frame_roots (top m₂.guest t))
     → out' ≡ out ++ Exit (m.guest.clock + 1) t (unwrap_or (top m.guest t).method 0) ∷ []
-    → EventAnswers (goes (frame_returned (moment p m t) (entries_returned value) (begins (moment p m t)))) ends.Done m m₃ out out'
+    → EventAnswers (goes (frame_returned (moment p m t) (returned_entries value) (begins (moment p m t)))) ends.Done m m₃ out out'
 frame_left p t value lock m m₂ m₃ out out' has there held came same e o =
     let d : Doing = begins (moment p m t) in
     let stage : Stage = (top m.guest t).stage in
     let x : Doing = class_done_by stage (left_some lock d) in
-    let came₃ = came_after_return (kept_of m) x p t (entries_returned value) m₂ m₃ came has same (entries_are_in (top m.guest t) value there) e in
-    subst (λ (l : Option Lock). EventAnswers (goes (left_by (moment p m t) (entries_returned value) (class_done_by stage (left_some l d)))) ends.Done m m₃ out out') (sym held)
-    (left_answers p t (entries_returned value) m m₃ out out' x (done_beside stage d (left_some lock d) (left_beside lock d)) came₃ o)
+    let came₃ = came_after_return (kept_of m) x p t (returned_entries value) m₂ m₃ came has same (entries_are_in (top m.guest t) value there) e in
+    subst (λ (l : Option Lock). EventAnswers (goes (left_by (moment p m t) (returned_entries value) (class_done_by stage (left_some l d)))) ends.Done m m₃ out out') (sym held)
+    (left_answers p t (returned_entries value) m m₃ out out' x (done_beside stage d (left_some lock d) (left_beside lock d)) came₃ o)
 
 -- THE MONITOR THAT IS LEFT
 
@@ -135,7 +135,7 @@ owned_is p t m (Some (OfClass c)) = refl
 -- WHERE THE MONITOR IS OWNED, AND WHERE IT ISN'T
 
 abbrev returns_by : Moment → Option Value → Bool → Outcome Kept
-returns_by e value owned = throws_unless e (begins e) IllegalMonitorStateException owned (goes (frame_returned e (entries_returned value) (begins e)))
+returns_by e value owned = throws_unless e (begins e) IllegalMonitorStateException owned (goes (frame_returned e (returned_entries value) (begins e)))
 
 returning_is : (p : Linked) (t : ℕ) (value : Option Value) (m : MachineState) (lock : Option Lock) (b : Bool) → lock ≡ lock_in (top m.guest t).stage (running_method p (top m.guest t)) (top m.guest t).lock
     → owns_some_at t lock m ≡ b → returning_frame (moment p m t) value ≡ returns_by (moment p m t) value b
@@ -144,7 +144,7 @@ returning_is p t value m lock b held owned =
     ∙ ap (λ (c : Bool). returns_by (moment p m t) value c) (owned_is p t m lock ∙ owned)
 
 pub owned_answers : (p : Linked) (t : ℕ) (value : Option Value) (m m' : MachineState) (out out' : List Record) (end : EventEnd) (lock : Option Lock) → lock ≡ lock_in (top m.guest t).stage (running_method p (top m.guest t)) (top m.guest t).lock
-    → owns_some_at t lock m ≡ true → EventAnswers (goes (frame_returned (moment p m t) (entries_returned value) (begins (moment p m t)))) end m m' out out'
+    → owns_some_at t lock m ≡ true → EventAnswers (goes (frame_returned (moment p m t) (returned_entries value) (begins (moment p m t)))) end m m' out out'
     → EventAnswers (returning_frame (moment p m t) value) end m m' out out'
 owned_answers p t value m m' out out' end lock held owned a =
     subst (λ (o : Outcome Kept). EventAnswers o end m m' out out') (sym (returning_is p t value m lock true held owned)) a
@@ -185,9 +185,9 @@ fits_first p (f ∷ below) vs lt sound e = fits_staged p f f.stage below vs soun
 -- what a frame returns fits the frame below it
 pub fits_returned : (p : Linked) (s : Kept) (t : ℕ) (kind : Option Operand) (value : Option Value) → IsSoundFor p s → HasFrame s.guest t
     → returned_values kind (returned_in (running_method p (top s.guest t)).descriptor) (top s.guest t).operands ≡ Some value
-    → FitsBelow (top s.guest t).stage (entries_returned value) (rest_of (thread_at s.guest t).frames)
+    → FitsBelow (top s.guest t).stage (returned_entries value) (rest_of (thread_at s.guest t).frames)
 fits_returned p s t kind value sound has e =
-    fits_first p (thread_at s.guest t).frames (entries_returned value) has.frame (sound.threads t has.thread).frames
+    fits_first p (thread_at s.guest t).frames (returned_entries value) has.frame (sound.threads t has.thread).frames
     (width_returned kind (returned_in (running_method p (top s.guest t)).descriptor) (top s.guest t).operands value e)
 
 class_staged : (p : Linked) (f : FrameState) (stage : Stage) (method : Option ℕ) → IsStaged p f stage method → IsClassIn stage (length p.classes)

@@ -26,7 +26,7 @@ use Rattle.et_event.specs.Monitors.{lock_in, owns_some}
 use Rattle.et_event.specs.Sites.{running_method}
 use Rattle.et_event.specs.Operands.{operand_kind, kind_of_letter, is_kind, may_return, returned_width}
 use Rattle.et_parts.specs.Tops.{IsIn}
-use Rattle.et_calls.specs.Returned.{IsValueIn, returned_value, value_in, values_of, entries_returned, returned_values, returning_frame}
+use Rattle.et_calls.specs.Returned.{IsValueIn, returned_value, value_in, values_of, returned_entries, returned_values, returning_frame}
 
 pub value_on_top : (kind : Operand) (ops : List Value) → value_in kind (get_or ops 0 Unset) (get_or ops 1 Unset) ≡ returned_value kind ops
 value_on_top operand.Int [] = refl
@@ -53,7 +53,7 @@ value_is_in f operand.Reference (Ref o) w h k = h
 value_is_in f operand.Reference v w h k = tt
 
 -- what the entries of a value refer to
-pub entries_are_in : (f : FrameState) (value : Option Value) → IsValueIn f value → (o : ℕ) → Contains (refs_of (entries_returned value)) o → Contains (frame_roots f) o
+pub entries_are_in : (f : FrameState) (value : Option Value) → IsValueIn f value → (o : ℕ) → Contains (refs_of (returned_entries value)) o → Contains (frame_roots f) o
 entries_are_in f None h o c = absurd (Contains-none o c)
 entries_are_in f (Some Unset) h o c = absurd (Contains-none o c)
 entries_are_in f (Some (Int n)) h o c = absurd (Contains-none o c)
@@ -82,16 +82,16 @@ abbrev pub by_values : {A : Type 0} → A → (Option Value → A) → Option (O
 by_values refused go None = refused
 by_values refused go (Some value) = go value
 
-by_value : {A : Type 0} (refused : A) (go : List Value → A) (value : Option Value) → option_map_or (λ v. go (entries_of v)) value refused ≡ by_values refused (λ w. go (entries_returned w)) (option_map (λ v. Some v) value)
+by_value : {A : Type 0} (refused : A) (go : List Value → A) (value : Option Value) → option_map_or (λ v. go (entries_of v)) value refused ≡ by_values refused (λ w. go (returned_entries w)) (option_map (λ v. Some v) value)
 by_value refused go None = refl
 by_value refused go (Some v) = refl
 
-pub returned_as : (kind : Option Operand) (refused : Outcome Kept) (ops : List Value) (go : List Value → Outcome Kept) → with_returned kind refused ops go ≡ by_values refused (λ value. go (entries_returned value)) (values_of kind ops)
+pub returned_as : (kind : Option Operand) (refused : Outcome Kept) (ops : List Value) (go : List Value → Outcome Kept) → with_returned kind refused ops go ≡ by_values refused (λ value. go (returned_entries value)) (values_of kind ops)
 returned_as None refused ops go = refl
 returned_as (Some kind) refused ops go = taken kind refused ops (λ v. go (entries_of v)) ∙ by_value refused go (returned_value kind ops)
 
 checked : (e : Moment) (b : Bool) (kind : Option Operand) (ops : List Value) (go : List Value → Outcome Kept)
-    → ill_typed_unless e b (with_returned kind (ill_typed e) ops go) ≡ by_values (ill_typed e) (λ value. go (entries_returned value)) (if b then values_of kind ops else None)
+    → ill_typed_unless e b (with_returned kind (ill_typed e) ops go) ≡ by_values (ill_typed e) (λ value. go (returned_entries value)) (if b then values_of kind ops else None)
 checked e true kind ops go = returned_as kind (ill_typed e) ops go
 checked e false kind ops go = refl
 
@@ -164,10 +164,10 @@ some_width true kind (Some v) value e = (refl, cc)
 some_width true kind None value e = cc
 some_width false kind found value e = cc
 
-pub width_returned : (kind : Option Operand) (returned : List ℕ) (ops : List Value) (value : Option Value) → returned_values kind returned ops ≡ Some value → length (entries_returned value) ≡ returned_width returned
+pub width_returned : (kind : Option Operand) (returned : List ℕ) (ops : List Value) (value : Option Value) → returned_values kind returned ops ≡ Some value → length (returned_entries value) ≡ returned_width returned
 width_returned None returned ops value e =
     let h = none_width (is_void returned) ops value e in
-    ap (λ (w : Option Value). length (entries_returned w)) h.1 ∙ sym (ap (λ (b : Bool). if b then 0 else width_of returned) h.0)
+    ap (λ (w : Option Value). length (returned_entries w)) h.1 ∙ sym (ap (λ (b : Bool). if b then 0 else width_of returned) h.0)
 width_returned (Some kind) returned ops None e =
     let h = some_width (is_kind kind (operand_kind returned)) kind (returned_value kind ops) None e in cc
 width_returned (Some kind) returned ops (Some v) e =

@@ -31,9 +31,9 @@ value_in operand.Reference (Ref o) below = Some (Ref o)
 value_in kind top below = None
 
 -- the entries that are returned
-abbrev pub entries_returned : Option Value → List Value
-entries_returned None = []
-entries_returned (Some v) = entries_of v
+abbrev pub returned_entries : Option Value → List Value
+returned_entries None = []
+returned_entries (Some v) = entries_of v
 
 -- what is returned; none where it isn't there
 abbrev pub values_of : Option Operand → List Value → Option (Option Value)
@@ -48,7 +48,7 @@ returned_values kind returned ops = if may_return kind returned then values_of k
 abbrev pub returning_frame : Moment → Option Value → Outcome Kept
 returning_frame e value =
     throws_unless e (begins e) IllegalMonitorStateException (owns_some e (begins e) (lock_in (current_frame e).stage (running_method e.program (current_frame e)) (current_frame e).lock))
-    (goes (frame_returned e (entries_returned value) (begins e)))
+    (goes (frame_returned e (returned_entries value) (begins e)))
 
 -- what the value refers to stands in the frame
 abbrev pub IsValueIn : FrameState → Option Value → Type 0

@@ -21,10 +21,7 @@ fn returned_by(program: &Program, machine: &Machine, thread: ThreadId) -> Option
         (top machine.now.guest thread)).descriptor) }
 {
     let method = machine.frame_method(thread).unwrap_or(MethodId::new(0));
-    match program.method_shape(method) {
-        Some(shape) => Some(shape.returned()),
-        None => None,
-    }
+    Some(program.method_shape(method)?.returned())
 }
 
 /// The value of a kind whose upper entry is this, above another.

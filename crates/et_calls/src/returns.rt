@@ -16,7 +16,7 @@ ghost use Rattle.et_parts.specs.Places.{Runs};
 ghost use Rattle.et_parts.specs.Locks.{HasSome, locks_of};
 ghost use Rattle.et_event.specs.Sites.{running_method as method_in};
 ghost use Rattle.et_state.specs.declared.ends.EventEnd.TheVariants as ends;
-ghost use Rattle.et_calls.specs.Returned.{FitsBelow, IsValueIn, entries_returned, returning_frame};
+ghost use Rattle.et_calls.specs.Returned.{FitsBelow, IsValueIn, returned_entries, returning_frame};
 ghost use Rattle.et_calls.specs.Stages.{IsClassIn};
 ghost use Rattle.et_calls.specs.Ways.{Came};
 
@@ -33,12 +33,12 @@ use std::sync::ledger::Ledger;
 /// The frame gets what a call returns, if anything, and goes on behind it.
 fn resume_with(program: &Program, machine: &mut Machine, thread: ThreadId, value: Option<Value>)
     requires frame { HasFrame machine.old.guest thread }
-    requires room { length (entries_returned value) + length (top machine.old.guest thread).operands
+    requires room { length (returned_entries value) + length (top machine.old.guest thread).operands
         ≤ (top machine.old.guest thread).room }
     ensures { machine.new ≡ steps_top machine.old thread (record
         (top machine.old.guest thread) {
           pc = behind_of program.now (top machine.old.guest thread);
-          operands = entries_returned value ++ (top machine.old.guest thread).operands;
+          operands = returned_entries value ++ (top machine.old.guest thread).operands;
         }) [] }
 {
     match value {
@@ -58,11 +58,11 @@ fn resume_with(program: &Program, machine: &mut Machine, thread: ThreadId, value
 fn resume_topmost(program: &Program, machine: &mut Machine, thread: ThreadId, value: Option<Value>)
     requires started { thread < length machine.old.guest.threads }
     requires room { FitsBelow Plain
-        (entries_returned value) (thread_at machine.old.guest thread).frames }
+        (returned_entries value) (thread_at machine.old.guest thread).frames }
     ensures { machine.new ≡ steps_thread machine.old thread
         (record (thread_at machine.old.guest thread) {
           frames = resumed program.now
-              (entries_returned value) (thread_at machine.old.guest thread).frames;
+              (returned_entries value) (thread_at machine.old.guest thread).frames;
         }) [] }
 {
     if machine.frames(thread) == 0 {
@@ -82,11 +82,11 @@ fn go_on(
 )
     requires started { thread < length machine.old.guest.threads }
     requires room { FitsBelow stage
-        (entries_returned value) (thread_at machine.old.guest thread).frames }
+        (returned_entries value) (thread_at machine.old.guest thread).frames }
     ensures { machine.new ≡ steps_thread machine.old thread (record
         (thread_at machine.old.guest thread) {
           frames = frames_after_return program.now stage
-              (entries_returned value) (thread_at machine.old.guest thread).frames;
+              (returned_entries value) (thread_at machine.old.guest thread).frames;
         }) [] }
 {
     match stage {
@@ -102,11 +102,11 @@ fn drop_returned(program: &Program, machine: &mut Machine, thread: ThreadId, val
     requires lost { length machine.old.lost + (length (top machine.old.guest thread).locals
         + length (top machine.old.guest thread).operands) < lost_room }
     requires room { FitsBelow (top machine.old.guest thread).stage
-        (entries_returned value) (rest_of (thread_at machine.old.guest thread).frames) }
+        (returned_entries value) (rest_of (thread_at machine.old.guest thread).frames) }
     ensures { machine.new ≡ steps_thread machine.old thread (record (thread_at machine.old.guest
         thread) {
           frames = frames_after_return program.now (top machine.old.guest thread).stage
-              (entries_returned value) (rest_of (thread_at machine.old.guest thread).frames);
+              (returned_entries value) (rest_of (thread_at machine.old.guest thread).frames);
         })
         (frame_roots (top machine.old.guest thread)) }
 {
@@ -169,7 +169,7 @@ fn leave_frame<L: Ledger>(
     requires clock { machine.old.guest.clock < 2 ^ 40 }
     requires locals { length (top machine.old.guest thread).locals < 2 ^ 16 }
     requires room { FitsBelow (top machine.old.guest thread).stage
-        (entries_returned value) (rest_of (thread_at machine.old.guest thread).frames) }
+        (returned_entries value) (rest_of (thread_at machine.old.guest thread).frames) }
     requires there { IsValueIn (top machine.old.guest thread) value }
     requires class { IsClassIn
         (top machine.old.guest thread).stage (length machine.old.guest.classes) }
@@ -177,7 +177,7 @@ fn leave_frame<L: Ledger>(
     requires held { locks_of lock.now ≡ lock_in_frame (top machine.old.guest thread).stage
         (method_in program.now (top machine.old.guest thread)) (top machine.old.guest thread).lock }
     ensures ok { OnOk result (EventAnswers (goes (frame_returned (moment program.now machine.old
-        thread) (entries_returned value) (begins (moment program.now machine.old thread))))
+        thread) (returned_entries value) (begins (moment program.now machine.old thread))))
         ends.Done machine.old machine.new out.old out.new) }
     ensures err { OnErr result (machine.new ≡ machine.old) }
     ensures visits { visits.new ≤ visits.old + 2 }
@@ -213,7 +213,7 @@ fn return_value<L: Ledger>(
     requires method { method.now ≡ method_in program.now (top machine.old.guest thread) }
     requires class { method.now.class < length program.now.classes }
     requires room { FitsBelow (top machine.old.guest thread).stage
-        (entries_returned value) (rest_of (thread_at machine.old.guest thread).frames) }
+        (returned_entries value) (rest_of (thread_at machine.old.guest thread).frames) }
     requires there { IsValueIn (top machine.old.guest thread) value }
     ensures ok { IfOk result (λ end. EventAnswers (returning_frame
         (moment program.now machine.old thread)

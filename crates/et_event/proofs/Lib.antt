@@ -3,3 +3,4 @@ mod Examples
 mod CallExamples
 mod CheckExamples
 pub mod FamilyTurns
+pub mod BuiltInRoom

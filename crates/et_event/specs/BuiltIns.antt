@@ -33,6 +33,22 @@ abbrev pub answering : Moment → Site → List Value → List Value → Doing �
 answering e at arguments values d =
     with_frame e (record (current_frame e) { pc = at.next; operands = values ++ drop (length arguments) (current_frame e).operands }) d
 
+-- how many entries it answers
+abbrev pub entries_answered : BuiltIn → ℕ
+entries_answered Nothing = 0
+entries_answered SetMessage = 0
+entries_answered SetMessageAndCause = 0
+entries_answered GetMessage = 1
+entries_answered GetCause = 1
+entries_answered SetTarget = 0
+entries_answered Start = 0
+entries_answered Join = 0
+entries_answered SetReferent = 0
+entries_answered SetReferentAndQueue = 0
+entries_answered GetReferent = 1
+entries_answered ClearReferent = 0
+entries_answered Poll = 1
+
 -- the reference in a slot
 abbrev pub reference_in : Doing → ℕ → ℕ → Value
 reference_in d o i = or_zero (Some operand.Reference) (slot_of (object_at d.state.heap o) i)

@@ -1,6 +1,6 @@
 -- CALLS, RETURNS AND ENTRY (JVMS 2.6, 2.11.8, and 6.5 invokevirtual, invokespecial, invokestatic, invokeinterface and the
 -- returns).
-use Rattle.std.specs.Prelude.{ℕ, ◌+◌, ◌==◌, ◌&&◌, not, nat_le, Bool, true, false, if◌then◌else◌, List, [], ◌∷◌, length, take, drop, reverse, sum_by, codes, Option, Some, None, unwrap_or}
+use Rattle.std.specs.Prelude.{ℕ, ◌+◌, ◌==◌, ◌&&◌, not, nat_le, Bool, true, false, if◌then◌else◌, List, [], ◌∷◌, length, map, take, drop, reverse, sum_by, codes, Option, Some, None, unwrap_or}
 use Rattle.std.specs.Option.{option_map_or}
 use Rattle.et_base.specs.declared.value.Value.{Value}
 use Rattle.et_base.specs.declared.value.Value.TheVariants.{Int, Long, LongHigh, Null, Ref}
@@ -49,15 +49,19 @@ abbrev pub is_empty : List Value → Bool
 is_empty [] = true
 is_empty (v ∷ vs) = false
 
--- these are values of the types, and no others
-abbrev pub are_of : List (List ℕ) → List Value → Bool
+-- these are values of the kinds, and no others
+abbrev pub are_of : List (Option Operand) → List Value → Bool
 are_of [] vs = is_empty vs
-are_of (type ∷ types) vs = begin_with (operand_kind type) (are_of types) vs
+are_of (kind ∷ kinds) vs = begin_with kind (are_of kinds) vs
 
 -- .. behind a receiver, where the method isn't static
+abbrev pub are_passed : Bool → List (Option Operand) → List Value → Bool
+are_passed true kinds vs = are_of kinds vs
+are_passed false kinds vs = begin_with (Some operand.Reference) (are_of kinds) vs
+
+-- these are arguments of the type
 abbrev pub are_arguments : Bool → MethodType → List Value → Bool
-are_arguments true type vs = are_of type.parameters vs
-are_arguments false type vs = begin_with (Some operand.Reference) (are_of type.parameters) vs
+are_arguments static type vs = are_passed static (map operand_kind type.parameters) vs
 
 -- how many entries they take
 abbrev pub entry_count : Bool → MethodType → ℕ

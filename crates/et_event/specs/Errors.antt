@@ -1,6 +1,6 @@
 -- The classes of what the machine itself throws.
 use Rattle.std.specs.Prelude.{ℕ, List, unwrap_or}
-use Rattle.et_program.specs.BootNames.{name_of}
+use Rattle.et_program.specs.BootNames.{built_in_class_name}
 use Rattle.et_program.specs.BootNamed.BuiltInClass.{BuiltInClass}
 use Rattle.et_program.specs.BootNamed.BuiltInClass.TheVariants as class
 use Rattle.et_program.specs.Entries.{Linked}
@@ -31,7 +31,7 @@ class_of_error StackOverflowError = class.StackOverflowError
 class_of_error UnsatisfiedLinkError = class.UnsatisfiedLinkError
 
 abbrev pub error_name : GuestError → List ℕ
-error_name error = name_of (class_of_error error)
+error_name error = built_in_class_name (class_of_error error)
 
 -- a built-in class, which each program has
 abbrev pub class_called : Linked → List ℕ → ℕ

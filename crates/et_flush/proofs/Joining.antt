@@ -11,7 +11,7 @@ use Rattle.et_graph.proofs.Carrying.{carries_none, set_each_in, All-set_each}
 use Rattle.et_graph.proofs.Spreading.{cases_set, unset_is}
 use Rattle.et_graph.proofs.Walks.{walk_more}
 use Rattle.et_flush.specs.declared.times.TheConstants.{NOW}
-use Rattle.et_flush.specs.Reaches.{AreMarked, Follows, AreReached}
+use Rattle.et_flush.specs.Reaches.{AreMarked, FollowsPairs, AreReached}
 use Rattle.et_flush.specs.Searches.{pairs_left}
 
 -- THE PAIRS THAT ARE LEFT
@@ -76,7 +76,7 @@ marked_followed pairs ranks times seen waiting positive marked u x c s = inl (ma
 -- what is followed from the marked ranks is reached, where nothing is left out
 module _ (left_out : List Bool) (pairs : List (ℕ × ℕ)) (ranks times start : List ℕ) (seen : List Bool) (waiting times' : List ℕ) (seen' : List Bool)
     (none : (o : ℕ) → ¬ IsSet left_out o) (ends : ArePairsAmong (λ o. 0 < o) pairs) (within : (o : ℕ) → Contains ranks o → (0 < o) × (o ≤ length times)) (below : All (λ t. t ≤ NOW) times)
-    (is : start ≡ set_each ranks NOW times) (marked : AreMarked ranks seen waiting) (follows : Follows (pairs_left left_out pairs) NOW start seen waiting times' seen') where
+    (is : start ≡ set_each ranks NOW times) (marked : AreMarked ranks seen waiting) (follows : FollowsPairs (pairs_left left_out pairs) NOW start seen waiting times' seen') where
   followed : IsSpread (pairs_left left_out pairs) start NOW times' seen' [] × AreFollowed (pairs_left left_out pairs) times' seen' (λ v. ⊥)
   followed =
       follows.spreads start

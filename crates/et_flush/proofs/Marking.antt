@@ -7,7 +7,7 @@ use Rattle.et_base.proofs.Lists.{Contains-none}
 use Rattle.et_graph.specs.Times.{set_each, IsSet, unset_count, IsSpread, AreFollowed, Visits}
 use Rattle.et_graph.proofs.Spreading.{set_here, set_keeps, set_back, unset_less, popped_spread, popped_waits, popped_followed, none_waits}
 use Rattle.et_flush.specs.declared.times.TheConstants.{NOW}
-use Rattle.et_flush.specs.Reaches.{AreMarked, Follows}
+use Rattle.et_flush.specs.Reaches.{AreMarked, FollowsPairs}
 
 -- ROOTS
 
@@ -83,7 +83,7 @@ following_visit pairs t u times seen work times₁ seen₁ work₁ times₂ seen
     let waits = popped_waits pairs start t times₁ seen₁ work₁ u now.0 in
     visits.spreads start (popped_spread pairs start t times₁ seen₁ work₁ u now.0) waits.1 waits.2 (popped_followed pairs times₁ seen₁ work₁ u now.1)
 
-pub following_end : (pairs : List (ℕ × ℕ)) (t : ℕ) (times : List ℕ) (seen : List Bool) (work times' : List ℕ) (seen' : List Bool) (work' : List ℕ) → work' ≡ [] → IsFollowing pairs t times seen work times' seen' work' → Follows pairs t times seen work times' seen'
+pub following_end : (pairs : List (ℕ × ℕ)) (t : ℕ) (times : List ℕ) (seen : List Bool) (work times' : List ℕ) (seen' : List Bool) (work' : List ℕ) → work' ≡ [] → IsFollowing pairs t times seen work times' seen' work' → FollowsPairs pairs t times seen work times' seen'
 following_end pairs t times seen work times' seen' work' none following = record {
   spreads = λ start spread followed.
       let now = following start spread followed in

@@ -10,12 +10,12 @@ use Rattle.et_graph.specs.declared.search.Source.{Source}
 use Rattle.et_graph.specs.Order.{IsOrder}
 use Rattle.et_graph.specs.Times.{IsSet}
 use Rattle.et_flush.specs.declared.times.TheConstants.{NOW}
-use Rattle.et_flush.specs.Searches.{IsLeft, AreSources}
+use Rattle.et_flush.specs.Searches.{IsLeftRank, AreSources}
 
 -- the first i ranks, but those of what was reached
 pub record AreSourcesTo (times : List ℕ) (reached : List Bool) (i : ℕ) (order : List Source) : Type 0 where
-  pub each : (s : Source) → Contains order s → IsLeft i reached s.object × (s.age ≡ NOW - get_or times (s.object - 1) 0)
-  pub all : (rank : ℕ) → IsLeft i reached rank → (s : Source) × Contains order s × (s.object ≡ rank)
+  pub each : (s : Source) → Contains order s → IsLeftRank i reached s.object × (s.age ≡ NOW - get_or times (s.object - 1) 0)
+  pub all : (rank : ℕ) → IsLeftRank i reached rank → (s : Source) × Contains order s × (s.object ≡ rank)
 
 pub sources_none : (times : List ℕ) (reached : List Bool) (order : List Source) → order ≡ [] → AreSourcesTo times reached 0 order
 sources_none times reached order none = record {
@@ -24,10 +24,10 @@ sources_none times reached order none = record {
 }
 
 module _ (times : List ℕ) (reached : List Bool) (i : ℕ) (order : List Source) (are : AreSourcesTo times reached i order) where
-  left_more : (rank : ℕ) → IsLeft i reached rank → IsLeft (i + 1) reached rank
+  left_more : (rank : ℕ) → IsLeftRank i reached rank → IsLeftRank (i + 1) reached rank
   left_more rank left = record { one = let one = left.one in (one.0, let last = one.1 in omega (arith, last)); left = left.left }
 
-  left_before : (rank : ℕ) → IsLeft (i + 1) reached rank → rank ≤ i → IsLeft i reached rank
+  left_before : (rank : ℕ) → IsLeftRank (i + 1) reached rank → rank ≤ i → IsLeftRank i reached rank
   left_before rank left le = record { one = (left.one.0, le); left = left.left }
 
   -- one more rank is left
@@ -35,13 +35,13 @@ module _ (times : List ℕ) (reached : List Bool) (i : ℕ) (order : List Source
   sources_hit order' s push object age flag =
       let place : s.object - 1 ≡ i = omega arith in
       let out : ¬ IsSet reached s.object = λ t. both_ways (get_or reached i false) flag (ap (λ (j : ℕ). get_or reached j false) (sym place) ∙ t) in
-      let here : IsLeft (i + 1) reached s.object × (s.age ≡ NOW - get_or times (s.object - 1) 0) = (record { one = (omega arith, omega arith); left = out }, age ∙ ap (λ (j : ℕ). NOW - get_or times j 0) (sym place)) in
+      let here : IsLeftRank (i + 1) reached s.object × (s.age ≡ NOW - get_or times (s.object - 1) 0) = (record { one = (omega arith, omega arith); left = out }, age ∙ ap (λ (j : ℕ). NOW - get_or times j 0) (sym place)) in
       subst (λ (ss : List Source). AreSourcesTo times reached (i + 1) ss) (sym push)
       (record {
         each = λ z c.
             elim (Contains-push_cases order s z c) [
               | inl d ↦ let e = are.each z d in (left_more z.object e.0, e.1)
-              | inr e ↦ subst (λ (y : Source). IsLeft (i + 1) reached y.object × (y.age ≡ NOW - get_or times (y.object - 1) 0)) e here
+              | inr e ↦ subst (λ (y : Source). IsLeftRank (i + 1) reached y.object × (y.age ≡ NOW - get_or times (y.object - 1) 0)) e here
             ];
         all = λ rank left.
             elim (cases_lt i rank) [
@@ -67,7 +67,7 @@ sources_all times reached i order are end =
     record { each = all.each; all = all.all }
 
 module _ (times : List ℕ) (reached : List Bool) (listed order : List Source) (below : All (λ t. t ≤ NOW) times) (are : AreSources times reached listed) (same : IsPermutation listed order) where
-  age_at : (s : Source) → Contains order s → IsLeft (length times) reached s.object × (s.age ≡ NOW - get_or times (s.object - 1) 0)
+  age_at : (s : Source) → Contains order s → IsLeftRank (length times) reached s.object × (s.age ≡ NOW - get_or times (s.object - 1) 0)
   age_at s c = are.each s (Contains-permutation order listed s (IsPermutation-sym listed order same) c)
 
   time_at : (s : Source) → Contains order s → get_or times (s.object - 1) 0 ≤ NOW
@@ -77,7 +77,7 @@ module _ (times : List ℕ) (reached : List Bool) (listed order : List Source) (
       let last = one.1 in
       below (s.object - 1) 0 (omega (arith, first, last))
 
-  pub order_is : IsNonDecreasingBy (λ (s : Source). s.age) order → IsOrder (IsLeft (length times) reached) times order
+  pub order_is : IsNonDecreasingBy (λ (s : Source). s.age) order → IsOrder (IsLeftRank (length times) reached) times order
   order_is rises = record {
     each = λ s c. (age_at s c).0;
     all = λ rank left.

@@ -14,7 +14,7 @@ use Rattle.et_heap.proofs.HeapLists.{pair_at, pair_held}
 use Rattle.et_state.proofs.UnderWay.{waiting_pair}
 use Rattle.et_flush.specs.declared.ranks.Ranks.{Ranks}
 use Rattle.et_flush.specs.Ranks.{rank_of, time_of, HasRank, AreRanked, ranked_pairs}
-use Rattle.et_flush.specs.Searches.{AreAllHeld, AreFlagsOf, IsLeft, IsSearched, IsSearchedRank, pairs_left}
+use Rattle.et_flush.specs.Searches.{AreAllHeld, AreFlagsOf, IsLeftRank, IsSearched, IsSearchedRank, pairs_left}
 use Rattle.et_flush.proofs.Joining.{pair_left}
 use Rattle.et_flush.proofs.Targets.{target_pair, pair_target}
 
@@ -118,10 +118,10 @@ module _ (heap : Objects) (held : List ℕ) (ranks : Ranks) (is : IsSearched hea
           record { searched = is; flags = flags; one = record { one = one.1; left = kept.1 } },
         )
 
-    pub order_searched : (n : ℕ) (times : List ℕ) (order : List Source) → n ≡ length held → IsOrder (IsLeft n left_out) times order → IsOrder (IsSearchedRank heap held ranks left_out) times order
+    pub order_searched : (n : ℕ) (times : List ℕ) (order : List Source) → n ≡ length held → IsOrder (IsLeftRank n left_out) times order → IsOrder (IsSearchedRank heap held ranks left_out) times order
     order_searched n times order long are = record {
-      each = λ s c. record { searched = is; flags = flags; one = subst (λ (m : ℕ). IsLeft m left_out s.object) long (are.each s c) };
-      all = λ k h. are.all k (subst (λ (m : ℕ). IsLeft m left_out k) (sym long) h.one);
+      each = λ s c. record { searched = is; flags = flags; one = subst (λ (m : ℕ). IsLeftRank m left_out s.object) long (are.each s c) };
+      all = λ k h. are.all k (subst (λ (m : ℕ). IsLeftRank m left_out k) (sym long) h.one);
       falls = are.falls;
     }
 

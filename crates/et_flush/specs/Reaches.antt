@@ -9,7 +9,7 @@ pub record AreMarked (ranks : List ℕ) (seen : List Bool) (waiting : List ℕ) 
   pub marked : (rank : ℕ) → Contains waiting rank → IsSet seen rank × Contains ranks rank
 
 -- the pairs of all that waits are followed, and those of all that they lead to, with the time t
-pub record Follows (pairs : List (ℕ × ℕ)) (t : ℕ) (times : List ℕ) (seen : List Bool) (waiting : List ℕ)
+pub record FollowsPairs (pairs : List (ℕ × ℕ)) (t : ℕ) (times : List ℕ) (seen : List Bool) (waiting : List ℕ)
     (times' : List ℕ) (seen' : List Bool) : Type 0 where
   pub spreads : (start : List ℕ) → IsSpread pairs start t times seen waiting → AreFollowed pairs times seen (λ v. Contains waiting v)
       → IsSpread pairs start t times' seen' [] × AreFollowed pairs times' seen' (λ v. ⊥)

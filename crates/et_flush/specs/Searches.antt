@@ -34,7 +34,7 @@ abbrev pub pairs_left : List Bool → List (ℕ × ℕ) → List (ℕ × ℕ)
 pairs_left left_out pairs = filter (λ p. not (slice_index_or left_out (p.1 - 1) false)) pairs
 
 -- one of the first n ranks, and not left out
-pub record IsLeft (n : ℕ) (left_out : List Bool) (rank : ℕ) : Type 0 where
+pub record IsLeftRank (n : ℕ) (left_out : List Bool) (rank : ℕ) : Type 0 where
   pub one : IsOneOf n rank
   pub left : ¬ IsSet left_out rank
 
@@ -42,12 +42,12 @@ pub record IsLeft (n : ℕ) (left_out : List Bool) (rank : ℕ) : Type 0 where
 pub record IsSearchedRank (heap : Objects) (held : List ℕ) (ranks : Ranks) (left_out : List Bool) (rank : ℕ) : Type 0 where
   pub searched : IsSearched heap held ranks
   pub flags : AreFlagsOf held left_out
-  pub one : IsLeft (length held) left_out rank
+  pub one : IsLeftRank (length held) left_out rank
 
 -- these are the ranks of what wasn't reached, each with how far its time lies before NOW
 pub record AreSources (times : List ℕ) (reached : List Bool) (order : List Source) : Type 0 where
-  pub each : (s : Source) → Contains order s → IsLeft (length times) reached s.object × (s.age ≡ NOW - slice_index times (s.object - 1))
-  pub all : (rank : ℕ) → IsLeft (length times) reached rank → (s : Source) × Contains order s × (s.object ≡ rank)
+  pub each : (s : Source) → Contains order s → IsLeftRank (length times) reached s.object × (s.age ≡ NOW - slice_index times (s.object - 1))
+  pub all : (rank : ℕ) → IsLeftRank (length times) reached rank → (s : Source) × Contains order s × (s.object ≡ rank)
 
 -- The times as a search begins, by rank: each object that is held has its stamp.
 pub record AreTimes (held stamps times : List ℕ) : Type 0 where

@@ -1,7 +1,7 @@
 //! The order in which a flush takes what the roots don't lead to, by ranks: what has the greatest time comes first.
 ghost use Rattle.std.specs.Prelude.{◌≡◌, ◌^◌, ◌<◌, ◌≤◌, length, All, vec_capacity};
 ghost use Rattle.et_graph.specs.Order.{IsOrder};
-ghost use Rattle.et_flush.specs.Searches.{AreSources, IsLeft};
+ghost use Rattle.et_flush.specs.Searches.{AreSources, IsLeftRank};
 
 use crate::times::NOW;
 use et_base::{ObjectId, within};
@@ -34,7 +34,7 @@ pub(crate) fn order_sources(times: &[u64], reached: &[bool], order: &mut Vec<Sou
     requires long { length reached.now ≡ length times.now }
     requires small { length times.now < 2 ^ 32 }
     requires room { length times.now ≤ vec_capacity order.old }
-    ensures order { IsOrder (IsLeft (length times.now) reached.now) times.now order.new.items }
+    ensures order { IsOrder (IsLeftRank (length times.now) reached.now) times.now order.new.items }
     ensures room { vec_capacity order.old ≤ vec_capacity order.new }
 {
     list_sources(times, reached, order);

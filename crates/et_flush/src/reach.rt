@@ -6,7 +6,7 @@ ghost use Rattle.et_heap.specs.Objects.{IsHeld};
 ghost use Rattle.et_heap.specs.Refs.{pairs_of};
 ghost use Rattle.et_flush.specs.Ranks.{HaveRanks, rank_of, ranked_pairs};
 ghost use Rattle.et_flush.specs.Searches.{IsSearched, AreFlagsOf};
-ghost use Rattle.et_flush.specs.Reaches.{AreMarked, Follows, AreReached};
+ghost use Rattle.et_flush.specs.Reaches.{AreMarked, FollowsPairs, AreReached};
 
 use crate::ranks::{Ranks, rank_at};
 use crate::search::HeldReferences;
@@ -56,7 +56,7 @@ fn follow<C, R: References<C>>(
     requires ready { IsReady times.old seen.old waiting.old }
     ensures ready { IsReady times.new seen.new waiting.new }
     ensures empty { waiting.new.items ≡ [] }
-    ensures follows { Follows (R.pairs_in references.now)
+    ensures follows { FollowsPairs (R.pairs_in references.now)
         time times.old seen.old waiting.old.items times.new seen.new }
     ensures counted { R.count_of count.new + unset_count seen.new
         ≤ R.count_of count.old + unset_count seen.old + length waiting.old.items }

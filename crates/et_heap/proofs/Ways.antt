@@ -89,10 +89,6 @@ once-more (x ∷ rs) r out once = (
 
 -- WHAT IS LEFT OF A LIST
 
-pub left-none : (next : ℕ → Option ℕ) (l : Option ℕ) (rs : List ℕ) → IsLeft next None l rs → rs ≡ []
-left-none next l [] left = refl
-left-none next l (r ∷ rs) left = absurd left
-
 pub record IsNextLeft (next : ℕ → Option ℕ) (p : ℕ) (l : Option ℕ) (rs : List ℕ) : Type 0 where
   pub first : ℕ
   pub rest : List ℕ

@@ -7,7 +7,7 @@ ghost use Rattle.et_heap.specs.Refs.{leads_to};
 use crate::fault::MakeFault;
 use crate::links::{link, unlink};
 use crate::monitor::Monitor;
-use crate::place::value_of;
+use crate::place::value_of_reference;
 use crate::refs::Refs;
 use crate::store::Store;
 use et_base::{ClassId, ObjectId, Steps, Value};
@@ -181,7 +181,7 @@ impl Heap {
         ensures visits { visits.new ≡ visits.old + 1 }
     {
         visits.tick();
-        value_of(self.store.object(o).queue())
+        value_of_reference(self.store.object(o).queue())
     }
 
     /// Writes the queue of an object as a reference, and answers the one before. A value that is no reference counts as
@@ -225,7 +225,7 @@ impl Heap {
         ensures visits { visits.new ≡ visits.old + 1 }
     {
         visits.tick();
-        value_of(unlink(&mut self.store, queue))
+        value_of_reference(unlink(&mut self.store, queue))
     }
 
     /// The references in the slots of an object, in order, then its queue, then those that wait in it, in order. Each of

@@ -20,6 +20,7 @@ pub use fault::MakeFault;
 pub use heap::Heap;
 pub use monitor::Monitor;
 pub use page::PAGE_SIZE;
+pub use place::value_of_reference;
 pub use refs::Refs;
 pub use root_list::RootList;
 pub use store::{MOST_OBJECTS, MOST_SLOTS};

@@ -58,8 +58,8 @@ impl Model for Place {
     }) };
 }
 
-/// A reference as a value.
-pub fn value_of(o: Option<ObjectId>) -> Value
+/// The value that a reference is; null where there is none (JVMS 2.4).
+pub fn value_of_reference(o: Option<ObjectId>) -> Value
     ensures { result ≡ referent_value o }
 {
     match o {
@@ -178,7 +178,7 @@ impl Place {
         requires { is_stored self.now }
         ensures { result ≡ referent_value (as_stored self.now).state.referent }
     {
-        value_of(self.has_referent.then_some(self.referent))
+        value_of_reference(self.has_referent.then_some(self.referent))
     }
 
     /// Writes the referent, and answers the one before.
@@ -209,7 +209,7 @@ impl Place {
         ensures old { result ≡ referent_value (as_stored self.old).state.queue }
         ensures new { self.new ≡ Some (on_state (with_queue (referent_of v)) (as_stored self.old)) }
     {
-        let old = value_of(self.queue());
+        let old = value_of_reference(self.queue());
         let queue = reference_of(v);
         self.has_queue = queue.is_some();
         self.queue = queue.unwrap_or(ObjectId::new(0));

@@ -2,7 +2,7 @@
 ghost use Rattle.std.specs.Prelude.{◌≡◌, ◌<◌, ◌^◌, IfOk, OnErr, length};
 ghost use Rattle.et_state.specs.State.{kept_of};
 ghost use Rattle.et_state.specs.Sound.{IsSound};
-ghost use Rattle.et_program.specs.BootNames.{name_of};
+ghost use Rattle.et_program.specs.BootNames.{built_in_class_name};
 ghost use Rattle.et_program.specs.Entries.{class_at};
 ghost use Rattle.et_event.specs.Moments.{begins, instance_made, moment};
 ghost use Rattle.et_event.specs.Errors.{class_called as called};
@@ -15,7 +15,7 @@ use et_state::{Lines, Machine, Record};
 
 /// The number of a built-in class. The built-in classes are the first of each program, in the order of their table.
 pub fn class_called(program: &Program, class: BuiltInClass) -> ClassId
-    ensures value { result ≡ called program.now (name_of class) }
+    ensures value { result ≡ called program.now (built_in_class_name class) }
     ensures within { result < length program.now.classes }
 {
     // A law: it tells the prover, and does nothing.

@@ -8,10 +8,10 @@ use Rattle.et_base.specs.Numbers.{number_at, bytes_at, AreBytes}
 use Rattle.et_base.proofs.Readings.{by_bind, by_if, ok_some, some_ok, bind_ok}
 use Rattle.et_base.proofs.Spelling.{Reads, Reads-nothing, Reads-then, Reads-first, Reads-second, wide8, wide16, wide32, wide64, number_reads, reads_number, run_reads, reads_run, in_bytes}
 use Rattle.et_pool.specs.Broken.{Broken, Tag, Utf8, Short}
-use Rattle.et_pool.specs.declared.entry.Shape.{Shape}
-use Rattle.et_pool.specs.declared.entry.Shape.TheVariants as shape
+use Rattle.et_pool.specs.declared.entry.Layout.{Layout}
+use Rattle.et_pool.specs.declared.entry.Layout.TheVariants as layout
 use Rattle.et_pool.specs.Text.{is_modified}
-use Rattle.et_pool.specs.Entries.{Item, Text, Word, Wide, Name, Pair, Handle, shape_of, indices, item_bytes, slots_taken, slots_of, slots_of_item}
+use Rattle.et_pool.specs.Entries.{Item, Text, Word, Wide, Name, Pair, Handle, tag_layout, indices, item_bytes, slots_taken, slots_of, slots_of_item}
 use Rattle.et_pool.specs.Reading.{pool_number, text_at, body_at, shaped_at, entry_at}
 use Rattle.et_pool.specs.Pools.{AreEntries, IsPool}
 use Rattle.et_pool.specs.Looks.{slot_bytes, end_of}
@@ -22,7 +22,7 @@ use Rattle.et_pool.proofs.OneAnswer.{room_pos}
 
 -- TAGS
 
-never : (b2 b3 b4 b5 b6 : Bool) → cond b2 (Some shape.Word) (cond b3 (Some shape.Wide) (cond b4 (Some shape.Name) (cond b5 (Some shape.Pair) (cond b6 (Some shape.Handle) None)))) ≡ Some shape.Text → ⊥
+never : (b2 b3 b4 b5 b6 : Bool) → cond b2 (Some layout.Word) (cond b3 (Some layout.Wide) (cond b4 (Some layout.Name) (cond b5 (Some layout.Pair) (cond b6 (Some layout.Handle) None)))) ≡ Some layout.Text → ⊥
 never true b3 b4 b5 b6 e = cc
 never false true b4 b5 b6 e = cc
 never false false true b5 b6 e = cc
@@ -30,14 +30,14 @@ never false false false true b6 e = cc
 never false false false false true e = cc
 never false false false false false e = cc
 
-first_true : (b : Bool) (x y : Option Shape) → (y ≡ Some shape.Text → ⊥) → cond b x y ≡ Some shape.Text → b ≡ true
+first_true : (b : Bool) (x y : Option Layout) → (y ≡ Some layout.Text → ⊥) → cond b x y ≡ Some layout.Text → b ≡ true
 first_true true x y h e = refl
 first_true false x y h e = absurd (h e)
 
-tag_text : (tag : ℕ) → shape_of tag ≡ Some shape.Text → tag ≡ 1
-tag_text tag e = eqb-true _ _ (first_true (eqb tag 1) (Some shape.Text) _ (never _ _ _ _ _) e)
+tag_text : (tag : ℕ) → tag_layout tag ≡ Some layout.Text → tag ≡ 1
+tag_text tag e = eqb-true _ _ (first_true (eqb tag 1) (Some layout.Text) _ (never _ _ _ _ _) e)
 
-last_true : (b1 b2 b3 b4 b5 b6 : Bool) → cond b1 (Some shape.Text) (cond b2 (Some shape.Word) (cond b3 (Some shape.Wide) (cond b4 (Some shape.Name) (cond b5 (Some shape.Pair) (cond b6 (Some shape.Handle) None))))) ≡ Some shape.Handle → b6 ≡ true
+last_true : (b1 b2 b3 b4 b5 b6 : Bool) → cond b1 (Some layout.Text) (cond b2 (Some layout.Word) (cond b3 (Some layout.Wide) (cond b4 (Some layout.Name) (cond b5 (Some layout.Pair) (cond b6 (Some layout.Handle) None))))) ≡ Some layout.Handle → b6 ≡ true
 last_true true b2 b3 b4 b5 b6 e = absurd cc
 last_true false true b3 b4 b5 b6 e = absurd cc
 last_true false false true b4 b5 b6 e = absurd cc
@@ -46,7 +46,7 @@ last_true false false false false true b6 e = absurd cc
 last_true false false false false false true e = refl
 last_true false false false false false false e = absurd cc
 
-tag_handle : (tag : ℕ) → shape_of tag ≡ Some shape.Handle → tag ≡ 15
+tag_handle : (tag : ℕ) → tag_layout tag ≡ Some layout.Handle → tag ≡ 15
 tag_handle tag e = eqb-true _ _ (last_true _ _ _ _ _ (eqb tag 15) e)
 
 -- WHAT IS READ IS SPELLED
@@ -83,31 +83,31 @@ text_spelt bytes entry tag at fits one =
       (m, omega (arith, r.fits, size)),
     )) (λ m. tt)))
 
-body_spelt : (bytes : List ℕ) (entry tag at : ℕ) (s : Shape) → AreBytes bytes → shape_of tag ≡ Some s → Spelt bytes at tag (body_at bytes entry tag at s)
-body_spelt bytes entry tag at shape.Text fits e = text_spelt bytes entry tag at fits (tag_text tag e)
-body_spelt bytes entry tag at shape.Word fits e =
+body_spelt : (bytes : List ℕ) (entry tag at : ℕ) (s : Layout) → AreBytes bytes → tag_layout tag ≡ Some s → Spelt bytes at tag (body_at bytes entry tag at s)
+body_spelt bytes entry tag at layout.Text fits e = text_spelt bytes entry tag at fits (tag_text tag e)
+body_spelt bytes entry tag at layout.Word fits e =
     by_bind (Spelt bytes at tag) (pool_number w32 bytes at) _ (λ f h. tt) (λ n h.
     let r = number_reads w32 wide32 bytes at n.0 n.1 fits (ok_some _ _ _ h) in (to_be_bytes w32 n.0, refl, r.reads, (e, r.fits)))
-body_spelt bytes entry tag at shape.Wide fits e =
+body_spelt bytes entry tag at layout.Wide fits e =
     by_bind (Spelt bytes at tag) (pool_number w64 bytes at) _ (λ f h. tt) (λ n h.
     let r = number_reads w64 wide64 bytes at n.0 n.1 fits (ok_some _ _ _ h) in (to_be_bytes w64 n.0, refl, r.reads, (e, r.fits)))
-body_spelt bytes entry tag at shape.Name fits e =
+body_spelt bytes entry tag at layout.Name fits e =
     by_bind (Spelt bytes at tag) (pool_number w16 bytes at) _ (λ f h. tt) (λ n h.
     let r = number_reads w16 wide16 bytes at n.0 n.1 fits (ok_some _ _ _ h) in (to_be_bytes w16 n.0, refl, r.reads, (e, r.fits)))
-body_spelt bytes entry tag at shape.Pair fits e =
+body_spelt bytes entry tag at layout.Pair fits e =
     by_bind (Spelt bytes at tag) (pool_number w16 bytes at) _ (λ f h. tt) (λ m h.
     by_bind (Spelt bytes at tag) (pool_number w16 bytes m.1) _ (λ f i. tt) (λ n i.
     let r = number_reads w16 wide16 bytes at m.0 m.1 fits (ok_some _ _ _ h) in
     let s = number_reads w16 wide16 bytes m.1 n.0 n.1 fits (ok_some _ _ _ i) in
     (to_be_bytes w16 m.0 ++ to_be_bytes w16 n.0, refl, Reads-then bytes at (to_be_bytes w16 m.0) m.1 (to_be_bytes w16 n.0) n.1 r.reads s.reads, (e, r.fits, s.fits))))
-body_spelt bytes entry tag at shape.Handle fits e =
+body_spelt bytes entry tag at layout.Handle fits e =
     by_bind (Spelt bytes at tag) (pool_number w8 bytes at) _ (λ f h. tt) (λ m h.
     by_bind (Spelt bytes at tag) (pool_number w16 bytes m.1) _ (λ f i. tt) (λ n i.
     let r = byte_reads bytes at m.0 m.1 fits (ok_some _ _ _ h) in
     let s = number_reads w16 wide16 bytes m.1 n.0 n.1 fits (ok_some _ _ _ i) in
     (m.0 ∷ to_be_bytes w16 n.0, ap (λ (k : ℕ). k ∷ m.0 ∷ to_be_bytes w16 n.0) (sym (tag_handle tag e)), Reads-then bytes at (m.0 ∷ []) m.1 (to_be_bytes w16 n.0) n.1 r.reads s.reads, (r.fits, s.fits))))
 
-shaped_spelt : (bytes : List ℕ) (room entry tag at : ℕ) (s : Option Shape) → AreBytes bytes → shape_of tag ≡ s → Spelt bytes at tag (shaped_at bytes room entry tag at s)
+shaped_spelt : (bytes : List ℕ) (room entry tag at : ℕ) (s : Option Layout) → AreBytes bytes → tag_layout tag ≡ s → Spelt bytes at tag (shaped_at bytes room entry tag at s)
 shaped_spelt bytes room entry tag at None fits e = tt
 shaped_spelt bytes room entry tag at (Some s) fits e = by_if (Spelt bytes at tag) (ltb room (indices s)) _ _ (λ t. tt) (λ t. body_spelt bytes entry tag at s fits e)
 
@@ -128,7 +128,7 @@ entry_whole : (bytes : List ℕ) (room at : ℕ) → AreBytes bytes → Whole by
 unfolding entry_at
 entry_whole bytes room at fits =
     by_bind (Whole bytes at) (pool_number w8 bytes at) _ (λ f h. tt) (λ tag h.
-    whole_from bytes at tag.0 tag.1 (shaped_at bytes room at tag.0 tag.1 (shape_of tag.0)) (byte_reads bytes at tag.0 tag.1 fits (ok_some _ _ _ h)).reads (shaped_spelt bytes room at tag.0 tag.1 _ fits refl))
+    whole_from bytes at tag.0 tag.1 (shaped_at bytes room at tag.0 tag.1 (tag_layout tag.0)) (byte_reads bytes at tag.0 tag.1 fits (ok_some _ _ _ h)).reads (shaped_spelt bytes room at tag.0 tag.1 _ fits refl))
 
 entry_reads : (bytes : List ℕ) (room at : ℕ) (e : Item) (next : ℕ) → AreBytes bytes → entry_at bytes room at ≡ Ok (e, next) → IsWhole bytes at e next
 entry_reads bytes room at e next fits h = subst (λ r. Whole bytes at r) h (entry_whole bytes room at fits)
@@ -175,14 +175,14 @@ pool_spelled bytes at slots after fits p =
 none_is : (tag k : ℕ) → k < tag → eqb tag k ≡ false
 none_is tag k lt = grind arith
 
-none_beyond : (tag : ℕ) → 256 ≤ tag → shape_of tag ≡ None
+none_beyond : (tag : ℕ) → 256 ≤ tag → tag_layout tag ≡ None
 none_beyond tag le =
     rw (none_is tag 1 (omega arith), none_is tag 3 (omega arith), none_is tag 4 (omega arith), none_is tag 5 (omega arith), none_is tag 6 (omega arith), none_is tag 7 (omega arith), none_is tag 8 (omega arith), none_is tag 16 (omega arith), none_is tag 9 (omega arith), none_is tag 10 (omega arith), none_is tag 11 (omega arith), none_is tag 12 (omega arith), none_is tag 18 (omega arith), none_is tag 15 (omega arith)) refl
 
-none_some : (s : Shape) → None ≡ Some s → ⊥
+none_some : (s : Layout) → None ≡ Some s → ⊥
 none_some s e = cc
 
-tag_small : (tag : ℕ) (s : Shape) → shape_of tag ≡ Some s → tag < 256
+tag_small : (tag : ℕ) (s : Layout) → tag_layout tag ≡ Some s → tag < 256
 tag_small tag s e = elim (cases_lt tag 256) [ inl lt ↦ lt | inr le ↦ absurd (none_some s (sym (none_beyond tag le) ∙ e)) ]
 
 read_byte : (bytes : List ℕ) (at n next : ℕ) → n < 256 → Reads bytes at (n ∷ []) next → pool_number w8 bytes at ≡ Ok (n, next)
@@ -194,7 +194,7 @@ read_16 : (bytes : List ℕ) (at n next : ℕ) → n < 2 ^ 16 → Reads bytes at
 read_16 bytes at n next lt r = some_ok _ _ _ (reads_number w16 wide16 (omega arith) bytes at n next lt r)
 
 -- an entry behind its tag
-after_tag : (bytes : List ℕ) (room at tag : ℕ) (s : Shape) (rest : List ℕ) (next : ℕ) (x : Result (Item × ℕ) Broken) → shape_of tag ≡ Some s → indices s ≤ room → Reads bytes at (tag ∷ rest) next → body_at bytes at tag (at + 1) s ≡ x → entry_at bytes room at ≡ x
+after_tag : (bytes : List ℕ) (room at tag : ℕ) (s : Layout) (rest : List ℕ) (next : ℕ) (x : Result (Item × ℕ) Broken) → tag_layout tag ≡ Some s → indices s ≤ room → Reads bytes at (tag ∷ rest) next → body_at bytes at tag (at + 1) s ≡ x → entry_at bytes room at ≡ x
 unfolding entry_at
 after_tag bytes room at tag s rest next x e le r h =
     let first = read_byte bytes at tag (at + 1) (tag_small tag s e) (Reads-first bytes at (tag ∷ []) rest next r) in
@@ -214,21 +214,21 @@ text_back bytes entry at text next m lt r = text_read bytes entry at text next l
 
 entry_back : (bytes : List ℕ) (room at : ℕ) (e : Item) (next : ℕ) → IsEntry e → slots_taken e ≤ room → Reads bytes at (item_bytes e) next → entry_at bytes room at ≡ Ok (e, next)
 entry_back bytes room at (Text text) next h le r =
-    after_tag bytes room at 1 shape.Text _ next _ refl le r (text_back bytes at (at + 1) text next h.0 h.1 (Reads-second bytes at (1 ∷ []) _ next r))
+    after_tag bytes room at 1 layout.Text _ next _ refl le r (text_back bytes at (at + 1) text next h.0 h.1 (Reads-second bytes at (1 ∷ []) _ next r))
 entry_back bytes room at (Word tag n) next h le r =
-    after_tag bytes room at tag shape.Word _ next _ h.0 le r (bind_ok (pool_number w32 bytes (at + 1)) _ (n, next) _ (some_ok _ _ _ (reads_number w32 wide32 (omega arith) bytes (at + 1) n next h.1 (Reads-second bytes at (tag ∷ []) _ next r))) refl)
+    after_tag bytes room at tag layout.Word _ next _ h.0 le r (bind_ok (pool_number w32 bytes (at + 1)) _ (n, next) _ (some_ok _ _ _ (reads_number w32 wide32 (omega arith) bytes (at + 1) n next h.1 (Reads-second bytes at (tag ∷ []) _ next r))) refl)
 entry_back bytes room at (Wide tag n) next h le r =
-    after_tag bytes room at tag shape.Wide _ next _ h.0 le r (bind_ok (pool_number w64 bytes (at + 1)) _ (n, next) _ (some_ok _ _ _ (reads_number w64 wide64 (omega arith) bytes (at + 1) n next h.1 (Reads-second bytes at (tag ∷ []) _ next r))) refl)
+    after_tag bytes room at tag layout.Wide _ next _ h.0 le r (bind_ok (pool_number w64 bytes (at + 1)) _ (n, next) _ (some_ok _ _ _ (reads_number w64 wide64 (omega arith) bytes (at + 1) n next h.1 (Reads-second bytes at (tag ∷ []) _ next r))) refl)
 entry_back bytes room at (Name tag n) next h le r =
-    after_tag bytes room at tag shape.Name _ next _ h.0 le r (bind_ok (pool_number w16 bytes (at + 1)) _ (n, next) _ (read_16 bytes (at + 1) n next h.1 (Reads-second bytes at (tag ∷ []) _ next r)) refl)
+    after_tag bytes room at tag layout.Name _ next _ h.0 le r (bind_ok (pool_number w16 bytes (at + 1)) _ (n, next) _ (read_16 bytes (at + 1) n next h.1 (Reads-second bytes at (tag ∷ []) _ next r)) refl)
 entry_back bytes room at (Pair tag m n) next h le r =
     let body = Reads-second bytes at (tag ∷ []) (to_be_bytes w16 m ++ to_be_bytes w16 n) next r in
-    after_tag bytes room at tag shape.Pair _ next _ h.0 le r
+    after_tag bytes room at tag layout.Pair _ next _ h.0 le r
     (bind_ok (pool_number w16 bytes (at + 1)) _ (m, at + 1 + 2) _ (read_16 bytes (at + 1) m (at + 1 + 2) h.1 (Reads-first bytes (at + 1) (to_be_bytes w16 m) (to_be_bytes w16 n) next body))
     (bind_ok (pool_number w16 bytes (at + 1 + 2)) _ (n, next) _ (read_16 bytes (at + 1 + 2) n next h.2 (Reads-second bytes (at + 1) (to_be_bytes w16 m) (to_be_bytes w16 n) next body)) refl))
 entry_back bytes room at (Handle k n) next h le r =
     let body = Reads-second bytes at (15 ∷ []) (k ∷ to_be_bytes w16 n) next r in
-    after_tag bytes room at 15 shape.Handle _ next _ refl le r
+    after_tag bytes room at 15 layout.Handle _ next _ refl le r
     (bind_ok (pool_number w8 bytes (at + 1)) _ (k, at + 1 + 1) _ (read_byte bytes (at + 1) k (at + 1 + 1) h.0 (Reads-first bytes (at + 1) (k ∷ []) (to_be_bytes w16 n) next body))
     (bind_ok (pool_number w16 bytes (at + 1 + 1)) _ (n, next) _ (read_16 bytes (at + 1 + 1) n next h.1 (Reads-second bytes (at + 1) (k ∷ []) (to_be_bytes w16 n) next body)) refl))
 
@@ -272,7 +272,7 @@ text_case bytes room at text next x true m lt le r h = refl
 text_case bytes room at text next x false m lt le r h =
     let bad : Result (Item × ℕ) Broken = Err (Utf8 at) in
     let refused : entry_at bytes room at ≡ bad =
-    after_tag bytes room at 1 shape.Text _ next bad refl le r
+    after_tag bytes room at 1 layout.Text _ next bad refl le r
     (text_read bytes at (at + 1) text next lt (Reads-second bytes at (1 ∷ []) _ next r) ∙ ap (λ (b : Bool). cond {A = Result (Item × ℕ) Broken} b (Ok (Text text, next)) (Err (Utf8 at))) m) in
     absurd cc
 

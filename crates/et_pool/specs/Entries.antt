@@ -5,8 +5,8 @@ use Rattle.std.specs.Int.{w16, w32, w64, to_be_bytes}
 use Rattle.et_pool.specs.declared.tags.TheConstants.{UTF8, INTEGER, FLOAT, LONG, DOUBLE, CLASS, STRING, FIELDREF, METHODREF, INTERFACE_METHODREF, NAME_AND_TYPE, METHOD_HANDLE, METHOD_TYPE, INVOKE_DYNAMIC}
 use Rattle.et_pool.specs.declared.entry.Entry.{Entry}
 use Rattle.et_pool.specs.declared.entry.Entry.TheVariants as code
-use Rattle.et_pool.specs.declared.entry.Shape.{Shape}
-use Rattle.et_pool.specs.declared.entry.Shape.TheVariants as shape
+use Rattle.et_pool.specs.declared.entry.Layout.{Layout}
+use Rattle.et_pool.specs.declared.entry.Layout.TheVariants as layout
 
 -- an entry, by the layout of its body: its tag and its parts
 pub data Item : Type 0 where
@@ -19,23 +19,23 @@ pub data Item : Type 0 where
 
 -- the layout behind a tag: 4.4.7 Utf8; 4.4.4 Integer and Float; 4.4.5 Long and Double; 4.4.1 Class, 4.4.3 String and
 -- 4.4.9 MethodType; 4.4.2 the members, 4.4.6 NameAndType and 4.4.10 InvokeDynamic; 4.4.8 MethodHandle
-abbrev pub shape_of : ℕ → Option Shape
-shape_of tag =
-    if tag == UTF8 then Some shape.Text
-    else (if (tag == INTEGER) || (tag == FLOAT) then Some shape.Word
-    else (if (tag == LONG) || (tag == DOUBLE) then Some shape.Wide
-    else (if (tag == CLASS) || (tag == STRING) || (tag == METHOD_TYPE) then Some shape.Name
-    else (if (tag == FIELDREF) || (tag == METHODREF) || (tag == INTERFACE_METHODREF) || (tag == NAME_AND_TYPE) || (tag == INVOKE_DYNAMIC) then Some shape.Pair
-    else (if tag == METHOD_HANDLE then Some shape.Handle else None)))))
+abbrev pub tag_layout : ℕ → Option Layout
+tag_layout tag =
+    if tag == UTF8 then Some layout.Text
+    else (if (tag == INTEGER) || (tag == FLOAT) then Some layout.Word
+    else (if (tag == LONG) || (tag == DOUBLE) then Some layout.Wide
+    else (if (tag == CLASS) || (tag == STRING) || (tag == METHOD_TYPE) then Some layout.Name
+    else (if (tag == FIELDREF) || (tag == METHODREF) || (tag == INTERFACE_METHODREF) || (tag == NAME_AND_TYPE) || (tag == INVOKE_DYNAMIC) then Some layout.Pair
+    else (if tag == METHOD_HANDLE then Some layout.Handle else None)))))
 
 -- how many indices an entry takes: a Long or Double takes two (4.4.5)
-abbrev pub indices : Shape → ℕ
-indices shape.Text = 1
-indices shape.Word = 1
-indices shape.Wide = 2
-indices shape.Name = 1
-indices shape.Pair = 1
-indices shape.Handle = 1
+abbrev pub indices : Layout → ℕ
+indices layout.Text = 1
+indices layout.Word = 1
+indices layout.Wide = 2
+indices layout.Name = 1
+indices layout.Pair = 1
+indices layout.Handle = 1
 
 abbrev pub view : Entry → Item
 view (code.Text bytes) = Text bytes.items
@@ -45,13 +45,13 @@ view (code.Name tag index) = Name tag index
 view (code.Pair tag first second) = Pair tag first second
 view (code.Handle kind index) = Handle kind index
 
-abbrev pub layout_of : Item → Shape
-layout_of (Text bytes) = shape.Text
-layout_of (Word tag bits) = shape.Word
-layout_of (Wide tag bits) = shape.Wide
-layout_of (Name tag index) = shape.Name
-layout_of (Pair tag first second) = shape.Pair
-layout_of (Handle kind index) = shape.Handle
+abbrev pub layout_of : Item → Layout
+layout_of (Text bytes) = layout.Text
+layout_of (Word tag bits) = layout.Word
+layout_of (Wide tag bits) = layout.Wide
+layout_of (Name tag index) = layout.Name
+layout_of (Pair tag first second) = layout.Pair
+layout_of (Handle kind index) = layout.Handle
 
 -- what an entry puts at its indices: the index behind a Long or Double holds nothing
 abbrev pub slots_of_item : Item → List (Option Item)

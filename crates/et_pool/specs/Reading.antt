@@ -5,11 +5,11 @@ use Rattle.et_base.specs.Numbers.{number_at, bytes_at}
 use Rattle.et_base.specs.Steps.{◌>>=◌}
 use Rattle.et_pool.specs.declared.fault.PoolFault.{PoolFault}
 use Rattle.et_pool.specs.declared.fault.PoolFault.TheVariants as fault
-use Rattle.et_pool.specs.declared.entry.Shape.{Shape}
-use Rattle.et_pool.specs.declared.entry.Shape.TheVariants as shape
+use Rattle.et_pool.specs.declared.entry.Layout.{Layout}
+use Rattle.et_pool.specs.declared.entry.Layout.TheVariants as layout
 use Rattle.et_pool.specs.Broken.{Broken, Tag, Utf8, Short}
 use Rattle.et_pool.specs.Text.{is_modified}
-use Rattle.et_pool.specs.Entries.{Item, Text, Word, Wide, Name, Pair, Handle, shape_of, indices}
+use Rattle.et_pool.specs.Entries.{Item, Text, Word, Wide, Name, Pair, Handle, tag_layout, indices}
 
 -- the fault that a call answered is this broken item; want of memory says nothing
 abbrev pub IsPoolFaultOf : PoolFault → (Broken → Type 0) → Type 0
@@ -36,29 +36,29 @@ text_at bytes entry at = do
   if is_modified text.0 then Ok (Text text.0, text.1) else Err (Utf8 entry)
 
 -- the body of an entry that begins at `entry`, by its layout
-abbrev pub body_at : List ℕ → ℕ → ℕ → ℕ → Shape → Result (Item × ℕ) Broken
-body_at bytes entry tag at shape.Text = text_at bytes entry at
-body_at bytes entry tag at shape.Word = do
+abbrev pub body_at : List ℕ → ℕ → ℕ → ℕ → Layout → Result (Item × ℕ) Broken
+body_at bytes entry tag at layout.Text = text_at bytes entry at
+body_at bytes entry tag at layout.Word = do
   n ← pool_number w32 bytes at
   Ok (Word tag n.0, n.1)
-body_at bytes entry tag at shape.Wide = do
+body_at bytes entry tag at layout.Wide = do
   n ← pool_number w64 bytes at
   Ok (Wide tag n.0, n.1)
-body_at bytes entry tag at shape.Name = do
+body_at bytes entry tag at layout.Name = do
   n ← pool_number w16 bytes at
   Ok (Name tag n.0, n.1)
-body_at bytes entry tag at shape.Pair = do
+body_at bytes entry tag at layout.Pair = do
   m ← pool_number w16 bytes at
   n ← pool_number w16 bytes m.1
   Ok (Pair tag m.0 n.0, n.1)
-body_at bytes entry tag at shape.Handle = do
+body_at bytes entry tag at layout.Handle = do
   m ← pool_number w8 bytes at
   n ← pool_number w16 bytes m.1
   Ok (Handle m.0 n.0, n.1)
 
 -- the body behind a tag, where that many indices are left: a tag that is in no table is broken, and so is an entry
 -- that takes more indices
-abbrev pub shaped_at : List ℕ → ℕ → ℕ → ℕ → ℕ → Option Shape → Result (Item × ℕ) Broken
+abbrev pub shaped_at : List ℕ → ℕ → ℕ → ℕ → ℕ → Option Layout → Result (Item × ℕ) Broken
 shaped_at bytes room entry tag at None = Err (Tag entry)
 shaped_at bytes room entry tag at (Some s) = if nat_lt room (indices s) then Err (Tag entry) else body_at bytes entry tag at s
 
@@ -66,4 +66,4 @@ shaped_at bytes room entry tag at (Some s) = if nat_lt room (indices s) then Err
 unfoldable pub entry_at : List ℕ → ℕ → ℕ → Result (Item × ℕ) Broken
 entry_at bytes room at = do
   tag ← pool_number w8 bytes at
-  shaped_at bytes room at tag.0 tag.1 (shape_of tag.0)
+  shaped_at bytes room at tag.0 tag.1 (tag_layout tag.0)

@@ -3,17 +3,17 @@ use Rattle.std.specs.Prelude.{◌≡◌, ℕ, ◌+◌, ◌<◌, ◌^◌, List, �
 use Rattle.std.specs.List.{flat_map}
 use Rattle.std.specs.Int.{w16, to_be_bytes}
 use Rattle.et_base.specs.Numbers.{Stands}
-use Rattle.et_pool.specs.declared.entry.Shape.TheVariants as shape
+use Rattle.et_pool.specs.declared.entry.Layout.TheVariants as layout
 use Rattle.et_pool.specs.Text.{is_modified}
-use Rattle.et_pool.specs.Entries.{Item, Text, Word, Wide, Name, Pair, Handle, shape_of, slots_of, item_bytes}
+use Rattle.et_pool.specs.Entries.{Item, Text, Word, Wide, Name, Pair, Handle, tag_layout, slots_of, item_bytes}
 
 -- an entry that can be spelled: its tag is that of its layout, its numbers fit, and a text is modified UTF-8
 abbrev pub IsEntry : Item → Type 0
 IsEntry (Text bytes) = (is_modified bytes ≡ true) × (length bytes < 2 ^ 16)
-IsEntry (Word tag bits) = (shape_of tag ≡ Some shape.Word) × (bits < 2 ^ 32)
-IsEntry (Wide tag bits) = (shape_of tag ≡ Some shape.Wide) × (bits < 2 ^ 64)
-IsEntry (Name tag index) = (shape_of tag ≡ Some shape.Name) × (index < 2 ^ 16)
-IsEntry (Pair tag first second) = (shape_of tag ≡ Some shape.Pair) × (first < 2 ^ 16) × (second < 2 ^ 16)
+IsEntry (Word tag bits) = (tag_layout tag ≡ Some layout.Word) × (bits < 2 ^ 32)
+IsEntry (Wide tag bits) = (tag_layout tag ≡ Some layout.Wide) × (bits < 2 ^ 64)
+IsEntry (Name tag index) = (tag_layout tag ≡ Some layout.Name) × (index < 2 ^ 16)
+IsEntry (Pair tag first second) = (tag_layout tag ≡ Some layout.Pair) × (first < 2 ^ 16) × (second < 2 ^ 16)
 IsEntry (Handle kind index) = (kind < 2 ^ 8) × (index < 2 ^ 16)
 
 abbrev pub pool_bytes : List Item → List ℕ

@@ -1,7 +1,7 @@
 //! The entries of a pool, by the layout of their bodies.
 
 ghost use Rattle.std.specs.Prelude.{◌≡◌};
-ghost use Rattle.et_pool.specs.Entries.{shape_of, indices, slots_taken, view};
+ghost use Rattle.et_pool.specs.Entries.{tag_layout, indices, slots_taken, view};
 
 use crate::tags::{
     CLASS, DOUBLE, FIELDREF, FLOAT, INTEGER, INTERFACE_METHODREF, INVOKE_DYNAMIC, LONG,
@@ -10,7 +10,7 @@ use crate::tags::{
 
 /// How the body of an entry is laid out.
 #[derive(Clone, Copy, Debug, PartialEq, Eq)]
-pub enum Shape {
+pub enum Layout {
     /// Utf8: two bytes of length, and that many bytes.
     Text,
     /// Integer and Float: four bytes.
@@ -37,29 +37,29 @@ pub enum Entry {
 }
 
 /// The layout behind a tag, or `None` where no entry has the tag.
-pub fn shape_of_tag(tag: u8) -> Option<Shape>
-    ensures { result ≡ shape_of tag }
+pub fn layout_of_tag(tag: u8) -> Option<Layout>
+    ensures { result ≡ tag_layout tag }
 {
     match tag {
-        UTF8 => Some(Shape::Text),
-        INTEGER | FLOAT => Some(Shape::Word),
-        LONG | DOUBLE => Some(Shape::Wide),
-        CLASS | STRING | METHOD_TYPE => Some(Shape::Name),
+        UTF8 => Some(Layout::Text),
+        INTEGER | FLOAT => Some(Layout::Word),
+        LONG | DOUBLE => Some(Layout::Wide),
+        CLASS | STRING | METHOD_TYPE => Some(Layout::Name),
         FIELDREF | METHODREF | INTERFACE_METHODREF | NAME_AND_TYPE | INVOKE_DYNAMIC => {
-            Some(Shape::Pair)
+            Some(Layout::Pair)
         }
-        METHOD_HANDLE => Some(Shape::Handle),
+        METHOD_HANDLE => Some(Layout::Handle),
         _ => None,
     }
 }
 
 /// How many indices an entry of this layout takes.
-pub fn indices_of(shape: Shape) -> usize
-    ensures { result ≡ indices shape }
+pub fn indices_of(layout: Layout) -> usize
+    ensures { result ≡ indices layout }
 {
-    match shape {
-        Shape::Wide => 2,
-        Shape::Text | Shape::Word | Shape::Name | Shape::Pair | Shape::Handle => 1,
+    match layout {
+        Layout::Wide => 2,
+        Layout::Text | Layout::Word | Layout::Name | Layout::Pair | Layout::Handle => 1,
     }
 }
 

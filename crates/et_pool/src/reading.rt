@@ -5,7 +5,7 @@ ghost use Rattle.et_pool.specs.Entries.{view};
 ghost use Rattle.et_pool.specs.Reading.{GivesOrIsBroken, text_at, body_at, shaped_at, entry_at};
 ghost use Rattle.et_pool.specs.Pools.{ReadsSlots, ReadsPool};
 
-use crate::entry::{Entry, Shape, indices_of, room_of_entry, shape_of_tag};
+use crate::entry::{Entry, Layout, indices_of, layout_of_tag, room_of_entry};
 use crate::fault::PoolFault;
 use crate::items::{u8_item, u16_item, u32_item, u64_item};
 use crate::look::Pool;
@@ -35,31 +35,32 @@ fn body_of(
     bytes: &[u8],
     entry: usize,
     tag: u8,
-    shape: Shape,
+    layout: Layout,
     at: usize,
 ) -> Result<(Entry, usize), PoolFault>
-    ensures { GivesOrIsBroken (λ x. (view x.0, x.1)) result (body_at bytes.now entry tag at shape) }
+    ensures { GivesOrIsBroken (λ x. (view x.0, x.1)) result
+        (body_at bytes.now entry tag at layout) }
 {
-    match shape {
-        Shape::Text => text_of(alloc, bytes, entry, at),
-        Shape::Word => {
+    match layout {
+        Layout::Text => text_of(alloc, bytes, entry, at),
+        Layout::Word => {
             let (bits, at) = u32_item(bytes, at)?;
             Ok((Entry::Word(tag, bits), at))
         }
-        Shape::Wide => {
+        Layout::Wide => {
             let (bits, at) = u64_item(bytes, at)?;
             Ok((Entry::Wide(tag, bits), at))
         }
-        Shape::Name => {
+        Layout::Name => {
             let (index, at) = u16_item(bytes, at)?;
             Ok((Entry::Name(tag, index), at))
         }
-        Shape::Pair => {
+        Layout::Pair => {
             let (first, at) = u16_item(bytes, at)?;
             let (second, at) = u16_item(bytes, at)?;
             Ok((Entry::Pair(tag, first, second), at))
         }
-        Shape::Handle => {
+        Layout::Handle => {
             let (kind, at) = u8_item(bytes, at)?;
             let (index, at) = u16_item(bytes, at)?;
             Ok((Entry::Handle(kind, index), at))
@@ -77,13 +78,13 @@ fn entry_of(
     ensures { GivesOrIsBroken (λ x. (view x.0, x.1)) result (entry_at bytes.now room at) }
 {
     let (tag, after) = u8_item(bytes, at)?;
-    match shape_of_tag(tag) {
+    match layout_of_tag(tag) {
         None => Err(PoolFault::Tag { offset: at }),
-        Some(shape) => {
-            if room < indices_of(shape) {
+        Some(layout) => {
+            if room < indices_of(layout) {
                 return Err(PoolFault::Tag { offset: at });
             }
-            body_of(alloc, bytes, at, tag, shape, after)
+            body_of(alloc, bytes, at, tag, layout, after)
         }
     }
 }

@@ -9,7 +9,7 @@ use Rattle.et_class.specs.Entries.{Item, Constants}
 use Rattle.et_class.specs.Looks.{slot_at}
 use Rattle.et_class.specs.Operands.{Shape, shape_in}
 use Rattle.et_program.specs.Referring.{Member, no_constants, member_described}
-use Rattle.et_program.specs.Shapes.{member_shape, shape_at, AreShaped}
+use Rattle.et_program.specs.Shapes.{member_shape, shape_kept, AreShaped}
 use Rattle.et_program.proofs.PoolLemmas.{one_longer}
 
 -- what holds of each element below a place holds with one more element of which it holds
@@ -65,9 +65,9 @@ shapes_whole slots n xs enough kept i small =
 -- the shapes of one more pool are kept
 pub pool_more : (done : List Constants) (c : Constants) (old new : List (List (Option Shape))) (row : List (Option Shape)) → new ≡ old ++ row ∷ [] → length old ≡ length done → ((i : ℕ) → i < 2 ^ 16 → slice_index_or row i None ≡ member_shape c.slots i) → AreShaped done old → AreShaped (done ++ c ∷ []) new
 pool_more done c old new row is size here each class i small =
-    subst (λ (xs : List (List (Option Shape))). shape_at xs class i ≡ member_shape (slice_index_or (done ++ c ∷ []) class no_constants).slots i) (sym is) (by done old size each class)
+    subst (λ (xs : List (List (Option Shape))). shape_kept xs class i ≡ member_shape (slice_index_or (done ++ c ∷ []) class no_constants).slots i) (sym is) (by done old size each class)
   where
-    by : (done : List Constants) (old : List (List (Option Shape))) → length old ≡ length done → AreShaped done old → (class : ℕ) → shape_at (old ++ row ∷ []) class i ≡ member_shape (slice_index_or (done ++ c ∷ []) class no_constants).slots i
+    by : (done : List Constants) (old : List (List (Option Shape))) → length old ≡ length done → AreShaped done old → (class : ℕ) → shape_kept (old ++ row ∷ []) class i ≡ member_shape (slice_index_or (done ++ c ∷ []) class no_constants).slots i
     by [] [] size each zero = here i small
     by [] [] size each (suc k) = no_member [] i (omega arith)
     by [] (r ∷ rs) size each k = absurd (omega arith)

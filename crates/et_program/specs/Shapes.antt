@@ -16,9 +16,9 @@ abbrev pub shape_referred : Linked → ℕ → ℕ → Option Shape
 shape_referred p class index = member_shape (pool_of_class p class) index
 
 -- what is kept of the entry at an index of the pool of a class
-abbrev pub shape_at : List (List (Option Shape)) → ℕ → ℕ → Option Shape
-shape_at table class index = slice_index_or (slice_index_or table class []) index None
+abbrev pub shape_kept : List (List (Option Shape)) → ℕ → ℕ → Option Shape
+shape_kept table class index = slice_index_or (slice_index_or table class []) index None
 
 -- what is kept of each entry of these pools is what calls read off its descriptor
 abbrev pub AreShaped : List Constants → List (List (Option Shape)) → Type 0
-AreShaped pools table = (class index : ℕ) → index < 2 ^ 16 → shape_at table class index ≡ member_shape (slice_index_or pools class no_constants).slots index
+AreShaped pools table = (class index : ℕ) → index < 2 ^ 16 → shape_kept table class index ≡ member_shape (slice_index_or pools class no_constants).slots index

@@ -3,7 +3,6 @@ ghost use Rattle.std.specs.Prelude.{◌≡◌, ℕ, ℤ, ◌+◌, ◌<◌, ◌�
 ghost use Rattle.et_pool.specs.Descriptors.{is_field_descriptor, width_of as descriptor_width};
 ghost use Rattle.et_event.specs.Kinds.{kind_of_field, kind_of_elements as elements_kind};
 ghost use Rattle.et_base.specs.declared.value.Value.{Value as Entry};
-ghost use Rattle.et_heap.specs.Objects.{referent_value};
 ghost use Rattle.et_state.specs.State.{Kept, kept_of};
 ghost use Rattle.et_state.specs.Sound.{IsSound};
 ghost use Rattle.et_state.specs.Words.{HasFrame, top};
@@ -19,6 +18,7 @@ use crate::kinds::{kind_of_elements, width_of};
 use crate::refusals::Refusal;
 use et_base::{ObjectId, ThreadId, Value};
 use et_event::{Elements, Operand};
+use et_heap::value_of_reference;
 use et_parts::{int_at, long_at, reference_at};
 use et_pool::kind_of;
 use et_state::Machine;
@@ -82,16 +82,6 @@ pub(crate) fn take_reference(
     }
 }
 
-/// A reference as a value.
-fn value_of(reference: Option<ObjectId>) -> Value
-    ensures { result ≡ referent_value reference }
-{
-    match reference {
-        Some(o) => Value::Ref(o),
-        None => Value::Null,
-    }
-}
-
 /// The value of a kind on top; no value is of no kind.
 pub(crate) fn take_value(
     machine: &Machine,
@@ -126,7 +116,7 @@ pub(crate) fn take_value(
         Some(Operand::Reference) => {
             let reference = take_reference(machine, thread, 0)?;
             Ok(Taken {
-                value: value_of(reference),
+                value: value_of_reference(reference),
                 width: 1,
             })
         }

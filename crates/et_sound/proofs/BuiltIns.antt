@@ -1,9 +1,9 @@
 -- The built-in methods without code.
 use Rattle.std.proofs.Common.{◌≡◌, ℕ, ◌+◌, ◌<◌, ◌≤◌, Bool, true, false, List, [], ◌∷◌, ◌++◌, length, drop, Option, Some, None, Contains, refl, sym, ◌∙◌, ap, subst, inr, arith, get_or-set_same}
-use Rattle.std.specs.Prelude.{nat_le, nat_lt, codes, find, if◌then◌else◌, option_map}
+use Rattle.std.specs.Prelude.{nat_lt, codes, find, if◌then◌else◌, option_map}
 use Rattle.std.specs.List.{list_all}
 use Rattle.std.specs.Str.{bytes_eq}
-use Rattle.std.proofs.lemmas.Bool.{and_parts, leb-true, ltb-true, false≢true}
+use Rattle.std.proofs.lemmas.Bool.{and_parts, ltb-true, false≢true}
 use Rattle.std.proofs.lemmas.List.{length-append, length-set}
 use Rattle.std.proofs.lemmas.Slice.Eq.{bytes_eq-Decides}
 use Rattle.et_base.specs.declared.value.Value.{Value}
@@ -25,7 +25,8 @@ use Rattle.et_program.specs.BootMethods.BuiltIn.TheVariants as built_in
 use Rattle.et_event.specs.declared.errors.GuestError.TheVariants.{AbstractMethodError, IllegalThreadStateException, OutOfMemoryError}
 use Rattle.et_program.specs.BuiltIns.{built_in_of}
 use Rattle.et_program.specs.BootTable.{built_ins, is_called}
-use Rattle.et_event.specs.BuiltIns.{argument, answering, reference_in, with_referent_of, starts_thread, with_thread_for, has_thread_ended, is_object_of_class, built_in_row, done_by, built_in_event, with_reference_made, with_first_taken, is_null_or_of_class}
+use Rattle.et_event.specs.BuiltIns.{entries_answered, argument, answering, reference_in, with_referent_of, starts_thread, with_thread_for, has_thread_ended, is_object_of_class, built_in_row, done_by, built_in_event, with_reference_made, with_first_taken, is_null_or_of_class}
+use Rattle.et_event.proofs.BuiltInRoom.{answers_fit, none_some, some_same}
 use Rattle.et_event.specs.Calls.{begin_with, is_empty, are_arguments}
 use Rattle.et_event.specs.Checks.{ill_typed_unless}
 use Rattle.et_event.specs.Errors.{class_called}
@@ -47,68 +48,11 @@ use Rattle.et_sound.proofs.Entering.{framed_going}
 use Rattle.et_heap.specs.Queues.{first_value}
 use Rattle.et_state.proofs.UnderWay.{waiting_pair}
 
--- WHICH ONE: what it gives has room where its descriptor says that it returns it
-
--- how many entries it gives
-abbrev given : BuiltIn → ℕ
-given built_in.Nothing = 0
-given built_in.SetMessage = 0
-given built_in.SetMessageAndCause = 0
-given built_in.GetMessage = 1
-given built_in.GetCause = 1
-given built_in.SetTarget = 0
-given built_in.Start = 0
-given built_in.Join = 0
-given built_in.SetReferent = 0
-given built_in.SetReferentAndQueue = 0
-given built_in.GetReferent = 1
-given built_in.ClearReferent = 0
-given built_in.Poll = 1
-
-abbrev with_descriptor : List ℕ → MethodInfo
-with_descriptor descriptor = record { class = 0; name = []; descriptor = descriptor; flags = 0; code = None; deferred = false }
-
-abbrev is_given : List ℕ × List ℕ × BuiltIn → Bool
-is_given row = nat_le (given row.2) (returned_width (returned_of (with_descriptor row.1)))
-
-all_given : list_all is_given built_ins ≡ true
-unfolding types_of after_dimensions after_name
-all_given = refl
-
--- it may give nothing
-no_entries : (b : BuiltIn) → 0 ≤ given b
+-- it may answer nothing
+no_entries : (b : BuiltIn) → 0 ≤ entries_answered b
 no_entries b = omega arith
 
-none_some : (b : BuiltIn) (o : Option BuiltIn) → o ≡ None → o ≡ Some b → ⊥
-none_some b o x y = cc
-
-some_same : (a b : BuiltIn) → Some a ≡ Some b → a ≡ b
-some_same a b e = cc
-
-given_by : (m : MethodInfo) (b : BuiltIn) (rows : List (List ℕ × List ℕ × BuiltIn)) → list_all is_given rows ≡ true → option_map (λ (row : List ℕ × List ℕ × BuiltIn). row.2) (find (is_called m.name m.descriptor) rows) ≡ Some b → given b ≤ returned_width (returned_of m)
-given_by m b [] all e = absurd (none_some b None refl e)
-given_by m b (row ∷ rows) all e = by (is_called m.name m.descriptor row) refl e (given_by m b rows parts.1)
-  where
-    parts : (is_given row ≡ true) × (list_all is_given rows ≡ true)
-    parts = and_parts (is_given row) (list_all is_given rows) all
-
-    by : (x : Bool) → is_called m.name m.descriptor row ≡ x → option_map (λ (r : List ℕ × List ℕ × BuiltIn). r.2) (if x then Some row else find (is_called m.name m.descriptor) rows) ≡ Some b
-        → (option_map (λ (r : List ℕ × List ℕ × BuiltIn). r.2) (find (is_called m.name m.descriptor) rows) ≡ Some b → given b ≤ returned_width (returned_of m)) → given b ≤ returned_width (returned_of m)
-    by true is q more =
-        let type : row.1 ≡ m.descriptor = (bytes_eq-Decides row.1 m.descriptor).0 (and_parts (bytes_eq row.0 m.name) (bytes_eq row.1 m.descriptor) is).1 in
-        let few : given row.2 ≤ returned_width (returned_of (with_descriptor row.1)) = leb-true (given row.2) (returned_width (returned_of (with_descriptor row.1))) parts.0 in
-        let same : row.2 ≡ b = some_same row.2 b q in
-        subst (λ (k : BuiltIn). given k ≤ returned_width (returned_of m)) same (subst (λ (d : List ℕ). given row.2 ≤ returned_width (returned_of (with_descriptor d))) type few)
-    by false is q more = more q
-
-pub gives : (m : MethodInfo) (b : BuiltIn) → built_in_of m ≡ Some b → given b ≤ returned_width (returned_of m)
-gives m b e = by (has m.flags ABSTRACT) e
-  where
-    by : (x : Bool) → (if x then None else option_map (λ (row : List ℕ × List ℕ × BuiltIn). row.2) (find (is_called m.name m.descriptor) built_ins)) ≡ Some b → given b ≤ returned_width (returned_of m)
-    by true q = absurd (none_some b None refl q)
-    by false q = given_by m b built_ins all_given q
-
--- .. and the second argument of what sets a target is a reference
+-- WHICH ONE: the second argument of what sets a target is a reference
 
 abbrev sets_target : BuiltIn → Bool
 sets_target built_in.SetTarget = true
@@ -211,7 +155,7 @@ pub record IsBuiltIn (e : Moment) (at : Site) (arguments : List Value) (o : ℕ)
   pub here : StandsAt e at
   pub run : IsRunnable e.program
   pub held : IsHeld e.before.heap o
-  pub room : length (drop (length arguments) (current_frame e).operands) + given b ≤ (current_frame e).room
+  pub room : length (drop (length arguments) (current_frame e).operands) + entries_answered b ≤ (current_frame e).room
   pub target : b ≡ built_in.SetTarget → IsReference (argument arguments 1)
 
 -- A SLOT OF THE OBJECT IS WRITTEN
@@ -237,13 +181,13 @@ written e o i v d h held fit may =
 
 module _ (e : Moment) (at : Site) (arguments : List Value) (o : ℕ) where
   -- the frame goes on behind the call
-  going_on : (b : BuiltIn) (values : List Value) → IsBuiltIn e at arguments o b → length values ≤ given b → IsUnderWayAt e (answering e at arguments values (begins e))
+  going_on : (b : BuiltIn) (values : List Value) → IsBuiltIn e at arguments o b → length values ≤ entries_answered b → IsUnderWayAt e (answering e at arguments values (begins e))
   going_on b values is few =
       let f : FrameState = record (current_frame e) { pc = at.next; operands = values ++ drop (length arguments) (current_frame e).operands } in
       let keeps : KeepsFrame e.program (current_frame e) f = record { same = refl; runs = is.here.runs; pc = is.here.next; locals = refl; operands = omega (arith, length-append values (drop (length arguments) (current_frame e).operands), is.room) } in
       framed_going e at f (begins e) is.here keeps (going e at is.here).well refl
 
-  answers : (b : BuiltIn) (values : List Value) → IsBuiltIn e at arguments o b → length values ≤ given b → KeepsSound e.program (goes (answering e at arguments values (begins e)))
+  answers : (b : BuiltIn) (values : List Value) → IsBuiltIn e at arguments o b → length values ≤ entries_answered b → KeepsSound e.program (goes (answering e at arguments values (begins e)))
   answers b values is few = goes_sound e.program (answering e at arguments values (begins e)) is.here.sound.fits (going_on b values is few).well
 
   class_within : (b : BuiltIn) → IsBuiltIn e at arguments o b → object_class (begins e) o < length e.program.classes
@@ -325,9 +269,9 @@ module _ (e : Moment) (at : Site) (arguments : List Value) (o : ℕ) where
 -- THE EVENT of a selected method without code
 pub built_in_sound : (e : Moment) (at : Site) (arguments : List Value) (m : MethodInfo) (type : MethodType) → StandsAt e at → IsRunnable e.program → ((o : ℕ) → first_reference arguments ≡ Some o → IsHeld e.before.heap o)
     → method_type m.descriptor ≡ Some type → are_arguments false type arguments ≡ true → length (drop (length arguments) (current_frame e).operands) + returned_width (returned_of m) ≤ (current_frame e).room → KeepsSound e.program (built_in_event e at (begins e) arguments m)
-built_in_sound e at arguments m type here run held typed are room = by (first_reference arguments) (built_in_of m) held (λ b is. gives m b is) (target_reference m type arguments typed are)
+built_in_sound e at arguments m type here run held typed are room = by (first_reference arguments) (built_in_of m) held (λ b is. answers_fit m b is) (target_reference m type arguments typed are)
   where
-    by : (r : Option ℕ) (b : Option BuiltIn) → ((o : ℕ) → r ≡ Some o → IsHeld e.before.heap o) → ((k : BuiltIn) → b ≡ Some k → given k ≤ returned_width (returned_of m)) → ((k : BuiltIn) → b ≡ Some k → k ≡ built_in.SetTarget → IsReference (argument arguments 1))
+    by : (r : Option ℕ) (b : Option BuiltIn) → ((o : ℕ) → r ≡ Some o → IsHeld e.before.heap o) → ((k : BuiltIn) → b ≡ Some k → entries_answered k ≤ returned_width (returned_of m)) → ((k : BuiltIn) → b ≡ Some k → k ≡ built_in.SetTarget → IsReference (argument arguments 1))
         → KeepsSound e.program (done_by e at (begins e) arguments r b)
     by None None there few target = throws_sound e AbstractMethodError (begins e) run.makes (going e at here)
     by None (Some b) there few target = throws_sound e AbstractMethodError (begins e) run.makes (going e at here)

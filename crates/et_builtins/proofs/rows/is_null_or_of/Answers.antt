@@ -2,7 +2,7 @@ use Rattle.std.proofs.Common.{◌≡◌, [], sym, ◌∙◌, ap, subst, Contains
 use Rattle.et_base.specs.declared.value.Value.{Value}
 use Rattle.et_base.proofs.Lists.{Contains-here}
 use Rattle.et_heap.specs.Refs.{refs_of_value}
-use Rattle.et_program.specs.BootNames.{name_of}
+use Rattle.et_program.specs.BootNames.{built_in_class_name}
 use Rattle.et_event.specs.BuiltIns.{is_null_or_of_class, is_object_of_class}
 use Rattle.et_event.specs.Moments.{moment, begins}
 use Rattle.et_builtins.proofs.rows.is_null_or_of.Goals as goal
@@ -14,6 +14,6 @@ is_of-requires-clause-held g c = c.requires.held c.in-Ref.object (subst (λ (v :
 pub returns-in-Ref-clause-value : goal.returns-in-Ref-clause-value
 returns-in-Ref-clause-value g c = λ t.
     let e = moment c.args.program.now c.args.machine.now t in
-    let same : is_null_or_of_class e (begins e) c.args.value (name_of c.args.class) ≡ is_object_of_class e (begins e) c.in-Ref.object (name_of c.args.class) =
-    ap (λ (v : Value). is_null_or_of_class e (begins e) v (name_of c.args.class)) c.in-Ref.is in
+    let same : is_null_or_of_class e (begins e) c.args.value (built_in_class_name c.args.class) ≡ is_object_of_class e (begins e) c.in-Ref.object (built_in_class_name c.args.class) =
+    ap (λ (v : Value). is_null_or_of_class e (begins e) v (built_in_class_name c.args.class)) c.in-Ref.is in
     c.is_of.ensures.value t ∙ sym same

@@ -6,7 +6,7 @@ use Rattle.et_graph.specs.declared.search.Source.{Source}
 use Rattle.et_graph.specs.Order.{IsOrder}
 use Rattle.et_graph.specs.Times.{ArePairsAmong, Carries, AreSettled, IsSet}
 use Rattle.et_flush.specs.Ranks.{ranked_pairs}
-use Rattle.et_flush.specs.Searches.{IsLeft, IsSearched, IsSearchedRank, pairs_left}
+use Rattle.et_flush.specs.Searches.{IsLeftRank, IsSearched, IsSearchedRank, pairs_left}
 use Rattle.et_flush.proofs.Working.{unset_within}
 use Rattle.et_flush.proofs.Searching.{pairs_one, pairs_searched, order_searched}
 use Rattle.et_flush.proofs.Joining.{pair_left, carries_among, joined_settled, apart_count}
@@ -25,9 +25,9 @@ spread_all-requires-clause-order g c =
     let times : List ℕ = c.args.work.now.times.items in
     let reached : List Bool = c.args.work.now.reached.items in
     let is : IsSearched c.args.heap.now c.args.work.now.held.items c.args.work.now.ranks = record { all = c.requires.ready.held; pairs = c.requires.pairs; ranked = c.requires.ready.ranked } in
-    let order : IsOrder (IsLeft (length times) reached) times c.order_sources.new.order.items =
-    subst (λ (fs : List Bool). IsOrder (IsLeft (length times) fs) times c.order_sources.new.order.items) c.deref-2.ensures.value
-    (subst (λ (ts : List ℕ). IsOrder (IsLeft (length ts) c.deref-2.result.now) ts c.order_sources.new.order.items) c.deref.ensures.value c.order_sources.ensures.order) in
+    let order : IsOrder (IsLeftRank (length times) reached) times c.order_sources.new.order.items =
+    subst (λ (fs : List Bool). IsOrder (IsLeftRank (length times) fs) times c.order_sources.new.order.items) c.deref-2.ensures.value
+    (subst (λ (ts : List ℕ). IsOrder (IsLeftRank (length ts) c.deref-2.result.now) ts c.order_sources.new.order.items) c.deref.ensures.value c.order_sources.ensures.order) in
     subst (λ (ss : List Source). IsOrder (IsSearchedRank c.args.heap.now c.deref-3.result.now c.args.work.now.ranks c.deref-4.result.now) c.deref_mut.result.now ss) (sym c.deref-5.ensures.value)
     (subst (λ (ts : List ℕ). IsOrder (IsSearchedRank c.args.heap.now c.deref-3.result.now c.args.work.now.ranks c.deref-4.result.now) ts c.order_sources.new.order.items) (sym c.deref_mut.ensures.value)
     (subst (λ (xs : List ℕ). IsOrder (IsSearchedRank c.args.heap.now xs c.args.work.now.ranks c.deref-4.result.now) times c.order_sources.new.order.items) (sym c.deref-3.ensures.value)

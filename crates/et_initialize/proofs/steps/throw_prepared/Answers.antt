@@ -2,7 +2,7 @@ use Rattle.std.proofs.Common.{◌≡◌, ◌<◌, ◌∙◌, ℕ, List, length, 
 use Rattle.et_heap.specs.Objects.{has_room}
 use Rattle.et_state.specs.Threads.{ThreadState}
 use Rattle.et_state.specs.State.{MachineState}
-use Rattle.et_program.specs.BootNames.{name_of}
+use Rattle.et_program.specs.BootNames.{built_in_class_name}
 use Rattle.et_program.specs.BootNamed.BuiltInClass.{BuiltInClass}
 use Rattle.et_program.specs.Entries.{class_at}
 use Rattle.et_event.specs.Errors.{error_class, class_called}
@@ -16,7 +16,7 @@ begin_prepared-requires-clause-fits c =
 pub make_object-requires : goal.make_object-requires
 make_object-requires c =
     let p = c.args.program.now in
-    let name : c.class_called-class.result ≡ error_class p c.args.error = c.class_called-class.ensures.value ∙ ap (λ (k : BuiltInClass). class_called p (name_of k)) c.class.ensures in
+    let name : c.class_called-class.result ≡ error_class p c.args.error = c.class_called-class.ensures.value ∙ ap (λ (k : BuiltInClass). class_called p (built_in_class_name k)) c.class.ensures in
     let slots : c.slots_of-slots.result ≡ (class_at p (error_class p c.args.error)).info.slots = c.slots_of-slots.ensures ∙ ap (λ (k : ℕ). (class_at p k).info.slots) name in
     base_room p c.args.thread c.args.classes.now c.args.machine.now c.begin_prepared.new.machine c.slots_of-slots.result c.in_ok-begin_prepared.ensures.0
     (subst (λ (n : ℕ). has_room (after p c.args.machine.now c.args.thread c.args.classes.now).state.heap 1 n ≡ true) (sym slots) c.requires.room)
@@ -29,7 +29,7 @@ throw-requires-clause-thread c =
 pub returns : goal.returns
 returns c =
     let p = c.args.program.now in
-    let name : c.class_called-class.result ≡ error_class p c.args.error = c.class_called-class.ensures.value ∙ ap (λ (k : BuiltInClass). class_called p (name_of k)) c.class.ensures in
+    let name : c.class_called-class.result ≡ error_class p c.args.error = c.class_called-class.ensures.value ∙ ap (λ (k : BuiltInClass). class_called p (built_in_class_name k)) c.class.ensures in
     let slots : c.slots_of-slots.result ≡ (class_at p (error_class p c.args.error)).info.slots = c.slots_of-slots.ensures ∙ ap (λ (k : ℕ). (class_at p k).info.slots) name in
     error_thrown p c.args.thread c.args.error c.args.classes.now c.args.machine.now c.begin_prepared.new.machine c.make_object.new.machine c.throw.new.self c.args.out.now c.begin_prepared.new.out c.make_object.new.out c.class_called-class.result c.slots_of-slots.result c.in_ok-object.object
     c.requires.program c.requires.classes c.requires.sound c.requires.frame name c.slots_of-slots.ensures

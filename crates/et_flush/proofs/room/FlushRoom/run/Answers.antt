@@ -68,8 +68,8 @@ same g c here decides =
 -- WHAT WAS CLEARED goes to the queues
 
 -- which are reached, by the times
-told_now : (g : given.Over) (c : goal.After-enqueue_all g) → (o : ℕ) → IsHeld c.args.heap.now o → (is_now (time_of c.find_deaths.new.work.ranks c.find_deaths.new.work.times.items) o ≡ true) ↔ IsReached (heap_graph c.args.heap.now c.args.roots.now) o
-told_now g c = now_reached c.args.heap.now c.args.roots.now c.args.stamps.now (time_of c.find_deaths.new.work.ranks c.find_deaths.new.work.times.items) c.requires.none c.requires.stamps (stamps_below c.as_slice-2.result.now c.args.stamps.now c.as_slice-2.ensures.value c.as_slice-2.ensures.events) (settled_after g c)
+reached_by_time : (g : given.Over) (c : goal.After-enqueue_all g) → (o : ℕ) → IsHeld c.args.heap.now o → (is_now (time_of c.find_deaths.new.work.ranks c.find_deaths.new.work.times.items) o ≡ true) ↔ IsReached (heap_graph c.args.heap.now c.args.roots.now) o
+reached_by_time g c = now_reached c.args.heap.now c.args.roots.now c.args.stamps.now (time_of c.find_deaths.new.work.ranks c.find_deaths.new.work.times.items) c.requires.none c.requires.stamps (stamps_below c.as_slice-2.result.now c.args.stamps.now c.as_slice-2.ensures.value c.as_slice-2.ensures.events) (settled_after g c)
 
 swept_is : (g : given.Over) (c : goal.After-enqueue_all g) → c.sweep.new.heap ≡ remaining (is_now (time_of c.find_deaths.new.work.ranks c.find_deaths.new.work.times.items)) 0 c.args.heap.now
 swept_is g c = c.sweep.ensures.heap ∙ ap (λ (ts : List ℕ). remaining (is_now (time_of c.find_deaths.new.work.ranks ts)) 0 c.args.heap.now) c.deref-2.ensures.value
@@ -85,8 +85,8 @@ settled_after_before g c =
     (subst (λ (ts : List ℕ). IsSettled c.args.heap.now c.as_slice.result.now ts (time_of c.find_deaths.new.work.ranks c.find_deaths.new.work.times.items)) c.as_slice-2.ensures.value c.find_deaths.ensures.settled)
 
 -- which are reached, by the times
-told_now_before : (g : given.Over) (c : goal.After-enqueue_all-arg-2-1 g) → (o : ℕ) → IsHeld c.args.heap.now o → (is_now (time_of c.find_deaths.new.work.ranks c.find_deaths.new.work.times.items) o ≡ true) ↔ IsReached (heap_graph c.args.heap.now c.args.roots.now) o
-told_now_before g c = now_reached c.args.heap.now c.args.roots.now c.args.stamps.now (time_of c.find_deaths.new.work.ranks c.find_deaths.new.work.times.items) c.requires.none c.requires.stamps (stamps_below c.as_slice-2.result.now c.args.stamps.now c.as_slice-2.ensures.value c.as_slice-2.ensures.events) (settled_after_before g c)
+reached_by_time_before : (g : given.Over) (c : goal.After-enqueue_all-arg-2-1 g) → (o : ℕ) → IsHeld c.args.heap.now o → (is_now (time_of c.find_deaths.new.work.ranks c.find_deaths.new.work.times.items) o ≡ true) ↔ IsReached (heap_graph c.args.heap.now c.args.roots.now) o
+reached_by_time_before g c = now_reached c.args.heap.now c.args.roots.now c.args.stamps.now (time_of c.find_deaths.new.work.ranks c.find_deaths.new.work.times.items) c.requires.none c.requires.stamps (stamps_below c.as_slice-2.result.now c.args.stamps.now c.as_slice-2.ensures.value c.as_slice-2.ensures.events) (settled_after_before g c)
 
 swept_is_before : (g : given.Over) (c : goal.After-enqueue_all-arg-2-1 g) → c.sweep.new.heap ≡ remaining (is_now (time_of c.find_deaths.new.work.ranks c.find_deaths.new.work.times.items)) 0 c.args.heap.now
 swept_is_before g c = c.sweep.ensures.heap ∙ ap (λ (ts : List ℕ). remaining (is_now (time_of c.find_deaths.new.work.ranks ts)) 0 c.args.heap.now) c.deref-2.ensures.value
@@ -106,11 +106,11 @@ sweep-requires-clause-room g c =
 pub enqueue_all-requires-clause-held : goal.enqueue_all-requires-clause-held
 enqueue_all-requires-clause-held g c = λ r d.
     subst (λ (h : Objects). IsHeld h r) (sym (swept_is_before g c))
-    (cleared_remain c.args.heap.now c.args.roots.now (is_now (time_of c.find_deaths.new.work.ranks c.find_deaths.new.work.times.items)) c.requires.slots (told_now_before g c) r (subst (λ (rs : List ℕ). Contains rs r) (c.deref-4.ensures.value ∙ cleared_is_before g c) d))
+    (cleared_remain c.args.heap.now c.args.roots.now (is_now (time_of c.find_deaths.new.work.ranks c.find_deaths.new.work.times.items)) c.requires.slots (reached_by_time_before g c) r (subst (λ (rs : List ℕ). Contains rs r) (c.deref-4.ensures.value ∙ cleared_is_before g c) d))
 
 pub enqueue_all-requires-clause-pairs : goal.enqueue_all-requires-clause-pairs
 enqueue_all-requires-clause-pairs g c =
-    subst ArePairsHeld (sym (swept_is_before g c)) (remaining_pairs c.args.heap.now c.args.roots.now (is_now (time_of c.find_deaths.new.work.ranks c.find_deaths.new.work.times.items)) c.requires.slots (told_now_before g c))
+    subst ArePairsHeld (sym (swept_is_before g c)) (remaining_pairs c.args.heap.now c.args.roots.now (is_now (time_of c.find_deaths.new.work.ranks c.find_deaths.new.work.times.items)) c.requires.slots (reached_by_time_before g c))
 
 -- the references that were handed on are those that the test names
 listed_is : (g : given.Over) (c : goal.After-enqueue_all g) (here : ℕ → Bool) → ((o : ℕ) → IsHeld c.args.heap.now o → is_now (time_of c.find_deaths.new.work.ranks c.find_deaths.new.work.times.items) o ≡ here o) → c.deref-4.result.now ≡ cleared_references here 0 c.args.heap.now

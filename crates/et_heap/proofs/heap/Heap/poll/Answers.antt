@@ -26,7 +26,7 @@ pub returns-clause-value : goal.returns-clause-value
 returns-clause-value g c =
     let P = c.self.inside.store in
     let taken = poll P c.args.queue (there _ _ _ c.self.view_is c.requires.held) (all-there _ _ c.args.queue c.self.view_is c.requires.whole) c.self.invariant in
-    c.value_of.ensures ∙ (ap referent_value c.unlink.ensures.first ∙ (taken.value ∙ ap (λ x. first_value x.waiting) (shows _ _ c.args.queue c.self.view_is)))
+    c.value_of_reference.ensures ∙ (ap referent_value c.unlink.ensures.first ∙ (taken.value ∙ ap (λ x. first_value x.waiting) (shows _ _ c.args.queue c.self.view_is)))
 
 pub returns-clause-new : goal.returns-clause-new
 returns-clause-new g c =
