@@ -170,6 +170,28 @@ const REM: &str = "class Rem java/lang/Object 0021\nmethod main ([Ljava/lang/Str
     invokevirtual java/lang/ref/ReferenceQueue remove ()Ljava/lang/ref/Reference;\npop\nreturn\n\
     end\n";
 
+/// Two references of which the later one comes to the queue first, at a flush of its own.
+const ARRIVAL: &str =
+    "class Arrival java/lang/Object 0021\nmethod main ([Ljava/lang/String;)V 0009 8 6\n\
+    new java/lang/ref/ReferenceQueue\ndup\n\
+    invokespecial java/lang/ref/ReferenceQueue <init> ()V\nastore 1\n\
+    new java/lang/ref/WeakReference\nastore 2\nnew java/lang/ref/WeakReference\nastore 3\n\
+    new Arrival\nastore 4\nnew Arrival\nastore 5\naload 2\naload 4\naload 1\n\
+    invokespecial java/lang/ref/WeakReference <init> (Ljava/lang/Object;Ljava/lang/ref/ReferenceQueue;)V\n\
+    aload 3\naload 5\naload 1\n\
+    invokespecial java/lang/ref/WeakReference <init> (Ljava/lang/Object;Ljava/lang/ref/ReferenceQueue;)V\n\
+    aconst_null\nastore 5\nnop\naconst_null\nastore 4\nnop\naconst_null\nastore 2\n\
+    aconst_null\nastore 3\naload 1\n\
+    invokevirtual java/lang/ref/ReferenceQueue poll ()Ljava/lang/ref/Reference;\npop\nnop\n\
+    aload 1\ninvokevirtual java/lang/ref/ReferenceQueue poll ()Ljava/lang/ref/Reference;\npop\n\
+    nop\nreturn\nend\n";
+
+/// A poll on null.
+const NIL: &str = "class Nil java/lang/Object 0021\nmethod main ([Ljava/lang/String;)V 0009 2 1\n\
+    aconst_null\n\
+    invokevirtual java/lang/ref/ReferenceQueue poll ()Ljava/lang/ref/Reference;\npop\nreturn\n\
+    end\n";
+
 #[test]
 fn a_reference_waits_in_its_queue(rt: HostRuntime) -> Result<(), Fail> {
     let listings = [("Que.class", QUE)];
@@ -646,6 +668,37 @@ fn what_queues_do_not_have_is_no_method(rt: HostRuntime) -> Result<(), Fail> {
              M 1 0 1 0\nC 3 java/lang/ref/ReferenceQueue\nA 2 0 2 3 16 0\n\
              C 4 java/lang/NoSuchMethodError\nA 3 0 3 4 32 0\nX 4 0 1 3\nF 5 3\nD 1 3\nD 2 3\nD 3 4\n\
              Z 5 0\n",
+        b"",
+    )];
+    are_answered(&rt, rt.alloc(), &listings, &rows)
+}
+
+#[test]
+fn references_wait_in_the_order_of_their_flushes(rt: HostRuntime) -> Result<(), Fail> {
+    let listings = [("Arrival.class", ARRIVAL)];
+    let rows: [Row; 1] = [(
+        "trace --flush 3 Arrival.class",
+        Status::Done,
+        b"H 1 3\nC 1 [Ljava/lang/String;\nA 0 0 1 1 24 0\nC 2 Arrival\n\
+             N 1 2 main ([Ljava/lang/String;)V\nM 1 0 1 0\nC 3 java/lang/ref/ReferenceQueue\n\
+             A 2 0 2 3 16 0\nF 3 0\nC 4 java/lang/ref/WeakReference\nA 6 0 3 4 16 0\nF 6 0\n\
+             A 8 0 4 4 16 0\nF 9 0\nA 10 0 5 2 16 0\nA 12 0 6 2 16 0\nF 12 0\nF 15 0\nF 18 0\nF 21 0\n\
+             F 24 1\nD 6 22\nF 27 1\nD 5 25\nF 30 0\nF 33 0\nF 36 1\nD 4 33\nF 39 1\nD 3 37\n\
+             E 40 0 1\nF 41 2\nD 1 39\nD 2 39\nZ 41 0\n",
+        b"",
+    )];
+    are_answered(&rt, rt.alloc(), &listings, &rows)
+}
+
+#[test]
+fn null_is_no_queue_to_poll(rt: HostRuntime) -> Result<(), Fail> {
+    let listings = [("Nil.class", NIL)];
+    let rows: [Row; 1] = [(
+        "trace Nil.class",
+        Status::Done,
+        b"H 1 0\nC 1 [Ljava/lang/String;\nA 0 0 1 1 24 0\nC 2 Nil\nN 1 2 main ([Ljava/lang/String;)V\n\
+             M 1 0 1 0\nC 3 java/lang/NullPointerException\nA 3 0 2 3 32 0\nX 4 0 1 2\nF 5 2\nD 1 3\n\
+             D 2 4\nZ 5 0\n",
         b"",
     )];
     are_answered(&rt, rt.alloc(), &listings, &rows)
