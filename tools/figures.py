@@ -2,6 +2,8 @@
 from html import escape
 
 COLOURS = ('#0b61a4', '#e08214', '#1b9e77', '#b2182b', '#7b3294', '#999999', '#5e4fa2', '#66a61e', '#a6761d')
+# Points above which a line is thinned out to what can be seen.
+MANY = 2000
 
 
 def ticks(least, most, wanted=6):
@@ -42,7 +44,7 @@ class Panel:
             y, label = self.y(value), short(value) if labels_y is None else labels_y[value]
             self.out.append(f'<path d="M{self.left} {y:.1f}H{right}" stroke="#ddd"/>'
                             f'<text x="{self.left - 6}" y="{y + 4:.1f}" text-anchor="end">{label}</text>')
-        for value in ticks(self.least_x, self.most_x):
+        for value in ticks(self.least_x, self.most_x, self.width // 60):
             self.out.append(f'<text x="{self.x(value):.1f}" y="{bottom + 16}" text-anchor="middle">{short(value)}</text>')
         middle = self.left + self.width / 2
         self.out.append(f'<text x="{middle:.1f}" y="{bottom + 34}" text-anchor="middle">{escape(title_x)}</text>')
@@ -58,7 +60,21 @@ class Panel:
         path = f'{self._stairs(points)}V{self.y(0):.1f}H{self.x(points[0][0]):.1f}Z'
         self.out.append(f'<path d="{path}" fill="{colour}"/>')
 
+    def _thinned(self, points):
+        """Of very many points, those that show: the least, the greatest and the last in each unit of the figure's width."""
+        if len(points) <= MANY:
+            return points
+        columns = {}
+        for point in points:
+            columns.setdefault(int(self.x(point[0])), []).append(point)
+        shown = []
+        for column in columns.values():
+            height = lambda point: point[1]
+            shown += sorted({min(column, key=height), max(column, key=height), column[-1]}, key=column.index)
+        return shown
+
     def _stairs(self, points):
+        points = self._thinned(points)
         path = [f'M{self.x(points[0][0]):.1f} {self.y(points[0][1]):.1f}']
         at = path[0]
         for x, y in points[1:]:
