@@ -1,5 +1,6 @@
 """Options, messages and progress, the same for each tool."""
 import os
+import subprocess
 import sys
 import time
 from pathlib import Path
@@ -58,13 +59,16 @@ def options(doc, words, valued, flags, least, most):
 
 
 def program(given):
-    """The path of elephant: the one of --program, or the launcher beside this folder, or a program of a release there."""
+    """The path of elephant: the one of --program, or the one beside this folder. Where that is the launcher, it is called once,
+    so that it builds here, where its lines are seen, and not in each of many calls."""
     if 'program' in given:
         return given['program']
-    for path in (TOP / 'elephant', TOP / 'bin' / 'elephant'):
-        if os.access(path, os.X_OK):
-            return str(path)
-    raise Wrong(f'there is no program at {TOP}/elephant: give --program PATH')
+    path = str(TOP / 'elephant')
+    if not os.access(path, os.X_OK):
+        raise Wrong(f'there is no program {path}: give --program PATH')
+    if (TOP / 'crates').is_dir() and subprocess.run([path, 'curve', str(TOP / 'examples/Five.trace')], stdout=subprocess.DEVNULL).returncode:
+        raise Wrong('there is no built program')
+    return path
 
 
 def written(text, path):
