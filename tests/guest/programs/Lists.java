@@ -1,0 +1,416 @@
+import java.util.AbstractList;
+import java.util.ArrayList;
+import java.util.Arrays;
+import java.util.Collection;
+import java.util.Collections;
+import java.util.Comparator;
+import java.util.ConcurrentModificationException;
+import java.util.Iterator;
+import java.util.LinkedList;
+import java.util.List;
+import java.util.ListIterator;
+import java.util.NoSuchElementException;
+import java.util.function.Consumer;
+import java.util.function.Predicate;
+import java.util.function.UnaryOperator;
+
+/** ArrayList, LinkedList, lists of a program's own over AbstractList, and parts of all three. */
+public class Lists {
+    static long seed = 7;
+
+    static int choose(int bound) {
+        seed = seed * 6364136223846793005L + 1442695040888963407L;
+        return (int) ((seed >>> 33) % bound);
+    }
+
+    /** The least that a list needs. */
+    static final class Plain extends AbstractList<Integer> {
+        private Integer[] all = new Integer[200];
+        private int size;
+
+        public int size() {
+            return size;
+        }
+
+        public Integer get(int index) {
+            if (index < 0 || index >= size) {
+                throw new IndexOutOfBoundsException();
+            }
+            return all[index];
+        }
+
+        public Integer set(int index, Integer element) {
+            Integer old = get(index);
+            all[index] = element;
+            return old;
+        }
+
+        public void add(int index, Integer element) {
+            if (index < 0 || index > size) {
+                throw new IndexOutOfBoundsException();
+            }
+            for (int i = size; i > index; i--) {
+                all[i] = all[i - 1];
+            }
+            all[index] = element;
+            size++;
+            modCount++;
+        }
+
+        public Integer remove(int index) {
+            Integer old = get(index);
+            size--;
+            for (int i = index; i < size; i++) {
+                all[i] = all[i + 1];
+            }
+            modCount++;
+            return old;
+        }
+    }
+
+    public static void main(String[] arguments) {
+        for (int round = 0; round < 3; round++) {
+            exercise(round == 0 ? new ArrayList<Integer>() : round == 1 ? new LinkedList<Integer>() : new Plain(), 200);
+            List<Integer> host = round == 0 ? new ArrayList<Integer>(3) : round == 1 ? new LinkedList<Integer>() : new Plain();
+            for (int i = 0; i < 9; i++) {
+                host.add(i);
+            }
+            exercise(host.subList(2, 7), 80);
+            tell(host);
+            exercise(host.subList(1, 4).subList(1, 2), 40);
+            tell(host);
+            faults(host);
+            order(host);
+        }
+        arrayLists();
+        linkedLists();
+        fixed();
+    }
+
+    static void tell(Collection<Integer> all) {
+        Report.number(all.size());
+        for (Integer element : all) {
+            Report.number(element == null ? -999 : element);
+        }
+    }
+
+    static void exercise(List<Integer> list, int steps) {
+        for (int step = 0; step < steps; step++) {
+            int size = list.size();
+            Integer value = choose(12) == 0 ? null : Integer.valueOf(choose(10) * 40);
+            switch (choose(22)) {
+                case 0:
+                case 1:
+                    Report.truth(list.add(value));
+                    break;
+                case 2:
+                case 3:
+                    list.add(choose(size + 1), value);
+                    break;
+                case 4:
+                    if (size > 0) {
+                        Integer old = list.remove(choose(size));
+                        Report.number(old == null ? -1 : old);
+                    }
+                    break;
+                case 5:
+                    Report.truth(list.remove((Object) value));
+                    break;
+                case 6:
+                    if (size > 0) {
+                        Integer old = list.set(choose(size), value);
+                        Report.number(old == null ? -1 : old);
+                    }
+                    break;
+                case 7:
+                    Report.number(list.indexOf(value));
+                    break;
+                case 8:
+                    Report.number(list.lastIndexOf(value));
+                    break;
+                case 9:
+                    Report.truth(list.contains(value));
+                    break;
+                case 10:
+                    Report.truth(list.addAll(Arrays.asList(value, 1, 2)));
+                    break;
+                case 11:
+                    Report.truth(list.addAll(choose(size + 1), Arrays.asList(5, value)));
+                    break;
+                case 12:
+                    Report.truth(list.addAll(Collections.<Integer>emptyList()));
+                    Report.truth(list.addAll(0, new ArrayList<Integer>()));
+                    break;
+                case 13:
+                    Report.truth(list.removeAll(Arrays.asList(value, 40)));
+                    break;
+                case 14:
+                    Report.truth(choose(6) == 0 && list.retainAll(Arrays.asList(value, 0, 40, 80, 120, 160, 200, 1, 2)));
+                    break;
+                case 15:
+                    Report.truth(list.containsAll(Arrays.asList(value, 1)));
+                    break;
+                case 16:
+                    walk(list);
+                    break;
+                case 17:
+                    Report.number(list.hashCode());
+                    Report.truth(list.equals(new ArrayList<Integer>(list)));
+                    Report.truth(list.equals(new LinkedList<Integer>(list)));
+                    Report.truth(list.equals(Arrays.asList(1, 2)));
+                    Report.truth(list.equals(Integer.valueOf(1)));
+                    Report.truth(list.equals(list));
+                    break;
+                case 18:
+                    arrays(list);
+                    break;
+                case 19:
+                    Report.truth(list.removeIf(new Predicate<Integer>() {
+                        public boolean test(Integer element) {
+                            return element != null && element % 120 == 80;
+                        }
+                    }));
+                    break;
+                case 20:
+                    list.replaceAll(new UnaryOperator<Integer>() {
+                        public Integer apply(Integer element) {
+                            return element == null ? null : (Integer) (element + 1);
+                        }
+                    });
+                    break;
+                default:
+                    if (choose(8) == 0) {
+                        list.clear();
+                    }
+                    Report.truth(list.isEmpty());
+            }
+            tell(list);
+        }
+    }
+
+    static void walk(List<Integer> list) {
+        ListIterator<Integer> all = choose(2) == 0 ? list.listIterator() : list.listIterator(choose(list.size() + 1));
+        for (int step = 0; step < 12; step++) {
+            Report.number(all.nextIndex() * 1000 + all.previousIndex());
+            if (choose(2) == 0 ? all.hasNext() : !all.hasPrevious() && all.hasNext()) {
+                all.next();
+            } else if (all.hasPrevious()) {
+                all.previous();
+            } else {
+                return;
+            }
+            switch (choose(6)) {
+                case 0:
+                    all.remove();
+                    break;
+                case 1:
+                    all.set(choose(5));
+                    break;
+                case 2:
+                    all.add(-choose(5));
+                    break;
+                default:
+            }
+        }
+        Iterator<Integer> rest = list.iterator();
+        if (rest.hasNext()) {
+            rest.next();
+            rest.remove();
+        }
+        final long[] sum = new long[1];
+        Consumer<Integer> adding = new Consumer<Integer>() {
+            public void accept(Integer element) {
+                sum[0] = sum[0] * 31 + (element == null ? 7 : element);
+            }
+        };
+        rest.forEachRemaining(adding);
+        list.forEach(adding);
+        Report.number(sum[0]);
+    }
+
+    static void arrays(List<Integer> list) {
+        Object[] all = list.toArray();
+        Integer[] same = list.toArray(new Integer[0]);
+        Integer[] longer = list.toArray(new Integer[list.size() + 3]);
+        Report.number(all.length + 1000 * same.length + 1000000L * longer.length);
+        for (int i = 0; i < all.length; i++) {
+            Report.truth(all[i] == same[i] && same[i] == longer[i]);
+        }
+        Report.truth(longer[list.size()] == null);
+    }
+
+    static void faults(List<Integer> list) {
+        for (int which = 0; which < 22; which++) {
+            try {
+                fault(list, which);
+                Report.number(0);
+            } catch (IndexOutOfBoundsException e) {
+                Report.number(1);
+            } catch (NoSuchElementException e) {
+                Report.number(2);
+            } catch (ConcurrentModificationException e) {
+                Report.number(3);
+            } catch (IllegalStateException e) {
+                Report.number(4);
+            } catch (IllegalArgumentException e) {
+                Report.number(5);
+            } catch (NullPointerException e) {
+                Report.number(6);
+            }
+        }
+    }
+
+    static void fault(List<Integer> list, int which) {
+        int size = list.size();
+        switch (which) {
+            case 0: list.get(size); break;
+            case 1: list.get(-1); break;
+            case 2: list.set(size, 1); break;
+            case 3: list.add(size + 1, 1); break;
+            case 4: list.remove(size); break;
+            case 5: list.listIterator(size + 1); break;
+            case 6: list.subList(2, 1); break;
+            case 7: list.subList(0, size + 1); break;
+            case 8: list.subList(-1, 1); break;
+            case 9: list.iterator().remove(); break;
+            case 10: list.listIterator().set(1); break;
+            case 11: list.listIterator(size).next(); break;
+            case 12: list.listIterator().previous(); break;
+            case 13:
+                Iterator<Integer> old = list.iterator();
+                list.add(1);
+                old.next();
+                break;
+            case 14:
+                for (Integer element : list) {
+                    list.remove(element);
+                }
+                break;
+            case 15:
+                List<Integer> part = list.subList(0, 1);
+                list.add(3);
+                part.size();
+                break;
+            case 16: list.addAll(size + 1, list); break;
+            case 17: list.addAll(null); break;
+            case 18: list.forEach(null); break;
+            case 19: list.removeIf(null); break;
+            case 20: list.replaceAll(null); break;
+            default:
+                ListIterator<Integer> last = list.listIterator(size);
+                last.previous();
+                list.remove(0);
+                last.remove();
+        }
+    }
+
+    static void order(List<Integer> list) {
+        list.clear();
+        for (int i = 0; i < 60; i++) {
+            list.add(choose(30));
+        }
+        list.sort(null);
+        tell(list);
+        list.sort(new Comparator<Integer>() {
+            public int compare(Integer a, Integer b) {
+                return a % 5 - b % 5;
+            }
+        });
+        tell(list);
+        Collections.sort(list);
+        tell(list);
+    }
+
+    static void arrayLists() {
+        ArrayList<Integer> list = new ArrayList<Integer>(0);
+        list.ensureCapacity(5);
+        list.ensureCapacity(50);
+        list.trimToSize();
+        for (int i = 0; i < 30; i++) {
+            list.add(i);
+        }
+        list.trimToSize();
+        Object copy = list.clone();
+        Report.truth(((ArrayList<?>) copy).equals(list) && copy != list);
+        list.ensureCapacity(100);
+        list.subList(5, 15).clear();
+        tell(list);
+        try {
+            new ArrayList<Integer>(-1);
+        } catch (IllegalArgumentException e) {
+            Report.number(11);
+        }
+        try {
+            list.forEach(new Consumer<Integer>() {
+                public void accept(Integer element) {
+                    list.add(element);
+                }
+            });
+        } catch (ConcurrentModificationException e) {
+            Report.number(12);
+        }
+        tell(list);
+        try {
+            list.removeIf(new Predicate<Integer>() {
+                public boolean test(Integer element) {
+                    list.add(element);
+                    return false;
+                }
+            });
+        } catch (ConcurrentModificationException e) {
+            Report.number(13);
+        }
+    }
+
+    static void linkedLists() {
+        LinkedList<Integer> list = new LinkedList<Integer>(Arrays.asList(3, 1, 2));
+        Report.truth(((LinkedList<?>) list.clone()).equals(list));
+        for (int i = 0; i < 3; i++) {
+            list.addFirst(i);
+            list.addLast(i * i);
+        }
+        tell(list);
+        for (Iterator<Integer> down = list.descendingIterator(); down.hasNext(); ) {
+            Integer element = down.next();
+            Report.number(element);
+            if (element == 1) {
+                down.remove();
+            }
+        }
+        tell(list);
+    }
+
+    static void fixed() {
+        List<Integer> list = Arrays.asList(4, 5, 6);
+        list.set(1, 9);
+        tell(list);
+        try {
+            list.add(1);
+        } catch (UnsupportedOperationException e) {
+            Report.number(21);
+        }
+        try {
+            list.remove(1);
+        } catch (UnsupportedOperationException e) {
+            Report.number(22);
+        }
+        try {
+            list.get(3);
+        } catch (ArrayIndexOutOfBoundsException e) {
+            Report.number(23);
+        }
+        try {
+            new AbstractList<Integer>() {
+                public int size() {
+                    return 1;
+                }
+
+                public Integer get(int index) {
+                    return index;
+                }
+            }.set(0, 1);
+        } catch (UnsupportedOperationException e) {
+            Report.number(24);
+        }
+    }
+}
