@@ -12,9 +12,12 @@ import java.util.function.Function;
 public class HashMap<K, V> extends AbstractMap<K, V> implements Map<K, V>, Cloneable, java.io.Serializable {
     static final int FIRST_TABLE = 16;
     static final int LONGEST_TABLE = 1 << 30;
-    /** A bin that has so many entries already makes a table below the next number double. */
-    static final int LONG_BIN = 8;
+    /**
+     * A table below this length doubles when a bin becomes too long: longer than eight by a key at its end, and longer than
+     * seven by one at its beginning.
+     */
     static final int WIDE_TABLE = 64;
+    static final int LONG_BIN = 8;
 
     static class Node<K, V> extends AbstractMap.Pair<K, V> {
         final int hash;
@@ -208,9 +211,7 @@ public class HashMap<K, V> extends AbstractMap<K, V> implements Map<K, V>, Clone
             passed++;
         }
         table[place] = newNode(hash, key, value, table[place]);
-        if (passed > 0) {
-            widen(passed);
-        }
+        widen(passed + 1);
         changes++;
         size++;
         inserted();
@@ -433,7 +434,7 @@ public class HashMap<K, V> extends AbstractMap<K, V> implements Map<K, V>, Clone
         return made;
     }
 
-    private void checkUnchanged(int before) {
+    void checkUnchanged(int before) {
         if (changes != before) {
             throw new ConcurrentModificationException();
         }
@@ -455,9 +456,11 @@ public class HashMap<K, V> extends AbstractMap<K, V> implements Map<K, V>, Clone
     public void forEach(BiConsumer<? super K, ? super V> action) {
         Objects.requireNonNull(action);
         int before = changes;
-        for (Iterator<Map.Entry<K, V>> all = walk(); all.hasNext(); ) {
-            Map.Entry<K, V> entry = all.next();
-            action.accept(entry.getKey(), entry.getValue());
+        Node<K, V>[] bins = table;
+        for (int i = 0; bins != null && i < bins.length; i++) {
+            for (Node<K, V> node = bins[i]; node != null; node = node.next) {
+                action.accept(node.key, node.value);
+            }
         }
         checkUnchanged(before);
     }

@@ -60,6 +60,6 @@ public class HashSet<E> extends AbstractSet<E> implements Set<E>, Cloneable, jav
     }
 
     public Object clone() {
-        return new HashSet<E>((Collection<E>) this);
+        return new HashSet<E>(new HashMap<E, Object>(map));
     }
 }

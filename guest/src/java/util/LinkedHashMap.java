@@ -1,5 +1,7 @@
 package java.util;
 
+import java.util.function.BiConsumer;
+
 /** A hash map that is gone over in the order in which its keys came. */
 public class LinkedHashMap<K, V> extends HashMap<K, V> implements Map<K, V> {
     static final class Link<K, V> extends HashMap.Node<K, V> {
@@ -71,6 +73,16 @@ public class LinkedHashMap<K, V> extends HashMap<K, V> implements Map<K, V> {
         super.clear();
         eldest = null;
         youngest = null;
+    }
+
+    @Override
+    public void forEach(BiConsumer<? super K, ? super V> action) {
+        Objects.requireNonNull(action);
+        int before = changes;
+        for (Link<K, V> link = eldest; link != null; link = link.after) {
+            action.accept(link.key, link.value);
+        }
+        checkUnchanged(before);
     }
 
     @Override
