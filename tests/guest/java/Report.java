@@ -9,4 +9,11 @@ public final class Report {
     public static void truth(boolean truth) {
         number(truth ? 1 : 0);
     }
+
+    public static void text(String text) {
+        number(text.length());
+        for (int i = 0; i < text.length(); i++) {
+            number(text.charAt(i));
+        }
+    }
 }

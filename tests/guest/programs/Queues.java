@@ -102,6 +102,11 @@ public class Queues {
             Report.number(deque.size());
         }
         tell(deque);
+        for (int which = 0; which < 7; which++) {
+            deque.add(which);
+            throwing(deque, which);
+        }
+        tell(deque);
     }
 
     static void throwing(Deque<Integer> deque, int which) {

@@ -100,16 +100,6 @@ public final class Integer extends Number implements Comparable<Integer> {
     // THE NUMBER
 
     @Override
-    public byte byteValue() {
-        return (byte) value;
-    }
-
-    @Override
-    public short shortValue() {
-        return (short) value;
-    }
-
-    @Override
     public int intValue() {
         return value;
     }

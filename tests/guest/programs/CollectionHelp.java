@@ -1,0 +1,190 @@
+import java.util.ArrayList;
+import java.util.Arrays;
+import java.util.Collection;
+import java.util.Collections;
+import java.util.Comparator;
+import java.util.HashMap;
+import java.util.HashSet;
+import java.util.Iterator;
+import java.util.LinkedList;
+import java.util.List;
+import java.util.Map;
+import java.util.NoSuchElementException;
+import java.util.Random;
+import java.util.Set;
+
+/** Collections. */
+public class CollectionHelp {
+    static final Comparator<Integer> BY_DIGIT = new Comparator<Integer>() {
+        public int compare(Integer a, Integer b) {
+            return a % 10 - b % 10;
+        }
+    };
+
+    static void tell(Collection<Integer> all) {
+        Report.number(all.size());
+        for (Integer element : all) {
+            Report.number(element == null ? -9 : element);
+        }
+    }
+
+    public static void main(String[] arguments) {
+        order(new ArrayList<Integer>());
+        order(new LinkedList<Integer>());
+        changes(new ArrayList<Integer>());
+        changes(new LinkedList<Integer>());
+        small();
+        fixed();
+        faults();
+    }
+
+    static void order(List<Integer> list) {
+        for (int i = 0; i < 40; i++) {
+            list.add(i * 37 % 101);
+        }
+        Report.number(Collections.min(list));
+        Report.number(Collections.max(list));
+        Report.number(Collections.min(list, BY_DIGIT));
+        Report.number(Collections.max(list, BY_DIGIT));
+        Collections.sort(list, BY_DIGIT);
+        tell(list);
+        Collections.sort(list);
+        tell(list);
+        for (int i = -3; i < 110; i += 4) {
+            Report.number(Collections.binarySearch(list, i));
+        }
+        Collections.sort(list, Collections.<Integer>reverseOrder());
+        Report.number(Collections.binarySearch(list, 37, Collections.<Integer>reverseOrder()));
+        Report.number(Collections.binarySearch(list, 38, Collections.<Integer>reverseOrder()));
+        Report.number(Collections.<Integer>reverseOrder().compare(1, 2));
+        Report.number(Collections.reverseOrder(BY_DIGIT).compare(1, 2));
+        Report.truth(Collections.reverseOrder(Collections.reverseOrder(BY_DIGIT)) == BY_DIGIT);
+    }
+
+    static void changes(List<Integer> list) {
+        Report.truth(Collections.addAll(list, 1, 2, 3, 4, 5, 6, 7, 2));
+        Collections.reverse(list);
+        tell(list);
+        Collections.swap(list, 1, 5);
+        tell(list);
+        for (int distance = -9; distance < 12; distance += 4) {
+            Collections.rotate(list, distance);
+            tell(list);
+        }
+        Collections.shuffle(list, new Random(5));
+        tell(list);
+        Report.truth(Collections.replaceAll(list, 2, null));
+        Report.truth(Collections.replaceAll(list, 99, 1));
+        tell(list);
+        Report.number(Collections.frequency(list, null));
+        Report.number(Collections.frequency(list, 4));
+        Report.truth(Collections.disjoint(list, Arrays.asList(99, 98)));
+        Report.truth(Collections.disjoint(list, Arrays.asList(99, 4)));
+        List<Integer> other = new ArrayList<Integer>(list);
+        Collections.fill(list, 8);
+        tell(list);
+        Collections.copy(list, other.subList(0, 3));
+        tell(list);
+        Collections.shuffle(list);
+        Report.number(list.size());
+        Collections.rotate(new ArrayList<Integer>(), 3);
+    }
+
+    static void small() {
+        tell(Collections.<Integer>emptyList());
+        tell(Collections.<Integer>emptySet());
+        Report.number(Collections.<Integer, Integer>emptyMap().size());
+        Report.truth(Collections.<Integer>emptyIterator().hasNext());
+        tell(Collections.singleton(4));
+        tell(Collections.singletonList(5));
+        Map<Integer, Integer> one = Collections.singletonMap(6, 7);
+        Report.number(one.size() * 100 + one.get(6));
+        Report.truth(one.containsKey(7));
+        tell(Collections.nCopies(3, 9));
+        Report.truth(Collections.nCopies(3, 9).equals(Arrays.asList(9, 9, 9)));
+        Report.truth(Collections.EMPTY_LIST.isEmpty() && Collections.EMPTY_SET.isEmpty() && Collections.EMPTY_MAP.isEmpty());
+        for (Map.Entry<Integer, Integer> entry : one.entrySet()) {
+            Report.number(entry.getKey() + entry.getValue() * 10);
+        }
+    }
+
+    static void fixed() {
+        List<Integer> list = new ArrayList<Integer>(Arrays.asList(3, 1, 2));
+        Collection<Integer> all = Collections.unmodifiableCollection(list);
+        List<Integer> fixedList = Collections.unmodifiableList(list);
+        Set<Integer> set = Collections.unmodifiableSet(new HashSet<Integer>(list));
+        Map<Integer, Integer> source = new HashMap<Integer, Integer>();
+        source.put(1, 10);
+        source.put(2, 20);
+        Map<Integer, Integer> map = Collections.unmodifiableMap(source);
+        tell(all);
+        tell(fixedList);
+        tell(set);
+        Report.truth(all.contains(3) && fixedList.contains(3) && set.contains(3) && map.containsKey(2));
+        Report.number(fixedList.get(1) + map.get(2) + map.size() + map.entrySet().size());
+        Report.truth(fixedList.equals(list) && set.equals(new HashSet<Integer>(list)) && map.equals(source));
+        Report.number(fixedList.hashCode() + set.hashCode() + map.hashCode());
+        tell(map.keySet());
+        tell(map.values());
+        list.add(77);
+        tell(fixedList);
+        for (int which = 0; which < 20; which++) {
+            try {
+                switch (which) {
+                    case 0: all.add(1); break;
+                    case 1: all.remove(3); break;
+                    case 2: all.clear(); break;
+                    case 3: fixedList.add(1); break;
+                    case 4: fixedList.set(0, 1); break;
+                    case 5: fixedList.remove(0); break;
+                    case 6: fixedList.remove((Object) 3); break;
+                    case 7: fixedList.clear(); break;
+                    case 8: fixedList.sort(null); break;
+                    case 9: set.add(1); break;
+                    case 10: set.remove(3); break;
+                    case 11: set.clear(); break;
+                    case 12: map.put(1, 1); break;
+                    case 13: map.remove(1); break;
+                    case 14: map.clear(); break;
+                    case 15: map.entrySet().iterator().next().setValue(3); break;
+                    case 16: map.entrySet().clear(); break;
+                    case 17: map.entrySet().remove(Integer.valueOf(3)); break;
+                    case 18:
+                        Iterator<Integer> walk = all.iterator();
+                        walk.next();
+                        walk.remove();
+                        break;
+                    default: map.keySet().remove(1);
+                }
+                Report.number(0);
+            } catch (UnsupportedOperationException e) {
+                Report.number(1);
+            }
+        }
+        tell(list);
+    }
+
+    static void faults() {
+        for (int which = 0; which < 6; which++) {
+            try {
+                switch (which) {
+                    case 0: Collections.min(new ArrayList<Integer>()); break;
+                    case 1: Collections.nCopies(-1, 1); break;
+                    case 2: Collections.copy(new ArrayList<Integer>(), Arrays.asList(1)); break;
+                    case 3: Collections.unmodifiableList(null); break;
+                    case 4: Collections.swap(Arrays.asList(1, 2), 0, 2); break;
+                    default: Collections.nCopies(1, 1).get(1);
+                }
+                Report.number(0);
+            } catch (NoSuchElementException e) {
+                Report.number(1);
+            } catch (IllegalArgumentException e) {
+                Report.number(2);
+            } catch (IndexOutOfBoundsException e) {
+                Report.number(3);
+            } catch (NullPointerException e) {
+                Report.number(4);
+            }
+        }
+    }
+}
