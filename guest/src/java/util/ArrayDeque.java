@@ -3,8 +3,8 @@ package java.util;
 /** A queue of two ends in an array that is used as a ring. It holds no null. */
 public class ArrayDeque<E> extends AbstractCollection<E> implements Deque<E>, Cloneable, java.io.Serializable {
     /** Its length is a power of two. */
-    private Object[] ring;
-    private int first;
+    Object[] ring;
+    int first;
     int size;
 
     public ArrayDeque() {
@@ -29,8 +29,13 @@ public class ArrayDeque<E> extends AbstractCollection<E> implements Deque<E>, Cl
     }
 
     @SuppressWarnings("unchecked")
-    E at(int index) {
-        return (E) ring[place(index)];
+    private E at(int index) {
+        return (E) ring[first + index & ring.length - 1];
+    }
+
+    @SuppressWarnings("unchecked")
+    static <E> E at(ArrayDeque<E> deque, int index) {
+        return (E) deque.ring[deque.first + index & deque.ring.length - 1];
     }
 
     private void makeRoom() {
@@ -176,19 +181,19 @@ public class ArrayDeque<E> extends AbstractCollection<E> implements Deque<E>, Cl
     }
 
     /** Takes out the element at an index: those behind it move up by one. */
-    void removeAt(int index) {
-        for (int i = index; i + 1 < size; i++) {
-            ring[place(i)] = ring[place(i + 1)];
+    static void removeAt(ArrayDeque<?> deque, int index) {
+        Object[] ring = deque.ring;
+        for (int i = index; i < deque.size; i++) {
+            ring[deque.first + i & ring.length - 1] = i + 1 < deque.size ? ring[deque.first + i + 1 & ring.length - 1] : null;
         }
-        size--;
-        ring[place(size)] = null;
+        deque.size--;
     }
 
     @Override
     public boolean removeFirstOccurrence(Object element) {
         for (int i = 0; i < size && element != null; i++) {
             if (Values.same(element, at(i))) {
-                removeAt(i);
+                removeAt(this, i);
                 return true;
             }
         }
@@ -199,7 +204,7 @@ public class ArrayDeque<E> extends AbstractCollection<E> implements Deque<E>, Cl
     public boolean removeLastOccurrence(Object element) {
         for (int i = size - 1; i >= 0 && element != null; i--) {
             if (Values.same(element, at(i))) {
-                removeAt(i);
+                removeAt(this, i);
                 return true;
             }
         }
@@ -270,7 +275,7 @@ public class ArrayDeque<E> extends AbstractCollection<E> implements Deque<E>, Cl
             if (next < 0 || next >= deque.size) {
                 throw new ConcurrentModificationException();
             }
-            E element = deque.at(next);
+            E element = at(deque, next);
             last = next;
             next += step;
             left--;
@@ -282,7 +287,7 @@ public class ArrayDeque<E> extends AbstractCollection<E> implements Deque<E>, Cl
             if (last < 0) {
                 throw new IllegalStateException();
             }
-            deque.removeAt(last);
+            removeAt(deque, last);
             if (step > 0) {
                 next--;
             }

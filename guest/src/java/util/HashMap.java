@@ -90,24 +90,25 @@ public class HashMap<K, V> extends AbstractMap<K, V> implements Map<K, V>, Clone
         return hash ^ hash >>> 16;
     }
 
-    // WHAT A CLASS BELOW ADDS
+    // WHAT LinkedHashMap ADDS. A class of this package stands in the descriptor of each method that isn't private, since no
+    // class of another package may declare a method of that name and descriptor below.
 
     Node<K, V> newNode(int hash, K key, V value, Node<K, V> next) {
         return new Node<K, V>(hash, key, value, next);
     }
 
-    void inserted() {}
+    void inserted(Node<K, V> node) {}
 
     void removed(Node<K, V> node) {}
 
-    Iterator<Map.Entry<K, V>> walk() {
+    EntryWalk<K, V> walk() {
         return new BinWalk<K, V>(this);
     }
 
     // THE TABLE
 
     @SuppressWarnings("unchecked")
-    void grow() {
+    private void grow() {
         Node<K, V>[] old = table;
         int length = old != null ? 2 * old.length : threshold > 0 ? threshold : FIRST_TABLE;
         if (length > LONGEST_TABLE) {
@@ -182,10 +183,11 @@ public class HashMap<K, V> extends AbstractMap<K, V> implements Map<K, V>, Clone
             last = node;
             passed++;
         }
+        Node<K, V> made = newNode(hash, key, value, null);
         if (last == null) {
-            table[place] = newNode(hash, key, value, null);
+            table[place] = made;
         } else {
-            last.next = newNode(hash, key, value, null);
+            last.next = made;
             widen(passed);
         }
         changes++;
@@ -193,7 +195,7 @@ public class HashMap<K, V> extends AbstractMap<K, V> implements Map<K, V>, Clone
         if (size > threshold) {
             grow();
         }
-        inserted();
+        inserted(made);
         return null;
     }
 
@@ -210,11 +212,12 @@ public class HashMap<K, V> extends AbstractMap<K, V> implements Map<K, V>, Clone
         for (Node<K, V> node = table[place]; node != null; node = node.next) {
             passed++;
         }
-        table[place] = newNode(hash, key, value, table[place]);
+        Node<K, V> made = newNode(hash, key, value, table[place]);
+        table[place] = made;
         widen(passed + 1);
         changes++;
         size++;
-        inserted();
+        inserted(made);
     }
 
     private void growBefore() {
@@ -383,7 +386,7 @@ public class HashMap<K, V> extends AbstractMap<K, V> implements Map<K, V>, Clone
         }
         int before = changes;
         V made = function.apply(key);
-        checkUnchanged(before);
+        checkUnchanged(this, before);
         if (made != null) {
             become(hash, key, node, made);
         }
@@ -399,7 +402,7 @@ public class HashMap<K, V> extends AbstractMap<K, V> implements Map<K, V>, Clone
         }
         int before = changes;
         V made = function.apply(key, node.value);
-        checkUnchanged(before);
+        checkUnchanged(this, before);
         become(node.hash, key, node, made);
         return made;
     }
@@ -412,7 +415,7 @@ public class HashMap<K, V> extends AbstractMap<K, V> implements Map<K, V>, Clone
         Node<K, V> node = findHashed(hash, key);
         int before = changes;
         V made = function.apply(key, node == null ? null : node.value);
-        checkUnchanged(before);
+        checkUnchanged(this, before);
         become(hash, key, node, made);
         return made;
     }
@@ -428,14 +431,14 @@ public class HashMap<K, V> extends AbstractMap<K, V> implements Map<K, V>, Clone
         if (node != null && node.value != null) {
             int before = changes;
             made = function.apply(node.value, value);
-            checkUnchanged(before);
+            checkUnchanged(this, before);
         }
         become(hash, key, node, made);
         return made;
     }
 
-    void checkUnchanged(int before) {
-        if (changes != before) {
+    static void checkUnchanged(HashMap<?, ?> map, int before) {
+        if (map.changes != before) {
             throw new ConcurrentModificationException();
         }
     }
@@ -462,7 +465,7 @@ public class HashMap<K, V> extends AbstractMap<K, V> implements Map<K, V>, Clone
                 action.accept(node.key, node.value);
             }
         }
-        checkUnchanged(before);
+        checkUnchanged(this, before);
     }
 
     @Override
@@ -500,8 +503,10 @@ public class HashMap<K, V> extends AbstractMap<K, V> implements Map<K, V>, Clone
         }
     }
 
+    abstract static class EntryWalk<K, V> implements Iterator<Map.Entry<K, V>> {}
+
     /** A walk from bin to bin. */
-    static final class BinWalk<K, V> implements Iterator<Map.Entry<K, V>> {
+    static final class BinWalk<K, V> extends EntryWalk<K, V> {
         final HashMap<K, V> map;
         Node<K, V> next;
         Node<K, V> last;

@@ -45,7 +45,7 @@ public class LinkedHashMap<K, V> extends HashMap<K, V> implements Map<K, V> {
     }
 
     @Override
-    void inserted() {
+    void inserted(HashMap.Node<K, V> node) {
         if (eldest != null && removeEldestEntry(eldest)) {
             take(eldest.key);
         }
@@ -82,11 +82,11 @@ public class LinkedHashMap<K, V> extends HashMap<K, V> implements Map<K, V> {
         for (Link<K, V> link = eldest; link != null; link = link.after) {
             action.accept(link.key, link.value);
         }
-        checkUnchanged(before);
+        checkUnchanged(this, before);
     }
 
     @Override
-    Iterator<Map.Entry<K, V>> walk() {
+    HashMap.EntryWalk<K, V> walk() {
         return new LinkWalk<K, V>(this);
     }
 
@@ -96,7 +96,7 @@ public class LinkedHashMap<K, V> extends HashMap<K, V> implements Map<K, V> {
     }
 
     /** A walk from the eldest to the youngest. */
-    static final class LinkWalk<K, V> implements Iterator<Map.Entry<K, V>> {
+    static final class LinkWalk<K, V> extends HashMap.EntryWalk<K, V> {
         final LinkedHashMap<K, V> map;
         Link<K, V> next;
         Link<K, V> last;

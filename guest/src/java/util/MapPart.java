@@ -21,21 +21,25 @@ final class MapPart<K, V> extends SortedEntries<K, V> {
         this.withHigh = withHigh;
         this.down = down;
         if (hasLow) {
-            tree.compare(low, low);
+            compare(low, low);
         }
         if (hasHigh) {
-            tree.compare(high, high);
+            compare(high, high);
         }
-        if (hasLow && hasHigh && tree.compare(low, high) > 0) {
+        if (hasLow && hasHigh && compare(low, high) > 0) {
             throw new IllegalArgumentException();
         }
+    }
+
+    private int compare(Object a, Object b) {
+        return Values.compare(tree.order, a, b);
     }
 
     private boolean isTooLow(Object key) {
         if (!hasLow) {
             return false;
         }
-        int comparison = tree.compare(key, low);
+        int comparison = compare(key, low);
         return comparison < 0 || comparison == 0 && !withLow;
     }
 
@@ -43,7 +47,7 @@ final class MapPart<K, V> extends SortedEntries<K, V> {
         if (!hasHigh) {
             return false;
         }
-        int comparison = tree.compare(key, high);
+        int comparison = compare(key, high);
         return comparison > 0 || comparison == 0 && !withHigh;
     }
 
@@ -54,7 +58,7 @@ final class MapPart<K, V> extends SortedEntries<K, V> {
     /** A bound of a part of this part: within, or at a bound that isn't. */
     private boolean isBound(K key, boolean inclusive) {
         return inclusive ? isWithin(key)
-            : (!hasLow || tree.compare(key, low) >= 0) && (!hasHigh || tree.compare(key, high) <= 0);
+            : (!hasLow || compare(key, low) >= 0) && (!hasHigh || compare(key, high) <= 0);
     }
 
     private TreeMap.Node<K, V> within(TreeMap.Node<K, V> node) {
@@ -70,8 +74,13 @@ final class MapPart<K, V> extends SortedEntries<K, V> {
     }
 
     @Override
-    TreeMap<K, V> tree() {
-        return tree;
+    void take(TreeMap.Node<K, V> node) {
+        tree.take(node);
+    }
+
+    @Override
+    SortedEntries.NodeWalk<K, V> walk() {
+        return new SortedEntries.NodeWalk<K, V>(this, tree);
     }
 
     @Override
@@ -97,14 +106,14 @@ final class MapPart<K, V> extends SortedEntries<K, V> {
     }
 
     @Override
-    NavigableMap<K, V> part(boolean low, K from, boolean withFrom, boolean high, K to, boolean withTo) {
+    MapPart<K, V> part(boolean low, K from, boolean withFrom, boolean high, K to, boolean withTo) {
         if (low && !isBound(from, withFrom) || high && !isBound(to, withTo)) {
             throw new IllegalArgumentException();
         }
         return down ? bounded(high, to, withTo, low, from, withFrom) : bounded(low, from, withFrom, high, to, withTo);
     }
 
-    private NavigableMap<K, V> bounded(boolean low, K from, boolean withFrom, boolean high, K to, boolean withTo) {
+    private MapPart<K, V> bounded(boolean low, K from, boolean withFrom, boolean high, K to, boolean withTo) {
         return new MapPart<K, V>(tree, low || hasLow, low ? from : this.low, low ? withFrom : withLow,
             high || hasHigh, high ? to : this.high, high ? withTo : withHigh, down);
     }

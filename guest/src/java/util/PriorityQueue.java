@@ -98,7 +98,7 @@ public class PriorityQueue<E> extends AbstractQueue<E> implements java.io.Serial
 
     /** Takes out what is at a place. Where the last element came to stand before that place, it is answered. */
     @SuppressWarnings("unchecked")
-    E removeAt(int at) {
+    private E removeAt(int at) {
         changes++;
         size--;
         Object moved = heap[size];
@@ -190,11 +190,15 @@ public class PriorityQueue<E> extends AbstractQueue<E> implements java.io.Serial
         return true;
     }
 
+    static <E> E removeAt(PriorityQueue<E> queue, int at) {
+        return queue.removeAt(at);
+    }
+
     /** Takes out the element that is this object. */
-    void removeObject(Object element) {
-        for (int i = 0; i < size; i++) {
-            if (heap[i] == element) {
-                removeAt(i);
+    static void removeObject(PriorityQueue<?> queue, Object element) {
+        for (int i = 0; i < queue.size; i++) {
+            if (queue.heap[i] == element) {
+                queue.removeAt(i);
                 return;
             }
         }
@@ -248,7 +252,7 @@ public class PriorityQueue<E> extends AbstractQueue<E> implements java.io.Serial
                 throw new ConcurrentModificationException();
             }
             if (last >= 0) {
-                E before = queue.removeAt(last);
+                E before = removeAt(queue, last);
                 last = -1;
                 if (before == null) {
                     next--;
@@ -257,7 +261,7 @@ public class PriorityQueue<E> extends AbstractQueue<E> implements java.io.Serial
                     moved.add(before);
                 }
             } else if (lastMoved != null) {
-                queue.removeObject(lastMoved);
+                removeObject(queue, lastMoved);
                 lastMoved = null;
             } else {
                 throw new IllegalStateException();

@@ -4,7 +4,10 @@ package java.util;
 abstract class SortedEntries<K, V> extends AbstractMap<K, V> implements NavigableMap<K, V> {
     Set<Map.Entry<K, V>> entries;
 
-    abstract TreeMap<K, V> tree();
+    /** Takes out a node of the tree. */
+    abstract void take(TreeMap.Node<K, V> node);
+
+    abstract NodeWalk<K, V> walk();
 
     /** The first or the last node in this map's own direction. */
     abstract TreeMap.Node<K, V> end(boolean first);
@@ -16,7 +19,7 @@ abstract class SortedEntries<K, V> extends AbstractMap<K, V> implements Navigabl
     abstract TreeMap.Node<K, V> near(K key, boolean forward, boolean inclusive);
 
     /** The part between two keys, or from an end on where a bound isn't there. */
-    abstract NavigableMap<K, V> part(boolean low, K from, boolean withFrom, boolean high, K to, boolean withTo);
+    abstract MapPart<K, V> part(boolean low, K from, boolean withFrom, boolean high, K to, boolean withTo);
 
     private static <K, V> Map.Entry<K, V> copy(TreeMap.Node<K, V> node) {
         return node == null ? null : new SimpleImmutableEntry<K, V>(node);
@@ -36,7 +39,7 @@ abstract class SortedEntries<K, V> extends AbstractMap<K, V> implements Navigabl
     private Map.Entry<K, V> poll(TreeMap.Node<K, V> node) {
         Map.Entry<K, V> entry = copy(node);
         if (node != null) {
-            tree().take(node);
+            take(node);
         }
         return entry;
     }
@@ -196,21 +199,23 @@ abstract class SortedEntries<K, V> extends AbstractMap<K, V> implements Navigabl
 
         @Override
         public Iterator<Map.Entry<K, V>> iterator() {
-            return new NodeWalk<K, V>(sorted);
+            return sorted.walk();
         }
     }
 
     /** A walk from node to node. */
     static final class NodeWalk<K, V> implements Iterator<Map.Entry<K, V>> {
         final SortedEntries<K, V> sorted;
+        final TreeMap<K, V> tree;
         TreeMap.Node<K, V> next;
         TreeMap.Node<K, V> last;
         int changes;
 
-        NodeWalk(SortedEntries<K, V> sorted) {
+        NodeWalk(SortedEntries<K, V> sorted, TreeMap<K, V> tree) {
             this.sorted = sorted;
+            this.tree = tree;
             this.next = sorted.end(true);
-            this.changes = sorted.tree().changes;
+            this.changes = tree.changes;
         }
 
         @Override
@@ -223,7 +228,7 @@ abstract class SortedEntries<K, V> extends AbstractMap<K, V> implements Navigabl
             if (next == null) {
                 throw new NoSuchElementException();
             }
-            if (changes != sorted.tree().changes) {
+            if (changes != tree.changes) {
                 throw new ConcurrentModificationException();
             }
             last = next;
@@ -236,12 +241,12 @@ abstract class SortedEntries<K, V> extends AbstractMap<K, V> implements Navigabl
             if (last == null) {
                 throw new IllegalStateException();
             }
-            if (changes != sorted.tree().changes) {
+            if (changes != tree.changes) {
                 throw new ConcurrentModificationException();
             }
-            sorted.tree().take(last);
+            tree.take(last);
             last = null;
-            changes = sorted.tree().changes;
+            changes = tree.changes;
         }
     }
 }

@@ -64,7 +64,7 @@ public class TreeMap<K, V> extends SortedEntries<K, V> implements NavigableMap<K
         putAll(others);
     }
 
-    int compare(Object a, Object b) {
+    private int compare(Object a, Object b) {
         return Values.compare(order, a, b);
     }
 
@@ -86,8 +86,8 @@ public class TreeMap<K, V> extends SortedEntries<K, V> implements NavigableMap<K
     }
 
     @Override
-    TreeMap<K, V> tree() {
-        return this;
+    SortedEntries.NodeWalk<K, V> walk() {
+        return new SortedEntries.NodeWalk<K, V>(this, this);
     }
 
     @Override
@@ -240,7 +240,7 @@ public class TreeMap<K, V> extends SortedEntries<K, V> implements NavigableMap<K
         root.red = false;
     }
 
-    /** Takes out a node that is there. */
+    @Override
     void take(Node<K, V> node) {
         boolean wasRed = node.red;
         Node<K, V> child;
@@ -353,7 +353,7 @@ public class TreeMap<K, V> extends SortedEntries<K, V> implements NavigableMap<K
     }
 
     @Override
-    NavigableMap<K, V> part(boolean low, K from, boolean withFrom, boolean high, K to, boolean withTo) {
+    MapPart<K, V> part(boolean low, K from, boolean withFrom, boolean high, K to, boolean withTo) {
         return new MapPart<K, V>(this, low, from, withFrom, high, to, withTo, false);
     }
 
