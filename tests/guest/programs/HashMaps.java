@@ -223,7 +223,7 @@ public class HashMaps {
         for (int capacity = 0; capacity < 70; capacity += 3) {
             Map<Integer, Integer> map = new HashMap<Integer, Integer>(capacity);
             Set<Integer> set = new HashSet<Integer>(capacity);
-            for (int i = 0; i < capacity + 2; i++) {
+            for (int i = 0; i < capacity + 2 + capacity % 2; i++) {
                 map.put(i * 48271, i);
                 set.add(i * 69621);
             }

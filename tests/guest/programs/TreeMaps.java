@@ -15,6 +15,8 @@ import java.util.SortedMap;
 import java.util.SortedSet;
 import java.util.TreeMap;
 import java.util.TreeSet;
+import java.util.function.BiFunction;
+import java.util.function.Function;
 
 /** TreeMap and TreeSet, their parts and what is gone over downwards. */
 public class TreeMaps {
@@ -187,6 +189,8 @@ public class TreeMaps {
         Report.truth(tree.comparator() == null);
         Report.truth(tree.descendingMap().comparator() == Collections.<Integer>reverseOrder());
         Report.truth(tree.headMap(3).comparator() == null);
+        computed(new TreeMap<Integer, Integer>());
+        computed(new TreeMap<Integer, Integer>(BY_DIGIT).descendingMap());
         Object copy = tree.clone();
         Report.truth(((TreeMap<?, ?>) copy).equals(tree));
         Report.number(tree.get(Integer.valueOf(3)) == null ? -1 : 1);
@@ -198,6 +202,32 @@ public class TreeMaps {
         tell(tree.subMap(100, 200).get(250));
         tell(tree.subMap(100, 200).remove(250));
         Report.truth(tree.subMap(100, 200).containsKey(250));
+    }
+
+    static void computed(Map<Integer, Integer> map) {
+        BiFunction<Integer, Integer, Integer> sum = new BiFunction<Integer, Integer, Integer>() {
+            public Integer apply(Integer a, Integer b) {
+                return b == null ? (Integer) 1 : (a + b) % 5 == 0 ? null : (Integer) (a + b);
+            }
+        };
+        Function<Integer, Integer> made = new Function<Integer, Integer>() {
+            public Integer apply(Integer key) {
+                return key % 3 == 0 ? null : key;
+            }
+        };
+        for (int i = 0; i < 80; i++) {
+            Integer key = i * 37 % 24;
+            switch (i % 7) {
+                case 0: tell(map.computeIfAbsent(key, made)); break;
+                case 1: tell(map.computeIfPresent(key, sum)); break;
+                case 2: tell(map.compute(key, sum)); break;
+                case 3: tell(map.merge(key, 2, sum)); break;
+                case 4: tell(map.getOrDefault(key, -4)); break;
+                case 5: tell(map.replace(key, i)); break;
+                default: Report.truth(map.replace(key, 3, i) | map.remove(key, 1));
+            }
+            tell(map);
+        }
     }
 
     static void faults() {
