@@ -5,16 +5,20 @@ import java.util.Collection;
 import java.util.Collections;
 import java.util.Comparator;
 import java.util.ConcurrentModificationException;
+import java.util.EmptyStackException;
+import java.util.Enumeration;
 import java.util.Iterator;
 import java.util.LinkedList;
 import java.util.List;
 import java.util.ListIterator;
 import java.util.NoSuchElementException;
+import java.util.Stack;
+import java.util.Vector;
 import java.util.function.Consumer;
 import java.util.function.Predicate;
 import java.util.function.UnaryOperator;
 
-/** ArrayList, LinkedList, lists of a program's own over AbstractList, and parts of all three. */
+/** ArrayList, LinkedList, Vector, Stack, lists of a program's own over AbstractList, and parts of all of these. */
 public class Lists {
     static long seed = 7;
 
@@ -69,9 +73,9 @@ public class Lists {
     }
 
     public static void main(String[] arguments) {
-        for (int round = 0; round < 3; round++) {
-            exercise(round == 0 ? new ArrayList<Integer>() : round == 1 ? new LinkedList<Integer>() : new Plain(), 200);
-            List<Integer> host = round == 0 ? new ArrayList<Integer>(3) : round == 1 ? new LinkedList<Integer>() : new Plain();
+        for (int round = 0; round < 4; round++) {
+            exercise(round == 0 ? new ArrayList<Integer>() : round == 1 ? new LinkedList<Integer>() : round == 2 ? new Plain() : new Vector<Integer>(2), 200);
+            List<Integer> host = round == 0 ? new ArrayList<Integer>(3) : round == 1 ? new LinkedList<Integer>() : round == 2 ? new Plain() : new Stack<Integer>();
             for (int i = 0; i < 9; i++) {
                 host.add(i);
             }
@@ -84,6 +88,8 @@ public class Lists {
         }
         arrayLists();
         linkedLists();
+        vectors();
+        stacks();
         fixed();
     }
 
@@ -378,6 +384,93 @@ public class Lists {
             }
         }
         tell(list);
+    }
+
+    static void vectors() {
+        for (int increment = 0; increment < 4; increment += 3) {
+            Vector<Integer> vector = new Vector<Integer>(1, increment);
+            for (int i = 0; i < 9; i++) {
+                vector.addElement(i % 5);
+                Report.number(vector.capacity());
+            }
+            vector.insertElementAt(7, 3);
+            vector.setElementAt(8, 4);
+            vector.removeElementAt(0);
+            Report.truth(vector.removeElement(8));
+            Report.truth(vector.removeElement(99));
+            tell(vector);
+            Report.number(vector.firstElement() * 100 + vector.lastElement() * 10 + vector.elementAt(2));
+            Report.number(vector.indexOf(3, 1) * 100 + vector.indexOf(3, 7) * 10 + vector.lastIndexOf(3, 5));
+            for (Enumeration<Integer> all = vector.elements(); all.hasMoreElements(); ) {
+                Report.number(all.nextElement());
+            }
+            Integer[] into = new Integer[vector.size() + 1];
+            vector.copyInto(into);
+            Report.truth(into[2].equals(vector.get(2)));
+            vector.ensureCapacity(40);
+            Report.number(vector.capacity());
+            vector.addAll(2, Arrays.asList(1, 2, 3));
+            vector.trimToSize();
+            Report.number(vector.capacity());
+            vector.setSize(14);
+            tell(vector);
+            vector.setSize(4);
+            tell(vector);
+            Report.truth(((Vector<?>) vector.clone()).equals(vector));
+            vector.removeAllElements();
+            Report.truth(vector.isEmpty());
+        }
+        tell(new Vector<Integer>(Arrays.asList(4, 5)));
+        Report.number(new Vector<Integer>().capacity());
+        for (int which = 0; which < 9; which++) {
+            Vector<Integer> vector = new Vector<Integer>(3);
+            try {
+                switch (which) {
+                    case 0: vector.elementAt(0); break;
+                    case 1: vector.firstElement(); break;
+                    case 2: vector.lastElement(); break;
+                    case 3: vector.setElementAt(1, 0); break;
+                    case 4: vector.insertElementAt(1, 1); break;
+                    case 5: vector.removeElementAt(0); break;
+                    case 6: vector.elements().nextElement(); break;
+                    case 7: vector.lastIndexOf(1, 0); break;
+                    default: new Vector<Integer>(-1);
+                }
+                Report.number(0);
+            } catch (ArrayIndexOutOfBoundsException e) {
+                Report.number(1);
+            } catch (IndexOutOfBoundsException e) {
+                Report.number(2);
+            } catch (NoSuchElementException e) {
+                Report.number(3);
+            } catch (IllegalArgumentException e) {
+                Report.number(4);
+            }
+        }
+    }
+
+    static void stacks() {
+        Stack<Integer> stack = new Stack<Integer>();
+        Report.truth(stack.empty());
+        for (int i = 0; i < 6; i++) {
+            Report.number(stack.push(i * i));
+        }
+        Report.number(stack.search(9));
+        Report.number(stack.search(7));
+        Report.number(stack.peek());
+        Report.number(stack.pop());
+        tell(stack);
+        stack.clear();
+        try {
+            stack.pop();
+        } catch (EmptyStackException e) {
+            Report.number(1);
+        }
+        try {
+            stack.peek();
+        } catch (EmptyStackException e) {
+            Report.number(2);
+        }
     }
 
     static void fixed() {
