@@ -12,6 +12,7 @@ import java.util.Map;
 import java.util.NoSuchElementException;
 import java.util.Random;
 import java.util.Set;
+import java.util.function.Consumer;
 
 /** Collections. */
 public class CollectionHelp {
@@ -35,6 +36,7 @@ public class CollectionHelp {
         changes(new LinkedList<Integer>());
         small();
         fixed();
+        locked();
         faults();
     }
 
@@ -162,6 +164,55 @@ public class CollectionHelp {
             }
         }
         tell(list);
+    }
+
+    static void locked() {
+        final Collection<Integer> all = Collections.synchronizedCollection(new LinkedList<Integer>(Arrays.asList(4, 1, 3)));
+        Report.truth(all.add(9));
+        Report.truth(all.remove(1));
+        tell(all);
+        final long[] sum = new long[1];
+        all.forEach(new Consumer<Integer>() {
+            public void accept(Integer element) {
+                sum[0] = sum[0] * 10 + element;
+            }
+        });
+        Report.number(sum[0]);
+        List<Integer> list = Collections.synchronizedList(new ArrayList<Integer>());
+        Thread[] threads = new Thread[3];
+        for (int i = 0; i < threads.length; i++) {
+            final int first = 10 * i;
+            threads[i] = new Thread(new Runnable() {
+                public void run() {
+                    for (int number = first; number < first + 10; number++) {
+                        list.add(number);
+                    }
+                }
+            });
+            threads[i].start();
+        }
+        try {
+            for (int i = 0; i < threads.length; i++) {
+                threads[i].join();
+            }
+        } catch (InterruptedException e) {
+            Report.number(-1);
+        }
+        Collections.sort(list);
+        Report.number(list.get(7));
+        tell(list);
+        try {
+            Map<Integer, Boolean> map = new HashMap<Integer, Boolean>();
+            map.put(1, true);
+            Collections.newSetFromMap(map);
+        } catch (IllegalArgumentException e) {
+            Report.number(41);
+        }
+        try {
+            Collections.synchronizedList(null);
+        } catch (NullPointerException e) {
+            Report.number(42);
+        }
     }
 
     static void faults() {

@@ -112,6 +112,10 @@ public class HashMaps {
             exercise(new LinkedHashMap<Object, Integer>(), kind, 60);
             exercise(new HashMap<Object, Integer>(kind), kind, 60);
         }
+        for (int kind = 0; kind < 3; kind++) {
+            exercise(Collections.synchronizedMap(new HashMap<Object, Integer>()), kind, 150);
+        }
+        views(Collections.synchronizedMap(new LinkedHashMap<Integer, Integer>()));
         sizes();
         computed();
         collisions();
@@ -469,8 +473,9 @@ public class HashMaps {
     }
 
     static void sets() {
-        for (int round = 0; round < 4; round++) {
-            Set<Integer> set = round == 0 ? new HashSet<Integer>() : round == 1 ? new LinkedHashSet<Integer>()
+        for (int round = 0; round < 6; round++) {
+            Set<Integer> set = round == 4 ? Collections.synchronizedSet(new HashSet<Integer>())
+                : round == 5 ? Collections.newSetFromMap(new LinkedHashMap<Integer, Boolean>()) : round == 0 ? new HashSet<Integer>() : round == 1 ? new LinkedHashSet<Integer>()
                 : round == 2 ? new LinkedHashSet<Integer>(3) : new LinkedHashSet<Integer>(Arrays.asList(900, 3, 77, 3));
             for (int step = 0; step < 120; step++) {
                 Integer value = choose(20) == 0 ? null : (Integer) (choose(40) * 31);
@@ -506,7 +511,9 @@ public class HashMaps {
                 }
                 tell(set);
             }
-            tell((Set<?>) ((HashSet<?>) set).clone());
+            if (round < 4) {
+                tell((Set<?>) ((HashSet<?>) set).clone());
+            }
         }
         tell((Set<?>) new LinkedHashSet<Integer>(Arrays.asList(4, 2, 9)).clone());
         tell(new TreeMap<Integer, Integer>(Collections.<Integer, Integer>emptyMap()));

@@ -87,6 +87,10 @@ public class Lists {
             order(host);
         }
         arrayLists();
+        List<Integer> locked = Collections.synchronizedList(new ArrayList<Integer>(Arrays.asList(1, 2, 3, 4, 5, 6)));
+        exercise(locked, 250);
+        exercise(locked.subList(0, locked.size()), 60);
+        order(locked);
         linkedLists();
         vectors();
         stacks();

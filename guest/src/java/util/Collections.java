@@ -250,6 +250,70 @@ public class Collections {
         }
     }
 
+    public static <E> Set<E> newSetFromMap(Map<E, Boolean> map) {
+        return new SetOfMap<E>(map);
+    }
+
+    /** The keys of a map, as a set to which can be added. */
+    static final class SetOfMap<E> extends AbstractSet<E> implements java.io.Serializable {
+        final Map<E, Boolean> map;
+
+        SetOfMap(Map<E, Boolean> map) {
+            if (!map.isEmpty()) {
+                throw new IllegalArgumentException("Map is non-empty");
+            }
+            this.map = map;
+        }
+
+        @Override
+        public int size() {
+            return map.size();
+        }
+
+        @Override
+        public boolean contains(Object element) {
+            return map.containsKey(element);
+        }
+
+        @Override
+        public boolean add(E element) {
+            return map.put(element, Boolean.TRUE) == null;
+        }
+
+        @Override
+        public boolean remove(Object element) {
+            return map.remove(element) != null;
+        }
+
+        @Override
+        public void clear() {
+            map.clear();
+        }
+
+        @Override
+        public Iterator<E> iterator() {
+            return map.keySet().iterator();
+        }
+    }
+
+    // COLLECTIONS FOR SEVERAL THREADS
+
+    public static <T> Collection<T> synchronizedCollection(Collection<T> all) {
+        return new Locked.OfCollection<T>(all, null);
+    }
+
+    public static <T> Set<T> synchronizedSet(Set<T> all) {
+        return new Locked.OfSet<T>(all, null);
+    }
+
+    public static <T> List<T> synchronizedList(List<T> all) {
+        return new Locked.OfList<T>(all, null);
+    }
+
+    public static <K, V> Map<K, V> synchronizedMap(Map<K, V> map) {
+        return new Locked.OfMap<K, V>(map);
+    }
+
     // COLLECTIONS THAT CAN'T BE CHANGED BY THIS WAY
 
     public static <T> Collection<T> unmodifiableCollection(Collection<? extends T> all) {

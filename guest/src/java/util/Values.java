@@ -153,6 +153,12 @@ final class Values {
         if (a instanceof AbstractMap) {
             return ((AbstractMap<?, ?>) a).toString();
         }
+        if (a instanceof Locked.OfCollection) {
+            return ((Locked.OfCollection<?>) a).toString();
+        }
+        if (a instanceof Locked.OfMap) {
+            return ((Locked.OfMap<?, ?>) a).toString();
+        }
         if (a instanceof AbstractMap.Pair) {
             return ((AbstractMap.Pair<?, ?>) a).toString();
         }
