@@ -1,5 +1,5 @@
 //! Writing a line, in a buffer that grows as it must and by nothing else.
-ghost use Rattle.std.specs.Prelude.{◌≡◌, ◌<◌, ◌^◌, [], ◌∷◌, ◌++◌, OnOk, OnErr, false, true};
+ghost use Rattle.std.specs.Prelude.{◌≡◌, ◌<◌, ◌≤◌, ◌^◌, [], ◌∷◌, ◌++◌, length, OnOk, OnErr, false, true};
 ghost use Rattle.std.specs.Fmt.{digit_glyph};
 ghost use Rattle.std.specs.List.{flat_map};
 ghost use Rattle.et_text.specs.Spelling.{is_escaped, escape, escapes, spelling, text_field, number_field, line_body};
@@ -8,18 +8,10 @@ ghost use Rattle.et_text.specs.Extends.{Extends};
 ghost use Rattle.et_text.specs.Kinds.{is_of_thread};
 
 use et_base::{Name, NoMemory, TraceLine};
-use itoa::Buffer;
+use itoa::write_digits;
 
-/// A number behind a space. After an error a front of it may be there.
-fn put_number(buffer: &mut Vec<u8>, n: u64) -> Result<(), NoMemory>
-    ensures ok { OnOk result (buffer.new.items ≡ buffer.old.items ++ number_field n) }
-    ensures err { OnErr result (Extends buffer.old.items buffer.new.items) }
-{
-    buffer.push(b' ')?;
-    let mut digits = Buffer::new();
-    buffer.extend_from_slice(digits.format(n).as_bytes())?;
-    Ok(())
-}
+/// The most bytes of a letter and six numbers: a number has at most 20 digits, and a space before them.
+const MOST_BYTES: usize = 127;
 
 fn hex_digit(digit: u8) -> u8
     requires { digit < 16 }
@@ -72,15 +64,25 @@ fn put_name(buffer: &mut Vec<u8>, name: &Name) -> Result<(), NoMemory>
     Ok(())
 }
 
+/// The letter of a line and up to six numbers, each behind a space. They are spelled from the last digit on, in an array, and
+/// are appended at once.
 fn put_numbers(buffer: &mut Vec<u8>, letter: u8, numbers: &[u64]) -> Result<(), NoMemory>
+    requires few { length numbers.now ≤ 6 }
     ensures ok { OnOk result
         (buffer.new.items ≡ buffer.old.items ++ letter ∷ flat_map number_field numbers.now) }
-    ensures err { OnErr result (Extends buffer.old.items buffer.new.items) }
+    ensures err { OnErr result (buffer.new.items ≡ buffer.old.items) }
 {
-    buffer.push(letter)?;
-    for number in numbers {
-        put_number(buffer, *number)?;
+    let mut line = [0; MOST_BYTES];
+    let mut start = MOST_BYTES;
+    let mut left = numbers.len();
+    while left > 0 {
+        left -= 1;
+        start = write_digits(numbers[left], &mut line, start) - 1;
+        line[start] = b' ';
     }
+    start -= 1;
+    line[start] = letter;
+    buffer.extend_from_slice(&line[start..])?;
     Ok(())
 }
 
