@@ -3,16 +3,20 @@ use Rattle.std.proofs.Common.{◌≡◌, ℕ, zero, suc, Bool, true, false, cond
 use Rattle.std.proofs.lemmas.Bool.Decides.{nat_tests}
 use Rattle.et_base.specs.declared.line.TraceLine.{TraceLine}
 use Rattle.et_base.specs.declared.line.TraceLine.TheVariants.{Header, Class, Method, Alloc, Update, Enter, Exit, Unwind, Flush, Death, Finish}
-use Rattle.et_text.specs.Rules.{order, unknown, twice, after, has_ended, is_reported, is_open, is_timely, keeps_order, is_known, keeps_lives}
+use Rattle.et_text.specs.Rules.{order, unknown, twice, after, interval, newest_flush, misses_no_flush, has_ended, is_reported, is_open, is_timely, keeps_order, is_known, keeps_lives}
 use Rattle.et_text.specs.declared.standing.Standing.{Standing}
-use Rattle.et_text.specs.ByStanding.{is_open_in, is_timely_in, order_in, known_in, reported_in, lives_in, dies_once_in, fault_in}
+use Rattle.et_text.specs.ByStanding.{misses_no_flush_in, is_open_in, is_timely_in, order_in, known_in, reported_in, lives_in, dies_once_in, fault_in}
 use Rattle.et_text.specs.StandsFor.{StandsForLines}
+use Rattle.et_text.proofs.Due.{due_is}
 
 pub open_is : (s : Standing) (past : List TraceLine) → StandsForLines s past → is_open_in s ≡ is_open past
-open_is s past h = rw (h.begun_is, h.awaited_is, h.interval_is, h.flushed_is) refl
+open_is s past h = rw (h.begun_is, h.awaited_is, h.is_last_is) refl
+
+misses_none_is : (s : Standing) (past : List TraceLine) (event : ℕ) → StandsForLines s past → misses_no_flush_in s event ≡ misses_no_flush (interval past) (newest_flush past) event
+misses_none_is s past event h = rw (h.interval_is, h.last_due_is) (due_is (interval past) (newest_flush past) event)
 
 pub timely_is : (s : Standing) (past : List TraceLine) (event : ℕ) → StandsForLines s past → is_timely_in s event ≡ is_timely past event
-timely_is s past event h = rw (open_is s past h, h.latest_is, h.interval_is, h.flushed_is) refl
+timely_is s past event h = rw (open_is s past h, h.latest_is, h.flushed_is, misses_none_is s past event h) refl
 
 pub order_is : (s : Standing) (past : List TraceLine) (line : TraceLine) → StandsForLines s past → order_in s line ≡ keeps_order past line
 order_is s past (Header v n) h = rw h.begun_is refl

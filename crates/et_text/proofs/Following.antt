@@ -78,11 +78,15 @@ both_true : (a b : Bool) → (a && b) ≡ true → b ≡ true
 both_true true b e = e
 both_true false b e = absurd cc
 
+not_true : (b : Bool) → not b ≡ true → b ≡ false
+not_true true e = absurd cc
+not_true false e = refl
+
 eqb-yes : (a b : ℕ) → eqb a b ≡ true → a ≡ b
 eqb-yes a b e = grind (arith, nat_tests)
 
 pub stands_on : (version : ℕ) (s s' : Standing) (past : List TraceLine) (line : TraceLine) (added : Bool) → s.ended ≡ false → order_in s line ≡ true → known_in s line ≡ true → IsInRange version line → Notes s s' line added → StandsForLines s past → StandsForLines s' (line ∷ past)
-stands_on version s s' past (Header v every) added unended o k r n h = subst (λ (t : Standing). StandsForLines t (Header v every ∷ past)) (sym n.1) (stands_header s past v every unended h)
+stands_on version s s' past (Header v every) added unended o k r n h = subst (λ (t : Standing). StandsForLines t (Header v every ∷ past)) (sym n.1) (stands_header s past v every unended (sym h.begun_is ∙ not_true s.begun o) h)
 stands_on version s s' past (Class number name) added unended o k r n h = stands_class s s' past number name added unended (eqb-yes number (s.classes + 1) (both_true (is_open_in s) (eqb number (s.classes + 1)) o)) n h
 stands_on version s s' past (Method number class name descriptor) added unended o k r n h = stands_method s s' past number class name descriptor added unended (eqb-yes number (s.methods + 1) (both_true (is_open_in s) (eqb number (s.methods + 1)) o)) n h
 stands_on version s s' past (Alloc event thread object class size len) added unended o k r n h = stands_object s s' past event thread object class size len unended n.1 h

@@ -1,3 +1,4 @@
+pub mod Due
 pub mod Escapes
 pub mod Extending
 pub mod Faults

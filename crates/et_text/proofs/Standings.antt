@@ -1,17 +1,22 @@
 -- What the next line changes keeps what is kept in step with the lines.
-use Rattle.std.proofs.Common.{◌≡◌, ◌≢◌, ℕ, zero, suc, ◌+◌, ◌-◌, ◌<◌, ◌≤◌, Bool, true, false, cond, not, ◌&&◌, ◌||◌, eqb, List, [], ◌∷◌, ◌++◌, length, get_or, set, Some, None, refl, sym, ap, ◌∙◌, arith, get_or-set_same, get_or-set_other, length-append, inl, inr, ◌⊎◌}
+use Rattle.std.proofs.Common.{◌≡◌, ◌≢◌, ℕ, zero, suc, ◌+◌, ◌-◌, ◌<◌, ◌≤◌, Bool, true, false, cond, not, ◌&&◌, ◌||◌, eqb, List, [], ◌∷◌, ◌++◌, length, get_or, set, Option, Some, None, refl, sym, ap, ◌∙◌, arith, get_or-set_same, get_or-set_other, length-append, inl, inr, ◌⊎◌}
 use Rattle.std.proofs.Math.ListN.{length-set}
 use Rattle.std.proofs.lemmas.Bool.Decides.{nat_tests}
 use Rattle.et_base.specs.declared.line.TraceLine.{TraceLine}
 use Rattle.et_base.specs.declared.line.TraceLine.TheVariants.{Header, Class, Method, Alloc, Update, Enter, Exit, Unwind, Flush, Death, Finish}
-use Rattle.et_text.specs.Rules.{is_reported, has_class, has_method}
+use Rattle.et_text.specs.Rules.{has_begun, interval, newest_flush, is_final, is_reported, has_class, has_method}
 use Rattle.std.specs.Prelude.{bytes_eq}
 use Rattle.et_text.specs.NameSets.{has_name, has_key, same_method}
 use Rattle.et_text.specs.declared.standing.Standing.{Standing}
-use Rattle.et_text.specs.StandsFor.{StandsForLines, NotesObject, NotesDeath, NotesClass, NotesMethod}
+use Rattle.et_text.specs.StandsFor.{last_due, StandsForLines, NotesObject, NotesDeath, NotesClass, NotesMethod}
 
-pub stands_header : (s : Standing) (past : List TraceLine) (v n : ℕ) → s.ended ≡ false → StandsForLines s past → StandsForLines (record s { begun = true; interval = n; stands = false; awaited = 0; last_dead = 0 }) (Header v n ∷ past)
-stands_header s past v n unended h = record {
+-- where there is no flush yet, the interval doesn't matter
+same_at_first : {X : Type 0} (at : ℕ → Option ℕ → X) (past : List TraceLine) (i n : ℕ) → has_begun past ≡ false → at i None ≡ at n None → at i (newest_flush past) ≡ at n (newest_flush past)
+same_at_first at [] i n fresh e = e
+same_at_first at (line ∷ past) i n fresh e = absurd cc
+
+pub stands_header : (s : Standing) (past : List TraceLine) (v n : ℕ) → s.ended ≡ false → has_begun past ≡ false → StandsForLines s past → StandsForLines (record s { begun = true; interval = n; stands = false; awaited = 0; last_dead = 0 }) (Header v n ∷ past)
+stands_header s past v n unended fresh h = record {
   begun_is = refl;
   ended_is = unended;
   interval_is = refl;
@@ -20,6 +25,8 @@ stands_header s past v n unended h = record {
   births_is = h.births_is;
   latest_is = h.latest_is;
   flushed_is = h.flushed_is;
+  is_last_is = h.is_last_is ∙ same_at_first is_final past (interval past) n fresh refl;
+  last_due_is = h.last_due_is ∙ same_at_first last_due past (interval past) n fresh refl;
   stands_is = refl;
   awaited_is = refl;
   last_dead_is = refl;
@@ -40,6 +47,8 @@ stands_update s past event thread object slot old new unended h = record {
   births_is = h.births_is;
   latest_is = refl;
   flushed_is = h.flushed_is;
+  is_last_is = h.is_last_is;
+  last_due_is = h.last_due_is;
   stands_is = refl;
   awaited_is = refl;
   last_dead_is = refl;
@@ -60,6 +69,8 @@ stands_enter s past event thread method receiver unended h = record {
   births_is = h.births_is;
   latest_is = refl;
   flushed_is = h.flushed_is;
+  is_last_is = h.is_last_is;
+  last_due_is = h.last_due_is;
   stands_is = refl;
   awaited_is = refl;
   last_dead_is = refl;
@@ -80,6 +91,8 @@ stands_exit s past event thread method unended h = record {
   births_is = h.births_is;
   latest_is = refl;
   flushed_is = h.flushed_is;
+  is_last_is = h.is_last_is;
+  last_due_is = h.last_due_is;
   stands_is = refl;
   awaited_is = refl;
   last_dead_is = refl;
@@ -100,6 +113,8 @@ stands_unwind s past event thread method exception unended h = record {
   births_is = h.births_is;
   latest_is = refl;
   flushed_is = h.flushed_is;
+  is_last_is = h.is_last_is;
+  last_due_is = h.last_due_is;
   stands_is = refl;
   awaited_is = refl;
   last_dead_is = refl;
@@ -110,7 +125,7 @@ stands_unwind s past event thread method exception unended h = record {
   reported_is = h.reported_is;
 }
 
-pub stands_flush : (s : Standing) (past : List TraceLine) (event deaths : ℕ) → s.ended ≡ false → StandsForLines s past → StandsForLines (record s { begun = true; latest = event; flushed = Some event; stands = true; awaited = deaths; last_dead = 0 }) (Flush event deaths ∷ past)
+pub stands_flush : (s : Standing) (past : List TraceLine) (event deaths : ℕ) → s.ended ≡ false → StandsForLines s past → StandsForLines (record s { begun = true; latest = event; flushed = Some event; is_last = is_final s.interval (Some event); last_due = last_due s.interval (Some event); stands = true; awaited = deaths; last_dead = 0 }) (Flush event deaths ∷ past)
 stands_flush s past event deaths unended h = record {
   begun_is = refl;
   ended_is = unended;
@@ -120,6 +135,8 @@ stands_flush s past event deaths unended h = record {
   births_is = h.births_is;
   latest_is = refl;
   flushed_is = refl;
+  is_last_is = ap (λ (i : ℕ). is_final i (Some event)) h.interval_is;
+  last_due_is = ap (λ (i : ℕ). last_due i (Some event)) h.interval_is;
   stands_is = refl;
   awaited_is = refl;
   last_dead_is = refl;
@@ -140,6 +157,8 @@ stands_finish s past event how unended h = record {
   births_is = h.births_is;
   latest_is = h.latest_is;
   flushed_is = h.flushed_is;
+  is_last_is = h.is_last_is;
+  last_due_is = h.last_due_is;
   stands_is = refl;
   awaited_is = refl;
   last_dead_is = refl;
@@ -167,6 +186,8 @@ stands_object s s' past event thread object class size len unended n h = record 
   births_is = n.births ∙ ap (λ (xs : List ℕ). xs ++ event ∷ []) h.births_is;
   latest_is = ap (λ (t : Standing). t.latest) n.others;
   flushed_is = ap (λ (t : Standing). t.flushed) n.others ∙ h.flushed_is;
+  is_last_is = ap (λ (t : Standing). t.is_last) n.others ∙ h.is_last_is;
+  last_due_is = ap (λ (t : Standing). t.last_due) n.others ∙ h.last_due_is;
   stands_is = ap (λ (t : Standing). cond t.stands t.flushed None) n.others;
   awaited_is = ap (λ (t : Standing). t.awaited) n.others;
   last_dead_is = ap (λ (t : Standing). t.last_dead) n.others;
@@ -211,6 +232,8 @@ stands_death s s' past object time unended made known n h = record {
   births_is = ap (λ (t : Standing). t.births.items) n.others ∙ h.births_is;
   latest_is = ap (λ (t : Standing). t.latest) n.others ∙ h.latest_is;
   flushed_is = ap (λ (t : Standing). t.flushed) n.others ∙ h.flushed_is;
+  is_last_is = ap (λ (t : Standing). t.is_last) n.others ∙ h.is_last_is;
+  last_due_is = ap (λ (t : Standing). t.last_due) n.others ∙ h.last_due_is;
   stands_is = ap (λ (t : Standing). cond t.stands t.flushed None) n.others ∙ h.stands_is;
   awaited_is = ap (λ (t : Standing). t.awaited) n.others ∙ ap (λ (n : ℕ). n - 1) h.awaited_is;
   last_dead_is = ap (λ (t : Standing). t.last_dead) n.others;
@@ -233,6 +256,8 @@ stands_class s s' past number name added unended e n h = record {
   births_is = ap (λ (t : Standing). t.births.items) n.others ∙ h.births_is;
   latest_is = ap (λ (t : Standing). t.latest) n.others ∙ h.latest_is;
   flushed_is = ap (λ (t : Standing). t.flushed) n.others ∙ h.flushed_is;
+  is_last_is = ap (λ (t : Standing). t.is_last) n.others ∙ h.is_last_is;
+  last_due_is = ap (λ (t : Standing). t.last_due) n.others ∙ h.last_due_is;
   stands_is = ap (λ (t : Standing). cond t.stands t.flushed None) n.others;
   awaited_is = ap (λ (t : Standing). t.awaited) n.others;
   last_dead_is = ap (λ (t : Standing). t.last_dead) n.others;
@@ -256,6 +281,8 @@ stands_method s s' past number class name descriptor added unended e n h = recor
   births_is = ap (λ (t : Standing). t.births.items) n.others ∙ h.births_is;
   latest_is = ap (λ (t : Standing). t.latest) n.others ∙ h.latest_is;
   flushed_is = ap (λ (t : Standing). t.flushed) n.others ∙ h.flushed_is;
+  is_last_is = ap (λ (t : Standing). t.is_last) n.others ∙ h.is_last_is;
+  last_due_is = ap (λ (t : Standing). t.last_due) n.others ∙ h.last_due_is;
   stands_is = ap (λ (t : Standing). cond t.stands t.flushed None) n.others;
   awaited_is = ap (λ (t : Standing). t.awaited) n.others;
   last_dead_is = ap (λ (t : Standing). t.last_dead) n.others;

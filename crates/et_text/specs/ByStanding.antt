@@ -1,15 +1,19 @@
 -- The rules, by what is kept of the lines so far.
-use Rattle.std.specs.Prelude.{ℕ, ◌+◌, ◌-◌, Bool, true, false, not, ◌&&◌, ◌==◌, nat_lt, nat_le, if◌then◌else◌, length, slice_index, slice_index_or, Option, Some, None, unwrap_or}
+use Rattle.std.specs.Prelude.{ℕ, ◌+◌, ◌-◌, Bool, true, false, not, ◌&&◌, ◌||◌, ◌==◌, nat_lt, nat_le, if◌then◌else◌, length, slice_index, slice_index_or, Option, Some, None, unwrap_or}
 use Rattle.et_base.specs.declared.line.TraceLine.{TraceLine}
 use Rattle.et_base.specs.declared.line.TraceLine.TheVariants.{Header, Class, Method, Alloc, Update, Enter, Exit, Unwind, Flush, Death, Finish}
-use Rattle.et_text.specs.Rules.{order, unknown, twice, after, is_final, is_before, misses_no_flush, stands_at}
+use Rattle.et_text.specs.Rules.{order, unknown, twice, after, is_before, stands_at}
 use Rattle.et_text.specs.declared.standing.Standing.{Standing}
 
 abbrev pub is_open_in : Standing → Bool
-is_open_in s = s.begun && s.awaited == 0 && not (is_final s.interval s.flushed)
+is_open_in s = s.begun && s.awaited == 0 && not s.is_last
+
+-- the event is no later than the next one after which a flush is due
+abbrev pub misses_no_flush_in : Standing → ℕ → Bool
+misses_no_flush_in s event = s.interval == 0 || nat_le (event - s.last_due) s.interval
 
 abbrev pub is_timely_in : Standing → ℕ → Bool
-is_timely_in s event = is_open_in s && nat_le s.latest event && is_before s.flushed event && misses_no_flush s.interval s.flushed event
+is_timely_in s event = is_open_in s && nat_le s.latest event && is_before s.flushed event && misses_no_flush_in s event
 
 abbrev pub order_in : Standing → TraceLine → Bool
 order_in s (Header v n) = not s.begun

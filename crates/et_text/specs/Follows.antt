@@ -3,9 +3,9 @@ use Rattle.std.specs.Prelude.{◌≡◌, ℕ, Bool, true, false, List, ◌∷◌
 use Rattle.et_base.specs.declared.line.TraceLine.{TraceLine}
 use Rattle.et_base.specs.declared.line.TraceLine.TheVariants.{Header, Class, Method, Alloc, Update, Enter, Exit, Unwind, Flush, Death, Finish}
 use Rattle.et_text.specs.Ranges.{IsInRange}
-use Rattle.et_text.specs.Rules.{next_fault}
+use Rattle.et_text.specs.Rules.{is_final, next_fault}
 use Rattle.et_text.specs.declared.standing.Standing.{Standing}
-use Rattle.et_text.specs.StandsFor.{StandsForLines, NotesObject, NotesDeath, NotesClass, NotesMethod}
+use Rattle.et_text.specs.StandsFor.{last_due, StandsForLines, NotesObject, NotesDeath, NotesClass, NotesMethod}
 
 abbrev pub NotesEvent : Standing → Standing → ℕ → Bool → Type 0
 NotesEvent s s' event added = (added ≡ true) × (s' ≡ record s { begun = true; latest = event; stands = false; awaited = 0; last_dead = 0 })
@@ -19,7 +19,7 @@ Notes s s' (Update event thread object slot old new) added = NotesEvent s s' eve
 Notes s s' (Enter event thread method receiver) added = NotesEvent s s' event added
 Notes s s' (Exit event thread method) added = NotesEvent s s' event added
 Notes s s' (Unwind event thread method exception) added = NotesEvent s s' event added
-Notes s s' (Flush event deaths) added = (added ≡ true) × (s' ≡ record s { begun = true; latest = event; flushed = Some event; stands = true; awaited = deaths; last_dead = 0 })
+Notes s s' (Flush event deaths) added = (added ≡ true) × (s' ≡ record s { begun = true; latest = event; flushed = Some event; is_last = is_final s.interval (Some event); last_due = last_due s.interval (Some event); stands = true; awaited = deaths; last_dead = 0 })
 Notes s s' (Death object time) added = (added ≡ true) × NotesDeath s s' object
 Notes s s' (Finish event how) added = (added ≡ true) × (s' ≡ record s { begun = true; ended = true; stands = false; awaited = 0; last_dead = 0 })
 

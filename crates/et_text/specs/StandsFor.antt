@@ -1,9 +1,14 @@
 -- What is kept is what the lines so far say.
-use Rattle.std.specs.Prelude.{◌≡◌, ℕ, ◌-◌, ◌≤◌, Bool, true, false, not, bytes_eq, if◌then◌else◌, List, [], ◌∷◌, ◌++◌, length, slice_index_or, slice_set, None}
+use Rattle.std.specs.Prelude.{◌≡◌, ℕ, ◌-◌, ◌%◌, ◌==◌, ◌≤◌, Bool, true, false, not, bytes_eq, if◌then◌else◌, List, [], ◌∷◌, ◌++◌, length, slice_index_or, slice_set, Option, Some, None}
 use Rattle.et_base.specs.declared.line.TraceLine.{TraceLine}
-use Rattle.et_text.specs.Rules.{has_begun, has_ended, interval, classes, methods, births, latest, newest_flush, awaited, last_dead, standing_flush, is_reported, has_class, has_method}
+use Rattle.et_text.specs.Rules.{has_begun, has_ended, interval, classes, methods, births, latest, newest_flush, is_final, awaited, last_dead, standing_flush, is_reported, has_class, has_method}
 use Rattle.et_text.specs.NameSets.{Bytes, MethodKey, has_name, has_key, same_method}
 use Rattle.et_text.specs.declared.standing.Standing.{Standing}
+
+-- the newest event up to the newest flush after which a flush is due, or 0
+abbrev pub last_due : ℕ → Option ℕ → ℕ
+last_due every None = 0
+last_due every (Some event) = if every == 0 then 0 else event - event % every
 
 pub record StandsForLines (s : Standing) (past : List TraceLine) : Type 0 where
   pub begun_is : s.begun ≡ has_begun past
@@ -14,6 +19,8 @@ pub record StandsForLines (s : Standing) (past : List TraceLine) : Type 0 where
   pub births_is : s.births.items ≡ births past
   pub latest_is : s.latest ≡ latest past
   pub flushed_is : s.flushed ≡ newest_flush past
+  pub is_last_is : s.is_last ≡ is_final (interval past) (newest_flush past)
+  pub last_due_is : s.last_due ≡ last_due (interval past) (newest_flush past)
   pub stands_is : (if s.stands then s.flushed else None) ≡ standing_flush past
   pub awaited_is : s.awaited ≡ awaited past
   pub last_dead_is : s.last_dead ≡ last_dead past

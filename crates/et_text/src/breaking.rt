@@ -1,7 +1,7 @@
 //! Which rule the next line breaks.
 ghost use Rattle.std.specs.Prelude.{◌≡◌, ◌-◌, nat_le, length, slice_index, if◌then◌else◌};
-ghost use Rattle.et_text.specs.Rules.{is_flush_point, is_final, is_before, misses_no_flush, stands_at};
-ghost use Rattle.et_text.specs.ByStanding.{is_open_in, is_timely_in, order_in, reported_in, known_in, lives_in, dies_once_in, fault_in};
+ghost use Rattle.et_text.specs.Rules.{is_flush_point, is_before, stands_at};
+ghost use Rattle.et_text.specs.ByStanding.{misses_no_flush_in, is_open_in, is_timely_in, order_in, reported_in, known_in, lives_in, dies_once_in, fault_in};
 
 use crate::fault::{AFTER, ORDER, TWICE, UNKNOWN};
 use crate::standing::Standing;
@@ -15,16 +15,6 @@ pub fn is_flush_point(interval: u64, event: u64) -> bool
     0 < interval && 0 < event && event % interval == 0
 }
 
-/// Whether the newest flush is the last one.
-fn is_final(interval: u64, flushed: Option<u64>) -> bool
-    ensures { result ≡ is_final interval flushed }
-{
-    match flushed {
-        None => false,
-        Some(event) => !is_flush_point(interval, event),
-    }
-}
-
 fn is_before(flushed: Option<u64>, event: u64) -> bool
     ensures { result ≡ is_before flushed event }
 {
@@ -35,30 +25,24 @@ fn is_before(flushed: Option<u64>, event: u64) -> bool
 }
 
 /// Whether each flush point below the event has its flush.
-fn misses_no_flush(interval: u64, flushed: Option<u64>, event: u64) -> bool
-    ensures { result ≡ misses_no_flush interval flushed event }
+fn misses_no_flush(s: &Standing, event: u64) -> bool
+    ensures { result ≡ misses_no_flush_in s.now event }
 {
-    if interval == 0 {
-        return true;
-    }
-    event.saturating_sub(1) / interval <= flushed.unwrap_or(0) / interval
+    s.interval == 0 || event.saturating_sub(s.last_due) <= s.interval
 }
 
 /// Whether a line that is no H, D or Z may stand here.
 fn is_open(s: &Standing) -> bool
     ensures { result ≡ is_open_in s.now }
 {
-    s.begun && s.awaited == 0 && !is_final(s.interval, s.flushed)
+    s.begun && s.awaited == 0 && !s.is_last
 }
 
 /// .. and one of this event.
 fn is_timely(s: &Standing, event: u64) -> bool
     ensures { result ≡ is_timely_in s.now event }
 {
-    is_open(s)
-        && s.latest <= event
-        && is_before(s.flushed, event)
-        && misses_no_flush(s.interval, s.flushed, event)
+    is_open(s) && s.latest <= event && is_before(s.flushed, event) && misses_no_flush(s, event)
 }
 
 /// Whether nothing but its D lines came behind the flush at this event.

@@ -1,7 +1,9 @@
 //! What the next line changes.
 ghost use Rattle.std.specs.Prelude.{◌≡◌, ◌-◌, ◌≤◌, length, slice_set, true, false, Some, OnOk, IfOk};
-ghost use Rattle.et_text.specs.StandsFor.{NotesObject, NotesDeath, NotesClass, NotesMethod};
+ghost use Rattle.et_text.specs.Rules.{is_final};
+ghost use Rattle.et_text.specs.StandsFor.{last_due, NotesObject, NotesDeath, NotesClass, NotesMethod};
 
+use crate::breaking::is_flush_point;
 use crate::names::{add_method, add_name};
 use crate::standing::Standing;
 use et_base::{Name, NoMemory};
@@ -33,11 +35,23 @@ pub fn note_event(s: &mut Standing, event: u64)
     s.latest = event;
 }
 
+/// The newest event up to this one after which a flush is due.
+fn last_due(interval: u64, event: u64) -> u64
+    ensures { result ≡ last_due interval (Some event) }
+{
+    if interval == 0 {
+        return 0;
+    }
+    event - event % interval
+}
+
 pub fn note_flush(s: &mut Standing, event: u64, deaths: u32)
     ensures { s.new ≡ record s.old {
       begun = true;
       latest = event;
       flushed = Some event;
+      is_last = is_final s.old.interval (Some event);
+      last_due = last_due s.old.interval (Some event);
       stands = true;
       awaited = deaths;
       last_dead = 0;
@@ -46,6 +60,8 @@ pub fn note_flush(s: &mut Standing, event: u64, deaths: u32)
     leave_group(s);
     s.latest = event;
     s.flushed = Some(event);
+    s.is_last = !is_flush_point(s.interval, event);
+    s.last_due = last_due(s.interval, event);
     s.stands = true;
     s.awaited = deaths;
 }

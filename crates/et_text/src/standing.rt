@@ -23,6 +23,10 @@ pub struct Standing {
     pub latest: u64,
     /// The event of the newest F line.
     pub flushed: Option<u64>,
+    /// It was the last one.
+    pub is_last: bool,
+    /// The newest event up to it after which a flush was due, or 0. The next flush is due an interval later.
+    pub last_due: u64,
     /// Nothing but D lines came behind it.
     pub stands: bool,
     /// How many D lines are still to come.
@@ -49,6 +53,8 @@ impl Standing {
             reported: Vec::new(alloc),
             latest: 0,
             flushed: None,
+            is_last: false,
+            last_due: 0,
             stands: false,
             awaited: 0,
             last_dead: 0,

@@ -37,8 +37,8 @@ loop-left-preserved c =
       within = omega arith;
       size = omega (arith, length-set w.new.buf (w.result - 1) 32);
       spelled =
-        rw (drop-set w.new.buf (w.result - 1) 32 (omega arith), behind, w.ensures.written, drop-cons c.args.numbers.now (l.left - 1) 0 among)
-        (ap (λ (t : List ℕ). 32 ∷ (decimal n ++ t)) (l.invariant.spelled ∙ ap (λ (k : ℕ). flat_map number_field (drop k c.args.numbers.now)) (sym next)));
+          rw (drop-set w.new.buf (w.result - 1) 32 (omega arith), behind, w.ensures.written, drop-cons c.args.numbers.now (l.left - 1) 0 among)
+          (ap (λ (t : List ℕ). 32 ∷ (decimal n ++ t)) (l.invariant.spelled ∙ ap (λ (k : ℕ). flat_map number_field (drop k c.args.numbers.now)) (sym next)));
     }
 
 pub returns-clause-ok : goal.returns-clause-ok
