@@ -1,3 +1,4 @@
 pub mod Counting
+pub mod Gathered
 pub mod Taking
 pub mod Walks

@@ -10,6 +10,7 @@ mod gathering_mem_sink;
 mod host;
 mod mem_files;
 mod mem_sink;
+mod pieces;
 mod putting;
 mod reads;
 mod sink;
@@ -20,6 +21,7 @@ pub use gathering_mem_sink::GatheringMemSink;
 pub use host::{HostFiles, HostSink};
 pub use mem_files::MemFiles;
 pub use mem_sink::MemSink;
+pub use pieces::put_piece;
 pub use putting::{RunFault, put_all};
 pub use sink::{Put, Sink};
 
