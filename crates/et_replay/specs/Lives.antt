@@ -1,6 +1,7 @@
 -- What is kept of the objects of a trace, by number: of each the event that made it and its size, and the time of its death and its size. The contracts of private functions alone speak of it.
-use Rattle.std.specs.Prelude.{◌≡◌, ℕ, ◌-◌, ◌<◌, ◌≤◌, nat_lt, if◌then◌else◌, List, [], ◌∷◌, ◌++◌, length, take, slice_index_or, slice_set}
-use Rattle.std.specs.List.{sum_by}
+use Rattle.std.specs.Prelude.{◌≡◌, ℕ, ◌+◌, ◌-◌, ◌^◌, ◌<◌, ◌≤◌, nat_lt, if◌then◌else◌, List, [], ◌∷◌, ◌++◌, length, take, slice_index_or, slice_set, All}
+use Rattle.std.specs.Fmt.{decimal}
+use Rattle.std.specs.List.{sum_by, AllPairs}
 use Rattle.et_base.specs.declared.line.TraceLine.{TraceLine}
 use Rattle.et_base.specs.declared.line.TraceLine.TheVariants.{Alloc, Death}
 
@@ -47,3 +48,15 @@ pub record CountsTo (sizes : Sizes) (at sum limit : ℕ) : Type 0 where
   pub fits : at ≤ length sizes
   pub sum_is : sum ≡ sum_by (λ (p : ℕ × ℕ). p.1) (take at sizes)
   pub passed : (k : ℕ) → k < at → (slice_index_or sizes k no_size).0 < limit
+
+-- the row of an event, by the sizes that are kept
+abbrev pub row_by : Sizes → Sizes → ℕ → List ℕ
+row_by born died event = decimal event ++ 32 ∷ decimal (sum_below (event + 1) born - sum_below event died) ++ 10 ∷ []
+
+-- what the rows are made from: the sizes fit in 64 bits, the events rise, and at none more dies than was made
+pub record GiveRows (born died : Sizes) (events : List ℕ) : Type 0 where
+  pub born_fits : sum_by (λ (p : ℕ × ℕ). p.1) born < 2 ^ 64
+  pub died_fits : sum_by (λ (p : ℕ × ℕ). p.1) died < 2 ^ 64
+  pub low : All (λ event. event ≤ 2 ^ 40) events
+  pub rise : AllPairs (λ x y. x < y) events
+  pub left : (event : ℕ) → event ≤ 2 ^ 40 → sum_below event died ≤ sum_below (event + 1) born
