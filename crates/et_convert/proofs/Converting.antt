@@ -1,10 +1,8 @@
 -- The same lines with another version in their header keep the rules, and the bytes of the one spelling give those of the other.
-use Rattle.std.proofs.Common.{◌≡◌, ℕ, suc, ◌+◌, ◌-◌, ◌<◌, ◌≤◌, ◌^◌, ◌/◌, ◌%◌, Bool, true, false, List, [], ◌∷◌, ◌++◌, length, map, Some, None, Result, Ok, Err, refl, sym, ap, subst, ◌∙◌, arith, length-append}
-use Rattle.std.specs.Prelude.{reverse, All, IfOk, slice_get, if◌then◌else◌}
+use Rattle.std.proofs.Common.{◌≡◌, ℕ, suc, ◌+◌, ◌-◌, ◌<◌, ◌≤◌, ◌^◌, ◌/◌, ◌%◌, Bool, true, false, List, [], ◌∷◌, ◌++◌, length, map, Some, None, refl, sym, ap, subst, ◌∙◌, arith, length-append}
+use Rattle.std.specs.Prelude.{reverse, All, slice_get, if◌then◌else◌}
 use Rattle.std.specs.List.{AllByRecursion, flat_map}
 use Rattle.std.specs.Fmt.{digit_glyph}
-use Rattle.std.specs.declared.vec.Vec.{Vec}
-use Rattle.std.specs.declared.alloc.Global.{Global}
 use Rattle.std.proofs.lemmas.List.Folds.{flat_map-map}
 use Rattle.std.proofs.lemmas.List.{reverse-append, reverse-reverse, map-append}
 use Rattle.std.proofs.lemmas.List.Elements.{All-from_recursion}
@@ -20,7 +18,7 @@ use Rattle.et_binary.specs.Packing.{pack, written_record}
 use Rattle.et_binary.specs.Packs.{IsPackOf}
 use Rattle.et_binary.specs.Formats.{written_in, trace_bytes}
 use Rattle.et_convert.specs.Spellings.{format_in, SpellsIn, SpellsTrace}
-use Rattle.et_convert.specs.Conversions.{version_format, format_said, other_format, line_of_version, converted_lines, converted_bytes}
+use Rattle.et_convert.specs.Conversions.{version_format, format_said, other_format, line_of_version, converted_line, converted_lines, converted_bytes}
 
 module _ (v : ℕ) where
   -- the lines so far, with this version in their header
@@ -390,15 +388,14 @@ written_is packs formats.Text lines g = refl
 written_is packs formats.Binary lines g = packs lines g
 
 converts_to : ((lines : List TraceLine) → IsGood 2 lines → flat_map written_record lines ≡ pack lines) → (format : Format) (lines : List TraceLine) → IsGoodTrace lines → All HasShortNames lines
-    → flat_map (λ line. written_in format (line_of_version (header_version format) line)) lines ≡ trace_bytes format (lines_in format lines)
+    → flat_map (converted_line format) lines ≡ trace_bytes format (lines_in format lines)
 converts_to packs format lines g short =
     sym (flat_map-map (written_in format) (line_of_version (header_version format)) lines)
     ∙ written_is packs format (lines_in format lines) (good_turned (header_version format) g.version lines g.good (each HasShortNames lines short))
 
-pub bytes_convert : {E : Type 0} → ((lines : List TraceLine) → IsGood 2 lines → flat_map written_record lines ≡ pack lines) → (format : Format) (lines : List TraceLine) (r : Result (Vec ℕ Global) E) → IsGoodTrace lines → All HasShortNames lines → format ≡ other_format (format_said lines)
-    → IfOk r (λ bytes. bytes.items ≡ flat_map (λ line. written_in format (line_of_version (header_version format) line)) lines) → IfOk r (λ bytes. bytes.items ≡ converted_bytes lines)
-bytes_convert packs format lines (Ok bytes) g short other is = is ∙ (converts_to packs format lines g short ∙ ap (λ f. trace_bytes f (lines_in f lines)) other)
-bytes_convert packs format lines (Err e) g short other is = tt
+pub bytes_convert : ((lines : List TraceLine) → IsGood 2 lines → flat_map written_record lines ≡ pack lines) → (format : Format) (lines : List TraceLine) → IsGoodTrace lines → All HasShortNames lines → format ≡ other_format (format_said lines)
+    → flat_map (converted_line format) lines ≡ converted_bytes lines
+bytes_convert packs format lines g short other = converts_to packs format lines g short ∙ ap (λ f. trace_bytes f (lines_in f lines)) other
 
 -- the first line of a trace is its header
 pub header_first : (lines : List TraceLine) → IsGoodTrace lines → (n : ℕ) × (rest : List TraceLine) × (lines ≡ Header (version_of (reverse lines)) n ∷ rest)

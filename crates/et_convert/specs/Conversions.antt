@@ -6,7 +6,7 @@ use Rattle.et_base.specs.declared.line.TraceLine.{TraceLine}
 use Rattle.et_base.specs.declared.line.TraceLine.TheVariants.{Header}
 use Rattle.et_text.specs.Ranges.{header_version}
 use Rattle.et_text.specs.Rules.{version_of}
-use Rattle.et_binary.specs.Formats.{trace_bytes}
+use Rattle.et_binary.specs.Formats.{written_in, trace_bytes}
 
 -- the format of a trace of this version: 1 is the text, and 2 the binary one
 abbrev pub version_format : ℕ → Format
@@ -24,6 +24,10 @@ other_format formats.Binary = formats.Text
 abbrev pub line_of_version : ℕ → TraceLine → TraceLine
 line_of_version version (Header v interval) = Header version interval
 line_of_version version line = line
+
+-- what is written of the line in a trace of this format
+abbrev pub converted_line : Format → TraceLine → List ℕ
+converted_line format line = written_in format (line_of_version (header_version format) line)
 
 -- the same lines in a trace of the other format
 abbrev pub converted_lines : List TraceLine → List TraceLine

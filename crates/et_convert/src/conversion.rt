@@ -1,17 +1,16 @@
 //! A trace in its other spelling.
-ghost use Rattle.std.specs.Prelude.{◌≡◌, ◌≤◌, [], ◌∷◌, ◌++◌, All, reverse, IfOk, OnOk, OnErr};
+ghost use Rattle.std.specs.Prelude.{◌≡◌, ◌≤◌, [], ◌∷◌, ◌++◌, All, reverse, OnOk, OnErr};
 ghost use Rattle.std.specs.List.{flat_map};
 ghost use Rattle.et_io.specs.Faults.{count_after, is_write_fault};
 ghost use Rattle.et_io.specs.Sink.{with_more, TakesPrefix};
-ghost use Rattle.et_text.specs.Ranges.{HasShortNames, header_version};
+ghost use Rattle.et_text.specs.Ranges.{HasShortNames};
 ghost use Rattle.et_text.specs.Rules.{IsGoodTrace, version_of};
-ghost use Rattle.et_binary.specs.Formats.{written_in};
-ghost use Rattle.et_convert.specs.Conversions.{version_format, format_said, other_format, line_of_version, converted_bytes};
+ghost use Rattle.et_convert.specs.Conversions.{version_format, format_said, other_format, converted_line, converted_bytes};
 
 use et_base::{Format, NoMemory, TraceLine};
 use et_binary::laws::records_are_packs;
 use et_binary::{header_version, write_line_in};
-use et_io::{RunFault, Sink, put_all};
+use et_io::{RunFault, Sink, put_all, put_piece};
 use et_text::Trace;
 use std::alloc::Global;
 
@@ -67,8 +66,7 @@ fn other_format(format: Format) -> Format
 /// Appends the line as a trace in this format has it, where a header says the version of that.
 fn put_line(bytes: &mut Vec<u8>, format: Format, line: &TraceLine) -> Result<(), NoMemory>
     requires short { HasShortNames line.now }
-    ensures { OnOk result (bytes.new.items ≡ bytes.old.items
-        ++ written_in format (line_of_version (header_version format) line.now)) }
+    ensures { OnOk result (bytes.new.items ≡ bytes.old.items ++ converted_line format line.now) }
 {
     match line {
         TraceLine::Header { interval, .. } => {
@@ -82,32 +80,33 @@ fn put_line(bytes: &mut Vec<u8>, format: Format, line: &TraceLine) -> Result<(),
     }
 }
 
-/// The lines as a trace in this format has them, one after the other.
-fn bytes_in(alloc: Global, format: Format, lines: &[TraceLine]) -> Result<Vec<u8>, NoMemory>
+/// Puts the lines as a trace in this format has them, one after the other.
+fn put_lines<O: Sink>(
+    alloc: Global,
+    format: Format,
+    lines: &[TraceLine],
+    sink: &mut O,
+) -> Result<(), RunFault>
     requires short { All HasShortNames lines.now }
-    ensures { IfOk result (λ bytes. bytes.items ≡ flat_map
-        (λ line. written_in format (line_of_version (header_version format) line)) lines.now) }
+    ensures ok { OnOk result (O.taken sink.new
+        ≡ with_more (O.taken sink.old) (flat_map (converted_line format) lines.now)) }
+    ensures write { O.faults sink.new ≡ count_after (is_write_fault result) (O.faults sink.old) }
+    ensures err { OnErr result (TakesPrefix
+        (O.taken sink.old) (O.taken sink.new) (flat_map (converted_line format) lines.now)) }
+    ensures never_falls { O.faults sink.old ≤ O.faults sink.new }
 {
     let mut bytes = Vec::new(alloc);
     for line in lines {
-        put_line(&mut bytes, format, line)?;
+        let Ok(()) = put_line(&mut bytes, format, line) else {
+            return Err(RunFault::NoMemory);
+        };
+        put_piece(sink, &mut bytes)?;
     }
-    Ok(bytes)
-}
-
-/// The bytes of the lines of a trace in its other format.
-fn converted_bytes(alloc: Global, lines: &[TraceLine]) -> Result<Vec<u8>, NoMemory>
-    requires good { IsGoodTrace lines.now }
-    requires short { All HasShortNames lines.now }
-    ensures { IfOk result (λ bytes. bytes.items ≡ converted_bytes lines.now) }
-{
-    // A law: it tells the prover, and does nothing.
-    records_are_packs();
-    bytes_in(alloc, other_format(format_said(lines)), lines)
+    put_all(sink, bytes.as_slice())
 }
 
 /// Writes the lines of the trace in the other spelling: those of a text in the binary one, and those of a binary trace as
-/// text. The header says the version of what is written. Bytes are put only once all are there. `Write` comes exactly where a
+/// text. The header says the version of what is written. The bytes are put in pieces of 64 KiB. `Write` comes exactly where a
 /// put failed, and the sink counted one fault; after `Write` and after `NoMemory` the sink took a prefix of the bytes.
 pub fn convert_trace<O: Sink>(alloc: Global, trace: &Trace, sink: &mut O) -> Result<(), RunFault>
     requires short { All HasShortNames trace.now }
@@ -118,8 +117,8 @@ pub fn convert_trace<O: Sink>(alloc: Global, trace: &Trace, sink: &mut O) -> Res
         (TakesPrefix (O.taken sink.old) (O.taken sink.new) (converted_bytes trace.now)) }
     ensures never_falls { O.faults sink.old ≤ O.faults sink.new }
 {
-    match converted_bytes(alloc, trace.lines()) {
-        Ok(bytes) => put_all(sink, bytes.as_slice()),
-        Err(NoMemory) => Err(RunFault::NoMemory),
-    }
+    // A law: it tells the prover, and does nothing.
+    records_are_packs();
+    let lines = trace.lines();
+    put_lines(alloc, other_format(format_said(lines)), lines, sink)
 }
