@@ -33,15 +33,16 @@ use Rattle.et_event.specs.Moments.{array_size, element_width}
 use Rattle.et_event.specs.Start.{start_records}
 use Rattle.et_history.specs.Allocations.{object_in, next_number, IsMadeAt, TellsOf, next_behind, AreAllocations, HasArguments}
 use Rattle.et_history.specs.Histories.{picked, HistoryGoesOn, WholeGoesOn, whole_picked, whole_at, whole_settled_at}
-use Rattle.et_history.specs.Records.{size_by, size_of, IsAlike, next_after, IsAllocationOf, AreRecordsOf, HasPlainStrings, TellsObjects}
+use Rattle.et_walk.specs.Records.{size_by, size_of, IsAlike, next_after, IsAllocationOf, AreRecordsOf, HasPlainStrings, TellsObjects}
 use Rattle.et_history.specs.Same.{IsHere}
-use Rattle.et_history.specs.Settings.{IsSoundRun, names_of_program, unended_threads}
+use Rattle.et_history.specs.Settings.{IsSoundRun, unended_threads}
+use Rattle.et_walk.specs.Telling.{names_of_program}
 use Rattle.et_history.specs.Whole.{beside, cleared, whole_flushed, whole_start}
 use Rattle.et_history.proofs.Alike.{is_open}
 use Rattle.et_history.proofs.Wholes.{all_match, settled_match, go_on, flushed_here, picked_unended}
-use Rattle.et_history.proofs.Words.{if_case}
-use Rattle.et_history.proofs.Records.{alike_itself, alike_then, same_size}
-use Rattle.et_history.proofs.EventRecords.{event_tells}
+use Rattle.et_walk.proofs.Words.{if_case}
+use Rattle.et_walk.proofs.Records.{alike_itself, alike_then, same_size}
+use Rattle.et_walk.proofs.SaysRecords.{event_tells}
 
 -- LINES
 

@@ -17,14 +17,14 @@ use Rattle.et_state.specs.State.{State, Kept}
 use Rattle.et_state.specs.declared.options.Options.{Options}
 use Rattle.et_program.specs.Entries.{Linked}
 use Rattle.et_event.specs.Event.{event}
-use Rattle.et_history.specs.Changing.{KeepsMonitors}
+use Rattle.et_walk.specs.Changing.{KeepsMonitors}
 use Rattle.et_history.specs.Histories.{picked, HistoryGoesOn, WholeGoesOn, whole_at, whole_settled_at}
 use Rattle.et_history.specs.Same.{IsHere, IsReportedAs}
 use Rattle.et_history.specs.Settings.{IsSoundRun, unended_threads}
 use Rattle.et_history.specs.Whole.{beside, cleared, whole_flushed}
 use Rattle.et_history.proofs.Alike.{is_open}
 use Rattle.et_history.proofs.Wholes.{all_match, settled_match, go_on, keeps_at, flushed_here, reported_gone}
-use Rattle.et_history.proofs.Words.{if_case}
+use Rattle.et_walk.proofs.Words.{if_case}
 
 -- WHAT WAS REPORTED, after a flush
 

@@ -1,24 +1,4 @@
 pub mod Unended
-mod Values
-mod Heaps
-mod Taken
-mod WaitingLists
-mod Words
-mod Monitors
-mod Plain
-mod Ways
-mod Rows
-mod Calls
-mod Returns
-mod Turns
-mod Events
-mod Records
-mod Recording
-mod Saying
-mod RowRecords
-mod CallRecords
-mod EventRecords
-mod SoundStates
 mod Agreeing
 mod Alike
 mod Wholes
@@ -36,13 +16,6 @@ mod Allocations
 mod LinkedSizes
 pub mod Ends
 mod Runs
-pub mod ElementClasses
 pub mod PoolWords
 pub mod ArrayWords
 pub mod ShortNames
-mod NamedMembers
-mod NamedWords
-mod NamedWays
-mod NamedRows
-mod NamedCalls
-mod NamedTurns

@@ -26,8 +26,8 @@ use Rattle.et_event.specs.Moments.{Moment, Doing, begins, doing_with_guest, with
 use Rattle.et_event.specs.Monitors.{Lock, OfObject, OfClass, with_monitor_of}
 use Rattle.et_event.specs.Sites.{LoadedConstant, AnInt, ALong, AString, constant_at, pool_of_class}
 use Rattle.et_event.specs.Strings.{interned, string_object}
-use Rattle.et_history.proofs.Heaps.{newest}
-use Rattle.et_history.proofs.Words.{if_case, updated_same}
+use Rattle.et_walk.proofs.Heaps.{newest}
+use Rattle.et_walk.proofs.Words.{if_case, updated_same}
 use Rattle.et_heap.specs.Queues.{with_waits, without_first_waiting, take_first}
 
 -- the thread was started, and each object that is new is that of a string

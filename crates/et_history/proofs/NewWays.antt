@@ -30,8 +30,8 @@ use Rattle.et_event.specs.Errors.{error_class, error_of}
 use Rattle.et_event.specs.Initialization.{state_of, with_state, constants_set, initializer_frame, is_quiet, quietly_done, begun_by, begins_class, needed, initialized}
 use Rattle.et_event.specs.Moments.{Moment, Doing, next_object, instance_made, with_thread_state, pending_now, fits_heap, goes, ends_event, throws, waits}
 use Rattle.et_history.specs.Reaching.{AreReachedFrom, ReachesNew}
-use Rattle.et_history.proofs.Heaps.{newest}
-use Rattle.et_history.proofs.Words.{if_case, thread_now}
+use Rattle.et_walk.proofs.Heaps.{newest}
+use Rattle.et_walk.proofs.Words.{if_case, thread_now}
 use Rattle.et_history.proofs.NewStrings.{OfStrings, thread_strings, state_strings, constants_strings, quietly_strings}
 
 abbrev pub New : Moment → Outcome Kept → Type 0

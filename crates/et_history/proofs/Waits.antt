@@ -8,7 +8,7 @@ use Rattle.et_graph.specs.Graph.{Graph, Decides}
 use Rattle.et_heap.specs.Links.{StandOnce}
 use Rattle.et_heap.specs.Objects.{Objects, object_at}
 use Rattle.et_heap.specs.Refs.{refs_of}
-use Rattle.et_state.specs.History.{ending, is_flush_point, left_by}
+use Rattle.et_state.specs.History.{is_flush_point, left_by}
 use Rattle.et_state.specs.History as history
 use Rattle.et_state.specs.Options.{AreOptions}
 use Rattle.et_state.specs.Outcome.{Outcome, state_after}
@@ -26,12 +26,11 @@ use Rattle.et_history.specs.Settings.{IsSoundRun, unended_threads}
 use Rattle.et_history.specs.Waiting.{WaitsIn, WaitsSomewhere}
 use Rattle.et_history.specs.Whole.{beside, whole_flushed, whole_start}
 use Rattle.et_history.proofs.Alike.{is_open}
-use Rattle.et_history.proofs.Events.{event_lined}
+use Rattle.et_walk.proofs.MonitorRows.{event_keeps_lists, LeadsLined}
 use Rattle.et_history.proofs.FlushedLists.{flush_lined}
-use Rattle.et_history.proofs.Turns.{LeadsLined}
-use Rattle.et_history.proofs.WaitingLists.{AreLined}
+use Rattle.et_walk.proofs.WaitingLists.{AreLined}
 use Rattle.et_history.proofs.Wholes.{Stands, all_match, settled_match, go_on, picked_unended, same_reached, tells}
-use Rattle.et_history.proofs.Words.{if_case}
+use Rattle.et_walk.proofs.Words.{if_case}
 
 abbrev pub Now : State → Type 0
 Now s = AreLined s.kept.heap s.reported
@@ -102,7 +101,7 @@ module _ (reached : Graph → ℕ → Bool) (p : Linked) (options : Options) (pi
       let t : State = whole_settled_at reached p options pick e in
       let on = is_open (length (unended_threads t.kept) == 0) (e == options.limit) _ _ _ (goes e (omega arith)) in
       let k : ℕ = history.picked_turn (picked p options pick) (suc e) t.kept in
-      after_lined p options e t k (event p t.kept k) m.1 (event_lined p t.kept k m.1.state (picked_unended t.kept (pick (suc e)) on.some) run.runnable) (settled_lined e before lined)
+      after_lined p options e t k (event p t.kept k) m.1 (event_keeps_lists p t.kept k m.1.state (picked_unended t.kept (pick (suc e)) on.some) run.runnable) (settled_lined e before lined)
 
   pub all_lined : (e : ℕ) → Before e → Now (state e)
   unfolding left_by

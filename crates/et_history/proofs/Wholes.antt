@@ -42,12 +42,12 @@ use Rattle.et_binary.specs.Formats.{trace_bytes}
 use Rattle.et_loop.specs.Kept.{IsKeptPart}
 use Rattle.et_loop.specs.Visits.{allowed_visits, IsCut}
 use Rattle.et_history.specs.Settings.{IsSoundRun, flush_visits_of, setting, unended_threads, flushed_of}
-use Rattle.et_history.specs.Changing.{KeepsMonitors}
+use Rattle.et_walk.specs.Changing.{KeepsMonitors}
 use Rattle.et_history.specs.Histories.{picked, state_at, settled_at, HistoryGoesOn, WholeGoesOn, moment_at, whole_picked, whole_at, whole_settled_at}
 use Rattle.et_history.specs.Same.{TellsTheSame, IsHere}
 use Rattle.et_history.specs.Whole.{beside, cleared, whole_event, whole_flushed, whole_setting, whole_start, whole_visits_of}
 use Rattle.et_history.proofs.Alike.{is_open, settled_alike, LooksAlike, LeadsAlike, IsTurn, Mirrors, all_alike, looks_alike, last_alike, deaths_alike, lines_alike, trace_alike, last_there, last_back, goes_back, allowed_alike, cut_alike}
-use Rattle.et_history.proofs.Events.{event_keeps}
+use Rattle.et_walk.proofs.MonitorRows.{event_keeps_monitors}
 use Rattle.et_history.proofs.Unended.{unended_thread}
 
 -- THE GRAPHS
@@ -302,7 +302,7 @@ module _ (reached : Graph → ℕ → Bool) (p : Linked) (options : Options) (pi
   -- what the event of the turn does to the heap
   pub keeps_at : (e : ℕ) (t : State) (thread : ℕ) → Stands p options e t → IsTurn reached given whole M e t.kept thread → KeepsMonitors (record { program = p; before = t.kept; thread = thread }) (event p t.kept thread)
   keeps_at e t thread stands turn =
-      event_keeps p t.kept thread stands.state (subst (λ (i : ℕ). IsUnended t.kept.guest i) (sym turn.thread_is) (picked_unended t.kept (pick (suc e)) turn.some)) run.runnable
+      event_keeps_monitors p t.kept thread stands.state (subst (λ (i : ℕ). IsUnended t.kept.guest i) (sym turn.thread_is) (picked_unended t.kept (pick (suc e)) turn.some)) run.runnable
 
   turn : (e : ℕ) (s : Kept) (t : State) (thread : ℕ) → M e s t → IsTurn reached given whole M e s thread → LeadsAlike (λ a b. M (suc e) a b) thread s t (event p s thread) (whole_event p t thread)
   turn e s t thread m =
@@ -312,7 +312,7 @@ module _ (reached : Graph → ℕ → Bool) (p : Linked) (options : Options) (pi
       let unended : IsUnended k.guest thread = subst (λ (i : ℕ). IsUnended k.guest i) (sym turn.thread_is) (picked_unended k (pick (suc e)) turn.some) in
       let below : e < options.limit = below_limit e options.limit m.1.within (not_same e options.limit turn.within) in
       let few : k.guest.clock < 2 ^ 40 = (let clock = m.1.clock in omega (arith, below, are.limit)) in
-      after_event p options e t thread (event p k thread) (event_keeps p k thread m.1.state unended run.runnable) (event_sound p k thread m.1.state few unended run.runnable) m.1 below)
+      after_event p options e t thread (event p k thread) (event_keeps_monitors p k thread m.1.state unended run.runnable) (event_sound p k thread m.1.state few unended run.runnable) m.1 below)
 
   pub mirrors : Mirrors reached given whole M
   mirrors = record { unended = λ e s t m. ap (λ (x : Kept). unended_threads x) (sym m.0); looks = looks; flush = flush; event = turn }
@@ -384,7 +384,7 @@ module _ (reached : Graph → ℕ → Bool) (p : Linked) (options : Options) (pi
       let on = is_open (length (unended_threads s) == 0) (e == options.limit) Finished EventLimit (end_by thread (event p s thread)) (goes e (omega arith)) in
       record {
         sound = sound;
-        keeps = event_keeps p s thread sound (picked_unended s (pick (suc e)) on.some) run.runnable;
+        keeps = event_keeps_monitors p s thread sound (picked_unended s (pick (suc e)) on.some) run.runnable;
         done = on.done;
       }
 

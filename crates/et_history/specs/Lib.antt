@@ -1,12 +1,8 @@
 pub mod Settings
 pub mod Whole
-pub mod Holding
-pub mod Changing
 pub mod Histories
 pub mod Same
 pub mod Reaching
-pub mod Records
 pub mod Allocations
 pub mod Ends
-pub mod Telling
 pub mod Waiting

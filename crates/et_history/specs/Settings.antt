@@ -6,27 +6,16 @@ use Rattle.et_state.specs.Enqueuing.{flushed_heap}
 use Rattle.et_state.specs.Threads as threads
 use Rattle.et_state.specs.Roots.{graph_of}
 use Rattle.et_state.specs.State.{Kept}
-use Rattle.et_state.specs.Naming.{Names}
 use Rattle.et_state.specs.History.{Setting}
 use Rattle.et_state.specs.declared.options.Options.{Options}
-use Rattle.et_program.specs.Entries.{Linked, class_at, method_at}
+use Rattle.et_program.specs.Entries.{Linked}
 use Rattle.et_program.specs.Tables.{IsTabled}
 use Rattle.et_flush.specs.Flushes.{cleared_references}
 use Rattle.et_event.specs.Event.{event}
 use Rattle.et_event.specs.Runnable.{IsRunnable}
 use Rattle.et_event.specs.Sound.{IsSoundFor}
+use Rattle.et_walk.specs.Telling.{names_of_program}
 use Rattle.et_loop.specs.Options.{setting_of}
-
--- the names of the classes and methods of a program
-abbrev pub names_of_program : Linked → Names
-names_of_program p = record {
-  class_count = length p.classes;
-  method_count = length p.methods;
-  class_name = λ c. (class_at p c).info.name;
-  method_class = λ m. (method_at p m).class;
-  method_name = λ m. (method_at p m).name;
-  method_descriptor = λ m. (method_at p m).descriptor;
-}
 
 -- the threads that have not ended, in order of start
 abbrev pub unended_threads : Kept → List ℕ

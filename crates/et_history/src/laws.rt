@@ -1,12 +1,10 @@
 //! The histories of a program. Each law is a function with an empty body: what it promises is its contract.
 
-ghost use Rattle.std.specs.Prelude.{◌≡◌, ◌↔◌, ℕ, ◌+◌, ◌<◌, ◌≤◌, ◌^◌, Bool, List, Option, Some, Contains};
+ghost use Rattle.std.specs.Prelude.{◌≡◌, ◌↔◌, ℕ, ◌+◌, ◌<◌, ◌≤◌, Bool, List, Option, Some, Contains};
 ghost use Rattle.et_base.specs.declared.value.End.{End};
 ghost use Rattle.et_graph.specs.Graph.{Graph, Decides};
 ghost use Rattle.et_heap.specs.Objects.{ObjectState, IsHeld, at};
 ghost use Rattle.et_program.specs.Entries.{Linked};
-ghost use Rattle.et_state.specs.State.{Kept};
-ghost use Rattle.et_state.specs.Words.{IsUnended};
 ghost use Rattle.et_state.specs.declared.options.Options.{Options};
 ghost use Rattle.et_state.specs.History.{IsLastEvent};
 ghost use Rattle.et_state.specs.Options.{AreOptions};
@@ -14,35 +12,16 @@ ghost use Rattle.et_state.specs.Roots.{graph};
 ghost use Rattle.et_state.specs.Start.{start};
 ghost use Rattle.et_event.specs.Event.{event};
 ghost use Rattle.et_event.specs.Monitors.{Lock};
-ghost use Rattle.et_event.specs.Runnable.{IsRunnable};
-ghost use Rattle.et_event.specs.Sound.{IsSoundFor};
 ghost use Rattle.et_event.specs.Start.{start_records};
 ghost use Rattle.et_loop.specs.declared.options.Ran.{Ran};
 ghost use Rattle.et_loop.specs.Traced.{WritesTrace, WritesPrefix};
 ghost use Rattle.et_loop.specs.Visits.{allowed_visits, IsCut};
 ghost use Rattle.et_sound.specs.WellFormed.{IsThere};
-ghost use Rattle.et_history.specs.Changing.{KeepsMonitors, LeadsToSound};
 ghost use Rattle.et_history.specs.Histories.{picked, state_at, HistoryGoesOn, whole_picked, whole_at, WholeGoesOn, times_held};
-ghost use Rattle.et_history.specs.Holding.{monitor_in};
+ghost use Rattle.et_walk.specs.Holding.{monitor_in};
 ghost use Rattle.et_history.specs.Same.{IsHere, IsReportedAs, TellsTheSame};
 ghost use Rattle.et_history.specs.Settings.{IsSoundRun, flush_visits_of, setting};
 ghost use Rattle.et_history.specs.Whole.{whole_setting, whole_start, whole_visits_of};
-
-/// Each event of a thread that has not ended enters and leaves the monitors that its instruction and its frames say, and
-/// keeps every other; what it enters was open to its thread. After it, what is referred to is held.
-pub fn events_keep_monitors()
-    ensures { (p : Linked) (s : Kept) (t : ℕ) →
-        IsSoundFor p s → IsUnended s.guest t → IsRunnable p →
-        KeepsMonitors (record { program = p; before = s; thread = t }) (event p s t) }
-{}
-
-/// Each event of a thread that has not ended leads from a sound state to a sound one, where it is done or the thread waits: what
-/// the next state refers to is held too.
-pub fn events_lead_to_sound_states()
-    ensures { (p : Linked) (s : Kept) (t : ℕ) →
-        IsSoundFor p s → s.guest.clock < 2 ^ 40 → IsUnended s.guest t → IsRunnable p →
-        LeadsToSound p (event p s t) }
-{}
 
 /// In every state of every history of a program that may be run, over every list of picks, no two threads hold one monitor:
 /// neither that of an object, also of one that was reported dead, nor that of a class. And what has a monitor and was not

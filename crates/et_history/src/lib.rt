@@ -6,5 +6,4 @@ pub mod laws;
 pub mod object_laws;
 pub mod record_laws;
 pub mod run_laws;
-pub mod telling_laws;
 pub mod waiting_laws;

@@ -17,9 +17,8 @@ use Rattle.et_event.specs.Sound.{IsSoundFor}
 use Rattle.et_loop.specs.Kept.{IsStepTo}
 use Rattle.et_loop.specs.Stamping.{StepsWhereDone}
 use Rattle.et_state.specs.Moves.{Led}
-use Rattle.et_history.specs.Telling.{IsToldOf}
-use Rattle.et_history.specs.Changing.{LeadsToSound}
-use Rattle.et_history.specs.Settings.{names_of_program}
+use Rattle.et_walk.specs.Telling.{IsToldOf, names_of_program}
+use Rattle.et_walk.specs.Changing.{LeadsToSound}
 
 led_steps : (s x : Kept) (m : MachineState) → Led s x m → IsStepTo (graph_of s) (graph_of (kept_of m)) m.lost
 led_steps s x m led = subst (λ (k : Kept). IsStepTo (graph_of s) (graph_of k) m.lost) (sym led.kept) (fresh_of s x, led.event.legal)

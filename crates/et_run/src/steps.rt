@@ -2,7 +2,8 @@
 ghost use Rattle.std.specs.Prelude.{◌≡◌, ℕ, Bool, ◌+◌, ◌-◌, ◌<◌, ◌≤◌, ◌^◌, ◌↔◌, All, Contains, IfOk, IsTrue, OnOk, length, slice_index};
 ghost use Rattle.et_event.specs.Event.{event};
 ghost use Rattle.et_graph.specs.Graph.{IsReached};
-ghost use Rattle.et_history.specs.Settings.{IsSoundRun, flush_visits_of, unended_threads, flushed_of, names_of_program};
+ghost use Rattle.et_history.specs.Settings.{IsSoundRun, flush_visits_of, unended_threads, flushed_of};
+ghost use Rattle.et_walk.specs.Telling.{names_of_program};
 ghost use Rattle.et_state.specs.Roots.{graph_of};
 ghost use Rattle.et_state.specs.State.{kept_of};
 ghost use Rattle.et_loop.specs.Stamping.{StepsWhereDone};
@@ -18,10 +19,10 @@ use et_flush::{FlushRoom, flush_machine};
 use et_graph::Stamps;
 use et_graph::laws::reaching_is_decided;
 use et_heap::RootList;
-use et_history::telling_laws::events_are_told;
 use et_linked::start_laws::flush_keeps_sound;
 use et_program::Program;
 use et_state::{EventEnd, Lines, Machine};
+use et_walk::laws::events_are_told;
 use std::alloc::Global;
 use std::sync::ledger::Ledger;
 

@@ -16,7 +16,6 @@ ghost use Rattle.et_state.specs.Words.{IsUnended, thread_at};
 use et_base::{NoMemory, Steps, ThreadId};
 use et_calls::calls_event;
 use et_event::Row;
-use et_history::laws::events_lead_to_sound_states;
 use et_ops::plain_event;
 use et_parts::{ill_typed, place_of};
 use et_program::Program;
@@ -24,6 +23,7 @@ use et_refs::heap_row_event;
 use et_state::{EventEnd, Lines, Machine, Turn};
 use et_sync::sync_event;
 use et_throw::throw_event;
+use et_walk::laws::events_lead_to_sound_states;
 use std::alloc::Global;
 use std::sync::ledger::Ledger;
 

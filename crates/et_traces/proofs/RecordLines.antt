@@ -4,11 +4,11 @@ use Rattle.std.specs.Prelude.{if◌then◌else◌}
 use Rattle.std.specs.List.{list_any, flat_map}
 use Rattle.et_base.specs.declared.line.TraceLine.{TraceLine}
 use Rattle.et_base.specs.declared.line.TraceLine.TheVariants as line
-use Rattle.et_state.specs.Naming.{Names, Mentions, number_in, with_new, class_line, method_line, classes_named_by, methods_named_by, with_mentions, mentions_after, line_of, record_lines, lines_of}
+use Rattle.et_state.specs.Naming.{Names, Mentions, number_in, with_new, class_line, method_line, with_mentions, mentions_after, record_lines, lines_of}
 use Rattle.et_state.specs.Naming as naming
 use Rattle.et_state.specs.declared.records.Record.{Record}
 use Rattle.et_state.specs.declared.records.Record.TheVariants.{Alloc, Update, Enter, Exit, Unwind}
-use Rattle.et_history.specs.Records.{next_after}
+use Rattle.et_walk.specs.Records.{next_after}
 use Rattle.et_traces.proofs.Numbering.{AreTellable, IsIn, in_last}
 use Rattle.et_traces.proofs.Standing.{behind, behind_both, Stands, IsNamed, stands_class, stands_method, stands_alloc, stands_update, stands_enter, stands_exit, stands_unwind}
 

@@ -18,11 +18,11 @@ use Rattle.et_heap.specs.Objects.{ObjectState, Objects, IsHeld, at, is_there}
 use Rattle.et_heap.specs.Refs.{gone_of}
 use Rattle.et_state.specs.Enqueuing.{flushed_heap}
 use Rattle.et_heap.proofs.HeapLists.{at_gone}
-use Rattle.et_state.specs.History.{IsLastEvent, ending, how_of, flush_lines, is_flush_point, is_gone, left_by, deaths, deaths_to, last_reached, lines_to, mentions_to, records_at, trace_of}
+use Rattle.et_state.specs.History.{how_of, flush_lines, is_flush_point, is_gone, left_by, deaths, last_reached, lines_to, mentions_to, trace_of}
 use Rattle.et_state.specs.History as history
 use Rattle.et_state.specs.Naming.{Names, Mentions, nothing_mentioned, mentions_after, lines_of}
 use Rattle.et_state.specs.Options.{AreOptions}
-use Rattle.et_state.specs.Outcome.{Outcome, end_by, state_after, records_of}
+use Rattle.et_state.specs.Outcome.{Outcome, end_by, records_of}
 use Rattle.et_state.specs.Outcome as outcome
 use Rattle.et_state.specs.Roots.{graph, graph_of}
 use Rattle.et_state.specs.Start.{start, argument_class}
@@ -37,14 +37,15 @@ use Rattle.et_event.specs.Start.{start_records}
 use Rattle.et_text.specs.Ranges.{header_version}
 use Rattle.et_text.specs.Rules.{AreFine, IsGood, has_ended, misses_no_flush}
 use Rattle.et_history.specs.Allocations.{next_number}
-use Rattle.et_history.specs.Changing.{KeepsMonitors}
+use Rattle.et_walk.specs.Changing.{KeepsMonitors}
 use Rattle.et_history.specs.Histories.{HistoryGoesOn, WholeGoesOn, whole_picked, whole_at, whole_settled_at}
-use Rattle.et_history.specs.Records.{AreRecordsOf, TellsObjects}
+use Rattle.et_walk.specs.Records.{AreRecordsOf, TellsObjects}
 use Rattle.et_history.specs.Same.{TellsTheSame}
-use Rattle.et_history.specs.Settings.{IsSoundRun, names_of_program, unended_threads}
+use Rattle.et_history.specs.Settings.{IsSoundRun, unended_threads}
+use Rattle.et_walk.specs.Telling.{IsToldOf, names_of_program}
 use Rattle.et_history.specs.Whole.{beside, whole_flushed, whole_start}
 use Rattle.et_history.proofs.Unended.{unended_thread}
-use Rattle.et_traces.specs.Good.{AreNamesApart, AreNamesShort, NamesOnly}
+use Rattle.et_traces.specs.Good.{AreNamesApart, AreNamesShort}
 use Rattle.et_traces.proofs.Numbering.{AreTellable}
 use Rattle.et_traces.proofs.Standing.{behind, behind_both, Stands}
 use Rattle.et_traces.proofs.Lengths.{ArePlain, after, event_plain, flushed_plain, start_plain}
@@ -120,14 +121,14 @@ module _ (p : Linked) (fit : AreTellable (names_of_program p)) (version every e 
   abbrev HeldIn : State → ℕ → Type 0
   HeldIn s o = IsHeld s.kept.heap o
 
-  pub event_stands : (x : Outcome Kept) → end_by thread (beside t.reported x) ≡ None → TellsObjects p t.kept thread x → KeepsMonitors (record { program = p; before = t.kept; thread = thread }) x → NamesOnly (names_of_program p) x
+  pub event_stands : (x : Outcome Kept) → end_by thread (beside t.reported x) ≡ None → TellsObjects p t.kept thread x → KeepsMonitors (record { program = p; before = t.kept; thread = thread }) x → IsToldOf p t.kept x
       → IsSoundFor p (after t x).kept → ArePlain p (after t x).kept.heap → ((o : ℕ) → next_number t ≤ o → o < next_number (after t x) → e ≤ ahead o)
       → Stands (names_of_program p) version every e (next_number t) (HeldIn t) last m past
       → Stands (names_of_program p) version every e (next_number (after t x)) (HeldIn (after t x)) ahead (mentions_after (names_of_program p) m (records_of (beside t.reported x))) (behind past (lines_of (names_of_program p) m (records_of (beside t.reported x))))
   event_stands (outcome.Goes next records) goes tells keeps named sound plain born h =
       let are : AreRecordsOf p e thread next.heap (next_number t) records (length next.heap) = subst (λ (c : ℕ). AreRecordsOf p c thread next.heap (next_number t) records (length next.heap)) clock tells.tells in
       let told : AreTold (names_of_program p) e (λ o. IsHeld next.heap o) ahead (next_number t) records (length next.heap) =
-      records_told (names_of_program p) p e thread next (next_number t) ahead sound few_threads few_statics plain born (next_number t) (length next.heap) records (omega arith) are named in
+      records_told (names_of_program p) p e thread next (next_number t) ahead sound few_threads few_statics plain born (next_number t) (length next.heap) records (omega arith) are named.1 in
       let begun : Stands (names_of_program p) version every e (next_number t) (λ o. IsHeld next.heap o) ahead m past =
       carried (names_of_program p) version every e (next_number t) (HeldIn t) (λ o. IsHeld next.heap o) last ahead m past (λ o held. elim (keeps.changes.fresh o held) [ inl was ↦ inl was | inr new ↦ inr new.0 ]) later h in
       records_stand (names_of_program p) fit version every e within (λ o. IsHeld next.heap o) ahead (next_number t) (length next.heap) records m past told begun
@@ -142,7 +143,7 @@ module _ (reached : Graph → ℕ → Bool) (p : Linked) (options : Options) (pi
     (apart : AreNamesApart (names_of_program p)) (short : AreNamesShort (names_of_program p)) (few_statics : length p.statics < 2 ^ 28)
     (tells : (s : Kept) (t : ℕ) → IsSoundFor p s → IsUnended s.guest t → TellsObjects p s t (event p s t))
     (keeps : (s : Kept) (t : ℕ) → IsSoundFor p s → IsUnended s.guest t → KeepsMonitors (record { program = p; before = s; thread = t }) (event p s t))
-    (named : (s : Kept) (t : ℕ) → IsSoundFor p s → NamesOnly (names_of_program p) (event p s t))
+    (named : (s : Kept) (t : ℕ) → IsSoundFor p s → IsUnended s.guest t → IsToldOf p s (event p s t))
     (same : (e : ℕ) → ((k : ℕ) → k < e → HistoryGoesOn reached p options pick k) → TellsTheSame reached p options pick e)
     (reached_as_made : (e o : ℕ) → WholeGoesOn reached p options pick e → (graph (whole_at reached p options pick e)).made < o → o ≤ (graph (whole_at reached p options pick (e + 1))).made → reached (graph (whole_at reached p options pick (e + 1))) o ≡ true) where
   -- the version that the header says
@@ -329,7 +330,7 @@ module _ (reached : Graph → ℕ → Bool) (p : Linked) (options : Options) (pi
       let plain_next : ArePlain p (after t (step e)).kept.heap = subst (λ (s : State). ArePlain p s.kept.heap) is_next (all_plain (suc e) g) in
       let born : (o : ℕ) → next_number t ≤ o → o < next_number (after t (step e)) → suc e ≤ last (suc e) o = λ o le lt.
       last_now e o (made_next e o (g.whole e (omega arith)) (positive_next e before) (omega (arith, le, len)) (let same_length : next_number (now (suc e)) ≡ next_number (after t (step e)) = ap (λ (s : State). next_number s) is_next in omega (arith, lt))) in
-      let done = event_stands p fit version options.interval (suc e) within t k few few_statics (last e) (last (suc e)) (mentions e) past clock (λ o some lt. last_later e o) (step e) on.done (tells t.kept k sound unended) (keeps t.kept k sound unended) (named t.kept k sound) sound_next plain_next born mid in
+      let done = event_stands p fit version options.interval (suc e) within t k few few_statics (last e) (last (suc e)) (mentions e) past clock (λ o some lt. last_later e o) (step e) on.done (tells t.kept k sound unended) (keeps t.kept k sound unended) (named t.kept k sound unended) sound_next plain_next born mid in
       subst (λ (s : State). Stands (names_of_program p) version options.interval (suc e) (next_number s) (λ o. IsHeld s.kept.heap o) (last (suc e)) (mentions (suc e)) (behind [] (lines (suc e)))) (sym is_next)
       (subst (λ (ls : List TraceLine). Stands (names_of_program p) version options.interval (suc e) (next_number (after t (step e))) (λ o. IsHeld (after t (step e)).kept.heap o) (last (suc e)) (mentions (suc e)) ls)
       (sym (behind_both [] (lines e ++ (if b then flush_lines e (dead e) else [])) more)) done)

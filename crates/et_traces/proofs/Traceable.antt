@@ -10,24 +10,14 @@ use Rattle.et_program.specs.LinkFaults.{IsLinkable}
 use Rattle.et_program.specs.Linking.{IsOfFile}
 use Rattle.et_program.specs.Loaded.{LoadedClass, loaded_class}
 use Rattle.et_program.specs.ProgramOf.{program_with, IsProgramOf}
-use Rattle.et_state.specs.Outcome.{Outcome}
-use Rattle.et_state.specs.Outcome as outcome
-use Rattle.et_state.specs.State.{Kept}
 use Rattle.et_linked.specs.ClassNames.{HasClassName}
-use Rattle.et_history.specs.Settings.{names_of_program}
-use Rattle.et_history.specs.Telling.{IsToldOf}
-use Rattle.et_traces.specs.Good.{AreNamesApart, NamesOnly}
+use Rattle.et_walk.specs.Telling.{names_of_program}
+use Rattle.et_traces.specs.Good.{AreNamesApart}
 use Rattle.et_traces.proofs.ApartMethods.{HasApartMethods, methods_apart}
 use Rattle.et_traces.proofs.ClassNames.{class_names_apart}
 use Rattle.et_traces.proofs.FewStatics.{few_statics}
 use Rattle.et_traces.proofs.FileNames.{HasTexts, has_texts}
 use Rattle.et_traces.proofs.ProgramTexts.{HasMethodTexts, methods_told, classes_told}
-
-pub told_names : (p : Linked) (s : Kept) (o : Outcome Kept) → IsToldOf p s o → NamesOnly (names_of_program p) o
-told_names p s (outcome.Goes next records) h = h.1
-told_names p s (outcome.Waits next) h = tt
-told_names p s (outcome.IllTyped method pc) h = tt
-told_names p s outcome.ObjectLimit h = tt
 
 pub file_texts : (classes : List ClassOf) → All IsOfFile classes → All HasTexts (map loaded_class classes)
 file_texts classes of_files = All-map HasTexts loaded_class classes (λ i d lt. has_texts _ (of_files i d lt))

@@ -1,15 +1,11 @@
 -- WHAT A TRACE ASKS OF A PROGRAM that it is the trace of.
-use Rattle.std.specs.Prelude.{◌≡◌, ℕ, ◌<◌, ◌^◌, All, true, bytes_eq, length}
+use Rattle.std.specs.Prelude.{◌≡◌, ℕ, ◌<◌, ◌^◌, true, bytes_eq, length}
 use Rattle.et_program.specs.Entries.{Linked}
-use Rattle.et_state.specs.Naming.{Names, IsNamed}
-use Rattle.et_state.specs.Outcome.{Outcome}
+use Rattle.et_state.specs.Naming.{Names}
 use Rattle.et_state.specs.Outcome as outcome
-use Rattle.et_state.specs.State.{Kept}
 use Rattle.et_text.specs.Ranges.{IsText, IsShort}
-use Rattle.et_event.specs.Event.{event}
-use Rattle.et_event.specs.Sound.{IsSoundFor}
-use Rattle.et_history.specs.Records.{HasPlainStrings}
-use Rattle.et_history.specs.Settings.{names_of_program}
+use Rattle.et_walk.specs.Records.{HasPlainStrings}
+use Rattle.et_walk.specs.Telling.{names_of_program}
 
 -- the names of a program are apart: each is one that a line can tell, and no two are alike
 pub record AreNamesApart (names : Names) : Type 0 where
@@ -28,18 +24,9 @@ pub record AreNamesShort (names : Names) : Type 0 where
   pub method_names : (m : ℕ) → m < names.method_count → IsShort (names.method_name m)
   pub descriptors : (m : ℕ) → m < names.method_count → IsShort (names.method_descriptor m)
 
--- the records of an event name only classes and methods of these
-abbrev pub NamesOnly : Names → Outcome Kept → Type 0
-NamesOnly names (outcome.Goes next records) = All (IsNamed names) records
-NamesOnly names (outcome.Waits next) = Unit {0}
-NamesOnly names (outcome.IllTyped method pc) = Unit {0}
-NamesOnly names outcome.ObjectLimit = Unit {0}
-
 -- THE PROGRAM is one that a trace can tell of
 pub record IsTraceable (p : Linked) : Type 0 where
   pub names : AreNamesApart (names_of_program p)
   pub short : AreNamesShort (names_of_program p)
-  -- in every sound state, what an event names is of the program
-  pub own : (s : Kept) (t : ℕ) → IsSoundFor p s → NamesOnly (names_of_program p) (event p s t)
   pub few_statics : length p.statics < 2 ^ 28
   pub strings : HasPlainStrings p

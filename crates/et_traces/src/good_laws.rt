@@ -26,13 +26,13 @@ ghost use Rattle.et_traces.specs.Good.{IsTraceable};
 ghost use Rattle.et_convert.specs.Spellings.{SpellsIn, HasFaultIn};
 
 use et_binary::laws::{good_packs_have_no_fault, packed_lists_differ};
-use et_history::laws::{events_keep_monitors, histories_tell_the_same};
+use et_history::laws::histories_tell_the_same;
 use et_history::object_laws::objects_are_reached_as_made;
-use et_history::record_laws::{events_tell_objects, programs_have_sizes};
+use et_history::record_laws::programs_have_sizes;
 use et_history::run_laws::linked_programs_run_soundly;
-use et_history::telling_laws::events_are_told;
 use et_linked::run_laws::files_keep_rules;
 use et_text::laws::{good_lists_differ, good_texts_have_no_fault};
+use et_walk::laws::{events_are_told, events_keep_monitors, events_tell_objects};
 
 /// The trace of every history of a program that a trace can tell of is a good list, of the version of its format, over every
 /// list of picks. Every program that was linked is one.

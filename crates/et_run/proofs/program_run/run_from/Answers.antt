@@ -9,7 +9,8 @@ use Rattle.et_state.specs.Naming.{IsNamed}
 use Rattle.et_loop.specs.Kept.{IsStepTo}
 use Rattle.et_loop.specs.Visits.{allowed_visits, IsCut}
 use Rattle.et_loop.specs.Traced.{WritesTrace, WritesPrefix}
-use Rattle.et_history.specs.Settings.{flush_visits_of, setting, names_of_program}
+use Rattle.et_history.specs.Settings.{flush_visits_of, setting}
+use Rattle.et_walk.specs.Telling.{names_of_program}
 use Rattle.et_run.proofs.Starting.{first_step, records_named}
 use Rattle.et_run.proofs.program_run.run_from.Goals as goal
 

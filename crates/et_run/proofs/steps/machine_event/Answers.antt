@@ -1,10 +1,9 @@
 use Rattle.et_state.specs.State.{Kept, kept_of}
 use Rattle.et_event.specs.Event.{event}
-use Rattle.et_history.specs.Telling.{IsToldOf}
+use Rattle.et_walk.specs.Telling.{IsToldOf}
 use Rattle.std.proofs.Common.{arith}
 use Rattle.et_run.proofs.Flushing.{on_ok_map}
 use Rattle.et_run.proofs.Answering.{on_ok, if_ok, answers, steps, ticks, named}
-use Rattle.et_history.proofs.ElementClasses.{element_classes}
 use Rattle.et_history.proofs.Unended.{unended_thread}
 use Rattle.et_run.proofs.steps.machine_event.Goals as goal
 
@@ -33,12 +32,12 @@ pub returns-clause-clock : goal.returns-clause-clock
 returns-clause-clock g c =
     let p = c.args.program.now in
     let s : Kept = kept_of c.args.machine.now in
-    let told : IsToldOf p s (event p s c.args.thread) = c.events_are_told.ensures p s c.args.thread c.requires.sound.state c.requires.sound.tabled c.requires.sound.runnable.makes (element_classes p c.requires.sound.runnable.elements) in
+    let told : IsToldOf p s (event p s c.args.thread) = c.events_are_told.ensures p s c.args.thread c.requires.sound.state (unended_thread s.guest c.args.thread c.requires.thread) c.requires.sound.runnable in
     if_ok c.turn_event.result _ _ c.turn_event.ensures.event (λ end h. ticks p (event p s c.args.thread) end c.args.machine.now c.turn_event.new.machine c.args.out.now c.turn_event.new.out told h)
 
 pub returns-clause-named : goal.returns-clause-named
 returns-clause-named g c =
     let p = c.args.program.now in
     let s : Kept = kept_of c.args.machine.now in
-    let told : IsToldOf p s (event p s c.args.thread) = c.events_are_told.ensures p s c.args.thread c.requires.sound.state c.requires.sound.tabled c.requires.sound.runnable.makes (element_classes p c.requires.sound.runnable.elements) in
+    let told : IsToldOf p s (event p s c.args.thread) = c.events_are_told.ensures p s c.args.thread c.requires.sound.state (unended_thread s.guest c.args.thread c.requires.thread) c.requires.sound.runnable in
     on_ok c.turn_event.result _ _ c.turn_event.ensures.event (λ end h. named p (event p s c.args.thread) end c.args.machine.now c.turn_event.new.machine c.args.out.now c.turn_event.new.out told h)

@@ -1,14 +1,12 @@
 use Rattle.std.proofs.Common.{List, map}
 use Rattle.et_program.specs.Loaded.{LoadedClass, loaded_class}
-use Rattle.et_event.specs.Event.{event}
 use Rattle.et_state.specs.Start.{start}
 use Rattle.et_history.specs.Settings.{IsSoundRun}
-use Rattle.et_history.proofs.ElementClasses.{element_classes}
 use Rattle.et_history.proofs.ShortNames.{class_names_short, method_names_short, descriptors_short}
 use Rattle.et_linked.specs.Programs.{KeepRules}
 use Rattle.et_traces.specs.Good.{IsTraceable}
 use Rattle.et_traces.proofs.TraceLines.{trace_is_good}
-use Rattle.et_traces.proofs.Traceable.{told_names, file_texts, names_are_apart, statics_few}
+use Rattle.et_traces.proofs.Traceable.{file_texts, names_are_apart, statics_few}
 use Rattle.et_traces.proofs.good_laws.traces_are_good.Goals as goal
 
 pub returns-clause-good : goal.returns-clause-good
@@ -17,7 +15,7 @@ returns-clause-good c reached p options pick last end decides run able are is =
     trace_is_good reached p options pick decides run are able.names able.short able.few_statics
     (λ s t sound unended. c.events_tell_objects.ensures p s t sound unended run.runnable able.strings)
     (λ s t sound unended. c.events_keep_monitors.ensures p s t sound unended run.runnable)
-    able.own
+    (λ s t sound unended. c.events_are_told.ensures p s t sound unended run.runnable)
     (λ e goes. c.histories_tell_the_same.ensures.same reached p options pick e decides run are goes)
     (λ e o goes above within. c.objects_are_reached_as_made.ensures.made reached p options pick e o decides goes above within)
     last end kept.first is.first
@@ -31,7 +29,6 @@ returns-clause-linked c p tabled is =
     let able : IsTraceable p = record {
       names = names_are_apart files p texts rules.names is.linkable is.program;
       short = record { class_names = class_names_short p is; method_names = method_names_short p is; descriptors = descriptors_short p is };
-      own = λ s t sound. told_names p s (event p s t) (c.events_are_told.ensures p s t sound tabled run.runnable.makes (element_classes p run.runnable.elements));
       few_statics = statics_few files p texts rules.names is.linkable is.program;
       strings = c.programs_have_sizes.ensures.strings files p is.program;
     } in

@@ -2,7 +2,7 @@ use Rattle.std.proofs.Common.{subst}
 use Rattle.std.specs.Prelude.{All, OnOk}
 use Rattle.et_program.specs.Entries.{Linked}
 use Rattle.et_state.specs.Naming.{IsNamed}
-use Rattle.et_history.specs.Settings.{names_of_program}
+use Rattle.et_walk.specs.Telling.{names_of_program}
 use Rattle.et_run.proofs.guest.ProgramGuestGuest.event.Goals as goal
 
 pub returns-clause-named : goal.returns-clause-named

@@ -1,0 +1,342 @@
+-- Calls, entries, returns, unwinding, and the steps of an initializer.
+use Rattle.et_base.specs.declared.value.Value.{Value}
+use Rattle.et_base.specs.declared.value.Value.TheVariants.{Ref}
+use Rattle.et_class.specs.Names.{has}
+use Rattle.et_class.specs.declared.flags.TheConstants.{NATIVE}
+use Rattle.et_code.specs.Bodies.{Body}
+use Rattle.et_code.specs.declared.body.TableRow.{TableRow}
+use Rattle.et_event.specs.BuiltIns.{answering, argument, built_in_event, built_in_row, done_by, has_thread_ended, is_null_or_of_class, reference_in, starts_thread, with_first_taken, with_reference_made, with_referent_of, with_thread_for}
+use Rattle.et_event.specs.Calls.{arguments_of, call_event, call_fits, dispatched, entering_frame, enters_first, enters_method, enters_run, entry_arguments, entry_call, entry_count, frame_returned, invoke, is_as, is_of_owner, is_static_call, return, returned_by, special_class, taking, with_method, with_returned, with_type}
+use Rattle.et_event.specs.Checks.{after_selection, entries_of, ill_typed_unless}
+use Rattle.et_event.specs.Errors.{class_called}
+use Rattle.et_event.specs.Frames.{by_code, enters, first_reference, frame_entered, receiver_of}
+use Rattle.et_event.specs.Initialization.{enters_clinit, initialization_step, is_ready, prepared, step_by, with_state}
+use Rattle.et_event.specs.Moments.{Doing, Moment, begins, current_frame, ends_event, goes, ill_typed, object_class, slot_written, thread_of, throws, told, with_frame, with_thread_state}
+use Rattle.et_event.specs.Monitors.{Lock, OfClass, OfObject, lock_for, lock_in, may_enter_some, owns_some}
+use Rattle.et_event.specs.Operands.{may_return}
+use Rattle.et_event.specs.PoolOperands.Operand.{Operand}
+use Rattle.et_event.specs.Sites.{Member, Site, names_interface, present_body, running_method, site_member}
+use Rattle.et_event.specs.Sound.{IsStaged}
+use Rattle.et_event.specs.Throw.{by_handler, caught, dropped, failed, handled, handler_of, is_error, left_if_owned, replaced, unwinding_step, unwinds, unwound, unwound_clinit}
+use Rattle.et_event.specs.declared.rows.CallKind.{CallKind}
+use Rattle.et_event.specs.declared.rows.CallKind.TheVariants.{Interface, Special, Static, Virtual}
+use Rattle.et_event.specs.declared.rows.CallRow.{CallRow}
+use Rattle.et_heap.specs.Objects.{IsHeld, at, object_at, referent_of, referent_value, slot_of}
+use Rattle.et_heap.specs.Queues.{first_value}
+use Rattle.et_pool.specs.Descriptors.{MethodType, method_type}
+use Rattle.et_program.specs.BootMethods.BuiltIn.{BuiltIn}
+use Rattle.et_program.specs.BuiltIns.{built_in_of}
+use Rattle.et_program.specs.Entries.{class_at, is_static, method_at}
+use Rattle.et_program.specs.Members.{is_subclass}
+use Rattle.et_program.specs.Resolution.{resolve_class, resolve_method, select, select_special}
+use Rattle.et_program.specs.declared.errors.LinkError.{LinkError}
+use Rattle.et_program.specs.declared.info.MethodInfo.{MethodInfo}
+use Rattle.et_sound.proofs.Wholes.{sound}
+use Rattle.et_state.specs.Outcome.{Outcome}
+use Rattle.et_state.specs.Sound.{IsSound}
+use Rattle.et_state.specs.State.{Kept}
+use Rattle.et_state.specs.Threads.{FrameState, in_clinit, most_threads, thread_with, with_pending, with_top_of}
+use Rattle.et_state.specs.declared.class_state.ClassState.TheVariants.{Done, Failed}
+use Rattle.et_state.specs.declared.records.Record.TheVariants.{Enter, Unwind}
+use Rattle.et_state.specs.declared.stage.Stage.{Stage}
+use Rattle.et_state.specs.declared.stage.Stage.TheVariants.{Before, Clinit, Plain}
+use Rattle.et_walk.proofs.Heaps.{first_waiting_fine, referent_fine, slots_fine}
+use Rattle.et_walk.proofs.Held.{IsInMethod, Ready, entry_fine, first_fine, frame_fine, lock_there, own_there, receiver_fine, reference_fine, thread_fine}
+use Rattle.et_walk.proofs.NamedMembers.{method_below, selected_method_below, special_method_below}
+use Rattle.et_walk.proofs.Rows.{later_fine, on_top, operands_fine}
+use Rattle.et_walk.proofs.Taken.{any_value, fine_entries, fine_read, fine_value}
+use Rattle.et_walk.proofs.Values.{fine_at, fine_grows, fines_append, fines_drop, fines_reverse, fines_take, fines_unset}
+use Rattle.et_walk.proofs.Ways.{end_leads, ends_lead, initialized_leads, prepared_comes, throws_lead, unless_ill_typed, unless_thrown, unless_waiting, where_frame_fits, where_not_null, where_resolved}
+use Rattle.et_walk.proofs.Words.{if_case}
+use Rattle.et_walk.specs.Steps.{AllThere, Begins, Catches, ClassBecomes, Comes, CountsEntered, Drops, Ended, EntersClinit, EntersCode, IsFramed, IsMethodOf, IsUnder, Leads, Level, MayWrite, Plainly, Polls, Returns, SetsQueue, SetsReferent, Shifted, Starts, StringsAlone, Unwinds, UnwindsClinit, WithCause, WritesSlot, own_lock}
+use Rattle.et_walk.specs.Values.{Fine, FineFrame, FineSome, FineThread, Fines}
+use Rattle.std.proofs.Common.{List, None, Ok, Option, Result, Some, [], ap, arith, drop, false, inl, length, refl, take, true, ℕ, ◌++◌, ◌-◌, ◌<◌, ◌==◌, ◌∙◌, ◌∷◌, ◌≡◌}
+use Rattle.std.specs.Prelude.{IfSome, codes, find, nat_lt, not, take_while, unwrap_or}
+use Rattle.et_event.specs.declared.rows.CallRow.TheVariants as calls
+use Rattle.et_event.specs.declared.errors.GuestError.TheVariants as errors
+use Rattle.et_program.specs.BootMethods.BuiltIn.TheVariants as built
+use Rattle.et_event.specs.PoolOperands.Operand.TheVariants as operand
+
+is_method : (e : Moment) (ready : Ready e) (m : ℕ) → m < length e.program.methods → IsMethodOf e.program m
+is_method e ready m lt = record { method = lt; class = ready.may.owners m lt }
+
+-- the method of a frame that runs one is of the program
+pub frame_method : (e : Moment) (ready : Ready e) (f : FrameState) (stage : Stage) (method : Option ℕ) → IsStaged e.program f stage method → IsInMethod stage → IsMethodOf e.program (unwrap_or method 0)
+frame_method e ready f Plain (Some m) h runs = is_method e ready m h.0.method
+frame_method e ready f Plain None h runs = absurd h
+frame_method e ready f (Before c) method h runs = absurd runs
+frame_method e ready f (Clinit c) (Some m) h runs = is_method e ready m h.1.method
+frame_method e ready f (Clinit c) None h runs = absurd h
+
+module _ (e : Moment) (ready : Ready e) where
+  -- A METHOD IS ENTERED
+
+  -- what takes the arguments from where they stand
+  record LeavesArguments (leave : Doing → Doing) : Type 0 where
+    comes : (x : Doing) → Comes e StringsAlone Level x → Comes e StringsAlone Level (leave x)
+    -- .. and no monitor
+    may : (x : Doing) (lock : Option Lock) → may_enter_some e (leave x) lock ≡ may_enter_some e x lock
+
+  code_leads : (d : Doing) (leave : Doing → Doing) (m : ℕ) (arguments : List Value) (built_in : Outcome Kept) (code : Option Body) → m < length e.program.methods → Fines e.before.heap arguments → Comes e StringsAlone Level d → LeavesArguments leave → Leads e built_in
+      → Leads e (by_code e d leave m arguments built_in code)
+  code_leads d leave m arguments built_in (Some body) lt f h step other =
+      let receiver : Option ℕ = receiver_of e.program m arguments in
+      let has : AllThere e (lock_for (method_at e.program m) receiver) = lock_there e ready m receiver (receiver_fine e.before.heap e.program m arguments f) in
+      let lock : Option Lock = lock_for (method_at e.program m) receiver in
+      unless_waiting e ready (may_enter_some e d lock) _ (λ may.
+      where_frame_fits e ready d _ h (end_leads e ready Shifted (frame_entered e m body arguments (leave d)) (EntersCode m body arguments (leave d) (step.comes d h) (is_method e ready m lt) f has (step.may d lock ∙ may))))
+  code_leads d leave m arguments built_in None lt f h step other =
+      unless_thrown e ready d errors.UnsatisfiedLinkError (not (has (method_at e.program m).flags NATIVE)) built_in h (λ own. other)
+
+  enters_leads : (d : Doing) (leave : Doing → Doing) (m : ℕ) (arguments : List Value) (built_in : Outcome Kept) → m < length e.program.methods → Fines e.before.heap arguments → Comes e StringsAlone Level d → LeavesArguments leave → Leads e built_in
+      → Leads e (enters e d leave m arguments built_in)
+  enters_leads d leave m arguments built_in lt f h step other = code_leads d leave m arguments built_in (method_at e.program m).code lt f h step other
+
+  -- ENTRY
+
+  entering_may : (x : Doing) (lock : Option Lock) → may_enter_some e (entering_frame e x) lock ≡ may_enter_some e x lock
+  entering_may x None = refl
+  entering_may x (Some (OfObject o)) = refl
+  entering_may x (Some (OfClass c)) = refl
+
+  entering : LeavesArguments (entering_frame e)
+  entering = record { comes = λ x g. CountsEntered x g; may = entering_may }
+
+  first_leads : (d : Doing) (arguments : List Value) (m : ℕ) → m < length e.program.methods → Fines e.before.heap arguments → Comes e StringsAlone Level d → Leads e (enters_first e d arguments m)
+  first_leads d arguments m lt f h =
+      enters_leads d (entering_frame e) m arguments (throws e errors.AbstractMethodError d) lt f h entering (throws_lead e ready errors.AbstractMethodError d h)
+
+  run_leads : (o : Option ℕ) → FineSome e.before.heap o → Leads e (enters_run e o)
+  run_leads None held = tt
+  run_leads (Some o) held =
+      let thread : ℕ = class_called e.program (codes "java/lang/Thread") in
+      where_resolved e ready (begins e) (resolve_method e.program thread false (codes "run") (codes "()V")) _ Begins (λ m is.
+      unless_ill_typed e ready (is_of_owner e (begins e) m o) _ (λ own.
+      where_resolved e ready (begins e) (select e.program (object_class (begins e) o) m false) _ Begins (λ k found.
+      first_leads (begins e) (Ref o ∷ []) k (selected_method_below e.program (object_class (begins e) o) m false k (method_below e.program thread false (codes "run") (codes "()V") m is) found) (held, tt) Begins)))
+
+  pub entry_leads : Leads e (entry_call e)
+  entry_leads =
+      let was : FineThread e.before.heap (thread_of e) = thread_fine e ready in
+      if_case (Leads e) (e.thread == 0) _ _
+      (initialized_leads e ready (begins e) (method_at e.program e.program.main).class _ Begins (λ d h.
+      first_leads d (entry_arguments (thread_of e).entry) e.program.main ready.may.methods.main (entry_fine e.before.heap (thread_of e).entry (was.entry ready.knows.thread.unended)) h))
+      (run_leads (thread_of e).object (was.object ready.knows.thread.unended))
+
+module _ (e : Moment) (ready : Ready e) (framed : IsFramed e) where
+  -- BUILT-IN METHODS
+
+  answering_comes : (at : Site) (arguments values : List Value) (d : Doing) → Comes e StringsAlone Level d → (IsUnder e d.state → Fines d.state.heap values) → Comes e StringsAlone Level (answering e at arguments values d)
+  answering_comes at arguments values d h f =
+      on_top e ready framed at.next (values ++ drop (length arguments) (current_frame e).operands) d h (λ u.
+      fines_append d.state.heap values (drop (length arguments) (current_frame e).operands) (f u) (fines_drop d.state.heap (length arguments) (current_frame e).operands (later_fine e ready framed d.state (current_frame e).operands u (operands_fine e ready framed))))
+
+  answered_leads : (at : Site) (arguments values : List Value) (d : Doing) → Comes e StringsAlone Level d → (IsUnder e d.state → Fines d.state.heap values) → Leads e (goes (answering e at arguments values d))
+  answered_leads at arguments values d h f = Plainly Level (answering e at arguments values d) (answering_comes at arguments values d h f)
+
+  starts_leads : (d : Doing) (o : ℕ) (go : Outcome Kept) (t : Option ℕ) → Comes e StringsAlone Level d → Leads e go → Leads e (starts_thread e d o go t)
+  starts_leads d o go (Some t) h g = throws_lead e ready errors.IllegalThreadStateException d h
+  starts_leads d o go None h g = unless_thrown e ready d errors.OutOfMemoryError (nat_lt (length d.state.guest.threads) most_threads) go h (λ few. g)
+
+  on_leads : (d : Doing) (name : List ℕ) (o : ℕ) (go : Outcome Kept) → Leads e go → Leads e (ill_typed_unless e (is_subclass e.program (object_class d o) (class_called e.program name)) go)
+  on_leads d name o go g = unless_ill_typed e ready (is_subclass e.program (object_class d o) (class_called e.program name)) go (λ is. g)
+
+  -- an argument, and a slot that the machine uses, in a later state
+  later_value : (s : Kept) (arguments : List Value) (i : ℕ) → IsUnder e s → Fines e.before.heap arguments → Fine s.heap (argument arguments i)
+  later_value s arguments i u f = fine_grows e.before.heap s.heap (argument arguments i) u.stays (fine_at e.before.heap arguments i f)
+
+  later_write : (s : Kept) (o i : ℕ) (v : Value) → IsUnder e s → IsHeld e.before.heap o → i < 2 → Fine s.heap v → MayWrite s.heap o i v
+  later_write s o i v u held lt fine = record { held = u.stays o held; slot = inl lt; value = fine }
+
+  read_reference : (d : Doing) (o i : ℕ) → IsSound d.state → Fine d.state.heap (reference_in d o i)
+  read_reference d o i sound =
+      fine_read d.state.heap (Some operand.Reference) (slot_of (object_at d.state.heap o) i) (fine_at d.state.heap (object_at d.state.heap o).slots i (slots_fine d.state o sound))
+
+  -- a weak reference is made
+  made_leads : (at : Site) (d : Doing) (arguments : List Value) (o : ℕ) (r q : Option ℕ) → Comes e StringsAlone Level d → IsHeld e.before.heap o → ((s : Kept) → IsUnder e s → FineSome s.heap r) → ((s : Kept) → IsUnder e s → FineSome s.heap q) → Leads e (goes (with_reference_made o r q (answering e at arguments [] d)))
+  made_leads at d arguments o r q h held fine queue =
+      let x : Doing = answering e at arguments [] d in
+      let y : Doing = with_referent_of o r x in
+      Plainly Level (with_reference_made o r q x) (SetsQueue o q y (SetsReferent o r x (answering_comes at arguments [] d h (λ u. tt)) (λ u. (u.stays o held, fine x.state u))) (λ u. (u.stays o held, queue y.state u)))
+
+  built_in_leads : (at : Site) (d : Doing) (arguments : List Value) (o : ℕ) (b : BuiltIn) → Comes e StringsAlone Level d → Fines e.before.heap arguments → IsHeld e.before.heap o → Leads e (built_in_row e at d arguments o b)
+  built_in_leads at d arguments o built.Nothing h f held = answered_leads at arguments [] d h (λ u. tt)
+  built_in_leads at d arguments o built.SetMessage h f held =
+      let x : Doing = answering e at arguments [] d in
+      on_leads d (codes "java/lang/Throwable") o _
+      (Plainly Level (slot_written e o 0 (argument arguments 1) x) (WritesSlot Level o 0 (argument arguments 1) x (answering_comes at arguments [] d h (λ u. tt)) (λ u. later_write x.state o 0 (argument arguments 1) u held (omega arith) (later_value x.state arguments 1 u f))))
+  built_in_leads at d arguments o built.SetMessageAndCause h f held =
+      let x : Doing = answering e at arguments [] d in
+      let y : Doing = slot_written e o 0 (argument arguments 1) x in
+      on_leads d (codes "java/lang/Throwable") o _
+      (Plainly Level (slot_written e o 1 (argument arguments 2) y) (WritesSlot Level o 1 (argument arguments 2) y
+      (WritesSlot Level o 0 (argument arguments 1) x (answering_comes at arguments [] d h (λ u. tt)) (λ u. later_write x.state o 0 (argument arguments 1) u held (omega arith) (later_value x.state arguments 1 u f)))
+      (λ u. later_write y.state o 1 (argument arguments 2) u held (omega arith) (later_value y.state arguments 2 u f))))
+  built_in_leads at d arguments o built.GetMessage h f held = on_leads d (codes "java/lang/Throwable") o _ (answered_leads at arguments (reference_in d o 0 ∷ []) d h (λ u. (read_reference d o 0 u.sound, tt)))
+  built_in_leads at d arguments o built.GetCause h f held = on_leads d (codes "java/lang/Throwable") o _ (answered_leads at arguments (reference_in d o 1 ∷ []) d h (λ u. (read_reference d o 1 u.sound, tt)))
+  built_in_leads at d arguments o built.SetTarget h f held =
+      let x : Doing = answering e at arguments [] d in
+      on_leads d (codes "java/lang/Thread") o _
+      (Plainly Level (slot_written e o 0 (argument arguments 1) x) (WritesSlot Level o 0 (argument arguments 1) x (answering_comes at arguments [] d h (λ u. tt)) (λ u. later_write x.state o 0 (argument arguments 1) u held (omega arith) (later_value x.state arguments 1 u f))))
+  built_in_leads at d arguments o built.Start h f held =
+      let x : Doing = answering e at arguments [] d in
+      on_leads d (codes "java/lang/Thread") o _
+      (starts_leads d o (goes (with_thread_for o x)) (thread_with d.state.guest.threads o) h (Plainly Level (with_thread_for o x) (Starts o x (answering_comes at arguments [] d h (λ u. tt)) (λ u. u.stays o held))))
+  built_in_leads at d arguments o built.Join h f held =
+      unless_waiting e ready (has_thread_ended d (thread_with d.state.guest.threads o)) _ (λ ended. answered_leads at arguments [] d h (λ u. tt))
+  built_in_leads at d arguments o built.SetReferent h f held = made_leads at d arguments o (referent_of (argument arguments 1)) None h held (λ s u. reference_fine s.heap (argument arguments 1) (later_value s arguments 1 u f)) (λ s u. tt)
+  built_in_leads at d arguments o built.SetReferentAndQueue h f held =
+      unless_ill_typed e ready (is_null_or_of_class e d (argument arguments 2) (codes "java/lang/ref/ReferenceQueue")) _ (λ is.
+      made_leads at d arguments o (referent_of (argument arguments 1)) (referent_of (argument arguments 2)) h held (λ s u. reference_fine s.heap (argument arguments 1) (later_value s arguments 1 u f))
+      (λ s u. reference_fine s.heap (argument arguments 2) (later_value s arguments 2 u f)))
+  built_in_leads at d arguments o built.GetReferent h f held =
+      answered_leads at arguments (referent_value (object_at d.state.heap o).referent ∷ []) d h (λ u. (fine_value d.state.heap (object_at d.state.heap o).referent (referent_fine d.state o u.sound), tt))
+  built_in_leads at d arguments o built.ClearReferent h f held =
+      let x : Doing = answering e at arguments [] d in
+      Plainly Level (with_referent_of o None x) (SetsReferent o None x (answering_comes at arguments [] d h (λ u. tt)) (λ u. (u.stays o held, tt)))
+  built_in_leads at d arguments o built.Poll h f held =
+      let first : List Value = first_value (object_at d.state.heap o).waiting ∷ [] in
+      let x : Doing = answering e at arguments first d in
+      Plainly Level (with_first_taken o x) (Polls o x (answering_comes at arguments first d h (λ u. (first_waiting_fine d.state o u.sound, tt))) (λ u. u.stays o held))
+
+  done_leads : (at : Site) (d : Doing) (arguments : List Value) (r : Option ℕ) (b : Option BuiltIn) → Comes e StringsAlone Level d → Fines e.before.heap arguments → FineSome e.before.heap r → Leads e (done_by e at d arguments r b)
+  done_leads at d arguments (Some o) (Some b) h f held = built_in_leads at d arguments o b h f held
+  done_leads at d arguments (Some o) None h f held = throws_lead e ready errors.AbstractMethodError d h
+  done_leads at d arguments None (Some b) h f held = throws_lead e ready errors.AbstractMethodError d h
+  done_leads at d arguments None None h f held = throws_lead e ready errors.AbstractMethodError d h
+
+  taking_may : (count : ℕ) (x : Doing) (lock : Option Lock) → may_enter_some e (taking e count x) lock ≡ may_enter_some e x lock
+  taking_may count x None = refl
+  taking_may count x (Some (OfObject o)) = refl
+  taking_may count x (Some (OfClass c)) = refl
+
+  taking_comes : (count : ℕ) (d : Doing) → Comes e StringsAlone Level d → Comes e StringsAlone Level (taking e count d)
+  taking_comes count d h =
+      on_top e ready framed (current_frame e).pc (drop count (current_frame e).operands) d h (λ u. fines_drop d.state.heap count (current_frame e).operands (later_fine e ready framed d.state (current_frame e).operands u (operands_fine e ready framed)))
+
+  taking_leaves : (count : ℕ) → LeavesArguments e ready (taking e count)
+  taking_leaves count = record { comes = λ d h. taking_comes count d h; may = λ x lock. taking_may count x lock }
+
+  method_leads : (at : Site) (d : Doing) (arguments : List Value) (m : ℕ) → m < length e.program.methods → Fines e.before.heap arguments → Comes e StringsAlone Level d → Leads e (enters_method e at d arguments m)
+  method_leads at d arguments m lt f h =
+      let x : MethodInfo = method_at e.program m in
+      enters_leads e ready d (taking e (length arguments)) m arguments (built_in_event e at d arguments x) lt f h (taking_leaves (length arguments))
+      (done_leads at d arguments (first_reference arguments) (built_in_of x) h f (first_fine e.before.heap arguments f))
+
+  -- INVOKES
+
+  selected_leads : (at : Site) (arguments : List Value) (answer : Result ℕ LinkError) → ((k : ℕ) → answer ≡ Ok k → k < length e.program.methods) → Fines e.before.heap arguments → Leads e (after_selection e (begins e) answer (enters_method e at (begins e) arguments))
+  selected_leads at arguments answer below f = where_resolved e ready (begins e) answer _ Begins (λ k is. method_leads at (begins e) arguments k (below k is) f Begins)
+
+  dispatched_leads : (at : Site) (kind : CallKind) (arguments : List Value) (named m : ℕ) → m < length e.program.methods → Fines e.before.heap arguments → Leads e (dispatched e at kind arguments named m)
+  dispatched_leads at Static arguments named m lt f =
+      initialized_leads e ready (begins e) (method_at e.program m).class _ Begins (λ d h. method_leads at d arguments m lt f h)
+  dispatched_leads at Virtual arguments named m lt f =
+      where_not_null e ready (begins e) (first_reference arguments) _ Begins (first_fine e.before.heap arguments f) (λ o held.
+      unless_ill_typed e ready (is_of_owner e (begins e) m o) _ (λ is.
+      selected_leads at arguments (select e.program (object_class (begins e) o) m false) (λ k found. selected_method_below e.program (object_class (begins e) o) m false k lt found) f))
+  dispatched_leads at Special arguments named m lt f =
+      where_not_null e ready (begins e) (first_reference arguments) _ Begins (first_fine e.before.heap arguments f) (λ o held.
+      unless_ill_typed e ready (is_of_owner e (begins e) m o) _ (λ is.
+      selected_leads at arguments (select_special e.program at.class (special_class e.program named) m) (λ k found. special_method_below e.program at.class (special_class e.program named) m k lt found) f))
+  dispatched_leads at Interface arguments named m lt f =
+      where_not_null e ready (begins e) (first_reference arguments) _ Begins (first_fine e.before.heap arguments f) (λ o held.
+      selected_leads at arguments (select e.program (object_class (begins e) o) m true) (λ k found. selected_method_below e.program (object_class (begins e) o) m true k lt found) f)
+
+  type_leads : (t : Option MethodType) (go : MethodType → Outcome Kept) → ((x : MethodType) → Leads e (go x)) → Leads e (with_type e t go)
+  type_leads None go h = tt
+  type_leads (Some x) go h = h x
+
+  named_leads : (o : Option Member) (go : Member → MethodType → Outcome Kept) → ((m : Member) (x : MethodType) → Leads e (go m x)) → Leads e (with_method e o go)
+  named_leads None go h = tt
+  named_leads (Some m) go h = type_leads (method_type m.descriptor) (go m) (h m)
+
+  arguments_fine : (count : ℕ) → Fines e.before.heap (arguments_of e count)
+  arguments_fine count = fines_reverse e.before.heap (take count (current_frame e).operands) (fines_take e.before.heap count (current_frame e).operands (operands_fine e ready framed))
+
+  pub invoke_leads : (at : Site) (kind : CallKind) → Leads e (invoke e at kind)
+  invoke_leads at kind =
+      named_leads (site_member at) _ (λ m type.
+      unless_ill_typed e ready (call_fits e (is_static_call kind) type) _ (λ fits.
+      where_resolved e ready (begins e) (resolve_class e.program m.owner) _ Begins (λ owner is.
+      where_resolved e ready (begins e) (resolve_method e.program owner (names_interface at) m.name m.descriptor) _ Begins (λ method found.
+      unless_thrown e ready (begins e) errors.IncompatibleClassChangeError (is_as (is_static_call kind) (is_static e.program method)) _ Begins (λ as_wanted.
+      dispatched_leads at kind _ owner method (method_below e.program owner (names_interface at) m.name m.descriptor method found) (arguments_fine (entry_count (is_static_call kind) type)))))))
+
+  -- RETURNS
+
+  with_returned_leads : (kind : Option Operand) (ops : List Value) (go : List Value → Outcome Kept) → Fines e.before.heap ops → ((vs : List Value) → Fines e.before.heap vs → Leads e (go vs)) → Leads e (with_returned kind (ill_typed e) ops go)
+  with_returned_leads None ops go f h = h [] tt
+  with_returned_leads (Some kind) ops go f h = any_value (Leads e) (ill_typed e) tt e.before.heap (Some kind) ops (λ v below. go (entries_of v)) f (λ v below fine g. h (entries_of v) (fine_entries e.before.heap v fine))
+
+  return_leads : (kind : Option Operand) → IsMethodOf e.program (unwrap_or (current_frame e).method 0) → Leads e (return e kind)
+  return_leads kind is =
+      unless_ill_typed e ready (may_return kind (returned_by e)) _ (λ may.
+      with_returned_leads kind (current_frame e).operands _ (operands_fine e ready framed) (λ values f.
+      unless_thrown e ready (begins e) errors.IllegalMonitorStateException (owns_some e (begins e) (own_lock e)) _ Begins (λ owned.
+      Plainly Shifted (frame_returned e values (begins e)) (Returns values framed is f (own_there e ready) owned))))
+
+  pub call_leads : (at : Site) (r : CallRow) → IsMethodOf e.program (unwrap_or (current_frame e).method 0) → Leads e (call_event e at r)
+  call_leads at (calls.Invoke kind) is = invoke_leads at kind
+  call_leads at (calls.Return kind) is = return_leads kind is
+
+  -- UNWINDING
+
+  caught_leads : (o handler : ℕ) → IsHeld e.before.heap o → Leads e (caught e o handler)
+  caught_leads o handler held =
+      unless_ill_typed e ready (nat_lt 0 (current_frame e).room) _ (λ room. Plainly Level (with_thread_state e (with_pending None (with_top_of (thread_of e) (handled (current_frame e) handler o))) (begins e)) (Catches o handler framed held))
+
+  handler_leads : (o : ℕ) (other : Outcome Kept) (r : Option TableRow) → IsHeld e.before.heap o → Leads e other → Leads e (by_handler e o other r)
+  handler_leads o other (Some r) held h = caught_leads o r.handler held
+  handler_leads o other None held h = h
+
+  unwound_leads : (o : ℕ) → IsMethodOf e.program (unwrap_or (current_frame e).method 0) → IsHeld e.before.heap o → Leads e (unwound e o)
+  unwound_leads o is held = Plainly Shifted (told (Unwind (begins e).state.guest.clock e.thread (unwrap_or (current_frame e).method 0) o) (dropped e (left_if_owned e (own_lock e) (begins e)))) (Unwinds o framed is held (own_there e ready))
+
+  failed_leads : (c o : ℕ) (d : Doing) → IsHeld e.before.heap o → Comes e StringsAlone Shifted d → Leads e (ends_event (failed e c o d))
+  failed_leads c o d held h =
+      let x : Doing = with_state c Failed d in
+      let hx : Comes e StringsAlone Shifted x = ClassBecomes Shifted c Failed d h in
+      ends_lead e ready (failed e c o d) (if_case (Ended e) (is_error e o) x (replaced e o x) (Plainly Shifted x hx) (WithCause Shifted o x hx held))
+
+  -- an initializer has no lock
+  initializer_lock : (stage : Stage) → (current_frame e).stage ≡ stage → lock_in stage (running_method e.program (current_frame e)) (current_frame e).lock ≡ None → own_lock e ≡ None
+  initializer_lock stage same none = ap (λ (s : Stage). lock_in s (running_method e.program (current_frame e)) (current_frame e).lock) same ∙ none
+
+  unwinds_leads : (o : ℕ) (stage : Stage) → (current_frame e).stage ≡ stage → (IsInMethod stage → IsMethodOf e.program (unwrap_or (current_frame e).method 0)) → IsHeld e.before.heap o → Leads e (unwinds e o stage)
+  unwinds_leads o Plain same is held = handler_leads o (unwound e o) (handler_of e.program (current_frame e) (object_class (begins e) o)) held (unwound_leads o (is tt) held)
+  unwinds_leads o (Before c) same is held = failed_leads c o (dropped e (begins e)) held (Drops (begins e) Begins framed (initializer_lock (Before c) same refl))
+  unwinds_leads o (Clinit c) same is held =
+      handler_leads o (unwound_clinit e c o) (handler_of e.program (current_frame e) (object_class (begins e) o)) held
+      (failed_leads c o (told (Unwind (begins e).state.guest.clock e.thread (unwrap_or (current_frame e).method 0) o) (dropped e (begins e))) held (UnwindsClinit o framed (is tt) held (initializer_lock (Clinit c) same refl)))
+
+  pub unwinding_leads : (o : Option ℕ) → (IsInMethod (current_frame e).stage → IsMethodOf e.program (unwrap_or (current_frame e).method 0)) → FineSome e.before.heap o → Leads e (unwinding_step e o)
+  unwinding_leads None is held = tt
+  unwinding_leads (Some o) is held = unwinds_leads o (current_frame e).stage refl is held
+
+  -- A STEP OF AN INITIALIZER
+
+  clinit_leads : (c : ℕ) (m : Option ℕ) (d : Doing) → own_lock e ≡ None → IfSome m (λ k. k < length e.program.methods) → Comes e StringsAlone Level d → Leads e (enters_clinit e c m d)
+  clinit_leads c None d none lt h = end_leads e ready Shifted (dropped e (with_state c Done d)) (Drops (with_state c Done d) (ClassBecomes Level c Done d h) framed none)
+  clinit_leads c (Some m) d none lt h =
+      let body : Body = present_body (method_at e.program m).code in
+      let f : FrameState = in_clinit m body.max_stack body.max_locals (current_frame e) in
+      let fine : FineFrame e.before.heap f = record { locals = fines_unset e.before.heap (body.max_locals - 0); operands = tt; lock = (frame_fine e ready).lock } in
+      end_leads e ready Level (told (Enter d.state.guest.clock e.thread m 0) (with_frame e f d)) (EntersClinit m body d h framed (is_method e ready m lt) fine)
+
+  by_blocker_leads : (c : ℕ) (d : Doing) (blocker : Option ℕ) → own_lock e ≡ None → IfSome (class_at e.program c).info.clinit (λ k. k < length e.program.methods) → Comes e StringsAlone Level d → Leads e (step_by e c d blocker)
+  by_blocker_leads c d (Some k) none lt h = initialized_leads e ready d k ends_event h (λ x g. end_leads e ready Level x g)
+  by_blocker_leads c d None none lt h = clinit_leads c (class_at e.program c).info.clinit d none lt h
+
+  clinit_within : (c : ℕ) → c < length e.program.classes → IfSome (class_at e.program c).info.clinit (λ k. k < length e.program.methods)
+  clinit_within c lt = by (class_at e.program c).info.clinit (λ m is. (ready.may.initializers.clinits c m lt is).method)
+    where
+      by : (o : Option ℕ) → ((m : ℕ) → o ≡ Some m → m < length e.program.methods) → IfSome o (λ k. k < length e.program.methods)
+      by None all = tt
+      by (Some m) all = all m refl
+
+  pub step_leads : (c : ℕ) → (current_frame e).stage ≡ Before c → c < length e.program.classes → Leads e (initialization_step e c)
+  step_leads c same lt =
+      let classes : List ℕ = (class_at e.program c).info.prerequisites in
+      let ready_ones : List ℕ = take_while (is_ready e (begins e)) classes in
+      by_blocker_leads c (prepared e ready_ones (begins e)) (find (λ k. not (is_ready e (begins e) k)) classes) (initializer_lock (Before c) same refl) (clinit_within c lt) (prepared_comes e ready ready_ones (begins e) Begins)

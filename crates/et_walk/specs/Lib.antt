@@ -1,0 +1,6 @@
+pub mod Values
+pub mod Records
+pub mod Holding
+pub mod Changing
+pub mod Telling
+pub mod Steps
