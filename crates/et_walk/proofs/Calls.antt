@@ -5,23 +5,24 @@ use Rattle.et_class.specs.Names.{has}
 use Rattle.et_class.specs.declared.flags.TheConstants.{NATIVE}
 use Rattle.et_code.specs.Bodies.{Body}
 use Rattle.et_code.specs.declared.body.TableRow.{TableRow}
-use Rattle.et_event.specs.BuiltIns.{answering, argument, built_in_event, built_in_row, done_by, has_thread_ended, is_null_or_of_class, reference_in, starts_thread, with_first_taken, with_reference_made, with_referent_of, with_thread_for}
-use Rattle.et_event.specs.Calls.{arguments_of, call_event, call_fits, dispatched, entering_frame, enters_first, enters_method, enters_run, entry_arguments, entry_call, entry_count, frame_returned, invoke, is_as, is_of_owner, is_static_call, return, returned_by, special_class, taking, with_method, with_returned, with_type}
-use Rattle.et_event.specs.Checks.{after_selection, entries_of, ill_typed_unless}
+use Rattle.et_event.specs.BuiltIns.{answering, is_object_of_class, argument, built_in_event, built_in_row, done_by, has_thread_ended, is_null_or_of_class, reference_in, starts_thread, with_first_taken, with_reference_made, with_referent_of, with_thread_for}
+use Rattle.et_event.specs.Calls.{are_arguments, arguments_of, call_event, call_fits, dispatched, entering_frame, enters_first, enters_method, enters_run, entry_arguments, entry_call, entry_count, frame_returned, invoke, is_as, is_of_owner, is_static_call, return, returned_by, special_class, taking, with_method, with_returned, with_type}
+use Rattle.et_event.specs.Checks.{entries_of, ill_typed_unless}
 use Rattle.et_event.specs.Errors.{class_called}
 use Rattle.et_event.specs.Frames.{by_code, enters, first_reference, frame_entered, receiver_of}
 use Rattle.et_event.specs.Initialization.{enters_clinit, initialization_step, is_ready, prepared, step_by, with_state}
 use Rattle.et_event.specs.Moments.{Doing, Moment, begins, current_frame, ends_event, goes, ill_typed, object_class, slot_written, thread_of, throws, told, with_frame, with_thread_state}
 use Rattle.et_event.specs.Monitors.{Lock, OfClass, OfObject, lock_for, lock_in, may_enter_some, owns_some}
-use Rattle.et_event.specs.Operands.{may_return}
+use Rattle.et_event.specs.Operands.{may_return, returned_width}
+use Rattle.et_event.specs.Programs.{KeepsFree, KeepsTarget, is_initializing}
 use Rattle.et_event.specs.PoolOperands.Operand.{Operand}
 use Rattle.et_event.specs.Sites.{Member, Site, names_interface, present_body, running_method, site_member}
-use Rattle.et_event.specs.Sound.{IsStaged}
+use Rattle.et_event.specs.Sound.{IsSoundObject, IsStaged, slots_by}
 use Rattle.et_event.specs.Throw.{by_handler, caught, dropped, failed, handled, handler_of, is_error, left_if_owned, replaced, unwinding_step, unwinds, unwound, unwound_clinit}
 use Rattle.et_event.specs.declared.rows.CallKind.{CallKind}
 use Rattle.et_event.specs.declared.rows.CallKind.TheVariants.{Interface, Special, Static, Virtual}
 use Rattle.et_event.specs.declared.rows.CallRow.{CallRow}
-use Rattle.et_heap.specs.Objects.{IsHeld, at, object_at, referent_of, referent_value, slot_of}
+use Rattle.et_heap.specs.Objects.{IsHeld, ObjectState, at, object_at, referent_of, referent_value, slot_of}
 use Rattle.et_heap.specs.Queues.{first_value}
 use Rattle.et_pool.specs.Descriptors.{MethodType, method_type}
 use Rattle.et_program.specs.BootMethods.BuiltIn.{BuiltIn}
@@ -29,29 +30,34 @@ use Rattle.et_program.specs.BuiltIns.{built_in_of}
 use Rattle.et_program.specs.Entries.{class_at, is_static, method_at}
 use Rattle.et_program.specs.Members.{is_subclass}
 use Rattle.et_program.specs.Resolution.{resolve_class, resolve_method, select, select_special}
-use Rattle.et_program.specs.declared.errors.LinkError.{LinkError}
+use Rattle.et_program.specs.declared.info.Element.{Element}
+use Rattle.et_program.specs.declared.info.Element.TheVariants.{NoArray}
 use Rattle.et_program.specs.declared.info.MethodInfo.{MethodInfo}
-use Rattle.et_sound.proofs.Wholes.{sound}
+use Rattle.et_sound.proofs.Invoking.{as_wanted}
+use Rattle.et_sound.proofs.Resolving.{resolved_method, selected_method, selected_special}
+use Rattle.et_sound.specs.Methods.{IsInstanceMethod, IsMethod}
 use Rattle.et_state.specs.Outcome.{Outcome}
-use Rattle.et_state.specs.Sound.{IsSound}
 use Rattle.et_state.specs.State.{Kept}
 use Rattle.et_state.specs.Threads.{FrameState, in_clinit, most_threads, thread_with, with_pending, with_top_of}
 use Rattle.et_state.specs.declared.class_state.ClassState.TheVariants.{Done, Failed}
 use Rattle.et_state.specs.declared.records.Record.TheVariants.{Enter, Unwind}
 use Rattle.et_state.specs.declared.stage.Stage.{Stage}
 use Rattle.et_state.specs.declared.stage.Stage.TheVariants.{Before, Clinit, Plain}
+use Rattle.et_walk.proofs.Arguments.{IsPassed, cause_references, message_reference, target_reference}
+use Rattle.et_walk.proofs.Recording.{slot_steady}
 use Rattle.et_walk.proofs.Heaps.{first_waiting_fine, referent_fine, slots_fine}
 use Rattle.et_walk.proofs.Held.{IsInMethod, Ready, entry_fine, first_fine, frame_fine, lock_there, own_there, receiver_fine, reference_fine, thread_fine}
-use Rattle.et_walk.proofs.NamedMembers.{method_below, selected_method_below, special_method_below}
-use Rattle.et_walk.proofs.Rows.{later_fine, on_top, operands_fine}
+use Rattle.et_walk.proofs.Rows.{later_fine, object_sound, on_top, operands_fine}
 use Rattle.et_walk.proofs.Taken.{any_value, fine_entries, fine_read, fine_value}
 use Rattle.et_walk.proofs.Values.{fine_at, fine_grows, fines_append, fines_drop, fines_reverse, fines_take, fines_unset}
 use Rattle.et_walk.proofs.Ways.{end_leads, ends_lead, initialized_leads, prepared_comes, throws_lead, unless_ill_typed, unless_thrown, unless_waiting, where_frame_fits, where_not_null, where_resolved}
 use Rattle.et_walk.proofs.Words.{if_case}
-use Rattle.et_walk.specs.Steps.{AllThere, Begins, Catches, ClassBecomes, Comes, CountsEntered, Drops, Ended, EntersClinit, EntersCode, IsFramed, IsMethodOf, IsUnder, Leads, Level, MayWrite, Plainly, Polls, Returns, SetsQueue, SetsReferent, Shifted, Starts, StringsAlone, Unwinds, UnwindsClinit, WithCause, WritesSlot, own_lock}
+use Rattle.et_walk.specs.Steps.{AllThere, Begins, Catches, ClassBecomes, Comes, CountsEntered, Drops, Ended, EntersClinit, EntersCode, IsFramed, IsMethodOf, IsReference, IsUnder, Leads, Level, MayWrite, Plainly, Polls, Returns, SetsQueue, SetsReferent, Shifted, Starts, StringsAlone, Unwinds, UnwindsClinit, WithCause, WritesSlot, own_lock}
 use Rattle.et_walk.specs.Values.{Fine, FineFrame, FineSome, FineThread, Fines}
-use Rattle.std.proofs.Common.{List, None, Ok, Option, Result, Some, [], ap, arith, drop, false, inl, length, refl, take, true, ℕ, ◌++◌, ◌-◌, ◌<◌, ◌==◌, ◌∙◌, ◌∷◌, ◌≡◌}
-use Rattle.std.specs.Prelude.{IfSome, codes, find, nat_lt, not, take_while, unwrap_or}
+use Rattle.std.proofs.Common.{List, None, Option, Some, [], ap, arith, drop, false, inl, length, refl, sym, take, true, ℕ, ◌++◌, ◌+◌, ◌-◌, ◌<◌, ◌==◌, ◌∙◌, ◌∷◌, ◌≡◌, ◌≤◌}
+use Rattle.std.proofs.lemmas.Bool.{and_parts, not-true, true≢false}
+use Rattle.std.specs.Str.{bytes_eq}
+use Rattle.std.specs.Prelude.{IfSome, codes, find, nat_le, nat_lt, not, take_while, unwrap_or}
 use Rattle.et_event.specs.declared.rows.CallRow.TheVariants as calls
 use Rattle.et_event.specs.declared.errors.GuestError.TheVariants as errors
 use Rattle.et_program.specs.BootMethods.BuiltIn.TheVariants as built
@@ -68,6 +74,10 @@ frame_method e ready f (Before c) method h runs = absurd runs
 frame_method e ready f (Clinit c) (Some m) h runs = is_method e ready m h.1.method
 frame_method e ready f (Clinit c) None h runs = absurd h
 
+-- the call names no <clinit>
+abbrev pub NamesNoInitializer : Site → Type 0
+NamesNoInitializer at = (m : Member) → site_member at ≡ Some m → bytes_eq m.name (codes "<clinit>") ≡ false
+
 module _ (e : Moment) (ready : Ready e) where
   -- A METHOD IS ENTERED
 
@@ -77,20 +87,24 @@ module _ (e : Moment) (ready : Ready e) where
     -- .. and no monitor
     may : (x : Doing) (lock : Option Lock) → may_enter_some e (leave x) lock ≡ may_enter_some e x lock
 
-  code_leads : (d : Doing) (leave : Doing → Doing) (m : ℕ) (arguments : List Value) (built_in : Outcome Kept) (code : Option Body) → m < length e.program.methods → Fines e.before.heap arguments → Comes e StringsAlone Level d → LeavesArguments leave → Leads e built_in
-      → Leads e (by_code e d leave m arguments built_in code)
-  code_leads d leave m arguments built_in (Some body) lt f h step other =
+  -- what a method does that has no code and is not native
+  abbrev LeadsBuiltIn : ℕ → Outcome Kept → Type 0
+  LeadsBuiltIn m built_in = (method_at e.program m).code ≡ None → has (method_at e.program m).flags NATIVE ≡ false → Leads e built_in
+
+  code_leads : (d : Doing) (leave : Doing → Doing) (m : ℕ) (arguments : List Value) (built_in : Outcome Kept) (code : Option Body) → (method_at e.program m).code ≡ code → m < length e.program.methods → Fines e.before.heap arguments → Comes e StringsAlone Level d → LeavesArguments leave
+      → LeadsBuiltIn m built_in → Leads e (by_code e d leave m arguments built_in code)
+  code_leads d leave m arguments built_in (Some body) same lt f h step other =
       let receiver : Option ℕ = receiver_of e.program m arguments in
       let has : AllThere e (lock_for (method_at e.program m) receiver) = lock_there e ready m receiver (receiver_fine e.before.heap e.program m arguments f) in
       let lock : Option Lock = lock_for (method_at e.program m) receiver in
       unless_waiting e ready (may_enter_some e d lock) _ (λ may.
       where_frame_fits e ready d _ h (end_leads e ready Shifted (frame_entered e m body arguments (leave d)) (EntersCode m body arguments (leave d) (step.comes d h) (is_method e ready m lt) f has (step.may d lock ∙ may))))
-  code_leads d leave m arguments built_in None lt f h step other =
-      unless_thrown e ready d errors.UnsatisfiedLinkError (not (has (method_at e.program m).flags NATIVE)) built_in h (λ own. other)
+  code_leads d leave m arguments built_in None same lt f h step other =
+      unless_thrown e ready d errors.UnsatisfiedLinkError (not (has (method_at e.program m).flags NATIVE)) built_in h (λ own. other same (not-true (has (method_at e.program m).flags NATIVE) own))
 
-  enters_leads : (d : Doing) (leave : Doing → Doing) (m : ℕ) (arguments : List Value) (built_in : Outcome Kept) → m < length e.program.methods → Fines e.before.heap arguments → Comes e StringsAlone Level d → LeavesArguments leave → Leads e built_in
+  enters_leads : (d : Doing) (leave : Doing → Doing) (m : ℕ) (arguments : List Value) (built_in : Outcome Kept) → m < length e.program.methods → Fines e.before.heap arguments → Comes e StringsAlone Level d → LeavesArguments leave → LeadsBuiltIn m built_in
       → Leads e (enters e d leave m arguments built_in)
-  enters_leads d leave m arguments built_in lt f h step other = code_leads d leave m arguments built_in (method_at e.program m).code lt f h step other
+  enters_leads d leave m arguments built_in lt f h step other = code_leads d leave m arguments built_in (method_at e.program m).code refl lt f h step other
 
   -- ENTRY
 
@@ -104,7 +118,7 @@ module _ (e : Moment) (ready : Ready e) where
 
   first_leads : (d : Doing) (arguments : List Value) (m : ℕ) → m < length e.program.methods → Fines e.before.heap arguments → Comes e StringsAlone Level d → Leads e (enters_first e d arguments m)
   first_leads d arguments m lt f h =
-      enters_leads d (entering_frame e) m arguments (throws e errors.AbstractMethodError d) lt f h entering (throws_lead e ready errors.AbstractMethodError d h)
+      enters_leads d (entering_frame e) m arguments (throws e errors.AbstractMethodError d) lt f h entering (λ none native. throws_lead e ready errors.AbstractMethodError d h)
 
   run_leads : (o : Option ℕ) → FineSome e.before.heap o → Leads e (enters_run e o)
   run_leads None held = tt
@@ -113,7 +127,7 @@ module _ (e : Moment) (ready : Ready e) where
       where_resolved e ready (begins e) (resolve_method e.program thread false (codes "run") (codes "()V")) _ Begins (λ m is.
       unless_ill_typed e ready (is_of_owner e (begins e) m o) _ (λ own.
       where_resolved e ready (begins e) (select e.program (object_class (begins e) o) m false) _ Begins (λ k found.
-      first_leads (begins e) (Ref o ∷ []) k (selected_method_below e.program (object_class (begins e) o) m false k (method_below e.program thread false (codes "run") (codes "()V") m is) found) (held, tt) Begins)))
+      first_leads (begins e) (Ref o ∷ []) k (selected_method e.program (object_class (begins e) o) m false k (resolved_method e.program thread false (codes "run") (codes "()V") m is).within (ready.may.run m is) found).method.within (held, tt) Begins)))
 
   pub entry_leads : Leads e (entry_call e)
   entry_leads =
@@ -131,15 +145,18 @@ module _ (e : Moment) (ready : Ready e) (framed : IsFramed e) where
       on_top e ready framed at.next (values ++ drop (length arguments) (current_frame e).operands) d h (λ u.
       fines_append d.state.heap values (drop (length arguments) (current_frame e).operands) (f u) (fines_drop d.state.heap (length arguments) (current_frame e).operands (later_fine e ready framed d.state (current_frame e).operands u (operands_fine e ready framed))))
 
-  answered_leads : (at : Site) (arguments values : List Value) (d : Doing) → Comes e StringsAlone Level d → (IsUnder e d.state → Fines d.state.heap values) → Leads e (goes (answering e at arguments values d))
-  answered_leads at arguments values d h f = Plainly Level (answering e at arguments values d) (answering_comes at arguments values d h f)
+  slots_are : (o count : ℕ) → IsHeld e.before.heap o → (class_at e.program (object_at e.before.heap o).class).info.element ≡ NoArray → count ≤ (class_at e.program (object_at e.before.heap o).class).info.slots → count ≤ length (object_at e.before.heap o).slots
+  slots_are o count held bare room =
+      let x : ObjectState = object_at e.before.heap o in
+      let many : length x.slots ≡ (class_at e.program x.class).info.slots = (object_sound e ready framed o held).slots ∙ ap (λ (el : Element). slots_by el (class_at e.program x.class).info.slots x.length) bare in
+      omega (arith, many, room)
 
   starts_leads : (d : Doing) (o : ℕ) (go : Outcome Kept) (t : Option ℕ) → Comes e StringsAlone Level d → Leads e go → Leads e (starts_thread e d o go t)
   starts_leads d o go (Some t) h g = throws_lead e ready errors.IllegalThreadStateException d h
   starts_leads d o go None h g = unless_thrown e ready d errors.OutOfMemoryError (nat_lt (length d.state.guest.threads) most_threads) go h (λ few. g)
 
-  on_leads : (d : Doing) (name : List ℕ) (o : ℕ) (go : Outcome Kept) → Leads e go → Leads e (ill_typed_unless e (is_subclass e.program (object_class d o) (class_called e.program name)) go)
-  on_leads d name o go g = unless_ill_typed e ready (is_subclass e.program (object_class d o) (class_called e.program name)) go (λ is. g)
+  on_leads : (name : List ℕ) (o : ℕ) (go : Outcome Kept) → (is_subclass e.program (object_at e.before.heap o).class (class_called e.program name) ≡ true → Leads e go) → Leads e (ill_typed_unless e (is_object_of_class e (begins e) o name) go)
+  on_leads name o go g = unless_ill_typed e ready (is_subclass e.program (object_class (begins e) o) (class_called e.program name)) go g
 
   -- an argument, and a slot that the machine uses, in a later state
   later_value : (s : Kept) (arguments : List Value) (i : ℕ) → IsUnder e s → Fines e.before.heap arguments → Fine s.heap (argument arguments i)
@@ -148,62 +165,94 @@ module _ (e : Moment) (ready : Ready e) (framed : IsFramed e) where
   later_write : (s : Kept) (o i : ℕ) (v : Value) → IsUnder e s → IsHeld e.before.heap o → i < 2 → Fine s.heap v → MayWrite s.heap o i v
   later_write s o i v u held lt fine = record { held = u.stays o held; slot = inl lt; value = fine }
 
-  read_reference : (d : Doing) (o i : ℕ) → IsSound d.state → Fine d.state.heap (reference_in d o i)
-  read_reference d o i sound =
-      fine_read d.state.heap (Some operand.Reference) (slot_of (object_at d.state.heap o) i) (fine_at d.state.heap (object_at d.state.heap o).slots i (slots_fine d.state o sound))
+  -- the message and the cause of a Throwable, and the target of a Thread
+  throwable_slots : (o : ℕ) → IsHeld e.before.heap o → is_subclass e.program (object_at e.before.heap o).class (class_called e.program (codes "java/lang/Throwable")) ≡ true → 1 < length (object_at e.before.heap o).slots
+  throwable_slots o held below =
+      let x : IsSoundObject e.program (object_at e.before.heap o) = object_sound e ready framed o held in
+      let k : KeepsFree e.program (object_at e.before.heap o).class 2 = ready.may.machine_slots.throwables (object_at e.before.heap o).class x.class below in
+      slots_are o 2 held k.bare k.room
+
+  thread_slots : (o : ℕ) → IsHeld e.before.heap o → is_subclass e.program (object_at e.before.heap o).class (class_called e.program (codes "java/lang/Thread")) ≡ true → 0 < length (object_at e.before.heap o).slots
+  thread_slots o held below =
+      let x : IsSoundObject e.program (object_at e.before.heap o) = object_sound e ready framed o held in
+      let k : KeepsTarget e.program (object_at e.before.heap o).class = ready.may.machine_slots.threads (object_at e.before.heap o).class x.class below in
+      slots_are o 1 held k.bare k.room
+
+  read_reference : (o i : ℕ) → Fine e.before.heap (reference_in (begins e) o i)
+  read_reference o i =
+      fine_read e.before.heap (Some operand.Reference) (slot_of (object_at e.before.heap o) i) (fine_at e.before.heap (object_at e.before.heap o).slots i (slots_fine e.before o ready.knows.sound.held))
+
+  answer_leads : (at : Site) (arguments values : List Value) → Fines e.before.heap values → Leads e (goes (answering e at arguments values (begins e)))
+  answer_leads at arguments values f = Plainly Level (answering e at arguments values (begins e)) (answering_comes at arguments values (begins e) Begins (λ u. f))
+
+  -- the arguments are taken
+  taken_comes : (at : Site) (arguments : List Value) → Comes e StringsAlone Level (answering e at arguments [] (begins e))
+  taken_comes at arguments = answering_comes at arguments [] (begins e) Begins (λ u. tt)
+
+  -- an argument is written to the first slot
+  first_comes : (at : Site) (arguments : List Value) (o : ℕ) → Fines e.before.heap arguments → IsHeld e.before.heap o → 0 < length (object_at e.before.heap o).slots → IsReference (argument arguments 1)
+      → Comes e StringsAlone Level (slot_written e o 0 (argument arguments 1) (answering e at arguments [] (begins e)))
+  first_comes at arguments o f held inside is =
+      let x : Doing = answering e at arguments [] (begins e) in
+      WritesSlot Level o 0 (argument arguments 1) x (taken_comes at arguments) (λ u. later_write x.state o 0 (argument arguments 1) u held (omega arith) (later_value x.state arguments 1 u f)) (record { slot = λ cause. inside; plain = inl is })
+
+  -- .. and one to the second
+  second_comes : (at : Site) (arguments : List Value) (o : ℕ) → Fines e.before.heap arguments → IsHeld e.before.heap o → 1 < length (object_at e.before.heap o).slots → IsReference (argument arguments 1) × IsReference (argument arguments 2)
+      → Comes e StringsAlone Level (slot_written e o 1 (argument arguments 2) (slot_written e o 0 (argument arguments 1) (answering e at arguments [] (begins e))))
+  second_comes at arguments o f held inside is =
+      let x : Doing = answering e at arguments [] (begins e) in
+      let y : Doing = slot_written e o 0 (argument arguments 1) x in
+      let same : length (object_at y.state.heap o).slots ≡ length (object_at e.before.heap o).slots = ((slot_steady e o 0 (argument arguments 1) x held).alike o held).slots in
+      WritesSlot Level o 1 (argument arguments 2) y (first_comes at arguments o f held (omega (arith, inside)) is.0) (λ u. later_write y.state o 1 (argument arguments 2) u held (omega arith) (later_value y.state arguments 2 u f))
+      (record { slot = λ cause. omega (arith, inside, same); plain = inl is.1 })
 
   -- a weak reference is made
-  made_leads : (at : Site) (d : Doing) (arguments : List Value) (o : ℕ) (r q : Option ℕ) → Comes e StringsAlone Level d → IsHeld e.before.heap o → ((s : Kept) → IsUnder e s → FineSome s.heap r) → ((s : Kept) → IsUnder e s → FineSome s.heap q) → Leads e (goes (with_reference_made o r q (answering e at arguments [] d)))
-  made_leads at d arguments o r q h held fine queue =
-      let x : Doing = answering e at arguments [] d in
+  made_leads : (at : Site) (arguments : List Value) (o : ℕ) (r q : Option ℕ) → IsHeld e.before.heap o → ((s : Kept) → IsUnder e s → FineSome s.heap r) → ((s : Kept) → IsUnder e s → FineSome s.heap q) → Leads e (goes (with_reference_made o r q (answering e at arguments [] (begins e))))
+  made_leads at arguments o r q held fine queue =
+      let x : Doing = answering e at arguments [] (begins e) in
       let y : Doing = with_referent_of o r x in
-      Plainly Level (with_reference_made o r q x) (SetsQueue o q y (SetsReferent o r x (answering_comes at arguments [] d h (λ u. tt)) (λ u. (u.stays o held, fine x.state u))) (λ u. (u.stays o held, queue y.state u)))
+      Plainly Level (with_reference_made o r q x) (SetsQueue o q y (SetsReferent o r x (taken_comes at arguments) (λ u. (u.stays o held, fine x.state u))) (λ u. (u.stays o held, queue y.state u)))
 
-  built_in_leads : (at : Site) (d : Doing) (arguments : List Value) (o : ℕ) (b : BuiltIn) → Comes e StringsAlone Level d → Fines e.before.heap arguments → IsHeld e.before.heap o → Leads e (built_in_row e at d arguments o b)
-  built_in_leads at d arguments o built.Nothing h f held = answered_leads at arguments [] d h (λ u. tt)
-  built_in_leads at d arguments o built.SetMessage h f held =
-      let x : Doing = answering e at arguments [] d in
-      on_leads d (codes "java/lang/Throwable") o _
-      (Plainly Level (slot_written e o 0 (argument arguments 1) x) (WritesSlot Level o 0 (argument arguments 1) x (answering_comes at arguments [] d h (λ u. tt)) (λ u. later_write x.state o 0 (argument arguments 1) u held (omega arith) (later_value x.state arguments 1 u f))))
-  built_in_leads at d arguments o built.SetMessageAndCause h f held =
-      let x : Doing = answering e at arguments [] d in
-      let y : Doing = slot_written e o 0 (argument arguments 1) x in
-      on_leads d (codes "java/lang/Throwable") o _
-      (Plainly Level (slot_written e o 1 (argument arguments 2) y) (WritesSlot Level o 1 (argument arguments 2) y
-      (WritesSlot Level o 0 (argument arguments 1) x (answering_comes at arguments [] d h (λ u. tt)) (λ u. later_write x.state o 0 (argument arguments 1) u held (omega arith) (later_value x.state arguments 1 u f)))
-      (λ u. later_write y.state o 1 (argument arguments 2) u held (omega arith) (later_value y.state arguments 2 u f))))
-  built_in_leads at d arguments o built.GetMessage h f held = on_leads d (codes "java/lang/Throwable") o _ (answered_leads at arguments (reference_in d o 0 ∷ []) d h (λ u. (read_reference d o 0 u.sound, tt)))
-  built_in_leads at d arguments o built.GetCause h f held = on_leads d (codes "java/lang/Throwable") o _ (answered_leads at arguments (reference_in d o 1 ∷ []) d h (λ u. (read_reference d o 1 u.sound, tt)))
-  built_in_leads at d arguments o built.SetTarget h f held =
-      let x : Doing = answering e at arguments [] d in
-      on_leads d (codes "java/lang/Thread") o _
-      (Plainly Level (slot_written e o 0 (argument arguments 1) x) (WritesSlot Level o 0 (argument arguments 1) x (answering_comes at arguments [] d h (λ u. tt)) (λ u. later_write x.state o 0 (argument arguments 1) u held (omega arith) (later_value x.state arguments 1 u f))))
-  built_in_leads at d arguments o built.Start h f held =
-      let x : Doing = answering e at arguments [] d in
-      on_leads d (codes "java/lang/Thread") o _
-      (starts_leads d o (goes (with_thread_for o x)) (thread_with d.state.guest.threads o) h (Plainly Level (with_thread_for o x) (Starts o x (answering_comes at arguments [] d h (λ u. tt)) (λ u. u.stays o held))))
-  built_in_leads at d arguments o built.Join h f held =
-      unless_waiting e ready (has_thread_ended d (thread_with d.state.guest.threads o)) _ (λ ended. answered_leads at arguments [] d h (λ u. tt))
-  built_in_leads at d arguments o built.SetReferent h f held = made_leads at d arguments o (referent_of (argument arguments 1)) None h held (λ s u. reference_fine s.heap (argument arguments 1) (later_value s arguments 1 u f)) (λ s u. tt)
-  built_in_leads at d arguments o built.SetReferentAndQueue h f held =
-      unless_ill_typed e ready (is_null_or_of_class e d (argument arguments 2) (codes "java/lang/ref/ReferenceQueue")) _ (λ is.
-      made_leads at d arguments o (referent_of (argument arguments 1)) (referent_of (argument arguments 2)) h held (λ s u. reference_fine s.heap (argument arguments 1) (later_value s arguments 1 u f))
+  built_in_leads : (at : Site) (m : MethodInfo) (arguments : List Value) (o : ℕ) (b : BuiltIn) → built_in_of m ≡ Some b → IsPassed m arguments → Fines e.before.heap arguments → IsHeld e.before.heap o → Leads e (built_in_row e at (begins e) arguments o b)
+  built_in_leads at m arguments o built.Nothing is passed f held = answer_leads at arguments [] tt
+  built_in_leads at m arguments o built.SetMessage is passed f held =
+      on_leads (codes "java/lang/Throwable") o _ (λ below.
+      let inside : 1 < length (object_at e.before.heap o).slots = throwable_slots o held below in
+      Plainly Level (slot_written e o 0 (argument arguments 1) (answering e at arguments [] (begins e))) (first_comes at arguments o f held (omega (arith, inside)) (message_reference m arguments passed is)))
+  built_in_leads at m arguments o built.SetMessageAndCause is passed f held =
+      on_leads (codes "java/lang/Throwable") o _ (λ below.
+      Plainly Level (slot_written e o 1 (argument arguments 2) (slot_written e o 0 (argument arguments 1) (answering e at arguments [] (begins e)))) (second_comes at arguments o f held (throwable_slots o held below) (cause_references m arguments passed is)))
+  built_in_leads at m arguments o built.GetMessage is passed f held = on_leads (codes "java/lang/Throwable") o _ (λ below. answer_leads at arguments (reference_in (begins e) o 0 ∷ []) (read_reference o 0, tt))
+  built_in_leads at m arguments o built.GetCause is passed f held = on_leads (codes "java/lang/Throwable") o _ (λ below. answer_leads at arguments (reference_in (begins e) o 1 ∷ []) (read_reference o 1, tt))
+  built_in_leads at m arguments o built.SetTarget is passed f held =
+      on_leads (codes "java/lang/Thread") o _ (λ below.
+      Plainly Level (slot_written e o 0 (argument arguments 1) (answering e at arguments [] (begins e))) (first_comes at arguments o f held (thread_slots o held below) (target_reference m arguments passed is)))
+  built_in_leads at m arguments o built.Start is passed f held =
+      let x : Doing = answering e at arguments [] (begins e) in
+      on_leads (codes "java/lang/Thread") o _ (λ below.
+      starts_leads (begins e) o (goes (with_thread_for o x)) (thread_with e.before.guest.threads o) Begins (Plainly Level (with_thread_for o x) (Starts o x (taken_comes at arguments) (λ u. u.stays o held))))
+  built_in_leads at m arguments o built.Join is passed f held =
+      unless_waiting e ready (has_thread_ended (begins e) (thread_with e.before.guest.threads o)) _ (λ ended. answer_leads at arguments [] tt)
+  built_in_leads at m arguments o built.SetReferent is passed f held = made_leads at arguments o (referent_of (argument arguments 1)) None held (λ s u. reference_fine s.heap (argument arguments 1) (later_value s arguments 1 u f)) (λ s u. tt)
+  built_in_leads at m arguments o built.SetReferentAndQueue is passed f held =
+      unless_ill_typed e ready (is_null_or_of_class e (begins e) (argument arguments 2) (codes "java/lang/ref/ReferenceQueue")) _ (λ queue.
+      made_leads at arguments o (referent_of (argument arguments 1)) (referent_of (argument arguments 2)) held (λ s u. reference_fine s.heap (argument arguments 1) (later_value s arguments 1 u f))
       (λ s u. reference_fine s.heap (argument arguments 2) (later_value s arguments 2 u f)))
-  built_in_leads at d arguments o built.GetReferent h f held =
-      answered_leads at arguments (referent_value (object_at d.state.heap o).referent ∷ []) d h (λ u. (fine_value d.state.heap (object_at d.state.heap o).referent (referent_fine d.state o u.sound), tt))
-  built_in_leads at d arguments o built.ClearReferent h f held =
-      let x : Doing = answering e at arguments [] d in
-      Plainly Level (with_referent_of o None x) (SetsReferent o None x (answering_comes at arguments [] d h (λ u. tt)) (λ u. (u.stays o held, tt)))
-  built_in_leads at d arguments o built.Poll h f held =
-      let first : List Value = first_value (object_at d.state.heap o).waiting ∷ [] in
-      let x : Doing = answering e at arguments first d in
-      Plainly Level (with_first_taken o x) (Polls o x (answering_comes at arguments first d h (λ u. (first_waiting_fine d.state o u.sound, tt))) (λ u. u.stays o held))
+  built_in_leads at m arguments o built.GetReferent is passed f held =
+      answer_leads at arguments (referent_value (object_at e.before.heap o).referent ∷ []) (fine_value e.before.heap (object_at e.before.heap o).referent (referent_fine e.before o ready.knows.sound.held), tt)
+  built_in_leads at m arguments o built.ClearReferent is passed f held =
+      let x : Doing = answering e at arguments [] (begins e) in
+      Plainly Level (with_referent_of o None x) (SetsReferent o None x (taken_comes at arguments) (λ u. (u.stays o held, tt)))
+  built_in_leads at m arguments o built.Poll is passed f held =
+      let first : List Value = first_value (object_at e.before.heap o).waiting ∷ [] in
+      let x : Doing = answering e at arguments first (begins e) in
+      Plainly Level (with_first_taken o x) (Polls o x (answering_comes at arguments first (begins e) Begins (λ u. (first_waiting_fine e.before o ready.knows.sound.held, tt))) (λ u. u.stays o held))
 
-  done_leads : (at : Site) (d : Doing) (arguments : List Value) (r : Option ℕ) (b : Option BuiltIn) → Comes e StringsAlone Level d → Fines e.before.heap arguments → FineSome e.before.heap r → Leads e (done_by e at d arguments r b)
-  done_leads at d arguments (Some o) (Some b) h f held = built_in_leads at d arguments o b h f held
-  done_leads at d arguments (Some o) None h f held = throws_lead e ready errors.AbstractMethodError d h
-  done_leads at d arguments None (Some b) h f held = throws_lead e ready errors.AbstractMethodError d h
-  done_leads at d arguments None None h f held = throws_lead e ready errors.AbstractMethodError d h
+  done_leads : (at : Site) (m : MethodInfo) (arguments : List Value) (r : Option ℕ) (b : Option BuiltIn) → built_in_of m ≡ b → IsPassed m arguments → Fines e.before.heap arguments → FineSome e.before.heap r → Leads e (done_by e at (begins e) arguments r b)
+  done_leads at m arguments (Some o) (Some b) is passed f held = built_in_leads at m arguments o b is passed f held
+  done_leads at m arguments (Some o) None is passed f held = throws_lead e ready errors.AbstractMethodError (begins e) Begins
+  done_leads at m arguments None (Some b) is passed f held = throws_lead e ready errors.AbstractMethodError (begins e) Begins
+  done_leads at m arguments None None is passed f held = throws_lead e ready errors.AbstractMethodError (begins e) Begins
 
   taking_may : (count : ℕ) (x : Doing) (lock : Option Lock) → may_enter_some e (taking e count x) lock ≡ may_enter_some e x lock
   taking_may count x None = refl
@@ -217,57 +266,79 @@ module _ (e : Moment) (ready : Ready e) (framed : IsFramed e) where
   taking_leaves : (count : ℕ) → LeavesArguments e ready (taking e count)
   taking_leaves count = record { comes = λ d h. taking_comes count d h; may = λ x lock. taking_may count x lock }
 
-  method_leads : (at : Site) (d : Doing) (arguments : List Value) (m : ℕ) → m < length e.program.methods → Fines e.before.heap arguments → Comes e StringsAlone Level d → Leads e (enters_method e at d arguments m)
-  method_leads at d arguments m lt f h =
-      let x : MethodInfo = method_at e.program m in
-      enters_leads e ready d (taking e (length arguments)) m arguments (built_in_event e at d arguments x) lt f h (taking_leaves (length arguments))
-      (done_leads at d arguments (first_reference arguments) (built_in_of x) h f (first_fine e.before.heap arguments f))
+  method_leads : (at : Site) (d : Doing) (arguments : List Value) (m : ℕ) → m < length e.program.methods → Fines e.before.heap arguments → Comes e StringsAlone Level d
+      → LeadsBuiltIn e ready m (built_in_event e at d arguments (method_at e.program m)) → Leads e (enters_method e at d arguments m)
+  method_leads at d arguments m lt f h other =
+      enters_leads e ready d (taking e (length arguments)) m arguments (built_in_event e at d arguments (method_at e.program m)) lt f h (taking_leaves (length arguments)) other
 
   -- INVOKES
 
-  selected_leads : (at : Site) (arguments : List Value) (answer : Result ℕ LinkError) → ((k : ℕ) → answer ≡ Ok k → k < length e.program.methods) → Fines e.before.heap arguments → Leads e (after_selection e (begins e) answer (enters_method e at (begins e) arguments))
-  selected_leads at arguments answer below f = where_resolved e ready (begins e) answer _ Begins (λ k is. method_leads at (begins e) arguments k (below k is) f Begins)
+  -- a method of the name and the descriptor that the call names, with its arguments
+  record IsInvoked (kind : CallKind) (member : Member) (arguments : List Value) : Type 0 where
+    type : MethodType
+    typed : method_type member.descriptor ≡ Some type
+    passed : are_arguments (is_static_call kind) type arguments ≡ true
+    called : bytes_eq member.name (codes "<clinit>") ≡ false
+    fine : Fines e.before.heap arguments
 
-  dispatched_leads : (at : Site) (kind : CallKind) (arguments : List Value) (named m : ℕ) → m < length e.program.methods → Fines e.before.heap arguments → Leads e (dispatched e at kind arguments named m)
-  dispatched_leads at Static arguments named m lt f =
-      initialized_leads e ready (begins e) (method_at e.program m).class _ Begins (λ d h. method_leads at d arguments m lt f h)
-  dispatched_leads at Virtual arguments named m lt f =
-      where_not_null e ready (begins e) (first_reference arguments) _ Begins (first_fine e.before.heap arguments f) (λ o held.
-      unless_ill_typed e ready (is_of_owner e (begins e) m o) _ (λ is.
-      selected_leads at arguments (select e.program (object_class (begins e) o) m false) (λ k found. selected_method_below e.program (object_class (begins e) o) m false k lt found) f))
-  dispatched_leads at Special arguments named m lt f =
-      where_not_null e ready (begins e) (first_reference arguments) _ Begins (first_fine e.before.heap arguments f) (λ o held.
-      unless_ill_typed e ready (is_of_owner e (begins e) m o) _ (λ is.
-      selected_leads at arguments (select_special e.program at.class (special_class e.program named) m) (λ k found. special_method_below e.program at.class (special_class e.program named) m k lt found) f))
-  dispatched_leads at Interface arguments named m lt f =
-      where_not_null e ready (begins e) (first_reference arguments) _ Begins (first_fine e.before.heap arguments f) (λ o held.
-      selected_leads at arguments (select e.program (object_class (begins e) o) m true) (λ k found. selected_method_below e.program (object_class (begins e) o) m true k lt found) f)
+  -- a static one has code, or is native
+  static_leads : (at : Site) (member : Member) (arguments : List Value) (m : ℕ) (d : Doing) → IsInvoked Static member arguments → IsMethod e.program member.name member.descriptor m → is_static e.program m ≡ true → Comes e StringsAlone Level d → Leads e (enters_method e at d arguments m)
+  static_leads at member arguments m d call is static h =
+      let plain : is_initializing e.program m ≡ false = ap (λ (name : List ℕ). bytes_eq name (codes "<clinit>")) is.named ∙ call.called in
+      method_leads at d arguments m is.within call.fine h (λ none native. absurd (true≢false (sym (ready.may.methods.static m is.within static plain none) ∙ native)))
 
-  type_leads : (t : Option MethodType) (go : MethodType → Outcome Kept) → ((x : MethodType) → Leads e (go x)) → Leads e (with_type e t go)
+  instance_leads : (at : Site) (member : Member) (arguments : List Value) (m k : ℕ) (type : MethodType) → method_type member.descriptor ≡ Some type → are_arguments false type arguments ≡ true → Fines e.before.heap arguments → IsMethod e.program member.name member.descriptor m
+      → IsInstanceMethod e.program (method_at e.program m).name (method_at e.program m).descriptor k → Leads e (enters_method e at (begins e) arguments k)
+  instance_leads at member arguments m k type typed are f is selected =
+      let passed : IsPassed (method_at e.program k) arguments = record { type = type; typed = ap method_type (selected.method.descriptor ∙ is.descriptor) ∙ typed; passed = are } in
+      method_leads at (begins e) arguments k selected.method.within f Begins (λ none native. done_leads at (method_at e.program k) arguments (first_reference arguments) (built_in_of (method_at e.program k)) refl passed f (first_fine e.before.heap arguments f))
+
+  dispatched_leads : (at : Site) (kind : CallKind) (member : Member) (arguments : List Value) (named m : ℕ) → IsInvoked kind member arguments → IsMethod e.program member.name member.descriptor m → is_static e.program m ≡ is_static_call kind → Leads e (dispatched e at kind arguments named m)
+  dispatched_leads at Static member arguments named m call is static =
+      initialized_leads e ready (begins e) (method_at e.program m).class _ Begins (λ d h. static_leads at member arguments m d call is static h)
+  dispatched_leads at Virtual member arguments named m call is instance =
+      where_not_null e ready (begins e) (first_reference arguments) _ Begins (first_fine e.before.heap arguments call.fine) (λ o held.
+      unless_ill_typed e ready (is_of_owner e (begins e) m o) _ (λ own.
+      where_resolved e ready (begins e) (select e.program (object_class (begins e) o) m false) _ Begins (λ k found.
+      instance_leads at member arguments m k call.type call.typed call.passed call.fine is (selected_method e.program (object_class (begins e) o) m false k is.within instance found))))
+  dispatched_leads at Special member arguments named m call is instance =
+      where_not_null e ready (begins e) (first_reference arguments) _ Begins (first_fine e.before.heap arguments call.fine) (λ o held.
+      unless_ill_typed e ready (is_of_owner e (begins e) m o) _ (λ own.
+      where_resolved e ready (begins e) (select_special e.program at.class (special_class e.program named) m) _ Begins (λ k found.
+      instance_leads at member arguments m k call.type call.typed call.passed call.fine is (selected_special e.program at.class (special_class e.program named) m k is.within instance found))))
+  dispatched_leads at Interface member arguments named m call is instance =
+      where_not_null e ready (begins e) (first_reference arguments) _ Begins (first_fine e.before.heap arguments call.fine) (λ o held.
+      where_resolved e ready (begins e) (select e.program (object_class (begins e) o) m true) _ Begins (λ k found.
+      instance_leads at member arguments m k call.type call.typed call.passed call.fine is (selected_method e.program (object_class (begins e) o) m true k is.within instance found)))
+
+  type_leads : (t : Option MethodType) (go : MethodType → Outcome Kept) → ((x : MethodType) → t ≡ Some x → Leads e (go x)) → Leads e (with_type e t go)
   type_leads None go h = tt
-  type_leads (Some x) go h = h x
+  type_leads (Some x) go h = h x refl
 
-  named_leads : (o : Option Member) (go : Member → MethodType → Outcome Kept) → ((m : Member) (x : MethodType) → Leads e (go m x)) → Leads e (with_method e o go)
+  named_leads : (o : Option Member) (go : Member → MethodType → Outcome Kept) → ((m : Member) (x : MethodType) → o ≡ Some m → method_type m.descriptor ≡ Some x → Leads e (go m x)) → Leads e (with_method e o go)
   named_leads None go h = tt
-  named_leads (Some m) go h = type_leads (method_type m.descriptor) (go m) (h m)
+  named_leads (Some m) go h = type_leads (method_type m.descriptor) (go m) (λ x typed. h m x refl typed)
 
   arguments_fine : (count : ℕ) → Fines e.before.heap (arguments_of e count)
   arguments_fine count = fines_reverse e.before.heap (take count (current_frame e).operands) (fines_take e.before.heap count (current_frame e).operands (operands_fine e ready framed))
 
-  pub invoke_leads : (at : Site) (kind : CallKind) → Leads e (invoke e at kind)
-  invoke_leads at kind =
-      named_leads (site_member at) _ (λ m type.
+  pub invoke_leads : (at : Site) (kind : CallKind) → NamesNoInitializer at → Leads e (invoke e at kind)
+  invoke_leads at kind names =
+      named_leads (site_member at) _ (λ m type same typed.
       unless_ill_typed e ready (call_fits e (is_static_call kind) type) _ (λ fits.
       where_resolved e ready (begins e) (resolve_class e.program m.owner) _ Begins (λ owner is.
       where_resolved e ready (begins e) (resolve_method e.program owner (names_interface at) m.name m.descriptor) _ Begins (λ method found.
-      unless_thrown e ready (begins e) errors.IncompatibleClassChangeError (is_as (is_static_call kind) (is_static e.program method)) _ Begins (λ as_wanted.
-      dispatched_leads at kind _ owner method (method_below e.program owner (names_interface at) m.name m.descriptor method found) (arguments_fine (entry_count (is_static_call kind) type)))))))
+      unless_thrown e ready (begins e) errors.IncompatibleClassChangeError (is_as (is_static_call kind) (is_static e.program method)) _ Begins (λ wanted.
+      let count : ℕ = entry_count (is_static_call kind) type in
+      let passed = and_parts (are_arguments (is_static_call kind) type (arguments_of e count)) (nat_le (length (drop count (current_frame e).operands) + returned_width type.returned) (current_frame e).room) fits in
+      dispatched_leads at kind m (arguments_of e count) owner method (record { type = type; typed = typed; passed = passed.0; called = names m same; fine = arguments_fine count })
+      (resolved_method e.program owner (names_interface at) m.name m.descriptor method found) (as_wanted (is_static_call kind) (is_static e.program method) wanted))))))
 
   -- RETURNS
 
   with_returned_leads : (kind : Option Operand) (ops : List Value) (go : List Value → Outcome Kept) → Fines e.before.heap ops → ((vs : List Value) → Fines e.before.heap vs → Leads e (go vs)) → Leads e (with_returned kind (ill_typed e) ops go)
   with_returned_leads None ops go f h = h [] tt
-  with_returned_leads (Some kind) ops go f h = any_value (Leads e) (ill_typed e) tt e.before.heap (Some kind) ops (λ v below. go (entries_of v)) f (λ v below fine g. h (entries_of v) (fine_entries e.before.heap v fine))
+  with_returned_leads (Some kind) ops go f h = any_value (Leads e) (ill_typed e) tt e.before.heap (Some kind) ops (λ v below. go (entries_of v)) f (λ v below fine typed g. h (entries_of v) (fine_entries e.before.heap v fine))
 
   return_leads : (kind : Option Operand) → IsMethodOf e.program (unwrap_or (current_frame e).method 0) → Leads e (return e kind)
   return_leads kind is =
@@ -276,9 +347,9 @@ module _ (e : Moment) (ready : Ready e) (framed : IsFramed e) where
       unless_thrown e ready (begins e) errors.IllegalMonitorStateException (owns_some e (begins e) (own_lock e)) _ Begins (λ owned.
       Plainly Shifted (frame_returned e values (begins e)) (Returns values framed is f (own_there e ready) owned))))
 
-  pub call_leads : (at : Site) (r : CallRow) → IsMethodOf e.program (unwrap_or (current_frame e).method 0) → Leads e (call_event e at r)
-  call_leads at (calls.Invoke kind) is = invoke_leads at kind
-  call_leads at (calls.Return kind) is = return_leads kind is
+  pub call_leads : (at : Site) (r : CallRow) → IsMethodOf e.program (unwrap_or (current_frame e).method 0) → ((kind : CallKind) → r ≡ calls.Invoke kind → NamesNoInitializer at) → Leads e (call_event e at r)
+  call_leads at (calls.Invoke kind) is names = invoke_leads at kind (names kind refl)
+  call_leads at (calls.Return kind) is names = return_leads kind is
 
   -- UNWINDING
 

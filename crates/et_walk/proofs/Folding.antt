@@ -39,11 +39,11 @@ eased e ph d (Pends q o x h a) = Pends q o x (eased e q x h) a
 eased e ph d (Starts o x h a) = Starts o x (eased e Level x h) a
 eased e ph d Ends = Ends
 eased e ph d (ClassBecomes q c y x h) = ClassBecomes q c y x (eased e q x h)
-eased e ph d (WritesStatic i v x h lt a) = WritesStatic i v x (eased e Level x h) lt a
+eased e ph d (WritesStatic i v x h lt a typed) = WritesStatic i v x (eased e Level x h) lt a typed
 eased e ph d (Interns bytes x h) = Interns bytes x (eased e Level x h)
 eased e ph d (MakesInstance q class x makes h lt plain) = absurd makes
 eased e ph d (MakesArray class n x makes h array) = absurd makes
-eased e ph d (WritesSlot q o i v x h a) = WritesSlot q o i v x (eased e q x h) a
+eased e ph d (WritesSlot q o i v x h a tells) = WritesSlot q o i v x (eased e q x h) a tells
 eased e ph d (EntersMonitor o x h at held) = EntersMonitor o x (eased e Level x h) at held
 eased e ph d (LeavesMonitor o x h at held) = LeavesMonitor o x (eased e Level x h) at held
 eased e ph d (SetsReferent o r x h a) = SetsReferent o r x (eased e Level x h) a
@@ -75,7 +75,7 @@ module _ (e : Moment) (ready : Ready e) where
       let same : length (object_at (make x).state.heap o).slots ≡ length (object_at d.state.heap o).slots = (both.alike o held).slots in
       let lt : i < length (object_at (make x).state.heap o).slots = omega (arith, room) in
       record {
-        comes = WritesSlot Level o i (Ref (next_object x)) (make x) one.makes.comes (λ u. record { held = there; slot = inr lt; value = one.first_held });
+        comes = WritesSlot Level o i (Ref (next_object x)) (make x) one.makes.comes (λ u. record { held = there; slot = inr lt; value = one.first_held }) (record { slot = λ cause. lt; plain = inl tt });
         steady = steady_then d.state.heap (make x).state.heap (slot_written e o i (Ref (next_object x)) (make x)).state.heap both (slot_steady e o i (Ref (next_object x)) (make x) there);
       }
 
@@ -136,5 +136,8 @@ module _ (e : Moment) (ready : Ready e) where
       let z : Doing = slot_written e error 1 (Ref o) y in
       let new : IsHeld y.state.heap error = new_held x.state.heap (new_object class 0 (class_at e.program class).info.slots) in
       let made : Comes e AllObjects ph y = MakesInstance ph class x tt (eased e ph x h) (ready.may.makes.error errors.ExceptionInInitializerError).class (error_plain e ready errors.ExceptionInInitializerError) in
-      let written : Comes e AllObjects ph z = WritesSlot ph error 1 (Ref o) y made (λ u. record { held = new; slot = inl second_own; value = u.stays o held }) in
+      let count : length (object_at y.state.heap error).slots ≡ (class_at e.program class).info.slots =
+      ap (λ (x : Option ObjectState). length (found x).slots) (newest_at x.state.heap (new_object class 0 (class_at e.program class).info.slots)) ∙ length-replicate (class_at e.program class).info.slots Unset in
+      let written : Comes e AllObjects ph z =
+      WritesSlot ph error 1 (Ref o) y made (λ u. record { held = new; slot = inl second_own; value = u.stays o held }) (record { slot = λ cause. omega (arith, cause, count); plain = inl tt }) in
       record { phase = ph; comes = Pends ph error z written (λ u. (slot_steady e error 1 (Ref o) y new).stays error new) }

@@ -7,20 +7,23 @@ pub mod Words
 pub mod Monitors
 mod MonitorFrames
 pub mod Records
+mod Recording
 mod Given
 mod Held
 mod Small
 mod Constants
+mod Typed
 mod Ways
 mod Rows
-mod NamedMembers
+mod Arguments
 mod Calls
 mod Turns
-mod Recording
 mod Folding
+mod Writing
 mod NamedWords
 mod SaysNames
 pub mod SaysRecords
+mod SaysWrites
 mod SaysMonitors
 pub mod MonitorRows
 mod SoundStates

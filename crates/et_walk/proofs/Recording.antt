@@ -1,5 +1,5 @@
 -- What the words of an event tell: the records so far are those of what it has made so far.
-use Rattle.std.proofs.Common.{◌≡◌, ℕ, ◌+◌, ◌*◌, ◌<◌, ◌⊎◌, true, false, List, [], ◌∷◌, ◌++◌, length, set, Option, Some, None, Contains, refl, sym, ◌∙◌, ap, subst, inl, inr, arith}
+use Rattle.std.proofs.Common.{◌≡◌, ℕ, ◌+◌, ◌*◌, ◌<◌, true, false, List, [], ◌∷◌, ◌++◌, length, set, Option, Some, None, Contains, refl, sym, ◌∙◌, ap, subst, inl, inr, arith}
 use Rattle.std.specs.Prelude.{if◌then◌else◌, codes, is_some, unwrap_or}
 use Rattle.std.proofs.lemmas.Bool.{false≢true}
 use Rattle.std.proofs.lemmas.List.{length-set, length-append, length-replicate, length_push}
@@ -30,6 +30,7 @@ use Rattle.et_event.specs.Monitors.{Lock, OfObject, OfClass, with_monitor_of}
 use Rattle.et_event.specs.Strings.{interned, string_object}
 use Rattle.et_walk.specs.Records.{size_by, size_of, IsAlike, IsMadeBefore, IsMadeBeforeOrNone, IsUpdated, next_after, IsAllocationOf, IsRecordOf, AreRecordsOf, HasPlainStrings, Steady}
 use Rattle.et_walk.proofs.Values.{fine_grows, fine_at, fines_set, rest_fine}
+use Rattle.et_walk.specs.Steps.{HasSlot}
 use Rattle.et_walk.specs.Values.{Fine, Fines, FineSome, FineFrame, FineThread, Grows}
 use Rattle.et_walk.proofs.Heaps.{sound_guest, fine_thread, thread_sound, new_thread_sound, string_sound, static_sound, statics_fine, slots_fine, referent_fine, object_sound, made_sound, new_held, AreRestHeld, rest_held, rest_with_queue, rest_without_first}
 use Rattle.et_walk.proofs.Words.{if_case, object_in, object_pushed, updated_same}
@@ -191,10 +192,6 @@ updated_told e o i old (Long n) d h object was fine = h
 updated_told e o i old LongHigh d h object was fine = h
 updated_told e o i old Null d h object was fine = record_told e (Update d.state.guest.clock e.thread o i (number_of_value old) 0) d h refl (h.clock, refl, object, number_there d old was, inl refl)
 updated_told e o i old (Ref new) d h object was fine = record_told e (Update d.state.guest.clock e.thread o i (number_of_value old) new) d h refl (h.clock, refl, object, number_there d old was, inr (there d new fine))
-
--- a slot that the machine itself uses, or one of the object
-abbrev pub HasSlot : Objects → (o i : ℕ) → Type 0
-HasSlot h o i = (i < 2) ⊎ (i < length (object_at h o).slots)
 
 slot_stays : (h h' : Objects) (o i : ℕ) → Steady h h' → IsHeld h o → HasSlot h o i → HasSlot h' o i
 slot_stays h h' o i steady held (inl own) = inl own

@@ -1,17 +1,18 @@
 -- The rows that enter and leave no frame.
 use Rattle.et_base.specs.declared.value.Value.{Value}
-use Rattle.et_base.specs.declared.value.Value.TheVariants.{Int, Long, LongHigh, Null, Ref}
+use Rattle.et_base.specs.declared.value.Value.TheVariants.{Int, Long, LongHigh, Null, Ref, Unset}
 use Rattle.et_class.specs.Names.{has}
 use Rattle.et_event.specs.Checks.{Reference, entries_of}
 use Rattle.et_event.specs.Heap.{array_length, arrays_made, cast, element_of_array, field_fits, get_field, get_static, heap_event, is_static_at, leaving_values, length_of, load_element, may_be_made, naturals, new_array, new_array_of, new_instance, new_multi_array, new_reference_array, passes_element, put_field, put_static, resolved_class, resolved_field, store_element, truth, type_tested, with_class, with_element, with_field, with_holder}
 use Rattle.et_event.specs.Kinds.{are_elements, in_bounds, is_array_element, kept_element, kind_of_elements, kind_of_field, narrowed, or_zero}
-use Rattle.et_event.specs.Moments.{Doing, Moment, array_made, begins, current_frame, ends_event, goes, ill_typed, instance_made, next_object, object_class, pending_now, slot_written, static_written, thread_of, with_frame, with_thread_state}
+use Rattle.et_event.specs.Moments.{Doing, Moment, array_made, begins, current_frame, ends_event, goes, ill_typed, instance_made, next_object, number_of_value, object_class, pending_now, slot_written, static_written, thread_of, with_frame, with_thread_state}
 use Rattle.et_event.specs.Monitors.{OfObject, entered, left, may_enter, owns}
 use Rattle.et_event.specs.Operands.{operand_kind}
 use Rattle.et_event.specs.Plain.{constant, divided, divides, on_frame, put, quotient}
 use Rattle.et_event.specs.Programs.{HasDimensions, IsArrayClass}
 use Rattle.et_event.specs.Sites.{ALong, AString, AnInt, LoadedConstant, Member, Site, class_operand, natural_of, site_member}
-use Rattle.et_event.specs.Sound.{IsSoundObject, slots_by}
+use Rattle.et_event.specs.PoolOperands.Operand.{Operand}
+use Rattle.et_event.specs.Sound.{HasField, IsSoundObject, is_of_kind, slots_by}
 use Rattle.et_event.specs.Strings.{interned, string_object}
 use Rattle.et_event.specs.Sync.{end_of_thread, monitor_event}
 use Rattle.et_event.specs.Throw.{is_throwable, throw}
@@ -31,7 +32,8 @@ use Rattle.et_program.specs.declared.errors.LinkError.TheVariants.{NoClassDefFou
 use Rattle.et_program.specs.declared.info.Element.{Element}
 use Rattle.et_program.specs.declared.info.Element.TheVariants.{Base, Class, NoArray}
 use Rattle.et_sound.proofs.Arrays.{length-naturals}
-use Rattle.et_sound.proofs.Fields.{field_found, ok_is}
+use Rattle.et_sound.proofs.Fields.{IsField, field_found, kind_of_one, ok_is}
+use Rattle.et_sound.proofs.Values.{element_kind, narrowed_kind}
 use Rattle.et_state.specs.Outcome.{Outcome}
 use Rattle.et_state.specs.State.{Kept}
 use Rattle.et_state.specs.Threads.{FrameState, as_ended}
@@ -40,14 +42,15 @@ use Rattle.et_walk.proofs.Given.{kept_fine, lengths_does, truth_fine}
 use Rattle.et_walk.proofs.Heaps.{slots_fine, statics_fine}
 use Rattle.et_walk.proofs.Held.{Ready, frame_fine}
 use Rattle.et_walk.proofs.Plain.{FineFrameSome, put_fine}
+use Rattle.et_walk.proofs.Typed.{kept_plain, narrowed_given, narrowed_plain, reference_or_none}
 use Rattle.et_walk.proofs.Small.{string_held}
 use Rattle.et_walk.proofs.Taken.{any_int, any_long, any_reference, any_value, fine_entries, fine_read}
 use Rattle.et_walk.proofs.Values.{fine_at, fine_grows, fines_append, fines_grow, frame_grows}
 use Rattle.et_walk.proofs.Ways.{end_leads, ends_lead, initialized_leads, throws_lead, unless_ill_typed, unless_thrown, unless_waiting, where_not_null, where_resolved}
 use Rattle.et_walk.proofs.Words.{fine_narrowed}
-use Rattle.et_walk.specs.Steps.{Begins, Comes, Ends, EntersMonitor, GoesOn, HasSlot, Interns, IsAtMonitor, IsFramed, IsUnder, Leads, LeavesMonitor, Level, Locked, Making, Pends, Plainly, StringsAlone, WithArray, WithArrays, WithInstance, WritesSlot, WritesStatic}
+use Rattle.et_walk.specs.Steps.{Begins, Comes, Ends, EntersMonitor, GoesOn, Interns, IsAtMonitor, IsFramed, IsReference, IsTyped, IsUnder, Leads, LeavesMonitor, Level, Locked, Making, Pends, Plainly, StringsAlone, WithArray, WithArrays, WithInstance, WritesSlot, WritesStatic, kind_of_static}
 use Rattle.et_walk.specs.Values.{Fine, FineFrame, FineSome, Fines}
-use Rattle.std.proofs.Common.{List, None, Ok, Option, Some, [], arith, false, inr, length, refl, subst, true, ℕ, ◌++◌, ◌+◌, ◌<◌, ◌∙◌, ◌∷◌, ◌≡◌}
+use Rattle.std.proofs.Common.{List, None, Ok, Option, Some, [], arith, false, inr, length, inl, refl, subst, sym, true, ℕ, ◌++◌, ◌+◌, ◌<◌, ◌∙◌, ◌∷◌, ◌≡◌, ◌⊎◌}
 use Rattle.std.proofs.lemmas.Bool.{and_parts, false≢true, ltb-true, not-true}
 use Rattle.std.specs.Int.{w32, w64}
 use Rattle.std.specs.List.{list_all}
@@ -118,16 +121,17 @@ module _ (e : Moment) (ready : Ready e) (framed : IsFramed e) where
   done_leads : (at : Site) (ops : List Value) → Fines e.before.heap ops → Leads e (goes (leaving_values e at ops (begins e)))
   done_leads at ops f = Plainly Level (leaving_values e at ops (begins e)) (leaving_comes at ops (begins e) Begins (λ u. f))
 
-  written_leads : (at : Site) (o i : ℕ) (v : Value) (ops : List Value) → IsHeld e.before.heap o → HasSlot e.before.heap o i → Fine e.before.heap v → Fines e.before.heap ops → Leads e (goes (slot_written e o i v (leaving_values e at ops (begins e))))
-  written_leads at o i v ops held has fine f =
+  written_leads : (at : Site) (o i : ℕ) (v : Value) (ops : List Value) → IsHeld e.before.heap o → i < length (object_at e.before.heap o).slots → IsReference v ⊎ (number_of_value (slot_of (object_at e.before.heap o) i) ≡ 0) → Fine e.before.heap v → Fines e.before.heap ops
+      → Leads e (goes (slot_written e o i v (leaving_values e at ops (begins e))))
+  written_leads at o i v ops held inside plain fine f =
       let x : Doing = leaving_values e at ops (begins e) in
-      Plainly Level (slot_written e o i v x) (WritesSlot Level o i v x (leaving_comes at ops (begins e) Begins (λ u. f)) (λ u. record { held = held; slot = has; value = fine }))
+      Plainly Level (slot_written e o i v x) (WritesSlot Level o i v x (leaving_comes at ops (begins e) Begins (λ u. f)) (λ u. record { held = held; slot = inr inside; value = fine }) (record { slot = λ cause. inside; plain = plain }))
 
   -- WHAT IS NAMED
 
-  field_leads : (o : Option Member) (go : Member → Outcome Kept) → ((m : Member) → Leads e (go m)) → Leads e (with_field e o go)
+  field_leads : (o : Option Member) (go : Member → Outcome Kept) → ((m : Member) → is_field_descriptor m.descriptor ≡ true → Leads e (go m)) → Leads e (with_field e o go)
   field_leads None go h = tt
-  field_leads (Some m) go h = unless_ill_typed e ready (is_field_descriptor m.descriptor) (go m) (λ is. h m)
+  field_leads (Some m) go h = unless_ill_typed e ready (is_field_descriptor m.descriptor) (go m) (λ is. h m is)
 
   class_leads : (o : Option (List ℕ)) (go : List ℕ → Outcome Kept) → ((name : List ℕ) → o ≡ Some name → Leads e (go name)) → Leads e (with_class e o go)
   class_leads None go h = tt
@@ -136,16 +140,16 @@ module _ (e : Moment) (ready : Ready e) (framed : IsFramed e) where
   class_resolved : (name : List ℕ) (go : ℕ → Outcome Kept) → ((c : ℕ) → resolve_class e.program name ≡ Ok c → Leads e (go c)) → Leads e (resolved_class e (begins e) name go)
   class_resolved name go h = where_resolved e ready (begins e) (resolve_class e.program name) go Begins h
 
-  field_resolved : (m : Member) (go : ℕ → Outcome Kept) → ((f : ℕ) → f < length e.program.fields → Leads e (go f)) → Leads e (resolved_field e (begins e) m go)
-  field_resolved m go h = class_resolved m.owner _ (λ owner is. where_resolved e ready (begins e) (resolve_field e.program owner m.name m.descriptor) _ Begins (λ f found. h f (field_found e.program owner m.name m.descriptor f found).within))
+  field_resolved : (m : Member) (go : ℕ → Outcome Kept) → ((f : ℕ) → IsField e.program m.descriptor f → Leads e (go f)) → Leads e (resolved_field e (begins e) m go)
+  field_resolved m go h = class_resolved m.owner _ (λ owner is. where_resolved e ready (begins e) (resolve_field e.program owner m.name m.descriptor) _ Begins (λ f found. h f (field_found e.program owner m.name m.descriptor f found)))
 
   -- FIELDS
 
   get_static_leads : (at : Site) → Leads e (get_static e at)
   get_static_leads at =
-      field_leads (site_member at) _ (λ m.
+      field_leads (site_member at) _ (λ m named.
       unless_ill_typed e ready (field_fits e (current_frame e).operands m) _ (λ fits.
-      field_resolved m _ (λ f within.
+      field_resolved m _ (λ f is.
       unless_thrown e ready (begins e) errors.IncompatibleClassChangeError (is_static_at e.program f) _ Begins (λ static.
       initialized_leads e ready (begins e) (field_at e.program f).class _ Begins (λ d h.
       let v : Value = or_zero (operand_kind m.descriptor) (static_at d.state.guest (field_at e.program f).slot) in
@@ -155,17 +159,29 @@ module _ (e : Moment) (ready : Ready e) (framed : IsFramed e) where
       (fine_entries d.state.heap v (fine_read d.state.heap (operand_kind m.descriptor) (static_at d.state.guest (field_at e.program f).slot) (fine_at d.state.heap d.state.guest.statics (field_at e.program f).slot (statics_fine d.state u.sound))))
       (later_fine d.state (current_frame e).operands u operands_fine))))))))
 
+  -- a value of the type of the field that is named
+  field_typed : (m : Member) (k : ℕ) (v : Value) → is_field_descriptor m.descriptor ≡ true → IsField e.program m.descriptor k → IsTyped (kind_of_field m.descriptor) v → IsTyped (operand_kind (field_at e.program k).descriptor) v
+  field_typed m k v named is typed =
+      subst (λ (type : List ℕ). IsTyped (operand_kind type) v) (sym is.descriptor) (record { kind = kind_of_one e.program m.descriptor v (is_field_descriptor m.descriptor) typed.kind named; given = typed.given })
+
+  static_typed : (m : Member) (k : ℕ) (v : Value) → is_field_descriptor m.descriptor ≡ true → IsField e.program m.descriptor k → is_static_at e.program k ≡ true → IsTyped (kind_of_field m.descriptor) v
+      → IsTyped (kind_of_static e.program (field_at e.program k).slot) (narrowed m.descriptor v)
+  static_typed m k v named is static typed =
+      let t : IsTyped (operand_kind (field_at e.program k).descriptor) v = field_typed m k v named is typed in
+      subst (λ (n : ℕ). IsTyped (operand_kind (field_at e.program n).descriptor) (narrowed m.descriptor v)) (sym (ready.may.slots.statics k is.within static).1)
+      (record { kind = narrowed_kind (operand_kind (field_at e.program k).descriptor) m.descriptor v t.kind; given = narrowed_given m.descriptor v t.given })
+
   put_static_leads : (at : Site) → Leads e (put_static e at)
   put_static_leads at =
-      field_leads (site_member at) _ (λ m.
-      any_value (Leads e) (ill_typed e) tt e.before.heap (kind_of_field m.descriptor) (current_frame e).operands _ operands_fine (λ v below fine f.
-      field_resolved m _ (λ k within.
+      field_leads (site_member at) _ (λ m named.
+      any_value (Leads e) (ill_typed e) tt e.before.heap (kind_of_field m.descriptor) (current_frame e).operands _ operands_fine (λ v below fine typed f.
+      field_resolved m _ (λ k is.
       unless_thrown e ready (begins e) errors.IncompatibleClassChangeError (is_static_at e.program k) _ Begins (λ static.
       initialized_leads e ready (begins e) (field_at e.program k).class _ Begins (λ d h.
       let x : Doing = leaving_values e at below d in
       end_leads e ready Level (static_written e (field_at e.program k).slot (narrowed m.descriptor v) x)
-      (WritesStatic (field_at e.program k).slot (narrowed m.descriptor v) x (leaving_comes at below d h (λ u. later_fine d.state below u f)) (ready.may.slots.statics k within static).0
-      (λ u. fine_narrowed x.state.heap m.descriptor v (fine_grows e.before.heap x.state.heap v u.stays fine))))))))
+      (WritesStatic (field_at e.program k).slot (narrowed m.descriptor v) x (leaving_comes at below d h (λ u. later_fine d.state below u f)) (ready.may.slots.statics k is.within static).0
+      (λ u. fine_narrowed x.state.heap m.descriptor v (fine_grows e.before.heap x.state.heap v u.stays fine)) (static_typed m k v named is static typed)))))))
 
   holder_leads : (f : ℕ) (r : Reference) (go : ℕ → Outcome Kept) → FineSome e.before.heap r → ((o : ℕ) → IsHeld e.before.heap o → is_subclass e.program (object_at e.before.heap o).class (field_at e.program f).class ≡ true → Leads e (go o)) → Leads e (with_holder e (begins e) f r go)
   holder_leads f r go held h =
@@ -176,10 +192,10 @@ module _ (e : Moment) (ready : Ready e) (framed : IsFramed e) where
 
   get_field_leads : (at : Site) → Leads e (get_field e at)
   get_field_leads at =
-      field_leads (site_member at) _ (λ m.
+      field_leads (site_member at) _ (λ m named.
       any_reference (Leads e) (ill_typed e) tt e.before.heap (current_frame e).operands _ operands_fine (λ r below held f.
       unless_ill_typed e ready (field_fits e below m) _ (λ fits.
-      field_resolved m _ (λ k within.
+      field_resolved m _ (λ k is.
       unless_thrown e ready (begins e) errors.IncompatibleClassChangeError (not (is_static_at e.program k)) _ Begins (λ instance.
       holder_leads k r _ held (λ o there below_it.
       let v : Value = or_zero (operand_kind m.descriptor) (slot_of (object_at e.before.heap o) (field_at e.program k).slot) in
@@ -187,26 +203,29 @@ module _ (e : Moment) (ready : Ready e) (framed : IsFramed e) where
       (fine_entries e.before.heap v (fine_read e.before.heap (operand_kind m.descriptor) (slot_of (object_at e.before.heap o) (field_at e.program k).slot) (read_fine o (field_at e.program k).slot))) f)))))))
 
   -- the object of a field has its slot
-  object_sound : (o : ℕ) → IsHeld e.before.heap o → IsSoundObject e.program (object_at e.before.heap o)
+  pub object_sound : (o : ℕ) → IsHeld e.before.heap o → IsSoundObject e.program (object_at e.before.heap o)
   object_sound o there = (ready.knows.sound.objects o (object_at e.before.heap o) (found_at e.before.heap o there)).0
 
-  field_slot : (o k : ℕ) → IsHeld e.before.heap o → k < length e.program.fields → is_static_at e.program k ≡ false → is_subclass e.program (object_at e.before.heap o).class (field_at e.program k).class ≡ true
-      → HasSlot e.before.heap o (field_at e.program k).slot
-  field_slot o k there within instance below_it = inr ((object_sound o there).fields k within instance below_it).slot
+  field_there : (o k : ℕ) → IsHeld e.before.heap o → k < length e.program.fields → is_static_at e.program k ≡ false → is_subclass e.program (object_at e.before.heap o).class (field_at e.program k).class ≡ true
+      → HasField e.program (object_at e.before.heap o) k
+  field_there o k there within instance below_it = (object_sound o there).fields k within instance below_it
 
   put_field_leads : (at : Site) → Leads e (put_field e at)
   put_field_leads at =
-      field_leads (site_member at) _ (λ m.
-      any_value (Leads e) (ill_typed e) tt e.before.heap (kind_of_field m.descriptor) (current_frame e).operands _ operands_fine (λ v more fine f.
+      field_leads (site_member at) _ (λ m named.
+      any_value (Leads e) (ill_typed e) tt e.before.heap (kind_of_field m.descriptor) (current_frame e).operands _ operands_fine (λ v more fine typed f.
       any_reference (Leads e) (ill_typed e) tt e.before.heap more _ f (λ r below held g.
-      field_resolved m _ (λ k within.
+      field_resolved m _ (λ k is.
       unless_thrown e ready (begins e) errors.IncompatibleClassChangeError (not (is_static_at e.program k)) _ Begins (λ instance.
       holder_leads k r _ held (λ o there below_it.
-      written_leads at o (field_at e.program k).slot (narrowed m.descriptor v) below there (field_slot o k there within (not-true (is_static_at e.program k) instance) below_it) (fine_narrowed e.before.heap m.descriptor v fine) g))))))
+      let has : HasField e.program (object_at e.before.heap o) k = field_there o k there is.within (not-true (is_static_at e.program k) instance) below_it in
+      let old : Value = slot_of (object_at e.before.heap o) (field_at e.program k).slot in
+      written_leads at o (field_at e.program k).slot (narrowed m.descriptor v) below there has.slot
+      (narrowed_plain m.descriptor v old (reference_or_none (operand_kind (field_at e.program k).descriptor) v old (field_typed m k v named is typed) has.value)) (fine_narrowed e.before.heap m.descriptor v fine) g))))))
 
   -- ELEMENTS
 
-  element_leads : (kind : Elements) (r : Reference) (i : ℤ) (go : ℕ → Outcome Kept) → FineSome e.before.heap r → ((o : ℕ) → IsHeld e.before.heap o → HasSlot e.before.heap o (natural_of i) → Leads e (go o)) → Leads e (with_element e kind r i go)
+  element_leads : (kind : Elements) (r : Reference) (i : ℤ) (go : ℕ → Outcome Kept) → FineSome e.before.heap r → ((o : ℕ) → IsHeld e.before.heap o → are_elements kind (element_of_array e o) ≡ true → natural_of i < length (object_at e.before.heap o).slots → Leads e (go o)) → Leads e (with_element e kind r i go)
   element_leads kind r i go held h =
       where_not_null e ready (begins e) r _ Begins held (λ o there.
       unless_ill_typed e ready (are_elements kind (element_of_array e o)) _ (λ elements.
@@ -214,25 +233,36 @@ module _ (e : Moment) (ready : Ready e) (framed : IsFramed e) where
       let count : length (object_at e.before.heap o).slots ≡ length_of e o =
       (object_sound o there).slots ∙ array_slots kind (element_of_array e o) (class_at e.program (object_at e.before.heap o).class).info.slots (length_of e o) elements in
       let lt : natural_of i < length_of e o = natural_within i (length_of e o) within in
-      h o there (inr (omega arith)))))
+      h o there elements (omega arith))))
 
   load_element_leads : (at : Site) (kind : Elements) → Leads e (load_element e at kind)
   load_element_leads at kind =
       any_int (Leads e) (ill_typed e) tt e.before.heap (current_frame e).operands _ operands_fine (λ i more f.
       any_reference (Leads e) (ill_typed e) tt e.before.heap more _ f (λ r below held g.
-      element_leads kind r i _ held (λ o there slot.
+      element_leads kind r i _ held (λ o there are inside.
       let v : Value = or_zero (Some (kind_of_elements kind)) (slot_of (object_at e.before.heap o) (natural_of i)) in
       done_leads at (entries_of v ++ below) (fines_append e.before.heap (entries_of v) below
       (fine_entries e.before.heap v (fine_read e.before.heap (Some (kind_of_elements kind)) (slot_of (object_at e.before.heap o) (natural_of i)) (read_fine o (natural_of i)))) g))))
 
+  element_plain : (kind : Elements) (o i : ℕ) (v : Value) → IsHeld e.before.heap o → are_elements kind (element_of_array e o) ≡ true → i < length (object_at e.before.heap o).slots → IsTyped (Some (kind_of_elements kind)) v
+      → IsReference (kept_element kind v) ⊎ (number_of_value (slot_of (object_at e.before.heap o) i) ≡ 0)
+  element_plain kind o i v there are inside typed =
+      let old : Value = slot_of (object_at e.before.heap o) i in
+      let was : is_of_kind (Some (kind_of_elements kind)) old ≡ true =
+      elim (object_sound o there).elements [
+        | inl all ↦ subst (λ (k : Option Operand). is_of_kind k old ≡ true) (element_kind kind (element_of_array e o) are) (all i Unset inside)
+        | inr none ↦ absurd (no_elements kind (subst (λ (x : Element). are_elements kind x ≡ true) none are))
+      ] in
+      kept_plain kind v old (reference_or_none (Some (kind_of_elements kind)) v old typed was)
+
   store_element_leads : (at : Site) (kind : Elements) → Leads e (store_element e at kind)
   store_element_leads at kind =
-      any_value (Leads e) (ill_typed e) tt e.before.heap (Some (kind_of_elements kind)) (current_frame e).operands _ operands_fine (λ v most fine f.
+      any_value (Leads e) (ill_typed e) tt e.before.heap (Some (kind_of_elements kind)) (current_frame e).operands _ operands_fine (λ v most fine typed f.
       any_int (Leads e) (ill_typed e) tt e.before.heap most _ f (λ i more g.
       any_reference (Leads e) (ill_typed e) tt e.before.heap more _ g (λ r below held j.
-      element_leads kind r i _ held (λ o there slot.
+      element_leads kind r i _ held (λ o there are inside.
       unless_thrown e ready (begins e) errors.ArrayStoreException (passes_element e v (element_of_array e o)) (goes (slot_written e o (natural_of i) (kept_element kind v) (leaving_values e at below (begins e)))) Begins
-      (λ passed. written_leads at o (natural_of i) (kept_element kind v) below there slot (kept_fine e.before.heap kind v fine) j)))))
+      (λ passed. written_leads at o (natural_of i) (kept_element kind v) below there inside (element_plain kind o (natural_of i) v there are inside typed) (kept_fine e.before.heap kind v fine) j)))))
 
   array_length_leads : (at : Site) → Leads e (array_length e at)
   array_length_leads at =

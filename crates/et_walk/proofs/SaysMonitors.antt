@@ -198,11 +198,11 @@ module _ (e : Moment) (ready : Ready e) (none : monitor_row_at e (turn_of (threa
   monitors_come ph d (Starts o x h a) = let g : Still e (level e) x.state = monitors_come Level x h in started_still e o x g (a (under e x g))
   monitors_come ph d Ends = ended_good
   monitors_come ph d (ClassBecomes q c y x h) = class_good q c y x (monitors_come q x h)
-  monitors_come ph d (WritesStatic i v x h lt a) = let g : Still e (level e) x.state = monitors_come Level x h in written_static_still e i v x g (a (under e x g))
+  monitors_come ph d (WritesStatic i v x h lt a typed) = let g : Still e (level e) x.state = monitors_come Level x h in written_static_still e i v x g (a (under e x g))
   monitors_come ph d (Interns bytes x h) = (interned_still e bytes x (monitors_come Level x h)).still
   monitors_come ph d (MakesInstance q class x makes h lt plain) = instance_good q class x (monitors_come q x h)
   monitors_come ph d (MakesArray class n x makes h array) = array_still e class n x (monitors_come Level x h)
-  monitors_come ph d (WritesSlot q o i v x h a) = slot_good q o i v x a (monitors_come q x h)
+  monitors_come ph d (WritesSlot q o i v x h a tells) = slot_good q o i v x a (monitors_come q x h)
   monitors_come ph d (EntersMonitor o x h at held) = absurd (at none)
   monitors_come ph d (LeavesMonitor o x h at held) = absurd (at none)
   monitors_come ph d (SetsReferent o r x h a) = let g : Still e (level e) x.state = monitors_come Level x h in referent_still e o r x g (a (under e x g)).0 (a (under e x g)).1

@@ -44,7 +44,7 @@ entered_told e lock d h has = monitor_told e lock (record { owner = Some e.threa
 left_told : (e : Moment) (lock : Lock) (d : Doing) → Told e d → HasLock d lock → Told e (left lock d)
 left_told e lock d h has = monitor_told e lock (left_once (monitor_of d lock)) d h has
 
-still_there : (e : Moment) (lock : Lock) (d : Doing) → Told e d → AllThere e (Some lock) → HasLock d lock
+pub still_there : (e : Moment) (lock : Lock) (d : Doing) → Told e d → AllThere e (Some lock) → HasLock d lock
 still_there e (OfObject o) d h held = h.steady.stays o held
 still_there e (OfClass c) d h has = tt
 
@@ -61,7 +61,7 @@ left_if_told e None d h has = h
 left_if_told e (Some lock) d h has = if_case (λ (x : Doing). Told e x) (owns e d lock) (left lock d) d (left_told e lock d h (still_there e lock d h has)) h
 
 -- what a state with these records is
-under : (e : Moment) (d : Doing) → Told e d → IsUnder e d.state
+pub under : (e : Moment) (d : Doing) → Told e d → IsUnder e d.state
 under e d h = record { sound = h.sound; clock = h.clock; thread = h.thread; stays = h.steady.stays }
 
 module _ (e : Moment) (ready : Ready e) (strings : HasPlainStrings e.program) where
@@ -166,11 +166,11 @@ module _ (e : Moment) (ready : Ready e) (strings : HasPlainStrings e.program) wh
   records_come ph d (Starts o x h a) = let g : Told e x = records_come Level x h in started_told e o x g (a (under e x g))
   records_come ph d Ends = ended_told
   records_come ph d (ClassBecomes q c y x h) = state_told e c y x (records_come q x h)
-  records_come ph d (WritesStatic i v x h lt a) = let g : Told e x = records_come Level x h in written_static_told e i v x g lt (a (under e x g))
+  records_come ph d (WritesStatic i v x h lt a typed) = let g : Told e x = records_come Level x h in written_static_told e i v x g lt (a (under e x g))
   records_come ph d (Interns bytes x h) = (interned_told e bytes x strings (records_come Level x h)).tells
   records_come ph d (MakesInstance q class x makes h lt plain) = instance_told e class x (records_come q x h) plain
   records_come ph d (MakesArray class n x makes h array) = array_told e class n x (records_come Level x h) array.array
-  records_come ph d (WritesSlot q o i v x h a) = let g : Told e x = records_come q x h in let w : MayWrite x.state.heap o i v = a (under e x g) in slot_told e o i v x g w.held w.slot w.value
+  records_come ph d (WritesSlot q o i v x h a tells) = let g : Told e x = records_come q x h in let w : MayWrite x.state.heap o i v = a (under e x g) in slot_told e o i v x g w.held w.slot w.value
   records_come ph d (EntersMonitor o x h at held) = let g : Told e x = records_come Level x h in entered_told e (OfObject o) x g (g.steady.stays o held)
   records_come ph d (LeavesMonitor o x h at held) = let g : Told e x = records_come Level x h in left_told e (OfObject o) x g (g.steady.stays o held)
   records_come ph d (SetsReferent o r x h a) = let g : Told e x = records_come Level x h in referent_told e o r x g (a (under e x g)).0 (a (under e x g)).1

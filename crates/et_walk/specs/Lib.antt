@@ -3,4 +3,5 @@ pub mod Records
 pub mod Holding
 pub mod Changing
 pub mod Telling
+pub mod Writes
 pub mod Steps

@@ -1,6 +1,6 @@
 -- THE STEPS OF AN EVENT: what each event of the table is made of.
 use Rattle.et_base.specs.declared.value.Value.{Value}
-use Rattle.et_base.specs.declared.value.Value.TheVariants.{Ref}
+use Rattle.et_base.specs.declared.value.Value.TheVariants.{Null, Ref, Unset}
 use Rattle.et_code.specs.Bodies.{Body}
 use Rattle.et_event.specs.BuiltIns.{with_first_taken, with_queue_of, with_referent_of, with_thread_for}
 use Rattle.et_event.specs.Calls.{frame_returned}
@@ -8,15 +8,18 @@ use Rattle.et_event.specs.Errors.{error_class}
 use Rattle.et_event.specs.Frames.{frame_entered, receiver_of}
 use Rattle.et_event.specs.Heap.{arrays_made, leaving_values}
 use Rattle.et_event.specs.Initialization.{initializer_frame, with_state}
-use Rattle.et_event.specs.Moments.{Doing, Moment, array_made, begins, current_frame, entry_given_up, fits_heap, instance_made, later, next_object, pending_now, slot_written, static_written, thread_of, told, with_frame, with_thread_state}
+use Rattle.et_event.specs.Moments.{Doing, Moment, array_made, begins, current_frame, entry_given_up, fits_heap, instance_made, later, next_object, number_of_value, pending_now, slot_written, static_written, thread_of, told, with_frame, with_thread_state}
 use Rattle.et_event.specs.Monitors.{Lock, OfClass, OfObject, entered, left, lock_for, lock_in, may_enter_some, owns_some}
 use Rattle.et_event.specs.Programs.{HasDimensions, IsArrayClass}
 use Rattle.et_event.specs.Sites.{Site, running_method}
 use Rattle.et_event.specs.Strings.{interned}
 use Rattle.et_event.specs.Throw.{dropped, handled, left_if_owned, replaced}
 use Rattle.et_event.specs.declared.errors.GuestError.{GuestError}
-use Rattle.et_heap.specs.Objects.{IsHeld, Objects, object_at}
-use Rattle.et_program.specs.Entries.{Linked, class_at, method_at}
+use Rattle.et_heap.specs.Objects.{IsHeld, Objects, object_at, slot_of}
+use Rattle.et_event.specs.Operands.{operand_kind}
+use Rattle.et_event.specs.PoolOperands.Operand.{Operand}
+use Rattle.et_event.specs.Sound.{is_of_kind}
+use Rattle.et_program.specs.Entries.{Linked, class_at, field_at, method_at}
 use Rattle.et_program.specs.declared.info.Element.TheVariants.{NoArray}
 use Rattle.et_state.specs.Outcome.{Outcome}
 use Rattle.et_state.specs.Sound.{IsSound}
@@ -27,7 +30,8 @@ use Rattle.et_state.specs.declared.class_state.ClassState.{ClassState}
 use Rattle.et_state.specs.declared.records.Record.TheVariants.{Enter, Unwind}
 use Rattle.et_walk.specs.Holding.{monitor_row_at}
 use Rattle.et_walk.specs.Values.{Fine, FineFrame, FineSome, Fines, Grows}
-use Rattle.std.specs.Prelude.{IfSome, List, None, Option, false, length, true, unwrap_or, ℕ, ◌+◌, ◌<◌, ◌∷◌, ◌≡◌, ◌⊎◌}
+use Rattle.et_walk.specs.Writes.{HasCause}
+use Rattle.std.specs.Prelude.{IfSome, List, None, Option, false, length, slice_index_or, true, unwrap_or, ℕ, ◌+◌, ◌<◌, ◌∷◌, ◌≡◌, ◌⊎◌}
 use Rattle.et_state.specs.Outcome as outcome
 
 -- what an event may have made so far: the strings of constants alone, or other objects too
@@ -89,6 +93,27 @@ pub record MayWrite (h : Objects) (o i : ℕ) (v : Value) : Type 0 where
   pub slot : HasSlot h o i
   pub value : Fine h v
 
+-- null, or an object
+abbrev pub IsReference : Value → Type 0
+IsReference Null = Unit {0}
+IsReference (Ref o) = Unit {0}
+IsReference other = ⊥
+
+-- What a write tells is true: the slot is one of the object, also that of a cause where its class has one, and where no
+-- reference is written none stood there.
+pub record MayTell (p : Linked) (h : Objects) (o i : ℕ) (v : Value) : Type 0 where
+  pub slot : HasCause p → i < length (object_at h o).slots
+  pub plain : IsReference v ⊎ (number_of_value (slot_of (object_at h o) i) ≡ 0)
+
+-- the type of a static
+abbrev pub kind_of_static : Linked → ℕ → Option Operand
+kind_of_static p i = operand_kind (field_at p (slice_index_or p.statics i 0)).descriptor
+
+-- a value of a type
+pub record IsTyped (type : Option Operand) (v : Value) : Type 0 where
+  pub kind : is_of_kind type v ≡ true
+  pub given : v ≡ Unset → ⊥
+
 -- THE STEPS. What a step asks beside its words is given by the table, or follows from the state to which the event has come.
 pub data Comes (e : Moment) (k : Making) : Phase → Doing → Type 0 where
   Begins : Comes e k Level (begins e)
@@ -116,12 +141,13 @@ pub data Comes (e : Moment) (k : Making) : Phase → Doing → Type 0 where
   Ends : Comes e k Level (with_thread_state e (as_ended (thread_of e)) (begins e))
   -- classes and statics
   ClassBecomes : (ph : Phase) (c : ℕ) (x : ClassState) (d : Doing) → Comes e k ph d → Comes e k ph (with_state c x d)
-  WritesStatic : (i : ℕ) (v : Value) (d : Doing) → Comes e k Level d → i < length e.program.statics → (IsUnder e d.state → Fine d.state.heap v) → Comes e k Level (static_written e i v d)
+  WritesStatic : (i : ℕ) (v : Value) (d : Doing) → Comes e k Level d → i < length e.program.statics → (IsUnder e d.state → Fine d.state.heap v) → IsTyped (kind_of_static e.program i) v
+      → Comes e k Level (static_written e i v d)
   Interns : (bytes : List ℕ) (d : Doing) → Comes e k Level d → Comes e k Level (interned e bytes d)
   -- objects: one is made, a slot is written, a monitor is entered or left, a reference is set, a queue is polled
   MakesInstance : (ph : Phase) (class : ℕ) (d : Doing) → MakesObjects k → Comes e k ph d → class < length e.program.classes → (class_at e.program class).info.element ≡ NoArray → Comes e k ph (instance_made e class d)
   MakesArray : (class n : ℕ) (d : Doing) → MakesObjects k → Comes e k Level d → IsArrayClass e.program class → Comes e k Level (array_made e class n d)
-  WritesSlot : (ph : Phase) (o i : ℕ) (v : Value) (d : Doing) → Comes e k ph d → (IsUnder e d.state → MayWrite d.state.heap o i v) → Comes e k ph (slot_written e o i v d)
+  WritesSlot : (ph : Phase) (o i : ℕ) (v : Value) (d : Doing) → Comes e k ph d → (IsUnder e d.state → MayWrite d.state.heap o i v) → MayTell e.program d.state.heap o i v → Comes e k ph (slot_written e o i v d)
   EntersMonitor : (o : ℕ) (d : Doing) → Comes e k Level d → IsAtMonitor e → IsHeld e.before.heap o → Comes e k Locked (entered e (OfObject o) d)
   LeavesMonitor : (o : ℕ) (d : Doing) → Comes e k Level d → IsAtMonitor e → IsHeld e.before.heap o → Comes e k Locked (left (OfObject o) d)
   SetsReferent : (o : ℕ) (r : Option ℕ) (d : Doing) → Comes e k Level d → (IsUnder e d.state → IsHeld d.state.heap o × FineSome d.state.heap r) → Comes e k Level (with_referent_of o r d)

@@ -11,6 +11,7 @@ ghost use Rattle.et_walk.specs.Changing.{KeepsMonitors, LeadsToSound};
 ghost use Rattle.et_walk.specs.Records.{HasPlainStrings, TellsObjects};
 ghost use Rattle.et_walk.specs.Steps.{Leads};
 ghost use Rattle.et_walk.specs.Telling.{IsToldOf};
+ghost use Rattle.et_walk.specs.Writes.{HasCause, TellsWrites};
 
 /// Each event of a thread that has not ended, in a sound state of a program that may be run, is made of steps, in order, with
 /// their records. Where the thread waits, the clock alone goes on. At the limits of the heap the event would be made of
@@ -37,6 +38,15 @@ pub fn events_tell_objects()
     ensures { (p : Linked) (s : Kept) (t : ℕ) →
         IsSoundFor p s → IsUnended s.guest t → IsRunnable p → HasPlainStrings p →
         TellsObjects p s t (event p s t) }
+{}
+
+/// The U records of an event are its writes of references to slots of objects and to statics, in order: each tells which one
+/// stood there and which one stands there then, and from what stood before the event to what stands after it nothing else
+/// leads. So each write of a reference has its record, and no U record is without a write. A thread that waits writes nothing.
+pub fn events_tell_writes()
+    ensures { (p : Linked) (s : Kept) (t : ℕ) →
+        IsSoundFor p s → IsUnended s.guest t → IsRunnable p → HasPlainStrings p → HasCause p →
+        TellsWrites s (event p s t) }
 {}
 
 /// Each event of a thread that has not ended enters and leaves the monitors that its instruction and its frames say, and
