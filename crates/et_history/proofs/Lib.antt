@@ -14,6 +14,7 @@ mod NewTurns
 mod Reached
 mod Allocations
 mod LinkedSizes
+mod Causes
 pub mod Ends
 mod Runs
 pub mod PoolWords

@@ -14,7 +14,9 @@ ghost use Rattle.et_event.specs.Start.{start_records};
 ghost use Rattle.et_linked.specs.ClassNames.{HasClassName};
 ghost use Rattle.et_history.specs.Allocations.{AreAllocations, HasArguments, IsMadeAt, next_number};
 ghost use Rattle.et_history.specs.Histories.{WholeGoesOn, whole_at, whole_picked};
+ghost use Rattle.et_event.specs.Runnable.{IsRunnable};
 ghost use Rattle.et_walk.specs.Records.{HasPlainStrings};
+ghost use Rattle.et_walk.specs.Writes.{HasCause};
 ghost use Rattle.et_history.specs.Settings.{IsSoundRun};
 ghost use Rattle.et_history.specs.Whole.{whole_start};
 
@@ -29,10 +31,13 @@ pub fn allocations_are_told()
         (next_number (whole_at reached p options pick e)) }
 {}
 
-/// A linked program has what these laws ask: a string is no array, and the arguments of `main` are one.
+/// A linked program has what these laws, and those of its events, ask: a string is no array, the arguments of `main` are one,
+/// and an ExceptionInInitializerError has a slot for its cause.
 pub fn programs_have_sizes()
     ensures strings { (files : List LoadedClass) (p : Linked) →
         IsProgramOf files p → HasPlainStrings p }
     ensures arguments { (files : List LoadedClass) (p : Linked) →
         All HasClassName files → IsProgramOf files p → HasArguments p }
+    ensures cause { (files : List LoadedClass) (p : Linked) →
+        IsProgramOf files p → IsRunnable p → HasCause p }
 {}
