@@ -6,8 +6,10 @@ pub mod Sortings
 pub mod LinkLemmas
 pub mod FaultLemmas
 pub mod AddLemmas
+pub mod BelowTable
 pub mod OnceLemmas
 pub mod BelowLemmas
+pub mod Repeats
 pub mod Rounds
 pub mod OrderedRows
 pub mod Unique

@@ -2,6 +2,7 @@
 //! each class (JVMS 5.3.5).
 #![tactic(auto)]
 
+mod below;
 mod check;
 mod fault;
 mod index;

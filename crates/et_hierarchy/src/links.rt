@@ -1,6 +1,6 @@
 //! The superclasses and interfaces of the classes, by place.
 
-ghost use Rattle.std.specs.Prelude.{◌≡◌, ℕ, ◌<◌, ◌^◌, List, length, IfOk, IfSome, MatchOption, Option, All};
+ghost use Rattle.std.specs.Prelude.{◌≡◌, ℕ, ◌<◌, ◌^◌, List, [], ◌∷◌, ◌++◌, length, OnOk, IfOk, IfSome, MatchOption, Option, All};
 ghost use Rattle.std.specs.List.{slice_index_or};
 ghost use Rattle.et_hierarchy.specs.Outline.{class_place, outline_at};
 ghost use Rattle.et_hierarchy.specs.Faults.{IsFree, IsFirstToShow, names_class, is_interface_named, has_supers, has_final_super};
@@ -29,7 +29,7 @@ impl Model for Links {
 }
 
 impl Links {
-    ghost use Rattle.et_hierarchy.specs.Links.{parents_of};
+    ghost use Rattle.et_hierarchy.specs.Links.{parents_of, no_links};
 
     /// The direct superclass.
     pub fn above(&self) -> Option<u32>
@@ -43,6 +43,25 @@ impl Links {
         ensures { result.now ≡ self.now.interfaces }
     {
         self.interfaces.as_slice()
+    }
+
+    /// Nothing right above.
+    pub(crate) fn none(alloc: Global) -> Links
+        ensures { result ≡ no_links }
+    {
+        Links {
+            above: None,
+            interfaces: Vec::new(alloc),
+        }
+    }
+
+    /// One interface more, at the end.
+    pub(crate) fn push(&mut self, interface: u32) -> Result<(), AllocError>
+        ensures { OnOk result (self.new
+            ≡ record self.old { interfaces = self.old.interfaces ++ interface ∷ [] }) }
+    {
+        self.interfaces.push(interface)?;
+        Ok(())
     }
 
     /// How many classes are right above.

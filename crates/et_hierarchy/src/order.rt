@@ -8,7 +8,7 @@ ghost use Rattle.et_hierarchy.specs.Initialization.{interfaces_to_run, with_inte
 
 use crate::links::Links;
 use crate::rows::Row;
-use crate::tables::{add, add_all, add_interfaces};
+use crate::tables::{add, add_all, add_interfaces, distinct};
 use et_base::ClassId;
 use indexmap::IndexSet;
 use std::alloc::{AllocError, Global};
@@ -36,9 +36,11 @@ pub fn interfaces_to_run(
     ensures { IfOk result (λ list.
         list.items ≡ interfaces_to_run (λ k. slice_index_or needs.now k false) rows.now links.now) }
 {
+    let interfaces = distinct(alloc, links.interfaces())?;
     let mut all = IndexSet::new(alloc);
-    add_interfaces(&mut all, rows, links.interfaces())?;
-    marked_among(alloc, needs, all.as_slice())
+    add_interfaces(&mut all, rows, interfaces.as_slice())?;
+    let list = marked_among(alloc, needs, all.as_slice())?;
+    Ok(list)
 }
 
 ghost use Rattle.std.specs.Prelude.{filter};

@@ -5,6 +5,7 @@ ghost use Rattle.std.specs.Option.{option_to_list};
 ghost use Rattle.et_hierarchy.specs.Search.{VisitsLinks, IsMarkedIn};
 ghost use Rattle.et_hierarchy.specs.Links.{parents_of, IsAncestor, HasLinksWithin, AnswersCycle};
 
+use crate::below::turned;
 use crate::links::Links;
 use crate::sorting::sort;
 use std::alloc::{AllocError, Global};
@@ -84,8 +85,30 @@ pub(crate) fn ancestors(alloc: Global, table: &[Links], class: u32) -> Result<Ve
     Ok(marks)
 }
 
-/// The first class that is its own ancestor. Only classes that can't be put in order are searched from, so that where
-/// there is no such class the time is linear in the number of classes and links.
+/// The first class that is its own ancestor, where none before `from` is. A class that can be put in order behind all those
+/// below it has no such class below it, so it isn't one, and isn't searched from.
+fn first_among(alloc: Global, table: &[Links], from: usize) -> Result<Option<u32>, AllocError>
+    requires few { length table.now < 2 ^ 32 }
+    requires within { HasLinksWithin (length table.now) table.now }
+    requires before { (j : ℕ) → j < from → IsAncestor table.now j j → ⊥ }
+    ensures { IfOk result (AnswersCycle table.now) }
+{
+    let below = turned(alloc, table)?;
+    let sorting = sort(alloc, below.as_slice())?;
+    for k in from..table.len() {
+        if sorting.is_done(k) {
+            continue;
+        }
+        let marks = ancestors(alloc, table, k as u32)?;
+        if marks[k] {
+            return Ok(Some(k as u32));
+        }
+    }
+    Ok(None)
+}
+
+/// The first class that is its own ancestor. Classes that can be put in order, each behind those above it or each behind
+/// those below it, are none. The others are on a way from such a class to such a class, and are searched from in turn.
 pub(crate) fn first_on_cycle(alloc: Global, table: &[Links]) -> Result<Option<u32>, AllocError>
     requires few { length table.now < 2 ^ 32 }
     requires within { HasLinksWithin (length table.now) table.now }
@@ -93,12 +116,8 @@ pub(crate) fn first_on_cycle(alloc: Global, table: &[Links]) -> Result<Option<u3
 {
     let sorting = sort(alloc, table)?;
     for k in 0..table.len() {
-        if sorting.is_done(k) {
-            continue;
-        }
-        let marks = ancestors(alloc, table, k as u32)?;
-        if marks[k] {
-            return Ok(Some(k as u32));
+        if !sorting.is_done(k) {
+            return first_among(alloc, table, k);
         }
     }
     Ok(None)

@@ -32,6 +32,15 @@ pub(crate) fn add_all(list: &mut IndexSet<u32>, classes: &[u32]) -> Result<(), A
     Ok(())
 }
 
+/// Each of these classes once.
+pub(crate) fn distinct(alloc: Global, classes: &[u32]) -> Result<IndexSet<u32>, AllocError>
+    ensures { IfOk result (λ list. list.keys ≡ once classes.now) }
+{
+    let mut list = IndexSet::new(alloc);
+    add_all(&mut list, classes)?;
+    Ok(list)
+}
+
 /// Puts each of these classes behind a list, unless the list has it.
 fn add_each(list: &mut IndexSet<u32>, classes: &[ClassId]) -> Result<(), AllocError>
     ensures { OnOk result (list.new.keys ≡ added_all list.old.keys classes.now) }
@@ -159,10 +168,10 @@ fn superinterfaces(
         (λ list. list.items ≡ (ancestry_of links.now rows.now class).superinterfaces) }
 {
     let above = links.above();
-    let interfaces = links.interfaces();
+    let interfaces = distinct(alloc, links.interfaces())?;
     let mut superinterfaces = IndexSet::new(alloc);
     add_superinterfaces_over(&mut superinterfaces, rows, above)?;
-    add_interfaces(&mut superinterfaces, rows, interfaces)?;
+    add_interfaces(&mut superinterfaces, rows, interfaces.as_slice())?;
     let list = Vec::from_slice(alloc, superinterfaces.as_slice())?;
     Ok(list)
 }
@@ -175,10 +184,10 @@ fn searched(alloc: Global, links: &Links, rows: &[Row], class: u32) -> Result<Cl
     ensures { IfOk result (λ list. list ≡ (ancestry_of links.now rows.now class).field_order) }
 {
     let above = links.above();
-    let interfaces = links.interfaces();
+    let interfaces = distinct(alloc, links.interfaces())?;
     let mut field_order = IndexSet::new(alloc);
     add(&mut field_order, class)?;
-    add_field_orders(&mut field_order, rows, interfaces)?;
+    add_field_orders(&mut field_order, rows, interfaces.as_slice())?;
     add_field_order_over(&mut field_order, rows, above)?;
     let list = ClassList::of_numbers(alloc, field_order.as_slice())?;
     Ok(list)
