@@ -19,4 +19,3 @@ pub mod Books
 pub mod Insides
 pub mod Legality
 pub mod ListedOnce
-pub mod Events

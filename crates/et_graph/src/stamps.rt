@@ -1,7 +1,7 @@
 //! A stamp for each object.
 ghost use Rattle.std.specs.Prelude.{◌≡◌, ◌<◌, ◌≤◌, ◌^◌, ℕ, [], length, All, OnOk, slice_index, slice_set};
 
-use et_base::{NoMemory, ObjectId};
+use et_base::{NoMemory, ObjectId, within};
 use std::alloc::Global;
 use std::marker::Model;
 
@@ -34,14 +34,18 @@ impl Stamps {
         }
     }
 
-    /// Makes places up to this object. The stamps that are there stay, also after `NoMemory`, and a new place has 0.
+    /// Makes places up to this object, and half as many more, where it has none yet. The stamps that are there stay, also
+    /// after `NoMemory`, and a new place has 0.
     pub fn grow(&mut self, objects: u32) -> Result<(), NoMemory>
         ensures long { OnOk result (objects < length self.new) }
         ensures longer { length self.old ≤ length self.new }
         ensures kept { (o : ℕ) → slice_index self.new o ≡ slice_index self.old o }
     {
-        'grow: while self.stamps.len() <= objects as usize {
-            self.stamps.push(0)?;
+        let places = objects as usize + 1;
+        if self.stamps.len() < places {
+            let places = places + places / 2;
+            within::reserve(&mut self.stamps, places)?;
+            within::resize(&mut self.stamps, places, 0);
         }
         Ok(())
     }
