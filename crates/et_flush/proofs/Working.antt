@@ -1,6 +1,6 @@
 -- The times of a flush.
 use Rattle.std.proofs.Common.{◌≡◌, ℕ, ◌<◌, ◌≤◌, Bool, true, false, List, [], ◌∷◌, length, get_or, Contains, All, arith}
-use Rattle.std.specs.Prelude.{if◌then◌else◌, max}
+use Rattle.std.specs.Prelude.{if◌then◌else◌}
 use Rattle.std.proofs.lemmas.List.{get_or_default}
 use Rattle.std.proofs.lemmas.List.Elements.{Contains-get_or}
 use Rattle.std.proofs.lemmas.List.Sums.{sum_by-cons}
@@ -23,21 +23,6 @@ pub times_below : (held stamps times : List ℕ) → AreTimes held stamps times 
 times_below held stamps times begins within below k d lt =
     let inside : k < length held = omega (arith, begins.long) in
     omega (arith, get_or_default times k d 0 lt, begins.each k inside, below (get_or held k 0) 0 (within (get_or held k 0) (Contains-get_or held k 0 inside)))
-
--- there are places for the more of two numbers
-pub places_max : (n m k : ℕ) (w : Work) → k ≡ max n m → HasWorkPlaces n w → HasWorkPlaces m w → HasWorkPlaces k w
-places_max n m k w is a b = record {
-  runs = omega (arith, a.runs, b.runs);
-  ranks = a.ranks;
-  times = omega (arith, a.times, b.times);
-  reached = omega (arith, a.reached, b.reached);
-  seen = omega (arith, a.seen, b.seen);
-  waiting = omega (arith, a.waiting, b.waiting);
-  held = omega (arith, a.held, b.held);
-  order = omega (arith, a.order, b.order);
-  deaths = omega (arith, a.deaths, b.deaths);
-  cleared = omega (arith, a.cleared, b.cleared);
-}
 
 pub places_least : (n m : ℕ) (w : Work) → n ≤ m → HasWorkPlaces m w → HasWorkPlaces n w
 places_least n m w le h = record {

@@ -51,15 +51,19 @@ impl FlushRoom {
         }
     }
 
-    /// Makes places up to this object. What is there stays. After `NoMemory` it is as before.
+    /// Makes places up to this object, and half as many more, where it has none yet. What is there stays. After `NoMemory` it is
+    /// as before.
     pub fn grow(&mut self, objects: u32) -> Result<(), NoMemory>
         ensures places { OnOk result (objects ≤ self.new.places) }
         ensures kept { self.old.places ≤ self.new.places }
         ensures deaths { self.new.deaths ≡ self.old.deaths }
         ensures err { OnErr result (self.new ≡ self.old) }
     {
-        reserve(&mut self.work, objects)?;
-        self.places = self.places.max(objects);
+        if objects > self.places {
+            let places = objects.saturating_add(objects / 2);
+            reserve(&mut self.work, places)?;
+            self.places = places;
+        }
         Ok(())
     }
 
