@@ -12,7 +12,7 @@ use Rattle.et_program.specs.Resolution.{resolve_class, resolve_method, select, s
 use Rattle.et_event.specs.declared.errors.GuestError.{GuestError}
 use Rattle.et_event.specs.declared.errors.GuestError.TheVariants.{IncompatibleClassChangeError, NullPointerException}
 use Rattle.et_event.specs.declared.rows.CallKind.TheVariants.{Virtual, Special, Interface}
-use Rattle.et_event.specs.Calls.{arguments_of, call_fits, dispatched, enters_method, entry_count, invoke, is_as, is_of_owner, is_static_call, special_class, with_method, with_type}
+use Rattle.et_event.specs.Calls.{arguments_of, call_fits, dispatched, enters_method, entry_count, fits_resolved, invoke, is_as, is_static_call, special_class, with_method, with_type}
 use Rattle.et_event.specs.declared.rows.CallKind.{CallKind}
 use Rattle.et_builtins.specs.Arguments.{fitting}
 use Rattle.et_builtins.specs.Deferred.{selected_by, selected_from, selected_method, selected_on, with_resolved}
@@ -35,17 +35,17 @@ class_within p m o sound held = (sound.objects o (found (at m.heap o)) (there_is
 
 pub virtual_null : (e : Moment) (at : Site) (args : List Value) (named m : ℕ) → first_reference args ≡ None → dispatched e at Virtual args named m ≡ throws e NullPointerException (begins e)
 virtual_null e at args named m h =
-    ap (λ (r : Option ℕ). not_null e (begins e) r (λ o. ill_typed_unless e (is_of_owner e (begins e) m o) (after_selection e (begins e) (select e.program (object_class (begins e) o) m false) (enters_method e at (begins e) args)))) h
+    ap (λ (r : Option ℕ). not_null e (begins e) r (λ o. ill_typed_unless e (fits_resolved e (begins e) args m o) (after_selection e (begins e) (select e.program (object_class (begins e) o) m false) (enters_method e at (begins e) args)))) h
 
-pub virtual_refused : (e : Moment) (at : Site) (args : List Value) (named m o : ℕ) → first_reference args ≡ Some o → is_of_owner e (begins e) m o ≡ false → dispatched e at Virtual args named m ≡ ill_typed e
+pub virtual_refused : (e : Moment) (at : Site) (args : List Value) (named m o : ℕ) → first_reference args ≡ Some o → fits_resolved e (begins e) args m o ≡ false → dispatched e at Virtual args named m ≡ ill_typed e
 virtual_refused e at args named m o h b =
-    ap (λ (r : Option ℕ). not_null e (begins e) r (λ o. ill_typed_unless e (is_of_owner e (begins e) m o) (after_selection e (begins e) (select e.program (object_class (begins e) o) m false) (enters_method e at (begins e) args)))) h
+    ap (λ (r : Option ℕ). not_null e (begins e) r (λ o. ill_typed_unless e (fits_resolved e (begins e) args m o) (after_selection e (begins e) (select e.program (object_class (begins e) o) m false) (enters_method e at (begins e) args)))) h
     ∙ ap (λ (x : Bool). ill_typed_unless e x (after_selection e (begins e) (select e.program (object_class (begins e) o) m false) (enters_method e at (begins e) args))) b
 
-pub virtual_selected : (e : Moment) (at : Site) (args : List Value) (named m o : ℕ) → first_reference args ≡ Some o → is_of_owner e (begins e) m o ≡ true
+pub virtual_selected : (e : Moment) (at : Site) (args : List Value) (named m o : ℕ) → first_reference args ≡ Some o → fits_resolved e (begins e) args m o ≡ true
     → dispatched e at Virtual args named m ≡ after_selection e (begins e) (select e.program (object_class (begins e) o) m false) (enters_method e at (begins e) args)
 virtual_selected e at args named m o h b =
-    ap (λ (r : Option ℕ). not_null e (begins e) r (λ o. ill_typed_unless e (is_of_owner e (begins e) m o) (after_selection e (begins e) (select e.program (object_class (begins e) o) m false) (enters_method e at (begins e) args)))) h
+    ap (λ (r : Option ℕ). not_null e (begins e) r (λ o. ill_typed_unless e (fits_resolved e (begins e) args m o) (after_selection e (begins e) (select e.program (object_class (begins e) o) m false) (enters_method e at (begins e) args)))) h
     ∙ ap (λ (x : Bool). ill_typed_unless e x (after_selection e (begins e) (select e.program (object_class (begins e) o) m false) (enters_method e at (begins e) args))) b
 
 pub interface_null : (e : Moment) (at : Site) (args : List Value) (named m : ℕ) → first_reference args ≡ None → dispatched e at Interface args named m ≡ throws e NullPointerException (begins e)
@@ -59,17 +59,17 @@ interface_selected e at args named m o h =
 
 pub special_null : (e : Moment) (at : Site) (args : List Value) (named m : ℕ) → first_reference args ≡ None → dispatched e at Special args named m ≡ throws e NullPointerException (begins e)
 special_null e at args named m h =
-    ap (λ (r : Option ℕ). not_null e (begins e) r (λ o. ill_typed_unless e (is_of_owner e (begins e) m o) (after_selection e (begins e) (select_special e.program at.class (special_class e.program named) m) (enters_method e at (begins e) args)))) h
+    ap (λ (r : Option ℕ). not_null e (begins e) r (λ o. ill_typed_unless e (fits_resolved e (begins e) args m o) (after_selection e (begins e) (select_special e.program at.class (special_class e.program named) m) (enters_method e at (begins e) args)))) h
 
-pub special_refused : (e : Moment) (at : Site) (args : List Value) (named m o : ℕ) → first_reference args ≡ Some o → is_of_owner e (begins e) m o ≡ false → dispatched e at Special args named m ≡ ill_typed e
+pub special_refused : (e : Moment) (at : Site) (args : List Value) (named m o : ℕ) → first_reference args ≡ Some o → fits_resolved e (begins e) args m o ≡ false → dispatched e at Special args named m ≡ ill_typed e
 special_refused e at args named m o h b =
-    ap (λ (r : Option ℕ). not_null e (begins e) r (λ o. ill_typed_unless e (is_of_owner e (begins e) m o) (after_selection e (begins e) (select_special e.program at.class (special_class e.program named) m) (enters_method e at (begins e) args)))) h
+    ap (λ (r : Option ℕ). not_null e (begins e) r (λ o. ill_typed_unless e (fits_resolved e (begins e) args m o) (after_selection e (begins e) (select_special e.program at.class (special_class e.program named) m) (enters_method e at (begins e) args)))) h
     ∙ ap (λ (x : Bool). ill_typed_unless e x (after_selection e (begins e) (select_special e.program at.class (special_class e.program named) m) (enters_method e at (begins e) args))) b
 
-pub special_selected : (e : Moment) (at : Site) (args : List Value) (named m o : ℕ) → first_reference args ≡ Some o → is_of_owner e (begins e) m o ≡ true
+pub special_selected : (e : Moment) (at : Site) (args : List Value) (named m o : ℕ) → first_reference args ≡ Some o → fits_resolved e (begins e) args m o ≡ true
     → dispatched e at Special args named m ≡ after_selection e (begins e) (select_special e.program at.class (special_class e.program named) m) (enters_method e at (begins e) args)
 special_selected e at args named m o h b =
-    ap (λ (r : Option ℕ). not_null e (begins e) r (λ o. ill_typed_unless e (is_of_owner e (begins e) m o) (after_selection e (begins e) (select_special e.program at.class (special_class e.program named) m) (enters_method e at (begins e) args)))) h
+    ap (λ (r : Option ℕ). not_null e (begins e) r (λ o. ill_typed_unless e (fits_resolved e (begins e) args m o) (after_selection e (begins e) (select_special e.program at.class (special_class e.program named) m) (enters_method e at (begins e) args)))) h
     ∙ ap (λ (x : Bool). ill_typed_unless e x (after_selection e (begins e) (select_special e.program at.class (special_class e.program named) m) (enters_method e at (begins e) args))) b
 
 -- THE CHECKS BEFORE THE RECEIVER
@@ -124,15 +124,15 @@ selected_is e at kind m h =
 
 -- .. by the kind of the invoke
 pub by_kind : (e : Moment) (at : Site) (kind same : CallKind) (r : Option ℕ) (count named m : ℕ) → kind ≡ same
-    → kept (is_deferred e.program) r ≡ kept (is_deferred e.program) (option_and_then (selected_on e at same named m) (first_reference (arguments_of e count)))
-    → kept (is_deferred e.program) r ≡ kept (is_deferred e.program) (option_and_then (selected_on e at kind named m) (first_reference (arguments_of e count)))
+    → kept (is_deferred e.program) r ≡ kept (is_deferred e.program) (option_and_then (selected_on e at same (arguments_of e count) named m) (first_reference (arguments_of e count)))
+    → kept (is_deferred e.program) r ≡ kept (is_deferred e.program) (option_and_then (selected_on e at kind (arguments_of e count) named m) (first_reference (arguments_of e count)))
 by_kind e at kind same r count named m is h =
-    subst (λ (k : CallKind). kept (is_deferred e.program) r ≡ kept (is_deferred e.program) (option_and_then (selected_on e at k named m) (first_reference (arguments_of e count)))) (sym is) h
+    subst (λ (k : CallKind). kept (is_deferred e.program) r ≡ kept (is_deferred e.program) (option_and_then (selected_on e at k (arguments_of e count) named m) (first_reference (arguments_of e count)))) (sym is) h
 
 -- .. where the method is static or not as the invoke wants it
 pub from_by : (e : Moment) (at : Site) (kind : CallKind) (count named m : ℕ) (b : Bool) → is_as (is_static_call kind) (is_static e.program m) ≡ b
-    → selected_from e at kind (arguments_of e count) named m ≡ (if b then option_and_then (selected_on e at kind named m) (first_reference (arguments_of e count)) else None)
-from_by e at kind count named m b is = ap (λ (x : Bool). if x then option_and_then (selected_on e at kind named m) (first_reference (arguments_of e count)) else None) is
+    → selected_from e at kind (arguments_of e count) named m ≡ (if b then option_and_then (selected_on e at kind (arguments_of e count) named m) (first_reference (arguments_of e count)) else None)
+from_by e at kind count named m b is = ap (λ (x : Bool). if x then option_and_then (selected_on e at kind (arguments_of e count) named m) (first_reference (arguments_of e count)) else None) is
 
 -- .. by what was resolved
 abbrev pub found_by : Result (ℕ × ℕ) GuestError → (ℕ → ℕ → Option ℕ) → Option ℕ

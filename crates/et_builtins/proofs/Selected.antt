@@ -17,12 +17,12 @@ use Rattle.et_event.specs.Checks.{ill_typed_unless, throws_unless, waits_unless}
 use Rattle.et_event.specs.Moments.{Moment, begins, ill_typed, waits}
 use Rattle.et_event.specs.Sites.{Site}
 
-pub fit_answers : (e : Moment) (at : Site) (args : List Value) (o : ℕ) (b : BuiltIn) (end : EventEnd) (m m' : MachineState) (out out' : List Record) → is_fit_for e (begins e) args o b ≡ true
+pub fit_answers : (e : Moment) (at : Site) (args : List Value) (o : ℕ) (b : BuiltIn) (end : EventEnd) (m m' : MachineState) (out out' : List Record) → is_fit_for e (begins e) o b ≡ true
     → EventAnswers (row_done e at (begins e) args o b) end m m' out out' → EventAnswers (built_in_row e at (begins e) args o b) end m m' out out'
 fit_answers e at args o b end m m' out out' fit a =
     subst (λ (x : Outcome Kept). EventAnswers x end m m' out out') (sym (ap (λ (c : Bool). ill_typed_unless e c (row_done e at (begins e) args o b)) fit)) a
 
-pub unfit_answers : (e : Moment) (at : Site) (args : List Value) (o : ℕ) (b : BuiltIn) (end : EventEnd) (m m' : MachineState) (out out' : List Record) → is_fit_for e (begins e) args o b ≡ false
+pub unfit_answers : (e : Moment) (at : Site) (args : List Value) (o : ℕ) (b : BuiltIn) (end : EventEnd) (m m' : MachineState) (out out' : List Record) → is_fit_for e (begins e) o b ≡ false
     → EventAnswers (ill_typed e) end m m' out out' → EventAnswers (built_in_row e at (begins e) args o b) end m m' out out'
 unfit_answers e at args o b end m m' out out' unfit a =
     subst (λ (x : Outcome Kept). EventAnswers x end m m' out out') (sym (ap (λ (c : Bool). ill_typed_unless e c (row_done e at (begins e) args o b)) unfit)) a

@@ -5,7 +5,7 @@ use Rattle.std.specs.List.{position_from}
 use Rattle.et_base.specs.declared.value.Value.{Value}
 use Rattle.et_base.specs.declared.value.Value.TheVariants.{Unset, Int, Long, LongHigh, Null, Ref}
 use Rattle.et_base.proofs.Lists.{Contains-none, Contains-cons}
-use Rattle.et_heap.specs.Objects.{ObjectState, IsHeld, at, found, is_there, object_at, slot_of, referent_of, referent_value}
+use Rattle.et_heap.specs.Objects.{ObjectState, IsHeld, at, found, is_there, object_at, slot_of, referent_value}
 use Rattle.et_heap.specs.Refs.{refs_of_value}
 use Rattle.et_state.specs.Threads.{ThreadState, is_thread_object as is_thread_of, thread_with}
 use Rattle.et_state.specs.State.{MachineState, kept_of}
@@ -16,7 +16,7 @@ use Rattle.et_program.specs.Members.{is_subclass}
 use Rattle.et_program.specs.declared.info.Element.{Element}
 use Rattle.et_program.specs.declared.info.Element.TheVariants.{NoArray}
 use Rattle.et_event.specs.PoolOperands.Operand.TheVariants as operand
-use Rattle.et_event.specs.BuiltIns.{argument, is_fit_for, is_null_or_of_class, is_object_of_class, takes_queue, uses_thread, uses_throwable}
+use Rattle.et_event.specs.BuiltIns.{is_fit_for, is_object_of_class, uses_thread, uses_throwable}
 use Rattle.et_event.specs.Errors.{class_called}
 use Rattle.et_event.specs.Kinds.{or_zero}
 use Rattle.et_event.specs.Sound.{IsSoundFor, IsSoundObject, slots_by}
@@ -95,32 +95,22 @@ position_within o i (x ∷ xs) = by_test (is_thread_of o x) (position_within o (
 pub thread_within : (o : ℕ) (xs : List ThreadState) (k : ℕ) → Some k ≡ thread_with xs o → k < length xs
 thread_within o xs k e = let h : k < 0 + length xs = subst (λ (r : Option ℕ). IfSome r (λ j. j < 0 + length xs)) (sym e) (position_within o 0 xs) in omega arith
 
--- THE CLASS OF THE RECEIVER, and of a queue that is taken
+-- THE CLASS OF THE RECEIVER
 
-abbrev by_queue : Moment → Doing → List Value → Bool → Bool
-by_queue e d args c = if c then is_null_or_of_class e d (argument args 2) (codes "java/lang/ref/ReferenceQueue") else true
+abbrev by_thread : Moment → Doing → ℕ → Bool → Bool
+by_thread e d o c = if c then is_object_of_class e d o (codes "java/lang/Thread") else true
 
-abbrev by_thread : Moment → Doing → List Value → ℕ → BuiltIn → Bool → Bool
-by_thread e d args o b c = if c then is_object_of_class e d o (codes "java/lang/Thread") else by_queue e d args (takes_queue b)
+pub throwable_fit : (e : Moment) (d : Doing) (o : ℕ) (b : BuiltIn) → uses_throwable b ≡ true → is_fit_for e d o b ≡ is_object_of_class e d o (codes "java/lang/Throwable")
+throwable_fit e d o b h = ap (λ (c : Bool). if c then is_object_of_class e d o (codes "java/lang/Throwable") else by_thread e d o (uses_thread b)) h
 
-pub throwable_fit : (e : Moment) (d : Doing) (args : List Value) (o : ℕ) (b : BuiltIn) → uses_throwable b ≡ true → is_fit_for e d args o b ≡ is_object_of_class e d o (codes "java/lang/Throwable")
-throwable_fit e d args o b h = ap (λ (c : Bool). if c then is_object_of_class e d o (codes "java/lang/Throwable") else by_thread e d args o b (uses_thread b)) h
+not_throwable_fit : (e : Moment) (d : Doing) (o : ℕ) (b : BuiltIn) → uses_throwable b ≡ false → is_fit_for e d o b ≡ by_thread e d o (uses_thread b)
+not_throwable_fit e d o b h = ap (λ (c : Bool). if c then is_object_of_class e d o (codes "java/lang/Throwable") else by_thread e d o (uses_thread b)) h
 
-not_throwable_fit : (e : Moment) (d : Doing) (args : List Value) (o : ℕ) (b : BuiltIn) → uses_throwable b ≡ false → is_fit_for e d args o b ≡ by_thread e d args o b (uses_thread b)
-not_throwable_fit e d args o b h = ap (λ (c : Bool). if c then is_object_of_class e d o (codes "java/lang/Throwable") else by_thread e d args o b (uses_thread b)) h
+pub thread_fit : (e : Moment) (d : Doing) (o : ℕ) (b : BuiltIn) → uses_throwable b ≡ false → uses_thread b ≡ true → is_fit_for e d o b ≡ is_object_of_class e d o (codes "java/lang/Thread")
+thread_fit e d o b h k = not_throwable_fit e d o b h ∙ ap (λ (c : Bool). by_thread e d o c) k
 
-pub thread_fit : (e : Moment) (d : Doing) (args : List Value) (o : ℕ) (b : BuiltIn) → uses_throwable b ≡ false → uses_thread b ≡ true → is_fit_for e d args o b ≡ is_object_of_class e d o (codes "java/lang/Thread")
-thread_fit e d args o b h k = not_throwable_fit e d args o b h ∙ ap (λ (c : Bool). by_thread e d args o b c) k
-
-not_thread_fit : (e : Moment) (d : Doing) (args : List Value) (o : ℕ) (b : BuiltIn) → uses_throwable b ≡ false → uses_thread b ≡ false → is_fit_for e d args o b ≡ by_queue e d args (takes_queue b)
-not_thread_fit e d args o b h k = not_throwable_fit e d args o b h ∙ ap (λ (c : Bool). by_thread e d args o b c) k
-
-pub queue_fit : (e : Moment) (d : Doing) (args : List Value) (o : ℕ) (b : BuiltIn) → uses_throwable b ≡ false → uses_thread b ≡ false → takes_queue b ≡ true
-    → is_fit_for e d args o b ≡ is_null_or_of_class e d (argument args 2) (codes "java/lang/ref/ReferenceQueue")
-queue_fit e d args o b h k q = not_thread_fit e d args o b h k ∙ ap (λ (c : Bool). by_queue e d args c) q
-
-pub other_fit : (e : Moment) (d : Doing) (args : List Value) (o : ℕ) (b : BuiltIn) → uses_throwable b ≡ false → uses_thread b ≡ false → takes_queue b ≡ false → is_fit_for e d args o b ≡ true
-other_fit e d args o b h k q = not_thread_fit e d args o b h k ∙ ap (λ (c : Bool). by_queue e d args c) q
+pub other_fit : (e : Moment) (d : Doing) (o : ℕ) (b : BuiltIn) → uses_throwable b ≡ false → uses_thread b ≡ false → is_fit_for e d o b ≡ true
+other_fit e d o b h k = not_throwable_fit e d o b h ∙ ap (λ (c : Bool). by_thread e d o c) k
 
 pub throwable_used : (b : BuiltIn) (n : ℕ) → uses_throwable b ≡ true → 2 ≤ n → slots_used b ≤ n
 throwable_used SetMessage n h le = le

@@ -24,7 +24,7 @@ use Rattle.et_event.specs.declared.rows.CallRow.TheVariants.{Invoke}
 use Rattle.et_event.specs.declared.rows.Row.{Row}
 use Rattle.et_event.specs.declared.rows.Row.TheVariants.{Call}
 use Rattle.et_event.specs.Answered.{EventAnswers}
-use Rattle.et_event.specs.Calls.{arguments_of, call_fits, entry_count, is_as, is_of_owner, is_static_call, special_class}
+use Rattle.et_event.specs.Calls.{arguments_of, call_fits, entry_count, fits_resolved, is_as, is_static_call, special_class}
 use Rattle.et_event.specs.Frames.{first_reference}
 use Rattle.et_event.specs.Moments.{Moment, begins, object_class, current_frame, thread_of}
 use Rattle.et_event.specs.Sites.{Member, Site, decoded_at, site_member, names_interface, site_of}
@@ -34,16 +34,18 @@ use Rattle.et_event.specs.Table.{row_of}
 -- of the table of events refuses. An invokestatic selects none: it calls the method that was resolved.
 
 -- by the receiver o, from the method m that was resolved in the named class
-abbrev pub selected_on : Moment → Site → CallKind → ℕ → ℕ → ℕ → Option ℕ
-selected_on e at Virtual named m o = if is_of_owner e (begins e) m o then result_ok (select e.program (object_class (begins e) o) m false) else None
-selected_on e at Special named m o = if is_of_owner e (begins e) m o then result_ok (select_special e.program at.class (special_class e.program named) m) else None
-selected_on e at Static named m o = None
-selected_on e at Interface named m o = result_ok (select e.program (object_class (begins e) o) m true)
+abbrev pub selected_on : Moment → Site → CallKind → List Value → ℕ → ℕ → ℕ → Option ℕ
+selected_on e at Virtual arguments named m o =
+    if fits_resolved e (begins e) arguments m o then result_ok (select e.program (object_class (begins e) o) m false) else None
+selected_on e at Special arguments named m o =
+    if fits_resolved e (begins e) arguments m o then result_ok (select_special e.program at.class (special_class e.program named) m) else None
+selected_on e at Static arguments named m o = None
+selected_on e at Interface arguments named m o = result_ok (select e.program (object_class (begins e) o) m true)
 
 -- .. where m is static or not as the invoke wants it, and the receiver, the first argument, isn't null
 abbrev pub selected_from : Moment → Site → CallKind → List Value → ℕ → ℕ → Option ℕ
 selected_from e at kind arguments named m =
-    if is_as (is_static_call kind) (is_static e.program m) then option_and_then (selected_on e at kind named m) (first_reference arguments) else None
+    if is_as (is_static_call kind) (is_static e.program m) then option_and_then (selected_on e at kind arguments named m) (first_reference arguments) else None
 
 -- what is found by the class and the method that a member names
 abbrev pub with_resolved : Linked → Bool → Member → (ℕ → ℕ → Option ℕ) → Option ℕ

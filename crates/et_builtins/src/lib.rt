@@ -3,6 +3,7 @@
 
 mod arguments;
 mod changes;
+mod classes;
 mod events;
 mod kinds;
 mod plans;

@@ -24,6 +24,7 @@ ghost use Rattle.et_builtins.specs.Deferred.{selected_from, selected_method, sel
 ghost use Rattle.et_builtins.specs.Plans.{method_entered, call_planned, HasCallRoom, IsCallPlan, resolving};
 
 use crate::arguments::{fitting_call, receiver};
+use crate::classes::fits_resolved;
 use et_base::{ClassId, MethodId, Steps, ThreadId};
 use et_class::flags::{STATIC, has};
 use et_event::{CallKind, GuestError};
@@ -84,7 +85,7 @@ fn selected(answer: Result<MethodId, LinkError>, count: u32) -> CallPlan
     }
 }
 
-/// The plan of `invokevirtual` of a resolved method. It visits one object at most, as each plan.
+/// The plan of `invokevirtual` of a resolved method.
 #[tactic(auto, using(crate::proofs::Planning::class_within))]
 fn virtual_plan<L: Ledger>(
     program: &Program,
@@ -103,16 +104,17 @@ fn virtual_plan<L: Ledger>(
         at kinds.Virtual (arguments_of (moment program.now machine.now thread) count) named method
         ≡ call_planned (moment program.now machine.now thread) at result }
     ensures entered { (at : Site) (named : ℕ) → method_entered result ≡ option_and_then (selected_on
-        (moment program.now machine.now thread) at kinds.Virtual named method) (first_reference
+        (moment program.now machine.now thread) at kinds.Virtual
+        (arguments_of (moment program.now machine.now thread) count) named method) (first_reference
         (arguments_of (moment program.now machine.now thread) count)) }
     ensures within { IsCallPlan (moment program.now machine.now thread) result }
-    ensures visits { visits.new ≤ visits.old + 1 }
+    ensures visits { visits.new ≤ visits.old + 2 }
 {
     let Some(receiver) = receiver(machine, thread, count) else {
         return CallPlan::Throws(GuestError::NullPointerException);
     };
     let class = machine.heap.class_of(receiver, visits);
-    if !program.is_subclass(class, program.method(method).class) {
+    if !fits_resolved(program, machine, thread, class, method, count, visits) {
         return CallPlan::IllTyped;
     }
     selected(program.select(class, method, false), count)
@@ -137,7 +139,8 @@ fn interface_plan<L: Ledger>(
         at kinds.Interface (arguments_of (moment program.now machine.now thread) count) named method
         ≡ call_planned (moment program.now machine.now thread) at result }
     ensures entered { (at : Site) (named : ℕ) → method_entered result ≡ option_and_then (selected_on
-        (moment program.now machine.now thread) at kinds.Interface named method) (first_reference
+        (moment program.now machine.now thread) at kinds.Interface
+        (arguments_of (moment program.now machine.now thread) count) named method) (first_reference
         (arguments_of (moment program.now machine.now thread) count)) }
     ensures within { IsCallPlan (moment program.now machine.now thread) result }
     ensures visits { visits.new ≤ visits.old + 1 }
@@ -183,23 +186,22 @@ fn special_plan<L: Ledger>(
         ≡ call_planned (moment program.now machine.now thread) at result }
     ensures entered { (at : Site) → at.class ≡ callee.current →
         method_entered result ≡ option_and_then (selected_on (moment program.now machine.now thread)
-        at kinds.Special callee.named callee.method) (first_reference
+        at kinds.Special (arguments_of (moment program.now machine.now thread) callee.count)
+        callee.named callee.method) (first_reference
         (arguments_of (moment program.now machine.now thread) callee.count)) }
     ensures within { IsCallPlan (moment program.now machine.now thread) result }
-    ensures visits { visits.new ≤ visits.old + 1 }
+    ensures visits { visits.new ≤ visits.old + 2 }
 {
     let Some(receiver) = receiver(machine, thread, callee.count) else {
         return CallPlan::Throws(GuestError::NullPointerException);
     };
     let class = machine.heap.class_of(receiver, visits);
-    if !program.is_subclass(class, program.method(callee.method).class) {
+    let Callee { method, count, .. } = callee;
+    if !fits_resolved(program, machine, thread, class, method, count, visits) {
         return CallPlan::IllTyped;
     }
     let from = special_class(program, callee.named);
-    selected(
-        program.select_special(callee.current, from, callee.method),
-        callee.count,
-    )
+    selected(program.select_special(callee.current, from, method), count)
 }
 
 /// The plan of `invokestatic` of a resolved method, by how far its class is with its initialization (JVMS 5.5).
@@ -273,10 +275,11 @@ fn dispatch_plan<L: Ledger>(
     ensures deferred { (at : Site) → at.class ≡ callee.current →
         kept (is_deferred_in program.now) (method_entered result)
         ≡ kept (is_deferred_in program.now) (option_and_then (selected_on
-        (moment program.now machine.now thread) at kind callee.named callee.method)
+        (moment program.now machine.now thread) at kind
+        (arguments_of (moment program.now machine.now thread) callee.count) callee.named callee.method)
         (first_reference (arguments_of (moment program.now machine.now thread) callee.count))) }
     ensures within { IsCallPlan (moment program.now machine.now thread) result }
-    ensures visits { visits.new ≤ visits.old + 1 }
+    ensures visits { visits.new ≤ visits.old + 2 }
 {
     match kind {
         CallKind::Virtual => {
@@ -340,7 +343,7 @@ fn resolved_plan<L: Ledger>(
         (selected_from (moment program.now machine.now thread) at kind (arguments_of
         (moment program.now machine.now thread) callee.count) callee.named callee.method) }
     ensures within { IsCallPlan (moment program.now machine.now thread) result }
-    ensures visits { visits.new ≤ visits.old + 1 }
+    ensures visits { visits.new ≤ visits.old + 2 }
 {
     let is_static = has(program.method(callee.method).flags, STATIC);
     if is_static != is_static_call(kind) {
@@ -392,8 +395,7 @@ fn resolve(program: &Program, place: &Place<'_>) -> Result<(ClassId, MethodId), 
     }
 }
 
-/// What an invoke comes to at a place: the table of events says of the invoke what it says of the plan. It visits one object
-/// at most.
+/// What an invoke comes to at a place: the table of events says of the invoke what it says of the plan.
 pub fn invoke_plan<L: Ledger>(
     program: &Program,
     machine: &Machine,
@@ -413,7 +415,7 @@ pub fn invoke_plan<L: Ledger>(
         ≡ kept (is_deferred_in program.now)
         (selected_method (moment program.now machine.now thread) (site_at place.now) kind) }
     ensures within { IsCallPlan (moment program.now machine.now thread) result }
-    ensures visits { visits.new ≤ visits.old + 1 }
+    ensures visits { visits.new ≤ visits.old + 2 }
 {
     let Some(shape) = program.call_shape(place.class, index_of(place)) else {
         return CallPlan::IllTyped;

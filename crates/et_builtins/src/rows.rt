@@ -12,7 +12,7 @@ ghost use Rattle.et_program.specs.BootNames.{built_in_class_name};
 ghost use Rattle.et_program.specs.Entries.{Linked};
 ghost use Rattle.et_state.specs.declared.records.Record.{Record};
 ghost use Rattle.et_event.specs.Answered.{EventAnswers};
-ghost use Rattle.et_event.specs.BuiltIns.{answering, built_in_row as row_of, entries_answered, has_thread_ended as has_ended_in, is_fit_for as fits_row, is_object_of_class as is_of_class, reference_in, is_null_or_of_class, row_done, starts_thread, takes_queue as has_queue_argument, uses_thread as is_on_thread, uses_throwable as is_on_throwable, with_thread_for};
+ghost use Rattle.et_event.specs.BuiltIns.{answering, built_in_row as row_of, entries_answered, has_thread_ended as has_ended_in, is_fit_for as fits_row, reference_in, row_done, starts_thread, uses_thread as is_on_thread, uses_throwable as is_on_throwable, with_thread_for};
 ghost use Rattle.et_event.specs.Calls.{arguments_of};
 ghost use Rattle.et_event.specs.Checks.{waits_unless};
 ghost use Rattle.et_event.specs.Kinds.{or_zero};
@@ -28,34 +28,16 @@ use crate::changes::{
     Called, clear_referent, give, give_first, give_nothing, make_reference, start, write_one,
     write_two,
 };
+use crate::classes::is_of;
 use et_base::{NoMemory, ObjectId, Steps, Value};
 use et_event::GuestError;
-use et_parts::{class_called, ill_typed, throw_error};
+use et_parts::{ill_typed, throw_error};
 use et_program::{BuiltIn, BuiltInClass, Program};
 use et_state::{EventEnd, Lines, Machine};
 use std::sync::ledger::Ledger;
 
 /// At most so many threads are ever started.
 const MOST_THREADS: u32 = 64;
-
-/// Whether an object is of this built-in class, or of one below it.
-#[tactic(auto, using(crate::proofs::Slots::class_within))]
-fn is_of<L: Ledger>(
-    program: &Program,
-    machine: &Machine,
-    object: ObjectId,
-    class: BuiltInClass,
-    visits: &mut Steps<L>,
-) -> bool
-    requires sound { IsSoundFor program.now (kept_of machine.now) }
-    requires held { IsHeld machine.now.heap object }
-    ensures value { (t : ℕ) → result ≡ is_of_class (moment program.now machine.now t)
-        (begins (moment program.now machine.now t)) object (built_in_class_name class) }
-    ensures visits { visits.new ≡ visits.old + 1 }
-{
-    let own = machine.heap.class_of(object, visits);
-    program.is_subclass(own, class_called(program, class))
-}
 
 /// Whether a built-in method uses the slots of a Throwable.
 fn uses_throwable(built_in: BuiltIn) -> bool
@@ -74,52 +56,20 @@ fn uses_thread(built_in: BuiltIn) -> bool
     matches!(built_in, BuiltIn::SetTarget | BuiltIn::Start)
 }
 
-/// Whether a built-in method takes a queue.
-fn takes_queue(built_in: BuiltIn) -> bool
-    ensures { result ≡ has_queue_argument built_in }
-{
-    built_in == BuiltIn::SetReferentAndQueue
-}
-
-/// Whether an argument is null, or an object of this built-in class or of one below it.
-fn is_null_or_of<L: Ledger>(
-    program: &Program,
-    machine: &Machine,
-    value: Value,
-    class: BuiltInClass,
-    visits: &mut Steps<L>,
-) -> bool
-    requires sound { IsSoundFor program.now (kept_of machine.now) }
-    requires held { (o : ℕ) → Contains (refs_of_value value) o → IsHeld machine.now.heap o }
-    ensures value { (t : ℕ) → result ≡ is_null_or_of_class (moment program.now machine.now t)
-        (begins (moment program.now machine.now t)) value (built_in_class_name class) }
-    ensures visits { visits.new ≤ visits.old + 1 }
-{
-    match value {
-        Value::Ref(object) => is_of(program, machine, object, class, visits),
-        Value::Unset | Value::Int(_) | Value::Long(_) | Value::LongHigh | Value::Null => true,
-    }
-}
-
 /// Whether a built-in method may be done on an object: what uses the slots of a Throwable or of a Thread, or starts a thread,
-/// is done on such an object alone, and a queue that it takes is null or a ReferenceQueue.
+/// is done on such an object alone.
 fn is_fit<L: Ledger>(
     program: &Program,
     machine: &Machine,
-    call: &Called,
     object: ObjectId,
     built_in: BuiltIn,
     visits: &mut Steps<L>,
 ) -> bool
-    requires frame { HasFrame machine.now.guest call.now.thread }
     requires sound { IsSoundFor program.now (kept_of machine.now) }
     requires slots { HasMachineSlots program.now }
-    requires operands { call.now.count ≤ length (top machine.now.guest call.now.thread).operands }
     requires held { IsHeld machine.now.heap object }
-    ensures value { result ≡ fits_row (moment program.now machine.now call.now.thread)
-        (begins (moment program.now machine.now call.now.thread))
-        (arguments_of (moment program.now machine.now call.now.thread) call.now.count)
-        object built_in }
+    ensures value { (t : ℕ) → result ≡ fits_row (moment program.now machine.now t)
+        (begins (moment program.now machine.now t)) object built_in }
     ensures slots { result ≡ true →
         slots_used built_in ≤ length (object_at machine.now.heap object).slots }
     ensures visits { visits.new ≤ visits.old + 1 }
@@ -129,16 +79,6 @@ fn is_fit<L: Ledger>(
     }
     if uses_thread(built_in) {
         return is_of(program, machine, object, BuiltInClass::Thread, visits);
-    }
-    if takes_queue(built_in) {
-        let queue = argument_at(machine, call.thread, call.count, 2);
-        return is_null_or_of(
-            program,
-            machine,
-            queue,
-            BuiltInClass::ReferenceQueue,
-            visits,
-        );
     }
     true
 }
@@ -359,7 +299,7 @@ pub(crate) fn row_event<L: Ledger>(
         object built_in) end machine.old machine.new out.old out.new) }
     ensures visits { visits.new ≤ visits.old + 3 }
 {
-    if is_fit(program, machine, call, object, built_in, visits) {
+    if is_fit(program, machine, object, built_in, visits) {
         return fit_row_event(program, machine, call, object, built_in, out, visits);
     }
     Ok(ill_typed(machine, call.thread))

@@ -55,9 +55,9 @@ fn instruction_event<L: Ledger>(
     ensures event { IfOk result (λ end.
         DefersOrAnswers (deferred_call program.now (kept_of machine.old) thread) (event program.now
         (kept_of machine.old) thread) end machine.old machine.new out.old out.new) }
-    ensures visits { visits.new ≤ visits.old + 4 }
+    ensures visits { visits.new ≤ visits.old + 5 }
     ensures deferred { IsSome (deferred_call program.now (kept_of machine.old) thread) →
-        visits.new ≤ visits.old + 1 }
+        visits.new ≤ visits.old + 2 }
 {
     match place_of(program, machine, thread) {
         Some(place) => call_event(alloc, program, machine, thread, &place, out, visits),
@@ -67,11 +67,11 @@ fn instruction_event<L: Ledger>(
 
 /// The event of a thread whose turn is a call or a return (JVMS 2.11.8, 6.5), to be entered (JVMS 5.2), or a step of an
 /// initializer (JVMS 5.5). It answers `Native` exactly where a call selects a built-in method without code of Thread,
-/// Reference, WeakReference or ReferenceQueue; then machine and records are as before, and `sync_event` does the event. Else it
-/// answers what the table of events says: `Done` or `Waited`, and then the machine keeps the next state, to which a legal step
-/// led, and the records of the event stand behind those that were there; or `IllTyped` or `ObjectLimit`, and then machine and
-/// records are as before. It visits six objects at most, and one before `Native`. After `NoMemory` the event may be half done,
-/// and machine and records may only be dropped.
+/// Reference, WeakReference or ReferenceQueue; then machine and records are as before, and `sync_event` does the event. Else
+/// it answers what the table of events says: `Done` or `Waited`, and then the machine keeps the next state, to which a legal
+/// step led, and the records of the event stand behind those that were there; or `IllTyped` or `ObjectLimit`, and then
+/// machine and records are as before. After `NoMemory` the event may be half done, and machine and records may only be
+/// dropped.
 #[tactic(auto, using(et_event::proofs::FamilyTurns::family_at))]
 pub fn calls_event<L: Ledger>(
     alloc: Global,
@@ -90,7 +90,7 @@ pub fn calls_event<L: Ledger>(
         ↔ (deferred_call program.now (kept_of machine.old) thread ≡ Some method)) }
     ensures visits { visits.new ≤ visits.old + 6 }
     ensures deferred { IsSome (deferred_call program.now (kept_of machine.old) thread) →
-        visits.new ≤ visits.old + 1 }
+        visits.new ≤ visits.old + 2 }
 {
     match machine.turn(thread) {
         Turn::Entry => entry_event(alloc, program, machine, thread, out, visits),

@@ -113,12 +113,11 @@ fn plan_event<L: Ledger>(
     }
 }
 
-/// The event of an invoke or a return at the place where a thread stands (JVMS 2.11.8, 5.5, 6.5 invokevirtual, invokespecial,
-/// invokestatic, invokeinterface, ireturn, lreturn, areturn, return). It answers what the table of events says. Where a static
-/// method is called whose class is untouched, the class begins, or a quiet one becomes done and the method is called in the
-/// same event. Where a built-in method of threads, weak references or queues is selected it answers `Native`, with nothing
-/// changed. It visits four objects at most, and before `Native` one. After `NoMemory` the event may be half done, and machine
-/// and records may only be dropped.
+/// The event of an invoke or a return at the place where a thread stands (JVMS 2.11.8, 5.5, 6.5 invokevirtual,
+/// invokespecial, invokestatic, invokeinterface, ireturn, lreturn, areturn, return). It answers what the table of events
+/// says. Where a static method is called whose class is untouched, the class begins, or a quiet one becomes done and the
+/// method is called in the same event. Where a built-in method of threads, weak references or queues is selected it answers
+/// `Native`, with nothing changed. After `NoMemory` the event may be half done, and machine and records may only be dropped.
 pub fn call_event<L: Ledger>(
     alloc: Global,
     program: &Program,
@@ -140,10 +139,10 @@ pub fn call_event<L: Ledger>(
         (deferred_at (moment program.now machine.old thread) (site_at place.now) place.now.row)
         (does (moment program.now machine.old thread) (site_at place.now) place.now.row)
         end machine.old machine.new out.old out.new) }
-    ensures visits { visits.new ≤ visits.old + 4 }
+    ensures visits { visits.new ≤ visits.old + 5 }
     ensures deferred { IsSome
         (deferred_at (moment program.now machine.old thread) (site_at place.now) place.now.row)
-        → visits.new ≤ visits.old + 1 }
+        → visits.new ≤ visits.old + 2 }
 {
     match place.row {
         Row::Call(CallRow::Invoke(kind)) => {

@@ -358,7 +358,7 @@ owner_records : records_by owner (0 ∷ 0 ∷ 0 ∷ 0 ∷ 0 ∷ []) owner_start 
 unfolding int_wrap event row_of form_of instruction_at after_name after_dimensions types_of turn_by after_picks records_by
 owner_records = refl
 
--- a program with a reference queue, whose `main` has this code
+-- a program with a reference queue, and a class below WeakReference that declares nothing, whose `main` has this code
 abbrev with_queues : List ℕ → Linked
 with_queues code = record {
   classes =
@@ -371,6 +371,7 @@ with_queues code = record {
       ∷ class_of (codes "java/lang/ref/ReferenceQueue") 1 (element.NoArray) 0 None (0 ∷ []) ([]) (0 ∷ []) ([]) (6 ∷ 0 ∷ []) (0 ∷ 6 ∷ []) 0 (leaf.Class 6) None
       ∷ class_of (codes "Que") 33 (element.NoArray) 0 None (0 ∷ []) ([]) (0 ∷ []) ([]) (7 ∷ 0 ∷ []) (0 ∷ 7 ∷ []) 0 (leaf.Class 7) None
       ∷ class_of (codes "[Ljava/lang/String;") 1041 (element.Class 3) 0 None ([]) ([]) (0 ∷ []) (1 ∷ 2 ∷ []) (8 ∷ 1 ∷ 2 ∷ 0 ∷ []) (8 ∷ []) 1 (leaf.Class 3) None
+      ∷ class_of (codes "Weak") 33 (element.NoArray) 0 None (5 ∷ []) ([]) (5 ∷ 4 ∷ 0 ∷ []) ([]) (9 ∷ 5 ∷ 4 ∷ 0 ∷ []) (0 ∷ 4 ∷ 5 ∷ 9 ∷ []) 0 (leaf.Class 9) None
       ∷ [];
   methods =
       method_of 0 (codes "<init>") (codes "()V") 1 None
@@ -395,12 +396,12 @@ with_queues code = record {
       ∷ pool_of ([])
       ∷ pool_of ([])
       ∷ pool_of ([])
-      ∷ pool_of (Text (codes "Que") ∷ Name CLASS 1 ∷ Text (codes "java/lang/Object") ∷ Name CLASS 3 ∷ Text (codes "java/lang/ref/ReferenceQueue") ∷ Name CLASS 5 ∷ Text (codes "<init>") ∷ Text (codes "()V") ∷ Pair NAME_AND_TYPE 7 8 ∷ Pair METHODREF 6 9 ∷ Text (codes "java/lang/ref/WeakReference") ∷ Name CLASS 11 ∷ Text (codes "(Ljava/lang/Object;Ljava/lang/ref/ReferenceQueue;)V") ∷ Pair NAME_AND_TYPE 7 13 ∷ Pair METHODREF 12 14 ∷ Text (codes "poll") ∷ Text (codes "()Ljava/lang/ref/Reference;") ∷ Pair NAME_AND_TYPE 16 17 ∷ Pair METHODREF 6 18 ∷ Text (codes "top") ∷ Text (codes "Ljava/lang/Object;") ∷ Pair NAME_AND_TYPE 20 21 ∷ Pair FIELDREF 2 22 ∷ [])
+      ∷ pool_of (Text (codes "Que") ∷ Name CLASS 1 ∷ Text (codes "java/lang/Object") ∷ Name CLASS 3 ∷ Text (codes "java/lang/ref/ReferenceQueue") ∷ Name CLASS 5 ∷ Text (codes "<init>") ∷ Text (codes "()V") ∷ Pair NAME_AND_TYPE 7 8 ∷ Pair METHODREF 6 9 ∷ Text (codes "java/lang/ref/WeakReference") ∷ Name CLASS 11 ∷ Text (codes "(Ljava/lang/Object;Ljava/lang/ref/ReferenceQueue;)V") ∷ Pair NAME_AND_TYPE 7 13 ∷ Pair METHODREF 12 14 ∷ Text (codes "poll") ∷ Text (codes "()Ljava/lang/ref/Reference;") ∷ Pair NAME_AND_TYPE 16 17 ∷ Pair METHODREF 6 18 ∷ Text (codes "top") ∷ Text (codes "Ljava/lang/Object;") ∷ Pair NAME_AND_TYPE 20 21 ∷ Pair FIELDREF 2 22 ∷ Text (codes "Weak") ∷ Name CLASS 24 ∷ Pair METHODREF 25 14 ∷ [])
       ∷ [];
 }
 
 abbrev queues_start : Kept
-queues_start = kept_of (first_state 8 (Done ∷ Done ∷ Done ∷ Done ∷ Done ∷ Done ∷ Done ∷ Untouched ∷ Done ∷ []) (replicate 1 Unset))
+queues_start = kept_of (first_state 8 (Done ∷ Done ∷ Done ∷ Done ∷ Done ∷ Done ∷ Done ∷ Untouched ∷ Done ∷ Done ∷ []) (replicate 1 Unset))
 
 -- the state after a flush at which all but this object is reached
 abbrev after_flush_of : ℕ → Kept → Kept
@@ -428,3 +429,11 @@ no_queue = with_queues (187 ∷ 0 ∷ 12 ∷ 89 ∷ 187 ∷ 0 ∷ 2 ∷ 187 ∷ 
 no_queue_ends : event no_queue (after_picks no_queue (0 ∷ 0 ∷ 0 ∷ 0 ∷ 0 ∷ []) queues_start) 0 ≡ IllTyped 7 10
 unfolding int_wrap event row_of form_of instruction_at after_name after_dimensions types_of turn_by after_picks records_by
 no_queue_ends = refl
+
+-- .. also where the constructor is that of WeakReference, and the class that is named lacks it: nothing is selected before
+abbrev no_queue_below : Linked
+no_queue_below = with_queues (187 ∷ 0 ∷ 25 ∷ 1 ∷ 187 ∷ 0 ∷ 2 ∷ 183 ∷ 0 ∷ 26 ∷ 177 ∷ [])
+
+no_queue_below_ends : event no_queue_below (after_picks no_queue_below (0 ∷ 0 ∷ 0 ∷ 0 ∷ []) queues_start) 0 ≡ IllTyped 7 7
+unfolding int_wrap event row_of form_of instruction_at after_name after_dimensions types_of turn_by after_picks records_by
+no_queue_below_ends = refl

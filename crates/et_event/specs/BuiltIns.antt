@@ -1,9 +1,10 @@
 -- THE BUILT-IN METHODS WITHOUT CODE. Each takes one event and no frame: its arguments are taken, what it gives is pushed,
 -- and the pc goes on.
-use Rattle.std.specs.Prelude.{ℕ, nat_lt, Bool, true, false, if◌then◌else◌, List, [], ◌∷◌, ◌++◌, length, drop, codes, Option, Some, None, slice_index_or}
+use Rattle.std.specs.Prelude.{ℕ, nat_lt, Bool, true, false, if◌then◌else◌, List, [], ◌∷◌, ◌++◌, length, drop, codes, Option, Some, None, option_and_then, slice_index_or}
 use Rattle.et_base.specs.declared.value.Value.{Value}
 use Rattle.et_base.specs.declared.value.Value.TheVariants.{Unset, Ref}
-use Rattle.et_program.specs.BuiltIns.{built_in_of}
+use Rattle.et_program.specs.BuiltIns.{built_in_of, is_deferred}
+use Rattle.et_program.specs.Entries.{Linked, method_at}
 use Rattle.et_program.specs.Members.{is_subclass}
 use Rattle.et_program.specs.declared.info.MethodInfo.{MethodInfo}
 use Rattle.et_heap.specs.Objects.{object_at, slot_of, with_referent, with_queue, with_object_at, referent_of, referent_value}
@@ -110,18 +111,34 @@ abbrev pub is_null_or_of_class : Moment → Doing → Value → List ℕ → Boo
 is_null_or_of_class e d (Ref o) name = is_object_of_class e d o name
 is_null_or_of_class e d other name = true
 
--- it takes a queue, as its second argument behind the receiver
-abbrev pub takes_queue : BuiltIn → Bool
-takes_queue SetReferentAndQueue = true
-takes_queue other = false
+-- CHECK 7 OF AN ARGUMENT: where a built-in method takes an object of one class alone, the argument is null or an object of that
+-- class or of one below it. So many entries stand before it, the receiver among them.
+pub record ClassArgument : Type 0 where
+  pub place : ℕ
+  pub class : List ℕ
 
--- The receiver is of the class whose slots or thread the method uses; selection finds the method on no other. A queue that
--- the method takes is null or a ReferenceQueue.
-abbrev pub is_fit_for : Moment → Doing → List Value → ℕ → BuiltIn → Bool
-is_fit_for e d arguments o b =
+-- THE TABLE of these arguments
+abbrev pub class_argument : BuiltIn → Option ClassArgument
+class_argument SetReferentAndQueue = Some (record { place = 2; class = codes "java/lang/ref/ReferenceQueue" })
+class_argument other = None
+
+-- .. of a method of the program; one with code has none
+abbrev pub class_argument_of : Linked → ℕ → Option ClassArgument
+class_argument_of p m = if is_deferred p m then option_and_then class_argument (built_in_of (method_at p m)) else None
+
+abbrev pub is_of_its_class : Moment → Doing → List Value → Option ClassArgument → Bool
+is_of_its_class e d arguments None = true
+is_of_its_class e d arguments (Some a) = is_null_or_of_class e d (argument arguments a.place) a.class
+
+-- 7. the method takes objects of these classes
+abbrev pub takes_arguments : Moment → Doing → List Value → ℕ → Bool
+takes_arguments e d arguments m = is_of_its_class e d arguments (class_argument_of e.program m)
+
+-- The receiver is of the class whose slots or thread the method uses. Selection finds the method on no other.
+abbrev pub is_fit_for : Moment → Doing → ℕ → BuiltIn → Bool
+is_fit_for e d o b =
     if uses_throwable b then is_object_of_class e d o (codes "java/lang/Throwable")
-    else (if uses_thread b then is_object_of_class e d o (codes "java/lang/Thread")
-    else (if takes_queue b then is_null_or_of_class e d (argument arguments 2) (codes "java/lang/ref/ReferenceQueue") else true))
+    else (if uses_thread b then is_object_of_class e d o (codes "java/lang/Thread") else true)
 
 -- what is done then
 abbrev pub row_done : Moment → Site → Doing → List Value → ℕ → BuiltIn → Outcome Kept
@@ -143,7 +160,7 @@ row_done e at d arguments o ClearReferent = goes (with_referent_of o None (answe
 row_done e at d arguments o Poll = goes (with_first_taken o (answering e at arguments (first_value (object_at d.state.heap o).waiting ∷ []) d))
 
 abbrev pub built_in_row : Moment → Site → Doing → List Value → ℕ → BuiltIn → Outcome Kept
-built_in_row e at d arguments o b = ill_typed_unless e (is_fit_for e d arguments o b) (row_done e at d arguments o b)
+built_in_row e at d arguments o b = ill_typed_unless e (is_fit_for e d o b) (row_done e at d arguments o b)
 
 -- the event of a selected method without code; one that is no built-in is abstract
 abbrev pub done_by : Moment → Site → Doing → List Value → Option ℕ → Option BuiltIn → Outcome Kept

@@ -33,7 +33,7 @@ use Rattle.et_class.specs.Operands.{operand_kind, may_return, returned_width}
 use Rattle.et_event.specs.Initialization.{initialized, with_state}
 use Rattle.et_event.specs.Monitors.{lock_in, owns_some, left_some}
 use Rattle.et_event.specs.Frames.{first_reference, enters, frames_after_return}
-use Rattle.et_event.specs.BuiltIns.{built_in_event}
+use Rattle.et_event.specs.BuiltIns.{built_in_event, takes_arguments}
 
 -- ARGUMENTS, in the order of the locals: a long is its value and then its upper half
 
@@ -104,6 +104,10 @@ enters_method e at d arguments m =
 abbrev pub is_of_owner : Moment → Doing → ℕ → ℕ → Bool
 is_of_owner e d m o = is_subclass e.program (object_class d o) (method_at e.program m).class
 
+-- .. and that method takes the arguments, whatever is selected then. No method of an interface tests one
+abbrev pub fits_resolved : Moment → Doing → List Value → ℕ → ℕ → Bool
+fits_resolved e d arguments m o = is_of_owner e d m o && takes_arguments e d arguments m
+
 -- an array that invokespecial names stands for Object
 abbrev pub class_or : ℕ → ℕ → Element → ℕ
 class_or object c NoArray = c
@@ -119,11 +123,11 @@ dispatched e at Static arguments named m =
     initialized e (begins e) (method_at e.program m).class (λ d. enters_method e at d arguments m)
 dispatched e at Virtual arguments named m =
     not_null e (begins e) (first_reference arguments) (λ o.
-    ill_typed_unless e (is_of_owner e (begins e) m o)
+    ill_typed_unless e (fits_resolved e (begins e) arguments m o)
     (after_selection e (begins e) (select e.program (object_class (begins e) o) m false) (enters_method e at (begins e) arguments)))
 dispatched e at Special arguments named m =
     not_null e (begins e) (first_reference arguments) (λ o.
-    ill_typed_unless e (is_of_owner e (begins e) m o)
+    ill_typed_unless e (fits_resolved e (begins e) arguments m o)
     (after_selection e (begins e) (select_special e.program at.class (special_class e.program named) m) (enters_method e at (begins e) arguments)))
 dispatched e at Interface arguments named m =
     not_null e (begins e) (first_reference arguments) (λ o.

@@ -6,7 +6,7 @@
 --  4. `new` of an interface or an abstract class                                                  thrown
 --  5. initialization                                                                              see Initialization.antt
 --  6. null                                                                                        thrown
---  7. an object of a class that the instruction can't take                                        ill typed
+--  7. an object of a class that the instruction, or the method that was resolved, can't take      ill typed
 --  8. selection                                                                                   its error is thrown
 --  9. bounds, then element type; a zero divisor; a negative length; a cast; a monitor not owned   thrown
 -- 10. a native method that isn't built in                                                         thrown

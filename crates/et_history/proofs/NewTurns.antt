@@ -36,7 +36,7 @@ use Rattle.et_event.specs.declared.rows.Row.TheVariants as row
 use Rattle.et_event.specs.declared.errors.GuestError.TheVariants as errors
 use Rattle.et_program.specs.BuiltIns.{built_in_of}
 use Rattle.et_event.specs.BuiltIns.{argument, answering, reference_in, with_referent_of, starts_thread, with_thread_for, has_thread_ended, is_fit_for, row_done, done_by, built_in_event, with_reference_made, with_first_taken}
-use Rattle.et_event.specs.Calls.{is_static_call, call_fits, with_type, with_method, taking, enters_method, is_of_owner, special_class, dispatched, is_as, arguments_of, entry_count, invoke, entering_frame, entry_arguments, enters_first, enters_run, entry_call, with_returned, class_done_by, frame_returned, returned_by, return}
+use Rattle.et_event.specs.Calls.{is_static_call, call_fits, with_type, with_method, taking, enters_method, fits_resolved, is_of_owner, special_class, dispatched, is_as, arguments_of, entry_count, invoke, entering_frame, entry_arguments, enters_first, enters_run, entry_call, with_returned, class_done_by, frame_returned, returned_by, return}
 use Rattle.et_event.specs.Checks.{entries_of}
 use Rattle.et_event.specs.Errors.{class_called, error_class}
 use Rattle.et_event.specs.Event.{by_row, by_instruction, initializes, does_turn, event}
@@ -125,7 +125,7 @@ row_new e at d arguments o built.ClearReferent h =
     goes_new e (with_referent_of o None x) (referent_strings e o None x (answering_strings e at arguments [] d h))
 
 done_new : (e : Moment) (at : Site) (d : Doing) (arguments : List Value) (r : Option ℕ) (b : Option BuiltIn) → OfStrings e d.state → New e (done_by e at d arguments r b)
-done_new e at d arguments (Some o) (Some b) h = unless_ill_typed e (is_fit_for e d arguments o b) (row_done e at d arguments o b) (row_new e at d arguments o b h)
+done_new e at d arguments (Some o) (Some b) h = unless_ill_typed e (is_fit_for e d o b) (row_done e at d arguments o b) (row_new e at d arguments o b h)
 done_new e at d arguments (Some o) None h = throws_new e errors.AbstractMethodError d h
 done_new e at d arguments None (Some b) h = throws_new e errors.AbstractMethodError d h
 done_new e at d arguments None None h = throws_new e errors.AbstractMethodError d h
@@ -142,11 +142,11 @@ dispatched_new : (e : Moment) (at : Site) (kind : CallKind) (arguments : List Va
 dispatched_new e at Static arguments named m here = initialized_new e (begins e) (method_at e.program m).class _ (first e here) (λ d h. method_new e at d arguments m h)
 dispatched_new e at Virtual arguments named m here =
     where_not_null e (begins e) (first_reference arguments) _ (first e here) (λ o.
-    unless_ill_typed e (is_of_owner e (begins e) m o) _
+    unless_ill_typed e (fits_resolved e (begins e) arguments m o) _
     (where_resolved e (begins e) (select e.program (object_class (begins e) o) m false) _ (first e here) (λ k. method_new e at (begins e) arguments k (first e here))))
 dispatched_new e at Special arguments named m here =
     where_not_null e (begins e) (first_reference arguments) _ (first e here) (λ o.
-    unless_ill_typed e (is_of_owner e (begins e) m o) _
+    unless_ill_typed e (fits_resolved e (begins e) arguments m o) _
     (where_resolved e (begins e) (select_special e.program at.class (special_class e.program named) m) _ (first e here) (λ k. method_new e at (begins e) arguments k (first e here))))
 dispatched_new e at Interface arguments named m here =
     where_not_null e (begins e) (first_reference arguments) _ (first e here) (λ o.

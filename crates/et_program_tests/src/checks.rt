@@ -1,18 +1,31 @@
 //! The order of the checks that an instruction makes, by the numbers of the table in `docs/events.md`: a row `1 before 2`
 //! fails both at one instruction, and shows the answer of the first.
 
-use crate::programs::{BEGIN, HEAD, Part, Wanted, are_thrown, is_run, joined, library, with_main};
+use crate::programs::{
+    BEGIN, HEAD, Part, Program, Wanted, are_thrown, is_run, joined, library, with_main,
+};
 use et_top::Status;
 use std::alloc::Global;
 use std::process::Abort;
 use std::test::Fail;
 
-/// With each of these as `main` the trace goes on so, up to an event without meaning in this method, at this pc.
-fn are_ill_typed(rt: &impl Abort, alloc: Global, rows: &[(&str, &str, &str)]) -> Result<(), Fail> {
+/// A program that ends at an event without meaning.
+#[derive(Clone, Copy)]
+struct NoMeaning {
+    /// The body of `main`, from its two numbers on.
+    main: &'static str,
+    /// How the trace goes on.
+    trace: &'static str,
+    /// The method and the pc of the event.
+    place: &'static str,
+}
+
+/// Each of these programs ends so.
+fn are_ill_typed(rt: &impl Abort, alloc: Global, rows: &[NoMeaning]) -> Result<(), Fail> {
     let mut files = library(alloc)?;
-    for (body, rest, place) in rows {
-        let listing = with_main(alloc, body)?;
-        let trace = format!(in alloc; "{BEGIN}{rest}")?;
+    for NoMeaning { main, trace, place } in rows {
+        let listing = with_main(alloc, main)?;
+        let trace = format!(in alloc; "{BEGIN}{trace}")?;
         let refusal = format!(in alloc; "elephant: ill typed 0 {place}\n")?;
         let wanted = Wanted {
             status: Status::IllTyped,
@@ -25,110 +38,110 @@ fn are_ill_typed(rt: &impl Abort, alloc: Global, rows: &[(&str, &str, &str)]) ->
 }
 
 /// Operands of another kind, and results without room (JVMS 4.10.2.2).
-const OPERANDS: [(&str, &str, &str); 17] = [
+const OPERANDS: [NoMeaning; 17] = [
     // 1 before 2: nothing is on the stack, and there is no such class.
-    (
-        "1 1\ngetfield Gone x I\nreturn\nend\n",
-        "F 1 0\nZ 1 2\n",
-        "T main ([Ljava/lang/String;)V 0",
-    ),
+    NoMeaning {
+        main: "1 1\ngetfield Gone x I\nreturn\nend\n",
+        trace: "F 1 0\nZ 1 2\n",
+        place: "T main ([Ljava/lang/String;)V 0",
+    },
     // 1 before 2: no room for the result.
-    (
-        "1 1\niconst_0\nnew Gone\nreturn\nend\n",
-        "F 2 0\nZ 2 2\n",
-        "T main ([Ljava/lang/String;)V 1",
-    ),
+    NoMeaning {
+        main: "1 1\niconst_0\nnew Gone\nreturn\nend\n",
+        trace: "F 2 0\nZ 2 2\n",
+        place: "T main ([Ljava/lang/String;)V 1",
+    },
     // 1 before 2: no value is a float.
-    (
-        "1 1\niconst_0\ninvokestatic Gone f (F)V\nreturn\nend\n",
-        "F 2 0\nZ 2 2\n",
-        "T main ([Ljava/lang/String;)V 1",
-    ),
+    NoMeaning {
+        main: "1 1\niconst_0\ninvokestatic Gone f (F)V\nreturn\nend\n",
+        trace: "F 2 0\nZ 2 2\n",
+        place: "T main ([Ljava/lang/String;)V 1",
+    },
     // 1 before 2: no descriptor of a field.
-    (
-        "1 1\ngetstatic Gone x V\nreturn\nend\n",
-        "F 1 0\nZ 1 2\n",
-        "T main ([Ljava/lang/String;)V 0",
-    ),
+    NoMeaning {
+        main: "1 1\ngetstatic Gone x V\nreturn\nend\n",
+        trace: "F 1 0\nZ 1 2\n",
+        place: "T main ([Ljava/lang/String;)V 0",
+    },
     // 1 before 3: an int for an object, and the field is static.
-    (
-        "1 1\niconst_0\ngetfield Lib s I\nreturn\nend\n",
-        "F 2 0\nZ 2 2\n",
-        "T main ([Ljava/lang/String;)V 1",
-    ),
+    NoMeaning {
+        main: "1 1\niconst_0\ngetfield Lib s I\nreturn\nend\n",
+        trace: "F 2 0\nZ 2 2\n",
+        place: "T main ([Ljava/lang/String;)V 1",
+    },
     // 1 before 4: no room, and an interface.
-    (
-        "0 1\nnew Ifc\nreturn\nend\n",
-        "F 1 0\nZ 1 2\n",
-        "T main ([Ljava/lang/String;)V 0",
-    ),
+    NoMeaning {
+        main: "0 1\nnew Ifc\nreturn\nend\n",
+        trace: "F 1 0\nZ 1 2\n",
+        place: "T main ([Ljava/lang/String;)V 0",
+    },
     // 1 before 5: a long for an int, of a class whose initializer throws.
-    (
-        "2 1\nlconst_0\nputstatic Bad s I\nreturn\nend\n",
-        "F 2 0\nZ 2 2\n",
-        "T main ([Ljava/lang/String;)V 1",
-    ),
+    NoMeaning {
+        main: "2 1\nlconst_0\nputstatic Bad s I\nreturn\nend\n",
+        trace: "F 2 0\nZ 2 2\n",
+        place: "T main ([Ljava/lang/String;)V 1",
+    },
     // 1 before 6: a long for an index, and null.
-    (
-        "3 1\naconst_null\nlconst_0\niaload\nreturn\nend\n",
-        "F 3 0\nZ 3 2\n",
-        "T main ([Ljava/lang/String;)V 2",
-    ),
+    NoMeaning {
+        main: "3 1\naconst_null\nlconst_0\niaload\nreturn\nend\n",
+        trace: "F 3 0\nZ 3 2\n",
+        place: "T main ([Ljava/lang/String;)V 2",
+    },
     // 1 before 7: a long for an index, and no array.
-    (
-        "3 1\nnew Lib\nlconst_0\niaload\nreturn\nend\n",
-        "C 3 Lib\nA 2 0 2 3 24 0\nF 3 0\nZ 3 2\n",
-        "T main ([Ljava/lang/String;)V 4",
-    ),
+    NoMeaning {
+        main: "3 1\nnew Lib\nlconst_0\niaload\nreturn\nend\n",
+        trace: "C 3 Lib\nA 2 0 2 3 24 0\nF 3 0\nZ 3 2\n",
+        place: "T main ([Ljava/lang/String;)V 4",
+    },
     // 1 before 8: no room for the result of a method without code.
-    (
-        "1 1\nnew Low\ninvokevirtual Abs make ()J\nreturn\nend\n",
-        "C 3 Low\nA 2 0 2 3 16 0\nF 2 0\nZ 2 2\n",
-        "T main ([Ljava/lang/String;)V 3",
-    ),
+    NoMeaning {
+        main: "1 1\nnew Low\ninvokevirtual Abs make ()J\nreturn\nend\n",
+        trace: "C 3 Low\nA 2 0 2 3 16 0\nF 2 0\nZ 2 2\n",
+        place: "T main ([Ljava/lang/String;)V 3",
+    },
     // 1 before 9: an object divided by zero.
-    (
-        "2 1\naconst_null\niconst_0\nidiv\nreturn\nend\n",
-        "F 3 0\nZ 3 2\n",
-        "T main ([Ljava/lang/String;)V 2",
-    ),
+    NoMeaning {
+        main: "2 1\naconst_null\niconst_0\nidiv\nreturn\nend\n",
+        trace: "F 3 0\nZ 3 2\n",
+        place: "T main ([Ljava/lang/String;)V 2",
+    },
     // 1 before 9: no int to return, and the monitor was left.
-    (
-        "1 1\nnew Lib\ninvokevirtual Lib lose ()I\nreturn\nend\n",
-        "C 3 Lib\nA 2 0 2 3 24 0\nN 2 3 lose ()I\nM 3 0 2 2\nF 5 0\nZ 5 2\n",
-        "Lib lose ()I 2",
-    ),
+    NoMeaning {
+        main: "1 1\nnew Lib\ninvokevirtual Lib lose ()I\nreturn\nend\n",
+        trace: "C 3 Lib\nA 2 0 2 3 24 0\nN 2 3 lose ()I\nM 3 0 2 2\nF 5 0\nZ 5 2\n",
+        place: "Lib lose ()I 2",
+    },
     // 1 before 10: no argument, and native.
-    (
-        "1 1\ninvokestatic Lib take (I)V\nreturn\nend\n",
-        "F 1 0\nZ 1 2\n",
-        "T main ([Ljava/lang/String;)V 0",
-    ),
+    NoMeaning {
+        main: "1 1\ninvokestatic Lib take (I)V\nreturn\nend\n",
+        trace: "F 1 0\nZ 1 2\n",
+        place: "T main ([Ljava/lang/String;)V 0",
+    },
     // 1 before 13: a long for a length, and one that does not fit.
-    (
-        "3 1\nlconst_1\nldc int 67108865\nmultianewarray [[I 2\nreturn\nend\n",
-        "F 3 0\nZ 3 2\n",
-        "T main ([Ljava/lang/String;)V 3",
-    ),
+    NoMeaning {
+        main: "3 1\nlconst_1\nldc int 67108865\nmultianewarray [[I 2\nreturn\nend\n",
+        trace: "F 3 0\nZ 3 2\n",
+        place: "T main ([Ljava/lang/String;)V 3",
+    },
     // 1 alone: the end of the code.
-    (
-        "1 1\nnop\nend\n",
-        "F 2 0\nZ 2 2\n",
-        "T main ([Ljava/lang/String;)V 1",
-    ),
+    NoMeaning {
+        main: "1 1\nnop\nend\n",
+        trace: "F 2 0\nZ 2 2\n",
+        place: "T main ([Ljava/lang/String;)V 1",
+    },
     // 1 alone: a return of another kind.
-    (
-        "1 1\niconst_0\nireturn\nend\n",
-        "F 2 0\nZ 2 2\n",
-        "T main ([Ljava/lang/String;)V 1",
-    ),
+    NoMeaning {
+        main: "1 1\niconst_0\nireturn\nend\n",
+        trace: "F 2 0\nZ 2 2\n",
+        place: "T main ([Ljava/lang/String;)V 1",
+    },
     // 1 alone: no room for the exception that is caught.
-    (
-        "0 1\na:\ninvokestatic Lib fail ()V\nb:\nreturn\ncatch a b b *\nend\n",
-        "C 3 Lib\nN 2 3 fail ()V\nM 2 0 2 0\nC 4 java/lang/NullPointerException\nA 4 0 2 4 32 0\n\
+    NoMeaning {
+        main: "0 1\na:\ninvokestatic Lib fail ()V\nb:\nreturn\ncatch a b b *\nend\n",
+        trace: "C 3 Lib\nN 2 3 fail ()V\nM 2 0 2 0\nC 4 java/lang/NullPointerException\nA 4 0 2 4 32 0\n\
          X 5 0 2 2\nF 5 0\nZ 5 2\n",
-        "T main ([Ljava/lang/String;)V 0",
-    ),
+        place: "T main ([Ljava/lang/String;)V 0",
+    },
 ];
 
 #[test]
@@ -137,66 +150,66 @@ fn operands_are_checked_first(rt: HostRuntime) -> Result<(), Fail> {
 }
 
 /// Resolution (JVMS 5.4.3).
-const RESOLUTION: [(&str, &str); 11] = [
+const RESOLUTION: [Program; 11] = [
     // 2 before 5: no such field, of a class whose initializer throws.
-    (
-        "1 1\ngetstatic Bad none I\nreturn\nend\n",
-        "C 3 java/lang/NoSuchFieldError\nA 2 0 2 3 32 0\nX 3 0 1 2\nF 4 2\nD 1 2\nD 2 3\nZ 4 0\n",
-    ),
+    Program {
+        main: "1 1\ngetstatic Bad none I\nreturn\nend\n",
+        trace: "C 3 java/lang/NoSuchFieldError\nA 2 0 2 3 32 0\nX 3 0 1 2\nF 4 2\nD 1 2\nD 2 3\nZ 4 0\n",
+    },
     // 2 before 6: no such class, and null.
-    (
-        "1 1\naconst_null\ngetfield Gone x I\nreturn\nend\n",
-        "C 3 java/lang/NoClassDefFoundError\nA 3 0 2 3 32 0\nX 4 0 1 2\nF 5 2\nD 1 3\nD 2 4\nZ 5 0\n",
-    ),
+    Program {
+        main: "1 1\naconst_null\ngetfield Gone x I\nreturn\nend\n",
+        trace: "C 3 java/lang/NoClassDefFoundError\nA 3 0 2 3 32 0\nX 4 0 1 2\nF 5 2\nD 1 3\nD 2 4\nZ 5 0\n",
+    },
     // 2 before 6: no such field, and null.
-    (
-        "1 1\naconst_null\ngetfield Lib none I\nreturn\nend\n",
-        "C 3 java/lang/NoSuchFieldError\nA 3 0 2 3 32 0\nX 4 0 1 2\nF 5 2\nD 1 3\nD 2 4\nZ 5 0\n",
-    ),
+    Program {
+        main: "1 1\naconst_null\ngetfield Lib none I\nreturn\nend\n",
+        trace: "C 3 java/lang/NoSuchFieldError\nA 3 0 2 3 32 0\nX 4 0 1 2\nF 5 2\nD 1 3\nD 2 4\nZ 5 0\n",
+    },
     // 2 before 6: no such method, and null.
-    (
-        "1 1\naconst_null\ninvokevirtual Lib none ()V\nreturn\nend\n",
-        "C 3 java/lang/NoSuchMethodError\nA 3 0 2 3 32 0\nX 4 0 1 2\nF 5 2\nD 1 3\nD 2 4\nZ 5 0\n",
-    ),
+    Program {
+        main: "1 1\naconst_null\ninvokevirtual Lib none ()V\nreturn\nend\n",
+        trace: "C 3 java/lang/NoSuchMethodError\nA 3 0 2 3 32 0\nX 4 0 1 2\nF 5 2\nD 1 3\nD 2 4\nZ 5 0\n",
+    },
     // 2 before 6: a class for an interface, and null.
-    (
-        "1 1\naconst_null\ninvokeinterface Lib go ()V\nreturn\nend\n",
-        "C 3 java/lang/IncompatibleClassChangeError\nA 3 0 2 3 32 0\nX 4 0 1 2\nF 5 2\nD 1 3\nD 2 4\n\
+    Program {
+        main: "1 1\naconst_null\ninvokeinterface Lib go ()V\nreturn\nend\n",
+        trace: "C 3 java/lang/IncompatibleClassChangeError\nA 3 0 2 3 32 0\nX 4 0 1 2\nF 5 2\nD 1 3\nD 2 4\n\
          Z 5 0\n",
-    ),
+    },
     // 2 before 6: an interface for a class, and null.
-    (
-        "1 1\naconst_null\ninvokevirtual Ifc own ()V\nreturn\nend\n",
-        "C 3 java/lang/IncompatibleClassChangeError\nA 3 0 2 3 32 0\nX 4 0 1 2\nF 5 2\nD 1 3\nD 2 4\n\
+    Program {
+        main: "1 1\naconst_null\ninvokevirtual Ifc own ()V\nreturn\nend\n",
+        trace: "C 3 java/lang/IncompatibleClassChangeError\nA 3 0 2 3 32 0\nX 4 0 1 2\nF 5 2\nD 1 3\nD 2 4\n\
          Z 5 0\n",
-    ),
+    },
     // 2 before 7: no such method, and an object of another class.
-    (
-        "1 1\nnew Lib\ninvokevirtual Abs none ()V\nreturn\nend\n",
-        "C 3 Lib\nA 2 0 2 3 24 0\nC 4 java/lang/NoSuchMethodError\nA 3 0 3 4 32 0\nX 4 0 1 3\nF 5 3\n\
+    Program {
+        main: "1 1\nnew Lib\ninvokevirtual Abs none ()V\nreturn\nend\n",
+        trace: "C 3 Lib\nA 2 0 2 3 24 0\nC 4 java/lang/NoSuchMethodError\nA 3 0 3 4 32 0\nX 4 0 1 3\nF 5 3\n\
          D 1 3\nD 2 3\nD 3 4\nZ 5 0\n",
-    ),
+    },
     // 2 before 9: no such class, and a negative length.
-    (
-        "1 1\niconst_m1\nanewarray Gone\nreturn\nend\n",
-        "C 3 java/lang/NoClassDefFoundError\nA 3 0 2 3 32 0\nX 4 0 1 2\nF 5 2\nD 1 3\nD 2 4\nZ 5 0\n",
-    ),
+    Program {
+        main: "1 1\niconst_m1\nanewarray Gone\nreturn\nend\n",
+        trace: "C 3 java/lang/NoClassDefFoundError\nA 3 0 2 3 32 0\nX 4 0 1 2\nF 5 2\nD 1 3\nD 2 4\nZ 5 0\n",
+    },
     // 2 before 9: the same in each dimension.
-    (
-        "2 1\niconst_m1\niconst_m1\nmultianewarray [[LGone; 2\nreturn\nend\n",
-        "C 3 java/lang/NoClassDefFoundError\nA 4 0 2 3 32 0\nX 5 0 1 2\nF 6 2\nD 1 4\nD 2 5\nZ 6 0\n",
-    ),
+    Program {
+        main: "2 1\niconst_m1\niconst_m1\nmultianewarray [[LGone; 2\nreturn\nend\n",
+        trace: "C 3 java/lang/NoClassDefFoundError\nA 4 0 2 3 32 0\nX 5 0 1 2\nF 6 2\nD 1 4\nD 2 5\nZ 6 0\n",
+    },
     // 2 before 9: no such class to cast to; of null nothing is resolved.
-    (
-        "1 1\naconst_null\ncheckcast Gone\ninstanceof Gone\npop\nnew Lib\ncheckcast Gone\nreturn\nend\n",
-        "C 3 Lib\nA 6 0 2 3 24 0\nC 4 java/lang/NoClassDefFoundError\nA 7 0 3 4 32 0\nX 8 0 1 3\nF 9 3\n\
+    Program {
+        main: "1 1\naconst_null\ncheckcast Gone\ninstanceof Gone\npop\nnew Lib\ncheckcast Gone\nreturn\nend\n",
+        trace: "C 3 Lib\nA 6 0 2 3 24 0\nC 4 java/lang/NoClassDefFoundError\nA 7 0 3 4 32 0\nX 8 0 1 3\nF 9 3\n\
          D 1 7\nD 2 7\nD 3 8\nZ 9 0\n",
-    ),
+    },
     // 2 before 13: no such class, and a length that does not fit.
-    (
-        "1 1\nldc int 67108865\nanewarray Gone\nreturn\nend\n",
-        "C 3 java/lang/NoClassDefFoundError\nA 3 0 2 3 32 0\nX 4 0 1 2\nF 5 2\nD 1 3\nD 2 4\nZ 5 0\n",
-    ),
+    Program {
+        main: "1 1\nldc int 67108865\nanewarray Gone\nreturn\nend\n",
+        trace: "C 3 java/lang/NoClassDefFoundError\nA 3 0 2 3 32 0\nX 4 0 1 2\nF 5 2\nD 1 3\nD 2 4\nZ 5 0\n",
+    },
 ];
 
 #[test]
@@ -205,65 +218,65 @@ fn resolution_is_checked_second(rt: HostRuntime) -> Result<(), Fail> {
 }
 
 /// Static members and others (JVMS 6.5, getfield, getstatic, the invokes), and what `new` makes (JVMS 6.5, new).
-const STATIC_AND_MADE: [(&str, &str); 10] = [
+const STATIC_AND_MADE: [Program; 10] = [
     // 3 before 5: a field that is not static, of a class whose initializer throws.
-    (
-        "1 1\ngetstatic Bad x I\nreturn\nend\n",
-        "C 3 java/lang/IncompatibleClassChangeError\nA 2 0 2 3 32 0\nX 3 0 1 2\nF 4 2\nD 1 2\nD 2 3\n\
+    Program {
+        main: "1 1\ngetstatic Bad x I\nreturn\nend\n",
+        trace: "C 3 java/lang/IncompatibleClassChangeError\nA 2 0 2 3 32 0\nX 3 0 1 2\nF 4 2\nD 1 2\nD 2 3\n\
          Z 4 0\n",
-    ),
+    },
     // 3 before 5: the same, written.
-    (
-        "1 1\niconst_0\nputstatic Bad x I\nreturn\nend\n",
-        "C 3 java/lang/IncompatibleClassChangeError\nA 3 0 2 3 32 0\nX 4 0 1 2\nF 5 2\nD 1 3\nD 2 4\n\
+    Program {
+        main: "1 1\niconst_0\nputstatic Bad x I\nreturn\nend\n",
+        trace: "C 3 java/lang/IncompatibleClassChangeError\nA 3 0 2 3 32 0\nX 4 0 1 2\nF 5 2\nD 1 3\nD 2 4\n\
          Z 5 0\n",
-    ),
+    },
     // 3 before 5: a method that is not static.
-    (
-        "1 1\ninvokestatic Bad go ()V\nreturn\nend\n",
-        "C 3 java/lang/IncompatibleClassChangeError\nA 2 0 2 3 32 0\nX 3 0 1 2\nF 4 2\nD 1 2\nD 2 3\n\
+    Program {
+        main: "1 1\ninvokestatic Bad go ()V\nreturn\nend\n",
+        trace: "C 3 java/lang/IncompatibleClassChangeError\nA 2 0 2 3 32 0\nX 3 0 1 2\nF 4 2\nD 1 2\nD 2 3\n\
          Z 4 0\n",
-    ),
+    },
     // 3 before 6: a static field, and null.
-    (
-        "1 1\naconst_null\ngetfield Lib s I\nreturn\nend\n",
-        "C 3 java/lang/IncompatibleClassChangeError\nA 3 0 2 3 32 0\nX 4 0 1 2\nF 5 2\nD 1 3\nD 2 4\n\
+    Program {
+        main: "1 1\naconst_null\ngetfield Lib s I\nreturn\nend\n",
+        trace: "C 3 java/lang/IncompatibleClassChangeError\nA 3 0 2 3 32 0\nX 4 0 1 2\nF 5 2\nD 1 3\nD 2 4\n\
          Z 5 0\n",
-    ),
+    },
     // 3 before 6: a static method, and null.
-    (
-        "1 1\naconst_null\ninvokevirtual Lib still ()V\nreturn\nend\n",
-        "C 3 java/lang/IncompatibleClassChangeError\nA 3 0 2 3 32 0\nX 4 0 1 2\nF 5 2\nD 1 3\nD 2 4\n\
+    Program {
+        main: "1 1\naconst_null\ninvokevirtual Lib still ()V\nreturn\nend\n",
+        trace: "C 3 java/lang/IncompatibleClassChangeError\nA 3 0 2 3 32 0\nX 4 0 1 2\nF 5 2\nD 1 3\nD 2 4\n\
          Z 5 0\n",
-    ),
+    },
     // 3 before 6: the same, by another invoke.
-    (
-        "1 1\naconst_null\ninvokespecial Lib still ()V\nreturn\nend\n",
-        "C 3 java/lang/IncompatibleClassChangeError\nA 3 0 2 3 32 0\nX 4 0 1 2\nF 5 2\nD 1 3\nD 2 4\n\
+    Program {
+        main: "1 1\naconst_null\ninvokespecial Lib still ()V\nreturn\nend\n",
+        trace: "C 3 java/lang/IncompatibleClassChangeError\nA 3 0 2 3 32 0\nX 4 0 1 2\nF 5 2\nD 1 3\nD 2 4\n\
          Z 5 0\n",
-    ),
+    },
     // 3 before 7: a static field, and an object of another class.
-    (
-        "2 1\nnew Low\niconst_0\nputfield Lib s I\nreturn\nend\n",
-        "C 3 Low\nA 2 0 2 3 16 0\nC 4 java/lang/IncompatibleClassChangeError\nA 4 0 3 4 32 0\nX 5 0 1 3\n\
+    Program {
+        main: "2 1\nnew Low\niconst_0\nputfield Lib s I\nreturn\nend\n",
+        trace: "C 3 Low\nA 2 0 2 3 16 0\nC 4 java/lang/IncompatibleClassChangeError\nA 4 0 3 4 32 0\nX 5 0 1 3\n\
          F 6 3\nD 1 4\nD 2 4\nD 3 5\nZ 6 0\n",
-    ),
+    },
     // 3 before 10: a method that is not static, and native.
-    (
-        "1 1\ninvokestatic Lib bare ()V\nreturn\nend\n",
-        "C 3 java/lang/IncompatibleClassChangeError\nA 2 0 2 3 32 0\nX 3 0 1 2\nF 4 2\nD 1 2\nD 2 3\n\
+    Program {
+        main: "1 1\ninvokestatic Lib bare ()V\nreturn\nend\n",
+        trace: "C 3 java/lang/IncompatibleClassChangeError\nA 2 0 2 3 32 0\nX 3 0 1 2\nF 4 2\nD 1 2\nD 2 3\n\
          Z 4 0\n",
-    ),
+    },
     // 4 before 5: an abstract class with an initializer.
-    (
-        "1 1\nnew Pre\nreturn\nend\n",
-        "C 3 java/lang/InstantiationError\nA 2 0 2 3 32 0\nX 3 0 1 2\nF 4 2\nD 1 2\nD 2 3\nZ 4 0\n",
-    ),
+    Program {
+        main: "1 1\nnew Pre\nreturn\nend\n",
+        trace: "C 3 java/lang/InstantiationError\nA 2 0 2 3 32 0\nX 3 0 1 2\nF 4 2\nD 1 2\nD 2 3\nZ 4 0\n",
+    },
     // 4 before 5: an interface with an initializer.
-    (
-        "1 1\nnew Con\nreturn\nend\n",
-        "C 3 java/lang/InstantiationError\nA 2 0 2 3 32 0\nX 3 0 1 2\nF 4 2\nD 1 2\nD 2 3\nZ 4 0\n",
-    ),
+    Program {
+        main: "1 1\nnew Con\nreturn\nend\n",
+        trace: "C 3 java/lang/InstantiationError\nA 2 0 2 3 32 0\nX 3 0 1 2\nF 4 2\nD 1 2\nD 2 3\nZ 4 0\n",
+    },
 ];
 
 #[test]
@@ -272,53 +285,53 @@ fn what_is_static_and_what_can_be_made(rt: HostRuntime) -> Result<(), Fail> {
 }
 
 /// Initialization (JVMS 5.5), and null (JVMS 2.10).
-const INITIALIZATION_AND_NULL: [(&str, &str); 8] = [
+const INITIALIZATION_AND_NULL: [Program; 8] = [
     // 5 before 10: the initializer runs, and then the method is native.
-    (
-        "1 1\ninvokestatic Pre bare ()V\nreturn\nend\n",
-        "C 3 java/lang/String\nA 2 0 2 3 16 0\nU 2 0 0 2 0 2\nC 4 Pre\nN 2 4 <clinit> ()V\nM 3 0 2 0\n\
+    Program {
+        main: "1 1\ninvokestatic Pre bare ()V\nreturn\nend\n",
+        trace: "C 3 java/lang/String\nA 2 0 2 3 16 0\nU 2 0 0 2 0 2\nC 4 Pre\nN 2 4 <clinit> ()V\nM 3 0 2 0\n\
          E 4 0 2\nC 5 java/lang/UnsatisfiedLinkError\nA 5 0 3 5 32 0\nX 6 0 1 3\nF 7 2\nD 1 5\nD 3 6\n\
          Z 7 0\n",
-    ),
+    },
     // 5 before 10: at the second call the initializer has failed, and the method is native.
-    (
-        "1 1\na:\ninvokestatic Bad bare ()V\nb:\nreturn\nh:\npop\ninvokestatic Bad bare ()V\nreturn\n\
+    Program {
+        main: "1 1\na:\ninvokestatic Bad bare ()V\nb:\nreturn\nh:\npop\ninvokestatic Bad bare ()V\nreturn\n\
          catch a b h *\nend\n",
-        "C 3 Bad\nN 2 3 <clinit> ()V\nM 3 0 2 0\nC 4 java/lang/ArithmeticException\nA 6 0 2 4 32 0\n\
+        trace: "C 3 Bad\nN 2 3 <clinit> ()V\nM 3 0 2 0\nC 4 java/lang/ArithmeticException\nA 6 0 2 4 32 0\n\
          X 7 0 2 2\nC 5 java/lang/ExceptionInInitializerError\nA 7 0 3 5 32 0\nU 7 0 3 1 0 2\n\
          C 6 java/lang/NoClassDefFoundError\nA 10 0 4 6 32 0\nX 11 0 1 4\nF 12 4\nD 1 10\nD 2 8\nD 3 8\n\
          D 4 11\nZ 12 0\n",
-    ),
+    },
     // 6 before 8: null, and a method without code.
-    (
-        "1 1\naconst_null\ninvokevirtual Abs work ()V\nreturn\nend\n",
-        "C 3 java/lang/NullPointerException\nA 3 0 2 3 32 0\nX 4 0 1 2\nF 5 2\nD 1 3\nD 2 4\nZ 5 0\n",
-    ),
+    Program {
+        main: "1 1\naconst_null\ninvokevirtual Abs work ()V\nreturn\nend\n",
+        trace: "C 3 java/lang/NullPointerException\nA 3 0 2 3 32 0\nX 4 0 1 2\nF 5 2\nD 1 3\nD 2 4\nZ 5 0\n",
+    },
     // 6 before 8: null, and a private method of an interface.
-    (
-        "1 1\naconst_null\ninvokeinterface Ifc own ()V\nreturn\nend\n",
-        "C 3 java/lang/NullPointerException\nA 3 0 2 3 32 0\nX 4 0 1 2\nF 5 2\nD 1 3\nD 2 4\nZ 5 0\n",
-    ),
+    Program {
+        main: "1 1\naconst_null\ninvokeinterface Ifc own ()V\nreturn\nend\n",
+        trace: "C 3 java/lang/NullPointerException\nA 3 0 2 3 32 0\nX 4 0 1 2\nF 5 2\nD 1 3\nD 2 4\nZ 5 0\n",
+    },
     // 6 before 8: null, and a constructor that the class only inherits.
-    (
-        "1 1\naconst_null\ninvokespecial Son <init> ()V\nreturn\nend\n",
-        "C 3 java/lang/NullPointerException\nA 3 0 2 3 32 0\nX 4 0 1 2\nF 5 2\nD 1 3\nD 2 4\nZ 5 0\n",
-    ),
+    Program {
+        main: "1 1\naconst_null\ninvokespecial Son <init> ()V\nreturn\nend\n",
+        trace: "C 3 java/lang/NullPointerException\nA 3 0 2 3 32 0\nX 4 0 1 2\nF 5 2\nD 1 3\nD 2 4\nZ 5 0\n",
+    },
     // 6 before 9: null, and a negative index.
-    (
-        "2 1\naconst_null\niconst_m1\niaload\nreturn\nend\n",
-        "C 3 java/lang/NullPointerException\nA 4 0 2 3 32 0\nX 5 0 1 2\nF 6 2\nD 1 4\nD 2 5\nZ 6 0\n",
-    ),
+    Program {
+        main: "2 1\naconst_null\niconst_m1\niaload\nreturn\nend\n",
+        trace: "C 3 java/lang/NullPointerException\nA 4 0 2 3 32 0\nX 5 0 1 2\nF 6 2\nD 1 4\nD 2 5\nZ 6 0\n",
+    },
     // 6 before 9: null, and a monitor that is not owned.
-    (
-        "1 1\naconst_null\nmonitorexit\nreturn\nend\n",
-        "C 3 java/lang/NullPointerException\nA 3 0 2 3 32 0\nX 4 0 1 2\nF 5 2\nD 1 3\nD 2 4\nZ 5 0\n",
-    ),
+    Program {
+        main: "1 1\naconst_null\nmonitorexit\nreturn\nend\n",
+        trace: "C 3 java/lang/NullPointerException\nA 3 0 2 3 32 0\nX 4 0 1 2\nF 5 2\nD 1 3\nD 2 4\nZ 5 0\n",
+    },
     // 6 before 10: null, and native.
-    (
-        "1 1\naconst_null\ninvokevirtual Lib bare ()V\nreturn\nend\n",
-        "C 3 java/lang/NullPointerException\nA 3 0 2 3 32 0\nX 4 0 1 2\nF 5 2\nD 1 3\nD 2 4\nZ 5 0\n",
-    ),
+    Program {
+        main: "1 1\naconst_null\ninvokevirtual Lib bare ()V\nreturn\nend\n",
+        trace: "C 3 java/lang/NullPointerException\nA 3 0 2 3 32 0\nX 4 0 1 2\nF 5 2\nD 1 3\nD 2 4\nZ 5 0\n",
+    },
 ];
 
 #[test]
@@ -327,43 +340,50 @@ fn initialization_and_null(rt: HostRuntime) -> Result<(), Fail> {
 }
 
 /// Objects of a class that the instruction cannot take (JVMS 4.10.1.9).
-const CLASSES_OF_OBJECTS: [(&str, &str, &str); 6] = [
+const CLASSES_OF_OBJECTS: [NoMeaning; 7] = [
     // 7 before 8: an object of another class, and a method without code.
-    (
-        "1 1\nnew Lib\ninvokevirtual Abs work ()V\nreturn\nend\n",
-        "C 3 Lib\nA 2 0 2 3 24 0\nF 2 0\nZ 2 2\n",
-        "T main ([Ljava/lang/String;)V 3",
-    ),
+    NoMeaning {
+        main: "1 1\nnew Lib\ninvokevirtual Abs work ()V\nreturn\nend\n",
+        trace: "C 3 Lib\nA 2 0 2 3 24 0\nF 2 0\nZ 2 2\n",
+        place: "T main ([Ljava/lang/String;)V 3",
+    },
     // 7 before 8: an object of another class, and a constructor that the class only inherits.
-    (
-        "1 1\nnew Lib\ninvokespecial Son <init> ()V\nreturn\nend\n",
-        "C 3 Lib\nA 2 0 2 3 24 0\nF 2 0\nZ 2 2\n",
-        "T main ([Ljava/lang/String;)V 3",
-    ),
+    NoMeaning {
+        main: "1 1\nnew Lib\ninvokespecial Son <init> ()V\nreturn\nend\n",
+        trace: "C 3 Lib\nA 2 0 2 3 24 0\nF 2 0\nZ 2 2\n",
+        place: "T main ([Ljava/lang/String;)V 3",
+    },
+    // 7 before 8: an argument that is no queue, and a constructor that the class only inherits.
+    NoMeaning {
+        main: "3 1\nnew Weak\naconst_null\nnew Lib\n\
+         invokespecial Weak <init> (Ljava/lang/Object;Ljava/lang/ref/ReferenceQueue;)V\nreturn\nend\n",
+        trace: "C 3 Weak\nA 2 0 2 3 16 0\nC 4 Lib\nA 4 0 3 4 24 0\nF 4 0\nZ 4 2\n",
+        place: "T main ([Ljava/lang/String;)V 7",
+    },
     // 7 before 9: an array of longs, and a negative index.
-    (
-        "2 1\niconst_1\nnewarray long\niconst_m1\niaload\nreturn\nend\n",
-        "C 3 [J\nA 3 0 2 3 32 1\nF 4 0\nZ 4 2\n",
-        "T main ([Ljava/lang/String;)V 4",
-    ),
+    NoMeaning {
+        main: "2 1\niconst_1\nnewarray long\niconst_m1\niaload\nreturn\nend\n",
+        trace: "C 3 [J\nA 3 0 2 3 32 1\nF 4 0\nZ 4 2\n",
+        place: "T main ([Ljava/lang/String;)V 4",
+    },
     // 7 before 9: an array of ints, and an index above the last.
-    (
-        "3 1\niconst_1\nnewarray int\niconst_1\nnew Lib\naastore\nreturn\nend\n",
-        "C 3 [I\nA 3 0 2 3 32 1\nC 4 Lib\nA 5 0 3 4 24 0\nF 5 0\nZ 5 2\n",
-        "T main ([Ljava/lang/String;)V 7",
-    ),
+    NoMeaning {
+        main: "3 1\niconst_1\nnewarray int\niconst_1\nnew Lib\naastore\nreturn\nend\n",
+        trace: "C 3 [I\nA 3 0 2 3 32 1\nC 4 Lib\nA 5 0 3 4 24 0\nF 5 0\nZ 5 2\n",
+        place: "T main ([Ljava/lang/String;)V 7",
+    },
     // 7 before 10: an object of another class, and native.
-    (
-        "1 1\nnew Low\ninvokevirtual Lib bare ()V\nreturn\nend\n",
-        "C 3 Low\nA 2 0 2 3 16 0\nF 2 0\nZ 2 2\n",
-        "T main ([Ljava/lang/String;)V 3",
-    ),
+    NoMeaning {
+        main: "1 1\nnew Low\ninvokevirtual Lib bare ()V\nreturn\nend\n",
+        trace: "C 3 Low\nA 2 0 2 3 16 0\nF 2 0\nZ 2 2\n",
+        place: "T main ([Ljava/lang/String;)V 3",
+    },
     // 7 alone: what is thrown is no Throwable.
-    (
-        "1 1\nnew Lib\nathrow\nend\n",
-        "C 3 Lib\nA 2 0 2 3 24 0\nF 2 0\nZ 2 2\n",
-        "T main ([Ljava/lang/String;)V 3",
-    ),
+    NoMeaning {
+        main: "1 1\nnew Lib\nathrow\nend\n",
+        trace: "C 3 Lib\nA 2 0 2 3 24 0\nF 2 0\nZ 2 2\n",
+        place: "T main ([Ljava/lang/String;)V 3",
+    },
 ];
 
 #[test]
@@ -372,37 +392,45 @@ fn classes_of_objects(rt: HostRuntime) -> Result<(), Fail> {
 }
 
 /// Selection (JVMS 6.5, the invokes), lengths and bounds (JVMS 6.5, multianewarray, aastore).
-const SELECTION_AND_BOUNDS: [(&str, &str); 5] = [
+const SELECTION_AND_BOUNDS: [Program; 6] = [
     // 8 before 10: a constructor that the class only inherits, and native.
-    (
-        "1 1\nnew Son\ninvokespecial Son <init> ()V\nreturn\nend\n",
-        "C 3 Son\nA 2 0 2 3 16 0\nC 4 java/lang/NoSuchMethodError\nA 3 0 3 4 32 0\nX 4 0 1 3\nF 5 3\n\
+    Program {
+        main: "1 1\nnew Son\ninvokespecial Son <init> ()V\nreturn\nend\n",
+        trace: "C 3 Son\nA 2 0 2 3 16 0\nC 4 java/lang/NoSuchMethodError\nA 3 0 3 4 32 0\nX 4 0 1 3\nF 5 3\n\
          D 1 3\nD 2 3\nD 3 4\nZ 5 0\n",
-    ),
+    },
+    // 8 behind 7: a queue as the argument, and a constructor that the class only inherits.
+    Program {
+        main: "3 1\nnew Weak\naconst_null\nnew java/lang/ref/ReferenceQueue\n\
+         invokespecial Weak <init> (Ljava/lang/Object;Ljava/lang/ref/ReferenceQueue;)V\nreturn\nend\n",
+        trace: "C 3 Weak\nA 2 0 2 3 16 0\nC 4 java/lang/ref/ReferenceQueue\nA 4 0 3 4 16 0\n\
+         C 5 java/lang/NoSuchMethodError\nA 5 0 4 5 32 0\nX 6 0 1 4\nF 7 4\nD 1 5\nD 2 5\nD 3 5\nD 4 6\n\
+         Z 7 0\n",
+    },
     // 8 before 10: a private method of an interface, and native.
-    (
-        "1 1\nnew Imp\ninvokeinterface Ifc own ()V\nreturn\nend\n",
-        "C 3 Imp\nA 2 0 2 3 16 0\nC 4 java/lang/IncompatibleClassChangeError\nA 3 0 3 4 32 0\nX 4 0 1 3\n\
+    Program {
+        main: "1 1\nnew Imp\ninvokeinterface Ifc own ()V\nreturn\nend\n",
+        trace: "C 3 Imp\nA 2 0 2 3 16 0\nC 4 java/lang/IncompatibleClassChangeError\nA 3 0 3 4 32 0\nX 4 0 1 3\n\
          F 5 3\nD 1 3\nD 2 3\nD 3 4\nZ 5 0\n",
-    ),
+    },
     // 8 before 10: an object without the interface, and native.
-    (
-        "1 1\nnew Lib\ninvokeinterface Ifc own ()V\nreturn\nend\n",
-        "C 3 Lib\nA 2 0 2 3 24 0\nC 4 java/lang/IncompatibleClassChangeError\nA 3 0 3 4 32 0\nX 4 0 1 3\n\
+    Program {
+        main: "1 1\nnew Lib\ninvokeinterface Ifc own ()V\nreturn\nend\n",
+        trace: "C 3 Lib\nA 2 0 2 3 24 0\nC 4 java/lang/IncompatibleClassChangeError\nA 3 0 3 4 32 0\nX 4 0 1 3\n\
          F 5 3\nD 1 3\nD 2 3\nD 3 4\nZ 5 0\n",
-    ),
+    },
     // 9 before 13: a negative length behind one that does not fit.
-    (
-        "2 1\nldc int 67108865\niconst_m1\nmultianewarray [[I 2\nreturn\nend\n",
-        "C 3 java/lang/NegativeArraySizeException\nA 4 0 2 3 32 0\nX 5 0 1 2\nF 6 2\nD 1 4\nD 2 5\n\
+    Program {
+        main: "2 1\nldc int 67108865\niconst_m1\nmultianewarray [[I 2\nreturn\nend\n",
+        trace: "C 3 java/lang/NegativeArraySizeException\nA 4 0 2 3 32 0\nX 5 0 1 2\nF 6 2\nD 1 4\nD 2 5\n\
          Z 6 0\n",
-    ),
+    },
     // Within 9 the bounds before the type of the element.
-    (
-        "3 1\niconst_1\nanewarray java/lang/String\niconst_1\nnew Lib\naastore\nreturn\nend\n",
-        "A 3 0 2 1 32 1\nC 3 Lib\nA 5 0 3 3 24 0\nC 4 java/lang/ArrayIndexOutOfBoundsException\n\
+    Program {
+        main: "3 1\niconst_1\nanewarray java/lang/String\niconst_1\nnew Lib\naastore\nreturn\nend\n",
+        trace: "A 3 0 2 1 32 1\nC 3 Lib\nA 5 0 3 3 24 0\nC 4 java/lang/ArrayIndexOutOfBoundsException\n\
          A 6 0 4 4 32 0\nX 7 0 1 4\nF 8 4\nD 1 6\nD 2 6\nD 3 6\nD 4 7\nZ 8 0\n",
-    ),
+    },
 ];
 
 #[test]

@@ -1,6 +1,6 @@
 //! Each exception and error that the machine itself throws: caught by a handler of its class, and the end of its thread.
 
-use crate::programs::{BEGIN, HEAD, Part, Wanted, are_thrown, is_run, joined, library};
+use crate::programs::{BEGIN, HEAD, Part, Program, Wanted, are_thrown, is_run, joined, library};
 use et_io::MemFiles;
 use et_top::Status;
 use std::alloc::Global;
@@ -291,141 +291,141 @@ fn a_thread_too_many(rt: HostRuntime) -> Result<(), Fail> {
 }
 
 /// Other instructions that throw them (JVMS 6.5), and the traces behind the entry of `main`.
-const OTHERS: [(&str, &str); 27] = [
+const OTHERS: [Program; 27] = [
     // ArithmeticException.
-    (
-        "4 1\niconst_1\niconst_0\nirem\npop\nreturn\nend\n",
-        "C 3 java/lang/ArithmeticException\nA 4 0 2 3 32 0\nX 5 0 1 2\nF 6 2\nD 1 4\nD 2 5\nZ 6 0\n",
-    ),
-    (
-        "4 1\nlconst_1\nlconst_0\nldiv\npop2\nreturn\nend\n",
-        "C 3 java/lang/ArithmeticException\nA 4 0 2 3 32 0\nX 5 0 1 2\nF 6 2\nD 1 4\nD 2 5\nZ 6 0\n",
-    ),
+    Program {
+        main: "4 1\niconst_1\niconst_0\nirem\npop\nreturn\nend\n",
+        trace: "C 3 java/lang/ArithmeticException\nA 4 0 2 3 32 0\nX 5 0 1 2\nF 6 2\nD 1 4\nD 2 5\nZ 6 0\n",
+    },
+    Program {
+        main: "4 1\nlconst_1\nlconst_0\nldiv\npop2\nreturn\nend\n",
+        trace: "C 3 java/lang/ArithmeticException\nA 4 0 2 3 32 0\nX 5 0 1 2\nF 6 2\nD 1 4\nD 2 5\nZ 6 0\n",
+    },
     // ArrayIndexOutOfBoundsException.
-    (
-        "4 1\niconst_2\nnewarray long\niconst_m1\nlconst_0\nlastore\nreturn\nend\n",
-        "C 3 [J\nA 3 0 2 3 40 2\nC 4 java/lang/ArrayIndexOutOfBoundsException\nA 6 0 3 4 32 0\n\
+    Program {
+        main: "4 1\niconst_2\nnewarray long\niconst_m1\nlconst_0\nlastore\nreturn\nend\n",
+        trace: "C 3 [J\nA 3 0 2 3 40 2\nC 4 java/lang/ArrayIndexOutOfBoundsException\nA 6 0 3 4 32 0\n\
          X 7 0 1 3\nF 8 3\nD 1 6\nD 2 6\nD 3 7\nZ 8 0\n",
-    ),
-    (
-        "4 1\niconst_0\nanewarray Lib\niconst_0\naaload\npop\nreturn\nend\n",
-        "C 3 [LLib;\nA 3 0 2 3 24 0\nC 4 java/lang/ArrayIndexOutOfBoundsException\nA 5 0 3 4 32 0\n\
+    },
+    Program {
+        main: "4 1\niconst_0\nanewarray Lib\niconst_0\naaload\npop\nreturn\nend\n",
+        trace: "C 3 [LLib;\nA 3 0 2 3 24 0\nC 4 java/lang/ArrayIndexOutOfBoundsException\nA 5 0 3 4 32 0\n\
          X 6 0 1 3\nF 7 3\nD 1 5\nD 2 5\nD 3 6\nZ 7 0\n",
-    ),
+    },
     // ArrayStoreException.
-    (
-        "4 1\niconst_1\nanewarray [J\niconst_0\niconst_1\nnewarray int\naastore\nreturn\nend\n",
-        "C 3 [[J\nA 3 0 2 3 32 1\nC 4 [I\nA 6 0 3 4 32 1\nC 5 java/lang/ArrayStoreException\n\
+    Program {
+        main: "4 1\niconst_1\nanewarray [J\niconst_0\niconst_1\nnewarray int\naastore\nreturn\nend\n",
+        trace: "C 3 [[J\nA 3 0 2 3 32 1\nC 4 [I\nA 6 0 3 4 32 1\nC 5 java/lang/ArrayStoreException\n\
          A 7 0 4 5 32 0\nX 8 0 1 4\nF 9 4\nD 1 7\nD 2 7\nD 3 7\nD 4 8\nZ 9 0\n",
-    ),
+    },
     // ClassCastException.
-    (
-        "4 1\niconst_1\nnewarray int\ncheckcast [Ljava/lang/Object;\npop\nreturn\nend\n",
-        "C 3 [I\nA 3 0 2 3 32 1\nC 4 java/lang/ClassCastException\nA 4 0 3 4 32 0\nX 5 0 1 3\nF 6 3\n\
+    Program {
+        main: "4 1\niconst_1\nnewarray int\ncheckcast [Ljava/lang/Object;\npop\nreturn\nend\n",
+        trace: "C 3 [I\nA 3 0 2 3 32 1\nC 4 java/lang/ClassCastException\nA 4 0 3 4 32 0\nX 5 0 1 3\nF 6 3\n\
          D 1 4\nD 2 4\nD 3 5\nZ 6 0\n",
-    ),
+    },
     // NegativeArraySizeException.
-    (
-        "4 1\niconst_m1\nanewarray Lib\npop\nreturn\nend\n",
-        "C 3 java/lang/NegativeArraySizeException\nA 3 0 2 3 32 0\nX 4 0 1 2\nF 5 2\nD 1 3\nD 2 4\n\
+    Program {
+        main: "4 1\niconst_m1\nanewarray Lib\npop\nreturn\nend\n",
+        trace: "C 3 java/lang/NegativeArraySizeException\nA 3 0 2 3 32 0\nX 4 0 1 2\nF 5 2\nD 1 3\nD 2 4\n\
          Z 5 0\n",
-    ),
-    (
-        "4 1\niconst_0\niconst_m1\nmultianewarray [[I 2\npop\nreturn\nend\n",
-        "C 3 java/lang/NegativeArraySizeException\nA 4 0 2 3 32 0\nX 5 0 1 2\nF 6 2\nD 1 4\nD 2 5\n\
+    },
+    Program {
+        main: "4 1\niconst_0\niconst_m1\nmultianewarray [[I 2\npop\nreturn\nend\n",
+        trace: "C 3 java/lang/NegativeArraySizeException\nA 4 0 2 3 32 0\nX 5 0 1 2\nF 6 2\nD 1 4\nD 2 5\n\
          Z 6 0\n",
-    ),
+    },
     // NullPointerException.
-    (
-        "4 1\naconst_null\nathrow\nreturn\nend\n",
-        "C 3 java/lang/NullPointerException\nA 3 0 2 3 32 0\nX 4 0 1 2\nF 5 2\nD 1 3\nD 2 4\nZ 5 0\n",
-    ),
-    (
-        "4 1\naconst_null\ngetfield Lib x I\npop\nreturn\nend\n",
-        "C 3 java/lang/NullPointerException\nA 3 0 2 3 32 0\nX 4 0 1 2\nF 5 2\nD 1 3\nD 2 4\nZ 5 0\n",
-    ),
-    (
-        "4 1\naconst_null\niconst_1\nputfield Lib x I\nreturn\nend\n",
-        "C 3 java/lang/NullPointerException\nA 4 0 2 3 32 0\nX 5 0 1 2\nF 6 2\nD 1 4\nD 2 5\nZ 6 0\n",
-    ),
-    (
-        "4 1\naconst_null\niconst_0\nlaload\npop2\nreturn\nend\n",
-        "C 3 java/lang/NullPointerException\nA 4 0 2 3 32 0\nX 5 0 1 2\nF 6 2\nD 1 4\nD 2 5\nZ 6 0\n",
-    ),
-    (
-        "4 1\naconst_null\niconst_0\niconst_0\ncastore\nreturn\nend\n",
-        "C 3 java/lang/NullPointerException\nA 5 0 2 3 32 0\nX 6 0 1 2\nF 7 2\nD 1 5\nD 2 6\nZ 7 0\n",
-    ),
-    (
-        "4 1\naconst_null\nmonitorenter\nreturn\nend\n",
-        "C 3 java/lang/NullPointerException\nA 3 0 2 3 32 0\nX 4 0 1 2\nF 5 2\nD 1 3\nD 2 4\nZ 5 0\n",
-    ),
-    (
-        "4 1\naconst_null\ninvokespecial java/lang/Object <init> ()V\nreturn\nend\n",
-        "C 3 java/lang/NullPointerException\nA 3 0 2 3 32 0\nX 4 0 1 2\nF 5 2\nD 1 3\nD 2 4\nZ 5 0\n",
-    ),
-    (
-        "4 1\naconst_null\ninvokeinterface java/lang/Runnable run ()V\nreturn\nend\n",
-        "C 3 java/lang/NullPointerException\nA 3 0 2 3 32 0\nX 4 0 1 2\nF 5 2\nD 1 3\nD 2 4\nZ 5 0\n",
-    ),
+    Program {
+        main: "4 1\naconst_null\nathrow\nreturn\nend\n",
+        trace: "C 3 java/lang/NullPointerException\nA 3 0 2 3 32 0\nX 4 0 1 2\nF 5 2\nD 1 3\nD 2 4\nZ 5 0\n",
+    },
+    Program {
+        main: "4 1\naconst_null\ngetfield Lib x I\npop\nreturn\nend\n",
+        trace: "C 3 java/lang/NullPointerException\nA 3 0 2 3 32 0\nX 4 0 1 2\nF 5 2\nD 1 3\nD 2 4\nZ 5 0\n",
+    },
+    Program {
+        main: "4 1\naconst_null\niconst_1\nputfield Lib x I\nreturn\nend\n",
+        trace: "C 3 java/lang/NullPointerException\nA 4 0 2 3 32 0\nX 5 0 1 2\nF 6 2\nD 1 4\nD 2 5\nZ 6 0\n",
+    },
+    Program {
+        main: "4 1\naconst_null\niconst_0\nlaload\npop2\nreturn\nend\n",
+        trace: "C 3 java/lang/NullPointerException\nA 4 0 2 3 32 0\nX 5 0 1 2\nF 6 2\nD 1 4\nD 2 5\nZ 6 0\n",
+    },
+    Program {
+        main: "4 1\naconst_null\niconst_0\niconst_0\ncastore\nreturn\nend\n",
+        trace: "C 3 java/lang/NullPointerException\nA 5 0 2 3 32 0\nX 6 0 1 2\nF 7 2\nD 1 5\nD 2 6\nZ 7 0\n",
+    },
+    Program {
+        main: "4 1\naconst_null\nmonitorenter\nreturn\nend\n",
+        trace: "C 3 java/lang/NullPointerException\nA 3 0 2 3 32 0\nX 4 0 1 2\nF 5 2\nD 1 3\nD 2 4\nZ 5 0\n",
+    },
+    Program {
+        main: "4 1\naconst_null\ninvokespecial java/lang/Object <init> ()V\nreturn\nend\n",
+        trace: "C 3 java/lang/NullPointerException\nA 3 0 2 3 32 0\nX 4 0 1 2\nF 5 2\nD 1 3\nD 2 4\nZ 5 0\n",
+    },
+    Program {
+        main: "4 1\naconst_null\ninvokeinterface java/lang/Runnable run ()V\nreturn\nend\n",
+        trace: "C 3 java/lang/NullPointerException\nA 3 0 2 3 32 0\nX 4 0 1 2\nF 5 2\nD 1 3\nD 2 4\nZ 5 0\n",
+    },
     // IllegalMonitorStateException.
-    (
-        "4 1\nnew Idle\ninvokevirtual Idle hold ()V\nreturn\nend\n",
-        "C 3 Idle\nA 2 0 2 3 16 0\nN 2 3 hold ()V\nM 3 0 2 2\n\
+    Program {
+        main: "4 1\nnew Idle\ninvokevirtual Idle hold ()V\nreturn\nend\n",
+        trace: "C 3 Idle\nA 2 0 2 3 16 0\nN 2 3 hold ()V\nM 3 0 2 2\n\
          C 4 java/lang/IllegalMonitorStateException\nA 6 0 3 4 32 0\nA 9 0 4 4 32 0\nX 10 0 2 4\n\
          X 11 0 1 4\nF 12 4\nD 1 10\nD 2 9\nD 3 7\nD 4 11\nZ 12 0\n",
-    ),
+    },
     // NoClassDefFoundError.
-    (
-        "4 1\niconst_0\nputstatic Gone x I\nreturn\nend\n",
-        "C 3 java/lang/NoClassDefFoundError\nA 3 0 2 3 32 0\nX 4 0 1 2\nF 5 2\nD 1 3\nD 2 4\nZ 5 0\n",
-    ),
-    (
-        "4 1\ninvokestatic Gone f ()V\nreturn\nend\n",
-        "C 3 java/lang/NoClassDefFoundError\nA 2 0 2 3 32 0\nX 3 0 1 2\nF 4 2\nD 1 2\nD 2 3\nZ 4 0\n",
-    ),
-    (
-        "4 1\nnew Lib\ninstanceof [LGone;\npop\nreturn\nend\n",
-        "C 3 Lib\nA 2 0 2 3 24 0\nC 4 java/lang/NoClassDefFoundError\nA 3 0 3 4 32 0\nX 4 0 1 3\nF 5 3\n\
+    Program {
+        main: "4 1\niconst_0\nputstatic Gone x I\nreturn\nend\n",
+        trace: "C 3 java/lang/NoClassDefFoundError\nA 3 0 2 3 32 0\nX 4 0 1 2\nF 5 2\nD 1 3\nD 2 4\nZ 5 0\n",
+    },
+    Program {
+        main: "4 1\ninvokestatic Gone f ()V\nreturn\nend\n",
+        trace: "C 3 java/lang/NoClassDefFoundError\nA 2 0 2 3 32 0\nX 3 0 1 2\nF 4 2\nD 1 2\nD 2 3\nZ 4 0\n",
+    },
+    Program {
+        main: "4 1\nnew Lib\ninstanceof [LGone;\npop\nreturn\nend\n",
+        trace: "C 3 Lib\nA 2 0 2 3 24 0\nC 4 java/lang/NoClassDefFoundError\nA 3 0 3 4 32 0\nX 4 0 1 3\nF 5 3\n\
          D 1 3\nD 2 3\nD 3 4\nZ 5 0\n",
-    ),
-    (
-        "4 1\niconst_1\nanewarray [LGone;\npop\nreturn\nend\n",
-        "C 3 java/lang/NoClassDefFoundError\nA 3 0 2 3 32 0\nX 4 0 1 2\nF 5 2\nD 1 3\nD 2 4\nZ 5 0\n",
-    ),
+    },
+    Program {
+        main: "4 1\niconst_1\nanewarray [LGone;\npop\nreturn\nend\n",
+        trace: "C 3 java/lang/NoClassDefFoundError\nA 3 0 2 3 32 0\nX 4 0 1 2\nF 5 2\nD 1 3\nD 2 4\nZ 5 0\n",
+    },
     // NoSuchMethodError.
-    (
-        "4 1\nnew Imp\ninvokeinterface Ifc none ()V\nreturn\nend\n",
-        "C 3 Imp\nA 2 0 2 3 16 0\nC 4 java/lang/NoSuchMethodError\nA 3 0 3 4 32 0\nX 4 0 1 3\nF 5 3\n\
+    Program {
+        main: "4 1\nnew Imp\ninvokeinterface Ifc none ()V\nreturn\nend\n",
+        trace: "C 3 Imp\nA 2 0 2 3 16 0\nC 4 java/lang/NoSuchMethodError\nA 3 0 3 4 32 0\nX 4 0 1 3\nF 5 3\n\
          D 1 3\nD 2 3\nD 3 4\nZ 5 0\n",
-    ),
+    },
     // IncompatibleClassChangeError.
-    (
-        "4 1\ninvokestatic interface Lib still ()V\nreturn\nend\n",
-        "C 3 java/lang/IncompatibleClassChangeError\nA 2 0 2 3 32 0\nX 3 0 1 2\nF 4 2\nD 1 2\nD 2 3\n\
+    Program {
+        main: "4 1\ninvokestatic interface Lib still ()V\nreturn\nend\n",
+        trace: "C 3 java/lang/IncompatibleClassChangeError\nA 2 0 2 3 32 0\nX 3 0 1 2\nF 4 2\nD 1 2\nD 2 3\n\
          Z 4 0\n",
-    ),
-    (
-        "4 1\nnew Both\ninvokevirtual Both step ()V\nreturn\nend\n",
-        "C 3 Both\nA 2 0 2 3 16 0\nC 4 java/lang/IncompatibleClassChangeError\nA 3 0 3 4 32 0\n\
+    },
+    Program {
+        main: "4 1\nnew Both\ninvokevirtual Both step ()V\nreturn\nend\n",
+        trace: "C 3 Both\nA 2 0 2 3 16 0\nC 4 java/lang/IncompatibleClassChangeError\nA 3 0 3 4 32 0\n\
          X 4 0 1 3\nF 5 3\nD 1 3\nD 2 3\nD 3 4\nZ 5 0\n",
-    ),
-    (
-        "4 1\nnew Both\ninvokeinterface One step ()V\nreturn\nend\n",
-        "C 3 Both\nA 2 0 2 3 16 0\nC 4 java/lang/IncompatibleClassChangeError\nA 3 0 3 4 32 0\n\
+    },
+    Program {
+        main: "4 1\nnew Both\ninvokeinterface One step ()V\nreturn\nend\n",
+        trace: "C 3 Both\nA 2 0 2 3 16 0\nC 4 java/lang/IncompatibleClassChangeError\nA 3 0 3 4 32 0\n\
          X 4 0 1 3\nF 5 3\nD 1 3\nD 2 3\nD 3 4\nZ 5 0\n",
-    ),
+    },
     // AbstractMethodError.
-    (
-        "4 1\nnew Idle\ninvokeinterface java/lang/Runnable run ()V\nreturn\nend\n",
-        "C 3 Idle\nA 2 0 2 3 16 0\nC 4 java/lang/AbstractMethodError\nA 3 0 3 4 32 0\nX 4 0 1 3\nF 5 3\n\
+    Program {
+        main: "4 1\nnew Idle\ninvokeinterface java/lang/Runnable run ()V\nreturn\nend\n",
+        trace: "C 3 Idle\nA 2 0 2 3 16 0\nC 4 java/lang/AbstractMethodError\nA 3 0 3 4 32 0\nX 4 0 1 3\nF 5 3\n\
          D 1 3\nD 2 3\nD 3 4\nZ 5 0\n",
-    ),
+    },
     // UnsatisfiedLinkError.
-    (
-        "4 1\niconst_0\ninvokestatic Lib take (I)V\nreturn\nend\n",
-        "C 3 java/lang/UnsatisfiedLinkError\nA 3 0 2 3 32 0\nX 4 0 1 2\nF 5 2\nD 1 3\nD 2 4\nZ 5 0\n",
-    ),
+    Program {
+        main: "4 1\niconst_0\ninvokestatic Lib take (I)V\nreturn\nend\n",
+        trace: "C 3 java/lang/UnsatisfiedLinkError\nA 3 0 2 3 32 0\nX 4 0 1 2\nF 5 2\nD 1 3\nD 2 4\nZ 5 0\n",
+    },
 ];
 
 #[test]

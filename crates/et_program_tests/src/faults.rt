@@ -104,19 +104,25 @@ fn a_fault_stands_before_a_later_read(rt: HostRuntime) -> Result<(), Fail> {
     Ok(())
 }
 
+/// A class whose superclass is not given.
+const SUB: &str = "class Sub Gone 0021\nmethod main ([Ljava/lang/String;)V 0009 1 1\nreturn\nend\n";
+
 /// A refusal that cannot be written leaves the answer as it is.
 #[test]
 fn a_refusal_that_is_not_taken(rt: HostRuntime) -> Result<(), Fail> {
     let alloc = rt.alloc();
     let rows = [
+        // a name that stands twice, a superclass that is not given, and no `main`
         ("trace Box.class Box.class", Status::LinkFault),
+        ("trace Sub.class", Status::LinkFault),
+        ("trace Bad.class", Status::LinkFault),
         ("trace Cut.class", Status::BadClass),
         ("trace No.class", Status::Absent),
         ("curve Box.class", Status::BadTrace),
         ("trace", Status::Usage),
     ];
     for (line, wanted) in rows {
-        let mut files = MemFiles::begin(alloc);
+        let mut files = files_of(alloc, &[("Sub.class", SUB), ("Bad.class", BAD)])?;
         files.hold("Box.class", &BOX)?;
         files.hold("Cut.class", &BOX[..10])?;
         let mut out = MemSink::begin(alloc, 1000);
@@ -138,14 +144,14 @@ const SAD: &str = "class Sad java/lang/Thread 0021\nmethod <init> ()V 0001 1 1\n
 /// The line of an event without a meaning names its thread.
 #[test]
 fn a_second_thread_is_ill_typed(rt: HostRuntime) -> Result<(), Fail> {
-    let rows: [Row; 1] = [(
-        "trace Sad.class",
-        Status::IllTyped,
-        b"H 1 0\nC 1 [Ljava/lang/String;\nA 0 0 1 1 24 0\nC 2 Sad\nN 1 2 main ([Ljava/lang/String;)V\nM 1 0 1 0\n\
+    let rows: [Row; 1] = [Row {
+        line: "trace Sad.class",
+        status: Status::IllTyped,
+        trace: b"H 1 0\nC 1 [Ljava/lang/String;\nA 0 0 1 1 24 0\nC 2 Sad\nN 1 2 main ([Ljava/lang/String;)V\nM 1 0 1 0\n\
              A 2 0 2 2 24 0\nN 2 2 <init> ()V\nM 4 0 2 2\nE 7 0 2\nE 9 0 1\nN 3 2 run ()V\nM 11 1 3 2\nF 11 1\nD 1 8\n\
              Z 11 2\n",
-        b"elephant: ill typed 1 Sad run ()V 0\n",
-    )];
+        refusal: b"elephant: ill typed 1 Sad run ()V 0\n",
+    }];
     are_answered(&rt, rt.alloc(), &[("Sad.class", SAD)], &rows)
 }
 

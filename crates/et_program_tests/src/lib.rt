@@ -29,6 +29,8 @@ mod process;
 #[cfg(test)]
 mod programs;
 #[cfg(test)]
+mod queue_refusals;
+#[cfg(test)]
 mod queues;
 #[cfg(test)]
 mod round_trip;

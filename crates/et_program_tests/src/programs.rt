@@ -9,7 +9,7 @@ use std::process::Abort;
 use std::test::Fail;
 
 /// The classes beside `T`, by the paths of their files.
-const CLASSES: [(&str, &str); 17] = [
+const CLASSES: [(&str, &str); 18] = [
     (
         "Lib.class",
         "class Lib java/lang/Object 0021\nfield x I 0000\nfield s I 0008\nmethod go ()V 0001 0 1\n\
@@ -22,6 +22,10 @@ const CLASSES: [(&str, &str); 17] = [
         "class Abs java/lang/Object 0421\nmethod work ()V 0401\nmethod make ()J 0401\n",
     ),
     ("Low.class", "class Low Abs 0021\n"),
+    (
+        "Weak.class",
+        "class Weak java/lang/ref/WeakReference 0021\n",
+    ),
     (
         "Nat.class",
         "class Nat java/lang/Object 0021\nmethod <init> ()V 0101\n",
@@ -86,7 +90,7 @@ const CLASSES: [(&str, &str); 17] = [
 
 /// The operands of each command: `T`, which has `main`, and the other classes.
 const PATHS: &str =
-    "T.class Lib.class Abs.class Low.class Nat.class Son.class Ifc.class Imp.class Pre.class Con.class Bad.class One.class Two.class Both.class Idle.class Slow.class Spin.class Hold.class";
+    "T.class Lib.class Abs.class Low.class Weak.class Nat.class Son.class Ifc.class Imp.class Pre.class Con.class Bad.class One.class Two.class Both.class Idle.class Slow.class Spin.class Hold.class";
 
 /// What the listing of `T` begins with.
 pub const HEAD: &str = "class T java/lang/Object 0021\n";
@@ -147,12 +151,21 @@ pub fn with_main(alloc: Global, body: &str) -> Result<String, Fail> {
     Ok(format!(in alloc; "{HEAD}method main ([Ljava/lang/String;)V 0009 {body}")?)
 }
 
-/// With each of these as `main` the trace goes on so, and ends by itself.
-pub fn are_thrown(rt: &impl Abort, alloc: Global, rows: &[(&str, &str)]) -> Result<(), Fail> {
+/// A program that ends by itself.
+#[derive(Clone, Copy)]
+pub struct Program {
+    /// The body of `main`, from its two numbers on.
+    pub main: &'static str,
+    /// How the trace goes on.
+    pub trace: &'static str,
+}
+
+/// Each of these programs is run so.
+pub fn are_thrown(rt: &impl Abort, alloc: Global, rows: &[Program]) -> Result<(), Fail> {
     let mut files = library(alloc)?;
-    for (body, rest) in rows {
-        let listing = with_main(alloc, body)?;
-        let trace = format!(in alloc; "{BEGIN}{rest}")?;
+    for Program { main, trace } in rows {
+        let listing = with_main(alloc, main)?;
+        let trace = format!(in alloc; "{BEGIN}{trace}")?;
         let wanted = Wanted {
             status: Status::Done,
             trace: &trace,

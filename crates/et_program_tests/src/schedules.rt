@@ -8,96 +8,96 @@ use std::test::Fail;
 
 /// Two threads at one monitor, and a thread that joins itself and so waits up to the limit.
 const ROWS: [Row; 10] = [
-    (
-        "trace --limit 200 --words 0 Wrk.class",
-        Status::Done,
-        b"H 1 0\nC 1 [Ljava/lang/String;\nA 0 0 1 1 24 0\nC 2 Wrk\nN 1 2 main ([Ljava/lang/String;)V\n\
+    Row {
+        line: "trace --limit 200 --words 0 Wrk.class",
+        status: Status::Done,
+        trace: b"H 1 0\nC 1 [Ljava/lang/String;\nA 0 0 1 1 24 0\nC 2 Wrk\nN 1 2 main ([Ljava/lang/String;)V\n\
              M 1 0 1 0\nA 2 0 2 2 24 0\nN 2 2 <init> ()V\nM 4 0 2 2\nE 7 0 2\nN 3 2 add ()V\nM 9 0 3 0\n\
              C 3 java/lang/Object\nA 10 0 3 3 16 0\nU 11 0 0 0 0 3\nE 12 0 3\nE 13 0 1\nN 4 2 run ()V\n\
              M 15 1 4 2\nM 16 1 3 0\nA 17 1 4 3 16 0\nU 18 1 0 0 3 4\nE 19 1 3\nE 20 1 4\nF 21 3\nD 1 12\n\
              D 2 20\nD 3 17\nZ 21 0\n",
-        b"",
-    ),
-    (
-        "trace --limit 200 --words 1 Wrk.class",
-        Status::Done,
-        b"H 1 0\nC 1 [Ljava/lang/String;\nA 0 0 1 1 24 0\nC 2 Wrk\nN 1 2 main ([Ljava/lang/String;)V\n\
+        refusal: b"",
+    },
+    Row {
+        line: "trace --limit 200 --words 1 Wrk.class",
+        status: Status::Done,
+        trace: b"H 1 0\nC 1 [Ljava/lang/String;\nA 0 0 1 1 24 0\nC 2 Wrk\nN 1 2 main ([Ljava/lang/String;)V\n\
              M 1 0 1 0\nA 2 0 2 2 24 0\nN 2 2 <init> ()V\nM 4 0 2 2\nE 7 0 2\nN 3 2 run ()V\nM 9 1 3 2\n\
              N 4 2 add ()V\nM 10 1 4 0\nC 3 java/lang/Object\nA 11 1 3 3 16 0\nU 12 1 0 0 0 3\nE 13 1 4\n\
              E 14 1 3\nM 16 0 4 0\nA 17 0 4 3 16 0\nU 18 0 0 0 3 4\nE 19 0 4\nE 20 0 1\nF 21 3\nD 1 19\nD 2 14\n\
              D 3 17\nZ 21 0\n",
-        b"",
-    ),
-    (
-        "trace --limit 200 --words 63 Wrk.class",
-        Status::Done,
-        b"H 1 0\nC 1 [Ljava/lang/String;\nA 0 0 1 1 24 0\nC 2 Wrk\nN 1 2 main ([Ljava/lang/String;)V\n\
+        refusal: b"",
+    },
+    Row {
+        line: "trace --limit 200 --words 63 Wrk.class",
+        status: Status::Done,
+        trace: b"H 1 0\nC 1 [Ljava/lang/String;\nA 0 0 1 1 24 0\nC 2 Wrk\nN 1 2 main ([Ljava/lang/String;)V\n\
              M 1 0 1 0\nA 2 0 2 2 24 0\nN 2 2 <init> ()V\nM 4 0 2 2\nE 7 0 2\nN 3 2 run ()V\nM 9 1 3 2\n\
              N 4 2 add ()V\nM 10 1 4 0\nC 3 java/lang/Object\nA 11 1 3 3 16 0\nU 12 1 0 0 0 3\nE 13 1 4\n\
              E 14 1 3\nM 16 0 4 0\nA 17 0 4 3 16 0\nU 18 0 0 0 3 4\nE 19 0 4\nE 20 0 1\nF 21 3\nD 1 19\nD 2 14\n\
              D 3 17\nZ 21 0\n",
-        b"",
-    ),
-    (
-        "trace --limit 200 --words 1,0 Wrk.class",
-        Status::Done,
-        b"H 1 0\nC 1 [Ljava/lang/String;\nA 0 0 1 1 24 0\nC 2 Wrk\nN 1 2 main ([Ljava/lang/String;)V\n\
+        refusal: b"",
+    },
+    Row {
+        line: "trace --limit 200 --words 1,0 Wrk.class",
+        status: Status::Done,
+        trace: b"H 1 0\nC 1 [Ljava/lang/String;\nA 0 0 1 1 24 0\nC 2 Wrk\nN 1 2 main ([Ljava/lang/String;)V\n\
              M 1 0 1 0\nA 2 0 2 2 24 0\nN 2 2 <init> ()V\nM 4 0 2 2\nE 7 0 2\nN 3 2 add ()V\nM 9 0 3 0\n\
              N 4 2 run ()V\nM 10 1 4 2\nC 3 java/lang/Object\nA 11 0 3 3 16 0\nU 13 0 0 0 0 3\nE 15 0 3\n\
              M 16 1 3 0\nE 17 0 1\nA 18 1 4 3 16 0\nU 20 1 0 0 3 4\nE 21 1 3\nE 22 1 4\nF 23 3\nD 1 16\nD 2 22\n\
              D 3 19\nZ 23 0\n",
-        b"",
-    ),
-    (
-        "trace --limit 200 --words 0,0,1,1 Wrk.class",
-        Status::Done,
-        b"H 1 0\nC 1 [Ljava/lang/String;\nA 0 0 1 1 24 0\nC 2 Wrk\nN 1 2 main ([Ljava/lang/String;)V\n\
+        refusal: b"",
+    },
+    Row {
+        line: "trace --limit 200 --words 0,0,1,1 Wrk.class",
+        status: Status::Done,
+        trace: b"H 1 0\nC 1 [Ljava/lang/String;\nA 0 0 1 1 24 0\nC 2 Wrk\nN 1 2 main ([Ljava/lang/String;)V\n\
              M 1 0 1 0\nA 2 0 2 2 24 0\nN 2 2 <init> ()V\nM 4 0 2 2\nE 7 0 2\nN 3 2 add ()V\nM 9 0 3 0\n\
              N 4 2 run ()V\nM 10 1 4 2\nC 3 java/lang/Object\nA 12 0 3 3 16 0\nU 13 0 0 0 0 3\nE 16 0 3\n\
              E 17 0 1\nM 18 1 3 0\nA 19 1 4 3 16 0\nU 21 1 0 0 3 4\nE 22 1 3\nE 23 1 4\nF 24 3\nD 1 16\nD 2 23\n\
              D 3 20\nZ 24 0\n",
-        b"",
-    ),
-    (
-        "trace --limit 200 --words 0 Slf.class",
-        Status::Done,
-        b"H 1 0\nC 1 [Ljava/lang/String;\nA 0 0 1 1 24 0\nC 2 Slf\nN 1 2 main ([Ljava/lang/String;)V\n\
+        refusal: b"",
+    },
+    Row {
+        line: "trace --limit 200 --words 0 Slf.class",
+        status: Status::Done,
+        trace: b"H 1 0\nC 1 [Ljava/lang/String;\nA 0 0 1 1 24 0\nC 2 Slf\nN 1 2 main ([Ljava/lang/String;)V\n\
              M 1 0 1 0\nA 2 0 2 2 24 0\nN 2 2 <init> ()V\nM 4 0 2 2\nE 7 0 2\nE 9 0 1\nN 3 2 run ()V\n\
              M 11 1 3 2\nF 200 1\nD 1 8\nZ 200 1\n",
-        b"",
-    ),
-    (
-        "trace --limit 200 --words 1 Slf.class",
-        Status::Done,
-        b"H 1 0\nC 1 [Ljava/lang/String;\nA 0 0 1 1 24 0\nC 2 Slf\nN 1 2 main ([Ljava/lang/String;)V\n\
+        refusal: b"",
+    },
+    Row {
+        line: "trace --limit 200 --words 1 Slf.class",
+        status: Status::Done,
+        trace: b"H 1 0\nC 1 [Ljava/lang/String;\nA 0 0 1 1 24 0\nC 2 Slf\nN 1 2 main ([Ljava/lang/String;)V\n\
              M 1 0 1 0\nA 2 0 2 2 24 0\nN 2 2 <init> ()V\nM 4 0 2 2\nE 7 0 2\nN 3 2 run ()V\nM 9 1 3 2\nF 200 0\n\
              Z 200 1\n",
-        b"",
-    ),
-    (
-        "trace --limit 200 --words 63 Slf.class",
-        Status::Done,
-        b"H 1 0\nC 1 [Ljava/lang/String;\nA 0 0 1 1 24 0\nC 2 Slf\nN 1 2 main ([Ljava/lang/String;)V\n\
+        refusal: b"",
+    },
+    Row {
+        line: "trace --limit 200 --words 63 Slf.class",
+        status: Status::Done,
+        trace: b"H 1 0\nC 1 [Ljava/lang/String;\nA 0 0 1 1 24 0\nC 2 Slf\nN 1 2 main ([Ljava/lang/String;)V\n\
              M 1 0 1 0\nA 2 0 2 2 24 0\nN 2 2 <init> ()V\nM 4 0 2 2\nE 7 0 2\nN 3 2 run ()V\nM 9 1 3 2\nF 200 0\n\
              Z 200 1\n",
-        b"",
-    ),
-    (
-        "trace --limit 200 --words 1,0 Slf.class",
-        Status::Done,
-        b"H 1 0\nC 1 [Ljava/lang/String;\nA 0 0 1 1 24 0\nC 2 Slf\nN 1 2 main ([Ljava/lang/String;)V\n\
+        refusal: b"",
+    },
+    Row {
+        line: "trace --limit 200 --words 1,0 Slf.class",
+        status: Status::Done,
+        trace: b"H 1 0\nC 1 [Ljava/lang/String;\nA 0 0 1 1 24 0\nC 2 Slf\nN 1 2 main ([Ljava/lang/String;)V\n\
              M 1 0 1 0\nA 2 0 2 2 24 0\nN 2 2 <init> ()V\nM 4 0 2 2\nE 7 0 2\nE 9 0 1\nN 3 2 run ()V\n\
              M 10 1 3 2\nF 200 1\nD 1 8\nZ 200 1\n",
-        b"",
-    ),
-    (
-        "trace --limit 200 --words 0,0,1,1 Slf.class",
-        Status::Done,
-        b"H 1 0\nC 1 [Ljava/lang/String;\nA 0 0 1 1 24 0\nC 2 Slf\nN 1 2 main ([Ljava/lang/String;)V\n\
+        refusal: b"",
+    },
+    Row {
+        line: "trace --limit 200 --words 0,0,1,1 Slf.class",
+        status: Status::Done,
+        trace: b"H 1 0\nC 1 [Ljava/lang/String;\nA 0 0 1 1 24 0\nC 2 Slf\nN 1 2 main ([Ljava/lang/String;)V\n\
              M 1 0 1 0\nA 2 0 2 2 24 0\nN 2 2 <init> ()V\nM 4 0 2 2\nE 7 0 2\nE 9 0 1\nN 3 2 run ()V\n\
              M 10 1 3 2\nF 200 1\nD 1 8\nZ 200 1\n",
-        b"",
-    ),
+        refusal: b"",
+    },
 ];
 
 #[test]

@@ -97,14 +97,47 @@ const MON: &str =
     "class Mon java/lang/Object 0021\nmethod main ([Ljava/lang/String;)V 0009 2 1\nnew Mon\nmonitorexit\nreturn\n\
     end\n";
 
-/// The words, the answer, the trace and the line of the refusal.
-pub type Row = (&'static str, Status, &'static [u8], &'static [u8]);
+/// A run of the program, and what comes of it.
+#[derive(Clone, Copy)]
+pub struct Row {
+    /// The words, with a space between.
+    pub line: &'static str,
+    pub status: Status,
+    pub trace: &'static [u8],
+    /// The line on the error stream, or nothing.
+    pub refusal: &'static [u8],
+}
+
+/// What the line `make queue` of a listing here stands for.
+const MAKE_QUEUE: &str = "new java/lang/ref/ReferenceQueue\ndup\n\
+    invokespecial java/lang/ref/ReferenceQueue <init> ()V\n";
+
+/// What the line `make reference` stands for: a reference that was made is given its referent and its queue.
+const MAKE_REFERENCE: &str =
+    "invokespecial java/lang/ref/WeakReference <init> (Ljava/lang/Object;Ljava/lang/ref/ReferenceQueue;)V\n";
+
+/// What the line `poll` stands for.
+const POLL: &str = "invokevirtual java/lang/ref/ReferenceQueue poll ()Ljava/lang/ref/Reference;\n";
+
+/// The listing with what these lines stand for.
+fn whole(alloc: Global, listing: &str) -> Result<String, Fail> {
+    let mut text = String::from_str(alloc, "")?;
+    for line in listing.lines() {
+        match line {
+            "make queue" => text.push_str(MAKE_QUEUE)?,
+            "make reference" => text.push_str(MAKE_REFERENCE)?,
+            "poll" => text.push_str(POLL)?,
+            other => text.push_str(&format!(in alloc; "{other}\n")?)?,
+        }
+    }
+    Ok(text)
+}
 
 /// Files with the class of each listing, by its path.
 pub fn files_of(alloc: Global, listings: &[(&str, &str)]) -> Result<MemFiles, Fail> {
     let mut files = MemFiles::begin(alloc);
     for (path, listing) in listings {
-        let class = assemble(alloc, listing.as_bytes())?;
+        let class = assemble(alloc, whole(alloc, listing)?.as_bytes())?;
         files.hold(path, class.as_slice())?;
     }
     Ok(files)
@@ -118,8 +151,16 @@ pub fn are_answered(
     rows: &[Row],
 ) -> Result<(), Fail> {
     let mut files = files_of(alloc, listings)?;
-    for (line, status, trace, refusal) in rows {
-        is_answered(rt, alloc, &mut files, line, *status, trace, refusal)?;
+    for row in rows {
+        is_answered(
+            rt,
+            alloc,
+            &mut files,
+            row.line,
+            row.status,
+            row.trace,
+            row.refusal,
+        )?;
     }
     Ok(())
 }
@@ -133,36 +174,36 @@ fn objects_that_refer_to_each_other(rt: HostRuntime) -> Result<(), Fail> {
         ("Mul.class", MUL),
     ];
     let rows: [Row; 4] = [
-        (
-            "trace Node.class",
-            Status::Done,
-            b"H 1 0\nC 1 [Ljava/lang/String;\nA 0 0 1 1 24 0\nC 2 Node\nN 1 2 main ([Ljava/lang/String;)V\nM 1 0 1 0\n\
+        Row {
+            line: "trace Node.class",
+            status: Status::Done,
+            trace: b"H 1 0\nC 1 [Ljava/lang/String;\nA 0 0 1 1 24 0\nC 2 Node\nN 1 2 main ([Ljava/lang/String;)V\nM 1 0 1 0\n\
              A 2 0 2 2 24 0\nA 3 0 3 2 24 0\nU 5 0 2 0 0 3\nU 7 0 3 0 0 2\nE 8 0 1\nF 9 3\nD 1 7\nD 2 6\nD 3 6\nZ 9 0\n",
-            b"",
-        ),
-        (
-            "trace Chain.class",
-            Status::Done,
-            b"H 1 0\nC 1 [Ljava/lang/String;\nA 0 0 1 1 24 0\nC 2 Chain\nN 1 2 main ([Ljava/lang/String;)V\nM 1 0 1 0\n\
+            refusal: b"",
+        },
+        Row {
+            line: "trace Chain.class",
+            status: Status::Done,
+            trace: b"H 1 0\nC 1 [Ljava/lang/String;\nA 0 0 1 1 24 0\nC 2 Chain\nN 1 2 main ([Ljava/lang/String;)V\nM 1 0 1 0\n\
              A 2 0 2 2 24 0\nA 4 0 3 2 24 0\nU 7 0 3 0 0 2\nA 8 0 4 2 24 0\nU 11 0 4 0 0 3\nE 17 0 1\nF 18 4\nD 1 16\n\
              D 2 15\nD 3 15\nD 4 15\nZ 18 0\n",
-            b"",
-        ),
-        (
-            "trace Str.class",
-            Status::Done,
-            b"H 1 0\nC 1 [Ljava/lang/String;\nA 0 0 1 1 24 0\nC 2 Str\nN 1 2 main ([Ljava/lang/String;)V\nM 1 0 1 0\n\
+            refusal: b"",
+        },
+        Row {
+            line: "trace Str.class",
+            status: Status::Done,
+            trace: b"H 1 0\nC 1 [Ljava/lang/String;\nA 0 0 1 1 24 0\nC 2 Str\nN 1 2 main ([Ljava/lang/String;)V\nM 1 0 1 0\n\
              C 3 java/lang/String\nA 2 0 2 3 16 0\nE 5 0 1\nF 6 1\nD 1 4\nZ 6 0\n",
-            b"",
-        ),
-        (
-            "trace Mul.class",
-            Status::Done,
-            b"H 1 0\nC 1 [Ljava/lang/String;\nA 0 0 1 1 24 0\nC 2 Mul\nN 1 2 main ([Ljava/lang/String;)V\nM 1 0 1 0\n\
+            refusal: b"",
+        },
+        Row {
+            line: "trace Mul.class",
+            status: Status::Done,
+            trace: b"H 1 0\nC 1 [Ljava/lang/String;\nA 0 0 1 1 24 0\nC 2 Mul\nN 1 2 main ([Ljava/lang/String;)V\nM 1 0 1 0\n\
              C 3 [[I\nA 4 0 2 3 40 2\nC 4 [I\nA 4 0 3 4 32 1\nU 4 0 2 0 0 3\nA 4 0 4 4 32 1\nU 4 0 2 1 0 4\nE 6 0 1\n\
              F 7 4\nD 1 5\nD 2 4\nD 3 4\nD 4 4\nZ 7 0\n",
-            b"",
-        ),
+            refusal: b"",
+        },
     ];
     are_answered(&rt, rt.alloc(), &listings, &rows)
 }
@@ -171,38 +212,38 @@ fn objects_that_refer_to_each_other(rt: HostRuntime) -> Result<(), Fail> {
 fn weak_references(rt: HostRuntime) -> Result<(), Fail> {
     let listings = [("Rev.class", REV), ("Clr.class", CLR), ("Two.class", TWO)];
     let rows: [Row; 4] = [
-        (
-            "trace Rev.class",
-            Status::Done,
-            b"H 1 0\nC 1 [Ljava/lang/String;\nA 0 0 1 1 24 0\nC 2 Rev\nN 1 2 main ([Ljava/lang/String;)V\nM 1 0 1 0\n\
+        Row {
+            line: "trace Rev.class",
+            status: Status::Done,
+            trace: b"H 1 0\nC 1 [Ljava/lang/String;\nA 0 0 1 1 24 0\nC 2 Rev\nN 1 2 main ([Ljava/lang/String;)V\nM 1 0 1 0\n\
              C 3 java/lang/ref/WeakReference\nA 2 0 2 3 16 0\nA 4 0 3 2 24 0\nA 6 0 4 2 24 0\nU 7 0 3 0 0 4\nE 16 0 1\n\
              F 17 4\nD 1 15\nD 2 14\nD 3 12\nD 4 12\nZ 17 0\n",
-            b"",
-        ),
-        (
-            "trace Clr.class",
-            Status::Done,
-            b"H 1 0\nC 1 [Ljava/lang/String;\nA 0 0 1 1 24 0\nC 2 Clr\nN 1 2 main ([Ljava/lang/String;)V\nM 1 0 1 0\n\
+            refusal: b"",
+        },
+        Row {
+            line: "trace Clr.class",
+            status: Status::Done,
+            trace: b"H 1 0\nC 1 [Ljava/lang/String;\nA 0 0 1 1 24 0\nC 2 Clr\nN 1 2 main ([Ljava/lang/String;)V\nM 1 0 1 0\n\
              C 3 java/lang/ref/WeakReference\nA 2 0 2 3 16 0\nA 4 0 3 2 24 0\nA 6 0 4 2 24 0\nU 7 0 3 0 0 4\nE 12 0 1\n\
              F 13 4\nD 1 11\nD 2 10\nD 3 7\nD 4 7\nZ 13 0\n",
-            b"",
-        ),
-        (
-            "trace --flush 10 Rev.class",
-            Status::Done,
-            b"H 1 10\nC 1 [Ljava/lang/String;\nA 0 0 1 1 24 0\nC 2 Rev\nN 1 2 main ([Ljava/lang/String;)V\nM 1 0 1 0\n\
+            refusal: b"",
+        },
+        Row {
+            line: "trace --flush 10 Rev.class",
+            status: Status::Done,
+            trace: b"H 1 10\nC 1 [Ljava/lang/String;\nA 0 0 1 1 24 0\nC 2 Rev\nN 1 2 main ([Ljava/lang/String;)V\nM 1 0 1 0\n\
              C 3 java/lang/ref/WeakReference\nA 2 0 2 3 16 0\nA 4 0 3 2 24 0\nA 6 0 4 2 24 0\nU 7 0 3 0 0 4\nF 10 2\n\
              D 3 7\nD 4 7\nE 15 0 1\nF 16 2\nD 1 14\nD 2 13\nZ 16 0\n",
-            b"",
-        ),
-        (
-            "trace --flush 10 Two.class",
-            Status::Done,
-            b"H 1 10\nC 1 [Ljava/lang/String;\nA 0 0 1 1 24 0\nC 2 Two\nN 1 2 main ([Ljava/lang/String;)V\nM 1 0 1 0\n\
+            refusal: b"",
+        },
+        Row {
+            line: "trace --flush 10 Two.class",
+            status: Status::Done,
+            trace: b"H 1 10\nC 1 [Ljava/lang/String;\nA 0 0 1 1 24 0\nC 2 Two\nN 1 2 main ([Ljava/lang/String;)V\nM 1 0 1 0\n\
              C 3 java/lang/ref/WeakReference\nA 2 0 2 3 16 0\nA 4 0 3 3 16 0\nA 6 0 4 2 16 0\nF 10 2\nD 3 7\nD 4 6\n\
              E 13 0 1\nF 14 2\nD 1 12\nD 2 10\nZ 14 0\n",
-            b"",
-        ),
+            refusal: b"",
+        },
     ];
     are_answered(&rt, rt.alloc(), &listings, &rows)
 }
@@ -217,31 +258,36 @@ fn exceptions(rt: HostRuntime) -> Result<(), Fail> {
         ("Mon.class", MON),
     ];
     let rows: [Row; 4] = [
-        (
-            "trace Div.class",
-            Status::Done,
-            b"H 1 0\nC 1 [Ljava/lang/String;\nA 0 0 1 1 24 0\nC 2 Div\nN 1 2 main ([Ljava/lang/String;)V\nM 1 0 1 0\n\
+        Row {
+            line: "trace Div.class",
+            status: Status::Done,
+            trace: b"H 1 0\nC 1 [Ljava/lang/String;\nA 0 0 1 1 24 0\nC 2 Div\nN 1 2 main ([Ljava/lang/String;)V\nM 1 0 1 0\n\
              A 2 0 2 2 16 0\nA 3 0 3 2 16 0\nC 3 java/lang/ArithmeticException\nA 6 0 4 3 32 0\nE 9 0 1\nF 10 4\nD 1 8\n\
              D 2 6\nD 3 6\nD 4 7\nZ 10 0\n",
-            b"",
-        ),
-        (
-            "trace Syn.class",
-            Status::Done,
-            b"H 1 0\nC 1 [Ljava/lang/String;\nA 0 0 1 1 24 0\nC 2 Syn\nN 1 2 main ([Ljava/lang/String;)V\nM 1 0 1 0\n\
+            refusal: b"",
+        },
+        Row {
+            line: "trace Syn.class",
+            status: Status::Done,
+            trace: b"H 1 0\nC 1 [Ljava/lang/String;\nA 0 0 1 1 24 0\nC 2 Syn\nN 1 2 main ([Ljava/lang/String;)V\nM 1 0 1 0\n\
              N 2 2 f ()V\nM 2 0 2 0\nN 3 2 g ()V\nM 3 0 3 0\nN 4 2 k ()V\nM 4 0 4 0\nC 3 java/lang/NullPointerException\n\
              A 6 0 2 3 32 0\nX 7 0 4 2\nX 8 0 3 2\nX 9 0 2 2\nE 12 0 1\nF 13 2\nD 1 11\nD 2 10\nZ 13 0\n",
-            b"",
-        ),
-        ("trace Use.class Bad.class", Status::Done, USE_TRACE, b""),
-        (
-            "trace Mon.class",
-            Status::Done,
-            b"H 1 0\nC 1 [Ljava/lang/String;\nA 0 0 1 1 24 0\nC 2 Mon\nN 1 2 main ([Ljava/lang/String;)V\nM 1 0 1 0\n\
+            refusal: b"",
+        },
+        Row {
+            line: "trace Use.class Bad.class",
+            status: Status::Done,
+            trace: USE_TRACE,
+            refusal: b"",
+        },
+        Row {
+            line: "trace Mon.class",
+            status: Status::Done,
+            trace: b"H 1 0\nC 1 [Ljava/lang/String;\nA 0 0 1 1 24 0\nC 2 Mon\nN 1 2 main ([Ljava/lang/String;)V\nM 1 0 1 0\n\
              A 2 0 2 2 16 0\nC 3 java/lang/IllegalMonitorStateException\nA 3 0 3 3 32 0\nX 4 0 1 3\nF 5 3\nD 1 3\nD 2 3\n\
              D 3 4\nZ 5 0\n",
-            b"",
-        ),
+            refusal: b"",
+        },
     ];
     are_answered(&rt, rt.alloc(), &listings, &rows)
 }
@@ -249,26 +295,26 @@ fn exceptions(rt: HostRuntime) -> Result<(), Fail> {
 #[test]
 fn one_object_too_many(rt: HostRuntime) -> Result<(), Fail> {
     let listings = [("BigOver.class", BIG_OVER)];
-    let rows: [Row; 1] = [(
-        "trace BigOver.class",
-        Status::ObjectLimit,
-        b"H 1 0\nC 1 [Ljava/lang/String;\nA 0 0 1 1 24 0\nC 2 Big\nN 1 2 main ([Ljava/lang/String;)V\nM 1 0 1 0\n\
+    let rows: [Row; 1] = [Row {
+        line: "trace BigOver.class",
+        status: Status::ObjectLimit,
+        trace: b"H 1 0\nC 1 [Ljava/lang/String;\nA 0 0 1 1 24 0\nC 2 Big\nN 1 2 main ([Ljava/lang/String;)V\nM 1 0 1 0\n\
              F 2 0\nZ 2 3\n",
-        b"elephant: object limit\n",
-    )];
+        refusal: b"elephant: object limit\n",
+    }];
     are_answered(&rt, rt.alloc(), &listings, &rows)
 }
 
 #[test]
 fn an_event_without_a_meaning(rt: HostRuntime) -> Result<(), Fail> {
     let listings = [("Ill.class", ILL)];
-    let rows: [Row; 1] = [(
-        "trace Ill.class",
-        Status::IllTyped,
-        b"H 1 0\nC 1 [Ljava/lang/String;\nA 0 0 1 1 24 0\nC 2 Ill\nN 1 2 main ([Ljava/lang/String;)V\nM 1 0 1 0\n\
+    let rows: [Row; 1] = [Row {
+        line: "trace Ill.class",
+        status: Status::IllTyped,
+        trace: b"H 1 0\nC 1 [Ljava/lang/String;\nA 0 0 1 1 24 0\nC 2 Ill\nN 1 2 main ([Ljava/lang/String;)V\nM 1 0 1 0\n\
              F 1 0\nZ 1 2\n",
-        b"elephant: ill typed 0 Ill main ([Ljava/lang/String;)V 0\n",
-    )];
+        refusal: b"elephant: ill typed 0 Ill main ([Ljava/lang/String;)V 0\n",
+    }];
     are_answered(&rt, rt.alloc(), &listings, &rows)
 }
 
@@ -276,32 +322,32 @@ fn an_event_without_a_meaning(rt: HostRuntime) -> Result<(), Fail> {
 fn threads_in_turns(rt: HostRuntime) -> Result<(), Fail> {
     let listings = [("Wrk.class", WRK), ("Slf.class", SLF)];
     let rows: [Row; 3] = [
-        (
-            "trace --quantum 1 Wrk.class",
-            Status::Done,
-            b"H 1 0\nC 1 [Ljava/lang/String;\nA 0 0 1 1 24 0\nC 2 Wrk\nN 1 2 main ([Ljava/lang/String;)V\nM 1 0 1 0\n\
+        Row {
+            line: "trace --quantum 1 Wrk.class",
+            status: Status::Done,
+            trace: b"H 1 0\nC 1 [Ljava/lang/String;\nA 0 0 1 1 24 0\nC 2 Wrk\nN 1 2 main ([Ljava/lang/String;)V\nM 1 0 1 0\n\
              A 2 0 2 2 24 0\nN 2 2 <init> ()V\nM 4 0 2 2\nE 7 0 2\nN 3 2 run ()V\nM 9 1 3 2\nN 4 2 add ()V\nM 10 0 4 0\n\
              C 3 java/lang/Object\nA 12 0 3 3 16 0\nU 14 0 0 0 0 3\nE 16 0 4\nM 17 1 4 0\nE 18 0 1\nA 19 1 4 3 16 0\n\
              U 21 1 0 0 3 4\nE 22 1 4\nE 23 1 3\nF 24 3\nD 1 17\nD 2 23\nD 3 20\nZ 24 0\n",
-            b"",
-        ),
-        (
-            "trace --words 0,1,1 Wrk.class",
-            Status::Done,
-            b"H 1 0\nC 1 [Ljava/lang/String;\nA 0 0 1 1 24 0\nC 2 Wrk\nN 1 2 main ([Ljava/lang/String;)V\nM 1 0 1 0\n\
+            refusal: b"",
+        },
+        Row {
+            line: "trace --words 0,1,1 Wrk.class",
+            status: Status::Done,
+            trace: b"H 1 0\nC 1 [Ljava/lang/String;\nA 0 0 1 1 24 0\nC 2 Wrk\nN 1 2 main ([Ljava/lang/String;)V\nM 1 0 1 0\n\
              A 2 0 2 2 24 0\nN 2 2 <init> ()V\nM 4 0 2 2\nE 7 0 2\nN 3 2 add ()V\nM 9 0 3 0\nN 4 2 run ()V\nM 10 1 4 2\n\
              C 3 java/lang/Object\nA 12 0 3 3 16 0\nU 15 0 0 0 0 3\nE 18 0 3\nM 19 1 3 0\nA 20 1 4 3 16 0\nE 21 0 1\n\
              U 22 1 0 0 3 4\nE 23 1 3\nE 25 1 4\nF 26 3\nD 1 20\nD 2 25\nD 3 21\nZ 26 0\n",
-            b"",
-        ),
-        (
-            "trace --quantum 1 --limit 14 Slf.class",
-            Status::Done,
-            b"H 1 0\nC 1 [Ljava/lang/String;\nA 0 0 1 1 24 0\nC 2 Slf\nN 1 2 main ([Ljava/lang/String;)V\nM 1 0 1 0\n\
+            refusal: b"",
+        },
+        Row {
+            line: "trace --quantum 1 --limit 14 Slf.class",
+            status: Status::Done,
+            trace: b"H 1 0\nC 1 [Ljava/lang/String;\nA 0 0 1 1 24 0\nC 2 Slf\nN 1 2 main ([Ljava/lang/String;)V\nM 1 0 1 0\n\
              A 2 0 2 2 24 0\nN 2 2 <init> ()V\nM 4 0 2 2\nE 7 0 2\nN 3 2 run ()V\nM 9 1 3 2\nE 10 0 1\nF 14 1\nD 1 9\n\
              Z 14 1\n",
-            b"",
-        ),
+            refusal: b"",
+        },
     ];
     are_answered(&rt, rt.alloc(), &listings, &rows)
 }

@@ -27,8 +27,8 @@ use et_walk::laws::events_lead_to_sound_states;
 use std::alloc::Global;
 use std::sync::ledger::Ledger;
 
-/// The event of a thread whose turn is a call or a return, to be entered, or a step of an initializer. It visits six objects at
-/// most. After `NoMemory` the machine may only be dropped.
+/// The event of a thread whose turn is a call or a return, to be entered, or a step of an initializer. After `NoMemory` the
+/// machine may only be dropped.
 fn call_turn_event<L: Ledger>(
     alloc: Global,
     program: &Program,
@@ -41,7 +41,7 @@ fn call_turn_event<L: Ledger>(
     requires family { family program.now (kept_of machine.old) thread ≡ families.Calls }
     ensures event { IfOk result (λ end. EventAnswers (event program.now
         (kept_of machine.old) thread) end machine.old machine.new out.old out.new) }
-    ensures visits { visits.new ≤ visits.old + 6 }
+    ensures visits { visits.new ≤ visits.old + 7 }
 {
     match calls_event(alloc, program, machine, thread, out, visits) {
         Ok(EventEnd::Native { .. }) => sync_event(alloc, program, machine, thread, out, visits),

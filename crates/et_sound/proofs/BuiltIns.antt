@@ -25,7 +25,7 @@ use Rattle.et_program.specs.BootMethods.BuiltIn.TheVariants as built_in
 use Rattle.et_event.specs.declared.errors.GuestError.TheVariants.{AbstractMethodError, IllegalThreadStateException, OutOfMemoryError}
 use Rattle.et_program.specs.BuiltIns.{built_in_of}
 use Rattle.et_program.specs.BootTable.{built_ins, is_called}
-use Rattle.et_event.specs.BuiltIns.{entries_answered, argument, answering, reference_in, with_referent_of, starts_thread, with_thread_for, has_thread_ended, is_object_of_class, built_in_row, done_by, built_in_event, with_reference_made, with_first_taken, is_null_or_of_class}
+use Rattle.et_event.specs.BuiltIns.{entries_answered, argument, answering, reference_in, with_referent_of, starts_thread, with_thread_for, has_thread_ended, is_object_of_class, built_in_row, done_by, built_in_event, with_reference_made, with_first_taken}
 use Rattle.et_event.proofs.BuiltInRoom.{answers_fit, none_some, some_same}
 use Rattle.et_event.specs.Calls.{begin_with, is_empty, are_arguments}
 use Rattle.et_event.specs.Checks.{ill_typed_unless}
@@ -259,9 +259,7 @@ module _ (e : Moment) (at : Site) (arguments : List Value) (o : ℕ) where
   row_sound built_in.Join is =
       unless_waiting e.program e (has_thread_ended (begins e) (thread_with e.before.guest.threads o)) _ is.here.sound is.here.clock (λ ended. answers built_in.Join [] is (no_entries built_in.Join))
   row_sound built_in.SetReferent is = making built_in.SetReferent (referent_of (argument arguments 1)) None is
-  row_sound built_in.SetReferentAndQueue is =
-      unless_ill_typed e.program e (is_null_or_of_class e (begins e) (argument arguments 2) (codes "java/lang/ref/ReferenceQueue")) _
-      (λ fit. making built_in.SetReferentAndQueue (referent_of (argument arguments 1)) (referent_of (argument arguments 2)) is)
+  row_sound built_in.SetReferentAndQueue is = making built_in.SetReferentAndQueue (referent_of (argument arguments 1)) (referent_of (argument arguments 2)) is
   row_sound built_in.GetReferent is = answers built_in.GetReferent (referent_value (object_at e.before.heap o).referent ∷ []) is (omega arith)
   row_sound built_in.ClearReferent is = referring built_in.ClearReferent None is
   row_sound built_in.Poll is = polling is

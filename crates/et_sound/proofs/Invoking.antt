@@ -17,7 +17,7 @@ use Rattle.et_event.specs.declared.rows.CallRow.TheVariants.{Invoke}
 use Rattle.et_event.specs.declared.rows.Row.TheVariants.{Call}
 use Rattle.et_event.specs.declared.errors.GuestError.TheVariants.{IncompatibleClassChangeError}
 use Rattle.et_event.specs.BuiltIns.{built_in_event}
-use Rattle.et_event.specs.Calls.{entry_count, arguments_of, is_static_call, call_fits, are_arguments, with_type, with_method, taking, enters_method, is_of_owner, special_class, dispatched, is_as, invoke}
+use Rattle.et_event.specs.Calls.{entry_count, arguments_of, is_static_call, call_fits, are_arguments, with_type, with_method, taking, enters_method, fits_resolved, special_class, dispatched, is_as, invoke}
 use Rattle.et_event.specs.Frames.{first_reference, receiver_of}
 use Rattle.et_event.specs.Operands.{returned_width}
 use Rattle.et_event.specs.Moments.{Moment, Doing, current_frame, begins, object_class}
@@ -91,14 +91,14 @@ dispatched_sound e at Virtual member type owner m may call is instance =
     let p : Linked = e.program in
     let g : IsUnderWayAt e (begins e) = going e at call.here.stands in
     where_not_null e (begins e) (first_reference (passed e Virtual type)) _ may.makes g (λ o receiver.
-    unless_ill_typed p e (is_of_owner e (begins e) m o) _ (λ own.
+    unless_ill_typed p e (fits_resolved e (begins e) (passed e Virtual type) m o) _ (λ fit.
     where_resolved e (begins e) (select p (object_class (begins e) o) m false) _ may.makes g (λ k found.
     instance_sound e at Virtual member type k o may call refl receiver (as_named p m k member.name member.descriptor is (selected_method p (object_class (begins e) o) m false k is.within instance found)))))
 dispatched_sound e at Special member type owner m may call is instance =
     let p : Linked = e.program in
     let g : IsUnderWayAt e (begins e) = going e at call.here.stands in
     where_not_null e (begins e) (first_reference (passed e Special type)) _ may.makes g (λ o receiver.
-    unless_ill_typed p e (is_of_owner e (begins e) m o) _ (λ own.
+    unless_ill_typed p e (fits_resolved e (begins e) (passed e Special type) m o) _ (λ fit.
     where_resolved e (begins e) (select_special p at.class (special_class p owner) m) _ may.makes g (λ k found.
     instance_sound e at Special member type k o may call refl receiver (as_named p m k member.name member.descriptor is (selected_special p at.class (special_class p owner) m k is.within instance found)))))
 dispatched_sound e at Interface member type owner m may call is instance =

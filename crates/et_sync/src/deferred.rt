@@ -19,8 +19,7 @@ use et_state::{EventEnd, Lines, Machine};
 use std::sync::ledger::Ledger;
 
 /// The event of an invoke at a place that selects a built-in method without code of threads, of weak references or of their
-/// queues. It visits four objects at most. After `NoMemory` the event may be half done, and machine and records may only be
-/// dropped.
+/// queues. After `NoMemory` the event may be half done, and machine and records may only be dropped.
 pub(crate) fn deferred_event<L: Ledger>(
     program: &Program,
     machine: &mut Machine,
@@ -38,7 +37,7 @@ pub(crate) fn deferred_event<L: Ledger>(
         (site_at place.now) (rows.Call (calls.Invoke kind))) }
     ensures event { IfOk result (λ end. EventAnswers (invoke (moment program.now machine.old thread)
         (site_at place.now) kind) end machine.old machine.new out.old out.new) }
-    ensures visits { visits.new ≤ visits.old + 4 }
+    ensures visits { visits.new ≤ visits.old + 5 }
 {
     match invoke_plan(program, machine, thread, place, kind, visits) {
         CallPlan::Enters { method, count } => {

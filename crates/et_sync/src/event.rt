@@ -41,7 +41,7 @@ fn place_event<L: Ledger>(
         (site_at place.now) place.now.row) }
     ensures event { IfOk result (λ end. EventAnswers (does (moment program.now machine.old thread)
         (site_at place.now) place.now.row) end machine.old machine.new out.old out.new) }
-    ensures visits { visits.new ≤ visits.old + 4 }
+    ensures visits { visits.new ≤ visits.old + 5 }
     ensures err { family_of_row (Some place.now.row) ≡ families.Sync →
         OnErr result (machine.new.guest ≡ machine.old.guest) }
 {
@@ -75,7 +75,7 @@ fn instruction_event<L: Ledger>(
         ⊎ IsSome (deferred_call program.now (kept_of machine.old) thread) }
     ensures event { IfOk result (λ end. EventAnswers (event program.now
         (kept_of machine.old) thread) end machine.old machine.new out.old out.new) }
-    ensures visits { visits.new ≤ visits.old + 4 }
+    ensures visits { visits.new ≤ visits.old + 5 }
     ensures err { family_of program.now (kept_of machine.old) thread ≡ families.Sync →
         OnErr result (machine.new.guest ≡ machine.old.guest) }
 {
@@ -88,10 +88,10 @@ fn instruction_event<L: Ledger>(
 /// The event of a thread whose turn is `monitorenter` or `monitorexit` (JVMS 2.11.10, 6.5), to end (JVMS 2.5.1, 2.5.2), or a
 /// call of a built-in method without code of Thread, Reference, WeakReference or ReferenceQueue, for which `calls_event`
 /// answers `Native`. It answers what the table of events says: `Done`, and then the machine keeps the next state, to which a
-/// legal step led, and the records of the event stand behind those that were there; `Waited`, and then only the clock has gone
-/// on; or `IllTyped` or `ObjectLimit`, and then machine and records are as before. It visits four objects at most. After
-/// `NoMemory` the machine may have one object more, to which nothing refers, and there may be its record, and all else is as
-/// before; but a call may then be half done, and machine and records may only be dropped.
+/// legal step led, and the records of the event stand behind those that were there; `Waited`, and then only the clock has
+/// gone on; or `IllTyped` or `ObjectLimit`, and then machine and records are as before. After `NoMemory` the machine may
+/// have one object more, to which nothing refers, and there may be its record, and all else is as before; but a call may
+/// then be half done, and machine and records may only be dropped.
 #[tactic(auto, using(et_event::proofs::FamilyTurns::family_at))]
 pub fn sync_event<L: Ledger>(
     _alloc: Global,
@@ -106,7 +106,7 @@ pub fn sync_event<L: Ledger>(
         ⊎ IsSome (deferred_call program.now (kept_of machine.old) thread) }
     ensures event { IfOk result (λ end. EventAnswers (event program.now
         (kept_of machine.old) thread) end machine.old machine.new out.old out.new) }
-    ensures visits { visits.new ≤ visits.old + 4 }
+    ensures visits { visits.new ≤ visits.old + 5 }
     ensures err { family_of program.now (kept_of machine.old) thread ≡ families.Sync →
         OnErr result (machine.new.guest ≡ machine.old.guest) }
 {

@@ -5,8 +5,8 @@ use Rattle.et_class.specs.Names.{has}
 use Rattle.et_class.specs.declared.flags.TheConstants.{NATIVE}
 use Rattle.et_code.specs.Bodies.{Body}
 use Rattle.et_code.specs.declared.body.TableRow.{TableRow}
-use Rattle.et_event.specs.BuiltIns.{answering, is_object_of_class, argument, built_in_event, built_in_row, done_by, has_thread_ended, is_null_or_of_class, reference_in, starts_thread, with_first_taken, with_reference_made, with_referent_of, with_thread_for}
-use Rattle.et_event.specs.Calls.{are_arguments, arguments_of, call_event, call_fits, dispatched, entering_frame, enters_first, enters_method, enters_run, entry_arguments, entry_call, entry_count, frame_returned, invoke, is_as, is_of_owner, is_static_call, return, returned_by, special_class, taking, with_method, with_returned, with_type}
+use Rattle.et_event.specs.BuiltIns.{answering, is_object_of_class, argument, built_in_event, built_in_row, done_by, has_thread_ended, reference_in, starts_thread, with_first_taken, with_reference_made, with_referent_of, with_thread_for}
+use Rattle.et_event.specs.Calls.{are_arguments, arguments_of, call_event, call_fits, dispatched, entering_frame, enters_first, enters_method, enters_run, entry_arguments, entry_call, entry_count, fits_resolved, frame_returned, invoke, is_as, is_of_owner, is_static_call, return, returned_by, special_class, taking, with_method, with_returned, with_type}
 use Rattle.et_event.specs.Checks.{entries_of, ill_typed_unless}
 use Rattle.et_event.specs.Errors.{class_called}
 use Rattle.et_event.specs.Frames.{by_code, enters, first_reference, frame_entered, receiver_of}
@@ -235,9 +235,8 @@ module _ (e : Moment) (ready : Ready e) (framed : IsFramed e) where
       unless_waiting e ready (has_thread_ended (begins e) (thread_with e.before.guest.threads o)) _ (λ ended. answer_leads at arguments [] tt)
   built_in_leads at m arguments o built.SetReferent is passed f held = made_leads at arguments o (referent_of (argument arguments 1)) None held (λ s u. reference_fine s.heap (argument arguments 1) (later_value s arguments 1 u f)) (λ s u. tt)
   built_in_leads at m arguments o built.SetReferentAndQueue is passed f held =
-      unless_ill_typed e ready (is_null_or_of_class e (begins e) (argument arguments 2) (codes "java/lang/ref/ReferenceQueue")) _ (λ queue.
       made_leads at arguments o (referent_of (argument arguments 1)) (referent_of (argument arguments 2)) held (λ s u. reference_fine s.heap (argument arguments 1) (later_value s arguments 1 u f))
-      (λ s u. reference_fine s.heap (argument arguments 2) (later_value s arguments 2 u f)))
+      (λ s u. reference_fine s.heap (argument arguments 2) (later_value s arguments 2 u f))
   built_in_leads at m arguments o built.GetReferent is passed f held =
       answer_leads at arguments (referent_value (object_at e.before.heap o).referent ∷ []) (fine_value e.before.heap (object_at e.before.heap o).referent (referent_fine e.before o ready.knows.sound.held), tt)
   built_in_leads at m arguments o built.ClearReferent is passed f held =
@@ -298,12 +297,12 @@ module _ (e : Moment) (ready : Ready e) (framed : IsFramed e) where
       initialized_leads e ready (begins e) (method_at e.program m).class _ Begins (λ d h. static_leads at member arguments m d call is static h)
   dispatched_leads at Virtual member arguments named m call is instance =
       where_not_null e ready (begins e) (first_reference arguments) _ Begins (first_fine e.before.heap arguments call.fine) (λ o held.
-      unless_ill_typed e ready (is_of_owner e (begins e) m o) _ (λ own.
+      unless_ill_typed e ready (fits_resolved e (begins e) arguments m o) _ (λ fit.
       where_resolved e ready (begins e) (select e.program (object_class (begins e) o) m false) _ Begins (λ k found.
       instance_leads at member arguments m k call.type call.typed call.passed call.fine is (selected_method e.program (object_class (begins e) o) m false k is.within instance found))))
   dispatched_leads at Special member arguments named m call is instance =
       where_not_null e ready (begins e) (first_reference arguments) _ Begins (first_fine e.before.heap arguments call.fine) (λ o held.
-      unless_ill_typed e ready (is_of_owner e (begins e) m o) _ (λ own.
+      unless_ill_typed e ready (fits_resolved e (begins e) arguments m o) _ (λ fit.
       where_resolved e ready (begins e) (select_special e.program at.class (special_class e.program named) m) _ Begins (λ k found.
       instance_leads at member arguments m k call.type call.typed call.passed call.fine is (selected_special e.program at.class (special_class e.program named) m k is.within instance found))))
   dispatched_leads at Interface member arguments named m call is instance =

@@ -11,7 +11,7 @@ returns-then-is_fit-clause-ok g c =
     let e = moment c.args.program.now m c.args.call.now.thread in
     if_ok c.fit_row_event.result
     (λ end a at same. fit_answers e at (arguments_of e c.args.call.now.count) c.args.object c.args.built_in end m c.fit_row_event.new.machine c.args.out.now c.fit_row_event.new.out
-    (sym c.is_fit.ensures.value ∙ c.if-is_fit.true) (a at same))
+    (sym (c.is_fit.ensures.value c.args.call.now.thread) ∙ c.if-is_fit.true) (a at same))
     c.fit_row_event.ensures.ok
 
 pub returns-clause-ok : goal.returns-clause-ok
@@ -19,4 +19,4 @@ returns-clause-ok g c = λ at same.
     let m = c.args.machine.now in
     let e = moment c.args.program.now m c.args.call.now.thread in
     unfit_answers e at (arguments_of e c.args.call.now.count) c.args.object c.args.built_in c.ill_typed.result m m c.args.out.now c.args.out.now
-    (sym c.is_fit.ensures.value ∙ c.if-is_fit.false) (ill_typed_answers c.args.program.now c.args.call.now.thread m m c.args.out.now c.ill_typed.result refl c.ill_typed.ensures)
+    (sym (c.is_fit.ensures.value c.args.call.now.thread) ∙ c.if-is_fit.false) (ill_typed_answers c.args.program.now c.args.call.now.thread m m c.args.out.now c.ill_typed.result refl c.ill_typed.ensures)

@@ -5,7 +5,7 @@ use Rattle.et_heap.specs.Refs.{refs_of_value}
 use Rattle.et_program.specs.BootNames.{built_in_class_name}
 use Rattle.et_event.specs.BuiltIns.{is_null_or_of_class, is_object_of_class}
 use Rattle.et_event.specs.Moments.{moment, begins}
-use Rattle.et_builtins.proofs.rows.is_null_or_of.Goals as goal
+use Rattle.et_builtins.proofs.classes.is_null_or_of.Goals as goal
 
 -- the object is the whole of what the value refers to
 pub is_of-requires-clause-held : goal.is_of-requires-clause-held
