@@ -1,4 +1,4 @@
--- Lists of one, of two and of three.
+-- Lists of one, of two, of three and of four.
 use Rattle.std.proofs.Common.{◌≡◌, List, [], ◌∷◌, ◌++◌, arith, sym, subst, ap, ◌∙◌}
 use Rattle.std.specs.List.{All, AllZip}
 use Rattle.std.proofs.lemmas.List.Elements.{All-push}
@@ -19,3 +19,8 @@ three_all {B} P none one two three a b c e f g h x y z =
     let first : All P one = subst (λ (l : List B). All P l) (sym f) (All-push P none a bare x) in
     let second : All P two = subst (λ (l : List B). All P l) (sym g) (All-push P one b first y) in
     subst (λ (l : List B). All P l) (sym h) (All-push P two c second z)
+
+-- .. and of four
+pub four_all : {B : Type 0} (P : B → Type 0) (none one two three four : List B) (a b c d : B) → none ≡ [] → one ≡ none ++ a ∷ [] → two ≡ one ++ b ∷ [] → three ≡ two ++ c ∷ [] → four ≡ three ++ d ∷ [] → P a → P b → P c → P d → All P four
+four_all {B} P none one two three four a b c d e f g h i x y z w =
+    subst (λ (l : List B). All P l) (sym i) (All-push P three d (three_all P none one two three a b c e f g h x y z) w)

@@ -6,7 +6,7 @@ use Rattle.et_base.proofs.Lists.{Contains-none, Contains-here, Contains-there, C
 use Rattle.et_replay.specs.declared.item.Item.{Item}
 use Rattle.et_replay.specs.declared.item.Item.TheVariants.{Alloc, Write, Death}
 use Rattle.et_replay.specs.Heap.{is_made, content, slot_written_by}
-use Rattle.et_models.proofs.Coming.{cases_eqb, made_stays}
+use Rattle.et_replay.proofs.Coming.{cases_eqb, made_stays}
 
 pub cases_bool : (b : Bool) → (b ≡ true) ⊎ (b ≡ false)
 cases_bool true = inl refl

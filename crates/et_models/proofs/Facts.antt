@@ -10,8 +10,8 @@ use Rattle.et_replay.specs.Feeding.{MayCome, IsNewObject}
 use Rattle.et_replay.specs.Heap.{size_in, is_made, is_live, bytes}
 use Rattle.et_replay.specs.Items.{made_objects, sizes}
 use Rattle.et_replay.specs.Tally.{Heap, empty_heap, fits_capacity, sweep, collect, exhaust, place, space_on, space_after}
-use Rattle.et_models.specs.Fed.{AreFed}
-use Rattle.et_models.proofs.Coming.{AreMade, are_made_on, bytes_stay, size_here, all_low}
+use Rattle.et_replay.specs.Fed.{AreFed}
+use Rattle.et_replay.proofs.Coming.{AreMade, are_made_on, bytes_stay, size_here, all_low}
 
 pub record HasFacts (past : List Item) (heap : Heap) (most : ℕ) : Type 0 where
   pub held : AreMade past heap.space

@@ -11,7 +11,7 @@ use Rattle.et_models.specs.declared.places.Place.TheVariants.{Nursery, Kept}
 use Rattle.et_models.specs.Places.{place_at, is_old}
 use Rattle.et_models.proofs.Spots.{old_nursery, old_is, cases_nursery}
 use Rattle.et_models.specs.Marking.{Refers, MarksFrom, AllMarked, NamesInSlot, Stays, Draws, IsMarking, IsSeed, BeginsMarking, IsFound}
-use Rattle.et_models.proofs.Coming.{cases_eqb}
+use Rattle.et_replay.proofs.Coming.{cases_eqb}
 use Rattle.et_models.proofs.Marking.{in_front, at_end, in_longer, not_back}
 
 kept_nursery : {A : Type 0} (p : Place) → p ≡ Kept → p ≡ Nursery → A

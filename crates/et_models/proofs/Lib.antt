@@ -1,5 +1,4 @@
 pub mod Boxes
-pub mod Coming
 pub mod Facts
 pub mod Standing
 pub mod Stepping

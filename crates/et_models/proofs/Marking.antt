@@ -10,7 +10,7 @@ use Rattle.et_models.specs.declared.places.Place.TheVariants.{Nowhere, Nursery, 
 use Rattle.et_models.specs.Tables.{flag_at}
 use Rattle.et_models.specs.Places.{place_at, with_place, is_nursery}
 use Rattle.et_models.specs.Marking.{young, IsMarkedFrom, MarksFrom, AllMarked, IsSeed}
-use Rattle.et_models.proofs.Coming.{cases_eqb}
+use Rattle.et_replay.proofs.Coming.{cases_eqb}
 
 pub marks_none : (E : ℕ → Type 0) (places : List Place) (work : List ℕ) → MarksFrom E places work places work
 marks_none E places work = record { as_long = refl; each = λ o. inl refl; grows = λ o h. h; only = λ o h. inl h; spent = refl }

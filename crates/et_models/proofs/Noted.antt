@@ -14,7 +14,7 @@ use Rattle.et_models.specs.declared.places.Place.TheVariants.{Nursery, Old}
 use Rattle.et_models.specs.Places.{place_at, is_nursery, is_old}
 use Rattle.et_models.specs.Marking.{NamesInSlot}
 use Rattle.et_models.specs.Generations.{Both, KnowsSlots, WritesSlot, reference_noted}
-use Rattle.et_models.proofs.Coming.{cases_eqb, made_stays}
+use Rattle.et_replay.proofs.Coming.{cases_eqb, made_stays}
 use Rattle.et_models.proofs.Contents.{cases_bool, content_made, element}
 use Rattle.et_models.proofs.Marking.{in_front}
 

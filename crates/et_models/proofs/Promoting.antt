@@ -15,12 +15,12 @@ use Rattle.et_replay.specs.Heap.{is_made, content, slot_written_by, slots}
 use Rattle.et_replay.specs.Tally.{live_of, nursery_graph}
 use Rattle.et_models.specs.declared.places.Place.{Place}
 use Rattle.et_models.specs.declared.places.Place.TheVariants.{Nursery}
-use Rattle.et_models.specs.Fed.{AreFed}
+use Rattle.et_replay.specs.Fed.{AreFed}
 use Rattle.et_models.specs.Tables.{size_at, flag_at}
 use Rattle.et_models.specs.Places.{place_at, is_kept}
 use Rattle.et_models.specs.Marking.{NamesInSlot, BeginsMarking, IsFound}
 use Rattle.et_models.specs.Generations.{Both, KnowsSlots, IsReadyToCollect}
-use Rattle.et_models.proofs.Coming.{in_range}
+use Rattle.et_replay.proofs.Coming.{in_range}
 use Rattle.et_models.proofs.Contents.{content_made, slots_have, slots_only, element}
 use Rattle.et_models.proofs.Spots.{nowhere_nursery, nowhere_kept, nowhere_old, nursery_kept, old_nursery, old_kept, kept_is}
 use Rattle.et_models.proofs.Totals.{unflagged_is}

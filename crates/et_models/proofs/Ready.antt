@@ -25,7 +25,7 @@ use Rattle.et_models.specs.Places.{place_at, with_place, is_kept, place_settled,
 use Rattle.et_models.specs.Marking.{BeginsMarking, IsFound}
 use Rattle.et_models.specs.Spaces.{unflagged}
 use Rattle.et_models.specs.Generations.{Both, KnowsSlots, KnowsPlaces, AreNoted, IsReadyToCollect, WritesSlot, swept, promoted, placed_young, placed_old, left_out, reference_noted}
-use Rattle.et_models.proofs.Coming.{AreMade, are_made_on, apart, bytes_stay, size_here, all_low, cases_eqb, in_range}
+use Rattle.et_replay.proofs.Coming.{AreMade, are_made_on, apart, bytes_stay, size_here, all_low, cases_eqb, in_range}
 use Rattle.et_models.proofs.Marking.{at_end, in_front, in_longer}
 use Rattle.et_models.proofs.Totals.{sum_is, unflagged_is, knows_more, knows_death}
 use Rattle.et_models.proofs.Contents.{cases_bool, element}

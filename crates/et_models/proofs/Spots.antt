@@ -8,7 +8,7 @@ use Rattle.et_models.specs.declared.places.Place.{Place}
 use Rattle.et_models.specs.declared.places.Place.TheVariants.{Nowhere, Nursery, Kept, Old}
 use Rattle.et_models.specs.Tables.{flag_at}
 use Rattle.et_models.specs.Places.{place_at, with_place, is_kept, is_old, place_settled, without_one, without_dead, AreCollected}
-use Rattle.et_models.proofs.Coming.{cases_eqb}
+use Rattle.et_replay.proofs.Coming.{cases_eqb}
 use Rattle.et_models.proofs.Contents.{cases_bool}
 use Rattle.et_models.proofs.Marking.{in_longer, at_end}
 

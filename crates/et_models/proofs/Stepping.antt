@@ -14,7 +14,7 @@ use Rattle.et_replay.specs.Tally.{Heap, fits_capacity, sweep, exhaust, place, pl
 use Rattle.et_models.specs.Tables.{size_at}
 use Rattle.et_models.specs.Generations.{Both, IsReadyToCollect, IsStable, Promotes, Collects, StepsBoth, WritesSlot, swept, placed_young, placed_old, left_out, reference_noted}
 use Rattle.et_models.proofs.Noted.{noted_is}
-use Rattle.et_models.proofs.Coming.{all_low, few_made}
+use Rattle.et_replay.proofs.Coming.{all_low, few_made}
 use Rattle.et_models.proofs.Totals.{sum_is}
 use Rattle.et_models.proofs.Ready.{swept_ready, promoted_ready, promoted_is, young_ready, old_ready, left_ready, ready_more, wrote_ready}
 

@@ -18,11 +18,11 @@ use Rattle.et_replay.specs.declared.model.Report.{Report}
 use Rattle.et_models.specs.declared.space.Space.{Space}
 use Rattle.et_replay.specs.Tally.{heap_by, heap_after, tally, Heap, fits_capacity, live_of, collect, exhaust, place, place_with, space_on, space_after}
 use Rattle.et_replay.proofs.ByKey.{filter_same}
-use Rattle.et_models.specs.Fed.{AreFed}
+use Rattle.et_replay.specs.Fed.{AreFed}
 use Rattle.et_models.specs.Tables.{size_at, flag_at, with_size, with_flag, Knows}
 use Rattle.et_replay.specs.declared.model.Policy.{Policy}
 use Rattle.et_models.specs.Spaces.{View, view_of, Accounts, account, collected, has_place, roomy, object_placed, unflagged, IsReplayedHeap}
-use Rattle.et_models.proofs.Coming.{AreMade, in_range, cases_eqb, sum_same, bytes_stay, size_here, size_there, all_low, few_made}
+use Rattle.et_replay.proofs.Coming.{AreMade, in_range, cases_eqb, sum_same, bytes_stay, size_here, size_there, all_low, few_made}
 use Rattle.et_models.proofs.Facts.{HasFacts, facts_ready, space_facts}
 
 -- what the tables tell of objects that are made

@@ -13,7 +13,7 @@ use Rattle.et_replay.specs.Items.{made_objects, sizes}
 use Rattle.et_replay.specs.Feeding.{MayCome}
 use Rattle.et_replay.specs.declared.model.Kind.TheVariants as kinds
 use Rattle.et_replay.specs.Tally.{Heap, empty_heap, generations_on, generations_after}
-use Rattle.et_models.specs.Fed.{AreFed}
+use Rattle.et_replay.specs.Fed.{AreFed}
 use Rattle.et_models.specs.Tables.{size_at, with_size, Knows}
 use Rattle.et_models.specs.Places.{place_at, with_place, is_nursery, is_kept, is_old, without_dead, AreCollected}
 use Rattle.et_models.specs.Marking.{NamesInSlot, BeginsMarking, IsFound}

@@ -1,4 +1,3 @@
-pub mod Fed
 pub mod Generations
 pub mod Marking
 pub mod Places

@@ -7,7 +7,7 @@ use Rattle.et_replay.specs.declared.model.Policy.{Policy}
 use Rattle.et_replay.specs.declared.model.Report.{Report}
 use Rattle.et_replay.specs.Heap.{bytes}
 use Rattle.et_replay.specs.Tally.{Heap, space_after}
-use Rattle.et_models.specs.Fed.{AreFed}
+use Rattle.et_replay.specs.Fed.{AreFed}
 use Rattle.et_models.specs.Tables.{size_at, flag_at, with_size, Knows}
 use Rattle.et_models.specs.declared.space.Space.{Space}
 

@@ -1,6 +1,7 @@
 pub mod Adding
 pub mod ByKey
 pub mod Comes
+pub mod Coming
 pub mod Counting
 pub mod Dying
 pub mod Living

@@ -12,14 +12,14 @@ use Rattle.et_graph.specs.Graph.{Graph, Decides}
 use Rattle.et_graph.proofs.Walks.{is_reached, is_reached_decides}
 use Rattle.et_replay.specs.declared.item.Item.{Item}
 use Rattle.et_replay.specs.declared.model.Kind.{Kind}
-use Rattle.et_replay.specs.declared.model.Kind.TheVariants.{MarkSweep, SemiSpace, Generational}
+use Rattle.et_replay.specs.declared.model.Kind.TheVariants.{MarkSweep, SemiSpace, Generational, RefCount}
 use Rattle.et_replay.specs.declared.model.Policy.{Policy}
 use Rattle.et_replay.specs.declared.model.Report.{Report}
 use Rattle.et_replay.specs.Feeding.{HasItemRoom, MayCome}
 use Rattle.et_replay.specs.Lines.{report_text}
 use Rattle.et_replay.specs.Replay.{replay_text}
 use Rattle.et_replay.specs.Seats.{IsFinal, Sits, EachZip, Told, AllMayCome, told_line}
-use Rattle.et_replay.specs.Tally.{Heap, tally, is_exhausted, heap_by, space_on, generations_on}
+use Rattle.et_replay.specs.Tally.{Heap, Counted, tally, is_exhausted, heap_by, space_on, generations_on, counted_on, counted_after}
 
 -- there is room where each test that decides says so
 pub has_room : (policy : Policy) (past : List Item) → ((reached : Graph → ℕ → Bool) → Decides reached → is_exhausted reached policy past ≡ false) → HasItemRoom policy past
@@ -27,6 +27,9 @@ has_room policy past h = record { reached = is_reached; decides = is_reached_dec
 
 stopped : (heap next : Heap) → is_some heap.exhausted ≡ true → cond (is_some heap.exhausted) heap next ≡ heap
 stopped heap next e = rw e refl
+
+stopped_counted : (c next : Counted) → is_some c.heap.exhausted ≡ true → (cond (is_some c.heap.exhausted) c next).heap ≡ c.heap
+stopped_counted c next e = rw e refl
 
 abbrev report_by : Policy → Heap → Report
 report_by policy heap = record { kind = policy.kind; first = policy.first; second = policy.second; minor = heap.minor; major = heap.major; kept = heap.kept; freed = heap.freed; peak = heap.peak; exhausted = heap.exhausted }
@@ -36,6 +39,7 @@ stays_by : (reached : Graph → ℕ → Bool) (kind : Kind) (first second : ℕ)
 stays_by reached MarkSweep first second item past e = stopped (heap_by reached MarkSweep first second past) (space_on first past item (heap_by reached MarkSweep first second past)) e
 stays_by reached SemiSpace first second item past e = stopped (heap_by reached SemiSpace first second past) (space_on (first / 2) past item (heap_by reached SemiSpace first second past)) e
 stays_by reached Generational first second item past e = stopped (heap_by reached Generational first second past) (generations_on reached first second past item (heap_by reached Generational first second past)) e
+stays_by reached RefCount first second item past e = stopped_counted (counted_after reached first past) (counted_on reached first past item (counted_after reached first past)) e
 
 pub final_stays : (report : Report) (policy : Policy) (item : Item) (past : List Item) → IsFinal report policy past → IsFinal report policy (item ∷ past)
 final_stays report policy item past f = record {
@@ -130,6 +134,7 @@ room_by : (reached : Graph → ℕ → Bool) (kind : Kind) (first second : ℕ) 
 room_by reached MarkSweep first second = refl
 room_by reached SemiSpace first second = refl
 room_by reached Generational first second = refl
+room_by reached RefCount first second = refl
 
 pub room_first : (policy : Policy) → HasItemRoom policy []
 room_first policy = has_room policy [] (λ reached decides. room_by reached policy.kind policy.first policy.second)

@@ -1,4 +1,5 @@
 pub mod Curve
+pub mod Fed
 pub mod Feeding
 pub mod Heap
 pub mod Items

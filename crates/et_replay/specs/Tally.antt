@@ -1,17 +1,17 @@
--- The accounts of the three policies. In each list of items here the newest stands first.
-use Rattle.std.specs.Prelude.{ℕ, ◌+◌, ◌/◌, max, Bool, not, ◌==◌, nat_lt, nat_le, if◌then◌else◌, List, [], ◌∷◌, ◌++◌, length, filter, Option, Some, None, is_some}
-use Rattle.std.specs.List.{list_any}
+-- The accounts of the four policies. In each list of items here the newest stands first.
+use Rattle.std.specs.Prelude.{ℕ, ◌+◌, ◌-◌, ◌/◌, max, Bool, not, ◌==◌, ◌&&◌, nat_lt, nat_le, if◌then◌else◌, List, [], ◌∷◌, ◌++◌, length, filter, map, Option, Some, None, is_some}
+use Rattle.std.specs.List.{list_any, filter_map}
 use Rattle.et_graph.specs.Graph.{Graph}
 use Rattle.et_replay.specs.declared.item.Item.{Item}
-use Rattle.et_replay.specs.declared.item.Item.TheVariants.{Alloc}
+use Rattle.et_replay.specs.declared.item.Item.TheVariants.{Alloc, Write, Death}
 use Rattle.et_replay.specs.declared.model.Kind.{Kind}
-use Rattle.et_replay.specs.declared.model.Kind.TheVariants.{MarkSweep, SemiSpace, Generational}
+use Rattle.et_replay.specs.declared.model.Kind.TheVariants.{MarkSweep, SemiSpace, Generational, RefCount}
 use Rattle.et_replay.specs.declared.model.Policy.{Policy}
 use Rattle.et_replay.specs.declared.model.Report.{Report}
 use Rattle.et_replay.specs.Heap.{is_live, bytes, slots}
 use Rattle.et_replay.specs.Items.{made_objects}
 
--- The heap of a policy. A generational one has objects in its nursery and others in its old space; the other two have
+-- The heap of a policy. A generational one has objects in its nursery and others in its old space; the other three have
 -- one space. Each number counts from 0.
 pub record Heap : Type 0 where
   pub nursery : List ℕ
@@ -19,7 +19,8 @@ pub record Heap : Type 0 where
   -- minor collections, and major ones
   pub minor : ℕ
   pub major : ℕ
-  -- the bytes that collections kept, and those that they freed
+  -- the bytes that collections kept, and those that were freed; with reference counts nothing is collected, and kept are
+  -- the bytes that are dead and not freed
   pub kept : ℕ
   pub freed : ℕ
   -- the greatest number of bytes in the heap after an object was placed
@@ -79,6 +80,47 @@ space_after capacity (item ∷ past) =
     let heap = space_after capacity past in
     if is_some heap.exhausted then heap else space_on capacity past item heap
 
+-- REFERENCE COUNTING: one space, and what stands in the slots of its objects
+
+-- an object, a slot of it, and the object to which the slot refers; null isn't listed
+abbrev pub Reference : Type 0
+Reference = ℕ × ℕ × ℕ
+
+pub record Counted : Type 0 where
+  -- its space has the objects that aren't freed
+  pub heap : Heap
+  -- their slots
+  pub references : List Reference
+
+abbrev pub empty_counted : Counted
+empty_counted = record { heap = empty_heap; references = [] }
+
+abbrev pub is_among : List ℕ → ℕ → Bool
+is_among objects object = list_any (λ other. other == object) objects
+
+abbrev pub is_slot : ℕ → ℕ → Reference → Bool
+is_slot object slot r = r.0 == object && r.1 == slot
+
+-- Reference `new` is written to a slot. Nothing is written to what isn't in the space, and a slot that is given what isn't
+-- in the space is null.
+abbrev pub written : ℕ → ℕ → ℕ → Counted → Counted
+written object slot new c =
+    let others = filter (λ r. not (is_slot object slot r)) c.references in
+    if not (is_among c.heap.space object) then c
+    else if is_among c.heap.space new then record c { references = (object, slot, new) ∷ others } else record c { references = others }
+
+-- the object is placed
+abbrev pub entered : List Item → ℕ → Counted → Counted
+entered past object c = record c { heap = place past object c.heap }
+
+-- what the slots of the object refer to
+abbrev pub targets_of : List Reference → ℕ → List ℕ
+targets_of references object = filter_map (λ r. if r.0 == object then Some r.2 else None) references
+
+-- the references, searched from some of the objects
+abbrev pub searched_from : List ℕ → List Reference → Graph
+searched_from roots references = record { made = 0; roots = roots; pairs = map (λ r. (r.0, r.2)) references; gone = [] }
+
 -- GENERATIONAL: a nursery and an old space. `reached` is a test that decides reachability by paths.
 module _ (reached : Graph → ℕ → Bool) where
   -- The slots that refer to objects of the nursery, with the live objects of the nursery and all of the old space as
@@ -121,12 +163,48 @@ module _ (reached : Graph → ℕ → Bool) where
       let heap = generations_after nursery old past in
       if is_some heap.exhausted then heap else generations_on nursery old past item heap
 
+  -- REFERENCE COUNTING goes by paths and cycles, and speaks of no count
+
+  -- a path of slots leads from the object to itself
+  abbrev pub is_on_cycle : List Reference → ℕ → Bool
+  is_on_cycle references object = reached (searched_from (targets_of references object) references) object
+
+  -- What isn't freed: what is live, what stands on a cycle, and that to which a path of slots leads from there.
+  abbrev pub unfreed : List Item → Counted → List ℕ
+  unfreed past c =
+      let roots = live_of past c.heap.space ++ filter (is_on_cycle c.references) c.heap.space in
+      filter (reached (searched_from roots c.references)) c.heap.space
+
+  -- these objects stay, with their slots
+  abbrev pub left_with : List Item → List ℕ → Counted → Counted
+  left_with past stay c = record {
+    heap = record c.heap { space = stay; kept = bytes past (dead_of past stay); freed = c.heap.freed + (bytes past c.heap.space - bytes past stay) };
+    references = filter (λ r. is_among stay r.0) c.references;
+  }
+
+  -- all others are freed
+  abbrev pub settled : List Item → Counted → Counted
+  settled past c = left_with past (unfreed past c) c
+
+  abbrev pub counted_on : ℕ → List Item → Item → Counted → Counted
+  counted_on capacity past (Alloc event object size) c =
+      if fits_capacity past c.heap.space size capacity then settled (Alloc event object size ∷ past) (entered (Alloc event object size ∷ past) object c) else record c { heap = exhaust event c.heap }
+  counted_on capacity past (Write event object slot new) c = settled (Write event object slot new ∷ past) (written object slot new c)
+  counted_on capacity past (Death object time) c = settled (Death object time ∷ past) c
+
+  abbrev pub counted_after : ℕ → List Item → Counted
+  counted_after capacity [] = empty_counted
+  counted_after capacity (item ∷ past) =
+      let c = counted_after capacity past in
+      if is_some c.heap.exhausted then c else counted_on capacity past item c
+
   -- THE TALLY: once a heap is exhausted, nothing changes any more
 
   abbrev pub heap_by : Kind → ℕ → ℕ → List Item → Heap
   heap_by MarkSweep first second past = space_after first past
   heap_by SemiSpace first second past = space_after (first / 2) past
   heap_by Generational first second past = generations_after first second past
+  heap_by RefCount first second past = (counted_after first past).heap
 
   abbrev pub heap_after : Policy → List Item → Heap
   heap_after policy past = heap_by policy.kind policy.first policy.second past

@@ -19,6 +19,8 @@ pub enum Kind {
     SemiSpace,
     /// A nursery for small new objects, and an old space.
     Generational,
+    /// One space; an object is freed as soon as it is dead and no slot of an object that isn't freed refers to it.
+    RefCount,
 }
 
 /// What a model is to account for.
@@ -41,9 +43,10 @@ pub struct Report {
     pub minor: u64,
     /// Collections of the whole space, of a generational heap those of its old space.
     pub major: u64,
-    /// The bytes that collections kept, added up: what was marked, copied or promoted.
+    /// The bytes that collections kept, added up: what was marked, copied or promoted. With reference counts, the bytes
+    /// of the objects that are dead and not freed.
     pub kept: u128,
-    /// The bytes that collections freed.
+    /// The bytes that were freed.
     pub freed: u64,
     /// The most bytes in the heap after an object was placed.
     pub peak: u64,
@@ -85,7 +88,8 @@ pub trait HeapModel: Drop {
         ensures ok { OnOk result (stands_for self.new policy objects []) }
         ensures kind { kind_of self.new ≡ kind_of self.old };
 
-    /// Takes an item. `Exhausted` is answered exactly where a collection leaves too little room for the item's object.
+    /// Takes an item. `Exhausted` is answered exactly where there is too little room for the item's object, after a
+    /// collection where the policy has one.
     fn feed(&mut self, item: &Item) -> Fed
         requires stands { (policy : Policy)
             × (objects : ℕ) × (past : List Item) × stands_for self.old policy objects past

@@ -50,6 +50,10 @@ impl fmt::Display for Report {
                     "generational nursery={first} old={old} minor={minor} major={major} promoted={kept} swept={freed} peak={peak}{end}"
                 )
             }
+            Kind::RefCount => write!(
+                f,
+                "refcount capacity={first} leaked={kept} freed={freed} peak={peak}{end}"
+            ),
         }
     }
 }

@@ -6,3 +6,6 @@ returns-in-MarkSweep-clause-writes g c = rw c.in-MarkSweep.is (simp append_assoc
 
 pub returns-in-SemiSpace-clause-writes : goal.returns-in-SemiSpace-clause-writes
 returns-in-SemiSpace-clause-writes g c = rw c.in-SemiSpace.is (simp append_assoc (search rules))
+
+pub returns-in-RefCount-clause-writes : goal.returns-in-RefCount-clause-writes
+returns-in-RefCount-clause-writes g c = rw c.in-RefCount.is (simp append_assoc (search rules))

@@ -10,7 +10,7 @@ use Rattle.et_replay.specs.declared.item.Item.TheVariants.{Alloc, Write, Death}
 use Rattle.et_replay.specs.Feeding.{MayCome}
 use Rattle.et_replay.specs.Heap.{size_in, is_made, bytes}
 use Rattle.et_replay.specs.Items.{made_objects, sizes}
-use Rattle.et_models.specs.Fed.{AreFed}
+use Rattle.et_replay.specs.Fed.{AreFed}
 
 pub cases_eqb : (a b : ℕ) → ((eqb a b ≡ true) × (a ≡ b)) ⊎ ((eqb a b ≡ false) × (a ≢ b))
 cases_eqb a b = grind (arith, nat_tests)

@@ -1,0 +1,9 @@
+pub mod Cycles
+pub mod Freeing
+pub mod Hits
+pub mod Noting
+pub mod Releasing
+pub mod Settling
+pub mod Slots
+pub mod Standing
+pub mod Weighing
