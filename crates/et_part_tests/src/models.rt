@@ -5,6 +5,7 @@ ghost use Rattle.et_replay.specs.declared.model.Policy.{Policy};
 
 use et_io::MemSink;
 use et_models::{Generational, MarkSweep, SemiSpace};
+use et_refcount::RefCount;
 use et_replay::{HeapModel, Kind, Policy, Timeline, replay, timeline};
 use et_text::TextReader;
 use std::alloc::Global;
@@ -118,6 +119,69 @@ fn the_old_space_keeps_what_a_dead_object_refers_to(rt: HostRuntime) -> Result<(
     assert_eq!(rt; narrow, 1);
     let wanted = "generational nursery=48 old=200 minor=2 major=0 promoted=96 swept=0 peak=120
 generational nursery=23 old=48 minor=0 major=1 promoted=0 swept=0 peak=48 exhausted=3
+";
+    assert_eq!(rt; sink.bytes(), wanted.as_bytes());
+    Ok(())
+}
+
+/// Two objects refer to each other, and one of them to a third.
+const CYCLE: &str = "H 1 0
+C 1 P
+A 1 0 1 1 24 0
+A 2 0 2 1 24 0
+A 3 0 3 1 16 0
+U 4 0 1 0 0 2
+U 5 0 2 0 0 1
+U 6 0 2 1 0 3
+F 8 3
+D 1 7
+D 2 7
+D 3 7
+Z 8 0
+";
+
+fn items_of(alloc: Global, text: &str) -> Result<Timeline, Fail> {
+    let mut reader = TextReader::begin(alloc);
+    reader.feed(text.as_bytes())?;
+    let trace = reader.finish()?;
+    Ok(timeline(alloc, &trace)?)
+}
+
+fn replay_counts(
+    alloc: Global,
+    items: &Timeline,
+    capacity: u64,
+    sink: &mut MemSink,
+) -> Result<u32, Fail> {
+    let mut model = RefCount::begin(alloc);
+    model.set_policy(
+        Policy {
+            kind: Kind::RefCount,
+            first: capacity,
+            second: 0,
+        },
+        items.objects(),
+    )?;
+    let mut models: Vec<Box<dyn HeapModel>> = Vec::new(alloc);
+    models.push(Box::new(alloc, model)?)?;
+    Ok(replay(alloc, items, models, sink)?)
+}
+
+#[test]
+fn a_cycle_leaks_with_what_it_leads_to(rt: HostRuntime) -> Result<(), Fail> {
+    let alloc = rt.alloc();
+    let mut sink = MemSink::begin(alloc, 7);
+    let five = items_of(alloc, TRACE)?;
+    let cycle = items_of(alloc, CYCLE)?;
+    let freed = replay_counts(alloc, &five, 200, &mut sink)?;
+    let leaked = replay_counts(alloc, &cycle, 100, &mut sink)?;
+    let narrow = replay_counts(alloc, &cycle, 63, &mut sink)?;
+    assert_eq!(rt; freed, 1);
+    assert_eq!(rt; leaked, 1);
+    assert_eq!(rt; narrow, 1);
+    let wanted = "refcount capacity=200 leaked=0 freed=120 peak=72
+refcount capacity=100 leaked=64 freed=0 peak=64
+refcount capacity=63 leaked=0 freed=0 peak=48 exhausted=3
 ";
     assert_eq!(rt; sink.bytes(), wanted.as_bytes());
     Ok(())

@@ -120,7 +120,7 @@ fn the_live_curve_of_a_trace(rt: HostRuntime) -> Result<(), Fail> {
 fn a_trace_is_replayed(rt: HostRuntime) -> Result<(), Fail> {
     let alloc = rt.alloc();
     let mut files = files_with(alloc, "T", FIVE)?;
-    let rows: [(&str, &[u8]); 4] = [
+    let rows: [(&str, &[u8]); 5] = [
         (
             "replay --mark-sweep 96 --semispace 100 --nursery 48 --old 200 T",
             b"mark-sweep capacity=96 collections=1 marked=48 swept=48 peak=96\n\
@@ -138,6 +138,11 @@ fn a_trace_is_replayed(rt: HostRuntime) -> Result<(), Fail> {
         (
             "replay --semispace=100 T",
             b"semispace capacity=100 collections=1 copied=48 freed=0 peak=48 exhausted=3\n",
+        ),
+        (
+            "replay --refcount 96 --mark-sweep 96 T",
+            b"mark-sweep capacity=96 collections=1 marked=48 swept=48 peak=96\n\
+            refcount capacity=96 leaked=0 freed=120 peak=72\n",
         ),
     ];
     for (line, lines) in rows {

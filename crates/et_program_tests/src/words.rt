@@ -164,6 +164,7 @@ fn a_replay_names_its_models(rt: HostRuntime) -> Result<(), Fail> {
             nursery: 48,
             old: 200,
         }),
+        ref_count: None,
     };
     assert_eq!(rt; models, wanted);
     assert_eq!(rt; path, "T");

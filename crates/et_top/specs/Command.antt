@@ -70,19 +70,21 @@ generations None (Some old) = None
 generations (Some nursery) None = None
 
 abbrev pub is_any_model : Models → Bool
-is_any_model m = is_some m.mark_sweep || is_some m.semispace || is_some m.generational
+is_any_model m = is_some m.mark_sweep || is_some m.semispace || is_some m.generational || is_some m.ref_count
 
 -- the models, at least one
-abbrev pub models_of : Option ℕ → Option ℕ → Option Generations → Option Models
-models_of mark_sweep semispace generational =
-    let m : Models = record { mark_sweep = mark_sweep; semispace = semispace; generational = generational } in
+abbrev pub models_of : Option ℕ → Option ℕ → Option Generations → Option ℕ → Option Models
+models_of mark_sweep semispace generational ref_count =
+    let m : Models = record { mark_sweep = mark_sweep; semispace = semispace; generational = generational; ref_count = ref_count } in
     if is_any_model m then Some m else None
 
 abbrev pub replay_options : List Given → Option Models
 replay_options options =
-    if are_options (codes "mark-sweep" ∷ codes "semispace" ∷ codes "nursery" ∷ codes "old" ∷ []) options
+    if are_options (codes "mark-sweep" ∷ codes "semispace" ∷ codes "nursery" ∷ codes "old" ∷ codes "refcount" ∷ []) options
     then option_and_then (λ mark_sweep. option_and_then (λ semispace. option_and_then (λ nursery. option_and_then (λ old.
-    option_and_then (λ generational. models_of mark_sweep semispace generational) (generations nursery old))
+    option_and_then (λ generational. option_and_then (λ ref_count. models_of mark_sweep semispace generational ref_count)
+    (capacity (option_value (codes "refcount") options)))
+    (generations nursery old))
     (capacity (option_value (codes "old") options)))
     (capacity (option_value (codes "nursery") options)))
     (capacity (option_value (codes "semispace") options)))

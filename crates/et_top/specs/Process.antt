@@ -11,7 +11,7 @@ use Rattle.et_top.specs.declared.status.Status.TheVariants as status
 
 -- the kinds of its models, in the order of their lines
 abbrev pub model_kinds : List Kind
-model_kinds = kind.MarkSweep ∷ kind.SemiSpace ∷ kind.Generational ∷ []
+model_kinds = kind.MarkSweep ∷ kind.SemiSpace ∷ kind.Generational ∷ kind.RefCount ∷ []
 
 -- the status of words that are not there: words that are not UTF-8 are no command
 abbrev pub status_of_words : WordsFault → Status

@@ -55,6 +55,7 @@ abbrev pub policy_of : Models → Kind → Option Policy
 policy_of asked kind.MarkSweep = option_map (λ first. record { kind = kind.MarkSweep; first = first; second = 0 }) asked.mark_sweep
 policy_of asked kind.SemiSpace = option_map (λ first. record { kind = kind.SemiSpace; first = first; second = 0 }) asked.semispace
 policy_of asked kind.Generational = option_map (λ spaces. record { kind = kind.Generational; first = spaces.nursery; second = spaces.old }) asked.generational
+policy_of asked kind.RefCount = option_map (λ first. record { kind = kind.RefCount; first = first; second = 0 }) asked.ref_count
 
 abbrev pub policies_of : Models → List Kind → List Policy
 policies_of asked kinds = filter_map (policy_of asked) kinds

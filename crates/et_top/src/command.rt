@@ -26,6 +26,22 @@ pub struct Models {
     pub mark_sweep: Option<u64>,
     pub semispace: Option<u64>,
     pub generational: Option<Generations>,
+    pub ref_count: Option<u64>,
+}
+
+impl Models {
+    ghost use Rattle.std.specs.Prelude.{◌≡◌};
+    ghost use Rattle.et_top.specs.Command.{is_any_model};
+
+    /// Whether there is a model.
+    fn is_any(&self) -> bool
+        ensures { result ≡ is_any_model self.now }
+    {
+        self.mark_sweep.is_some()
+            || self.semispace.is_some()
+            || self.generational.is_some()
+            || self.ref_count.is_some()
+    }
 }
 
 /// A command with its options and operands.
@@ -122,7 +138,10 @@ fn spaces(nursery: Option<u64>, old: Option<u64>) -> Option<Option<Generations>>
 fn replay_options(given: &[Given<'_>]) -> Option<Models>
     ensures { result ≡ command.replay_options given.now }
 {
-    if !are_options(&[b"mark-sweep", b"semispace", b"nursery", b"old"], given) {
+    if !are_options(
+        &[b"mark-sweep", b"semispace", b"nursery", b"old", b"refcount"],
+        given,
+    ) {
         return None;
     }
     let mark_sweep = capacity(value_of(b"mark-sweep", given))?;
@@ -130,14 +149,14 @@ fn replay_options(given: &[Given<'_>]) -> Option<Models>
     let nursery = capacity(value_of(b"nursery", given))?;
     let old = capacity(value_of(b"old", given))?;
     let generational = spaces(nursery, old)?;
-    if mark_sweep.is_none() && semispace.is_none() && generational.is_none() {
-        return None;
-    }
-    Some(Models {
+    let ref_count = capacity(value_of(b"refcount", given))?;
+    let models = Models {
         mark_sweep,
         semispace,
         generational,
-    })
+        ref_count,
+    };
+    models.is_any().then_some(models)
 }
 
 /// The one operand.

@@ -29,6 +29,7 @@ fn policy_of(asked: &Models, kind: Kind) -> Option<Policy>
             let spaces = asked.generational?;
             (spaces.nursery, spaces.old)
         }
+        Kind::RefCount => (asked.ref_count?, 0),
     };
     Some(Policy {
         kind,

@@ -1,4 +1,4 @@
-//! What a process does: its words, the top call with the three models and a counter of its own, and its output handed
+//! What a process does: its words, the top call with the four models and a counter of its own, and its output handed
 //! on.
 ghost use Rattle.std.specs.Prelude.{◌≡◌, ◌⊎◌, ◌<◌, ℕ, Bool, Some, None, IsTrue, IfOk, IfErr, OnErr, false, map, drop, string_bytes};
 ghost use Rattle.std.specs.Vec.Iter.{into_iter_items};
@@ -18,6 +18,7 @@ use crate::top::elephant;
 use et_base::{NoMemory, Steps};
 use et_io::{Files, GatheringSink, Sink};
 use et_models::{Generational, MarkSweep, SemiSpace};
+use et_refcount::RefCount;
 use et_replay::HeapModel;
 use std::alloc::Global;
 use std::env::{self, Args, Env};
@@ -89,12 +90,14 @@ fn with_models<F: Files, O: Sink, E: Sink, L: Ledger>(
     models.push(Box::new(alloc, MarkSweep::begin(alloc))?)?;
     models.push(Box::new(alloc, SemiSpace::begin(alloc))?)?;
     models.push(Box::new(alloc, Generational::begin(alloc))?)?;
+    models.push(Box::new(alloc, RefCount::begin(alloc))?)?;
     let mut visits = Steps::<L>::begin(blank);
     Ok(elephant(alloc, words, files, out, err, models, &mut visits))
 }
 
-/// All that a process does, and the status with which it ends: the top call on its words, with three models of a heap
-/// in the order of their lines, mark-sweep, semispace and generational, and a counter of visits that is dropped then.
+/// All that a process does, and the status with which it ends: the top call on its words, with four models of a heap
+/// in the order of their lines, mark-sweep, semispace, generational and refcount, and a counter of visits that is
+/// dropped then.
 ///
 /// Words that are not there are refused as such that are no command, or for want of memory; then no file is read and
 /// nothing is put to out.

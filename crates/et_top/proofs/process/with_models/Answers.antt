@@ -4,9 +4,9 @@ use denote.Param.Object.{read_made}
 use Rattle.et_io.specs.Faults.{Rose}
 use Rattle.et_replay.specs.declared.model.Kind.{Kind}
 use Rattle.et_replay.specs.declared.model.HeapModel.{Ghosts}
-use Rattle.et_models.proofs.Boxes.{three_all}
+use Rattle.et_models.proofs.Boxes.{four_all}
 use Rattle.et_top.specs.Top.{IsDefined, GivesDefined}
-use Rattle.et_top.proofs.KindLemmas.{map_three}
+use Rattle.et_top.proofs.KindLemmas.{map_four}
 use Rattle.et_top.proofs.process.with_models.OwnLists.{own-1}
 use Rattle.et_top.proofs.process.with_models.Goals as goal
 
@@ -15,11 +15,13 @@ elephant-requires g c =
     let first = read_made {G = λ X. Ghosts X} own-1 (own-1.entry (inl tt)) (inl tt) refl (Type 0) (λ j z. j.1.is_new z) c.into_dyn_box.result.vtable c.into_dyn_box.result.value c.in_ok-new.field-0.value c.into_dyn_box.ensures.1 in
     let second = read_made {G = λ X. Ghosts X} own-1 (own-1.entry (inr (inl tt))) (inr (inl tt)) refl (Type 0) (λ j z. j.1.is_new z) c.into_dyn_box-in_ok-new-2.result.vtable c.into_dyn_box-in_ok-new-2.result.value c.in_ok-new-2.field-0.value c.into_dyn_box-in_ok-new-2.ensures.1 in
     let third = read_made {G = λ X. Ghosts X} own-1 (own-1.entry (inr (inr (inl tt)))) (inr (inr (inl tt))) refl (Type 0) (λ j z. j.1.is_new z) c.into_dyn_box-in_ok-new-3.result.vtable c.into_dyn_box-in_ok-new-3.result.value c.in_ok-new-3.field-0.value c.into_dyn_box-in_ok-new-3.ensures.1 in
+    let fourth = read_made {G = λ X. Ghosts X} own-1 (own-1.entry (inr (inr (inr (inl tt))))) (inr (inr (inr (inl tt)))) refl (Type 0) (λ j z. j.1.is_new z) c.into_dyn_box-in_ok-new-4.result.vtable c.into_dyn_box-in_ok-new-4.result.value c.in_ok-new-4.field-0.value c.into_dyn_box-in_ok-new-4.ensures.1 in
     record {
-      new = three_all (λ b. (own-1.entry b.vtable).1.is_new b.value) _ _ _ _ c.into_dyn_box.result c.into_dyn_box-in_ok-new-2.result c.into_dyn_box-in_ok-new-3.result c.new-models.ensures.items c.in_ok-push.ensures.items c.in_ok-push-2.ensures.items c.in_ok-push-3.ensures.items
+      new = four_all (λ b. (own-1.entry b.vtable).1.is_new b.value) _ _ _ _ _ c.into_dyn_box.result c.into_dyn_box-in_ok-new-2.result c.into_dyn_box-in_ok-new-3.result c.into_dyn_box-in_ok-new-4.result c.new-models.ensures.items c.in_ok-push.ensures.items c.in_ok-push-2.ensures.items c.in_ok-push-3.ensures.items c.in_ok-push-4.ensures.items
           (rw first (rw c.in_ok-new.ensures.ok c.begin.ensures.new))
           (rw second (rw c.in_ok-new-2.ensures.ok c.begin-2.ensures.new))
-          (rw third (rw c.in_ok-new-3.ensures.ok c.begin-3.ensures.new));
+          (rw third (rw c.in_ok-new-3.ensures.ok c.begin-3.ensures.new))
+          (rw fourth (rw c.in_ok-new-4.ensures.ok c.begin-4.ensures.new));
     }
 
 pub returns-clause-answers : goal.returns-clause-answers
@@ -27,7 +29,8 @@ returns-clause-answers g c held told d defined reached decides =
     let first = read_made {G = λ X. Ghosts X} own-1 (own-1.entry (inl tt)) (inl tt) refl Kind (λ j z. j.1.kind_of z) c.into_dyn_box.result.vtable c.into_dyn_box.result.value c.in_ok-new.field-0.value c.into_dyn_box.ensures.1 in
     let second = read_made {G = λ X. Ghosts X} own-1 (own-1.entry (inr (inl tt))) (inr (inl tt)) refl Kind (λ j z. j.1.kind_of z) c.into_dyn_box-in_ok-new-2.result.vtable c.into_dyn_box-in_ok-new-2.result.value c.in_ok-new-2.field-0.value c.into_dyn_box-in_ok-new-2.ensures.1 in
     let third = read_made {G = λ X. Ghosts X} own-1 (own-1.entry (inr (inr (inl tt)))) (inr (inr (inl tt))) refl Kind (λ j z. j.1.kind_of z) c.into_dyn_box-in_ok-new-3.result.vtable c.into_dyn_box-in_ok-new-3.result.value c.in_ok-new-3.field-0.value c.into_dyn_box-in_ok-new-3.ensures.1 in
-    let kinds = map_three (λ b. (own-1.entry b.vtable).1.kind_of b.value) _ _ _ _ c.into_dyn_box.result c.into_dyn_box-in_ok-new-2.result c.into_dyn_box-in_ok-new-3.result _ _ _ c.new-models.ensures.items c.in_ok-push.ensures.items c.in_ok-push-2.ensures.items c.in_ok-push-3.ensures.items first second third in
+    let fourth = read_made {G = λ X. Ghosts X} own-1 (own-1.entry (inr (inr (inr (inl tt))))) (inr (inr (inr (inl tt)))) refl Kind (λ j z. j.1.kind_of z) c.into_dyn_box-in_ok-new-4.result.vtable c.into_dyn_box-in_ok-new-4.result.value c.in_ok-new-4.field-0.value c.into_dyn_box-in_ok-new-4.ensures.1 in
+    let kinds = map_four (λ b. (own-1.entry b.vtable).1.kind_of b.value) _ _ _ _ _ c.into_dyn_box.result c.into_dyn_box-in_ok-new-2.result c.into_dyn_box-in_ok-new-3.result c.into_dyn_box-in_ok-new-4.result _ _ _ _ c.new-models.ensures.items c.in_ok-push.ensures.items c.in_ok-push-2.ensures.items c.in_ok-push-3.ensures.items c.in_ok-push-4.ensures.items first second third fourth in
     let at = subst (λ (of : List Kind). IsDefined of (map string_bytes c.args.words.now) held d) (sym kinds) defined in
     let read = Rose (g.F.Files.faults c.args.files.now) (g.F.Files.faults c.elephant.new.files) in
     let written = Rose (g.O.Sink.faults c.args.out.now) (g.O.Sink.faults c.elephant.new.out) in
