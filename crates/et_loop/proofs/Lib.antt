@@ -13,3 +13,7 @@ pub mod TurnSteps
 pub mod Counts
 pub mod Cuts
 pub mod Pacing
+pub mod Quiets
+pub mod Stretches
+pub mod Flushed
+pub mod Standing

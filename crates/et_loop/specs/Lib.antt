@@ -7,3 +7,4 @@ pub mod Stamping
 pub mod Told
 pub mod Visits
 pub mod Pace
+pub mod Quiet

@@ -3,8 +3,11 @@ use Rattle.std.specs.Prelude.{◌≡◌, ℕ, suc, Bool, true, false, if◌then�
 use Rattle.et_base.specs.declared.line.TraceLine.{TraceLine}
 use Rattle.et_base.specs.declared.line.TraceLine.TheVariants.{Finish}
 use Rattle.et_base.specs.declared.value.End.{End}
+use Rattle.et_base.specs.declared.value.End.TheVariants.{IllTyped, ObjectLimit}
 use Rattle.et_graph.specs.Graph.{Graph}
 use Rattle.et_state.specs.declared.records.Record.{Record}
+use Rattle.et_state.specs.declared.ends.EventEnd.{EventEnd}
+use Rattle.et_state.specs.declared.ends.EventEnd.TheVariants as ends
 use Rattle.et_state.specs.Outcome.{state_after, records_of}
 use Rattle.et_state.specs.Naming.{Mentions, mentions_after, lines_of}
 use Rattle.et_state.specs.History.{Setting, flush_lines, deaths_to, is_gone, is_flush_point, how_of, ending, outcome_step, settled}
@@ -32,6 +35,14 @@ due_state false after s = s
 abbrev pub last_lines : Bool → End → ℕ → List TraceLine → List TraceLine
 last_lines true end e lines = Finish e (how_of end) ∷ []
 last_lines false end e lines = lines ++ Finish e (how_of end) ∷ []
+
+-- how the history ends, if it does, where an event of the thread went so
+abbrev pub end_after : ℕ → EventEnd → Option End
+end_after thread ends.Done = None
+end_after thread ends.Waited = None
+end_after thread (ends.IllTyped method pc) = Some (IllTyped thread method pc)
+end_after thread ends.ObjectLimit = Some ObjectLimit
+end_after thread (ends.Native method) = None
 
 module _ {S : Type 0} (given : Setting S) (e : ℕ) (s : S) (m : Mentions) (s' : S) (m' : Mentions) (out out' : List ℕ) where
   -- the event after event e is done in state s

@@ -3,7 +3,7 @@ use Rattle.std.specs.Prelude.{◌≡◌, ℕ, suc, ◌<◌, ◌≤◌, ◌^◌, 
 use Rattle.et_base.specs.declared.value.End.{End}
 use Rattle.et_state.specs.declared.ends.EventEnd.{EventEnd}
 use Rattle.et_state.specs.declared.ends.EventEnd.TheVariants as ends
-use Rattle.et_graph.specs.Graph.{Graph}
+use Rattle.et_graph.specs.Graph.{Graph, IsMade}
 use Rattle.et_loop.specs.Kept.{IsStepTo, Settles}
 
 -- where the event was done, a legal step leads from g to h and loses these objects
@@ -38,3 +38,8 @@ pub record HasStamps (g : Graph) (stamps : List ℕ) : Type 0 where
 abbrev pub Stamped : Option End → ℕ → Graph → Graph → List ℕ → List ℕ → Type 0
 Stamped None e g h old new = StampsMark e g h (slice_index old) (slice_index new)
 Stamped (Some end) e g h old new = new ≡ old
+
+-- what is referred to was made
+pub record AreMade (g : Graph) : Type 0 where
+  pub roots : (r : ℕ) → Contains g.roots r → IsMade g r
+  pub pairs : (u x : ℕ) → Contains g.pairs (u, x) → IsMade g x

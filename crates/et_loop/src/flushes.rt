@@ -99,8 +99,9 @@ pub fn settle<G: Guest, L: Ledger>(
     requires sound { G.is_sound code.now (G.state machine.old) }
     requires stamps { HasStamps (G.graph_of (G.state machine.old)) tracer.old.stamps }
     requires room { G.has_places tracer.old.room (G.graph_of (G.state machine.old)).made }
-    ensures lines { (deaths : List (ℕ × ℕ)) → AreListed (G.graph_of (G.state machine.old))
-        (slice_index tracer.old.stamps) deaths → OnOk result (tracer.new.buffer.items
+    ensures lines { (deaths : List (ℕ × ℕ)) → (due ≡ true →
+        AreListed (G.graph_of (G.state machine.old)) (slice_index tracer.old.stamps) deaths) →
+        OnOk result (tracer.new.buffer.items
         ≡ tracer.old.buffer.items
         ++ lines_written_in tracer.old.format (due_lines due (flush_lines e deaths))) }
     ensures state { (here : ℕ → Bool) → ((o : ℕ) → IsTrue (here o)

@@ -1,13 +1,14 @@
 //! What is run.
-ghost use Rattle.std.specs.Prelude.{◌≡◌, ℕ, Bool, ◌+◌, ◌-◌, ◌<◌, ◌≤◌, ◌^◌, ◌↔◌, List, All, length, IfOk, OnOk, IsTrue, Contains, slice_index};
+ghost use Rattle.std.specs.Prelude.{◌≡◌, ℕ, Bool, ◌+◌, ◌<◌, ◌≤◌, ◌^◌, ◌↔◌, List, [], All, length, IfOk, OnOk, OnErr, IsTrue, slice_index};
 ghost use Rattle.et_graph.specs.Graph.{Graph, IsReached};
 ghost use Rattle.et_graph.specs.Listing.{death_pairs};
-ghost use Rattle.et_state.specs.Outcome.{Outcome, state_after};
+ghost use Rattle.et_state.specs.Outcome.{Outcome};
 ghost use Rattle.et_state.specs.Naming.{Names, IsNamed};
-ghost use Rattle.et_state.specs.Answers.{Answers, TicksWhereDone};
+ghost use Rattle.et_state.specs.Answers.{TicksWhereDone};
 ghost use Rattle.et_graph.specs.Listed.{AreListed};
 ghost use Rattle.et_graph.specs.Cleared.{IsClearedAndTied};
-ghost use Rattle.et_loop.specs.Stamping.{StepsWhereDone};
+ghost use Rattle.et_loop.specs.Quiet.{IsStretch, IsBrokenOff};
+ghost use Rattle.et_loop.specs.Stamping.{AreMade, HasStamps};
 
 use crate::program::Program;
 use et_base::{NoMemory, ObjectId, Steps, ThreadId};
@@ -16,8 +17,22 @@ use et_state::{EventEnd, Lines};
 use std::alloc::Global;
 use std::sync::ledger::Ledger;
 
-/// A machine that does events of a program, one at a time, says which objects an event took a reference away from, and
-/// finds the deaths of a flush by stamps. The run knows of it nothing but this.
+/// The place of a thread among those that have not ended, and how many events it may do at once.
+#[derive(Clone, Copy)]
+pub struct TimeSlice {
+    pub place: usize,
+    pub events: u64,
+}
+
+/// Events that were done at once: so many quiet ones, and how the one behind them went.
+#[derive(Clone, Copy)]
+pub struct Stretch {
+    pub quiet: u64,
+    pub end: EventEnd,
+}
+
+/// A machine that does events of a program, says which objects an event took a reference away from, and finds the deaths of a
+/// flush by stamps. The run knows of it nothing but this.
 pub trait Guest {
     /// What it runs.
     type Code: Program;
@@ -115,28 +130,34 @@ pub trait Guest {
         ensures clock { OnOk result (clock_of (state self.new) ≡ clock_of (state self.old)) }
         ensures sound { OnOk result (is_sound code.now (state self.new)) };
 
-    /// The event of a thread that has not ended. Whatever it answers, it visits eight objects at most, and one for each that
-    /// the event makes.
-    fn event<L: Ledger>(
+    /// Does events of the thread at a place among those that have not ended: any number of quiet ones, which have no records and
+    /// make no object, begin no thread and end none; and then one more, whatever it is. What the quiet ones lost is stamped; what
+    /// the last one lost and made is not yet. Whatever it answers, it visits eight objects at most for each, and one for each
+    /// that the last one makes. After `NoMemory`, which may come in any of them, the machine may only be dropped.
+    fn events<L: Ledger>(
         &mut self,
         alloc: Global,
         code: &Self::Code,
-        thread: ThreadId,
+        slice: TimeSlice,
         out: &mut Lines,
+        stamps: &mut Stamps,
         visits: &mut Steps<L>,
-    ) -> Result<EventEnd, NoMemory>
-        requires clock { clock_of (state self.old) < 2 ^ 40 }
+    ) -> Result<Stretch, NoMemory>
+        requires clock { clock_of (state self.old) + slice.events ≤ 2 ^ 40 }
+        requires some { 0 < slice.events }
         requires sound { is_sound code.now (state self.old) }
-        requires thread { Contains (unended_of (state self.old)) thread }
-        ensures answers { IfOk result (λ end. Answers (event_of code.now
-            (state self.old) thread) end (state self.old) (state self.new) out.old out.new) }
-        ensures step { IfOk result (λ end. StepsWhereDone end
-            (graph_of (state self.old)) (graph_of (state self.new)) (lost_of self.new)) }
-        ensures visits { visits.new ≤ visits.old + 8 + ((graph_of (state_after (state self.old)
-            (event_of code.now (state self.old) thread))).made - (graph_of (state self.old)).made) }
+        requires place { slice.place < length (unended_of (state self.old)) }
+        requires made { AreMade (graph_of (state self.old)) }
+        requires stamps { HasStamps (graph_of (state self.old)) stamps.old }
+        requires empty { out.old ≡ [] }
+        ensures stretch { IfOk result (λ stretch. IsStretch (event_of code.now) unended_of graph_of
+            slice.place slice.events (clock_of (state self.old)) (state self.old) stamps.old
+            stamps.new visits.old visits.new (state self.new) out.new (lost_of self.new) stretch) }
+        ensures broken { OnErr result (IsBrokenOff (event_of code.now) unended_of graph_of
+            slice.place slice.events (clock_of (state self.old)) (state self.old) stamps.old
+            stamps.new visits.old visits.new) }
         ensures sound { OnOk result (is_sound code.now (state self.new)) }
-        ensures clock { IfOk result
-            (λ end. TicksWhereDone end (clock_of (state self.old)) (clock_of (state self.new))) }
-        ensures named { OnOk result (All (IsNamed (Self.Code.names code.now)) out.old →
-            All (IsNamed (Self.Code.names code.now)) out.new) };
+        ensures clock { IfOk result (λ stretch. TicksWhereDone stretch.end
+            (clock_of (state self.old) + stretch.quiet) (clock_of (state self.new))) }
+        ensures named { OnOk result (All (IsNamed (Self.Code.names code.now)) out.new) };
 }

@@ -13,10 +13,12 @@ mod options;
 mod program;
 mod run;
 mod schedule;
+mod slices;
 mod tracer;
 
 pub use et_state::{Options, Schedule};
-pub use guest::Guest;
+pub use guest::{Guest, Stretch, TimeSlice};
+pub use marks::stamp_each;
 pub use options::Ran;
 pub use program::Program;
 pub use run::run_guest;

@@ -7,7 +7,7 @@ use et_base::{NoMemory, ObjectId};
 use et_graph::Stamps;
 
 /// Writes this stamp for each of the objects.
-fn stamp_each(stamps: &mut Stamps, objects: &[ObjectId], event: u64)
+pub fn stamp_each(stamps: &mut Stamps, objects: &[ObjectId], event: u64)
     requires places { (o : ℕ) → Contains objects.now o → o < length stamps.old }
     requires event { event ≤ 2 ^ 40 }
     ensures long { length stamps.new ≡ length stamps.old }

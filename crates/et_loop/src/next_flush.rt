@@ -1,5 +1,5 @@
 //! When the next flush is due.
-ghost use Rattle.std.specs.Prelude.{◌≡◌, ◌+◌, ◌≤◌, ◌^◌};
+ghost use Rattle.std.specs.Prelude.{◌≡◌, ◌+◌, ◌<◌, ◌≤◌, ◌^◌};
 ghost use Rattle.et_state.specs.History.{is_flush_point};
 ghost use Rattle.et_loop.specs.Pace.{IsNextFlush};
 
@@ -30,5 +30,20 @@ impl NextFlush {
         }
         self.event = e + interval;
         true
+    }
+
+    /// Of so many events from event e on, as many as come before the next flush or up to the event after which it is due.
+    pub fn up_to(&self, interval: u64, e: u64, events: u64) -> u64
+        requires some { 0 < events }
+        requires next { IsNextFlush interval (e + 1) self.now.event }
+        ensures some { 0 < result }
+        ensures few { result ≤ events }
+        ensures before { 0 < interval → e + result ≤ self.now.event }
+    {
+        if interval == 0 || events <= self.event - e {
+            events
+        } else {
+            self.event - e
+        }
     }
 }

@@ -81,11 +81,13 @@ pub fn run_guest<G: Guest, O: Sink, L: Ledger>(
     let mut e = 0;
     'events: loop {
         tracer.buffer.clear();
-        let next = match turn(alloc, code, options, e, machine, &mut tracer, visits) {
-            Ok(next) => next,
+        let progress = match turn(code, options, e, machine, &mut tracer, visits) {
+            Ok(progress) => progress,
             Err(_) => return Err(RunFault::NoMemory),
         };
         put_all(sink, &tracer.buffer)?;
+        e += progress.quiet;
+        let next = progress.end;
         match next {
             Some(end) => return Ok(Ran { end, event: e }),
             None => e += 1,

@@ -1,19 +1,17 @@
-//! One turn of the run: a flush comes where it is due, then the next event is done, and what it lost and made is stamped.
-ghost use Rattle.std.specs.Prelude.{◌≡◌, ℕ, Bool, false, ◌+◌, ◌-◌, ◌<◌, ◌≤◌, ◌^◌, ◌↔◌, ◌++◌, ◌∷◌, [], All, IsTrue, length, IfOk, OnOk, IfNone, slice_index};
+//! One turn of the run: a flush comes where it is due, then events are done, and what the last one lost and made is stamped.
+ghost use Rattle.std.specs.Prelude.{◌≡◌, ◌≢◌, ℕ, ◌+◌, ◌<◌, ◌≤◌, ◌^◌, ◌++◌, ◌∷◌, All, Contains, length, IfOk, OnOk, OnErr, IfNone, slice_index};
 ghost use Rattle.et_base.specs.declared.line.TraceLine.TheVariants.{Header};
-ghost use Rattle.et_graph.specs.Graph.{Graph, IsMade, IsReached, Decides};
 ghost use Rattle.et_state.specs.Naming.{IsNamed, nothing_mentioned, mentions_after, lines_of};
-ghost use Rattle.et_state.specs.History.{is_flush_point, deaths_to, is_gone};
+ghost use Rattle.et_state.specs.History.{is_flush_point};
 ghost use Rattle.et_state.specs.Options.{AreOptions};
 ghost use Rattle.et_text.specs.Ranges.{header_version};
 ghost use Rattle.et_binary.specs.Formats.{lines_written_in};
 ghost use Rattle.et_loop.specs.Options.{setting_of};
 ghost use Rattle.et_loop.specs.Naming.{HasClasses};
-ghost use Rattle.et_loop.specs.Run.{time_noted, Goes, Turns};
-ghost use Rattle.et_graph.specs.Listed.{AreListed};
 ghost use Rattle.et_loop.specs.Pace.{IsNextFlush, IsRota};
-ghost use Rattle.et_loop.specs.Stamping.{HasStamps, Stamped, Passes};
-ghost use Rattle.et_loop.specs.Visits.{visits_of_event, visits_of_turn};
+ghost use Rattle.et_loop.specs.Quiet.{IsStep, IsBrokenStep, IsTurn, IsBrokenTurn};
+ghost use Rattle.et_loop.specs.Run.{end_after};
+ghost use Rattle.et_loop.specs.Stamping.{AreMade, HasStamps, Restamps};
 
 use crate::flushes::{conclude, settle};
 use crate::guest::Guest;
@@ -22,7 +20,8 @@ use crate::naming::Numbering;
 use crate::next_flush::NextFlush;
 use crate::program::Program;
 use crate::schedule::Rota;
-use et_base::{End, Format, NoMemory, Steps, TraceLine};
+use crate::slices::next_slice;
+use et_base::{End, Format, NoMemory, Steps, ThreadId, TraceLine};
 use et_binary::{header_version, write_line_in};
 use et_graph::Stamps;
 use et_state::{EventEnd, Lines, Options};
@@ -32,6 +31,8 @@ use std::sync::ledger::Ledger;
 /// What a run keeps beside its machine. R is the room in which its flushes work.
 #[derive(Drop)]
 pub struct Tracer<R: Drop> {
+    /// Where its lists are.
+    pub alloc: Global,
     /// The stamp of each object.
     pub stamps: Stamps,
     /// The room of a flush.
@@ -50,73 +51,148 @@ pub struct Tracer<R: Drop> {
     pub rota: Rota,
 }
 
-/// The next event, or how the history ends after event e. Whatever it answers, it visits objects eight times at most, and
-/// once for each that the event makes.
+/// How far a turn went: so many quiet events were done, and then one more, or the history ended before that one.
+#[derive(Clone, Copy)]
+pub struct Progress {
+    pub quiet: u64,
+    pub end: Option<End>,
+}
+
+/// How the history ends, if it does, where an event of this thread went so.
+fn end_after(thread: ThreadId, end: EventEnd) -> Option<End>
+    requires { (method : ℕ) → end ≢ EventEnd.Native method }
+    ensures { result ≡ end_after thread end }
+{
+    match end {
+        EventEnd::Done | EventEnd::Waited => None,
+        EventEnd::IllTyped { method, pc } => Some(End::IllTyped { thread, method, pc }),
+        EventEnd::ObjectLimit => Some(End::ObjectLimit),
+        EventEnd::Native { .. } => unreachable!(),
+    }
+}
+
+/// Writes the lines of the newest event, which is the one after event e, and stamps what it lost and made. There were so many
+/// objects before it, and they had places.
+fn tell<G: Guest>(
+    code: &G::Code,
+    format: Format,
+    e: u64,
+    before: u32,
+    machine: &G,
+    tracer: &mut Tracer<G::Room>,
+) -> Result<(), NoMemory>
+    requires named { All (IsNamed (G.Code.names code.now)) tracer.old.records }
+    requires classes { HasClasses (G.Code.names code.now) tracer.old.numbering }
+    requires clock { e < 2 ^ 40 }
+    requires more { before ≤ (G.graph_of (G.state machine.now)).made }
+    requires lost { (o : ℕ) →
+        Contains (G.lost_of machine.now) o → o ≤ (G.graph_of (G.state machine.now)).made }
+    requires stamps { before < length tracer.old.stamps }
+    requires room { G.has_places tracer.old.room before }
+    ensures mentions { OnOk result (tracer.new.numbering ≡ mentions_after (G.Code.names code.now)
+        tracer.old.numbering tracer.old.records) }
+    ensures lines { OnOk result (tracer.new.buffer.items
+        ≡ tracer.old.buffer.items ++ lines_written_in format (lines_of (G.Code.names code.now)
+        tracer.old.numbering tracer.old.records)) }
+    ensures classes { OnOk result (HasClasses (G.Code.names code.now) tracer.new.numbering) }
+    ensures stamps { OnOk result (Restamps e before (G.graph_of (G.state machine.now)).made
+        (G.lost_of machine.now) (slice_index tracer.old.stamps) (slice_index tracer.new.stamps)) }
+    ensures places { OnOk result
+        (HasStamps (G.graph_of (G.state machine.now)) tracer.new.stamps) }
+    ensures room { OnOk result
+        (G.has_places tracer.new.room (G.graph_of (G.state machine.now)).made) }
+    ensures format { tracer.new.format ≡ tracer.old.format }
+    ensures next_flush { tracer.new.next_flush ≡ tracer.old.next_flush }
+    ensures rota { tracer.new.rota ≡ tracer.old.rota }
+{
+    tracer
+        .numbering
+        .write_records(format, code, tracer.records.records(), &mut tracer.buffer)?;
+    restamp(machine, e, before, &mut tracer.stamps, &mut tracer.room)
+}
+
+/// The events that one thread may do at once after event e, or how the history ends. Whatever it answers, it visits objects
+/// eight times at most for each event, and once for each that the last one makes.
 fn step<G: Guest, L: Ledger>(
-    alloc: Global,
     code: &G::Code,
     options: &Options,
     e: u64,
+    due: bool,
     machine: &mut G,
     tracer: &mut Tracer<G::Room>,
     visits: &mut Steps<L>,
-) -> Result<Option<End>, NoMemory>
+) -> Result<Progress, NoMemory>
     requires options { AreOptions options.now }
     requires limit { e ≤ options.now.limit }
     requires clock { G.clock_of (G.state machine.old) ≡ e }
     requires sound { G.is_sound code.now (G.state machine.old) }
-    requires made { (o : ℕ) → IsReached (G.graph_of (G.state machine.old)) o →
-        IsMade (G.graph_of (G.state machine.old)) o }
+    requires made { AreMade (G.graph_of (G.state machine.old)) }
     requires stamps { HasStamps (G.graph_of (G.state machine.old)) tracer.old.stamps }
     requires room { G.has_places tracer.old.room (G.graph_of (G.state machine.old)).made }
     requires classes { HasClasses (G.Code.names code.now) tracer.old.numbering }
     requires format { tracer.old.format ≡ options.now.format }
+    requires due { due ≡ is_flush_point options.now.interval e }
+    requires next_flush { IsNextFlush options.now.interval (e + 1) tracer.old.next_flush.event }
     requires rota { IsRota options.now.schedule e tracer.old.rota }
-    ensures goes { IfOk result
-        (λ end. Goes (setting_of (G.event_of code.now) G.unended_of G.graph_of G.flushed_of
-        (G.Code.names code.now) options.now) e (G.state machine.old) tracer.old.numbering (G.state
-        machine.new) tracer.new.numbering tracer.old.buffer.items tracer.new.buffer.items end) }
-    ensures visits { visits.new ≤ visits.old + visits_of_event (setting_of (G.event_of code.now)
-        G.unended_of G.graph_of G.flushed_of (G.Code.names code.now) options.now)
-        e (G.state machine.old) }
-    ensures stamped { IfOk result (λ end. Stamped end e (G.graph_of (G.state machine.old))
-        (G.graph_of (G.state machine.new)) tracer.old.stamps tracer.new.stamps) }
+    ensures step { IfOk result (λ progress. IsStep (setting_of (G.event_of code.now) G.unended_of
+        G.graph_of G.flushed_of (G.Code.names code.now) options.now) e (G.state machine.old)
+        tracer.old.stamps visits.old visits.new tracer.old.numbering (G.state machine.new)
+        tracer.new.numbering tracer.old.buffer.items tracer.new.buffer.items tracer.new.stamps
+        progress) }
+    ensures broken { OnErr result (IsBrokenStep (setting_of (G.event_of code.now) G.unended_of
+        G.graph_of G.flushed_of (G.Code.names code.now) options.now) e (G.state machine.old)
+        tracer.old.stamps visits.old visits.new) }
     ensures stamps { OnOk result (HasStamps (G.graph_of (G.state machine.new)) tracer.new.stamps) }
     ensures room { OnOk result
         (G.has_places tracer.new.room (G.graph_of (G.state machine.new)).made) }
     ensures classes { OnOk result (HasClasses (G.Code.names code.now) tracer.new.numbering) }
     ensures format { OnOk result (tracer.new.format ≡ options.now.format) }
     ensures sound { OnOk result (G.is_sound code.now (G.state machine.new)) }
-    ensures limit { IfOk result (λ end. IfNone end (e < options.now.limit)) }
-    ensures clock { IfOk result (λ end. IfNone end (G.clock_of (G.state machine.new) ≡ e + 1)) }
-    ensures next_flush { OnOk result (tracer.new.next_flush ≡ tracer.old.next_flush) }
-    ensures rota { IfOk result
-        (λ end. IfNone end (IsRota options.now.schedule (e + 1) tracer.new.rota)) }
+    ensures within { IfOk result (λ progress. e + progress.quiet ≤ options.now.limit) }
+    ensures limit { IfOk result
+        (λ progress. IfNone progress.end (e + progress.quiet < options.now.limit)) }
+    ensures clock { IfOk result (λ progress. IfNone progress.end
+        (G.clock_of (G.state machine.new) ≡ e + progress.quiet + 1)) }
+    ensures next_flush { IfOk result (λ progress. IfNone progress.end
+        (IsNextFlush options.now.interval (e + progress.quiet + 1) tracer.new.next_flush.event)) }
+    ensures rota { IfOk result (λ progress. IfNone progress.end
+        (IsRota options.now.schedule (e + progress.quiet + 1) tracer.new.rota)) }
 {
     let count = machine.unended();
     if count == 0 {
-        return Ok(Some(End::Finished));
+        return Ok(Progress {
+            quiet: 0,
+            end: Some(End::Finished),
+        });
     }
     if e == options.limit {
-        return Ok(Some(End::EventLimit));
+        return Ok(Progress {
+            quiet: 0,
+            end: Some(End::EventLimit),
+        });
     }
-    let thread = machine.unended_at(tracer.rota.next_place(options, e, count));
+    let slice = next_slice(options, e, due, count, &tracer.next_flush, &mut tracer.rota);
+    let thread = machine.unended_at(slice.place);
     let before = machine.made();
     tracer.records.clear();
-    match machine.event(alloc, code, thread, &mut tracer.records, visits)? {
-        EventEnd::Done | EventEnd::Waited => {
-            tracer.numbering.write_records(
-                options.format,
-                code,
-                tracer.records.records(),
-                &mut tracer.buffer,
-            )?;
-            restamp(machine, e, before, &mut tracer.stamps, &mut tracer.room)?;
-            Ok(None)
+    let stretch = machine.events(
+        tracer.alloc,
+        code,
+        slice,
+        &mut tracer.records,
+        &mut tracer.stamps,
+        visits,
+    )?;
+    let quiet = stretch.quiet;
+    match end_after(thread, stretch.end) {
+        None => {
+            tell(code, options.format, e + quiet, before, machine, tracer)?;
+            Ok(Progress { quiet, end: None })
         }
-        EventEnd::IllTyped { method, pc } => Ok(Some(End::IllTyped { thread, method, pc })),
-        EventEnd::ObjectLimit => Ok(Some(End::ObjectLimit)),
-        EventEnd::Native { .. } => unreachable!(),
+        Some(end) => Ok(Progress {
+            quiet,
+            end: Some(end),
+        }),
     }
 }
 
@@ -158,6 +234,7 @@ impl<R: Drop> Tracer<R> {
         let mut stamps = Stamps::begin(alloc);
         stamps.grow(objects)?;
         Ok(Tracer {
+            alloc,
             stamps,
             room,
             numbering,
@@ -170,67 +247,65 @@ impl<R: Drop> Tracer<R> {
     }
 }
 
-/// One turn of the run after event e: a flush comes where it is due, and then the next event is done, or the history
-/// ends. After `NoMemory` too it made no more visits of objects than the turn may.
+/// One turn of the run after event e: a flush comes where it is due, and then events are done at once, the last of which alone
+/// may have lines, or the history ends. After `NoMemory` too it made no more visits of objects than the turn may.
 pub fn turn<G: Guest, L: Ledger>(
-    alloc: Global,
     code: &G::Code,
     options: &Options,
     e: u64,
     machine: &mut G,
     tracer: &mut Tracer<G::Room>,
     visits: &mut Steps<L>,
-) -> Result<Option<End>, NoMemory>
+) -> Result<Progress, NoMemory>
     requires options { AreOptions options.now }
     requires limit { e ≤ options.now.limit }
     requires clock { G.clock_of (G.state machine.old) ≡ e }
     requires sound { G.is_sound code.now (G.state machine.old) }
-    requires made { (o : ℕ) → IsReached (G.graph_of (G.state machine.old)) o →
-        IsMade (G.graph_of (G.state machine.old)) o }
+    requires made { AreMade (G.graph_of (G.state machine.old)) }
     requires stamps { HasStamps (G.graph_of (G.state machine.old)) tracer.old.stamps }
     requires room { G.has_places tracer.old.room (G.graph_of (G.state machine.old)).made }
     requires classes { HasClasses (G.Code.names code.now) tracer.old.numbering }
     requires format { tracer.old.format ≡ options.now.format }
     requires next_flush { IsNextFlush options.now.interval e tracer.old.next_flush.event }
     requires rota { IsRota options.now.schedule e tracer.old.rota }
-    ensures turns { (reached : Graph → ℕ → Bool) →
-        Decides reached → (last : ℕ → ℕ) → AreListed (G.graph_of (G.state machine.old))
-        (slice_index tracer.old.stamps) (let g = G.graph_of (G.state machine.old)
-        in deaths_to (reached g) (is_gone g) (time_noted (reached g) last e) g.made) → IfOk result
-        (λ end. Turns reached (setting_of (G.event_of code.now) G.unended_of G.graph_of G.flushed_of
-        (G.Code.names code.now) options.now) e (G.state machine.old) last tracer.old.numbering
-        (G.state machine.new) (time_noted (reached (G.graph_of (G.state machine.old))) last e)
-        tracer.new.numbering tracer.old.buffer.items tracer.new.buffer.items end) }
-    ensures visits { (reached : Graph → ℕ → Bool) → Decides reached → visits.new ≤ visits.old
-        + visits_of_turn reached (setting_of (G.event_of code.now) G.unended_of G.graph_of
-        G.flushed_of (G.Code.names code.now) options.now) G.flush_visits_of
-        e (G.state machine.old) }
-    ensures passes { IfOk result (λ end. IfNone end (Passes
-        (is_flush_point options.now.interval e) e (G.graph_of (G.state machine.old)) (G.graph_of
-        (G.state machine.new)) (slice_index tracer.old.stamps) (slice_index tracer.new.stamps))) }
-    ensures stamps { IfOk result
-        (λ end. IfNone end (HasStamps (G.graph_of (G.state machine.new)) tracer.new.stamps)) }
-    ensures room { IfOk result
-        (λ end. IfNone end (G.has_places tracer.new.room (G.graph_of (G.state machine.new)).made)) }
-    ensures classes { IfOk result
-        (λ end. IfNone end (HasClasses (G.Code.names code.now) tracer.new.numbering)) }
-    ensures format { IfOk result (λ end. IfNone end (tracer.new.format ≡ options.now.format)) }
-    ensures sound { IfOk result
-        (λ end. IfNone end (G.is_sound code.now (G.state machine.new))) }
-    ensures limit { IfOk result (λ end. IfNone end (e < options.now.limit)) }
-    ensures clock { IfOk result (λ end. IfNone end (G.clock_of (G.state machine.new) ≡ e + 1)) }
-    ensures next_flush { IfOk result (λ end. IfNone end
-        (IsNextFlush options.now.interval (e + 1) tracer.new.next_flush.event)) }
-    ensures rota { IfOk result
-        (λ end. IfNone end (IsRota options.now.schedule (e + 1) tracer.new.rota)) }
+    ensures turn { IfOk result (λ progress. IsTurn (setting_of (G.event_of code.now) G.unended_of
+        G.graph_of G.flushed_of (G.Code.names code.now) options.now) e (G.state machine.old)
+        tracer.old.stamps visits.old visits.new G.flush_visits_of tracer.old.numbering
+        (G.state machine.new) tracer.new.numbering tracer.old.buffer.items tracer.new.buffer.items
+        tracer.new.stamps progress) }
+    ensures broken { OnErr result (IsBrokenTurn (setting_of (G.event_of code.now) G.unended_of
+        G.graph_of G.flushed_of (G.Code.names code.now) options.now) e (G.state machine.old)
+        tracer.old.stamps visits.old visits.new G.flush_visits_of) }
+    ensures stamps { IfOk result (λ progress. IfNone progress.end
+        (HasStamps (G.graph_of (G.state machine.new)) tracer.new.stamps)) }
+    ensures room { IfOk result (λ progress. IfNone progress.end
+        (G.has_places tracer.new.room (G.graph_of (G.state machine.new)).made)) }
+    ensures classes { IfOk result (λ progress. IfNone progress.end
+        (HasClasses (G.Code.names code.now) tracer.new.numbering)) }
+    ensures format { IfOk result (λ progress. IfNone progress.end
+        (tracer.new.format ≡ options.now.format)) }
+    ensures sound { IfOk result (λ progress. IfNone progress.end
+        (G.is_sound code.now (G.state machine.new))) }
+    ensures within { IfOk result (λ progress. e + progress.quiet ≤ options.now.limit) }
+    ensures limit { IfOk result
+        (λ progress. IfNone progress.end (e + progress.quiet < options.now.limit)) }
+    ensures clock { IfOk result (λ progress. IfNone progress.end
+        (G.clock_of (G.state machine.new) ≡ e + progress.quiet + 1)) }
+    ensures next_flush { IfOk result (λ progress. IfNone progress.end
+        (IsNextFlush options.now.interval (e + progress.quiet + 1) tracer.new.next_flush.event)) }
+    ensures rota { IfOk result (λ progress. IfNone progress.end
+        (IsRota options.now.schedule (e + progress.quiet + 1) tracer.new.rota)) }
 {
     let due = tracer.next_flush.pass(options.interval, e);
     settle(code, due, e, machine, tracer, visits)?;
-    match step(alloc, code, options, e, machine, tracer, visits)? {
-        None => Ok(None),
-        Some(end) => {
-            conclude(code, due, e, &end, machine, tracer, visits)?;
-            Ok(Some(end))
+    let progress = step(code, options, e, due, machine, tracer, visits)?;
+    let last = e + progress.quiet;
+    let end = progress.end;
+    match end {
+        None => Ok(progress),
+        Some(how) => {
+            conclude(code, due, last, &how, machine, tracer, visits)?;
+            Ok(progress)
         }
     }
 }

@@ -3,4 +3,5 @@ mod Counting
 mod Flushing
 mod Starting
 mod Running
+mod Stretching
 pub mod OneTrace

@@ -8,13 +8,14 @@ ghost use Rattle.et_state.specs.State.{Kept, kept_of};
 
 use crate::named::NamedProgram;
 use crate::room::GuestRoom;
-use crate::steps::{machine_event, machine_flush};
+use crate::steps::machine_flush;
+use crate::stretches::stretch;
 use crate::threads::nth_unended;
 use et_base::{NoMemory, ObjectId, Steps, ThreadId};
 use et_graph::{Death, Stamps};
-use et_loop::Guest;
+use et_loop::{Guest, Stretch, TimeSlice};
 use et_program::Program;
-use et_state::{EventEnd, Lines, Machine};
+use et_state::{Lines, Machine};
 use std::alloc::Global;
 use std::marker::{Model, PhantomData};
 use std::sync::ledger::Ledger;
@@ -124,20 +125,22 @@ impl<'a> Guest for ProgramGuest<'a> {
         )
     }
 
-    fn event<L: Ledger>(
+    fn events<L: Ledger>(
         &mut self,
         alloc: Global,
         code: &NamedProgram<'a>,
-        thread: ThreadId,
+        slice: TimeSlice,
         out: &mut Lines,
+        stamps: &mut Stamps,
         visits: &mut Steps<L>,
-    ) -> Result<EventEnd, NoMemory> {
-        machine_event(
+    ) -> Result<Stretch, NoMemory> {
+        stretch(
             alloc,
             code.program(),
             &mut self.machine,
-            thread,
+            slice,
             out,
+            stamps,
             visits,
         )
     }

@@ -7,6 +7,7 @@ mod named;
 mod program_run;
 mod room;
 mod steps;
+mod stretches;
 mod threads;
 mod turns;
 

@@ -1,4 +1,4 @@
-use Rattle.std.proofs.Common.{◌≡◌, ℕ, ◌+◌, ◌<◌, Option, IfNone, refl, ◌∙◌, sym, subst, add-one, get_or, arith, rules}
+use Rattle.std.proofs.Common.{◌≡◌, ℕ, ◌+◌, ◌*◌, ◌<◌, Option, IfNone, refl, ◌∙◌, sym, subst, add-one, get_or, arith, rules}
 use Rattle.et_base.specs.declared.value.End.{End}
 use Rattle.et_io.specs.Sink.{with_more, TakesPrefix}
 use Rattle.et_graph.proofs.Walks.{is_reached, is_reached_decides}
@@ -8,7 +8,9 @@ use Rattle.et_loop.specs.Naming.{HasClasses}
 use Rattle.et_loop.proofs.RunLemmas.{running_start, turn_end, front_start, front_nothing, front_now, front_turn, on_any, noted_before}
 use Rattle.et_loop.specs.Stamping.{HasStamps, Passes}
 use Rattle.et_loop.specs.Pace.{IsNextFlush, IsRota}
-use Rattle.et_loop.proofs.Turns.{told_first, told_made}
+use Rattle.et_loop.proofs.Turns.{told_first}
+use Rattle.et_loop.proofs.Quiets.{told_there}
+use Rattle.et_loop.proofs.Standing.{stands_on}
 use Rattle.et_loop.proofs.Counts.{none_so_far, more_so_far, last_allowed, cut_allowed, passes_grow, going_few, ending_few}
 use Rattle.et_loop.proofs.Cuts.{cut_first, cut_here, cut_putting}
 use Rattle.et_loop.proofs.Joins.{graphs, graph_first, running_as, listed_here, next_runs, next_told}
@@ -74,7 +76,7 @@ turn-requires-clause-made g c =
     let G = g.G.Guest in
     let given = setting_of (G.event_of c.args.code.now) G.unended_of G.graph_of G.flushed_of (g.G.Code.Program.names c.args.code.now) c.args.options.now in
     let start = G.state c.args.machine.now in
-    told_made (graphs is_reached is_reached_decides given start c.args.made.now) c.events.e (G.graph_of (G.state c.events.machine)) (λ o. get_or c.events.tracer.stamps o 0) (c.events.invariant.told is_reached is_reached_decides)
+    told_there (graphs is_reached is_reached_decides given start c.args.made.now) c.events.e (G.graph_of (G.state c.events.machine)) (λ o. get_or c.events.tracer.stamps o 0) (c.events.invariant.told is_reached is_reached_decides)
 
 pub returns-in-Err-turn-clause-prefix : goal.returns-in-Err-turn-clause-prefix
 returns-in-Err-turn-clause-prefix g c reached decides =
@@ -88,74 +90,92 @@ returns-in_err-put_all-2-clause-prefix g c reached decides =
     let G = g.G.Guest in
     let given = setting_of (G.event_of c.args.code.now) G.unended_of G.graph_of G.flushed_of (g.G.Code.Program.names c.args.code.now) c.args.options.now in
     let start = G.state c.args.machine.now in
-    let last = λ (o : ℕ). noted_before reached given start c.args.made.now o c.events.e in
-    let runs = c.events.invariant.runs reached decides in
-    let listed = listed_here reached decides given start c.args.made.now c.events.e _ _ _ _ runs (λ o. get_or c.events.tracer.stamps o 0) (c.events.invariant.told reached decides) in
-    on_any c.from_residual-in_err-put_all-2.result (front_turn reached given start c.args.made.now c.events.e _ _ _ _ _ runs c.in-Ok-turn.next _ _ _ _ _ c.clear.ensures.items (c.in-Ok-turn.ensures.turns reached decides last listed) (g.O.Sink.taken c.put_all-in-events.new.sink) (subst (λ b. TakesPrefix (g.O.Sink.taken c.events.sink) (g.O.Sink.taken c.put_all-in-events.new.sink) b) c.deref-in-events.ensures.value c.in_err-put_all-2.ensures.err))
+    let turn = c.in-Ok-turn.ensures.turn in
+    let e : ℕ = c.events.e + c.in-Ok-turn.progress.quiet in
+    let stands = stands_on reached decides given G.flush_visits_of start c.args.made.now c.events.tracer.numbering (g.O.Sink.taken c.args.sink.now) (g.O.Sink.taken c.events.sink) c.args.visits.now c.in-Ok-turn.progress.quiet c.events.e (G.state c.events.machine) turn.from c.events.tracer.stamps turn.between c.events.visits
+    (record { runs = c.events.invariant.runs reached decides; told = c.events.invariant.told reached decides; so_far = c.events.invariant.visits reached decides }) turn.comes.events in
+    let last = λ (o : ℕ). noted_before reached given start c.args.made.now o e in
+    let listed = listed_here reached decides given start c.args.made.now e _ _ _ _ stands.runs (λ o. get_or turn.between o 0) stands.told in
+    let turns = turn.turns reached decides last listed in
+    on_any c.from_residual-in_err-put_all-2.result (front_turn reached given start c.args.made.now e _ _ _ _ _ stands.runs c.in-Ok-turn.progress.end _ _ _ _ _ c.clear.ensures.items turns (g.O.Sink.taken c.put_all-in-events.new.sink) (subst (λ b. TakesPrefix (g.O.Sink.taken c.events.sink) (g.O.Sink.taken c.put_all-in-events.new.sink) b) c.deref-in-events.ensures.value c.in_err-put_all-2.ensures.err))
 
 pub returns-in-Some-clause-trace : goal.returns-in-Some-clause-trace
 returns-in-Some-clause-trace g c reached decides =
     let G = g.G.Guest in
     let given = setting_of (G.event_of c.args.code.now) G.unended_of G.graph_of G.flushed_of (g.G.Code.Program.names c.args.code.now) c.args.options.now in
     let start = G.state c.args.machine.now in
-    let last = λ (o : ℕ). noted_before reached given start c.args.made.now o c.events.e in
-    let runs = c.events.invariant.runs reached decides in
-    let listed = listed_here reached decides given start c.args.made.now c.events.e _ _ _ _ runs (λ o. get_or c.events.tracer.stamps o 0) (c.events.invariant.told reached decides) in
-    turn_end reached given start c.args.made.now c.events.e _ _ _ _ _ runs c.in-Ok-turn.next c.in-Some.end _ _ _ _ _ c.clear.ensures.items c.in-Some.is (c.in-Ok-turn.ensures.turns reached decides last listed) (g.O.Sink.taken c.put_all-in-events.new.sink)
+    let turn = c.in-Ok-turn.ensures.turn in
+    let e : ℕ = c.events.e + c.in-Ok-turn.progress.quiet in
+    let stands = stands_on reached decides given G.flush_visits_of start c.args.made.now c.events.tracer.numbering (g.O.Sink.taken c.args.sink.now) (g.O.Sink.taken c.events.sink) c.args.visits.now c.in-Ok-turn.progress.quiet c.events.e (G.state c.events.machine) turn.from c.events.tracer.stamps turn.between c.events.visits
+    (record { runs = c.events.invariant.runs reached decides; told = c.events.invariant.told reached decides; so_far = c.events.invariant.visits reached decides }) turn.comes.events in
+    let last = λ (o : ℕ). noted_before reached given start c.args.made.now o e in
+    let listed = listed_here reached decides given start c.args.made.now e _ _ _ _ stands.runs (λ o. get_or turn.between o 0) stands.told in
+    let turns = turn.turns reached decides last listed in
+    turn_end reached given start c.args.made.now e _ _ _ _ _ stands.runs c.in-Ok-turn.progress.end c.in-Some.end _ _ _ _ _ c.clear.ensures.items c.in-Some.is turns (g.O.Sink.taken c.put_all-in-events.new.sink)
     (subst (λ b. g.O.Sink.taken c.put_all-in-events.new.sink ≡ with_more (g.O.Sink.taken c.events.sink) b) c.deref-in-events.ensures.value c.in_ok-put_all-2.ensures.ok)
 
 pub events-preserved : goal.events-preserved
 events-preserved g c =
     let S = g.G.Guest.state in
     let graph = λ (m : g.row.G.Denot). g.G.Guest.graph_of (S m) in
-    let limit : c.events.e < c.args.options.now.limit = subst (λ (end : Option End). IfNone end (c.events.e < c.args.options.now.limit)) c.in-None.is c.in-Ok-turn.ensures.limit in
+    let q : ℕ = c.in-Ok-turn.progress.quiet in
+    let limit : c.events.e + q < c.args.options.now.limit = subst (λ (end : Option End). IfNone end (c.events.e + q < c.args.options.now.limit)) c.in-None.is c.in-Ok-turn.ensures.limit in
     record {
       runs = λ reached decides.
           let G = g.G.Guest in
           let given = setting_of (G.event_of c.args.code.now) G.unended_of G.graph_of G.flushed_of (g.G.Code.Program.names c.args.code.now) c.args.options.now in
           let start = G.state c.args.machine.now in
-          let last = λ (o : ℕ). noted_before reached given start c.args.made.now o c.events.e in
-          let runs = c.events.invariant.runs reached decides in
-          let told = c.events.invariant.told reached decides in
-          let listed = listed_here reached decides given start c.args.made.now c.events.e _ _ _ _ runs (λ o. get_or c.events.tracer.stamps o 0) told in
-          next_runs reached decides given start c.args.made.now c.events.e _ _ _ _ runs (λ o. get_or c.events.tracer.stamps o 0) told c.in-Ok-turn.next _ _ _ _ _ c.clear.ensures.items c.in-None.is (c.in-Ok-turn.ensures.turns reached decides last listed) (c.events.e + 1) (g.O.Sink.taken c.put_all-in-events.new.sink) (add-one c.events.e)
+          let turn = c.in-Ok-turn.ensures.turn in
+          let e : ℕ = c.events.e + c.in-Ok-turn.progress.quiet in
+          let stands = stands_on reached decides given G.flush_visits_of start c.args.made.now c.events.tracer.numbering (g.O.Sink.taken c.args.sink.now) (g.O.Sink.taken c.events.sink) c.args.visits.now c.in-Ok-turn.progress.quiet c.events.e (G.state c.events.machine) turn.from c.events.tracer.stamps turn.between c.events.visits
+          (record { runs = c.events.invariant.runs reached decides; told = c.events.invariant.told reached decides; so_far = c.events.invariant.visits reached decides }) turn.comes.events in
+          let last = λ (o : ℕ). noted_before reached given start c.args.made.now o e in
+          let listed = listed_here reached decides given start c.args.made.now e _ _ _ _ stands.runs (λ o. get_or turn.between o 0) stands.told in
+          let turns = turn.turns reached decides last listed in
+          next_runs reached decides given start c.args.made.now e _ _ _ _ stands.runs (λ o. get_or turn.between o 0) stands.told c.in-Ok-turn.progress.end _ _ _ _ _ c.clear.ensures.items c.in-None.is turns (e + 1) (g.O.Sink.taken c.put_all-in-events.new.sink) (add-one e)
           (subst (λ b. g.O.Sink.taken c.put_all-in-events.new.sink ≡ with_more (g.O.Sink.taken c.events.sink) b) c.deref-in-events.ensures.value c.in_ok-put_all-2.ensures.ok);
       told = λ reached decides.
           let G = g.G.Guest in
           let given = setting_of (G.event_of c.args.code.now) G.unended_of G.graph_of G.flushed_of (g.G.Code.Program.names c.args.code.now) c.args.options.now in
           let start = G.state c.args.machine.now in
-          let last = λ (o : ℕ). noted_before reached given start c.args.made.now o c.events.e in
-          let runs = c.events.invariant.runs reached decides in
-          let told = c.events.invariant.told reached decides in
-          let listed = listed_here reached decides given start c.args.made.now c.events.e _ _ _ _ runs (λ o. get_or c.events.tracer.stamps o 0) told in
-          let due = is_flush_point c.args.options.now.interval c.events.e in
-          let passes : Passes due c.events.e (graph c.events.machine) (graph c.turn.new.machine) (λ o. get_or c.events.tracer.stamps o 0) (λ o. get_or c.turn.new.tracer.stamps o 0) =
-          subst (λ (end : Option End). IfNone end (Passes due c.events.e (graph c.events.machine) (graph c.turn.new.machine) (λ o. get_or c.events.tracer.stamps o 0) (λ o. get_or c.turn.new.tracer.stamps o 0))) c.in-None.is c.in-Ok-turn.ensures.passes in
-          next_told reached decides given start c.args.made.now c.events.e _ _ _ _ runs (λ o. get_or c.events.tracer.stamps o 0) told c.in-Ok-turn.next _ _ _ _ _ c.clear.ensures.items c.in-None.is (c.in-Ok-turn.ensures.turns reached decides last listed) (c.events.e + 1) (g.O.Sink.taken c.put_all-in-events.new.sink) (add-one c.events.e)
+          let turn = c.in-Ok-turn.ensures.turn in
+          let e : ℕ = c.events.e + c.in-Ok-turn.progress.quiet in
+          let stands = stands_on reached decides given G.flush_visits_of start c.args.made.now c.events.tracer.numbering (g.O.Sink.taken c.args.sink.now) (g.O.Sink.taken c.events.sink) c.args.visits.now c.in-Ok-turn.progress.quiet c.events.e (G.state c.events.machine) turn.from c.events.tracer.stamps turn.between c.events.visits
+          (record { runs = c.events.invariant.runs reached decides; told = c.events.invariant.told reached decides; so_far = c.events.invariant.visits reached decides }) turn.comes.events in
+          let last = λ (o : ℕ). noted_before reached given start c.args.made.now o e in
+          let listed = listed_here reached decides given start c.args.made.now e _ _ _ _ stands.runs (λ o. get_or turn.between o 0) stands.told in
+          let turns = turn.turns reached decides last listed in
+          let due = is_flush_point c.args.options.now.interval e in
+          let passes : Passes due e (G.graph_of turn.from) (graph c.turn.new.machine) (λ o. get_or turn.between o 0) (λ o. get_or c.turn.new.tracer.stamps o 0) =
+          subst (λ (end : Option End). IfNone end (Passes due e (G.graph_of turn.from) (graph c.turn.new.machine) (λ o. get_or turn.between o 0) (λ o. get_or c.turn.new.tracer.stamps o 0))) c.in-None.is turn.passes in
+          next_told reached decides given start c.args.made.now e _ _ _ _ stands.runs (λ o. get_or turn.between o 0) stands.told c.in-Ok-turn.progress.end _ _ _ _ _ c.clear.ensures.items c.in-None.is turns (e + 1) (g.O.Sink.taken c.put_all-in-events.new.sink) (add-one e)
           (subst (λ b. g.O.Sink.taken c.put_all-in-events.new.sink ≡ with_more (g.O.Sink.taken c.events.sink) b) c.deref-in-events.ensures.value c.in_ok-put_all-2.ensures.ok)
           due (λ o. get_or c.turn.new.tracer.stamps o 0) passes;
       visits = λ reached decides.
           let G = g.G.Guest in
           let given = setting_of (G.event_of c.args.code.now) G.unended_of G.graph_of G.flushed_of (g.G.Code.Program.names c.args.code.now) c.args.options.now in
           let start = G.state c.args.machine.now in
-          let s = S c.events.machine in
-          let due = is_flush_point c.args.options.now.interval c.events.e in
-          let passes : Passes due c.events.e (graph c.events.machine) (graph c.turn.new.machine) (λ o. get_or c.events.tracer.stamps o 0) (λ o. get_or c.turn.new.tracer.stamps o 0) =
-          subst (λ (end : Option End). IfNone end (Passes due c.events.e (graph c.events.machine) (graph c.turn.new.machine) (λ o. get_or c.events.tracer.stamps o 0) (λ o. get_or c.turn.new.tracer.stamps o 0))) c.in-None.is c.in-Ok-turn.ensures.passes in
-          let last = λ (o : ℕ). noted_before reached given start c.args.made.now o c.events.e in
-          let runs = c.events.invariant.runs reached decides in
-          let listed = listed_here reached decides given start c.args.made.now c.events.e _ _ _ _ runs (λ o. get_or c.events.tracer.stamps o 0) (c.events.invariant.told reached decides) in
-          let turn = going_few reached given G.flush_visits_of c.events.e s _ _ _ _ _ _ _ c.in-Ok-turn.next (c.in-Ok-turn.ensures.turns reached decides last listed) c.events.visits c.turn.new.visits (c.in-Ok-turn.ensures.visits reached decides) c.in-None.is in
-          more_so_far reached given G.flush_visits_of start c.args.made.now c.events.e s c.args.visits.now c.events.visits (c.events.invariant.visits reached decides) ((c.events.invariant.runs reached decides).state) (S c.turn.new.machine) c.turn.new.visits
-          (passes_grow due c.events.e (graph c.events.machine) (graph c.turn.new.machine) (λ o. get_or c.events.tracer.stamps o 0) (λ o. get_or c.turn.new.tracer.stamps o 0) passes) turn (c.events.e + 1) (add-one c.events.e);
+          let turn = c.in-Ok-turn.ensures.turn in
+          let e : ℕ = c.events.e + c.in-Ok-turn.progress.quiet in
+          let stands = stands_on reached decides given G.flush_visits_of start c.args.made.now c.events.tracer.numbering (g.O.Sink.taken c.args.sink.now) (g.O.Sink.taken c.events.sink) c.args.visits.now c.in-Ok-turn.progress.quiet c.events.e (G.state c.events.machine) turn.from c.events.tracer.stamps turn.between c.events.visits
+          (record { runs = c.events.invariant.runs reached decides; told = c.events.invariant.told reached decides; so_far = c.events.invariant.visits reached decides }) turn.comes.events in
+          let last = λ (o : ℕ). noted_before reached given start c.args.made.now o e in
+          let listed = listed_here reached decides given start c.args.made.now e _ _ _ _ stands.runs (λ o. get_or turn.between o 0) stands.told in
+          let turns = turn.turns reached decides last listed in
+          let due = is_flush_point c.args.options.now.interval e in
+          let passes : Passes due e (G.graph_of turn.from) (graph c.turn.new.machine) (λ o. get_or turn.between o 0) (λ o. get_or c.turn.new.tracer.stamps o 0) =
+          subst (λ (end : Option End). IfNone end (Passes due e (G.graph_of turn.from) (graph c.turn.new.machine) (λ o. get_or turn.between o 0) (λ o. get_or c.turn.new.tracer.stamps o 0))) c.in-None.is turn.passes in
+          let few = going_few reached given G.flush_visits_of e turn.from _ _ _ _ _ _ _ c.in-Ok-turn.progress.end turns (c.events.visits + 8 * c.in-Ok-turn.progress.quiet) c.turn.new.visits (turn.comes.visits reached decides) c.in-None.is in
+          more_so_far reached given G.flush_visits_of start c.args.made.now e turn.from c.args.visits.now (c.events.visits + 8 * c.in-Ok-turn.progress.quiet) stands.so_far stands.runs.state (S c.turn.new.machine) c.turn.new.visits
+          (passes_grow due e (G.graph_of turn.from) (graph c.turn.new.machine) (λ o. get_or turn.between o 0) (λ o. get_or c.turn.new.tracer.stamps o 0) passes) few (e + 1) (add-one e);
       stamps = subst (λ (end : Option End). IfNone end (HasStamps (graph c.turn.new.machine) c.turn.new.tracer.stamps)) c.in-None.is c.in-Ok-turn.ensures.stamps;
       room = subst (λ (end : Option End). IfNone end (g.G.Guest.has_places c.turn.new.tracer.room (graph c.turn.new.machine).made)) c.in-None.is c.in-Ok-turn.ensures.room;
       classes = subst (λ (end : Option End). IfNone end (HasClasses (g.G.Code.Program.names c.args.code.now) c.turn.new.tracer.numbering)) c.in-None.is c.in-Ok-turn.ensures.classes;
       format = subst (λ (end : Option End). IfNone end (c.turn.new.tracer.format ≡ c.args.options.now.format)) c.in-None.is c.in-Ok-turn.ensures.format;
-      next_flush = subst (λ (end : Option End). IfNone end (IsNextFlush c.args.options.now.interval (c.events.e + 1) c.turn.new.tracer.next_flush.event)) c.in-None.is c.in-Ok-turn.ensures.next_flush;
-      rota = subst (λ (end : Option End). IfNone end (IsRota c.args.options.now.schedule (c.events.e + 1) c.turn.new.tracer.rota)) c.in-None.is c.in-Ok-turn.ensures.rota;
+      next_flush = subst (λ (end : Option End). IfNone end (IsNextFlush c.args.options.now.interval (c.events.e + q + 1) c.turn.new.tracer.next_flush.event)) c.in-None.is c.in-Ok-turn.ensures.next_flush;
+      rota = subst (λ (end : Option End). IfNone end (IsRota c.args.options.now.schedule (c.events.e + q + 1) c.turn.new.tracer.rota)) c.in-None.is c.in-Ok-turn.ensures.rota;
       limit = omega arith;
-      clock = subst (λ (end : Option End). IfNone end (g.G.Guest.clock_of (S c.turn.new.machine) ≡ c.events.e + 1)) c.in-None.is c.in-Ok-turn.ensures.clock;
+      clock = subst (λ (end : Option End). IfNone end (g.G.Guest.clock_of (S c.turn.new.machine) ≡ c.events.e + q + 1)) c.in-None.is c.in-Ok-turn.ensures.clock;
       sound = subst (λ (end : Option End). IfNone end (g.G.Guest.is_sound c.args.code.now (S c.turn.new.machine))) c.in-None.is c.in-Ok-turn.ensures.sound;
       faults = c.in_ok-put_all-2.ensures.write ∙ c.events.invariant.faults;
     }
@@ -166,12 +186,15 @@ returns-in-Some-clause-visits g c reached decides =
     let G = g.G.Guest in
     let given = setting_of (G.event_of c.args.code.now) G.unended_of G.graph_of G.flushed_of (g.G.Code.Program.names c.args.code.now) c.args.options.now in
     let start = G.state c.args.machine.now in
-    let s = G.state c.events.machine in
-    let last = λ (o : ℕ). noted_before reached given start c.args.made.now o c.events.e in
-    let runs = c.events.invariant.runs reached decides in
-    let listed = listed_here reached decides given start c.args.made.now c.events.e _ _ _ _ runs (λ o. get_or c.events.tracer.stamps o 0) (c.events.invariant.told reached decides) in
-    let turn = ending_few reached given G.flush_visits_of c.events.e s _ _ _ _ _ _ _ c.in-Ok-turn.next (c.in-Ok-turn.ensures.turns reached decides last listed) c.events.visits c.turn.new.visits (c.in-Ok-turn.ensures.visits reached decides) c.in-Some.end c.in-Some.is in
-    last_allowed reached given G.flush_visits_of start c.args.made.now c.events.e s c.args.visits.now c.events.visits (c.events.invariant.visits reached decides) runs.state c.turn.new.visits turn
+    let turn = c.in-Ok-turn.ensures.turn in
+    let e : ℕ = c.events.e + c.in-Ok-turn.progress.quiet in
+    let stands = stands_on reached decides given G.flush_visits_of start c.args.made.now c.events.tracer.numbering (g.O.Sink.taken c.args.sink.now) (g.O.Sink.taken c.events.sink) c.args.visits.now c.in-Ok-turn.progress.quiet c.events.e (G.state c.events.machine) turn.from c.events.tracer.stamps turn.between c.events.visits
+    (record { runs = c.events.invariant.runs reached decides; told = c.events.invariant.told reached decides; so_far = c.events.invariant.visits reached decides }) turn.comes.events in
+    let last = λ (o : ℕ). noted_before reached given start c.args.made.now o e in
+    let listed = listed_here reached decides given start c.args.made.now e _ _ _ _ stands.runs (λ o. get_or turn.between o 0) stands.told in
+    let turns = turn.turns reached decides last listed in
+    let few = ending_few reached given G.flush_visits_of e turn.from _ _ _ _ _ _ _ c.in-Ok-turn.progress.end turns (c.events.visits + 8 * c.in-Ok-turn.progress.quiet) c.turn.new.visits (turn.comes.visits reached decides) c.in-Some.end c.in-Some.is in
+    last_allowed reached given G.flush_visits_of start c.args.made.now e turn.from c.args.visits.now (c.events.visits + 8 * c.in-Ok-turn.progress.quiet) stands.so_far stands.runs.state c.turn.new.visits few
 
 -- .. and of one that is cut off
 pub returns-in-Err-clause-cut : goal.returns-in-Err-clause-cut
@@ -197,15 +220,24 @@ returns-in-Err-turn-clause-cut g c reached decides =
     let G = g.G.Guest in
     let given = setting_of (G.event_of c.args.code.now) G.unended_of G.graph_of G.flushed_of (g.G.Code.Program.names c.args.code.now) c.args.options.now in
     let start = G.state c.args.machine.now in
-    let runs = c.events.invariant.runs reached decides in
-    let few = cut_allowed reached given G.flush_visits_of start c.args.made.now c.events.e (G.state c.events.machine) c.args.visits.now c.events.visits (c.events.invariant.visits reached decides) runs.state c.turn.new.visits (c.in-Err-turn.ensures.visits reached decides) in
-    cut_here reached given G.flush_visits_of start c.args.made.now (g.O.Sink.taken c.args.sink.now) c.args.visits.now c.turn.new.visits c.events.e _ _ _ _ runs few
+    let turn = c.in-Err-turn.ensures.broken in
+    let e : ℕ = c.events.e + turn.quiet in
+    let stands = stands_on reached decides given G.flush_visits_of start c.args.made.now c.events.tracer.numbering (g.O.Sink.taken c.args.sink.now) (g.O.Sink.taken c.events.sink) c.args.visits.now turn.quiet c.events.e (G.state c.events.machine) turn.from c.events.tracer.stamps turn.between c.events.visits
+    (record { runs = c.events.invariant.runs reached decides; told = c.events.invariant.told reached decides; so_far = c.events.invariant.visits reached decides }) turn.comes.events in
+    let few = cut_allowed reached given G.flush_visits_of start c.args.made.now e turn.from c.args.visits.now (c.events.visits + 8 * turn.quiet) stands.so_far stands.runs.state c.turn.new.visits (turn.comes.visits reached decides) in
+    cut_here reached given G.flush_visits_of start c.args.made.now (g.O.Sink.taken c.args.sink.now) c.args.visits.now c.turn.new.visits e _ _ _ _ stands.runs few
 
 pub returns-in_err-put_all-2-clause-cut : goal.returns-in_err-put_all-2-clause-cut
 returns-in_err-put_all-2-clause-cut g c reached decides =
     let G = g.G.Guest in
     let given = setting_of (G.event_of c.args.code.now) G.unended_of G.graph_of G.flushed_of (g.G.Code.Program.names c.args.code.now) c.args.options.now in
     let start = G.state c.args.machine.now in
-    let runs = c.events.invariant.runs reached decides in
-    let few = cut_allowed reached given G.flush_visits_of start c.args.made.now c.events.e (G.state c.events.machine) c.args.visits.now c.events.visits (c.events.invariant.visits reached decides) runs.state c.turn.new.visits (c.in-Ok-turn.ensures.visits reached decides) in
-    on_any c.from_residual-in_err-put_all-2.result (cut_putting reached given G.flush_visits_of start c.args.made.now (g.O.Sink.taken c.args.sink.now) c.args.visits.now c.turn.new.visits c.events.e _ _ _ _ runs few (g.O.Sink.taken c.put_all-in-events.new.sink) _ c.in_err-put_all-2.ensures.err)
+    let turn = c.in-Ok-turn.ensures.turn in
+    let e : ℕ = c.events.e + c.in-Ok-turn.progress.quiet in
+    let stands = stands_on reached decides given G.flush_visits_of start c.args.made.now c.events.tracer.numbering (g.O.Sink.taken c.args.sink.now) (g.O.Sink.taken c.events.sink) c.args.visits.now c.in-Ok-turn.progress.quiet c.events.e (G.state c.events.machine) turn.from c.events.tracer.stamps turn.between c.events.visits
+    (record { runs = c.events.invariant.runs reached decides; told = c.events.invariant.told reached decides; so_far = c.events.invariant.visits reached decides }) turn.comes.events in
+    let last = λ (o : ℕ). noted_before reached given start c.args.made.now o e in
+    let listed = listed_here reached decides given start c.args.made.now e _ _ _ _ stands.runs (λ o. get_or turn.between o 0) stands.told in
+    let turns = turn.turns reached decides last listed in
+    let few = cut_allowed reached given G.flush_visits_of start c.args.made.now e turn.from c.args.visits.now (c.events.visits + 8 * c.in-Ok-turn.progress.quiet) stands.so_far stands.runs.state c.turn.new.visits (turn.comes.visits reached decides) in
+    on_any c.from_residual-in_err-put_all-2.result (cut_putting reached given G.flush_visits_of start c.args.made.now (g.O.Sink.taken c.args.sink.now) c.args.visits.now c.turn.new.visits e _ _ _ _ stands.runs few (g.O.Sink.taken c.put_all-in-events.new.sink) _ c.in_err-put_all-2.ensures.err)

@@ -1,18 +1,167 @@
-use Rattle.std.proofs.Common.{◌≡◌, [], All, subst, sym, arith}
-use Rattle.et_state.specs.Naming.{IsNamed}
-use Rattle.et_loop.proofs.Marking.{done_lost_made}
+use Rattle.std.proofs.Common.{◌≡◌, ℕ, ◌+◌, ◌<◌, ◌≤◌, [], List, refl, sym, ◌∙◌, ap, subst, arith}
+use Rattle.et_state.specs.declared.records.Record.{Record}
+use Rattle.et_state.specs.Naming.{mentions_after, lines_of}
+use Rattle.et_binary.specs.Formats.{lines_written_in}
+use Rattle.et_loop.specs.Options.{setting_of}
+use Rattle.et_loop.specs.Pace.{IsNextFlush, IsRota}
+use Rattle.et_loop.specs.Quiet.{IsStretch, IsBrokenOff}
+use Rattle.et_loop.specs.Stamping.{Restamps}
+use Rattle.et_loop.specs.declared.next_flush.NextFlush.{NextFlush}
+use Rattle.et_loop.specs.declared.schedule.Rota.{Rota}
+use Rattle.et_loop.proofs.Pacing.{next_flush_on, rota_on}
+use Rattle.et_loop.proofs.Quiets.{ending_finished, ending_limit, step_over, tick_done}
+use Rattle.std.specs.Prelude.{slice_index}
+use Rattle.et_loop.proofs.RunLemmas.{on_any}
+use Rattle.et_loop.proofs.Stretches.{stretch_kept, behind, broken_step, stretch_stops, stretch_goes, stretch_lost, stretch_grows, not_native}
 use Rattle.et_loop.proofs.tracer.step.Goals as goal
 
--- no record stands there before the event, and the event's are named
-pub write_records-requires-clause-named : goal.write_records-requires-clause-named
-write_records-requires-clause-named g c =
-    let P = IsNamed (g.G.Code.Program.names c.args.code.now) in
-    let none : c.clear.new.self ≡ [] = c.clear.ensures in
-    let before : All P c.clear.new.self = subst (λ rs. All P rs) (sym none) (λ k d lt. absurd (omega arith)) in
-    let after = c.in_ok-event.ensures.named before in
-    subst (λ rs. All P rs) (sym c.records.ensures) after
-
-pub restamp-requires-clause-lost : goal.restamp-requires-clause-lost
-restamp-requires-clause-lost g c =
+-- the history ends before any event
+pub returns-then-count-eq0-clause-step : goal.returns-then-count-eq0-clause-step
+returns-then-count-eq0-clause-step g c =
     let G = g.G.Guest in
-    done_lost_made c.in_ok-event.field-0 (G.graph_of (G.state c.args.machine.now)) (G.graph_of (G.state c.event.new.self)) (G.lost_of c.event.new.self) c.requires.made c.in_ok-event.ensures.step c.in-Done.is
+    let given = setting_of (G.event_of c.args.code.now) G.unended_of G.graph_of G.flushed_of (g.G.Code.Program.names c.args.code.now) c.args.options.now in
+    let none = ap (λ (n : ℕ). n) c.unended-count.ensures in
+    step_over given c.args.e (G.state c.args.machine.now) c.args.tracer.now.stamps c.args.visits.now c.args.tracer.now.numbering c.args.tracer.now.buffer.items _ (ending_finished given c.args.e (G.state c.args.machine.now) (omega arith))
+
+pub returns-then-e-options-clause-step : goal.returns-then-e-options-clause-step
+returns-then-e-options-clause-step g c =
+    let G = g.G.Guest in
+    let given = setting_of (G.event_of c.args.code.now) G.unended_of G.graph_of G.flushed_of (g.G.Code.Program.names c.args.code.now) c.args.options.now in
+    step_over given c.args.e (G.state c.args.machine.now) c.args.tracer.now.stamps c.args.visits.now c.args.tracer.now.numbering c.args.tracer.now.buffer.items _ (ending_limit given c.args.e (G.state c.args.machine.now) (omega arith) (omega arith))
+
+-- THE EVENTS OF A SLICE
+pub events-requires-clause-clock : goal.events-requires-clause-clock
+events-requires-clause-clock g c = omega (arith, c.requires.clock, c.next_slice-slice.ensures.slice.limit, c.requires.options.limit)
+
+pub returns-in_err-stretch-clause-broken : goal.returns-in_err-stretch-clause-broken
+returns-in_err-stretch-clause-broken g c =
+    let G = g.G.Guest in
+    let some : 0 < c.unended-count.result = omega arith in
+    on_any c.from_residual.result
+    (broken_step (G.event_of c.args.code.now) G.unended_of G.graph_of G.flushed_of (g.G.Code.Program.names c.args.code.now) c.args.options.now c.args.e c.unended-count.result c.next_slice-slice.result (G.state c.args.machine.now) c.args.tracer.now.stamps c.events.new.stamps c.args.visits.now c.events.new.visits c.next_slice-slice.ensures.slice c.unended-count.ensures some
+    (subst (λ (n : ℕ). IsBrokenOff (G.event_of c.args.code.now) G.unended_of G.graph_of c.next_slice-slice.result.place c.next_slice-slice.result.events n (G.state c.args.machine.now) c.args.tracer.now.stamps c.events.new.stamps c.args.visits.now c.events.new.visits) c.requires.clock c.in_err-stretch.ensures.broken))
+
+pub end_after-requires : goal.end_after-requires
+end_after-requires g c =
+    let G = g.G.Guest in
+    let some : 0 < c.unended-count.result = omega arith in
+    let stretch = subst (λ (n : ℕ). IsStretch (G.event_of c.args.code.now) G.unended_of G.graph_of c.next_slice-slice.result.place c.next_slice-slice.result.events n (G.state c.args.machine.now) c.args.tracer.now.stamps c.events.new.stamps c.args.visits.now c.events.new.visits (G.state c.events.new.self) c.events.new.out (G.lost_of c.events.new.self) c.in_ok-stretch.stretch) c.requires.clock c.in_ok-stretch.ensures.stretch in
+    not_native (G.event_of c.args.code.now) G.unended_of G.graph_of G.flushed_of (g.G.Code.Program.names c.args.code.now) c.args.options.now c.args.e c.unended-count.result c.next_slice-slice.result (G.state c.args.machine.now) c.args.tracer.now.stamps c.events.new.stamps c.args.visits.now c.events.new.visits c.next_slice-slice.ensures.slice c.unended-count.ensures some
+    (G.state c.events.new.self) c.events.new.out (G.lost_of c.events.new.self) c.in_ok-stretch.stretch stretch
+
+-- THE LAST ONE
+pub tell-requires-clause-clock : goal.tell-requires-clause-clock
+tell-requires-clause-clock g c = omega (arith, c.in_ok-stretch.ensures.stretch.comes.few, c.next_slice-slice.ensures.slice.limit, c.requires.options.limit)
+
+pub tell-requires-clause-more : goal.tell-requires-clause-more
+tell-requires-clause-more g c =
+    let G = g.G.Guest in
+    let some : 0 < c.unended-count.result = omega arith in
+    let stretch = subst (λ (n : ℕ). IsStretch (G.event_of c.args.code.now) G.unended_of G.graph_of c.next_slice-slice.result.place c.next_slice-slice.result.events n (G.state c.args.machine.now) c.args.tracer.now.stamps c.events.new.stamps c.args.visits.now c.events.new.visits (G.state c.events.new.self) c.events.new.out (G.lost_of c.events.new.self) c.in_ok-stretch.stretch) c.requires.clock c.in_ok-stretch.ensures.stretch in
+    let grows = stretch_grows (G.event_of c.args.code.now) G.unended_of G.graph_of G.flushed_of (g.G.Code.Program.names c.args.code.now) c.args.options.now c.args.e c.unended-count.result c.next_slice-slice.result (G.state c.args.machine.now) c.args.tracer.now.stamps c.events.new.stamps c.args.visits.now c.events.new.visits c.next_slice-slice.ensures.slice c.unended-count.ensures some
+    (G.state c.events.new.self) c.events.new.out (G.lost_of c.events.new.self) c.in_ok-stretch.stretch stretch c.unended_at-thread.result (sym c.end_after.ensures ∙ c.in-None.is) in
+    omega (arith, grows, c.made-before.ensures)
+
+pub tell-requires-clause-lost : goal.tell-requires-clause-lost
+tell-requires-clause-lost g c =
+    let G = g.G.Guest in
+    let some : 0 < c.unended-count.result = omega arith in
+    let stretch = subst (λ (n : ℕ). IsStretch (G.event_of c.args.code.now) G.unended_of G.graph_of c.next_slice-slice.result.place c.next_slice-slice.result.events n (G.state c.args.machine.now) c.args.tracer.now.stamps c.events.new.stamps c.args.visits.now c.events.new.visits (G.state c.events.new.self) c.events.new.out (G.lost_of c.events.new.self) c.in_ok-stretch.stretch) c.requires.clock c.in_ok-stretch.ensures.stretch in
+    stretch_lost (G.event_of c.args.code.now) G.unended_of G.graph_of G.flushed_of (g.G.Code.Program.names c.args.code.now) c.args.options.now c.args.e c.unended-count.result c.next_slice-slice.result (G.state c.args.machine.now) c.args.tracer.now.stamps c.events.new.stamps c.args.visits.now c.events.new.visits c.next_slice-slice.ensures.slice c.unended-count.ensures some
+    (G.state c.events.new.self) c.events.new.out (G.lost_of c.events.new.self) c.in_ok-stretch.stretch stretch c.unended_at-thread.result (sym c.end_after.ensures ∙ c.in-None.is) c.requires.made
+
+pub tell-requires-clause-stamps : goal.tell-requires-clause-stamps
+tell-requires-clause-stamps g c =
+    let G = g.G.Guest in
+    let some : 0 < c.unended-count.result = omega arith in
+    let stretch = subst (λ (n : ℕ). IsStretch (G.event_of c.args.code.now) G.unended_of G.graph_of c.next_slice-slice.result.place c.next_slice-slice.result.events n (G.state c.args.machine.now) c.args.tracer.now.stamps c.events.new.stamps c.args.visits.now c.events.new.visits (G.state c.events.new.self) c.events.new.out (G.lost_of c.events.new.self) c.in_ok-stretch.stretch) c.requires.clock c.in_ok-stretch.ensures.stretch in
+    let h = stretch in
+    let b = behind (G.event_of c.args.code.now) G.unended_of G.graph_of G.flushed_of (g.G.Code.Program.names c.args.code.now) c.args.options.now c.args.e c.unended-count.result c.next_slice-slice.result (G.state c.args.machine.now) c.args.tracer.now.stamps c.events.new.stamps c.args.visits.now c.events.new.visits c.next_slice-slice.ensures.slice c.unended-count.ensures some
+    c.in_ok-stretch.stretch.quiet h.mid h.comes in
+    omega (arith, b.long, c.requires.stamps.places, c.made-before.ensures)
+
+pub tell-requires-clause-room : goal.tell-requires-clause-room
+tell-requires-clause-room g c =
+    let G = g.G.Guest in
+    subst (λ (n : ℕ). G.has_places c.args.tracer.now.room n) (sym c.made-before.ensures) c.requires.room
+
+pub returns-in_err-tell-in-None-clause-broken : goal.returns-in_err-tell-in-None-clause-broken
+returns-in_err-tell-in-None-clause-broken g c =
+    let G = g.G.Guest in
+    let some : 0 < c.unended-count.result = omega arith in
+    let stretch = subst (λ (n : ℕ). IsStretch (G.event_of c.args.code.now) G.unended_of G.graph_of c.next_slice-slice.result.place c.next_slice-slice.result.events n (G.state c.args.machine.now) c.args.tracer.now.stamps c.events.new.stamps c.args.visits.now c.events.new.visits (G.state c.events.new.self) c.events.new.out (G.lost_of c.events.new.self) c.in_ok-stretch.stretch) c.requires.clock c.in_ok-stretch.ensures.stretch in
+    let h = stretch in
+    on_any c.from_residual-in_err-tell-in-None.result
+    (broken_step (G.event_of c.args.code.now) G.unended_of G.graph_of G.flushed_of (g.G.Code.Program.names c.args.code.now) c.args.options.now c.args.e c.unended-count.result c.next_slice-slice.result (G.state c.args.machine.now) c.args.tracer.now.stamps c.events.new.stamps c.args.visits.now c.events.new.visits c.next_slice-slice.ensures.slice c.unended-count.ensures some
+    (record { quiet = c.in_ok-stretch.stretch.quiet; mid = h.mid; comes = h.comes }))
+
+pub returns-in_ok-tell-in-None-clause-step : goal.returns-in_ok-tell-in-None-clause-step
+returns-in_ok-tell-in-None-clause-step g c =
+    let G = g.G.Guest in
+    let some : 0 < c.unended-count.result = omega arith in
+    let stretch = subst (λ (n : ℕ). IsStretch (G.event_of c.args.code.now) G.unended_of G.graph_of c.next_slice-slice.result.place c.next_slice-slice.result.events n (G.state c.args.machine.now) c.args.tracer.now.stamps c.events.new.stamps c.args.visits.now c.events.new.visits (G.state c.events.new.self) c.events.new.out (G.lost_of c.events.new.self) c.in_ok-stretch.stretch) c.requires.clock c.in_ok-stretch.ensures.stretch in
+    let marks = subst (λ (n : ℕ). Restamps (c.args.e + c.in_ok-stretch.stretch.quiet) n (G.graph_of (G.state c.events.new.self)).made (G.lost_of c.events.new.self) (slice_index c.events.new.stamps) (slice_index c.tell.new.tracer.stamps)) c.made-before.ensures c.in_ok-tell-in-None.ensures.stamps in
+    stretch_goes (G.event_of c.args.code.now) G.unended_of G.graph_of G.flushed_of (g.G.Code.Program.names c.args.code.now) c.args.options.now c.args.e c.unended-count.result c.next_slice-slice.result (G.state c.args.machine.now) c.args.tracer.now.stamps c.events.new.stamps c.args.visits.now c.events.new.visits c.next_slice-slice.ensures.slice c.unended-count.ensures some
+    (G.state c.events.new.self) c.events.new.out (G.lost_of c.events.new.self) c.in_ok-stretch.stretch stretch
+    c.unended_at-thread.result c.unended_at-thread.ensures c.args.tracer.now.numbering c.tell.new.tracer.numbering c.args.tracer.now.buffer.items c.tell.new.tracer.buffer.items c.tell.new.tracer.stamps (sym c.end_after.ensures ∙ c.in-None.is)
+    c.in_ok-tell-in-None.ensures.mentions c.in_ok-tell-in-None.ensures.lines marks
+
+pub returns-in_ok-tell-in-None-clause-within : goal.returns-in_ok-tell-in-None-clause-within
+returns-in_ok-tell-in-None-clause-within g c = omega (arith, c.in_ok-stretch.ensures.stretch.comes.few, c.next_slice-slice.ensures.slice.limit)
+
+pub returns-in-Some-clause-within : goal.returns-in-Some-clause-within
+returns-in-Some-clause-within g c = omega (arith, c.in_ok-stretch.ensures.stretch.comes.few, c.next_slice-slice.ensures.slice.limit)
+
+pub returns-in_ok-tell-in-None-clause-limit : goal.returns-in_ok-tell-in-None-clause-limit
+returns-in_ok-tell-in-None-clause-limit g c = omega (arith, c.in_ok-stretch.ensures.stretch.comes.few, c.next_slice-slice.ensures.slice.limit)
+
+pub returns-in_ok-tell-in-None-clause-clock : goal.returns-in_ok-tell-in-None-clause-clock
+returns-in_ok-tell-in-None-clause-clock g c =
+    let G = g.G.Guest in
+    let some : 0 < c.unended-count.result = omega arith in
+    let stretch = subst (λ (n : ℕ). IsStretch (G.event_of c.args.code.now) G.unended_of G.graph_of c.next_slice-slice.result.place c.next_slice-slice.result.events n (G.state c.args.machine.now) c.args.tracer.now.stamps c.events.new.stamps c.args.visits.now c.events.new.visits (G.state c.events.new.self) c.events.new.out (G.lost_of c.events.new.self) c.in_ok-stretch.stretch) c.requires.clock c.in_ok-stretch.ensures.stretch in
+    let native = not_native (G.event_of c.args.code.now) G.unended_of G.graph_of G.flushed_of (g.G.Code.Program.names c.args.code.now) c.args.options.now c.args.e c.unended-count.result c.next_slice-slice.result (G.state c.args.machine.now) c.args.tracer.now.stamps c.events.new.stamps c.args.visits.now c.events.new.visits c.next_slice-slice.ensures.slice c.unended-count.ensures some
+    (G.state c.events.new.self) c.events.new.out (G.lost_of c.events.new.self) c.in_ok-stretch.stretch stretch in
+    let ticked = tick_done c.unended_at-thread.result c.in_ok-stretch.stretch.end (G.clock_of (G.state c.args.machine.now) + c.in_ok-stretch.stretch.quiet) (G.clock_of (G.state c.events.new.self)) native (sym c.end_after.ensures ∙ c.in-None.is) c.in_ok-stretch.ensures.clock in
+    omega (arith, ticked, c.requires.clock)
+
+pub returns-in_ok-tell-in-None-clause-next_flush : goal.returns-in_ok-tell-in-None-clause-next_flush
+returns-in_ok-tell-in-None-clause-next_flush g c =
+    let few = c.in_ok-stretch.ensures.stretch.comes.few in
+    subst (λ (f : NextFlush). IsNextFlush c.args.options.now.interval (c.args.e + c.in_ok-stretch.stretch.quiet + 1) f.event) (sym c.in_ok-tell-in-None.ensures.next_flush)
+    (next_flush_on c.args.options.now.interval (c.args.e + 1) (c.args.e + c.in_ok-stretch.stretch.quiet + 1) c.args.tracer.now.next_flush.event c.requires.next_flush (omega arith)
+    (λ some. let before = c.next_slice-slice.ensures.next_flush some in omega (arith, before, few)))
+
+pub returns-in_ok-tell-in-None-clause-rota : goal.returns-in_ok-tell-in-None-clause-rota
+returns-in_ok-tell-in-None-clause-rota g c =
+    subst (λ (r : Rota). IsRota c.args.options.now.schedule (c.args.e + c.in_ok-stretch.stretch.quiet + 1) r) (sym c.in_ok-tell-in-None.ensures.rota)
+    (rota_on c.args.options.now.schedule (c.args.e + 1) (c.args.e + c.in_ok-stretch.stretch.quiet + 1) c.next_slice-slice.new.rota c.next_slice-slice.ensures.rota (omega arith))
+
+pub returns-in-Some-clause-step : goal.returns-in-Some-clause-step
+returns-in-Some-clause-step g c =
+    let G = g.G.Guest in
+    let some : 0 < c.unended-count.result = omega arith in
+    let stretch = subst (λ (n : ℕ). IsStretch (G.event_of c.args.code.now) G.unended_of G.graph_of c.next_slice-slice.result.place c.next_slice-slice.result.events n (G.state c.args.machine.now) c.args.tracer.now.stamps c.events.new.stamps c.args.visits.now c.events.new.visits (G.state c.events.new.self) c.events.new.out (G.lost_of c.events.new.self) c.in_ok-stretch.stretch) c.requires.clock c.in_ok-stretch.ensures.stretch in
+    stretch_stops (G.event_of c.args.code.now) G.unended_of G.graph_of G.flushed_of (g.G.Code.Program.names c.args.code.now) c.args.options.now c.args.e c.unended-count.result c.next_slice-slice.result (G.state c.args.machine.now) c.args.tracer.now.stamps c.events.new.stamps c.args.visits.now c.events.new.visits c.next_slice-slice.ensures.slice c.unended-count.ensures some
+    (G.state c.events.new.self) c.events.new.out (G.lost_of c.events.new.self) c.in_ok-stretch.stretch stretch
+    c.unended_at-thread.result c.unended_at-thread.ensures c.args.tracer.now.numbering c.args.tracer.now.numbering c.args.tracer.now.buffer.items c.args.tracer.now.buffer.items c.in-Some.end (sym c.end_after.ensures ∙ c.in-Some.is) refl refl
+
+pub returns-in-Some-clause-stamps : goal.returns-in-Some-clause-stamps
+returns-in-Some-clause-stamps g c =
+    let G = g.G.Guest in
+    let some : 0 < c.unended-count.result = omega arith in
+    let stretch = subst (λ (n : ℕ). IsStretch (G.event_of c.args.code.now) G.unended_of G.graph_of c.next_slice-slice.result.place c.next_slice-slice.result.events n (G.state c.args.machine.now) c.args.tracer.now.stamps c.events.new.stamps c.args.visits.now c.events.new.visits (G.state c.events.new.self) c.events.new.out (G.lost_of c.events.new.self) c.in_ok-stretch.stretch) c.requires.clock c.in_ok-stretch.ensures.stretch in
+    let kept = stretch_kept (G.event_of c.args.code.now) G.unended_of G.graph_of G.flushed_of (g.G.Code.Program.names c.args.code.now) c.args.options.now c.args.e c.unended-count.result c.next_slice-slice.result (G.state c.args.machine.now) c.args.tracer.now.stamps c.events.new.stamps c.args.visits.now c.events.new.visits c.next_slice-slice.ensures.slice c.unended-count.ensures some
+    (G.state c.events.new.self) c.events.new.out (G.lost_of c.events.new.self) c.in_ok-stretch.stretch stretch c.unended_at-thread.result c.in-Some.end c.unended_at-thread.ensures (sym c.end_after.ensures ∙ c.in-Some.is) in
+    let b = behind (G.event_of c.args.code.now) G.unended_of G.graph_of G.flushed_of (g.G.Code.Program.names c.args.code.now) c.args.options.now c.args.e c.unended-count.result c.next_slice-slice.result (G.state c.args.machine.now) c.args.tracer.now.stamps c.events.new.stamps c.args.visits.now c.events.new.visits c.next_slice-slice.ensures.slice c.unended-count.ensures some
+    c.in_ok-stretch.stretch.quiet stretch.mid stretch.comes in
+    record { few = omega (arith, kept, c.requires.stamps.few); places = omega (arith, kept, b.long, c.requires.stamps.places) }
+
+pub returns-in-Some-clause-room : goal.returns-in-Some-clause-room
+returns-in-Some-clause-room g c =
+    let G = g.G.Guest in
+    let some : 0 < c.unended-count.result = omega arith in
+    let stretch = subst (λ (n : ℕ). IsStretch (G.event_of c.args.code.now) G.unended_of G.graph_of c.next_slice-slice.result.place c.next_slice-slice.result.events n (G.state c.args.machine.now) c.args.tracer.now.stamps c.events.new.stamps c.args.visits.now c.events.new.visits (G.state c.events.new.self) c.events.new.out (G.lost_of c.events.new.self) c.in_ok-stretch.stretch) c.requires.clock c.in_ok-stretch.ensures.stretch in
+    let kept = stretch_kept (G.event_of c.args.code.now) G.unended_of G.graph_of G.flushed_of (g.G.Code.Program.names c.args.code.now) c.args.options.now c.args.e c.unended-count.result c.next_slice-slice.result (G.state c.args.machine.now) c.args.tracer.now.stamps c.events.new.stamps c.args.visits.now c.events.new.visits c.next_slice-slice.ensures.slice c.unended-count.ensures some
+    (G.state c.events.new.self) c.events.new.out (G.lost_of c.events.new.self) c.in_ok-stretch.stretch stretch c.unended_at-thread.result c.in-Some.end c.unended_at-thread.ensures (sym c.end_after.ensures ∙ c.in-Some.is) in
+    subst (λ (n : ℕ). G.has_places c.args.tracer.now.room n) (sym kept) c.requires.room

@@ -1,0 +1,65 @@
+-- What holds of a run after an event: how far it came, for what its stamps stand, and how many visits it made. Quiet events keep it.
+use Rattle.std.proofs.Common.{◌≡◌, ℕ, zero, suc, ◌+◌, ◌*◌, ◌≤◌, ◌++◌, Bool, false, if◌then◌else◌, List, [], Option, None, refl, sym, ◌∙◌, ap, subst, arith}
+use Rattle.std.specs.Prelude.{slice_index}
+use Rattle.et_graph.specs.Graph.{Graph, Decides}
+use Rattle.et_state.specs.declared.records.Record.{Record}
+use Rattle.et_state.specs.Outcome.{state_after, records_of}
+use Rattle.et_state.specs.Naming.{Mentions, mentions_after, lines_of}
+use Rattle.et_state.specs.History.{Setting, is_flush_point, outcome_step, ending, settled}
+use Rattle.et_binary.specs.Formats.{lines_written_in}
+use Rattle.et_loop.specs.Quiet.{GoesQuietly, GoQuietly}
+use Rattle.et_loop.specs.Run.{time_noted, due_lines, flush_of, Advances}
+use Rattle.et_loop.specs.Stamping.{Passes}
+use Rattle.et_loop.specs.Told.{IsToldByStamps}
+use Rattle.et_loop.specs.Visits.{due_visits}
+use Rattle.et_loop.proofs.Counts.{AreSoFar, more_so_far}
+use Rattle.et_loop.proofs.Joins.{graphs, next_runs, next_told}
+use Rattle.et_loop.proofs.RunLemmas.{Running, more_nothing, noted_before}
+
+-- a quiet event is a turn without lines
+quiet_turn : {S : Type 0} (reached : Graph → ℕ → Bool) (given : Setting S) (e : ℕ) (s s' : S) (last : ℕ → ℕ) (m : Mentions) (old new : List ℕ) → GoesQuietly given e s s' old new → Advances reached given e s last m s' (time_noted (reached (given.rule.graph s)) last e) m [] []
+quiet_turn {S = S} reached given e s s' last m old new q =
+    let here : s ≡ settled reached given e s = sym (ap (λ (b : Bool). if b then given.rule.flushed (reached (given.rule.graph s)) s else s) q.between) in
+    let told : records_of (outcome_step given (suc e) (settled reached given e s)) ≡ [] = subst (λ (x : S). records_of (outcome_step given (suc e) x) ≡ []) here q.told in
+    record {
+      goes = subst (λ (x : S). ending given e x ≡ None) here q.goes;
+      state = subst (λ (x : S). s' ≡ state_after x (outcome_step given (suc e) x)) here q.state;
+      notes = λ o. refl;
+      mentions = sym (ap (λ (rs : List Record). mentions_after given.names m rs) told);
+      lines =
+          sym (ap (λ (b : Bool). lines_written_in given.format (due_lines b (flush_of (reached (given.rule.graph s)) (time_noted (reached (given.rule.graph s)) last e) e (given.rule.graph s)) ++ lines_of given.names m (records_of (outcome_step given (suc e) (settled reached given e s))))) q.between
+          ∙ ap (λ (rs : List Record). lines_written_in given.format (lines_of given.names m rs)) told);
+    }
+
+module _ {S : Type 0} (reached : Graph → ℕ → Bool) (decides : Decides reached) (given : Setting S) (flush_visits : (ℕ → Bool) → S → ℕ) (start : S) (made : List Record) (m : Mentions) (before now : Option (List ℕ)) (first : ℕ) where
+  pub record Stands (e : ℕ) (s : S) (stamps : List ℕ) (visits : ℕ) : Type 0 where
+    pub runs : Running reached given start made e s (λ o. noted_before reached given start made o e) m before now
+    pub told : IsToldByStamps (graphs reached decides given start made) e (given.rule.graph s) (slice_index stamps)
+    pub so_far : AreSoFar reached given flush_visits start made e s first visits
+
+  stands_next : (e : ℕ) (s s' : S) (old new : List ℕ) (visits : ℕ) → Stands e s old visits → GoesQuietly given e s s' old new → Stands (suc e) s' new (visits + 8)
+  stands_next e s s' old new visits h q =
+      let last = λ (o : ℕ). noted_before reached given start made o e in
+      let turn = quiet_turn reached given e s s' last m old new q in
+      let passes : Passes false e (given.rule.graph s) (given.rule.graph s') (slice_index old) (slice_index new) = (given.rule.graph s, refl, q.marks) in
+      let none : due_visits (is_flush_point given.interval e) (flush_visits (reached (given.rule.graph s)) s) ≡ 0 = ap (λ (b : Bool). due_visits b (flush_visits (reached (given.rule.graph s)) s)) q.between in
+      record {
+        runs = next_runs reached decides given start made e s m before now h.runs (slice_index old) h.told None s' (time_noted (reached (given.rule.graph s)) last e) m [] [] refl refl turn (suc e) now refl (more_nothing now);
+        told = next_told reached decides given start made e s m before now h.runs (slice_index old) h.told None s' (time_noted (reached (given.rule.graph s)) last e) m [] [] refl refl turn (suc e) now refl (more_nothing now) false (slice_index new) passes;
+        so_far = more_so_far reached given flush_visits start made e s first visits h.so_far h.runs.state s' (visits + 8) (omega (arith, q.made)) (omega (arith, none, q.made)) (suc e) refl;
+      }
+
+  pub stands_on : (k e : ℕ) (s s' : S) (old new : List ℕ) (visits : ℕ) → Stands e s old visits → GoQuietly given k e s s' old new → Stands (e + k) s' new (visits + 8 * k)
+  unfolding GoQuietly
+  stands_on zero e s s' old new visits h go =
+      let at : e ≡ e + 0 = omega arith in
+      let many : visits ≡ visits + 8 * 0 = omega arith in
+      subst (λ (n : ℕ). Stands n s' new (visits + 8 * 0)) at
+      (subst (λ (v : ℕ). Stands e s' new v) many
+      (subst (λ (xs : List ℕ). Stands e s' xs visits) (sym go.1)
+      (subst (λ (x : S). Stands e x old visits) (sym go.0) h)))
+  stands_on (suc k) e s s' old new visits h go =
+      let next = stands_next (e + k) go.0 s' go.1 new (visits + 8 * k) (stands_on k e s go.0 old go.1 visits h go.2) go.3 in
+      let at : suc (e + k) ≡ e + suc k = omega arith in
+      let many : visits + 8 * k + 8 ≡ visits + 8 * suc k = omega arith in
+      subst (λ (n : ℕ). Stands n s' new (visits + 8 * suc k)) at (subst (λ (v : ℕ). Stands (suc (e + k)) s' new v) many next)

@@ -1,0 +1,66 @@
+use Rattle.std.proofs.Common.{◌≡◌, ℕ, ◌+◌, List, length, Contains, refl, sym, ap, ◌∙◌, subst, rules, arith}
+use Rattle.std.specs.Prelude.{All, IsTrue}
+use Rattle.et_walk.specs.Telling.{names_of_program}
+use Rattle.et_state.specs.Answers.{TicksWhereDone}
+use Rattle.et_state.specs.Naming.{IsNamed}
+use Rattle.et_state.specs.State.{MachineState, kept_of}
+use Rattle.et_state.specs.declared.ends.EventEnd.TheVariants.{Done}
+use Rattle.et_state.specs.declared.records.Record.{Record}
+use Rattle.et_loop.proofs.RunLemmas.{on_any}
+use Rattle.et_run.proofs.Stretching.{going_first, is_there, going_broken, going_ends, going_native, ticks_where, lost_there, going_on}
+use Rattle.et_run.proofs.stretches.stretch.Goals as goal
+
+pub events-init : goal.events-init
+events-init g c =
+    let heap : length c.machine.inside.heap ≡ length (kept_of c.args.machine.now).heap = ap (λ (m : MachineState). length (kept_of m).heap) c.machine.view_is in
+    going_first c.args.program.now c.args.slice.place c.args.slice.events c.args.machine.now.guest.clock (kept_of c.args.machine.now) c.args.stamps.now c.nth_unended-thread.result c.unended_count.result c.count.result c.args.visits.now c.args.out.now c.requires.some refl c.requires.sound c.requires.made c.requires.stamps c.requires.empty
+    (omega (arith, c.count.ensures.value, heap)) (sym c.unended_count.ensures) (sym c.nth_unended-thread.ensures)
+
+pub machine_event-requires-clause-clock : goal.machine_event-requires-clause-clock
+machine_event-requires-clause-clock g c = omega (arith, c.events.invariant.clock, c.events.invariant.few, c.requires.clock)
+
+pub machine_event-requires-clause-thread : goal.machine_event-requires-clause-thread
+machine_event-requires-clause-thread g c =
+    is_there c.args.program.now c.args.slice.place c.args.slice.events c.args.machine.now.guest.clock (kept_of c.args.machine.now) c.args.stamps.now c.nth_unended-thread.result c.unended_count.result c.count.result c.args.visits.now
+    c.events.quiet (kept_of c.events.machine) c.events.stamps c.events.out c.events.visits c.events.invariant (omega (arith, c.requires.place, c.unended_count.ensures))
+
+pub returns-in_err-end-clause-broken : goal.returns-in_err-end-clause-broken
+returns-in_err-end-clause-broken g c =
+    on_any c.from_residual.result
+    (going_broken c.args.program.now c.args.slice.place c.args.slice.events c.args.machine.now.guest.clock (kept_of c.args.machine.now) c.args.stamps.now c.nth_unended-thread.result c.unended_count.result c.count.result c.args.visits.now
+    c.events.quiet (kept_of c.events.machine) c.events.stamps c.events.out c.events.visits c.events.invariant Done (kept_of c.machine_event.new.machine) c.machine_event.new.out c.machine_event.new.machine.lost c.machine_event.new.visits c.in_err-end.ensures.visits)
+
+pub returns-then-quiet-slice-clause-stretch : goal.returns-then-quiet-slice-clause-stretch
+returns-then-quiet-slice-clause-stretch g c =
+    going_ends c.args.program.now c.args.slice.place c.args.slice.events c.args.machine.now.guest.clock (kept_of c.args.machine.now) c.args.stamps.now c.nth_unended-thread.result c.unended_count.result c.count.result c.args.visits.now
+    c.events.quiet (kept_of c.events.machine) c.events.stamps c.events.out c.events.visits c.events.invariant c.in_ok-end.end (kept_of c.machine_event.new.machine) c.machine_event.new.out c.machine_event.new.machine.lost c.machine_event.new.visits
+    c.in_ok-end.ensures.answers c.in_ok-end.ensures.step c.in_ok-end.ensures.visits
+
+pub returns-then-quiet-slice-clause-clock : goal.returns-then-quiet-slice-clause-clock
+returns-then-quiet-slice-clause-clock g c =
+    subst (λ (n : ℕ). TicksWhereDone c.in_ok-end.end n c.machine_event.new.machine.guest.clock) c.events.invariant.clock c.in_ok-end.ensures.clock
+
+pub returns-then-quiet-slice-clause-named : goal.returns-then-quiet-slice-clause-named
+returns-then-quiet-slice-clause-named g c =
+    let P = IsNamed (names_of_program c.args.program.now) in
+    c.in_ok-end.ensures.named (subst (λ (rs : List Record). All P rs) (sym c.events.invariant.empty) (λ k d lt. absurd (omega arith)))
+
+pub stamp_each-requires-clause-places : goal.stamp_each-requires-clause-places
+stamp_each-requires-clause-places g c = λ o h.
+    let yes : IsTrue c.is_quiet.result = search rules in
+    lost_there c.args.program.now c.args.slice.place c.args.slice.events c.args.machine.now.guest.clock (kept_of c.args.machine.now) c.args.stamps.now c.nth_unended-thread.result c.unended_count.result c.count.result c.args.visits.now
+    c.events.quiet (kept_of c.events.machine) c.events.stamps c.events.out c.events.visits c.events.invariant c.in_ok-end.end (kept_of c.machine_event.new.machine) c.machine_event.new.out c.machine_event.new.machine.lost c.machine_event.new.visits
+    c.in_ok-end.ensures.answers c.in_ok-end.ensures.step (c.is_quiet.ensures.done yes) (c.is_quiet.ensures.objects yes) o (subst (λ (os : List ℕ). Contains os o) c.lost.ensures h)
+
+pub events-preserved : goal.events-preserved
+events-preserved g c =
+    let yes : IsTrue c.is_quiet.result = search rules in
+    let at : c.clock-e.result ≡ c.args.machine.now.guest.clock + c.events.quiet = c.clock-e.ensures ∙ c.events.invariant.clock in
+    let there = λ (o : ℕ) (h : Contains c.machine_event.new.machine.lost o). subst (λ (os : List ℕ). Contains os o) (sym c.lost.ensures) h in
+    let back = λ (o : ℕ) (h : Contains c.lost.result.now o). subst (λ (os : List ℕ). Contains os o) c.lost.ensures h in
+    let ticked = ticks_where c.in_ok-end.end c.events.machine.guest.clock c.machine_event.new.machine.guest.clock (c.is_quiet.ensures.done yes) (going_native c.args.program.now c.args.slice.place c.args.slice.events c.args.machine.now.guest.clock (kept_of c.args.machine.now) c.args.stamps.now c.nth_unended-thread.result c.unended_count.result c.count.result c.args.visits.now
+    c.events.quiet (kept_of c.events.machine) c.events.stamps c.events.out c.events.visits c.events.invariant c.in_ok-end.end (kept_of c.machine_event.new.machine) c.machine_event.new.out c.machine_event.new.machine.lost c.machine_event.new.visits c.in_ok-end.ensures.answers) c.in_ok-end.ensures.clock in
+    going_on c.args.program.now c.args.slice.place c.args.slice.events c.args.machine.now.guest.clock (kept_of c.args.machine.now) c.args.stamps.now c.nth_unended-thread.result c.unended_count.result c.count.result c.args.visits.now
+    c.events.quiet (kept_of c.events.machine) c.events.stamps c.events.out c.events.visits c.events.invariant c.in_ok-end.end (kept_of c.machine_event.new.machine) c.machine_event.new.out c.machine_event.new.machine.lost c.machine_event.new.visits
+    c.in_ok-end.ensures.answers c.in_ok-end.ensures.step (c.is_quiet.ensures.done yes) c.stamp_each.new.stamps (omega arith) (c.is_quiet.ensures.told yes) (c.is_quiet.ensures.objects yes) (c.is_quiet.ensures.threads yes) (c.is_quiet.ensures.thread yes)
+    c.stamp_each.ensures.long (λ o h. c.stamp_each.ensures.each o (there o h) ∙ at) (λ o out. c.stamp_each.ensures.others o (λ h. out (back o h))) (omega (arith, ticked, c.events.invariant.clock)) c.in_ok-end.ensures.sound c.in_ok-end.ensures.visits

@@ -1,0 +1,122 @@
+//! Events of a machine that one thread does at once.
+ghost use Rattle.std.specs.Prelude.{◌≡◌, ◌+◌, ◌<◌, ◌≤◌, ◌^◌, [], None, All, IfOk, IsTrue, OnErr, OnOk, length, slice_index};
+ghost use Rattle.et_event.specs.Event.{event};
+ghost use Rattle.et_heap.specs.Objects.{made_count};
+ghost use Rattle.et_history.specs.Settings.{IsSoundRun, unended_threads};
+ghost use Rattle.et_walk.specs.Telling.{names_of_program};
+ghost use Rattle.et_loop.specs.Quiet.{IsStretch, IsBrokenOff};
+ghost use Rattle.et_loop.specs.Run.{end_after};
+ghost use Rattle.et_loop.specs.Stamping.{AreMade, HasStamps};
+ghost use Rattle.et_state.specs.Answers.{TicksWhereDone};
+ghost use Rattle.et_state.specs.Naming.{IsNamed};
+ghost use Rattle.et_state.specs.Roots.{graph_of};
+ghost use Rattle.et_state.specs.State.{kept_of};
+ghost use Rattle.et_state.specs.Threads.{unended_of};
+
+use crate::steps::machine_event;
+use crate::threads::nth_unended;
+use et_base::{NoMemory, Steps, ThreadId};
+use et_graph::Stamps;
+use et_loop::{Stretch, TimeSlice, stamp_each};
+use et_program::Program;
+use et_state::{EventEnd, Lines, Machine};
+use std::alloc::Global;
+use std::sync::ledger::Ledger;
+
+/// What stays as it is while events are quiet: the thread at the place, and how many threads have not ended and how many
+/// objects were made.
+#[derive(Clone, Copy)]
+struct Standing {
+    place: usize,
+    thread: ThreadId,
+    threads: usize,
+    objects: u32,
+}
+
+/// Whether an event that went so was done.
+#[inline(always)]
+fn is_done(end: &EventEnd) -> bool
+    ensures { IsTrue result → end_after 0 end.now ≡ None }
+{
+    matches!(end, EventEnd::Done | EventEnd::Waited)
+}
+
+/// Whether as many objects were made, and as many threads have not ended, with the same one at the place.
+#[inline(always)]
+fn stands(machine: &Machine, standing: &Standing) -> bool
+    requires { standing.now.place < standing.now.threads }
+    ensures objects { IsTrue result → made_count machine.now.heap ≡ standing.now.objects }
+    ensures threads { IsTrue result →
+        length (unended_of machine.now.guest.threads) ≡ standing.now.threads }
+    ensures thread { IsTrue result →
+        slice_index (unended_of machine.now.guest.threads) standing.now.place
+        ≡ standing.now.thread }
+{
+    if machine.heap.count() != standing.objects || machine.unended_count() != standing.threads {
+        return false;
+    }
+    nth_unended(machine, standing.place) == standing.thread
+}
+
+/// Whether the newest event is quiet, which went so and has these records.
+#[inline(always)]
+fn is_quiet(machine: &Machine, standing: &Standing, end: &EventEnd, out: &Lines) -> bool
+    requires { standing.now.place < standing.now.threads }
+    ensures done { IsTrue result → end_after 0 end.now ≡ None }
+    ensures told { IsTrue result → out.now ≡ [] }
+    ensures objects { IsTrue result → made_count machine.now.heap ≡ standing.now.objects }
+    ensures threads { IsTrue result →
+        length (unended_of machine.now.guest.threads) ≡ standing.now.threads }
+    ensures thread { IsTrue result →
+        slice_index (unended_of machine.now.guest.threads) standing.now.place
+        ≡ standing.now.thread }
+{
+    is_done(end) && out.records().is_empty() && stands(machine, standing)
+}
+
+/// The events of a time slice, up to one that is not quiet.
+pub fn stretch<L: Ledger>(
+    alloc: Global,
+    program: &Program,
+    machine: &mut Machine,
+    slice: TimeSlice,
+    out: &mut Lines,
+    stamps: &mut Stamps,
+    visits: &mut Steps<L>,
+) -> Result<Stretch, NoMemory>
+    requires clock { machine.old.guest.clock + slice.events ≤ 2 ^ 40 }
+    requires some { 0 < slice.events }
+    requires sound { IsSoundRun program.now (kept_of machine.old) }
+    requires place { slice.place < length (unended_threads (kept_of machine.old)) }
+    requires made { AreMade (graph_of (kept_of machine.old)) }
+    requires stamps { HasStamps (graph_of (kept_of machine.old)) stamps.old }
+    requires empty { out.old ≡ [] }
+    ensures stretch { IfOk result (λ stretch. IsStretch (event program.now) unended_threads graph_of
+        slice.place slice.events machine.old.guest.clock (kept_of machine.old) stamps.old
+        stamps.new visits.old visits.new (kept_of machine.new) out.new machine.new.lost stretch) }
+    ensures broken { OnErr result (IsBrokenOff (event program.now) unended_threads graph_of
+        slice.place slice.events machine.old.guest.clock (kept_of machine.old) stamps.old
+        stamps.new visits.old visits.new) }
+    ensures sound { OnOk result (IsSoundRun program.now (kept_of machine.new)) }
+    ensures clock { IfOk result (λ stretch. TicksWhereDone stretch.end
+        (machine.old.guest.clock + stretch.quiet) machine.new.guest.clock) }
+    ensures named { OnOk result (All (IsNamed (names_of_program program.now)) out.new) }
+{
+    let thread = nth_unended(machine, slice.place);
+    let standing = Standing {
+        place: slice.place,
+        thread,
+        threads: machine.unended_count(),
+        objects: machine.heap.count(),
+    };
+    let mut quiet = 0;
+    'events: loop {
+        let e = machine.clock();
+        let end = machine_event(alloc, program, machine, thread, out, visits)?;
+        if quiet + 1 == slice.events || !is_quiet(machine, &standing, &end, out) {
+            return Ok(Stretch { quiet, end });
+        }
+        stamp_each(stamps, machine.lost(), e);
+        quiet += 1;
+    }
+}
