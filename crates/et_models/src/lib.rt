@@ -3,15 +3,13 @@
 
 mod generational;
 mod generations;
-mod mark_sweep;
 mod marks;
+mod one_space;
 mod places;
 mod remembered;
-mod semi_space;
 mod slots;
 mod space;
 mod tables;
 
 pub use generational::Generational;
-pub use mark_sweep::MarkSweep;
-pub use semi_space::SemiSpace;
+pub use one_space::{ByCopying, Collected, InPlace, MarkSweep, OneSpace, SemiSpace};
