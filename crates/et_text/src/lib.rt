@@ -21,4 +21,4 @@ pub use fault::{AFTER, FORM, LineError, TraceFault};
 pub use reader::TextReader;
 pub use rules::Rules;
 pub use trace::Trace;
-pub use writing::write_line;
+pub use writing::{put_name, write_line};

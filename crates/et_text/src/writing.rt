@@ -55,7 +55,8 @@ fn put_bytes(buffer: &mut Vec<u8>, name: &[u8]) -> Result<(), NoMemory>
     Ok(())
 }
 
-fn put_name(buffer: &mut Vec<u8>, name: &Name) -> Result<(), NoMemory>
+/// A name behind a space, with its escapes. After an error the buffer may have more, but nothing of it changed.
+pub fn put_name(buffer: &mut Vec<u8>, name: &Name) -> Result<(), NoMemory>
     ensures ok { OnOk result (buffer.new.items ≡ buffer.old.items ++ text_field name.now) }
     ensures err { OnErr result (Extends buffer.old.items buffer.new.items) }
 {
