@@ -1,0 +1,2 @@
+//! What stood in the heap at an event.
+#![tactic(auto)]
