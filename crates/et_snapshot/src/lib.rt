@@ -1,2 +1,10 @@
 //! What stood in the heap at an event.
 #![tactic(auto)]
+
+mod heap;
+pub mod laws;
+mod rows;
+mod snapshot;
+mod totals;
+
+pub use snapshot::snapshot_lines;

@@ -1,0 +1,9 @@
+mod Bytes
+mod Classes
+mod Contents
+mod Counting
+mod Entries
+mod Keeping
+mod Pieces
+mod Telling
+mod Wholes

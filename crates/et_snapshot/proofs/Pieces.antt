@@ -1,0 +1,134 @@
+-- What a sink took of rows that follow what was gathered before.
+use Rattle.std.proofs.Common.{◌≡◌, ◌∙◌, ℕ, zero, suc, ◌+◌, ◌<◌, ◌≤◌, List, [], ◌∷◌, ◌++◌, length, map, get_or, drop, refl, sym, ap, subst, append_assoc, arith, length-append}
+use Rattle.std.specs.Prelude.{Option, Result, Ok, Err, OnErr, OnOk, All}
+use Rattle.std.specs.List.{flat_map, zip}
+use Rattle.std.proofs.lemmas.Grind.{flat_map-append}
+use Rattle.std.proofs.lemmas.List.{append-nil, map-append, get_or_at}
+use Rattle.et_io.specs.Sink.{with_more, TakesUpTo, TakesPrefix}
+use Rattle.et_io.proofs.Taking.{with_more-nil, with_more-with_more}
+
+-- more is gathered
+pub gathers : (old mid : Option (List ℕ)) (whole rest more : List ℕ) → TakesUpTo old mid whole rest → TakesUpTo old mid (whole ++ more) (rest ++ more)
+gathers old mid whole rest more a = record { prefix = a.prefix; parts = ap (λ (t : List ℕ). t ++ more) a.parts ∙ append_assoc a.prefix rest more; taken = a.taken }
+
+-- nothing was put yet
+pub holds_back : (old : Option (List ℕ)) (text : List ℕ) → TakesUpTo old old text text
+holds_back old text = record { prefix = []; parts = refl; taken = sym (with_more-nil old) }
+
+-- a piece of what was left goes on
+pub goes_on : (old mid new : Option (List ℕ)) (whole rest left : List ℕ) → TakesUpTo old mid whole rest → TakesUpTo mid new rest left → TakesUpTo old new whole left
+goes_on old mid new whole rest left a b = record {
+  prefix = a.prefix ++ b.prefix;
+  parts = a.parts ∙ (ap (λ (t : List ℕ). a.prefix ++ t) b.parts ∙ sym (append_assoc a.prefix b.prefix left));
+  taken = b.taken ∙ (ap (λ (t : Option (List ℕ)). with_more t b.prefix) a.taken ∙ with_more-with_more old a.prefix b.prefix);
+}
+
+-- a prefix of the front is one of all
+pub longer : (old new : Option (List ℕ)) (front behind whole : List ℕ) → whole ≡ front ++ behind → TakesPrefix old new front → TakesPrefix old new whole
+longer old new front behind whole e a = (a.0 ++ behind, record { prefix = a.1.prefix; parts = e ∙ (ap (λ (t : List ℕ). t ++ behind) a.1.parts ∙ append_assoc a.1.prefix a.0 behind); taken = a.1.taken })
+
+-- two texts one after the other
+pub then_up_to : (old mid new : Option (List ℕ)) (start a b text left : List ℕ) → TakesUpTo old mid (start ++ a) text → TakesUpTo mid new (text ++ b) left → TakesUpTo old new (start ++ (a ++ b)) left
+then_up_to old mid new start a b text left h k =
+    subst (λ (t : List ℕ). TakesUpTo old new t left) (append_assoc start a b) (goes_on old mid new ((start ++ a) ++ b) (text ++ b) left (gathers old mid (start ++ a) text b h) k)
+
+pub then_prefix : (old mid new : Option (List ℕ)) (start a b text : List ℕ) → TakesUpTo old mid (start ++ a) text → TakesPrefix mid new (text ++ b) → TakesPrefix old new (start ++ (a ++ b))
+then_prefix old mid new start a b text h k = (k.0, then_up_to old mid new start a b text k.0 h k.1)
+
+-- the first of two stops
+pub stops_in_first : (old new : Option (List ℕ)) (start a b : List ℕ) → TakesPrefix old new (start ++ a) → TakesPrefix old new (start ++ (a ++ b))
+stops_in_first old new start a b h = longer old new (start ++ a) b (start ++ (a ++ b)) (sym (append_assoc start a b)) h
+
+-- nothing was put
+pub puts_nothing : (old : Option (List ℕ)) (text more : List ℕ) → TakesPrefix old old (text ++ more)
+puts_nothing old text more = (text ++ more, holds_back old (text ++ more))
+
+-- the rows of the first ones were gathered, and those of the rest are still to come
+pub record Puts {A : Type 0} (row : A → List ℕ) (all rest : List A) (old mid : Option (List ℕ)) (start text : List ℕ) : Type 0 where
+  pub done : List A
+  pub parts : all ≡ done ++ rest
+  pub taken : TakesUpTo old mid (start ++ flat_map row done) text
+
+pub puts_begin : {A : Type 0} (row : A → List ℕ) (all rest : List A) (old : Option (List ℕ)) (start : List ℕ) → rest ≡ all → Puts row all rest old old start start
+puts_begin row all rest old start e = record {
+  done = [];
+  parts = sym e;
+  taken = subst (λ (t : List ℕ). TakesUpTo old old t start) (sym (append-nil start)) (holds_back old start);
+}
+
+more_rows : {A : Type 0} (row : A → List ℕ) (done : List A) (x : A) (start : List ℕ) → start ++ flat_map row (done ++ x ∷ []) ≡ start ++ (flat_map row done ++ row x)
+more_rows row done x start = ap (λ (t : List ℕ). start ++ t) (flat_map-append row done (x ∷ []) ∙ ap (λ (t : List ℕ). flat_map row done ++ t) (append-nil (row x)))
+
+pub puts_more : {A : Type 0} (row : A → List ℕ) (all rest rest' : List A) (x : A) (old mid new : Option (List ℕ)) (start text left : List ℕ) → rest ≡ x ∷ rest' → Puts row all rest old mid start text → TakesUpTo mid new (text ++ row x) left → Puts row all rest' old new start left
+puts_more {A = A} row all rest rest' x old mid new start text left e p t = record {
+  done = p.done ++ x ∷ [];
+  parts = p.parts ∙ (ap (λ (l : List A). p.done ++ l) e ∙ sym (append_assoc p.done (x ∷ []) rest'));
+  taken = subst (λ (l : List ℕ). TakesUpTo old new l left) (sym (more_rows row p.done x start)) (then_up_to old mid new start (flat_map row p.done) (row x) text left p.taken t);
+}
+
+all_rows : {A : Type 0} (row : A → List ℕ) (all done rest : List A) → all ≡ done ++ rest → flat_map row all ≡ flat_map row done ++ flat_map row rest
+all_rows {A = A} row all done rest e = ap (λ (l : List A). flat_map row l) e ∙ flat_map-append row done rest
+
+-- no more is put
+pub puts_stop : {A : Type 0} (row : A → List ℕ) (all rest : List A) (old mid : Option (List ℕ)) (start text : List ℕ) → Puts row all rest old mid start text → TakesPrefix old mid (start ++ flat_map row all)
+puts_stop row all rest old mid start text p =
+    subst (λ (t : List ℕ). TakesPrefix old mid (start ++ t)) (sym (all_rows row all p.done rest p.parts)) (stops_in_first old mid start (flat_map row p.done) (flat_map row rest) (text, p.taken))
+
+pub puts_fail : {A : Type 0} (row : A → List ℕ) (all rest rest' : List A) (x : A) (old mid new : Option (List ℕ)) (start text : List ℕ) → rest ≡ x ∷ rest' → Puts row all rest old mid start text → TakesPrefix mid new (text ++ row x) → TakesPrefix old new (start ++ flat_map row all)
+puts_fail row all rest rest' x old mid new start text e p t = puts_stop row all rest' old new start t.0 (puts_more row all rest rest' x old mid new start text t.0 e p t.1)
+
+pub puts_all : {A : Type 0} (row : A → List ℕ) (all rest : List A) (old mid : Option (List ℕ)) (start text : List ℕ) → rest ≡ [] → Puts row all rest old mid start text → TakesUpTo old mid (start ++ flat_map row all) text
+puts_all {A = A} row all rest old mid start text e p =
+    let whole : all ≡ p.done = p.parts ∙ (ap (λ (l : List A). p.done ++ l) e ∙ append-nil p.done) in
+    subst (λ (l : List A). TakesUpTo old mid (start ++ flat_map row l) text) (sym whole) p.taken
+
+-- the row of the next one is gathered, and a piece may be put
+pub puts_next : {A : Type 0} (row : A → List ℕ) (all rest rest' : List A) (x : A) (old mid new : Option (List ℕ)) (start text more left : List ℕ) → rest ≡ x ∷ rest' → Puts row all rest old mid start text → more ≡ text ++ row x → TakesUpTo mid new more left → Puts row all rest' old new start left
+puts_next row all rest rest' x old mid new start text more left e p is t = puts_more row all rest rest' x old mid new start text left e p (subst (λ (l : List ℕ). TakesUpTo mid new l left) is t)
+
+-- .. or fails to be
+pub puts_break : {A : Type 0} (row : A → List ℕ) (all rest rest' : List A) (x : A) (old mid new : Option (List ℕ)) (start text more : List ℕ) → rest ≡ x ∷ rest' → Puts row all rest old mid start text → more ≡ text ++ row x → TakesPrefix mid new more → TakesPrefix old new (start ++ flat_map row all)
+puts_break row all rest rest' x old mid new start text more e p is t = puts_fail row all rest rest' x old mid new start text e p (subst (λ (l : List ℕ). TakesPrefix mid new l) is t)
+
+pub on_err : {T E : Type 0} {P : Type 0} (r : Result T E) → P → OnErr r P
+on_err (Ok x) p = tt
+on_err (Err e) p = p
+
+pub on_ok : {T E : Type 0} {P : Type 0} (r : Result T E) → P → OnOk r P
+on_ok (Ok x) p = p
+on_ok (Err e) p = tt
+
+-- what holds of all holds of the next one
+pub next_fits : {A B : Type 0} (P : B → Type 0) (f : A → B) (all rest rest' : List A) (x : A) (done : List A) → all ≡ done ++ rest → rest ≡ x ∷ rest' → All P (map f all) → P (f x)
+next_fits {A = A} {B = B} P f all rest rest' x done parts next a =
+    let split : map f all ≡ map f done ++ f x ∷ map f rest' = ap (λ (l : List A). map f l) (parts ∙ ap (λ (l : List A). done ++ l) next) ∙ map-append f done (x ∷ rest') in
+    let long = length-append (map f done) (f x ∷ map f rest') in
+    let whole : length (map f all) ≡ length (map f done ++ f x ∷ map f rest') = ap (λ (l : List B). length l) split in
+    let here = a (length (map f done)) (f x) (omega (arith, whole, long)) in
+    subst P (ap (λ (l : List B). get_or l (length (map f done)) (f x)) split ∙ get_or_at (map f done) (f x) (map f rest') (f x) (length (map f done)) refl) here
+
+-- two lists side by side, from a place on
+pub drop_zip : {A B : Type 0} (xs : List A) (ys : List B) (i : ℕ) (d : A) (e : B) → i < length xs → i < length ys → drop i (zip xs ys) ≡ (get_or xs i d, get_or ys i e) ∷ drop (i + 1) (zip xs ys)
+drop_zip [] ys i d e lt le = absurd (omega (arith, lt))
+drop_zip (x ∷ xs) [] i d e lt le = absurd (omega (arith, le))
+drop_zip (x ∷ xs) (y ∷ ys) zero d e lt le = refl
+drop_zip {A = A} {B = B} (x ∷ xs) (y ∷ ys) (suc i) d e lt le =
+    let next : suc i + 1 ≡ suc (i + 1) = omega arith in
+    drop_zip xs ys i d e (omega (arith, lt)) (omega (arith, le)) ∙ ap (λ (k : ℕ). (get_or xs i d, get_or ys i e) ∷ drop k (zip (x ∷ xs) (y ∷ ys))) (sym next)
+
+pub drop_zip_all : {A B : Type 0} (xs : List A) (ys : List B) (i : ℕ) → length ys ≤ i → drop i (zip xs ys) ≡ []
+drop_zip_all [] ys zero le = refl
+drop_zip_all [] ys (suc i) le = refl
+drop_zip_all (x ∷ xs) [] zero le = refl
+drop_zip_all (x ∷ xs) [] (suc i) le = refl
+drop_zip_all (x ∷ xs) (y ∷ ys) zero le = absurd (omega (arith, le))
+drop_zip_all (x ∷ xs) (y ∷ ys) (suc i) le = drop_zip_all xs ys i (omega (arith, le))
+
+-- the rest of all that was gathered is put
+pub ends_whole : (old mid new : Option (List ℕ)) (whole text : List ℕ) → TakesUpTo old mid whole text → new ≡ with_more mid text → new ≡ with_more old whole
+ends_whole old mid new whole text a e =
+    e ∙ (ap (λ (t : Option (List ℕ)). with_more t text) a.taken ∙ (with_more-with_more old a.prefix text ∙ ap (λ (t : List ℕ). with_more old t) (sym a.parts)))
+
+-- .. or a part of it
+pub ends_front : (old mid new : Option (List ℕ)) (whole text : List ℕ) → TakesUpTo old mid whole text → TakesPrefix mid new text → TakesPrefix old new whole
+ends_front old mid new whole text a b = (b.0, goes_on old mid new whole text b.0 a b.1)

@@ -1,0 +1,65 @@
+-- The whole text of a snapshot, put part by part.
+use Rattle.std.proofs.Common.{◌≡◌, ◌∙◌, ℕ, List, [], ◌∷◌, ◌++◌, length, refl, sym, ap, append_assoc}
+use Rattle.std.specs.Prelude.{reverse, codes, Option, None}
+use Rattle.std.specs.List.{flat_map}
+use Rattle.std.proofs.lemmas.List.{length-map}
+use Rattle.et_base.specs.declared.line.TraceLine.{TraceLine}
+use Rattle.et_io.specs.Sink.{TakesUpTo, TakesPrefix}
+use Rattle.et_text.specs.Rules.{AreFine}
+use Rattle.et_text.specs.Spelling.{number_field}
+use Rattle.et_replay.specs.Curve.{live}
+use Rattle.et_snapshot.specs.declared.heap.Heap.{Heap}
+use Rattle.et_snapshot.specs.declared.totals.Total.{Total}
+use Rattle.et_snapshot.specs.Snapshot.{static_row, slots_at, object_rows, live_lines, class_row, head_row, snapshot_text}
+use Rattle.et_snapshot.specs.Heap.{objects_of, lists_of, row_of, rows_of, total_rows, IsCounted}
+use Rattle.et_snapshot.proofs.Classes.{fields}
+use Rattle.et_snapshot.proofs.Pieces.{longer, then_up_to, then_prefix}
+use Rattle.et_snapshot.proofs.Telling.{objects_told, count_is, bytes_are, static_rows, object_rows_are, class_rows_are}
+
+abbrev pub head_of : ℕ → Total → List ℕ
+head_of e all = codes "snapshot" ++ number_field e ++ number_field all.count ++ number_field all.bytes ++ 10 ∷ []
+
+abbrev pub statics_of : Heap → List ℕ
+statics_of heap = flat_map (row_of None) heap.statics.entries
+
+abbrev pub object_text : Heap → List ℕ
+object_text heap = flat_map (rows_of (lists_of heap.names.items)) (objects_of heap.objects.entries)
+
+abbrev pub class_text : Heap → List Total → List ℕ
+class_text heap totals = total_rows (lists_of heap.names.items) totals
+
+-- what was counted tells the text
+pub whole_is : (version e : ℕ) (lines : List TraceLine) (heap : Heap) (totals : List Total) (all : Total) → AreFine version (reverse lines) → IsCounted lines e heap totals all
+    → head_of e all ++ statics_of heap ++ object_text heap ++ class_text heap totals ≡ snapshot_text lines e
+whole_is version e lines heap totals all f c =
+    let kept = objects_of heap.objects.entries in
+    let told = objects_told version e lines lines kept f refl c.objects in
+    let many : length totals ≡ length (fields lines) = c.as_many ∙ (sym (length-map heap.names.items (λ v. v.items)) ∙ ap (λ (l : List (List ℕ)). length l) c.names) in
+    let count : all.count ≡ length (live_lines lines e) = c.whole.count ∙ count_is lines e kept told in
+    let bytes : all.bytes ≡ live lines e = c.whole.bytes ∙ bytes_are lines e kept told in
+    let statics : statics_of heap ≡ flat_map static_row (slots_at lines e 0) = ap (λ (s : List (ℕ × ℕ)). flat_map (row_of None) s) c.statics ∙ static_rows e lines in
+    let objects : object_text heap ≡ flat_map (object_rows lines e) (live_lines lines e) = ap (λ (n : List (List ℕ)). flat_map (rows_of n) kept) c.names ∙ object_rows_are lines e kept told in
+    let classes : class_text heap totals ≡ flat_map (class_row (live_lines lines e)) lines = ap (λ (n : List (List ℕ)). total_rows n totals) c.names ∙ class_rows_are lines e kept totals told many c.each in
+    ap (λ (n : ℕ). codes "snapshot" ++ number_field e ++ number_field n ++ number_field all.bytes ++ 10 ∷ [] ++ statics_of heap ++ object_text heap ++ class_text heap totals) count
+    ∙ (ap (λ (n : ℕ). codes "snapshot" ++ number_field e ++ number_field (length (live_lines lines e)) ++ number_field n ++ 10 ∷ [] ++ statics_of heap ++ object_text heap ++ class_text heap totals) bytes
+    ∙ (ap (λ (t : List ℕ). head_row lines e ++ t ++ object_text heap ++ class_text heap totals) statics
+    ∙ (ap (λ (t : List ℕ). head_row lines e ++ flat_map static_row (slots_at lines e 0) ++ t ++ class_text heap totals) objects
+    ∙ ap (λ (t : List ℕ). head_row lines e ++ flat_map static_row (slots_at lines e 0) ++ flat_map (object_rows lines e) (live_lines lines e) ++ t) classes)))
+
+module _ (old one two three : Option (List ℕ)) (h s o c : List ℕ) where
+  -- four texts, of which three were gathered after the first
+  pub three_up_to : (a b d : List ℕ) → TakesUpTo old one (h ++ s) a → TakesUpTo one two (a ++ o) b → TakesUpTo two three (b ++ c) d → TakesUpTo old three (h ++ ((s ++ o) ++ c)) d
+  three_up_to a b d p q r = then_up_to old two three h (s ++ o) c b d (then_up_to old one two h s o a b p q) r
+
+  pub last_stops : (a b : List ℕ) → TakesUpTo old one (h ++ s) a → TakesUpTo one two (a ++ o) b → TakesPrefix two three (b ++ c) → TakesPrefix old three (h ++ ((s ++ o) ++ c))
+  last_stops a b p q r = then_prefix old two three h (s ++ o) c b (then_up_to old one two h s o a b p q) r
+
+  pub second_stops : (a : List ℕ) → TakesUpTo old one (h ++ s) a → TakesPrefix one two (a ++ o) → TakesPrefix old two (h ++ ((s ++ o) ++ c))
+  second_stops a p q = longer old two (h ++ (s ++ o)) c (h ++ ((s ++ o) ++ c)) (sym (append_assoc h (s ++ o) c)) (then_prefix old one two h s o a p q)
+
+  pub first_stops : TakesPrefix old one (h ++ s) → TakesPrefix old one (h ++ ((s ++ o) ++ c))
+  first_stops p = longer old one (h ++ s) (o ++ c) (h ++ ((s ++ o) ++ c)) (ap (λ (t : List ℕ). h ++ t) (append_assoc s o c) ∙ sym (append_assoc h s (o ++ c))) p
+
+-- the four, one after the other
+pub joined : (h s o c : List ℕ) → h ++ ((s ++ o) ++ c) ≡ h ++ s ++ o ++ c
+joined h s o c = sym (append_assoc h (s ++ o) c) ∙ ap (λ (t : List ℕ). t ++ c) (sym (append_assoc h s o))
