@@ -46,6 +46,9 @@ use Rattle.et_state.specs.declared.stage.Stage.TheVariants.{Before, Clinit, Plai
 use Rattle.et_walk.proofs.Arguments.{IsPassed, cause_references, message_reference, target_reference}
 use Rattle.et_walk.proofs.Recording.{slot_steady}
 use Rattle.et_walk.proofs.Heaps.{first_waiting_fine, referent_fine, slots_fine}
+use Rattle.et_graph.specs.Graph.{IsReached}
+use Rattle.et_state.specs.Roots.{graph_of}
+use Rattle.et_walk.proofs.AtHand.{near, near_held, near_reached, operands_near}
 use Rattle.et_walk.proofs.Held.{IsInMethod, Ready, entry_fine, first_fine, frame_fine, lock_there, own_there, receiver_fine, reference_fine, thread_fine}
 use Rattle.et_walk.proofs.Rows.{later_fine, object_sound, on_top, operands_fine}
 use Rattle.et_walk.proofs.Taken.{any_value, fine_entries, fine_read, fine_value}
@@ -190,21 +193,21 @@ module _ (e : Moment) (ready : Ready e) (framed : IsFramed e) where
   taken_comes at arguments = answering_comes at arguments [] (begins e) Begins (λ u. tt)
 
   -- an argument is written to the first slot
-  first_comes : (at : Site) (arguments : List Value) (o : ℕ) → Fines e.before.heap arguments → IsHeld e.before.heap o → 0 < length (object_at e.before.heap o).slots → IsReference (argument arguments 1)
+  first_comes : (at : Site) (arguments : List Value) (o : ℕ) → Fines e.before.heap arguments → IsHeld e.before.heap o → 0 < length (object_at e.before.heap o).slots → IsReference (argument arguments 1) → IsReached (graph_of e.before) o
       → Comes e StringsAlone Level (slot_written e o 0 (argument arguments 1) (answering e at arguments [] (begins e)))
-  first_comes at arguments o f held inside is =
+  first_comes at arguments o f held inside is hand =
       let x : Doing = answering e at arguments [] (begins e) in
-      WritesSlot Level o 0 (argument arguments 1) x (taken_comes at arguments) (λ u. later_write x.state o 0 (argument arguments 1) u held (omega arith) (later_value x.state arguments 1 u f)) (record { slot = λ cause. inside; plain = inl is })
+      WritesSlot Level o 0 (argument arguments 1) x (taken_comes at arguments) (λ u. later_write x.state o 0 (argument arguments 1) u held (omega arith) (later_value x.state arguments 1 u f)) (record { slot = λ cause. inside; plain = inl is; at_hand = inl hand })
 
   -- .. and one to the second
-  second_comes : (at : Site) (arguments : List Value) (o : ℕ) → Fines e.before.heap arguments → IsHeld e.before.heap o → 1 < length (object_at e.before.heap o).slots → IsReference (argument arguments 1) × IsReference (argument arguments 2)
+  second_comes : (at : Site) (arguments : List Value) (o : ℕ) → Fines e.before.heap arguments → IsHeld e.before.heap o → 1 < length (object_at e.before.heap o).slots → IsReference (argument arguments 1) × IsReference (argument arguments 2) → IsReached (graph_of e.before) o
       → Comes e StringsAlone Level (slot_written e o 1 (argument arguments 2) (slot_written e o 0 (argument arguments 1) (answering e at arguments [] (begins e))))
-  second_comes at arguments o f held inside is =
+  second_comes at arguments o f held inside is hand =
       let x : Doing = answering e at arguments [] (begins e) in
       let y : Doing = slot_written e o 0 (argument arguments 1) x in
       let same : length (object_at y.state.heap o).slots ≡ length (object_at e.before.heap o).slots = ((slot_steady e o 0 (argument arguments 1) x held).alike o held).slots in
-      WritesSlot Level o 1 (argument arguments 2) y (first_comes at arguments o f held (omega (arith, inside)) is.0) (λ u. later_write y.state o 1 (argument arguments 2) u held (omega arith) (later_value y.state arguments 2 u f))
-      (record { slot = λ cause. omega (arith, inside, same); plain = inl is.1 })
+      WritesSlot Level o 1 (argument arguments 2) y (first_comes at arguments o f held (omega (arith, inside)) is.0 hand) (λ u. later_write y.state o 1 (argument arguments 2) u held (omega arith) (later_value y.state arguments 2 u f))
+      (record { slot = λ cause. omega (arith, inside, same); plain = inl is.1; at_hand = inl hand })
 
   -- a weak reference is made
   made_leads : (at : Site) (arguments : List Value) (o : ℕ) (r q : Option ℕ) → IsHeld e.before.heap o → ((s : Kept) → IsUnder e s → FineSome s.heap r) → ((s : Kept) → IsUnder e s → FineSome s.heap q) → Leads e (goes (with_reference_made o r q (answering e at arguments [] (begins e))))
@@ -213,42 +216,43 @@ module _ (e : Moment) (ready : Ready e) (framed : IsFramed e) where
       let y : Doing = with_referent_of o r x in
       Plainly Level (with_reference_made o r q x) (SetsQueue o q y (SetsReferent o r x (taken_comes at arguments) (λ u. (u.stays o held, fine x.state u))) (λ u. (u.stays o held, queue y.state u)))
 
-  built_in_leads : (at : Site) (m : MethodInfo) (arguments : List Value) (o : ℕ) (b : BuiltIn) → built_in_of m ≡ Some b → IsPassed m arguments → Fines e.before.heap arguments → IsHeld e.before.heap o → Leads e (built_in_row e at (begins e) arguments o b)
-  built_in_leads at m arguments o built.Nothing is passed f held = answer_leads at arguments [] tt
-  built_in_leads at m arguments o built.SetMessage is passed f held =
+  built_in_leads : (at : Site) (m : MethodInfo) (arguments : List Value) (o : ℕ) (b : BuiltIn) → built_in_of m ≡ Some b → IsPassed m arguments → Fines e.before.heap arguments → IsHeld e.before.heap o → IsReached (graph_of e.before) o
+      → Leads e (built_in_row e at (begins e) arguments o b)
+  built_in_leads at m arguments o built.Nothing is passed f held hand = answer_leads at arguments [] tt
+  built_in_leads at m arguments o built.SetMessage is passed f held hand =
       on_leads (codes "java/lang/Throwable") o _ (λ below.
       let inside : 1 < length (object_at e.before.heap o).slots = throwable_slots o held below in
-      Plainly Level (slot_written e o 0 (argument arguments 1) (answering e at arguments [] (begins e))) (first_comes at arguments o f held (omega (arith, inside)) (message_reference m arguments passed is)))
-  built_in_leads at m arguments o built.SetMessageAndCause is passed f held =
+      Plainly Level (slot_written e o 0 (argument arguments 1) (answering e at arguments [] (begins e))) (first_comes at arguments o f held (omega (arith, inside)) (message_reference m arguments passed is) hand))
+  built_in_leads at m arguments o built.SetMessageAndCause is passed f held hand =
       on_leads (codes "java/lang/Throwable") o _ (λ below.
-      Plainly Level (slot_written e o 1 (argument arguments 2) (slot_written e o 0 (argument arguments 1) (answering e at arguments [] (begins e)))) (second_comes at arguments o f held (throwable_slots o held below) (cause_references m arguments passed is)))
-  built_in_leads at m arguments o built.GetMessage is passed f held = on_leads (codes "java/lang/Throwable") o _ (λ below. answer_leads at arguments (reference_in (begins e) o 0 ∷ []) (read_reference o 0, tt))
-  built_in_leads at m arguments o built.GetCause is passed f held = on_leads (codes "java/lang/Throwable") o _ (λ below. answer_leads at arguments (reference_in (begins e) o 1 ∷ []) (read_reference o 1, tt))
-  built_in_leads at m arguments o built.SetTarget is passed f held =
+      Plainly Level (slot_written e o 1 (argument arguments 2) (slot_written e o 0 (argument arguments 1) (answering e at arguments [] (begins e)))) (second_comes at arguments o f held (throwable_slots o held below) (cause_references m arguments passed is) hand))
+  built_in_leads at m arguments o built.GetMessage is passed f held hand = on_leads (codes "java/lang/Throwable") o _ (λ below. answer_leads at arguments (reference_in (begins e) o 0 ∷ []) (read_reference o 0, tt))
+  built_in_leads at m arguments o built.GetCause is passed f held hand = on_leads (codes "java/lang/Throwable") o _ (λ below. answer_leads at arguments (reference_in (begins e) o 1 ∷ []) (read_reference o 1, tt))
+  built_in_leads at m arguments o built.SetTarget is passed f held hand =
       on_leads (codes "java/lang/Thread") o _ (λ below.
-      Plainly Level (slot_written e o 0 (argument arguments 1) (answering e at arguments [] (begins e))) (first_comes at arguments o f held (thread_slots o held below) (target_reference m arguments passed is)))
-  built_in_leads at m arguments o built.Start is passed f held =
+      Plainly Level (slot_written e o 0 (argument arguments 1) (answering e at arguments [] (begins e))) (first_comes at arguments o f held (thread_slots o held below) (target_reference m arguments passed is) hand))
+  built_in_leads at m arguments o built.Start is passed f held hand =
       let x : Doing = answering e at arguments [] (begins e) in
       on_leads (codes "java/lang/Thread") o _ (λ below.
       starts_leads (begins e) o (goes (with_thread_for o x)) (thread_with e.before.guest.threads o) Begins (Plainly Level (with_thread_for o x) (Starts o x (taken_comes at arguments) (λ u. u.stays o held))))
-  built_in_leads at m arguments o built.Join is passed f held =
+  built_in_leads at m arguments o built.Join is passed f held hand =
       unless_waiting e ready (has_thread_ended (begins e) (thread_with e.before.guest.threads o)) _ (λ ended. answer_leads at arguments [] tt)
-  built_in_leads at m arguments o built.SetReferent is passed f held = made_leads at arguments o (referent_of (argument arguments 1)) None held (λ s u. reference_fine s.heap (argument arguments 1) (later_value s arguments 1 u f)) (λ s u. tt)
-  built_in_leads at m arguments o built.SetReferentAndQueue is passed f held =
+  built_in_leads at m arguments o built.SetReferent is passed f held hand = made_leads at arguments o (referent_of (argument arguments 1)) None held (λ s u. reference_fine s.heap (argument arguments 1) (later_value s arguments 1 u f)) (λ s u. tt)
+  built_in_leads at m arguments o built.SetReferentAndQueue is passed f held hand =
       made_leads at arguments o (referent_of (argument arguments 1)) (referent_of (argument arguments 2)) held (λ s u. reference_fine s.heap (argument arguments 1) (later_value s arguments 1 u f))
       (λ s u. reference_fine s.heap (argument arguments 2) (later_value s arguments 2 u f))
-  built_in_leads at m arguments o built.GetReferent is passed f held =
+  built_in_leads at m arguments o built.GetReferent is passed f held hand =
       answer_leads at arguments (referent_value (object_at e.before.heap o).referent ∷ []) (fine_value e.before.heap (object_at e.before.heap o).referent (referent_fine e.before o ready.knows.sound.held), tt)
-  built_in_leads at m arguments o built.ClearReferent is passed f held =
+  built_in_leads at m arguments o built.ClearReferent is passed f held hand =
       let x : Doing = answering e at arguments [] (begins e) in
       Plainly Level (with_referent_of o None x) (SetsReferent o None x (taken_comes at arguments) (λ u. (u.stays o held, tt)))
-  built_in_leads at m arguments o built.Poll is passed f held =
+  built_in_leads at m arguments o built.Poll is passed f held hand =
       let first : List Value = first_value (object_at e.before.heap o).waiting ∷ [] in
       let x : Doing = answering e at arguments first (begins e) in
       Plainly Level (with_first_taken o x) (Polls o x (answering_comes at arguments first (begins e) Begins (λ u. (first_waiting_fine e.before o ready.knows.sound.held, tt))) (λ u. u.stays o held))
 
-  done_leads : (at : Site) (m : MethodInfo) (arguments : List Value) (r : Option ℕ) (b : Option BuiltIn) → built_in_of m ≡ b → IsPassed m arguments → Fines e.before.heap arguments → FineSome e.before.heap r → Leads e (done_by e at (begins e) arguments r b)
-  done_leads at m arguments (Some o) (Some b) is passed f held = built_in_leads at m arguments o b is passed f held
+  done_leads : (at : Site) (m : MethodInfo) (arguments : List Value) (r : Option ℕ) (b : Option BuiltIn) → built_in_of m ≡ b → IsPassed m arguments → Fines e.before.heap arguments → FineSome (near e) r → Leads e (done_by e at (begins e) arguments r b)
+  done_leads at m arguments (Some o) (Some b) is passed f hand = built_in_leads at m arguments o b is passed f (near_held e o hand) (near_reached e o hand)
   done_leads at m arguments (Some o) None is passed f held = throws_lead e ready errors.AbstractMethodError (begins e) Begins
   done_leads at m arguments None (Some b) is passed f held = throws_lead e ready errors.AbstractMethodError (begins e) Begins
   done_leads at m arguments None None is passed f held = throws_lead e ready errors.AbstractMethodError (begins e) Begins
@@ -279,6 +283,7 @@ module _ (e : Moment) (ready : Ready e) (framed : IsFramed e) where
     passed : are_arguments (is_static_call kind) type arguments ≡ true
     called : bytes_eq member.name (codes "<clinit>") ≡ false
     fine : Fines e.before.heap arguments
+    at_hand : Fines (near e) arguments
 
   -- a static one has code, or is native
   static_leads : (at : Site) (member : Member) (arguments : List Value) (m : ℕ) (d : Doing) → IsInvoked Static member arguments → IsMethod e.program member.name member.descriptor m → is_static e.program m ≡ true → Comes e StringsAlone Level d → Leads e (enters_method e at d arguments m)
@@ -286,29 +291,29 @@ module _ (e : Moment) (ready : Ready e) (framed : IsFramed e) where
       let plain : is_initializing e.program m ≡ false = ap (λ (name : List ℕ). bytes_eq name (codes "<clinit>")) is.named ∙ call.called in
       method_leads at d arguments m is.within call.fine h (λ none native. absurd (true≢false (sym (ready.may.methods.static m is.within static plain none) ∙ native)))
 
-  instance_leads : (at : Site) (member : Member) (arguments : List Value) (m k : ℕ) (type : MethodType) → method_type member.descriptor ≡ Some type → are_arguments false type arguments ≡ true → Fines e.before.heap arguments → IsMethod e.program member.name member.descriptor m
+  instance_leads : (at : Site) (member : Member) (arguments : List Value) (m k : ℕ) (type : MethodType) → method_type member.descriptor ≡ Some type → are_arguments false type arguments ≡ true → Fines e.before.heap arguments → Fines (near e) arguments → IsMethod e.program member.name member.descriptor m
       → IsInstanceMethod e.program (method_at e.program m).name (method_at e.program m).descriptor k → Leads e (enters_method e at (begins e) arguments k)
-  instance_leads at member arguments m k type typed are f is selected =
+  instance_leads at member arguments m k type typed are f hand is selected =
       let passed : IsPassed (method_at e.program k) arguments = record { type = type; typed = ap method_type (selected.method.descriptor ∙ is.descriptor) ∙ typed; passed = are } in
-      method_leads at (begins e) arguments k selected.method.within f Begins (λ none native. done_leads at (method_at e.program k) arguments (first_reference arguments) (built_in_of (method_at e.program k)) refl passed f (first_fine e.before.heap arguments f))
+      method_leads at (begins e) arguments k selected.method.within f Begins (λ none native. done_leads at (method_at e.program k) arguments (first_reference arguments) (built_in_of (method_at e.program k)) refl passed f (first_fine (near e) arguments hand))
 
   dispatched_leads : (at : Site) (kind : CallKind) (member : Member) (arguments : List Value) (named m : ℕ) → IsInvoked kind member arguments → IsMethod e.program member.name member.descriptor m → is_static e.program m ≡ is_static_call kind → Leads e (dispatched e at kind arguments named m)
   dispatched_leads at Static member arguments named m call is static =
       initialized_leads e ready (begins e) (method_at e.program m).class _ Begins (λ d h. static_leads at member arguments m d call is static h)
   dispatched_leads at Virtual member arguments named m call is instance =
-      where_not_null e ready (begins e) (first_reference arguments) _ Begins (first_fine e.before.heap arguments call.fine) (λ o held.
+      where_not_null e ready e.before.heap (begins e) (first_reference arguments) _ Begins (first_fine e.before.heap arguments call.fine) (λ o held.
       unless_ill_typed e ready (fits_resolved e (begins e) arguments m o) _ (λ fit.
       where_resolved e ready (begins e) (select e.program (object_class (begins e) o) m false) _ Begins (λ k found.
-      instance_leads at member arguments m k call.type call.typed call.passed call.fine is (selected_method e.program (object_class (begins e) o) m false k is.within instance found))))
+      instance_leads at member arguments m k call.type call.typed call.passed call.fine call.at_hand is (selected_method e.program (object_class (begins e) o) m false k is.within instance found))))
   dispatched_leads at Special member arguments named m call is instance =
-      where_not_null e ready (begins e) (first_reference arguments) _ Begins (first_fine e.before.heap arguments call.fine) (λ o held.
+      where_not_null e ready e.before.heap (begins e) (first_reference arguments) _ Begins (first_fine e.before.heap arguments call.fine) (λ o held.
       unless_ill_typed e ready (fits_resolved e (begins e) arguments m o) _ (λ fit.
       where_resolved e ready (begins e) (select_special e.program at.class (special_class e.program named) m) _ Begins (λ k found.
-      instance_leads at member arguments m k call.type call.typed call.passed call.fine is (selected_special e.program at.class (special_class e.program named) m k is.within instance found))))
+      instance_leads at member arguments m k call.type call.typed call.passed call.fine call.at_hand is (selected_special e.program at.class (special_class e.program named) m k is.within instance found))))
   dispatched_leads at Interface member arguments named m call is instance =
-      where_not_null e ready (begins e) (first_reference arguments) _ Begins (first_fine e.before.heap arguments call.fine) (λ o held.
+      where_not_null e ready e.before.heap (begins e) (first_reference arguments) _ Begins (first_fine e.before.heap arguments call.fine) (λ o held.
       where_resolved e ready (begins e) (select e.program (object_class (begins e) o) m true) _ Begins (λ k found.
-      instance_leads at member arguments m k call.type call.typed call.passed call.fine is (selected_method e.program (object_class (begins e) o) m true k is.within instance found)))
+      instance_leads at member arguments m k call.type call.typed call.passed call.fine call.at_hand is (selected_method e.program (object_class (begins e) o) m true k is.within instance found)))
 
   type_leads : (t : Option MethodType) (go : MethodType → Outcome Kept) → ((x : MethodType) → t ≡ Some x → Leads e (go x)) → Leads e (with_type e t go)
   type_leads None go h = tt
@@ -321,6 +326,9 @@ module _ (e : Moment) (ready : Ready e) (framed : IsFramed e) where
   arguments_fine : (count : ℕ) → Fines e.before.heap (arguments_of e count)
   arguments_fine count = fines_reverse e.before.heap (take count (current_frame e).operands) (fines_take e.before.heap count (current_frame e).operands (operands_fine e ready framed))
 
+  arguments_near : (count : ℕ) → Fines (near e) (arguments_of e count)
+  arguments_near count = fines_reverse (near e) (take count (current_frame e).operands) (fines_take (near e) count (current_frame e).operands (operands_near e ready framed))
+
   pub invoke_leads : (at : Site) (kind : CallKind) → NamesNoInitializer at → Leads e (invoke e at kind)
   invoke_leads at kind names =
       named_leads (site_member at) _ (λ m type same typed.
@@ -330,7 +338,7 @@ module _ (e : Moment) (ready : Ready e) (framed : IsFramed e) where
       unless_thrown e ready (begins e) errors.IncompatibleClassChangeError (is_as (is_static_call kind) (is_static e.program method)) _ Begins (λ wanted.
       let count : ℕ = entry_count (is_static_call kind) type in
       let passed = and_parts (are_arguments (is_static_call kind) type (arguments_of e count)) (nat_le (length (drop count (current_frame e).operands) + returned_width type.returned) (current_frame e).room) fits in
-      dispatched_leads at kind m (arguments_of e count) owner method (record { type = type; typed = typed; passed = passed.0; called = names m same; fine = arguments_fine count })
+      dispatched_leads at kind m (arguments_of e count) owner method (record { type = type; typed = typed; passed = passed.0; called = names m same; fine = arguments_fine count; at_hand = arguments_near count })
       (resolved_method e.program owner (names_interface at) m.name m.descriptor method found) (as_wanted (is_static_call kind) (is_static e.program method) wanted))))))
 
   -- RETURNS
@@ -363,11 +371,11 @@ module _ (e : Moment) (ready : Ready e) (framed : IsFramed e) where
   unwound_leads : (o : ℕ) → IsMethodOf e.program (unwrap_or (current_frame e).method 0) → IsHeld e.before.heap o → Leads e (unwound e o)
   unwound_leads o is held = Plainly Shifted (told (Unwind (begins e).state.guest.clock e.thread (unwrap_or (current_frame e).method 0) o) (dropped e (left_if_owned e (own_lock e) (begins e)))) (Unwinds o framed is held (own_there e ready))
 
-  failed_leads : (c o : ℕ) (d : Doing) → IsHeld e.before.heap o → Comes e StringsAlone Shifted d → Leads e (ends_event (failed e c o d))
-  failed_leads c o d held h =
+  failed_leads : (c o : ℕ) (d : Doing) → IsHeld e.before.heap o → d.state.heap ≡ e.before.heap → Comes e StringsAlone Shifted d → Leads e (ends_event (failed e c o d))
+  failed_leads c o d held none h =
       let x : Doing = with_state c Failed d in
       let hx : Comes e StringsAlone Shifted x = ClassBecomes Shifted c Failed d h in
-      ends_lead e ready (failed e c o d) (if_case (Ended e) (is_error e o) x (replaced e o x) (Plainly Shifted x hx) (WithCause Shifted o x hx held))
+      ends_lead e ready (failed e c o d) (if_case (Ended e) (is_error e o) x (replaced e o x) (Plainly Shifted x hx) (WithCause Shifted o x hx none held))
 
   -- an initializer has no lock
   initializer_lock : (stage : Stage) → (current_frame e).stage ≡ stage → lock_in stage (running_method e.program (current_frame e)) (current_frame e).lock ≡ None → own_lock e ≡ None
@@ -375,10 +383,10 @@ module _ (e : Moment) (ready : Ready e) (framed : IsFramed e) where
 
   unwinds_leads : (o : ℕ) (stage : Stage) → (current_frame e).stage ≡ stage → (IsInMethod stage → IsMethodOf e.program (unwrap_or (current_frame e).method 0)) → IsHeld e.before.heap o → Leads e (unwinds e o stage)
   unwinds_leads o Plain same is held = handler_leads o (unwound e o) (handler_of e.program (current_frame e) (object_class (begins e) o)) held (unwound_leads o (is tt) held)
-  unwinds_leads o (Before c) same is held = failed_leads c o (dropped e (begins e)) held (Drops (begins e) Begins framed (initializer_lock (Before c) same refl))
+  unwinds_leads o (Before c) same is held = failed_leads c o (dropped e (begins e)) held refl (Drops (begins e) Begins framed (initializer_lock (Before c) same refl))
   unwinds_leads o (Clinit c) same is held =
       handler_leads o (unwound_clinit e c o) (handler_of e.program (current_frame e) (object_class (begins e) o)) held
-      (failed_leads c o (told (Unwind (begins e).state.guest.clock e.thread (unwrap_or (current_frame e).method 0) o) (dropped e (begins e))) held (UnwindsClinit o framed (is tt) held (initializer_lock (Clinit c) same refl)))
+      (failed_leads c o (told (Unwind (begins e).state.guest.clock e.thread (unwrap_or (current_frame e).method 0) o) (dropped e (begins e))) held refl (UnwindsClinit o framed (is tt) held (initializer_lock (Clinit c) same refl)))
 
   pub unwinding_leads : (o : Option ℕ) → (IsInMethod (current_frame e).stage → IsMethodOf e.program (unwrap_or (current_frame e).method 0)) → FineSome e.before.heap o → Leads e (unwinding_step e o)
   unwinding_leads None is held = tt

@@ -10,6 +10,7 @@ pub mod Records
 mod Recording
 mod Given
 mod Held
+mod AtHand
 mod Small
 mod Constants
 mod Typed
@@ -23,7 +24,8 @@ mod Writing
 mod NamedWords
 mod SaysNames
 pub mod SaysRecords
-mod SaysWrites
+pub mod SaysWrites
+pub mod SaysReached
 mod SaysMonitors
 pub mod MonitorRows
 mod SoundStates

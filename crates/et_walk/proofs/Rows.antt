@@ -21,6 +21,8 @@ use Rattle.et_event.specs.declared.rows.Elements.{Elements}
 use Rattle.et_event.specs.declared.rows.HeapRow.{HeapRow}
 use Rattle.et_event.specs.declared.rows.MonitorRow.{MonitorRow}
 use Rattle.et_event.specs.declared.rows.Number.{Number}
+use Rattle.et_graph.specs.Graph.{IsReached}
+use Rattle.et_state.specs.Roots.{graph_of}
 use Rattle.et_heap.specs.Objects.{IsHeld, ObjectState, Objects, at, found, is_there, object_at, slot_of}
 use Rattle.et_pool.specs.Descriptors.{is_field_descriptor}
 use Rattle.et_program.proofs.PlaceLemmas.{class_found_within}
@@ -39,6 +41,7 @@ use Rattle.et_state.specs.State.{Kept}
 use Rattle.et_state.specs.Threads.{FrameState, as_ended}
 use Rattle.et_state.specs.Words.{static_at}
 use Rattle.et_walk.proofs.Given.{kept_fine, lengths_does, truth_fine}
+use Rattle.et_walk.proofs.AtHand.{near, near_held, near_reached, operands_near}
 use Rattle.et_walk.proofs.Heaps.{slots_fine, statics_fine}
 use Rattle.et_walk.proofs.Held.{Ready, frame_fine}
 use Rattle.et_walk.proofs.Plain.{FineFrameSome, put_fine}
@@ -106,6 +109,13 @@ module _ (e : Moment) (ready : Ready e) (framed : IsFramed e) where
   pub later_fine : (s : Kept) (vs : List Value) → IsUnder e s → Fines e.before.heap vs → Fines s.heap vs
   later_fine s vs u f = fines_grow e.before.heap s.heap vs u.stays f
 
+  -- what is at hand is held
+  far : (vs : List Value) → Fines (near e) vs → Fines e.before.heap vs
+  far vs f = fines_grow (near e) e.before.heap vs (near_held e) f
+
+  hand_operands : Fines (near e) (current_frame e).operands
+  hand_operands = operands_near e ready framed
+
   -- the topmost frame with another pc and other operands
   pub top_fine : (s : Kept) (pc : ℕ) (ops : List Value) → IsUnder e s → Fines s.heap ops → FineFrame s.heap (record (current_frame e) { pc = pc; operands = ops })
   top_fine s pc ops u f =
@@ -122,10 +132,10 @@ module _ (e : Moment) (ready : Ready e) (framed : IsFramed e) where
   done_leads at ops f = Plainly Level (leaving_values e at ops (begins e)) (leaving_comes at ops (begins e) Begins (λ u. f))
 
   written_leads : (at : Site) (o i : ℕ) (v : Value) (ops : List Value) → IsHeld e.before.heap o → i < length (object_at e.before.heap o).slots → IsReference v ⊎ (number_of_value (slot_of (object_at e.before.heap o) i) ≡ 0) → Fine e.before.heap v → Fines e.before.heap ops
-      → Leads e (goes (slot_written e o i v (leaving_values e at ops (begins e))))
-  written_leads at o i v ops held inside plain fine f =
+      → IsReached (graph_of e.before) o → Leads e (goes (slot_written e o i v (leaving_values e at ops (begins e))))
+  written_leads at o i v ops held inside plain fine f hand =
       let x : Doing = leaving_values e at ops (begins e) in
-      Plainly Level (slot_written e o i v x) (WritesSlot Level o i v x (leaving_comes at ops (begins e) Begins (λ u. f)) (λ u. record { held = held; slot = inr inside; value = fine }) (record { slot = λ cause. inside; plain = plain }))
+      Plainly Level (slot_written e o i v x) (WritesSlot Level o i v x (leaving_comes at ops (begins e) Begins (λ u. f)) (λ u. record { held = held; slot = inr inside; value = fine }) (record { slot = λ cause. inside; plain = plain; at_hand = inl hand }))
 
   -- WHAT IS NAMED
 
@@ -183,9 +193,9 @@ module _ (e : Moment) (ready : Ready e) (framed : IsFramed e) where
       (WritesStatic (field_at e.program k).slot (narrowed m.descriptor v) x (leaving_comes at below d h (λ u. later_fine d.state below u f)) (ready.may.slots.statics k is.within static).0
       (λ u. fine_narrowed x.state.heap m.descriptor v (fine_grows e.before.heap x.state.heap v u.stays fine)) (static_typed m k v named is static typed)))))))
 
-  holder_leads : (f : ℕ) (r : Reference) (go : ℕ → Outcome Kept) → FineSome e.before.heap r → ((o : ℕ) → IsHeld e.before.heap o → is_subclass e.program (object_at e.before.heap o).class (field_at e.program f).class ≡ true → Leads e (go o)) → Leads e (with_holder e (begins e) f r go)
+  holder_leads : (f : ℕ) (r : Reference) (go : ℕ → Outcome Kept) → FineSome (near e) r → ((o : ℕ) → IsHeld (near e) o → is_subclass e.program (object_at e.before.heap o).class (field_at e.program f).class ≡ true → Leads e (go o)) → Leads e (with_holder e (begins e) f r go)
   holder_leads f r go held h =
-      where_not_null e ready (begins e) r _ Begins held (λ o there. unless_ill_typed e ready (is_subclass e.program (object_class (begins e) o) (field_at e.program f).class) (go o) (h o there))
+      where_not_null e ready (near e) (begins e) r _ Begins held (λ o there. unless_ill_typed e ready (is_subclass e.program (object_class (begins e) o) (field_at e.program f).class) (go o) (h o there))
 
   read_fine : (o i : ℕ) → Fine e.before.heap (slot_of (object_at e.before.heap o) i)
   read_fine o i = fine_at e.before.heap (object_at e.before.heap o).slots i (slots_fine e.before o ready.knows.sound.held)
@@ -193,14 +203,14 @@ module _ (e : Moment) (ready : Ready e) (framed : IsFramed e) where
   get_field_leads : (at : Site) → Leads e (get_field e at)
   get_field_leads at =
       field_leads (site_member at) _ (λ m named.
-      any_reference (Leads e) (ill_typed e) tt e.before.heap (current_frame e).operands _ operands_fine (λ r below held f.
+      any_reference (Leads e) (ill_typed e) tt (near e) (current_frame e).operands _ hand_operands (λ r below held f.
       unless_ill_typed e ready (field_fits e below m) _ (λ fits.
       field_resolved m _ (λ k is.
       unless_thrown e ready (begins e) errors.IncompatibleClassChangeError (not (is_static_at e.program k)) _ Begins (λ instance.
       holder_leads k r _ held (λ o there below_it.
       let v : Value = or_zero (operand_kind m.descriptor) (slot_of (object_at e.before.heap o) (field_at e.program k).slot) in
       done_leads at (entries_of v ++ below) (fines_append e.before.heap (entries_of v) below
-      (fine_entries e.before.heap v (fine_read e.before.heap (operand_kind m.descriptor) (slot_of (object_at e.before.heap o) (field_at e.program k).slot) (read_fine o (field_at e.program k).slot))) f)))))))
+      (fine_entries e.before.heap v (fine_read e.before.heap (operand_kind m.descriptor) (slot_of (object_at e.before.heap o) (field_at e.program k).slot) (read_fine o (field_at e.program k).slot))) (far below f))))))))
 
   -- the object of a field has its slot
   pub object_sound : (o : ℕ) → IsHeld e.before.heap o → IsSoundObject e.program (object_at e.before.heap o)
@@ -213,36 +223,38 @@ module _ (e : Moment) (ready : Ready e) (framed : IsFramed e) where
   put_field_leads : (at : Site) → Leads e (put_field e at)
   put_field_leads at =
       field_leads (site_member at) _ (λ m named.
-      any_value (Leads e) (ill_typed e) tt e.before.heap (kind_of_field m.descriptor) (current_frame e).operands _ operands_fine (λ v more fine typed f.
-      any_reference (Leads e) (ill_typed e) tt e.before.heap more _ f (λ r below held g.
+      any_value (Leads e) (ill_typed e) tt (near e) (kind_of_field m.descriptor) (current_frame e).operands _ hand_operands (λ v more fine typed f.
+      any_reference (Leads e) (ill_typed e) tt (near e) more _ f (λ r below held g.
       field_resolved m _ (λ k is.
       unless_thrown e ready (begins e) errors.IncompatibleClassChangeError (not (is_static_at e.program k)) _ Begins (λ instance.
-      holder_leads k r _ held (λ o there below_it.
+      holder_leads k r _ held (λ o hand below_it.
+      let there : IsHeld e.before.heap o = near_held e o hand in
       let has : HasField e.program (object_at e.before.heap o) k = field_there o k there is.within (not-true (is_static_at e.program k) instance) below_it in
       let old : Value = slot_of (object_at e.before.heap o) (field_at e.program k).slot in
       written_leads at o (field_at e.program k).slot (narrowed m.descriptor v) below there has.slot
-      (narrowed_plain m.descriptor v old (reference_or_none (operand_kind (field_at e.program k).descriptor) v old (field_typed m k v named is typed) has.value)) (fine_narrowed e.before.heap m.descriptor v fine) g))))))
+      (narrowed_plain m.descriptor v old (reference_or_none (operand_kind (field_at e.program k).descriptor) v old (field_typed m k v named is typed) has.value)) (fine_narrowed e.before.heap m.descriptor v (fine_grows (near e) e.before.heap v (near_held e) fine)) (far below g) (near_reached e o hand)))))))
 
   -- ELEMENTS
 
-  element_leads : (kind : Elements) (r : Reference) (i : ℤ) (go : ℕ → Outcome Kept) → FineSome e.before.heap r → ((o : ℕ) → IsHeld e.before.heap o → are_elements kind (element_of_array e o) ≡ true → natural_of i < length (object_at e.before.heap o).slots → Leads e (go o)) → Leads e (with_element e kind r i go)
+  element_leads : (kind : Elements) (r : Reference) (i : ℤ) (go : ℕ → Outcome Kept) → FineSome (near e) r → ((o : ℕ) → IsHeld (near e) o → are_elements kind (element_of_array e o) ≡ true → natural_of i < length (object_at e.before.heap o).slots → Leads e (go o)) → Leads e (with_element e kind r i go)
   element_leads kind r i go held h =
-      where_not_null e ready (begins e) r _ Begins held (λ o there.
+      where_not_null e ready (near e) (begins e) r _ Begins held (λ o hand.
+      let there : IsHeld e.before.heap o = near_held e o hand in
       unless_ill_typed e ready (are_elements kind (element_of_array e o)) _ (λ elements.
       unless_thrown e ready (begins e) errors.ArrayIndexOutOfBoundsException (in_bounds i (length_of e o)) (go o) Begins (λ within.
       let count : length (object_at e.before.heap o).slots ≡ length_of e o =
       (object_sound o there).slots ∙ array_slots kind (element_of_array e o) (class_at e.program (object_at e.before.heap o).class).info.slots (length_of e o) elements in
       let lt : natural_of i < length_of e o = natural_within i (length_of e o) within in
-      h o there elements (omega arith))))
+      h o hand elements (omega arith))))
 
   load_element_leads : (at : Site) (kind : Elements) → Leads e (load_element e at kind)
   load_element_leads at kind =
-      any_int (Leads e) (ill_typed e) tt e.before.heap (current_frame e).operands _ operands_fine (λ i more f.
-      any_reference (Leads e) (ill_typed e) tt e.before.heap more _ f (λ r below held g.
+      any_int (Leads e) (ill_typed e) tt (near e) (current_frame e).operands _ hand_operands (λ i more f.
+      any_reference (Leads e) (ill_typed e) tt (near e) more _ f (λ r below held g.
       element_leads kind r i _ held (λ o there are inside.
       let v : Value = or_zero (Some (kind_of_elements kind)) (slot_of (object_at e.before.heap o) (natural_of i)) in
       done_leads at (entries_of v ++ below) (fines_append e.before.heap (entries_of v) below
-      (fine_entries e.before.heap v (fine_read e.before.heap (Some (kind_of_elements kind)) (slot_of (object_at e.before.heap o) (natural_of i)) (read_fine o (natural_of i)))) g))))
+      (fine_entries e.before.heap v (fine_read e.before.heap (Some (kind_of_elements kind)) (slot_of (object_at e.before.heap o) (natural_of i)) (read_fine o (natural_of i)))) (far below g)))))
 
   element_plain : (kind : Elements) (o i : ℕ) (v : Value) → IsHeld e.before.heap o → are_elements kind (element_of_array e o) ≡ true → i < length (object_at e.before.heap o).slots → IsTyped (Some (kind_of_elements kind)) v
       → IsReference (kept_element kind v) ⊎ (number_of_value (slot_of (object_at e.before.heap o) i) ≡ 0)
@@ -257,17 +269,18 @@ module _ (e : Moment) (ready : Ready e) (framed : IsFramed e) where
 
   store_element_leads : (at : Site) (kind : Elements) → Leads e (store_element e at kind)
   store_element_leads at kind =
-      any_value (Leads e) (ill_typed e) tt e.before.heap (Some (kind_of_elements kind)) (current_frame e).operands _ operands_fine (λ v most fine typed f.
-      any_int (Leads e) (ill_typed e) tt e.before.heap most _ f (λ i more g.
-      any_reference (Leads e) (ill_typed e) tt e.before.heap more _ g (λ r below held j.
-      element_leads kind r i _ held (λ o there are inside.
+      any_value (Leads e) (ill_typed e) tt (near e) (Some (kind_of_elements kind)) (current_frame e).operands _ hand_operands (λ v most fine typed f.
+      any_int (Leads e) (ill_typed e) tt (near e) most _ f (λ i more g.
+      any_reference (Leads e) (ill_typed e) tt (near e) more _ g (λ r below held j.
+      element_leads kind r i _ held (λ o hand are inside.
+      let there : IsHeld e.before.heap o = near_held e o hand in
       unless_thrown e ready (begins e) errors.ArrayStoreException (passes_element e v (element_of_array e o)) (goes (slot_written e o (natural_of i) (kept_element kind v) (leaving_values e at below (begins e)))) Begins
-      (λ passed. written_leads at o (natural_of i) (kept_element kind v) below there inside (element_plain kind o (natural_of i) v there are inside typed) (kept_fine e.before.heap kind v fine) j)))))
+      (λ passed. written_leads at o (natural_of i) (kept_element kind v) below there inside (element_plain kind o (natural_of i) v there are inside typed) (kept_fine e.before.heap kind v (fine_grows (near e) e.before.heap v (near_held e) fine)) (far below j) (near_reached e o hand))))))
 
   array_length_leads : (at : Site) → Leads e (array_length e at)
   array_length_leads at =
       any_reference (Leads e) (ill_typed e) tt e.before.heap (current_frame e).operands _ operands_fine (λ r below held f.
-      where_not_null e ready (begins e) r _ Begins held (λ o there.
+      where_not_null e ready e.before.heap (begins e) r _ Begins held (λ o there.
       unless_ill_typed e ready (is_array_element (element_of_array e o)) _ (λ is. done_leads at (Int (pos (length_of e o)) ∷ below) (tt, f))))
 
   -- MAKING
@@ -349,18 +362,18 @@ module _ (e : Moment) (ready : Ready e) (framed : IsFramed e) where
   pub throw_leads : Leads e (throw e)
   throw_leads =
       any_reference (Leads e) (ill_typed e) tt e.before.heap (current_frame e).operands _ operands_fine (λ r below held f.
-      where_not_null e ready (begins e) r _ Begins held (λ o there.
+      where_not_null e ready e.before.heap (begins e) r _ Begins held (λ o there.
       unless_ill_typed e ready (is_throwable e o) _ (λ is. Plainly Level (pending_now e o (begins e)) (Pends Level o (begins e) Begins (λ u. there)))))
 
   pub monitor_leads : (at : Site) (r : MonitorRow) → IsAtMonitor e → Leads e (monitor_event e at r)
   monitor_leads at monitor.Enter is =
       any_reference (Leads e) (ill_typed e) tt e.before.heap (current_frame e).operands _ operands_fine (λ r below held f.
-      where_not_null e ready (begins e) r _ Begins held (λ o there.
+      where_not_null e ready e.before.heap (begins e) r _ Begins held (λ o there.
       let x : Doing = leaving_values e at below (begins e) in
       unless_waiting e ready (may_enter e (begins e) (OfObject o)) (goes (entered e (OfObject o) x)) (λ may. Plainly Locked (entered e (OfObject o) x) (EntersMonitor o x (leaving_comes at below (begins e) Begins (λ u. f)) is there))))
   monitor_leads at monitor.Exit is =
       any_reference (Leads e) (ill_typed e) tt e.before.heap (current_frame e).operands _ operands_fine (λ r below held f.
-      where_not_null e ready (begins e) r _ Begins held (λ o there.
+      where_not_null e ready e.before.heap (begins e) r _ Begins held (λ o there.
       let x : Doing = leaving_values e at below (begins e) in
       unless_thrown e ready (begins e) errors.IllegalMonitorStateException (owns e (begins e) (OfObject o)) (goes (left (OfObject o) x)) Begins
       (λ owned. Plainly Locked (left (OfObject o) x) (LeavesMonitor o x (leaving_comes at below (begins e) Begins (λ u. f)) is there))))

@@ -116,7 +116,7 @@ interned_writes e bytes d h =
 no_first : (e : Moment) (o : ℕ) (d : Doing) → Told e d → IsHeld d.state.heap o → o ≡ 0 → ⊥
 no_first e o d told held same = told.sound.none (subst (λ (k : ℕ). IsHeld d.state.heap k) same held)
 
-one_slot : (e : Moment) (o i : ℕ) (v : Value) (d : Doing) → HasCause e.program → WritesSo e d → Told e d → IsHeld d.state.heap o → MayTell e.program d.state.heap o i v → WritesSo e (slot_written e o i v d)
+one_slot : (e : Moment) (o i : ℕ) (v : Value) (d : Doing) → HasCause e.program → WritesSo e d → Told e d → IsHeld d.state.heap o → MayTell e d.state.heap o i v → WritesSo e (slot_written e o i v d)
 one_slot e o i v d cause h told held may =
     let x : ObjectState = object_at d.state.heap o in
     let next : Doing = record { state = record { heap = with_object_at d.state.heap o (with_slot i v x); guest = d.state.guest }; records = d.records } in

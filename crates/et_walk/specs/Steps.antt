@@ -30,7 +30,7 @@ use Rattle.et_state.specs.declared.class_state.ClassState.{ClassState}
 use Rattle.et_state.specs.declared.records.Record.TheVariants.{Enter, Unwind}
 use Rattle.et_walk.specs.Holding.{monitor_row_at}
 use Rattle.et_walk.specs.Values.{Fine, FineFrame, FineSome, Fines, Grows}
-use Rattle.et_walk.specs.Writes.{HasCause}
+use Rattle.et_walk.specs.Writes.{HasCause, IsAtHand}
 use Rattle.std.specs.Prelude.{IfSome, List, None, Option, false, length, slice_index_or, true, unwrap_or, ℕ, ◌+◌, ◌<◌, ◌∷◌, ◌≡◌, ◌⊎◌}
 use Rattle.et_state.specs.Outcome as outcome
 
@@ -100,10 +100,11 @@ IsReference (Ref o) = Unit {0}
 IsReference other = ⊥
 
 -- What a write tells is true: the slot is one of the object, also that of a cause where its class has one, and where no
--- reference is written none stood there.
-pub record MayTell (p : Linked) (h : Objects) (o i : ℕ) (v : Value) : Type 0 where
-  pub slot : HasCause p → i < length (object_at h o).slots
+-- reference is written none stood there. The object is at hand.
+pub record MayTell (e : Moment) (h : Objects) (o i : ℕ) (v : Value) : Type 0 where
+  pub slot : HasCause e.program → i < length (object_at h o).slots
   pub plain : IsReference v ⊎ (number_of_value (slot_of (object_at h o) i) ≡ 0)
+  pub at_hand : IsAtHand e.before o
 
 -- the type of a static
 abbrev pub kind_of_static : Linked → ℕ → Option Operand
@@ -147,7 +148,7 @@ pub data Comes (e : Moment) (k : Making) : Phase → Doing → Type 0 where
   -- objects: one is made, a slot is written, a monitor is entered or left, a reference is set, a queue is polled
   MakesInstance : (ph : Phase) (class : ℕ) (d : Doing) → MakesObjects k → Comes e k ph d → class < length e.program.classes → (class_at e.program class).info.element ≡ NoArray → Comes e k ph (instance_made e class d)
   MakesArray : (class n : ℕ) (d : Doing) → MakesObjects k → Comes e k Level d → IsArrayClass e.program class → Comes e k Level (array_made e class n d)
-  WritesSlot : (ph : Phase) (o i : ℕ) (v : Value) (d : Doing) → Comes e k ph d → (IsUnder e d.state → MayWrite d.state.heap o i v) → MayTell e.program d.state.heap o i v → Comes e k ph (slot_written e o i v d)
+  WritesSlot : (ph : Phase) (o i : ℕ) (v : Value) (d : Doing) → Comes e k ph d → (IsUnder e d.state → MayWrite d.state.heap o i v) → MayTell e d.state.heap o i v → Comes e k ph (slot_written e o i v d)
   EntersMonitor : (o : ℕ) (d : Doing) → Comes e k Level d → IsAtMonitor e → IsHeld e.before.heap o → Comes e k Locked (entered e (OfObject o) d)
   LeavesMonitor : (o : ℕ) (d : Doing) → Comes e k Level d → IsAtMonitor e → IsHeld e.before.heap o → Comes e k Locked (left (OfObject o) d)
   SetsReferent : (o : ℕ) (r : Option ℕ) (d : Doing) → Comes e k Level d → (IsUnder e d.state → IsHeld d.state.heap o × FineSome d.state.heap r) → Comes e k Level (with_referent_of o r d)
@@ -163,7 +164,7 @@ pub data Ended (e : Moment) : Doing → Type 0 where
   WithArrays : (at : Site) (class n : ℕ) (more : List ℕ) (ops : List Value) → IsFramed e → HasDimensions e.program (length (n ∷ more)) class → Fines e.before.heap ops
       → Ended e (leaving_values e at (Ref (next_object (begins e)) ∷ ops) (arrays_made e class (n ∷ more) (begins e)))
   WithError : (error : GuestError) (d : Doing) → Comes e StringsAlone Level d → Ended e (pending_now e (next_object d) (instance_made e (error_class e.program error) (entry_given_up e d)))
-  WithCause : (ph : Phase) (o : ℕ) (d : Doing) → Comes e StringsAlone ph d → IsHeld e.before.heap o → Ended e (replaced e o d)
+  WithCause : (ph : Phase) (o : ℕ) (d : Doing) → Comes e StringsAlone ph d → d.state.heap ≡ e.before.heap → IsHeld e.before.heap o → Ended e (replaced e o d)
 
 -- what an event would come to has no room
 pub record IsBeyond (e : Moment) : Type 0 where

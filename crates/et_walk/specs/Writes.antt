@@ -1,8 +1,10 @@
 -- WHAT THE U RECORDS OF AN EVENT TELL: each write of a reference to a slot of an object or to a static, in order, with the
 -- reference that stood there before; and no U record is without a write.
-use Rattle.std.specs.Prelude.{◌≡◌, ℕ, ◌<◌, ◌==◌, ◌&&◌, if◌then◌else◌, List, [], ◌∷◌}
+use Rattle.std.specs.Prelude.{◌≡◌, ℕ, ◌<◌, ◌≤◌, ◌==◌, ◌&&◌, ◌⊎◌, if◌then◌else◌, List, [], ◌∷◌, length, All}
+use Rattle.et_graph.specs.Graph.{IsReached}
 use Rattle.et_heap.specs.Objects.{object_at, slot_of}
 use Rattle.et_program.specs.Entries.{Linked, class_at}
+use Rattle.et_state.specs.Roots.{graph_of}
 use Rattle.et_state.specs.State.{Kept}
 use Rattle.et_state.specs.Words.{static_at}
 use Rattle.et_state.specs.declared.records.Record.{Record}
@@ -38,6 +40,23 @@ TellsWrites s (outcome.Goes next records) = TellWrites (reference_at s) records 
 TellsWrites s (outcome.Waits next) = (o i : ℕ) → reference_at next o i ≡ reference_at s o i
 TellsWrites s (outcome.IllTyped method pc) = Unit {0}
 TellsWrites s outcome.ObjectLimit = Unit {0}
+
+-- WHAT IS WRITTEN TO
+
+-- an object that is reached in the state before an event, or that the event makes
+abbrev pub IsAtHand : Kept → ℕ → Type 0
+IsAtHand s o = IsReached (graph_of s) o ⊎ (length s.heap ≤ o)
+
+-- a U record tells of a static, for the object 0, or of a slot of such an object
+abbrev pub IsOfReached : Kept → Record → Type 0
+IsOfReached s (Update event thread object slot old new) = (object ≡ 0) ⊎ IsAtHand s object
+IsOfReached s other = Unit {0}
+
+abbrev pub WritesToReached : Kept → Outcome Kept → Type 0
+WritesToReached s (outcome.Goes next records) = All (IsOfReached s) records
+WritesToReached s (outcome.Waits next) = Unit {0}
+WritesToReached s (outcome.IllTyped method pc) = Unit {0}
+WritesToReached s outcome.ObjectLimit = Unit {0}
 
 -- an ExceptionInInitializerError has a slot for its cause
 abbrev pub HasCause : Linked → Type 0

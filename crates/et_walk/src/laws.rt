@@ -11,7 +11,7 @@ ghost use Rattle.et_walk.specs.Changing.{KeepsMonitors, LeadsToSound};
 ghost use Rattle.et_walk.specs.Records.{HasPlainStrings, TellsObjects};
 ghost use Rattle.et_walk.specs.Steps.{Leads};
 ghost use Rattle.et_walk.specs.Telling.{IsToldOf};
-ghost use Rattle.et_walk.specs.Writes.{HasCause, TellsWrites};
+ghost use Rattle.et_walk.specs.Writes.{HasCause, TellsWrites, WritesToReached};
 
 /// Each event of a thread that has not ended, in a sound state of a program that may be run, is made of steps, in order, with
 /// their records. Where the thread waits, the clock alone goes on. At the limits of the heap the event would be made of
@@ -47,6 +47,13 @@ pub fn events_tell_writes()
     ensures { (p : Linked) (s : Kept) (t : ℕ) →
         IsSoundFor p s → IsUnended s.guest t → IsRunnable p → HasPlainStrings p → HasCause p →
         TellsWrites s (event p s t) }
+{}
+
+/// What an event writes to is a static, or a slot of an object that is reached before the event or that the event makes. So
+/// what stands in the slots of other objects stays.
+pub fn events_write_to_what_is_reached()
+    ensures { (p : Linked) (s : Kept) (t : ℕ) →
+        IsSoundFor p s → IsUnended s.guest t → IsRunnable p → WritesToReached s (event p s t) }
 {}
 
 /// Each event of a thread that has not ended enters and leaves the monitors that its instruction and its frames say, and
