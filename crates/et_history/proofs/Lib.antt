@@ -3,6 +3,9 @@ mod Agreeing
 mod Alike
 mod Wholes
 mod Freed
+pub mod Reporting
+mod Deaths
+mod Slots
 mod FlushedLists
 mod Waits
 mod Histories

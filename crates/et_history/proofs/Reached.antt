@@ -89,7 +89,7 @@ module _ (reached : Graph → ℕ → Bool) (p : Linked) (options : Options) (pi
     | inr le ↦ was le
   ]
 
-  last_is : Decides reached → (e o : ℕ) → ((k : ℕ) → k < e → WholeGoesOn reached p options pick k) → 0 < o → o ≤ (graph (now e)).made → IsNow (last o e) o true
+  pub last_is : Decides reached → (e o : ℕ) → ((k : ℕ) → k < e → WholeGoesOn reached p options pick k) → 0 < o → o ≤ (graph (now e)).made → IsNow (last o e) o true
   unfolding last_reached
   last_is decides zero o goes some within = first_reached decides o some within
   last_is decides (suc e) o goes some within =
@@ -102,7 +102,7 @@ module _ (reached : Graph → ℕ → Bool) (p : Linked) (options : Options) (pi
     | inr ne ↦ was lt (omega (arith, le, ne))
   ]
 
-  later_is : (e k o : ℕ) → last o e < k → k ≤ e → IsNow k o false
+  pub later_is : (e k o : ℕ) → last o e < k → k ≤ e → IsNow k o false
   unfolding last_reached
   later_is zero k o lt le = absurd (omega (arith, lt, le))
   later_is (suc e) k o lt le = later_step e k o (last o e) (reached (graph (now (suc e))) o) refl lt le (λ below within. later_is e k o below within)
@@ -111,7 +111,7 @@ module _ (reached : Graph → ℕ → Bool) (p : Linked) (options : Options) (pi
   within_step true e l le = omega arith
   within_step false e l le = omega arith
 
-  last_within : (e o : ℕ) → last o e ≤ e
+  pub last_within : (e o : ℕ) → last o e ≤ e
   unfolding last_reached
   last_within zero o = omega arith
   last_within (suc e) o = within_step (reached (graph (now (suc e))) o) e (last o e) (last_within e o)

@@ -3,6 +3,8 @@ pub mod Whole
 pub mod Histories
 pub mod Same
 pub mod Reaching
+pub mod Deaths
+pub mod Slots
 pub mod Allocations
 pub mod Ends
 pub mod Waiting

@@ -1,9 +1,11 @@
 //! The histories of a program: no two threads hold one monitor, nothing is freed, what a machine keeps tells the same, what
-//! is made is reached then, what an event tells names what the program has, and a reference waits in one queue at most.
+//! is made is reached then, the deaths of a flush are exact, what an event tells names what the program has, what records tell
+//! of slots is what stands there, and a reference waits in one queue at most.
 #![tactic(auto)]
 
 pub mod laws;
 pub mod object_laws;
 pub mod record_laws;
 pub mod run_laws;
+pub mod slot_laws;
 pub mod waiting_laws;

@@ -1,16 +1,21 @@
 //! When objects are reached. Each law is a function with an empty body: what it promises is its contract.
 
-ghost use Rattle.std.specs.Prelude.{◌≡◌, ℕ, ◌+◌, ◌<◌, ◌≤◌, Bool, true, false, length, Contains};
+ghost use Rattle.std.specs.Prelude.{◌≡◌, ◌↔◌, ℕ, ◌+◌, ◌<◌, ◌≤◌, Bool, true, false, length, Contains};
 ghost use Rattle.et_graph.specs.Graph.{Graph, Decides};
+ghost use Rattle.et_heap.specs.Objects.{IsHeld};
 ghost use Rattle.et_program.specs.Entries.{Linked};
 ghost use Rattle.et_state.specs.declared.options.Options.{Options};
 ghost use Rattle.et_state.specs.History.{deaths};
+ghost use Rattle.et_state.specs.Options.{AreOptions};
 ghost use Rattle.et_state.specs.Roots.{graph};
+ghost use Rattle.et_state.specs.Start.{start};
 ghost use Rattle.et_state.specs.State.{Kept};
 ghost use Rattle.et_event.specs.Event.{event};
 ghost use Rattle.et_event.specs.Start.{start_records};
+ghost use Rattle.et_history.specs.Deaths.{DiesBy, WasTold};
 ghost use Rattle.et_history.specs.Histories.{whole_picked, whole_at, WholeGoesOn};
 ghost use Rattle.et_history.specs.Reaching.{ReachesNew};
+ghost use Rattle.et_history.specs.Settings.{IsSoundRun};
 ghost use Rattle.et_history.specs.Whole.{whole_start};
 
 /// What an event of a thread that was started makes is reached after it, whatever the program and the state: the objects of
@@ -53,4 +58,20 @@ pub fn deaths_tell_last_events()
         (pick : ℕ → ℕ) (e o time k : ℕ) → Contains (deaths reached
         (whole_picked p options pick) (whole_start p) (start_records p) e) (o, time) →
         time < k → k ≤ e → reached (graph (whole_at reached p options pick k)) o ≡ false }
+{}
+
+/// The deaths that a flush after an event lists are exactly these: of each object that was made, is not reached, and was told
+/// by no flush before, with the last event at which it was reached. The objects that are reported are exactly those that
+/// a flush before told.
+pub fn deaths_are_exact()
+    ensures exact { (reached : Graph → ℕ → Bool) (p : Linked) (options : Options)
+        (pick : ℕ → ℕ) (e o time : ℕ) → Decides reached → IsSoundRun p (start p) →
+        AreOptions options → ((k : ℕ) → k < e → WholeGoesOn reached p options pick k) →
+        Contains (deaths reached (whole_picked p options pick) (whole_start p)
+        (start_records p) e) (o, time) ↔ DiesBy reached p options pick e o time }
+    ensures reported { (reached : Graph → ℕ → Bool) (p : Linked) (options : Options)
+        (pick : ℕ → ℕ) (e o : ℕ) → Decides reached → IsSoundRun p (start p) →
+        AreOptions options → ((k : ℕ) → k < e → WholeGoesOn reached p options pick k) →
+        IsHeld (whole_at reached p options pick e).reported o
+        ↔ WasTold reached p options pick e o }
 {}
