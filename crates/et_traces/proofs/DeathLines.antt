@@ -14,11 +14,7 @@ use Rattle.et_state.specs.declared.records.Record.TheVariants.{Alloc, Update, En
 use Rattle.et_state.specs.History.{Setting, is_flush_point, flush_lines, lines_to, mentions_to, records_at, deaths, trace_of, how_of}
 use Rattle.et_state.specs.Naming.{Names, Mentions, nothing_mentioned, with_mentions, class_line, method_line, classes_named_by, methods_named_by, number_in, line_of, record_lines, lines_of}
 use Rattle.et_replay.specs.Curve.{tells_before, dies_before}
-
--- a choice, of which both sides are known
-pub if_known : {A : Type 0} (P : A → Type 0) (b : Bool) (x y : A) → (b ≡ true → P x) → (b ≡ false → P y) → P (if b then x else y)
-if_known P true x y f g = f refl
-if_known P false x y f g = g refl
+use Rattle.et_history.proofs.Reporting.{if_known}
 
 module _ (e o : ℕ) where
   abbrev tells : List TraceLine → Bool

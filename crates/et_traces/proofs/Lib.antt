@@ -18,3 +18,7 @@ mod Reported
 mod CurveEvents
 mod LiveSums
 mod LiveReached
+mod SlotLines
+mod LiveObjects
+mod Shown
+mod RowSix

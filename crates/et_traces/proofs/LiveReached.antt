@@ -25,12 +25,13 @@ use Rattle.et_history.specs.Whole.{whole_start}
 use Rattle.et_replay.specs.Curve.{dies_before, live, live_size}
 use Rattle.et_traces.specs.LiveBytes.{object_size, is_reached_from, bytes_reached}
 use Rattle.et_traces.proofs.DeathLines.{IsListed, told_trace, trace_told, trace_ends}
-use Rattle.et_traces.proofs.Reported.{now, made_by, Knows, found_before, flushed_out}
+use Rattle.et_history.proofs.Reporting.{found_before}
+use Rattle.et_traces.proofs.Reported.{now, made_by, Knows, flushed_out}
 use Rattle.et_traces.proofs.LiveSums.{rest_told, end_none, told_bytes, late_none}
 
 -- lines only come to the end
 module _ {S : Type 0} (reached : Graph → ℕ → Bool) (given : Setting S) (start : S) (made : List Record) where
-  more_lines : (e n : ℕ) → (rest : List TraceLine) × (lines_to reached given start made (e + n) ≡ lines_to reached given start made e ++ rest)
+  pub more_lines : (e n : ℕ) → (rest : List TraceLine) × (lines_to reached given start made (e + n) ≡ lines_to reached given start made e ++ rest)
   unfolding lines_to
   more_lines e zero =
       let same : e + 0 ≡ e = omega arith in
@@ -114,7 +115,7 @@ module _ (reached : Graph → ℕ → Bool) (p : Linked) (options : Options) (pi
 
   -- AN EVENT OR A LATER ONE at which it is reached
 
-  from_seen : (o e n k : ℕ) → e ≤ k → k ≤ e + n → IsNow k o true → from o e n ≡ true
+  pub from_seen : (o e n k : ℕ) → e ≤ k → k ≤ e + n → IsNow k o true → from o e n ≡ true
   unfolding is_reached_from
   from_seen o e zero k low high seen = let same : k ≡ e = omega (arith, low, high) in subst (λ (j : ℕ). IsNow j o true) same seen
   from_seen o e (suc n) k low high seen = elim (cases_eq k (e + suc n)) [
@@ -122,7 +123,7 @@ module _ (reached : Graph → ℕ → Bool) (p : Linked) (options : Options) (pi
     | inr ne ↦ or_left (from o e n) (reached (graph (state (e + suc n))) o) (from_seen o e n k low (omega (arith, high, ne)) seen)
   ]
 
-  seen_from : (o e n : ℕ) → from o e n ≡ true → (k : ℕ) × (e ≤ k) × (k ≤ e + n) × IsNow k o true
+  pub seen_from : (o e n : ℕ) → from o e n ≡ true → (k : ℕ) × (e ≤ k) × (k ≤ e + n) × IsNow k o true
   unfolding is_reached_from
   seen_from o e zero h = (e, omega arith, omega arith, h)
   seen_from o e (suc n) h = elim (or_cases (from o e n) (reached (graph (state (e + suc n))) o) h) [
@@ -132,14 +133,14 @@ module _ (reached : Graph → ℕ → Bool) (p : Linked) (options : Options) (pi
 
   -- OBJECTS that were made
 
-  here_below : (e o : ℕ) → e ≤ last → IsHere (state e) o → o < next_number (state e)
+  pub here_below : (e o : ℕ) → e ≤ last → IsHere (state e) o → o < next_number (state e)
   here_below e o le (inl held) = held_within (state e).kept.heap o held
   here_below e o le (inr there) =
       let lt = held_within (state e).reported o there in
       let within = (knows.same e le).past.within in
       omega (arith, lt, within)
 
-  made_on : (e n o : ℕ) → e ≤ n → n ≤ last → 0 < o → o ≤ made e → IsHere (state n) o
+  pub made_on : (e n o : ℕ) → e ≤ n → n ≤ last → 0 < o → o ≤ made e → IsHere (state n) o
   made_on e n o le within some is =
       let m : ℕ = n - e in
       let same : e + m ≡ n = omega arith in
@@ -172,7 +173,7 @@ module _ (reached : Graph → ℕ → Bool) (p : Linked) (options : Options) (pi
 
   -- A D LINE of a time before the event stands exactly where the object is not reached then or later
   module _ (e o : ℕ) (le : e ≤ last) (some : 0 < o) (is : o ≤ made e) where
-    dies_when : from o e (last - e) ≡ false → dies_before trace e o ≡ true
+    pub dies_when : from o e (last - e) ≡ false → dies_before trace e o ≡ true
     dies_when none =
         let out : (k : ℕ) → e ≤ k → k ≤ last → IsNow k o true → ⊥ = λ k low high seen. false≢true (sym none ∙ from_seen o e (last - e) k low (omega (arith, le, high)) seen) in
         elim (made_on e last o le (omega arith) some is) [
@@ -201,7 +202,7 @@ module _ (reached : Graph → ℕ → Bool) (p : Linked) (options : Options) (pi
           | inr before ↦ let up = later_seen o k f before seen in absurd (omega (arith, time, lt, up, low))
         ]
 
-    lives_when : from o e (last - e) ≡ true → dies_before trace e o ≡ false
+    pub lives_when : from o e (last - e) ≡ true → dies_before trace e o ≡ false
     lives_when h =
         let k = seen_from o e (last - e) h in
         let below = k.2 in
@@ -223,7 +224,7 @@ module _ (reached : Graph → ℕ → Bool) (p : Linked) (options : Options) (pi
         chosen (nat_le born e) (dies_before trace e object) (from object e (last - e)) size (object_size p (state e) object) (le-leb born e made_at.within) (lives_when e object le some is) (dies_when e object le some is) made_at.size_is
 
     -- the A lines after those of event e are of later events
-    late : 0 < next_number (state e) → (born object size elements : ℕ) → next_number (state e) ≤ object → IsMadeAt p state last born object size elements → e < born
+    pub late : 0 < next_number (state e) → (born object size elements : ℕ) → next_number (state e) ≤ object → IsMadeAt p state last born object size elements → e < born
     late some born object size elements above made_at = elim (cases_lt e born) [
       | inl lt ↦ lt
       | inr early ↦

@@ -111,7 +111,7 @@ module _ (lines : List TraceLine) (e : ℕ) where
     line_none next (line.Death object time) le h = refl
     line_none next (line.Finish event how) le h = refl
 
-    next_rises : (next : ℕ) (l : TraceLine) → next ≤ next_behind P next l
+    pub next_rises : (next : ℕ) (l : TraceLine) → next ≤ next_behind P next l
     next_rises next (line.Header version interval) = omega arith
     next_rises next (line.Class number name) = omega arith
     next_rises next (line.Method number class name descriptor) = omega arith

@@ -2,7 +2,6 @@
 use Rattle.std.specs.Prelude.{◌≡◌, ℕ, ◌<◌, ◌^◌, true, bytes_eq, length}
 use Rattle.et_program.specs.Entries.{Linked}
 use Rattle.et_state.specs.Naming.{Names}
-use Rattle.et_state.specs.Outcome as outcome
 use Rattle.et_text.specs.Ranges.{IsText, IsShort}
 use Rattle.et_walk.specs.Records.{HasPlainStrings}
 use Rattle.et_walk.specs.Telling.{names_of_program}
