@@ -7,3 +7,4 @@ pub mod States
 pub mod Ways
 pub mod Changes
 pub mod Lists
+pub mod References

@@ -4,12 +4,13 @@ use Rattle.std.proofs.lemmas.List.{append-nil, append_assoc, length-append, leng
 use Rattle.std.proofs.lemmas.List.Sums.{sum_by-cons}
 use Rattle.std.proofs.lemmas.Bool.{cases_lt}
 use Rattle.std.proofs.lemmas.Bool.Decides.{nat_tests}
+use Rattle.std.specs.Option.{option_to_list}
 use Rattle.et_heap.specs.Objects.{most_objects, most_slots}
-use Rattle.et_heap.specs.Stored.{Stored, StoredPlaces, stored_in, as_stored, stored_at, is_stored, IsStored, IsNextStored, with_stored_at, ones_stored, stored_count, stored_slots, has_stored_room}
+use Rattle.et_heap.specs.Stored.{Stored, StoredPlaces, stored_in, as_stored, stored_at, is_stored, IsStored, IsNextStored, with_stored_at, ones_stored, stored_count, stored_slots, stored_referents, has_stored_room}
 use Rattle.et_heap.specs.Links.{stored_with}
 use Rattle.et_heap.specs.Pages.{page_at, place_in_page, empty_places, places_of, all_places, IsPaged}
 use Rattle.et_heap.specs.declared.page.TheConstants.{PAGE_SIZE}
-use Rattle.et_heap.proofs.Places.{there_below, held-positive, at-below, set-below, stored_count-set, stored_count-written, stored_slots-written}
+use Rattle.et_heap.proofs.Places.{there_below, held-positive, at-below, set-below, stored_count-set, stored_count-written, stored_slots-written, stored_referents-set}
 
 -- ONE PAGE
 
@@ -243,6 +244,13 @@ written-counts heap pages more made o x view held written slots =
     let held' : IsStored (None ∷ all_places pages) o = subst (λ h. IsStored h o) (sym view) held in
     let slots' : length x.state.slots ≡ length (stored_at (None ∷ all_places pages) o).state.slots = slots ∙ ap (λ h. length (stored_at h o).state.slots) (sym view) in
     (ap stored_count written.same ∙ stored_count-written (all_places pages) o x held', ap stored_slots written.same ∙ stored_slots-written (all_places pages) o x held' slots')
+
+-- .. and what objects refer to weakly is counted as what stands there now
+pub written-referents : (heap : StoredPlaces) (pages more : List StoredPlaces) (made o : ℕ) (x : Stored) → None ∷ all_places pages ≡ heap → IsStored heap o → IsWritten made pages more o (Some x) → stored_referents (all_places more) + length (option_to_list (stored_at heap o).state.referent) ≡ stored_referents (all_places pages) + length (option_to_list x.state.referent)
+written-referents heap pages more made o x view held written =
+    let held' : IsStored (None ∷ all_places pages) o = subst (λ h. IsStored h o) (sym view) held in
+    let same : length (option_to_list (stored_at (None ∷ all_places pages) o).state.referent) ≡ length (option_to_list (stored_at heap o).state.referent) = ap (λ h. length (option_to_list (stored_at h o).state.referent)) view in
+    omega (arith, ap stored_referents written.same, stored_referents-set (all_places pages) o (Some x) held')
 
 -- THE NEXT OBJECT
 

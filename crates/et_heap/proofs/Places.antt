@@ -1,7 +1,8 @@
 -- Objects in a list that begins with object 1, and what such a list counts.
-use Rattle.std.proofs.Common.{◌≡◌, ℕ, zero, suc, ◌+◌, ◌-◌, ◌<◌, ◌≤◌, [], ◌∷◌, length, Option, Some, None, get_or, set, ap, subst, sym, refl, arith}
+use Rattle.std.proofs.Common.{◌≡◌, ℕ, zero, suc, ◌+◌, ◌-◌, ◌<◌, ◌≤◌, [], ◌∷◌, length, Option, Some, None, get_or, set, ap, subst, sym, refl, ◌∙◌, arith}
 use Rattle.std.proofs.lemmas.List.Sums.{sum_by-cons, sum_by-set}
-use Rattle.et_heap.specs.Stored.{Stored, StoredPlaces, stored_in, as_stored, stored_at, is_stored, IsStored, slots_stored, stored_slots, ones_stored, stored_count}
+use Rattle.std.specs.Option.{option_to_list}
+use Rattle.et_heap.specs.Stored.{Stored, StoredPlaces, stored_in, as_stored, stored_at, is_stored, IsStored, slots_stored, stored_slots, ones_stored, stored_count, referents_stored, stored_referents}
 
 pub held-positive : (xs : StoredPlaces) (o : ℕ) → IsStored (None ∷ xs) o → 0 < o
 held-positive xs zero held = absurd held
@@ -28,6 +29,18 @@ pub stored_count-le : (xs : StoredPlaces) → stored_count xs ≤ length xs
 stored_count-le [] = omega arith
 stored_count-le (None ∷ xs) = let le = stored_count-le xs in omega (arith, sum_by-cons ones_stored None xs)
 stored_count-le (Some x ∷ xs) = let le = stored_count-le xs in omega (arith, sum_by-cons ones_stored (Some x) xs)
+
+pub at_most_one : (r : Option ℕ) → length (option_to_list r) ≤ 1
+at_most_one None = omega arith
+at_most_one (Some o) = omega arith
+
+referents-le_one : (p : Option Stored) → referents_stored p ≤ 1
+referents-le_one None = omega arith
+referents-le_one (Some x) = at_most_one x.state.referent
+
+pub stored_referents-le : (xs : StoredPlaces) → stored_referents xs ≤ length xs
+stored_referents-le [] = omega arith
+stored_referents-le (x ∷ xs) = let le = stored_referents-le xs in omega (arith, sum_by-cons referents_stored x xs, referents-le_one x)
 
 one_there : (p : Option Stored) → is_stored p → ones_stored p ≡ 1
 one_there None held = absurd held
@@ -71,3 +84,16 @@ stored_slots-written xs o x held slots =
     let these = slots_there (stored_in (None ∷ xs) o) in
     let same : slots_stored (stored_in (None ∷ xs) o) ≡ slots_stored (get_or xs (o - 1) None) = ap slots_stored (at-below xs o (held-positive xs o held)) in
     omega arith
+
+referents_there : (p : Option Stored) → referents_stored p ≡ length (option_to_list (as_stored p).state.referent)
+referents_there None = refl
+referents_there (Some x) = refl
+
+pub referents_at : (xs : StoredPlaces) (o : ℕ) → IsStored (None ∷ xs) o → referents_stored (get_or xs (o - 1) None) ≡ length (option_to_list (stored_at (None ∷ xs) o).state.referent)
+referents_at xs o held = ap referents_stored (sym (at-below xs o (held-positive xs o held))) ∙ referents_there (stored_in (None ∷ xs) o)
+
+-- what an object refers to weakly is counted by what stands in its place
+pub stored_referents-set : (xs : StoredPlaces) (o : ℕ) (p : Option Stored) → IsStored (None ∷ xs) o → stored_referents (set xs (o - 1) p) + length (option_to_list (stored_at (None ∷ xs) o).state.referent) ≡ stored_referents xs + referents_stored p
+stored_referents-set xs o p held =
+    let there : is_stored (get_or xs (o - 1) None) = subst is_stored (at-below xs o (held-positive xs o held)) held in
+    omega (arith, sum_by-set referents_stored xs (o - 1) p None (there_below xs (o - 1) there), referents_at xs o held)

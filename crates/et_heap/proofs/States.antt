@@ -2,9 +2,9 @@
 use Rattle.std.proofs.Common.{◌≡◌, ℕ, zero, suc, ◌+◌, ◌-◌, ◌&&◌, nat_le, [], ◌∷◌, ◌++◌, length, set, Option, Some, None, Contains, ap, subst, refl, sym, ◌∙◌, arith}
 use Rattle.std.proofs.lemmas.List.{length-map, map-set, map_push}
 use Rattle.std.proofs.lemmas.List.Sums.{sum_by-cons}
-use Rattle.et_heap.specs.Objects.{ObjectState, Objects, at, found, object_at, is_there, IsHeld, IsNextHeld, slots_in, slot_count, ones_in, held_count, has_room, most_objects, most_slots}
+use Rattle.et_heap.specs.Objects.{ObjectState, Objects, at, found, object_at, is_there, IsHeld, IsNextHeld, slots_in, slot_count, ones_in, held_count, referents_in, referent_count, has_room, most_objects, most_slots}
 use Rattle.et_heap.specs.Queues.{changed_at, IsWhole}
-use Rattle.et_heap.specs.Stored.{Stored, StoredPlaces, as_stored, stored_in, stored_at, is_stored, IsStored, IsNextStored, slots_stored, stored_slots, ones_stored, stored_count, has_stored_room, state_in, states_of}
+use Rattle.et_heap.specs.Stored.{Stored, StoredPlaces, as_stored, stored_in, stored_at, is_stored, IsStored, IsNextStored, slots_stored, stored_slots, ones_stored, stored_count, referents_stored, stored_referents, has_stored_room, state_in, states_of}
 use Rattle.et_heap.specs.Links.{AllStand, stored_with}
 
 at_shown : (xs : StoredPlaces) (o : ℕ) → at (states_of xs) o ≡ state_in (stored_in xs o)
@@ -86,6 +86,11 @@ pub count-shown : (xs : StoredPlaces) → held_count (states_of xs) ≡ stored_c
 count-shown [] = refl
 count-shown (None ∷ xs) = let e = count-shown xs in omega (arith, sum_by-cons ones_in None (states_of xs), sum_by-cons ones_stored None xs)
 count-shown (Some x ∷ xs) = let e = count-shown xs in omega (arith, sum_by-cons ones_in (Some x.state) (states_of xs), sum_by-cons ones_stored (Some x) xs)
+
+pub referents-shown : (xs : StoredPlaces) → referent_count (states_of xs) ≡ stored_referents xs
+referents-shown [] = refl
+referents-shown (None ∷ xs) = let e = referents-shown xs in omega (arith, sum_by-cons referents_in None (states_of xs), sum_by-cons referents_stored None xs)
+referents-shown (Some x ∷ xs) = let e = referents-shown xs in omega (arith, sum_by-cons referents_in (Some x.state) (states_of xs), sum_by-cons referents_stored (Some x) xs)
 
 pub length-shown : (xs : StoredPlaces) → length (states_of xs) ≡ length xs
 length-shown xs = length-map xs state_in

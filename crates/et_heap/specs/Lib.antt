@@ -7,3 +7,4 @@ pub mod Pages
 pub mod Inside
 pub mod RefsInside
 pub mod Remaining
+pub mod References

@@ -1,6 +1,7 @@
 -- The objects of the guest (JVMS 2.4, 2.5.3).
 use Rattle.std.specs.Prelude.{ℕ, ◌+◌, ◌-◌, ◌≤◌, ◌&&◌, Bool, false, nat_le, List, [], Option, Some, None, length, replicate, slice_index_or, slice_set}
 use Rattle.std.specs.List.{sum_by}
+use Rattle.std.specs.Option.{option_to_list}
 use Rattle.et_base.specs.declared.value.Value.{Value}
 use Rattle.et_base.specs.declared.value.Value.TheVariants.{Unset, Null, Ref}
 use Rattle.et_heap.specs.declared.monitor.Monitor.{Monitor}
@@ -108,6 +109,14 @@ ones_in (Some x) = 1
 -- the objects that are held
 abbrev pub held_count : Objects → ℕ
 held_count heap = sum_by ones_in heap
+
+abbrev pub referents_in : Option ObjectState → ℕ
+referents_in None = 0
+referents_in (Some x) = length (option_to_list x.referent)
+
+-- the objects that refer weakly to one
+abbrev pub referent_count : Objects → ℕ
+referent_count heap = sum_by referents_in heap
 
 -- At most so many objects are ever made, and at most so many slots are held at a time.
 abbrev pub most_objects : ℕ

@@ -1,6 +1,7 @@
 -- How objects are kept: each with the links of waiting lists. What a heap shows of them has no links.
 use Rattle.std.specs.Prelude.{ℕ, ◌+◌, ◌-◌, ◌≤◌, ◌&&◌, Bool, nat_le, List, map, is_some, Option, Some, None, length, slice_index_or, slice_set}
 use Rattle.std.specs.List.{sum_by}
+use Rattle.std.specs.Option.{option_to_list}
 use Rattle.et_heap.specs.Objects.{ObjectState, Objects, no_object, most_objects, most_slots}
 use Rattle.et_heap.specs.Queues.{with_waits, with_one_waiting, without_first_waiting}
 
@@ -84,6 +85,13 @@ ones_stored (Some x) = 1
 
 abbrev pub stored_count : StoredPlaces → ℕ
 stored_count places = sum_by ones_stored places
+
+abbrev pub referents_stored : Option Stored → ℕ
+referents_stored None = 0
+referents_stored (Some x) = length (option_to_list x.state.referent)
+
+abbrev pub stored_referents : StoredPlaces → ℕ
+stored_referents places = sum_by referents_stored places
 
 -- so many objects more, with so many slots in all, may be made
 abbrev pub has_stored_room : StoredPlaces → ℕ → ℕ → Bool

@@ -1,6 +1,6 @@
 //! The heap.
-ghost use Rattle.std.specs.Prelude.{◌≡◌, ◌+◌, ◌<◌, ◌≤◌, ◌↔◌, ◌∷◌, ◌++◌, ℕ, [], length, IsTrue, IfOk, IfSome, OnOk, OnErr, Err, None, Some, false};
-ghost use Rattle.et_heap.specs.Objects.{IsHeld, IsNextHeld, object_at, slot_of, with_slot, with_referent, with_queue, with_monitor, with_object_at, without_object_at, referent_value, referent_of, new_object, slot_count, held_count, has_room, most_objects, most_slots};
+ghost use Rattle.std.specs.Prelude.{◌≡◌, ◌+◌, ◌<◌, ◌≤◌, ◌↔◌, ◌∷◌, ◌++◌, ℕ, [], length, IsTrue, IfOk, IfSome, OnOk, OnErr, Err, None, Some, true, false, Contains};
+ghost use Rattle.et_heap.specs.Objects.{IsHeld, IsNextHeld, object_at, slot_of, with_slot, with_referent, with_queue, with_monitor, with_object_at, without_object_at, referent_value, referent_of, new_object, slot_count, held_count, referent_count, has_room, most_objects, most_slots};
 ghost use Rattle.et_heap.specs.Queues.{IsWhole, HasQueue, enqueued, polled, first_value};
 ghost use Rattle.et_heap.specs.Refs.{leads_to};
 
@@ -228,6 +228,15 @@ impl Heap {
         value_of_reference(unlink(&mut self.store, queue))
     }
 
+    /// A reference that waits in a queue is marked as waiting while it is held, so that no list takes it again. A law: it tells
+    /// the prover, and does nothing.
+    pub fn who_waits_is_marked(&self)
+        ensures { (q r : ℕ) → Contains (object_at self.now q).waiting r → IsHeld self.now r →
+            (object_at self.now r).waits ≡ true }
+    {
+        let _store = &self.store;
+    }
+
     /// The references in the slots of an object, in order, then its queue, then those that wait in it, in order. Each of
     /// these must be held.
     pub fn refs_of<L: Ledger>(&self, o: ObjectId, visits: &mut Steps<L>) -> Refs<'_>
@@ -286,6 +295,14 @@ impl Heap {
         ensures few { result ≤ most_slots }
     {
         self.store.slots()
+    }
+
+    /// How many objects that are held refer weakly to one.
+    #[inline]
+    pub fn referents(&self) -> u32
+        ensures { result ≡ referent_count self.now }
+    {
+        self.store.referents()
     }
 
     /// How many pages were not given back.

@@ -1,6 +1,7 @@
 //! One place of a page.
 ghost use Rattle.std.specs.Prelude.{◌≡◌, ◌<◌, ◌↔◌, length, IsTrue, Some, None, [], false};
 ghost use Rattle.et_heap.specs.Objects.{free_monitor, slot_of, with_slot, with_referent, with_queue, with_monitor, referent_value, referent_of};
+ghost use Rattle.et_heap.specs.Refs.{refs_of};
 ghost use Rattle.et_heap.specs.Stored.{as_stored, is_stored, unlinked, on_state, with_next, with_last, without_first};
 
 use crate::monitor::Monitor;
@@ -29,6 +30,8 @@ pub struct Place {
     has_last: bool,
     waits: bool,
     has_owner: bool,
+    /// Whether a reference was ever written in a slot.
+    has_references: bool,
     /// Whether the object was not taken out.
     held: bool,
     /// The references that wait in the object.
@@ -39,8 +42,11 @@ impl Model for Place {
     ghost use Rattle.std.specs.Prelude.{Option};
     ghost use Rattle.std.specs.Bool.{then_some};
     ghost use Rattle.et_heap.specs.Stored.{Stored};
+    ghost use Rattle.et_heap.specs.References.{HasFlag};
 
     ghost Value = { Option Stored };
+
+    ghost invariant = { HasFlag };
 
     ghost view = { λ x. then_some x.held (record {
       state = record {
@@ -79,8 +85,9 @@ fn reference_of(v: Value) -> Option<ObjectId>
 }
 
 impl Place {
-    /// The place of an object with these slots.
+    /// The place of an object with these slots, in which no reference stands yet.
     pub fn new(class: ClassId, length: u32, slots: Vec<Value>) -> Self
+        requires { refs_of slots.items ≡ [] }
         ensures { result ≡ Some (unlinked (record {
           class = class;
           length = length;
@@ -108,6 +115,7 @@ impl Place {
             has_last: false,
             waits: false,
             has_owner: false,
+            has_references: false,
             held: true,
             waiting: Waiting::begin(),
         }
@@ -152,6 +160,18 @@ impl Place {
         self.slots.as_slice()
     }
 
+    /// The slots in which references may stand: all of them, or none where none was ever written.
+    pub fn references(&self) -> &[Value]
+        requires { is_stored self.now }
+        ensures { refs_of result.now ≡ refs_of (as_stored self.now).state.slots }
+    {
+        if self.has_references {
+            self.slots.as_slice()
+        } else {
+            &[]
+        }
+    }
+
     #[inline(always)]
     pub fn slot(&self, i: u32) -> Value
         requires held { is_stored self.now }
@@ -171,6 +191,9 @@ impl Place {
     {
         let old = self.slots[i as usize];
         self.slots[i as usize] = v;
+        if let Value::Ref(_) = &v {
+            self.has_references = true;
+        }
         old
     }
 

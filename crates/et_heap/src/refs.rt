@@ -114,7 +114,7 @@ impl<'a> Refs<'a> {
     {
         let object = store.object(o);
         Refs {
-            slots: object.slots(),
+            slots: object.references(),
             queue: object.queue(),
             waiting: WaitingRefs::of(store, o),
         }

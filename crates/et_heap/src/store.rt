@@ -1,7 +1,8 @@
 //! Objects in pages.
 ghost use Rattle.std.specs.Prelude.{◌≡◌, ◌+◌, ◌-◌, ◌/◌, ◌%◌, ◌<◌, ◌≤◌, ◌↔◌, ◌∷◌, ◌++◌, ℕ, [], length, IsTrue, IfOk, IfSome, OnOk, OnErr, Err, None, Some, false};
+ghost use Rattle.std.specs.Option.{option_to_list};
 ghost use Rattle.et_heap.specs.Objects.{slot_of, with_slot, with_referent, with_queue, with_monitor, referent_value, referent_of, new_object, most_objects, most_slots};
-ghost use Rattle.et_heap.specs.Stored.{is_stored, IsStored, IsNextStored, stored_at, without_stored_at, on_state, unlinked, with_next, with_last, without_first, stored_slots, stored_count, has_stored_room};
+ghost use Rattle.et_heap.specs.Stored.{is_stored, IsStored, IsNextStored, stored_at, without_stored_at, on_state, unlinked, with_next, with_last, without_first, stored_slots, stored_count, stored_referents, has_stored_room};
 ghost use Rattle.et_heap.specs.Links.{stored_with};
 ghost use Rattle.et_heap.specs.Pages.{page_at, place_in_page, all_places, IsPaged};
 
@@ -31,6 +32,8 @@ pub struct Store {
     /// How many objects are held, and how many slots they have.
     held: u32,
     slots: u32,
+    /// How many of them refer weakly to an object.
+    referents: u32,
 }
 
 impl Model for Store {
@@ -65,6 +68,16 @@ fn place_of(o: ObjectId) -> usize
     (o.number() as usize - 1) % PAGE_SIZE
 }
 
+/// How many objects a referent is: one, or none.
+fn count_of(referent: &Value) -> u32
+    ensures { result ≡ length (option_to_list (referent_of referent.now)) }
+{
+    match referent {
+        Value::Ref(_) => 1,
+        _ => 0,
+    }
+}
+
 /// Puts an object at the end, into a new page where the last one has all places. After an error the places are as
 /// before.
 fn push(alloc: Global, pages: &mut Vec<Page>, made: usize, object: Place) -> Result<(), AllocError>
@@ -95,11 +108,13 @@ impl Store {
             made: 0,
             held: 0,
             slots: 0,
+            referents: 0,
         }
     }
 
     /// Makes an object with this many slots, which hold nothing yet. `Full` comes exactly where there would be more than
     /// `MOST_OBJECTS` objects ever made or more than `MOST_SLOTS` slots of objects that are held.
+    #[tactic(auto, using(crate::proofs::References::none_unset))]
     pub fn make(&mut self, class: ClassId, elements: u32, slots: u32) -> Result<ObjectId, MakeFault>
         ensures number { IfOk result (λ o. o ≡ length self.old) }
         ensures new { OnOk result
@@ -150,7 +165,9 @@ impl Store {
         ensures new { self.new ≡ stored_with (on_state (with_referent (referent_of v))) o self.old }
     {
         let page = &mut self.pages[page_of(o)];
-        page.set_referent(place_of(o), v)
+        let old = page.set_referent(place_of(o), v);
+        self.referents = self.referents - count_of(&old) + count_of(&v);
+        old
     }
 
     /// Writes the queue of an object, and answers the one before.
@@ -236,11 +253,14 @@ impl Store {
         requires { IsStored self.old o }
         ensures { self.new ≡ without_stored_at self.old o }
     {
-        let slots = self.object(o).slots().len() as u32;
+        let object = self.object(o);
+        let slots = object.slots().len() as u32;
+        let referents = count_of(&object.referent());
         let page = &mut self.pages[page_of(o)];
         page.take_out(place_of(o));
         self.held -= 1;
         self.slots -= slots;
+        self.referents -= referents;
     }
 
     /// How many objects were ever made.
@@ -264,6 +284,13 @@ impl Store {
         ensures few { result ≤ most_slots }
     {
         self.slots
+    }
+
+    /// How many objects that are held refer weakly to one.
+    pub fn referents(&self) -> u32
+        ensures { result ≡ stored_referents self.now }
+    {
+        self.referents
     }
 
     /// How many pages were not given back.

@@ -65,7 +65,7 @@ fn parts<L: Ledger>(rt: &impl Abort, heap: &mut Heap, blank: Blank)
     requires name { blank.name ≡ L.name }
     requires parts { blank.parts ≡ L.parts }
     requires counts { 0 < L.parts }
-    requires whole { IsWhole heap.old 1 }
+    requires heap { heap.old ≡ None ∷ Some (new_object 4 2 2) ∷ [] }
 {
     let mut visits = Steps::<L>::begin(blank);
     let o = ObjectId::new(1);
@@ -79,8 +79,15 @@ fn parts<L: Ledger>(rt: &impl Abort, heap: &mut Heap, blank: Blank)
         heap.set_referent(o, Value::Ref(o), &mut visits),
         Value::Null
     );
+    assert_eq!(rt; heap.referents(), 1);
+    assert_eq!(rt;
+        heap.set_slot(o, 1, Value::Ref(o), &mut visits),
+        Value::Unset
+    );
     let free = heap.monitor(o, &mut visits);
     assert_eq!(rt; (free.owner, free.count), (None, 0));
+    heap.take_out(o);
+    assert_eq!(rt; heap.referents(), 0);
 }
 
 #[test]

@@ -7,4 +7,4 @@ pub returns : goal.returns
 returns c = place_changed (without_first c.args.last) _ _ _ _ _ _ _ c.self.view_is c.self.invariant c.requires c.page_of.ensures c.place_of.ensures c.index_mut-page.ensures.value c.drop_first.ensures
 
 pub invariant_of-self : goal.invariant_of-self
-invariant_of-self c = change_kept (without_first c.args.last) _ _ _ _ _ _ _ c.self.view_is c.self.invariant c.requires c.page_of.ensures c.place_of.ensures c.index_mut-page.ensures.value c.drop_first.ensures refl
+invariant_of-self c = change_kept (without_first c.args.last) _ _ _ _ _ _ _ c.self.view_is c.self.invariant c.requires c.page_of.ensures c.place_of.ensures c.index_mut-page.ensures.value c.drop_first.ensures refl refl

@@ -7,4 +7,4 @@ pub returns : goal.returns
 returns c = place_changed (with_last c.args.reference) _ _ _ _ _ _ _ c.self.view_is c.self.invariant c.requires c.page_of.ensures c.place_of.ensures c.index_mut-page.ensures.value c.push_last.ensures
 
 pub invariant_of-self : goal.invariant_of-self
-invariant_of-self c = change_kept (with_last c.args.reference) _ _ _ _ _ _ _ c.self.view_is c.self.invariant c.requires c.page_of.ensures c.place_of.ensures c.index_mut-page.ensures.value c.push_last.ensures refl
+invariant_of-self c = change_kept (with_last c.args.reference) _ _ _ _ _ _ _ c.self.view_is c.self.invariant c.requires c.page_of.ensures c.place_of.ensures c.index_mut-page.ensures.value c.push_last.ensures refl refl

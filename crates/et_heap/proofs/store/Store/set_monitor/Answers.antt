@@ -11,4 +11,4 @@ pub returns-clause-new : goal.returns-clause-new
 returns-clause-new c = place_changed (on_state (with_monitor c.args.m)) _ _ _ _ _ _ _ c.self.view_is c.self.invariant c.requires c.page_of.ensures c.place_of.ensures c.index_mut-page.ensures.value c.set_monitor.ensures.new
 
 pub invariant_of-self : goal.invariant_of-self
-invariant_of-self c = change_kept (on_state (with_monitor c.args.m)) _ _ _ _ _ _ _ c.self.view_is c.self.invariant c.requires c.page_of.ensures c.place_of.ensures c.index_mut-page.ensures.value c.set_monitor.ensures.new refl
+invariant_of-self c = change_kept (on_state (with_monitor c.args.m)) _ _ _ _ _ _ _ c.self.view_is c.self.invariant c.requires c.page_of.ensures c.place_of.ensures c.index_mut-page.ensures.value c.set_monitor.ensures.new refl refl

@@ -7,4 +7,4 @@ pub returns : goal.returns
 returns c = place_changed (with_next c.args.next) _ _ _ _ _ _ _ c.self.view_is c.self.invariant c.requires c.page_of.ensures c.place_of.ensures c.index_mut-page.ensures.value c.set_next.ensures
 
 pub invariant_of-self : goal.invariant_of-self
-invariant_of-self c = change_kept (with_next c.args.next) _ _ _ _ _ _ _ c.self.view_is c.self.invariant c.requires c.page_of.ensures c.place_of.ensures c.index_mut-page.ensures.value c.set_next.ensures refl
+invariant_of-self c = change_kept (with_next c.args.next) _ _ _ _ _ _ _ c.self.view_is c.self.invariant c.requires c.page_of.ensures c.place_of.ensures c.index_mut-page.ensures.value c.set_next.ensures refl refl

@@ -1,4 +1,4 @@
-use Rattle.std.proofs.Common.{◌<◌, length, length-set, ap, sym, ◌∙◌, subst}
+use Rattle.std.proofs.Common.{◌<◌, length, length-set, refl, ap, sym, ◌∙◌, subst}
 use Rattle.et_heap.specs.Objects.{with_slot, slot_of}
 use Rattle.et_heap.specs.Stored.{as_stored, on_state}
 use Rattle.et_heap.proofs.Writes.{place_same, place_held, place_changed, change_kept}
@@ -19,4 +19,4 @@ pub returns-clause-new : goal.returns-clause-new
 returns-clause-new c = place_changed (on_state (with_slot c.args.i c.args.v)) _ _ _ _ _ _ _ c.self.view_is c.self.invariant c.requires.held c.page_of.ensures c.place_of.ensures c.index_mut-page.ensures.value c.set_slot.ensures.new
 
 pub invariant_of-self : goal.invariant_of-self
-invariant_of-self c = change_kept (on_state (with_slot c.args.i c.args.v)) _ _ _ _ _ _ _ c.self.view_is c.self.invariant c.requires.held c.page_of.ensures c.place_of.ensures c.index_mut-page.ensures.value c.set_slot.ensures.new (length-set _ _ _)
+invariant_of-self c = change_kept (on_state (with_slot c.args.i c.args.v)) _ _ _ _ _ _ _ c.self.view_is c.self.invariant c.requires.held c.page_of.ensures c.place_of.ensures c.index_mut-page.ensures.value c.set_slot.ensures.new (length-set _ _ _) refl
