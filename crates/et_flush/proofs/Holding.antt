@@ -171,7 +171,17 @@ held_counted k (x ∷ xs) (h ∷ hs) rising there =
     omega (arith, rest, sum_by-cons ones_in x xs))
     (cases_eq h k)
 
+-- a list of some has no more than there are
+pub listed_counted : (heap : Objects) (held : List ℕ) → IsStrictlyIncreasing held → ((o : ℕ) → Contains held o → IsHeld heap o) → length held ≤ held_count heap
+listed_counted heap held rising each =
+    held_counted 0 heap held rising
+    (λ j lt. (omega arith, subst (λ (i : ℕ). is_there (get_or heap i None)) (let e : get_or held j 0 ≡ get_or held j 0 - 0 = omega arith in e) (each (get_or held j 0) (Contains-get_or held j 0 lt))))
+
 pub all_counted : (heap : Objects) (held : List ℕ) → AreAllHeld heap held → length held ≤ held_count heap
-all_counted heap held are =
-    held_counted 0 heap held are.rising
-    (λ j lt. (omega arith, subst (λ (i : ℕ). is_there (get_or heap i None)) (let e : get_or held j 0 ≡ get_or held j 0 - 0 = omega arith in e) ((are.exact (get_or held j 0)).0 (Contains-get_or held j 0 lt))))
+all_counted heap held are = listed_counted heap held are.rising (λ o. (are.exact o).0)
+
+-- .. also with the next one
+pub next_counted : (heap : Objects) (n o : ℕ) (held : List ℕ) → AreHeldBelow heap n held → IsNextHeld heap n o → length held + 1 ≤ held_count heap
+next_counted heap n o held are next =
+    let more = below_next heap n o held (held ++ o ∷ []) are next refl in
+    omega (arith, listed_counted heap (held ++ o ∷ []) more.rising more.each, length-append held (o ∷ []))

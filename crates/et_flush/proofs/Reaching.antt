@@ -19,12 +19,12 @@ use Rattle.et_flush.proofs.Targets.{held_above}
 use Rattle.et_flush.proofs.Settling.{lead_held}
 use Rattle.et_flush.proofs.Orders.{cases_held}
 
-module _ (heap : Objects) (roots stamps : List ℕ) (time : ℕ → ℕ) (none : IsHeld heap 0 → ⊥) (long : length heap ≤ length stamps) (below : All (λ t. t < NOW) stamps) (settled : IsSettled heap roots stamps time) where
+module _ (heap : Objects) (roots stamps : List ℕ) (time : ℕ → ℕ) (none : IsHeld heap 0 → ⊥) (stamped : (o : ℕ) → IsHeld heap o → o < length stamps) (below : All (λ t. t < NOW) stamps) (settled : IsSettled heap roots stamps time) where
   unreached_below : (o : ℕ) → IsHeld heap o → ¬ IsReached (heap_graph heap roots) o → time o < NOW
   unreached_below o held unreached =
       let s = (settled.unreached o held unreached).source in
       let here : IsHeld heap s.0 = lead_held heap s.0 o s.2 held in
-      omega (arith, s.3, below s.0 0 (omega (arith, held_within heap s.0 here)))
+      omega (arith, s.3, below s.0 0 (stamped s.0 here))
 
   -- which are reached now
   pub now_reached : (o : ℕ) → IsHeld heap o → (is_now time o ≡ true) ↔ IsReached (heap_graph heap roots) o

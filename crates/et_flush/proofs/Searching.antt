@@ -6,7 +6,7 @@ use Rattle.et_base.proofs.Lists.{Contains-none, Contains-here, Contains-there, C
 use Rattle.et_graph.specs.Graph.{IsWalk, Leads}
 use Rattle.et_graph.specs.Times.{ArePairsAmong, IsSet}
 use Rattle.et_graph.specs.Order.{IsOneOf, IsOrder}
-use Rattle.et_graph.specs.declared.search.Source.{Source}
+use Rattle.et_graph.specs.declared.objects.Death.{Death}
 use Rattle.et_heap.specs.Objects.{Objects, IsHeld, object_at}
 use Rattle.et_heap.specs.Queues.{IsWhole}
 use Rattle.et_heap.specs.Refs.{leads_to, pairs_of}
@@ -118,7 +118,7 @@ module _ (heap : Objects) (held : List ℕ) (ranks : Ranks) (is : IsSearched hea
           record { searched = is; flags = flags; one = record { one = one.1; left = kept.1 } },
         )
 
-    pub order_searched : (n : ℕ) (times : List ℕ) (order : List Source) → n ≡ length held → IsOrder (IsLeftRank n left_out) times order → IsOrder (IsSearchedRank heap held ranks left_out) times order
+    pub order_searched : (n : ℕ) (times : List ℕ) (order : List Death) → n ≡ length held → IsOrder (IsLeftRank n left_out) times order → IsOrder (IsSearchedRank heap held ranks left_out) times order
     order_searched n times order long are = record {
       each = λ s c. record { searched = is; flags = flags; one = subst (λ (m : ℕ). IsLeftRank m left_out s.object) long (are.each s c) };
       all = λ k h. are.all k (subst (λ (m : ℕ). IsLeftRank m left_out k) (sym long) h.one);

@@ -1,11 +1,14 @@
 -- Objects that are swept one after the other.
-use Rattle.std.proofs.Common.{◌≡◌, ℕ, zero, suc, ◌+◌, ◌-◌, ◌<◌, ◌≤◌, Bool, true, [], ◌∷◌, length, get_or, set, Option, Some, None, refl, sym, ◌∙◌, ap, subst, inl, inr, arith, drop, drop-cons}
+use Rattle.std.proofs.Common.{◌≡◌, ℕ, zero, suc, ◌+◌, ◌-◌, ◌<◌, ◌≤◌, Bool, true, false, ◌&&◌, [], ◌∷◌, length, get_or, set, Option, Some, None, refl, sym, ◌∙◌, ap, subst, inl, inr, arith, drop, drop-cons}
 use Rattle.std.proofs.lemmas.List.{set-get_or, drop_all}
+use Rattle.std.specs.Option.{option_to_list}
+use Rattle.std.proofs.lemmas.List.Sums.{sum_by-cons}
 use Rattle.std.specs.Prelude.{if◌then◌else◌, not}
 use Rattle.std.proofs.lemmas.Bool.{le-leb, cases_lt}
 use Rattle.et_base.specs.declared.value.Value.TheVariants.{Ref}
-use Rattle.et_heap.specs.Objects.{ObjectState, Objects, IsHeld, is_there, at, found, object_at, referent_value}
-use Rattle.et_heap.specs.Remaining.{kept_referent, left_place, remaining}
+use Rattle.et_heap.specs.Objects.{ObjectState, Objects, IsHeld, is_there, at, found, object_at, referent_value, referents_in, referent_count}
+use Rattle.et_heap.specs.Remaining.{is_cleared, kept_referent, left_place, remaining}
+use Rattle.et_flush.specs.Flushes.{loses_referent}
 use Rattle.et_flush.specs.declared.times.TheConstants.{NOW}
 use Rattle.et_flush.specs.declared.ranks.Ranks.{Ranks}
 use Rattle.et_flush.specs.Sweeps.{is_now, ReferentsWithin, visits_of, visits_from}
@@ -81,6 +84,30 @@ pub referent_kept : (here : ℕ → Bool) (xs : Objects) (o : ℕ) → IsHeld xs
 referent_kept here xs o held same =
     sym (ap (λ (r : Option ℕ). set xs o (Some (record (object_at xs o) { referent = r }))) same ∙ (ap (λ (p : Option ObjectState). set xs o p) (found_there (at xs o) held) ∙ set-get_or xs o None))
 
+-- where nothing is referred to weakly, no referent is there
+none_in : (xs : Objects) (o : ℕ) → referent_count xs ≡ 0 → referents_in (get_or xs o None) ≡ 0
+none_in [] o none = refl
+none_in (x ∷ xs) zero none = omega (arith, sum_by-cons referents_in x xs)
+none_in (x ∷ xs) (suc o) none = none_in xs o (omega (arith, sum_by-cons referents_in x xs))
+
+no_option : (r : Option ℕ) → length (option_to_list r) ≡ 0 → r ≡ None
+no_option None none = refl
+no_option (Some o) none = absurd (omega (arith, none))
+
+none_found : (p : Option ObjectState) → referents_in p ≡ 0 → (found p).referent ≡ None
+none_found None none = refl
+none_found (Some x) none = no_option x.referent none
+
+pub no_referent : (xs : Objects) (o : ℕ) → referent_count xs ≡ 0 → (object_at xs o).referent ≡ None
+no_referent xs o none = none_found (at xs o) (none_in xs o none)
+
+pub none_kept : (here : ℕ → Bool) (r : Option ℕ) → r ≡ None → kept_referent here r ≡ r
+none_kept here None is = refl
+none_kept here (Some o) is = absurd (cc)
+
+pub none_lost : (here : ℕ → Bool) (x : ObjectState) → x.referent ≡ None → loses_referent here true (Some x) ≡ false
+none_lost here x is = ap (λ (r : Option ℕ). true && is_cleared here r) is
+
 -- what stays refers to what stays
 pub kept_same : (here : ℕ → Bool) (p : Option ℕ) (r : ℕ) → p ≡ Some r → here r ≡ true → kept_referent here p ≡ p
 kept_same here p r is on =
@@ -143,7 +170,7 @@ visits_to here n m xs le out =
     let e : n + (m - n) ≡ m = omega arith in
     sym (visits_skip here n (m - n) xs (λ u from lt. out u from (omega arith))) ∙ ap (λ (k : ℕ). visits_from here k (drop k xs)) e
 
-pub visits_step : (here : ℕ → Bool) (xs ys : Objects) (n o all old v v' : ℕ) → ys ≡ swept here n 0 xs → o ≡ n → n < length xs → v + visits_from here n (drop n xs) ≡ old + all → v' ≡ v + visits_of here (here o) (at ys o) → v' + visits_from here (n + 1) (drop (n + 1) xs) ≡ old + all
+pub visits_step : (here : ℕ → Bool) (xs ys : Objects) (n o all old v v' : ℕ) → ys ≡ swept here n 0 xs → o ≡ n → n < length xs → v + visits_from here n (drop n xs) ≤ old + all → v' ≤ v + visits_of here (here o) (at ys o) → v' + visits_from here (n + 1) (drop (n + 1) xs) ≤ old + all
 visits_step here xs ys n o all old v v' before same lt sum is =
     let here_now : visits_of here (here o) (at ys o) ≡ visits_of here (here n) (get_or xs n None) = ap (λ (p : Option ObjectState). visits_of here (here o) p) (place_before here xs ys n o before same) ∙ ap (λ (k : ℕ). visits_of here (here k) (get_or xs n None)) same in
     omega (arith, visits_left here n xs lt)

@@ -24,16 +24,15 @@ times_below held stamps times begins within below k d lt =
     let inside : k < length held = omega (arith, begins.long) in
     omega (arith, get_or_default times k d 0 lt, begins.each k inside, below (get_or held k 0) 0 (within (get_or held k 0) (Contains-get_or held k 0 inside)))
 
-pub places_least : (n m : ℕ) (w : Work) → n ≤ m → HasWorkPlaces m w → HasWorkPlaces n w
-places_least n m w le h = record {
+-- there are places for fewer, too
+pub places_least : (m n m' n' : ℕ) (w : Work) → m ≤ m' → n ≤ n' → HasWorkPlaces m' n' w → HasWorkPlaces m n w
+places_least m n m' n' w less few h = record {
   runs = omega (arith, h.runs);
-  ranks = h.ranks;
+  ranks = record { blocks = h.ranks.blocks; ranks = omega (arith, h.ranks.ranks) };
   times = omega (arith, h.times);
   reached = omega (arith, h.reached);
   seen = omega (arith, h.seen);
   waiting = omega (arith, h.waiting);
   held = omega (arith, h.held);
-  order = omega (arith, h.order);
   deaths = omega (arith, h.deaths);
-  cleared = omega (arith, h.cleared);
 }

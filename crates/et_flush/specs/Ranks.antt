@@ -1,25 +1,31 @@
 -- The ranks of objects that are listed, and the table by which they are found.
-use Rattle.std.specs.Prelude.{◌≡◌, ℕ, ◌+◌, ◌-◌, ◌*◌, ◌<◌, ◌≤◌, ◌⊎◌, List, [], ◌∷◌, ◌++◌, length, map, Contains, vec_capacity, slice_index}
-use Rattle.et_heap.specs.Pages.{page_at, place_in_page}
-use Rattle.et_heap.specs.declared.page.TheConstants.{PAGE_SIZE}
+use Rattle.std.specs.Prelude.{◌≡◌, ℕ, ◌+◌, ◌-◌, ◌*◌, ◌/◌, ◌%◌, ◌<◌, ◌≤◌, ◌⊎◌, List, [], ◌∷◌, ◌++◌, length, map, min, Contains, vec_capacity, slice_index}
+use Rattle.et_flush.specs.declared.ranks.TheConstants.{BLOCK_SIZE}
 use Rattle.et_flush.specs.declared.ranks.Ranks.{Ranks}
 
--- the place of the entry of object o, in the run of its page
+-- object o stands in this block, at this place
+abbrev pub block_at : ℕ → ℕ
+block_at o = (o - 1) / BLOCK_SIZE
+
+abbrev pub place_in_block : ℕ → ℕ
+place_in_block o = (o - 1) % BLOCK_SIZE
+
+-- the place of the entry of object o, in the run of its block
 abbrev pub rank_entry : List ℕ → ℕ → ℕ
-rank_entry runs o = slice_index runs (page_at o) * PAGE_SIZE + place_in_page o
+rank_entry runs o = slice_index runs (block_at o) * BLOCK_SIZE + place_in_block o
 
--- each page of these has a run of its own
+-- each block of these has a run of its own
 abbrev pub AreRuns : List ℕ → List ℕ → Type 0
-AreRuns runs pages = (r : ℕ) → r < length pages → (slice_index pages r < length runs) × (slice_index runs (slice_index pages r) ≡ r)
+AreRuns runs blocks = (r : ℕ) → r < length blocks → (slice_index blocks r < length runs) × (slice_index runs (slice_index blocks r) ≡ r)
 
--- the page is one of these, as it was before or as the last one
-abbrev pub IsPageAdded : List ℕ → ℕ → List ℕ → Type 0
-IsPageAdded pages page after = ((after ≡ pages) × Contains pages page) ⊎ ((after ≡ pages ++ page ∷ []) × ¬ Contains pages page)
+-- the block is one of these, as it was before or as the last one
+abbrev pub IsBlockAdded : List ℕ → ℕ → List ℕ → Type 0
+IsBlockAdded blocks block after = ((after ≡ blocks) × Contains blocks block) ⊎ ((after ≡ blocks ++ block ∷ []) × ¬ Contains blocks block)
 
--- there is room for a run of each page
-pub record HasRankRoom (r : Ranks) : Type 0 where
-  pub pages : length r.runs.items ≤ vec_capacity r.pages
-  pub ranks : length r.runs.items * PAGE_SIZE ≤ vec_capacity r.ranks
+-- there is room for the runs of the blocks in which n objects stand
+pub record HasRankRoom (n : ℕ) (r : Ranks) : Type 0 where
+  pub blocks : length r.runs.items ≤ vec_capacity r.blocks
+  pub ranks : min (length r.runs.items) n * BLOCK_SIZE ≤ vec_capacity r.ranks
 
 -- the rank of object o
 abbrev pub rank_of : Ranks → ℕ → ℕ
@@ -28,7 +34,7 @@ rank_of r o = slice_index r.ranks.items (rank_entry r.runs.items o)
 -- there is an entry for object o
 pub record HasRankEntry (r : Ranks) (o : ℕ) : Type 0 where
   pub above : 0 < o
-  pub page : page_at o < length r.runs.items
+  pub block : block_at o < length r.runs.items
   pub entry : rank_entry r.runs.items o < length r.ranks.items
 
 -- .. and in it one of the first n ranks, which are counted from 1

@@ -1,7 +1,7 @@
 -- What a search over a heap keeps to.
 use Rattle.std.specs.Prelude.{◌≡◌, ℕ, ◌-◌, ◌<◌, ◌↔◌, Bool, not, false, List, length, map, filter, Contains, slice_index, slice_index_or}
 use Rattle.std.specs.List.Sorted.{IsStrictlyIncreasing}
-use Rattle.et_graph.specs.declared.search.Source.{Source}
+use Rattle.et_graph.specs.declared.objects.Death.{Death}
 use Rattle.et_graph.specs.Order.{IsOneOf}
 use Rattle.et_graph.specs.Times.{IsSet}
 use Rattle.et_heap.specs.Objects.{Objects, IsHeld}
@@ -44,10 +44,10 @@ pub record IsSearchedRank (heap : Objects) (held : List ℕ) (ranks : Ranks) (le
   pub flags : AreFlagsOf held left_out
   pub one : IsLeftRank (length held) left_out rank
 
--- these are the ranks of what wasn't reached, each with how far its time lies before NOW
-pub record AreSources (times : List ℕ) (reached : List Bool) (order : List Source) : Type 0 where
-  pub each : (s : Source) → Contains order s → IsLeftRank (length times) reached s.object × (s.age ≡ NOW - slice_index times (s.object - 1))
-  pub all : (rank : ℕ) → IsLeftRank (length times) reached rank → (s : Source) × Contains order s × (s.object ≡ rank)
+-- these are the ranks of what wasn't reached, each with its time
+pub record AreSources (times : List ℕ) (reached : List Bool) (order : List Death) : Type 0 where
+  pub each : (s : Death) → Contains order s → IsLeftRank (length times) reached s.object × (s.time ≡ slice_index times (s.object - 1))
+  pub all : (rank : ℕ) → IsLeftRank (length times) reached rank → (s : Death) × Contains order s × (s.object ≡ rank)
 
 -- The times as a search begins, by rank: each object that is held has its stamp.
 pub record AreTimes (held stamps times : List ℕ) : Type 0 where

@@ -4,25 +4,23 @@ use Rattle.et_graph.specs.Graph.{IsReached}
 use Rattle.et_graph.specs.Listed.{IsGreatest}
 use Rattle.et_graph.specs.Times.{IsSet}
 use Rattle.et_heap.specs.Objects.{Objects, IsHeld}
-use Rattle.et_heap.specs.declared.page.TheConstants.{PAGE_SIZE}
+use Rattle.et_flush.specs.declared.ranks.TheConstants.{BLOCK_SIZE}
 use Rattle.et_flush.specs.declared.times.TheConstants.{NOW}
 use Rattle.et_flush.specs.declared.work.Work.{Work}
 use Rattle.et_flush.specs.Ranks.{HasRankRoom, AreRanked}
 use Rattle.et_flush.specs.Searches.{AreAllHeld, AreFlagsOf}
 use Rattle.et_flush.specs.Flushes.{heap_graph}
 
--- there are places for n objects
-pub record HasWorkPlaces (n : ℕ) (w : Work) : Type 0 where
-  pub runs : n ≤ length w.ranks.runs.items * PAGE_SIZE
-  pub ranks : HasRankRoom w.ranks
+-- there are places for n objects that are held, of which none has a number above m
+pub record HasWorkPlaces (m n : ℕ) (w : Work) : Type 0 where
+  pub runs : m ≤ length w.ranks.runs.items * BLOCK_SIZE
+  pub ranks : HasRankRoom n w.ranks
   pub times : n ≤ vec_capacity w.times
   pub reached : n ≤ vec_capacity w.reached
   pub seen : n ≤ vec_capacity w.seen
   pub waiting : n ≤ vec_capacity w.waiting
   pub held : n ≤ vec_capacity w.held
-  pub order : n ≤ vec_capacity w.order
   pub deaths : n ≤ vec_capacity w.deaths
-  pub cleared : n ≤ vec_capacity w.cleared
 
 -- The objects that are held are listed by their ranks, each with a time and two flags. None of them is seen, and none waits.
 pub record IsWorkReady (heap : Objects) (w : Work) : Type 0 where

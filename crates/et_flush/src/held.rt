@@ -1,6 +1,6 @@
 //! The objects that a flush goes over.
 ghost use Rattle.std.specs.Prelude.{◌≤◌, ◌<◌, ◌^◌, length, vec_capacity};
-ghost use Rattle.et_heap.specs.Objects.{IsHeld, made_count};
+ghost use Rattle.et_heap.specs.Objects.{IsHeld, held_count};
 ghost use Rattle.et_flush.specs.Searches.{AreAllHeld};
 
 use et_base::{ObjectId, within};
@@ -9,7 +9,7 @@ use et_heap::Heap;
 /// Lists the objects that are held, in rising order.
 pub(crate) fn list_held(heap: &Heap, held: &mut Vec<ObjectId>)
     requires none { ¬ IsHeld heap.now 0 }
-    requires room { made_count heap.now ≤ vec_capacity held.old }
+    requires room { held_count heap.now ≤ vec_capacity held.old }
     ensures held { AreAllHeld heap.now held.new.items }
     ensures few { length held.new.items < 2 ^ 32 }
     ensures room { vec_capacity held.old ≤ vec_capacity held.new }

@@ -17,8 +17,8 @@ use et_heap::RootList;
 use et_state::Machine;
 use std::sync::ledger::Ledger;
 
-/// The flush of a machine: its roots are listed, and its heap is flushed from them. Nothing else of it changes. After
-/// `NoMemory`, which comes before the flush and only while the roots are listed, machine and room are as before.
+/// The flush of a machine: its roots are listed, places are made for the objects that it holds, and its heap is flushed from
+/// the roots. Nothing else of it changes. After `NoMemory`, which comes before the flush, machine and room are as before.
 pub fn flush_machine<L: Ledger>(
     machine: &mut Machine,
     stamps: &Stamps,
@@ -28,7 +28,6 @@ pub fn flush_machine<L: Ledger>(
 ) -> Result<(), NoMemory>
     requires sound { IsSound (kept_of machine.old) }
     requires stamps { length machine.old.heap ≤ length stamps.now }
-    requires places { (graph_of (kept_of machine.old)).made ≤ room.old.places }
     ensures deaths { OnOk result
         (AreListed (graph_of (kept_of machine.old)) (slice_index stamps.now) room.new.deaths) }
     ensures machine { (here : ℕ → Bool) → ((o : ℕ) → IsHeld machine.old.heap o →
@@ -41,11 +40,13 @@ pub fn flush_machine<L: Ledger>(
         (here o ≡ true) ↔ IsReached (graph_of (kept_of machine.old)) o) → visits.new
         ≤ visits.old + 2 * held_count machine.old.heap
         + 2 * length (cleared_references here 0 machine.old.heap) }
-    ensures places { room.new.places ≡ room.old.places }
+    ensures numbers { room.old.numbers ≤ room.new.numbers }
+    ensures places { room.old.places ≤ room.new.places }
     ensures err { OnErr result (machine.new ≡ machine.old) }
     ensures err_room { OnErr result (room.new ≡ room.old) }
 {
     machine.roots(roots)?;
+    room.make_places(machine.heap.count(), machine.heap.held())?;
     flush(&mut machine.heap, roots, stamps, room, visits);
     Ok(())
 }

@@ -5,11 +5,10 @@ ghost use Rattle.et_flush.specs.Searches.{AreSources, IsLeftRank};
 
 use crate::times::NOW;
 use et_base::{ObjectId, within};
-use et_graph::Source;
+use et_graph::Death;
 
 /// Lists the ranks of what wasn't reached as sources.
-fn list_sources(times: &[u64], reached: &[bool], order: &mut Vec<Source>)
-    requires below { All (λ t. t ≤ NOW) times.now }
+fn list_sources(times: &[u64], reached: &[bool], order: &mut Vec<Death>)
     requires long { length reached.now ≡ length times.now }
     requires small { length times.now < 2 ^ 32 }
     requires room { length times.now ≤ vec_capacity order.old }
@@ -19,9 +18,9 @@ fn list_sources(times: &[u64], reached: &[bool], order: &mut Vec<Source>)
     order.clear();
     for (i, time) in times.iter().enumerate() {
         if !reached[i] {
-            let source = Source {
-                age: NOW - *time,
+            let source = Death {
                 object: ObjectId::new(i as u32 + 1),
+                time: *time,
             };
             within::push(order, source);
         }
@@ -29,7 +28,7 @@ fn list_sources(times: &[u64], reached: &[bool], order: &mut Vec<Source>)
 }
 
 /// Lists the ranks of what wasn't reached as sources, those with the greatest time first.
-pub(crate) fn order_sources(times: &[u64], reached: &[bool], order: &mut Vec<Source>)
+pub(crate) fn order_sources(times: &[u64], reached: &[bool], order: &mut Vec<Death>)
     requires below { All (λ t. t ≤ NOW) times.now }
     requires long { length reached.now ≡ length times.now }
     requires small { length times.now < 2 ^ 32 }
@@ -38,5 +37,5 @@ pub(crate) fn order_sources(times: &[u64], reached: &[bool], order: &mut Vec<Sou
     ensures room { vec_capacity order.old ≤ vec_capacity order.new }
 {
     list_sources(times, reached, order);
-    order.sort_unstable_by_key(|source| source.age);
+    order.sort_unstable_by_key(|source| u64::MAX - source.time);
 }

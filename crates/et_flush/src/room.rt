@@ -18,10 +18,12 @@ use std::alloc::Global;
 use std::marker::Model;
 use std::sync::ledger::Ledger;
 
-/// The room in which a flush works, with the deaths that the newest one listed. A contract sees it as the number of objects
-/// for which it has places, and those deaths.
+/// The room in which a flush works, with the deaths that the newest one listed: 34 bytes for each object that is held, four for
+/// each number of a block in which one is held, and eight for each block ever made. A contract sees it as the number up to which
+/// it has places for blocks, the number of objects that are held for which it has places, and those deaths.
 #[derive(Drop)]
 pub struct FlushRoom {
+    numbers: u32,
     places: u32,
     work: Work,
 }
@@ -36,32 +38,62 @@ impl Model for FlushRoom {
     ghost invariant = { HasRoom };
 }
 
+/// What is there, where that is as many as are wanted; else what is wanted, and half as many more.
+fn widened(there: u32, wanted: u32) -> u32
+    ensures wanted { wanted ≤ result }
+    ensures kept { there ≤ result }
+{
+    if wanted <= there {
+        there
+    } else {
+        wanted.saturating_add(wanted / 2)
+    }
+}
+
 impl FlushRoom {
     ghost use Rattle.std.specs.Prelude.{[]};
     ghost use Rattle.et_graph.specs.Listing.{death_pairs};
 
     /// No places yet, and no deaths.
     pub fn begin(alloc: Global) -> FlushRoom
+        ensures numbers { result.numbers ≡ 0 }
         ensures places { result.places ≡ 0 }
         ensures deaths { result.deaths ≡ [] }
     {
         FlushRoom {
+            numbers: 0,
             places: 0,
             work: no_work(alloc),
         }
     }
 
-    /// Makes places up to this object, and half as many more, where it has none yet. What is there stays. After `NoMemory` it is
-    /// as before.
+    /// Makes places up to this object, all of which may be held, and half as many more, where it has none yet. What is there
+    /// stays. After `NoMemory` it is as before.
     pub fn grow(&mut self, objects: u32) -> Result<(), NoMemory>
         ensures places { OnOk result (objects ≤ self.new.places) }
         ensures kept { self.old.places ≤ self.new.places }
+        ensures numbers { self.old.numbers ≤ self.new.numbers }
         ensures deaths { self.new.deaths ≡ self.old.deaths }
         ensures err { OnErr result (self.new ≡ self.old) }
     {
-        if objects > self.places {
-            let places = objects.saturating_add(objects / 2);
-            reserve(&mut self.work, places)?;
+        self.make_places(objects, objects)
+    }
+
+    /// Makes places for so many objects that are held, of as many as were ever made, and half as many more of each, where it
+    /// has none for these yet. What is there stays. After `NoMemory` it is as before.
+    pub fn make_places(&mut self, made: u32, held: u32) -> Result<(), NoMemory>
+        ensures numbers { OnOk result (made ≤ self.new.numbers) }
+        ensures places { OnOk result (held ≤ self.new.places) }
+        ensures kept_numbers { self.old.numbers ≤ self.new.numbers }
+        ensures kept_places { self.old.places ≤ self.new.places }
+        ensures deaths { self.new.deaths ≡ self.old.deaths }
+        ensures err { OnErr result (self.new ≡ self.old) }
+    {
+        if made > self.numbers || held > self.places {
+            let numbers = widened(self.numbers, made.max(held));
+            let places = widened(self.places, held).min(numbers);
+            reserve(&mut self.work, numbers, places)?;
+            self.numbers = numbers;
             self.places = places;
         }
         Ok(())
@@ -87,8 +119,9 @@ impl FlushRoom {
         requires slots { ArePairsHeld heap.old }
         requires referents { (u o : ℕ) →
             (object_at heap.old u).referent ≡ Some o → IsHeld heap.old o }
-        requires stamps { length heap.old ≤ length stamps.now }
-        requires places { made_count heap.old ≤ self.old.places }
+        requires stamps { (o : ℕ) → IsHeld heap.old o → o < length stamps.now }
+        requires numbers { made_count heap.old ≤ self.old.numbers }
+        requires places { held_count heap.old ≤ self.old.places }
         ensures deaths { AreListed
             (heap_graph heap.old roots.now) (slice_index stamps.now) self.new.deaths }
         ensures heap { (here : ℕ → Bool) → ((o : ℕ) → IsHeld heap.old o → (here o ≡ true)
@@ -97,6 +130,7 @@ impl FlushRoom {
             IsHeld heap.old o → (here o ≡ true) ↔ IsReached (heap_graph heap.old roots.now) o) →
             visits.new ≤ visits.old + 2 * held_count heap.old
             + 2 * length (cleared_references here 0 heap.old) }
+        ensures numbers { self.new.numbers ≡ self.old.numbers }
         ensures places { self.new.places ≡ self.old.places }
     {
         find_deaths(
@@ -112,10 +146,10 @@ impl FlushRoom {
             &self.work.ranks,
             &self.work.times,
             &self.work.deaths,
-            &mut self.work.cleared,
+            &mut self.work.waiting,
             visits,
         );
-        enqueue_all(heap, &self.work.cleared, visits);
+        enqueue_all(heap, &self.work.waiting, visits);
     }
 }
 
@@ -136,8 +170,9 @@ pub fn flush<L: Ledger>(
     requires roots { (o : ℕ) → Contains roots.now o → IsHeld heap.old o }
     requires slots { ArePairsHeld heap.old }
     requires referents { (u o : ℕ) → (object_at heap.old u).referent ≡ Some o → IsHeld heap.old o }
-    requires stamps { length heap.old ≤ length stamps.now }
-    requires places { made_count heap.old ≤ room.old.places }
+    requires stamps { (o : ℕ) → IsHeld heap.old o → o < length stamps.now }
+    requires numbers { made_count heap.old ≤ room.old.numbers }
+    requires places { held_count heap.old ≤ room.old.places }
     ensures deaths { AreListed
         (heap_graph heap.old roots.now) (slice_index stamps.now) room.new.deaths }
     ensures count { result ≡ length room.new.deaths }
@@ -147,6 +182,7 @@ pub fn flush<L: Ledger>(
         IsHeld heap.old o → (here o ≡ true) ↔ IsReached (heap_graph heap.old roots.now) o) →
         visits.new ≤ visits.old + 2 * held_count heap.old
         + 2 * length (cleared_references here 0 heap.old) }
+    ensures numbers { room.new.numbers ≡ room.old.numbers }
     ensures places { room.new.places ≡ room.old.places }
 {
     room.run(heap, roots, stamps, visits);

@@ -15,8 +15,8 @@ use et_graph::Death;
 use et_heap::Heap;
 use std::sync::ledger::Ledger;
 
-/// Clears what an object refers to weakly, where its time is below `NOW`, and answers whether it did. It visits the object,
-/// and once more where it clears.
+/// Clears what an object refers to weakly, where its time is below `NOW`, and answers whether it did. It visits the object
+/// where any of the heap refers weakly to one, and once more where it clears.
 fn clear_referent<L: Ledger>(
     heap: &mut Heap,
     ranks: &Ranks,
@@ -33,9 +33,12 @@ fn clear_referent<L: Ledger>(
         ≡ loses_referent (is_now (time_of ranks.now times.now)) true
         (Some (object_at heap.old object)) }
     ensures visits { visits.new
-        ≡ visits.old + visits_of (is_now (time_of ranks.now times.now)) true
+        ≤ visits.old + visits_of (is_now (time_of ranks.now times.now)) true
         (Some (object_at heap.old object)) }
 {
+    if heap.referents() == 0 {
+        return false;
+    }
     if let Value::Ref(referent) = heap.referent(object, visits) {
         if time_at(ranks, times, referent) < NOW {
             heap.set_referent(object, Value::Null, visits);
@@ -65,7 +68,7 @@ fn sweep_one<L: Ledger>(
         ≡ loses_referent (is_now (time_of ranks.now times.now))
         (is_now (time_of ranks.now times.now) object) (at heap.old object) }
     ensures visits { visits.new
-        ≡ visits.old + visits_of (is_now (time_of ranks.now times.now))
+        ≤ visits.old + visits_of (is_now (time_of ranks.now times.now))
         (is_now (time_of ranks.now times.now) object) (at heap.old object) }
 {
     if time < NOW {
@@ -96,7 +99,7 @@ fn sweep_all<L: Ledger>(
         ≡ cleared_references (is_now (time_of ranks.now times.now)) 0 heap.old }
     ensures room { vec_capacity cleared.old ≤ vec_capacity cleared.new }
     ensures visits { visits.new
-        ≡ visits.old + visits_from (is_now (time_of ranks.now times.now)) 0 heap.old }
+        ≤ visits.old + visits_from (is_now (time_of ranks.now times.now)) 0 heap.old }
 {
     cleared.clear();
     for (i, object) in held.iter().enumerate() {

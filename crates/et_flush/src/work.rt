@@ -17,7 +17,7 @@ use crate::reach::reach;
 use crate::search::HeldReferences;
 use crate::times::{NOW, write_times};
 use et_base::{ObjectId, Steps, within};
-use et_graph::{Death, Source, spread_all};
+use et_graph::{Death, spread_all};
 use et_heap::Heap;
 use std::alloc::{AllocError, Global};
 use std::sync::ledger::Ledger;
@@ -32,17 +32,16 @@ pub(crate) struct Work {
     pub reached: Vec<bool>,
     /// Whether the search of the rest has come to it.
     pub seen: Vec<bool>,
+    /// The ranks whose references a search is to follow; after it, the references whose referents became null.
     pub waiting: Vec<ObjectId>,
     pub held: Vec<ObjectId>,
-    pub order: Vec<Source>,
+    /// The ranks of the rest with their times, in the order in which the search takes them; after it, the deaths.
     pub deaths: Vec<Death>,
-    /// The references whose referents became null.
-    pub cleared: Vec<ObjectId>,
 }
 
 /// No places yet.
 pub(crate) fn no_work(alloc: Global) -> Work
-    ensures places { HasWorkPlaces 0 result }
+    ensures places { HasWorkPlaces 0 0 result }
     ensures deaths { result.deaths.items ≡ [] }
 {
     Work {
@@ -52,29 +51,26 @@ pub(crate) fn no_work(alloc: Global) -> Work
         seen: Vec::new(alloc),
         waiting: Vec::new(alloc),
         held: Vec::new(alloc),
-        order: Vec::new(alloc),
         deaths: Vec::new(alloc),
-        cleared: Vec::new(alloc),
     }
 }
 
-/// Makes places for so many objects.
-pub(crate) fn reserve(work: &mut Work, objects: u32) -> Result<(), AllocError>
-    requires { HasWorkPlaces 0 work.old }
-    ensures ok { OnOk result (HasWorkPlaces objects work.new) }
-    ensures kept { (n : ℕ) → HasWorkPlaces n work.old → HasWorkPlaces n work.new }
+/// Makes places for so many objects that are held, of which none has a greater number than this one.
+pub(crate) fn reserve(work: &mut Work, number: u32, objects: u32) -> Result<(), AllocError>
+    requires { HasWorkPlaces 0 0 work.old }
+    ensures ok { OnOk result (HasWorkPlaces number objects work.new) }
+    ensures kept { (m n : ℕ) →
+        n ≤ objects → HasWorkPlaces m n work.old → HasWorkPlaces m n work.new }
     ensures deaths { work.new.deaths.items ≡ work.old.deaths.items }
 {
     let count = objects as usize;
-    reserve_ranks(&mut work.ranks, count)?;
+    reserve_ranks(&mut work.ranks, number as usize, count)?;
     within::reserve(&mut work.times, count)?;
     within::reserve(&mut work.reached, count)?;
     within::reserve(&mut work.seen, count)?;
     within::reserve(&mut work.waiting, count)?;
     within::reserve(&mut work.held, count)?;
-    within::reserve(&mut work.order, count)?;
     within::reserve(&mut work.deaths, count)?;
-    within::reserve(&mut work.cleared, count)?;
     Ok(())
 }
 
@@ -92,13 +88,13 @@ fn clear_flags(flags: &mut Vec<bool>, count: usize)
 /// Lists the objects that are held, and gives them their ranks and their stamps as times.
 fn prepare(heap: &Heap, stamps: &[u64], work: &mut Work)
     requires none { ¬ IsHeld heap.now 0 }
-    requires long { length heap.now ≤ length stamps.now }
-    requires places { HasWorkPlaces (made_count heap.now) work.old }
+    requires stamped { (o : ℕ) → IsHeld heap.now o → o < length stamps.now }
+    requires places { HasWorkPlaces (made_count heap.now) (held_count heap.now) work.old }
     ensures ready { IsWorkReady heap.now work.new }
     ensures times { AreTimes work.new.held.items stamps.now work.new.times.items }
     ensures unreached { (rank : ℕ) → ¬ IsSet work.new.reached.items rank }
     ensures few { length work.new.held.items < 2 ^ 32 }
-    ensures places { (n : ℕ) → HasWorkPlaces n work.old → HasWorkPlaces n work.new }
+    ensures places { (m n : ℕ) → HasWorkPlaces m n work.old → HasWorkPlaces m n work.new }
 {
     list_held(heap, &mut work.held);
     list_ranks(&work.held, &mut work.ranks);
@@ -124,7 +120,7 @@ fn find_reached<L: Ledger>(heap: &Heap, roots: &[ObjectId], work: &mut Work, vis
         work.new.times.items }
     ensures reached { AreReached (ranked_pairs work.old.ranks (pairs_of heap.now))
         work.new.times.items work.new.reached.items }
-    ensures places { (n : ℕ) → HasWorkPlaces n work.old → HasWorkPlaces n work.new }
+    ensures places { (m n : ℕ) → HasWorkPlaces m n work.old → HasWorkPlaces m n work.new }
     ensures visits { visits.new + unset_count work.new.reached.items
         ≤ visits.old + length work.old.held.items }
 {
@@ -148,7 +144,7 @@ fn date_others<L: Ledger>(heap: &Heap, work: &mut Work, visits: &mut Steps<L>)
     requires ready { IsWorkReady heap.now work.old }
     requires few { length work.old.held.items < 2 ^ 32 }
     requires room { length work.old.held.items ≤ vec_capacity work.old.waiting }
-    requires room_order { length work.old.held.items ≤ vec_capacity work.old.order }
+    requires room_order { length work.old.held.items ≤ vec_capacity work.old.deaths }
     requires pairs { ArePairsHeld heap.now }
     requires below { All (λ t. t ≤ NOW) work.old.times.items }
     requires reached { AreReached (ranked_pairs work.old.ranks (pairs_of heap.now))
@@ -159,10 +155,10 @@ fn date_others<L: Ledger>(heap: &Heap, work: &mut Work, visits: &mut Steps<L>)
         work.old.times.items work.new.times.items }
     ensures settled { AreSettled (ranked_pairs work.old.ranks (pairs_of heap.now))
         work.new.times.items }
-    ensures places { (n : ℕ) → HasWorkPlaces n work.old → HasWorkPlaces n work.new }
+    ensures places { (m n : ℕ) → HasWorkPlaces m n work.old → HasWorkPlaces m n work.new }
     ensures visits { visits.new ≤ visits.old + unset_count work.old.reached.items }
 {
-    order_sources(&work.times, &work.reached, &mut work.order);
+    order_sources(&work.times, &work.reached, &mut work.deaths);
     spread_all(
         &HeldReferences {
             heap,
@@ -170,7 +166,7 @@ fn date_others<L: Ledger>(heap: &Heap, work: &mut Work, visits: &mut Steps<L>)
             ranks: &work.ranks,
             left_out: &work.reached,
         },
-        &work.order,
+        &work.deaths,
         &mut work.times,
         &mut work.seen,
         &mut work.waiting,
@@ -190,15 +186,15 @@ pub(crate) fn settle<L: Ledger>(
     requires none { ¬ IsHeld heap.now 0 }
     requires roots { (o : ℕ) → Contains roots.now o → IsHeld heap.now o }
     requires pairs { ArePairsHeld heap.now }
-    requires long { length heap.now ≤ length stamps.now }
+    requires stamped { (o : ℕ) → IsHeld heap.now o → o < length stamps.now }
     requires below { All (λ t. t < NOW) stamps.now }
-    requires places { HasWorkPlaces (made_count heap.now) work.old }
+    requires places { HasWorkPlaces (made_count heap.now) (held_count heap.now) work.old }
     ensures settled { IsSettled
         heap.now roots.now stamps.now (time_of work.new.ranks work.new.times.items) }
     ensures held { AreAllHeld heap.now work.new.held.items }
     ensures ranked { AreRanked work.new.held.items work.new.ranks }
     ensures long { length work.new.times.items ≡ length work.new.held.items }
-    ensures places { (n : ℕ) → HasWorkPlaces n work.old → HasWorkPlaces n work.new }
+    ensures places { (m n : ℕ) → HasWorkPlaces m n work.old → HasWorkPlaces m n work.new }
     ensures visits { visits.new ≤ visits.old + held_count heap.now }
 {
     prepare(heap, stamps, work);
@@ -217,9 +213,9 @@ pub(crate) fn find_deaths<L: Ledger>(
     requires none { ¬ IsHeld heap.now 0 }
     requires roots { (o : ℕ) → Contains roots.now o → IsHeld heap.now o }
     requires pairs { ArePairsHeld heap.now }
-    requires long { length heap.now ≤ length stamps.now }
+    requires stamped { (o : ℕ) → IsHeld heap.now o → o < length stamps.now }
     requires below { All (λ t. t < NOW) stamps.now }
-    requires places { HasWorkPlaces (made_count heap.now) work.old }
+    requires places { HasWorkPlaces (made_count heap.now) (held_count heap.now) work.old }
     ensures settled { IsSettled
         heap.now roots.now stamps.now (time_of work.new.ranks work.new.times.items) }
     ensures held { AreAllHeld heap.now work.new.held.items }
@@ -227,7 +223,7 @@ pub(crate) fn find_deaths<L: Ledger>(
     ensures long { length work.new.times.items ≡ length work.new.held.items }
     ensures deaths { AreDyingIn heap.now
         (time_of work.new.ranks work.new.times.items) (death_pairs work.new.deaths.items) }
-    ensures places { (n : ℕ) → HasWorkPlaces n work.old → HasWorkPlaces n work.new }
+    ensures places { (m n : ℕ) → HasWorkPlaces m n work.old → HasWorkPlaces m n work.new }
     ensures visits { visits.new ≤ visits.old + held_count heap.now }
 {
     settle(heap, roots, stamps, work, visits);

@@ -2,7 +2,7 @@
 use Rattle.std.proofs.Common.{◌≡◌, ℕ, ◌+◌, ◌-◌, ◌<◌, ◌≤◌, Bool, true, List, [], ◌∷◌, ◌++◌, length, get_or, set, Contains, refl, sym, ◌∙◌, ap, subst, inl, inr, arith}
 use Rattle.std.proofs.lemmas.Bool.{cases_lt}
 use Rattle.std.proofs.lemmas.List.{get_or_default}
-use Rattle.et_graph.specs.declared.search.Source.{Source}
+use Rattle.et_graph.specs.declared.objects.Death.{Death}
 use Rattle.et_graph.specs.Times.{ArePairsWithin, Carries, AreSettled, IsSet, IsSpread, AreFollowed, Visits, Spreads}
 use Rattle.et_graph.specs.Order.{IsOrder}
 use Rattle.et_base.proofs.Lists.{Contains-none}
@@ -65,14 +65,14 @@ spreads_none pairs o times seen s = record {
 }
 
 -- After the first i sources.
-pub record AreCarried (pairs : List (ℕ × ℕ)) (start : List ℕ) (order : List Source) (i : ℕ) (times : List ℕ) (seen : List Bool) : Type 0 where
+pub record AreCarried (pairs : List (ℕ × ℕ)) (start : List ℕ) (order : List Death) (i : ℕ) (times : List ℕ) (seen : List Bool) : Type 0 where
   pub carries : Carries pairs start times
   pub kept : (o : ℕ) → 0 < o → ¬ IsSet seen o → get_or times (o - 1) 0 ≡ get_or start (o - 1) 0
   pub followed : AreFollowed pairs times seen (λ v. ⊥)
-  pub above : (u o : ℕ) → Contains pairs (u, o) → IsSet seen o → (k : ℕ) (d : Source) → i ≤ k → k < length order → get_or start ((get_or order k d).object - 1) 0 ≤ get_or times (o - 1) 0
-  pub done : (k : ℕ) (d : Source) → k < i → IsSet seen (get_or order k d).object
+  pub above : (u o : ℕ) → Contains pairs (u, o) → IsSet seen o → (k : ℕ) (d : Death) → i ≤ k → k < length order → get_or start ((get_or order k d).object - 1) 0 ≤ get_or times (o - 1) 0
+  pub done : (k : ℕ) (d : Death) → k < i → IsSet seen (get_or order k d).object
 
-pub none_carried : (pairs : List (ℕ × ℕ)) (start : List ℕ) (order : List Source) (seen : List Bool)
+pub none_carried : (pairs : List (ℕ × ℕ)) (start : List ℕ) (order : List Death) (seen : List Bool)
     → ((u o : ℕ) → Contains pairs (u, o) → ¬ IsSet seen u) → ((u o : ℕ) → Contains pairs (u, o) → ¬ IsSet seen o)
     → AreCarried pairs start order 0 start seen
 none_carried pairs start order seen unseen_from unseen_to = record {
@@ -84,12 +84,12 @@ none_carried pairs start order seen unseen_from unseen_to = record {
 }
 
 -- The sources are the objects of which P holds, and each pair leads to one of them.
-module _ (P : ℕ → Type 0) (pairs : List (ℕ × ℕ)) (start : List ℕ) (order : List Source) (i : ℕ) (s : Source) (times : List ℕ) (seen : List Bool)
+module _ (P : ℕ → Type 0) (pairs : List (ℕ × ℕ)) (start : List ℕ) (order : List Death) (i : ℕ) (s : Death) (times : List ℕ) (seen : List Bool)
     (positive : (o : ℕ) → P o → 0 < o) (targets : (u o : ℕ) → Contains pairs (u, o) → P o)
     (is_order : IsOrder P start order) (lt : i < length order) (is : s ≡ get_or order i s)
     (carried : AreCarried pairs start order i times seen) where
-  object_at : (k : ℕ) (d : Source) → k ≡ i → (get_or order k d).object ≡ s.object
-  object_at k d e = ap (λ (j : ℕ). (get_or order j d).object) e ∙ ap (λ (z : Source). z.object) (get_or_default order i d s lt ∙ sym is)
+  object_at : (k : ℕ) (d : Death) → k ≡ i → (get_or order k d).object ≡ s.object
+  object_at k d e = ap (λ (j : ℕ). (get_or order j d).object) e ∙ ap (λ (z : Death). z.object) (get_or_default order i d s lt ∙ sym is)
 
   -- what wasn't seen has no greater time
   unseen_below : (o : ℕ) → P o → ¬ IsSet seen o → get_or start (o - 1) 0 ≤ get_or start (s.object - 1) 0
@@ -107,7 +107,7 @@ module _ (P : ℕ → Type 0) (pairs : List (ℕ × ℕ)) (start : List ℕ) (or
   first_above : 0 < s.object
   first_above = positive s.object (is_order.each s (i, lt, sym is))
 
-  done_more : (seen' : List Bool) → ((x : ℕ) → IsSet seen x → IsSet seen' x) → IsSet seen' s.object → (k : ℕ) (d : Source) → k < i + 1 → IsSet seen' (get_or order k d).object
+  done_more : (seen' : List Bool) → ((x : ℕ) → IsSet seen x → IsSet seen' x) → IsSet seen' s.object → (k : ℕ) (d : Death) → k < i + 1 → IsSet seen' (get_or order k d).object
   done_more seen' grows here k d less =
       elim (cases_lt k i) [
         | inl before ↦ grows (get_or order k d).object (carried.done k d before)
@@ -153,11 +153,11 @@ module _ (P : ℕ → Type 0) (pairs : List (ℕ × ℕ)) (start : List ℕ) (or
             }
       ]
 
-pub carried_all : (P : ℕ → Type 0) (pairs : List (ℕ × ℕ)) (start : List ℕ) (order : List Source) (i : ℕ) (times : List ℕ) (seen : List Bool)
+pub carried_all : (P : ℕ → Type 0) (pairs : List (ℕ × ℕ)) (start : List ℕ) (order : List Death) (i : ℕ) (times : List ℕ) (seen : List Bool)
     → ((u o : ℕ) → Contains pairs (u, o) → P u) → IsOrder P start order → length order ≤ i → AreCarried pairs start order i times seen → AreSettled pairs times
 carried_all P pairs start order i times seen sources is_order all carried u x c =
     let found = is_order.all u (sources u x c) in
-    let d : Source = record { age = 0; object = 0 } in
+    let d : Death = record { object = 0; time = 0 } in
     let s : IsSet seen u = subst (λ (z : ℕ). IsSet seen z) (found.2 d) (carried.done found.0 d (omega (arith, found.1))) in
     elim (carried.followed u x c s) [
       | inl never ↦ absurd never

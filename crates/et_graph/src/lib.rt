@@ -17,5 +17,5 @@ pub use book::{GraphStep, StampBook};
 pub use objects::Death;
 pub use places::place_of;
 pub use references::References;
-pub use search::{Source, mark, spread_all};
+pub use search::{mark, spread_all};
 pub use stamps::Stamps;

@@ -11,7 +11,8 @@ use crate::search;
 use et_base::{ObjectId, within};
 use std::alloc::{AllocError, Global};
 
-/// A death: an object, and the number of the last step after which it was reached.
+/// A death: an object, and the number of the last step after which it was reached. A search takes the objects from which it
+/// begins as such, each with the time that it has so far.
 #[derive(Clone, Copy, Debug, PartialEq, Eq)]
 pub struct Death {
     pub object: ObjectId,
@@ -50,7 +51,7 @@ fn carry(
     ensures settled { AreSettled pairs.now times.new }
 {
     write_each(times, roots, top);
-    search::settle(pairs, top, times, room);
+    search::settle(pairs, times, room);
 }
 
 /// Lists the objects whose times are below `top` and that aren't gone.

@@ -5,25 +5,19 @@ ghost use Rattle.std.specs.List.Sorted.{IsNonDecreasingBy};
 ghost use Rattle.et_graph.specs.Times.{ArePairsWithin, ArePairsAmong, AreSeenAmong, Carries, AreSettled, IsSet, IsReady, Spreads, unset_count};
 ghost use Rattle.et_graph.specs.Order.{sources, IsOneOf, IsOrder, HasSearchRoom};
 
+use crate::objects::Death;
 use crate::places::place_of;
 use crate::references::References;
 use crate::sorted::SortedPairs;
 use et_base::{ObjectId, within};
 use std::alloc::AllocError;
 
-/// An object from which a search begins, and how far back its time is.
-#[derive(Clone, Copy, Debug)]
-pub struct Source {
-    pub age: u64,
-    pub object: ObjectId,
-}
-
 /// What a search works in.
 #[derive(Drop)]
 pub struct Room {
     pub seen: Vec<bool>,
     pub work: Vec<ObjectId>,
-    pub order: Vec<Source>,
+    pub order: Vec<Death>,
 }
 
 /// Reserves room for a search among `count` objects.
@@ -101,7 +95,7 @@ fn spread<C, R: References<C>>(
 /// It takes no memory.
 pub fn spread_all<C, R: References<C>>(
     references: &R,
-    order: &[Source],
+    order: &[Death],
     times: &mut [u64],
     seen: &mut [bool],
     work: &mut Vec<ObjectId>,
@@ -126,51 +120,50 @@ pub fn spread_all<C, R: References<C>>(
     }
 }
 
-/// Lists the objects.
-fn list_sources(times: &[u64], top: u64, order: &mut Vec<Source>)
-    requires below { All (λ t. t ≤ top) times.now }
+/// Lists the objects with their times.
+fn list_sources(times: &[u64], order: &mut Vec<Death>)
     requires small { length times.now < 2 ^ 32 }
     requires room { length times.now ≤ vec_capacity order.old }
-    ensures sources { order.new.items ≡ sources 1 top times.now }
+    ensures sources { order.new.items ≡ sources 1 times.now }
     ensures room { length times.now ≤ vec_capacity order.new }
 {
     order.clear();
     let mut object: u32 = 0;
     for time in times {
         object += 1;
-        let source = Source {
-            age: top - *time,
+        let source = Death {
             object: ObjectId::new(object),
+            time: *time,
         };
         within::push(order, source);
     }
 }
 
 /// Lists the objects, those with the greatest time first.
-fn order_sources(times: &[u64], top: u64, order: &mut Vec<Source>)
-    requires below { All (λ t. t ≤ top) times.now }
+fn order_sources(times: &[u64], order: &mut Vec<Death>)
+    requires below { All (λ t. t < 2 ^ 64) times.now }
     requires small { length times.now < 2 ^ 32 }
     requires room { length times.now ≤ vec_capacity order.old }
     ensures order { IsOrder (IsOneOf (length times.now)) times.now order.new.items }
     ensures room { length times.now ≤ vec_capacity order.new }
 {
-    list_sources(times, top, order);
-    order.sort_unstable_by_key(|source| source.age);
+    list_sources(times, order);
+    order.sort_unstable_by_key(|source| u64::MAX - source.time);
 }
 
 /// Raises the time of each object to the greatest that leads to it. It takes no memory, and in all as long as sorting
 /// the objects does, besides looking up the pairs of each.
-pub fn settle(pairs: &[(ObjectId, ObjectId)], top: u64, times: &mut [u64], room: &mut Room)
+pub fn settle(pairs: &[(ObjectId, ObjectId)], times: &mut [u64], room: &mut Room)
     requires sorted { IsNonDecreasingBy (λ (p : ℕ × ℕ). p.0) pairs.now }
     requires within { ArePairsWithin (length times.old) pairs.now }
-    requires below { All (λ t. t ≤ top) times.old }
+    requires below { All (λ t. t < 2 ^ 64) times.old }
     requires small { length times.old < 2 ^ 32 }
     requires room { HasSearchRoom (length times.old) room.old }
     ensures room { HasSearchRoom (length times.old) room.new }
     ensures carries { Carries pairs.now times.old times.new }
     ensures settled { AreSettled pairs.now times.new }
 {
-    order_sources(times, top, &mut room.order);
+    order_sources(times, &mut room.order);
     room.work.clear();
     room.seen.clear();
     within::resize(&mut room.seen, times.len(), false);

@@ -72,7 +72,7 @@ impl<'a> Guest for ProgramGuest<'a> {
 
     ghost lost_of = { λ m. m.lost };
 
-    ghost has_places = { λ r n. n ≤ r.places };
+    ghost has_places = { λ r n. n ≤ r.numbers };
 
     ghost deaths_of = { λ r. r.deaths };
 
@@ -97,7 +97,7 @@ impl<'a> Guest for ProgramGuest<'a> {
     }
 
     fn grow_room(room: &mut GuestRoom, objects: u32) -> Result<(), NoMemory>
-        ensures { OnOk result (objects ≤ room.new.places) }
+        ensures { OnOk result (objects ≤ room.new.numbers) }
     {
         room.grow(objects)
     }

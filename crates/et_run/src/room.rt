@@ -29,6 +29,7 @@ impl GuestRoom {
 
     /// No places yet, and no deaths.
     pub fn begin(alloc: Global) -> GuestRoom
+        ensures numbers { result.numbers ≡ 0 }
         ensures places { result.places ≡ 0 }
         ensures deaths { result.deaths ≡ [] }
     {
@@ -38,12 +39,13 @@ impl GuestRoom {
         }
     }
 
-    /// Makes places up to this object. What is there stays. After `NoMemory` it is as before.
+    /// Makes places for the blocks of numbers up to this one. A flush makes those of the objects that are held then. What
+    /// is there stays. After `NoMemory` it is as before.
     pub fn grow(&mut self, objects: u32) -> Result<(), NoMemory>
-        ensures places { OnOk result (objects ≤ self.new.places) }
+        ensures numbers { OnOk result (objects ≤ self.new.numbers) }
         ensures err { OnErr result (self.new ≡ self.old) }
     {
-        self.room.grow(objects)
+        self.room.make_places(objects, 0)
     }
 
     /// The deaths that the newest flush listed, in rising order of the objects.

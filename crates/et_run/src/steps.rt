@@ -67,10 +67,9 @@ pub fn machine_flush<L: Ledger>(
 ) -> Result<(), NoMemory>
     requires sound { IsSoundRun _program.now (kept_of machine.old) }
     requires stamps { (graph_of (kept_of machine.old)).made < length stamps.now }
-    requires places { (graph_of (kept_of machine.old)).made ≤ room.old.places }
     ensures deaths { OnOk result
         (AreListed (graph_of (kept_of machine.old)) (slice_index stamps.now) room.new.deaths) }
-    ensures places { room.new.places ≡ room.old.places }
+    ensures numbers { room.old.numbers ≤ room.new.numbers }
     ensures state { (here : ℕ → Bool) →
         ((o : ℕ) → IsTrue (here o) ↔ IsReached (graph_of (kept_of machine.old)) o) →
         OnOk result (kept_of machine.new ≡ flushed_of here (kept_of machine.old)) }

@@ -1,7 +1,8 @@
-use Rattle.std.proofs.Common.{◌≡◌, ℕ, ◌+◌, ◌*◌, ◌≤◌, length, Contains, sym, ◌∙◌, ap, subst}
+use Rattle.std.proofs.Common.{◌≡◌, ℕ, ◌+◌, ◌*◌, ◌≤◌, length, Contains, sym, ◌∙◌, ap, subst, arith}
 use Rattle.et_graph.proofs.Walks.{is_reached}
 use Rattle.et_heap.specs.Objects.{Objects, IsHeld, held_count}
 use Rattle.et_heap.specs.Refs.{pairs_of}
+use Rattle.et_heap.proofs.HeapLists.{held_within}
 use Rattle.et_heap.specs.Remaining.{remaining}
 use Rattle.et_state.specs.Enqueuing.{flushed_heap}
 use Rattle.et_flush.specs.Flushes.{cleared_references}
@@ -20,6 +21,9 @@ same_heap g c = ap (λ (m : MachineState). m.heap) c.machine.view_is
 pub flush-requires-clause-slots : goal.flush-requires-clause-slots
 flush-requires-clause-slots g c =
     subst (λ (h : Objects). (u o : ℕ) → Contains (pairs_of h) (u, o) → IsHeld h o) (sym (ap (λ (m : MachineState). m.heap) c.machine.view_is)) c.requires.sound.slots
+
+pub flush-requires-clause-stamps : goal.flush-requires-clause-stamps
+flush-requires-clause-stamps g c = λ o held. omega (arith, held_within c.args.machine.now.heap o (subst (λ (h : Objects). IsHeld h o) (ap (λ (m : MachineState). m.heap) c.machine.view_is) held), c.requires.stamps)
 
 pub returns-clause-machine : goal.returns-clause-machine
 returns-clause-machine g c here tells =

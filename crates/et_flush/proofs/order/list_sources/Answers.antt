@@ -1,7 +1,6 @@
 use Rattle.std.proofs.Common.{◌≡◌, ℕ, ◌-◌, [], ◌∷◌, ◌++◌, length, get_or, ap, ◌∙◌, refl, arith}
 use Rattle.std.proofs.lemmas.List.{length-append}
-use Rattle.et_graph.specs.declared.search.Source.{Source}
-use Rattle.et_flush.specs.declared.times.TheConstants.{NOW}
+use Rattle.et_graph.specs.declared.objects.Death.{Death}
 use Rattle.et_flush.proofs.Ordering.{sources_none, sources_hit, sources_miss, sources_all}
 use Rattle.et_flush.proofs.order.list_sources.Goals as goal
 use Rattle.et_flush.proofs.order.list_sources.Goals.{then-not-reached-i, else-not-reached-i}
@@ -21,7 +20,7 @@ loop-i-preserved c =
     let i : ℕ = c.loop-i.i in
     elim c.if-not-reached-i.branch [
       | then-not-reached-i w ↦
-          let s : Source = record { age = NOW - get_or c.args.times.now i 0; object = w.new.result } in
+          let s : Death = record { object = w.new.result; time = get_or c.args.times.now i 0 } in
           let push : c.if-not-reached-i.order.items ≡ c.loop-i.order.items ++ s ∷ [] = ap (λ v. v.items) w.order-is ∙ w.push.ensures.items in
           record {
             few = omega (arith, ap length push, length-append c.loop-i.order.items (s ∷ []), c.loop-i.invariant.few);

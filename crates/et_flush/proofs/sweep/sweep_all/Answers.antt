@@ -24,7 +24,7 @@ loop-i-init g c =
           ∙ sym (cleared_to (is_now (time_of c.args.ranks.now c.args.times.now)) 0 next c.args.heap.now (omega arith) gap);
       few = omega (arith, ap length c.clear.ensures.items);
       room = omega (arith, c.clear.ensures.capacity);
-      visits = ap (λ (k : ℕ). c.args.visits.now + k) (sym (visits_to (is_now (time_of c.args.ranks.now c.args.times.now)) 0 next c.args.heap.now (omega arith) gap));
+      visits = omega (arith, visits_to (is_now (time_of c.args.ranks.now c.args.times.now)) 0 next c.args.heap.now (omega arith) gap);
     }
 
 pub sweep_one-requires-clause-held : goal.sweep_one-requires-clause-held
@@ -65,10 +65,13 @@ loop-i-preserved g c =
     let heap =
     swept_step here c.args.heap.now c.loop-i.heap c.sweep_one.new.heap n o c.loop-i.invariant.heap same within c.sweep_one.ensures.heap
     ∙ swept_to here (n + 1) m c.args.heap.now more gap in
-    let visits =
-    ap (λ (k : ℕ). c.sweep_one.new.visits + k) (sym (visits_to here (n + 1) m c.args.heap.now more gap))
-    ∙ visits_step here c.args.heap.now c.loop-i.heap n o (visits_from here 0 c.args.heap.now) c.args.visits.now c.loop-i.visits c.sweep_one.new.visits
-    c.loop-i.invariant.heap same within c.loop-i.invariant.visits c.sweep_one.ensures.visits in
+    let visits : c.sweep_one.new.visits + visits_from here m (drop m c.args.heap.now) ≤ c.args.visits.now + visits_from here 0 c.args.heap.now =
+    omega (
+      arith,
+      visits_to here (n + 1) m c.args.heap.now more gap,
+      visits_step here c.args.heap.now c.loop-i.heap n o (visits_from here 0 c.args.heap.now) c.args.visits.now c.loop-i.visits c.sweep_one.new.visits
+          c.loop-i.invariant.heap same within c.loop-i.invariant.visits c.sweep_one.ensures.visits,
+    ) in
     elim c.if-sweep_one.branch [
       | then-sweep_one w ↦
           let push : c.if-sweep_one.cleared.items ≡ c.loop-i.cleared.items ++ o ∷ [] = ap (λ v. v.items) w.cleared-is ∙ w.push.ensures.items in

@@ -12,5 +12,5 @@ invariant-loop-i g l = let next = get_or l.held l.i (length l.fn.heap) in record
   cleared : l.cleared.items ++ cleared_references (is_now (time_of l.ranks l.times)) next (drop next l.fn.heap) ≡ cleared_references (is_now (time_of l.ranks l.times)) 0 l.fn.heap;
   few : length l.cleared.items ≤ l.i;
   room : vec_capacity l.fn.cleared ≤ vec_capacity l.cleared;
-  visits : l.visits + visits_from (is_now (time_of l.ranks l.times)) next (drop next l.fn.heap) ≡ l.fn.visits + visits_from (is_now (time_of l.ranks l.times)) 0 l.fn.heap;
+  visits : l.visits + visits_from (is_now (time_of l.ranks l.times)) next (drop next l.fn.heap) ≤ l.fn.visits + visits_from (is_now (time_of l.ranks l.times)) 0 l.fn.heap;
 }

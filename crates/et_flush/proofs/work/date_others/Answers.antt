@@ -2,7 +2,7 @@ use Rattle.std.proofs.Common.{◌≡◌, ℕ, ◌<◌, Bool, List, length, sym, 
 use Rattle.std.specs.Vec.{with_items}
 use Rattle.std.proofs.lemmas.List.{with_items_is}
 use Rattle.et_heap.specs.Refs.{pairs_of}
-use Rattle.et_graph.specs.declared.search.Source.{Source}
+use Rattle.et_graph.specs.declared.objects.Death.{Death}
 use Rattle.et_graph.specs.Order.{IsOrder}
 use Rattle.et_graph.specs.Times.{ArePairsAmong, Carries, AreSettled, IsSet}
 use Rattle.et_flush.specs.Ranks.{ranked_pairs}
@@ -28,7 +28,7 @@ spread_all-requires-clause-order g c =
     let order : IsOrder (IsLeftRank (length times) reached) times c.order_sources.new.order.items =
     subst (λ (fs : List Bool). IsOrder (IsLeftRank (length times) fs) times c.order_sources.new.order.items) c.deref-2.ensures.value
     (subst (λ (ts : List ℕ). IsOrder (IsLeftRank (length ts) c.deref-2.result.now) ts c.order_sources.new.order.items) c.deref.ensures.value c.order_sources.ensures.order) in
-    subst (λ (ss : List Source). IsOrder (IsSearchedRank c.args.heap.now c.deref-3.result.now c.args.work.now.ranks c.deref-4.result.now) c.deref_mut.result.now ss) (sym c.deref-5.ensures.value)
+    subst (λ (ss : List Death). IsOrder (IsSearchedRank c.args.heap.now c.deref-3.result.now c.args.work.now.ranks c.deref-4.result.now) c.deref_mut.result.now ss) (sym c.deref-5.ensures.value)
     (subst (λ (ts : List ℕ). IsOrder (IsSearchedRank c.args.heap.now c.deref-3.result.now c.args.work.now.ranks c.deref-4.result.now) ts c.order_sources.new.order.items) (sym c.deref_mut.ensures.value)
     (subst (λ (xs : List ℕ). IsOrder (IsSearchedRank c.args.heap.now xs c.args.work.now.ranks c.deref-4.result.now) times c.order_sources.new.order.items) (sym c.deref-3.ensures.value)
     (subst (λ (fs : List Bool). IsOrder (IsSearchedRank c.args.heap.now c.args.work.now.held.items c.args.work.now.ranks fs) times c.order_sources.new.order.items) (sym c.deref-4.ensures.value)

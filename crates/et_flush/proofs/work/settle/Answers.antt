@@ -2,36 +2,35 @@ use Rattle.std.proofs.Common.{ℕ, ◌≤◌, List, All, length, map, sym, ◌�
 use Rattle.et_graph.specs.Times.{Carries, AreSettled}
 use Rattle.et_graph.proofs.Carrying.{carries_more, All-set_each}
 use Rattle.et_heap.specs.Refs.{pairs_of}
-use Rattle.et_heap.proofs.HeapLists.{held_within}
 use Rattle.et_flush.specs.declared.times.TheConstants.{NOW}
 use Rattle.et_flush.specs.declared.ranks.Ranks.{Ranks}
 use Rattle.et_flush.specs.Ranks.{rank_of, time_of, ranked_pairs}
 use Rattle.et_flush.specs.Works.{IsSettled}
 use Rattle.et_flush.proofs.Working.{times_below}
-use Rattle.et_flush.proofs.Holding.{held_few, all_counted}
+use Rattle.et_flush.proofs.Holding.{all_counted}
 use Rattle.et_flush.proofs.Joining.{All-carries}
 use Rattle.et_flush.proofs.Settling.{settled_is}
 use Rattle.et_flush.proofs.work.settle.Goals as goal
 
 pub find_reached-requires-clause-room : goal.find_reached-requires-clause-room
-find_reached-requires-clause-room g c = omega (arith, held_few c.args.heap.now c.prepare.new.work.held.items c.prepare.ensures.ready.held c.requires.none, (c.prepare.ensures.places _ c.requires.places).waiting)
+find_reached-requires-clause-room g c = omega (arith, all_counted c.args.heap.now c.prepare.new.work.held.items c.prepare.ensures.ready.held, (c.prepare.ensures.places _ _ c.requires.places).waiting)
 
 pub find_reached-requires-clause-below : goal.find_reached-requires-clause-below
 find_reached-requires-clause-below g c =
     times_below c.prepare.new.work.held.items c.args.stamps.now c.prepare.new.work.times.items c.prepare.ensures.times
-    (λ o d. omega (arith, held_within c.args.heap.now o ((c.prepare.ensures.ready.held.exact o).0 d), c.requires.long)) c.requires.below
+    (λ o d. c.requires.stamped o ((c.prepare.ensures.ready.held.exact o).0 d)) c.requires.below
 
 pub date_others-requires-clause-room : goal.date_others-requires-clause-room
-date_others-requires-clause-room g c = omega (arith, held_few c.args.heap.now c.find_reached.new.work.held.items c.find_reached.ensures.ready.held c.requires.none, (c.find_reached.ensures.places _ (c.prepare.ensures.places _ c.requires.places)).waiting)
+date_others-requires-clause-room g c = omega (arith, all_counted c.args.heap.now c.find_reached.new.work.held.items c.find_reached.ensures.ready.held, (c.find_reached.ensures.places _ _ (c.prepare.ensures.places _ _ c.requires.places)).waiting)
 
 pub date_others-requires-clause-room_order : goal.date_others-requires-clause-room_order
-date_others-requires-clause-room_order g c = omega (arith, held_few c.args.heap.now c.find_reached.new.work.held.items c.find_reached.ensures.ready.held c.requires.none, (c.find_reached.ensures.places _ (c.prepare.ensures.places _ c.requires.places)).order)
+date_others-requires-clause-room_order g c = omega (arith, all_counted c.args.heap.now c.find_reached.new.work.held.items c.find_reached.ensures.ready.held, (c.find_reached.ensures.places _ _ (c.prepare.ensures.places _ _ c.requires.places)).deaths)
 
 pub date_others-requires-clause-below : goal.date_others-requires-clause-below
 date_others-requires-clause-below g c =
     let below : All (λ t. t ≤ NOW) c.prepare.new.work.times.items =
     times_below c.prepare.new.work.held.items c.args.stamps.now c.prepare.new.work.times.items c.prepare.ensures.times
-    (λ o d. omega (arith, held_within c.args.heap.now o ((c.prepare.ensures.ready.held.exact o).0 d), c.requires.long)) c.requires.below in
+    (λ o d. c.requires.stamped o ((c.prepare.ensures.ready.held.exact o).0 d)) c.requires.below in
     All-carries (ranked_pairs c.prepare.new.work.ranks (pairs_of c.args.heap.now)) _ c.find_reached.new.work.times.items NOW c.find_reached.ensures.carries
     (All-set_each NOW (map (rank_of c.prepare.new.work.ranks) c.args.roots.now) NOW c.prepare.new.work.times.items (omega arith) below)
 
@@ -51,7 +50,7 @@ pub returns-clause-long : goal.returns-clause-long
 returns-clause-long g c = c.date_others.ensures.carries.kept_length ∙ (c.find_reached.ensures.ready.times ∙ sym (ap length c.date_others.ensures.held))
 
 pub returns-clause-places : goal.returns-clause-places
-returns-clause-places g c = λ n h. c.date_others.ensures.places n (c.find_reached.ensures.places n (c.prepare.ensures.places n h))
+returns-clause-places g c = λ m n h. c.date_others.ensures.places m n (c.find_reached.ensures.places m n (c.prepare.ensures.places m n h))
 
 pub returns-clause-visits : goal.returns-clause-visits
 returns-clause-visits g c = omega (arith, c.find_reached.ensures.visits, c.date_others.ensures.visits, all_counted c.args.heap.now c.prepare.new.work.held.items c.prepare.ensures.ready.held)

@@ -8,5 +8,5 @@ invariant-loop-time l = record {
   object : l.object ≡ l.time-index;
   long : length l.order.items ≡ l.time-index;
   room : length l.times ≤ vec_capacity l.order;
-  sources : l.order.items ++ sources (l.time-index + 1) l.top (drop l.time-index l.times) ≡ sources 1 l.top l.times;
+  sources : l.order.items ++ sources (l.time-index + 1) (drop l.time-index l.times) ≡ sources 1 l.times;
 }

@@ -2,7 +2,7 @@ use Rattle.std.proofs.Common.{◌≡◌, ℕ, ◌<◌, ◌≤◌, ◌^◌, ◌�
 use Rattle.et_graph.specs.Graph.{IsReached}
 use Rattle.et_graph.specs.Listing.{death_pairs}
 use Rattle.et_graph.specs.declared.objects.Death.{Death}
-use Rattle.et_heap.specs.Objects.{Objects, IsHeld, made_count}
+use Rattle.et_heap.specs.Objects.{Objects, IsHeld, made_count, held_count}
 use Rattle.et_heap.specs.Remaining.{remaining}
 use Rattle.et_flush.specs.declared.times.TheConstants.{NOW}
 use Rattle.et_flush.specs.Ranks.{time_of, AreRanked}
@@ -12,7 +12,7 @@ use Rattle.et_flush.specs.Works.{IsSettled}
 use Rattle.et_flush.specs.Rooms.{Room}
 use Rattle.et_flush.specs.Flushes.{heap_graph, cleared_references, all_enqueued}
 use Rattle.et_flush.proofs.Working.{places_least}
-use Rattle.et_flush.proofs.Holding.{held_few}
+use Rattle.et_flush.proofs.Holding.{all_counted}
 use Rattle.et_flush.proofs.Reaching.{below_listed, now_reached, tests_same, remaining_same, cleared_same, visits_bound}
 use Rattle.et_flush.proofs.Arriving.{enqueued_is_flushed}
 use Rattle.et_flush.proofs.Tying.{remaining_pairs, cleared_remain}
@@ -23,11 +23,14 @@ use Rattle.et_flush.proofs.room.FlushRoom.run.Goals as goal
 pub find_deaths-requires-clause-roots : goal.find_deaths-requires-clause-roots
 find_deaths-requires-clause-roots g c = λ o d. c.requires.roots o (subst (λ (rs : List ℕ). Contains rs o) c.as_slice.ensures d)
 
+pub find_deaths-requires-clause-stamped : goal.find_deaths-requires-clause-stamped
+find_deaths-requires-clause-stamped g c = λ o held. omega (arith, c.requires.stamps o held, ap length c.as_slice-2.ensures.value)
+
 pub find_deaths-requires-clause-below : goal.find_deaths-requires-clause-below
 find_deaths-requires-clause-below g c = λ k d lt. omega (arith, c.as_slice-2.ensures.events k d lt)
 
 pub find_deaths-requires-clause-places : goal.find_deaths-requires-clause-places
-find_deaths-requires-clause-places g c = places_least (made_count c.args.heap.now) c.self.inside.places c.self.inside.work (omega (arith, c.requires.places, ap (λ (r : Room). r.places) c.self.view_is)) c.self.invariant
+find_deaths-requires-clause-places g c = places_least (made_count c.args.heap.now) (held_count c.args.heap.now) c.self.inside.numbers c.self.inside.places c.self.inside.work (omega (arith, c.requires.numbers, ap (λ (r : Room). r.numbers) c.self.view_is)) (omega (arith, c.requires.places, ap (λ (r : Room). r.places) c.self.view_is)) c.self.invariant.work
 
 pub sweep-requires-clause-held : goal.sweep-requires-clause-held
 sweep-requires-clause-held g c = subst (λ (xs : List ℕ). AreAllHeld c.args.heap.now xs) (sym c.deref.ensures.value) c.find_deaths.ensures.held
@@ -45,8 +48,11 @@ sweep-requires-clause-deaths g c =
 
 pub invariant_of-self : goal.invariant_of-self
 invariant_of-self g c =
-    let s = c.find_deaths.ensures.places c.self.inside.places c.self.invariant in
-    record { runs = s.runs; ranks = s.ranks; times = s.times; reached = s.reached; seen = s.seen; waiting = s.waiting; held = s.held; order = s.order; deaths = s.deaths; cleared = omega (arith, s.cleared, c.sweep.ensures.room) }
+    let s = c.find_deaths.ensures.places c.self.inside.numbers c.self.inside.places c.self.invariant.work in
+    record {
+      few = c.self.invariant.few;
+      work = record { runs = s.runs; ranks = s.ranks; times = s.times; reached = s.reached; seen = s.seen; waiting = omega (arith, s.waiting, c.sweep.ensures.room); held = s.held; deaths = s.deaths };
+    }
 
 stamps_below : (seen stamps : List ℕ) → seen ≡ stamps → All (λ t. t ≤ 2 ^ 40) seen → All (λ t. t < NOW) stamps
 stamps_below seen stamps same are k d lt = omega (arith, subst (λ (ts : List ℕ). k < length ts → get_or ts k d ≤ 2 ^ 40) same (are k d) lt)
@@ -99,8 +105,10 @@ sweep-requires-clause-room g c =
     omega (
       arith,
       ap length c.deref.ensures.value,
-      held_few c.args.heap.now c.find_deaths.new.work.held.items c.find_deaths.ensures.held c.requires.none,
-      (c.find_deaths.ensures.places _ (places_least (made_count c.args.heap.now) c.self.inside.places c.self.inside.work (omega (arith, c.requires.places, ap (λ (r : Room). r.places) c.self.view_is)) c.self.invariant)).cleared,
+      all_counted c.args.heap.now c.find_deaths.new.work.held.items c.find_deaths.ensures.held,
+      ap (λ (r : Room). r.places) c.self.view_is,
+      (c.find_deaths.ensures.places c.self.inside.numbers c.self.inside.places c.self.invariant.work).waiting,
+      c.requires.places,
     )
 
 pub enqueue_all-requires-clause-held : goal.enqueue_all-requires-clause-held
