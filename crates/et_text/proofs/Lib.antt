@@ -2,7 +2,8 @@ pub mod Due
 pub mod Escapes
 pub mod Extending
 pub mod Faults
-pub mod Following
+pub mod FollowedLines
+pub mod Leaving
 pub mod LineKinds
 pub mod Loop
 pub mod Numbers

@@ -32,7 +32,7 @@ cut (b ∷ bytes) = cut_on b bytes (eqb b 10) refl (cut bytes)
 pub text_push : (lines : List TraceLine) (line : TraceLine) → text (lines ++ line ∷ []) ≡ text lines ++ (line_body line ++ 10 ∷ [])
 text_push lines line = flat_map-append spelling lines (line ∷ []) ∙ ap (λ (t : List ℕ). text lines ++ t) (append-nil (spelling line))
 
-reads_on : (bytes : List ℕ) (past : List TraceLine) (line behind : List ℕ) (l : TraceLine) → IsLineSpelled l line → next_fault past l ≡ None → IsReadTo past (line ++ 10 ∷ behind) bytes → IsReadTo (l ∷ past) behind bytes
+pub reads_on : (bytes : List ℕ) (past : List TraceLine) (line behind : List ℕ) (l : TraceLine) → IsLineSpelled l line → next_fault past l ≡ None → IsReadTo past (line ++ 10 ∷ behind) bytes → IsReadTo (l ∷ past) behind bytes
 reads_on bytes past line behind l s e r =
     let turned : reverse (l ∷ past) ≡ reverse past ++ l ∷ [] = reverse-append (l ∷ []) past in
     let so_far : text (reverse (l ∷ past)) ≡ text (reverse past) ++ (line ++ 10 ∷ []) = ap text turned ∙ (text_push (reverse past) l ∙ ap (λ (t : List ℕ). text (reverse past) ++ (t ++ 10 ∷ [])) (sym s.spelled)) in

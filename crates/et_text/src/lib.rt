@@ -5,6 +5,8 @@
 mod breaking;
 mod fault;
 mod follow;
+mod follower;
+mod handing;
 pub mod laws;
 mod lines;
 mod names;
@@ -14,11 +16,17 @@ mod reading;
 mod rules;
 mod standing;
 mod trace;
+mod whole;
 mod writing;
 
 pub use breaking::is_flush_point;
-pub use fault::{AFTER, FORM, LineError, TraceFault};
+pub use fault::{AFTER, FORM, LineError, TraceFault, UNENDED};
+pub use follower::Follower;
+pub use handing::Following;
+pub use lines::first_line;
 pub use reader::TextReader;
+pub use reading::read_line;
 pub use rules::Rules;
 pub use trace::Trace;
+pub use whole::follow_text;
 pub use writing::{put_name, write_line};

@@ -1,4 +1,4 @@
-use Rattle.et_text.proofs.Following.{some_found, noted, refused}
+use Rattle.et_text.proofs.Leaving.{some_found, noted, refused}
 use Rattle.et_text.proofs.follow.follow.Goals as goal
 
 pub returns-in-Some : goal.returns-in-Some
