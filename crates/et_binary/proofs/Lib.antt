@@ -1,4 +1,5 @@
 pub mod Beginnings
+pub mod FollowedRecords
 pub mod Lines
 pub mod OnePack
 pub mod Portions

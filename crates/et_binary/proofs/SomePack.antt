@@ -94,7 +94,7 @@ whole_opening (a ∷ b ∷ c ∷ d ∷ rest) e le =
 pub pack_push : (lines : List TraceLine) (line : TraceLine) → pack (lines ++ line ∷ []) ≡ pack lines ++ packing line
 pack_push lines line = ap (λ (t : List ℕ). opening ++ t) (flat_map-append packing lines (line ∷ []) ∙ ap (λ (t : List ℕ). flat_map packing lines ++ t) (append-nil (packing line)))
 
-reads_on : (bytes : List ℕ) (past : List TraceLine) (rest behind : List ℕ) (line : TraceLine) → IsFront line behind rest → next_fault past line ≡ None → IsUnpackedTo past rest bytes → IsUnpackedTo (line ∷ past) behind bytes
+pub reads_on : (bytes : List ℕ) (past : List TraceLine) (rest behind : List ℕ) (line : TraceLine) → IsFront line behind rest → next_fault past line ≡ None → IsUnpackedTo past rest bytes → IsUnpackedTo (line ∷ past) behind bytes
 reads_on bytes past rest behind line f e r =
     let turned : reverse (line ∷ past) ≡ reverse past ++ line ∷ [] = reverse-append (line ∷ []) past in
     let so_far : pack (reverse (line ∷ past)) ≡ pack (reverse past) ++ packing line = ap pack turned ∙ pack_push (reverse past) line in

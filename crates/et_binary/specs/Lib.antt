@@ -1,3 +1,4 @@
+pub mod FollowedPacks
 pub mod Formats
 pub mod Fronts
 pub mod Packing

@@ -9,8 +9,11 @@ pub mod laws;
 mod ranges;
 mod reader;
 mod records;
+mod whole;
 mod writing;
 
 pub use formats::{header_version, write_line_in};
 pub use reader::BinaryReader;
+pub use records::read_record;
+pub use whole::follow_pack;
 pub use writing::write_record;

@@ -11,12 +11,12 @@ use et_text::{AFTER, FORM, LineError, Rules, TraceFault};
 use std::alloc::Global;
 
 /// How many bytes stand before the first record.
-const OPENING: usize = 4;
+pub const OPENING: usize = 4;
 
 /// The line of the first record, and the bytes behind the record. `None` says that no record is whole, and `Form` that the
 /// letter is none of the table, or that the record is whole and one of its numbers is out of its range or a name is empty. It
 /// takes no memory where no record is whole.
-fn read_record(alloc: Global, bytes: &[u8]) -> Result<Option<(TraceLine, &[u8])>, LineError>
+pub fn read_record(alloc: Global, bytes: &[u8]) -> Result<Option<(TraceLine, &[u8])>, LineError>
     ensures found { IfOk result (λ found. IfSome found (λ x. IsFront x.0 x.1.now bytes.now)) }
     ensures none { IfOk result (λ found. IfNone found (IsUnfinished bytes.now)) }
     ensures form { IsErrOf result LineError.Form → IsMalformed bytes.now }
