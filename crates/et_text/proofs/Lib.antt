@@ -14,4 +14,5 @@ pub mod Readers
 pub mod SomeAnswer
 pub mod Splitting
 pub mod Standings
+pub mod TiedNames
 pub mod Versions

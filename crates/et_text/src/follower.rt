@@ -11,9 +11,9 @@ pub trait Follower: Drop {
     ghost follows: { Self → List TraceLine → Type 0 };
 
     /// Takes the next line, which breaks no rule after those before it. After `NoMemory` it may only be dropped.
-    fn line(&mut self, line: TraceLine) -> Result<(), NoMemory>
+    fn line(&mut self, line: &TraceLine) -> Result<(), NoMemory>
         requires fine { (past : List TraceLine) × follows self.old past
-            × (next_fault past line ≡ None) }
+            × (next_fault past line.now ≡ None) }
         ensures { (past : List TraceLine) → follows self.old past →
-            OnOk result (follows self.new (line ∷ past)) };
+            OnOk result (follows self.new (line.now ∷ past)) };
 }

@@ -72,7 +72,7 @@ impl<F: Follower> Following<F> {
                 line: self.number,
             }),
             None => {
-                self.follower.line(line)?;
+                self.follower.line(&line)?;
                 self.number = next;
                 Ok(())
             }

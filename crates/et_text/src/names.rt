@@ -4,10 +4,10 @@ ghost use Rattle.et_text.specs.NameSets.{Bytes, MethodKey, has_name, has_key, sa
 
 use et_base::{Name, NoMemory};
 use std::alloc::Global;
-use std::collections::HashSet;
+use std::collections::BTreeSet;
 
 /// Puts a name in, and says whether it is new.
-pub fn add_name(alloc: Global, names: &mut HashSet<Vec<u8>>, name: &Name) -> Result<bool, NoMemory>
+pub fn add_name(alloc: Global, names: &mut BTreeSet<Vec<u8>>, name: &Name) -> Result<bool, NoMemory>
     ensures { IfOk result (λ added. (key : Bytes) × (key.items ≡ name.now)
         × (added ≡ not (has_name names.old key)) × ((q : Bytes) → has_name names.new q
         ≡ (if bytes_eq key.items q.items then true else has_name names.old q))) }
@@ -20,7 +20,7 @@ pub fn add_name(alloc: Global, names: &mut HashSet<Vec<u8>>, name: &Name) -> Res
 /// Puts a method's class, name and descriptor in, and says whether they are new.
 pub fn add_method(
     alloc: Global,
-    names: &mut HashSet<(u32, Vec<u8>, Vec<u8>)>,
+    names: &mut BTreeSet<(u32, Vec<u8>, Vec<u8>)>,
     class: u32,
     name: &Name,
     descriptor: &Name,

@@ -3,7 +3,7 @@ ghost use Rattle.std.specs.Prelude.{[]};
 ghost use Rattle.et_text.specs.StandsFor.{StandsForLines};
 
 use std::alloc::Global;
-use std::collections::HashSet;
+use std::collections::BTreeSet;
 
 #[derive(Drop)]
 pub struct Standing {
@@ -33,9 +33,9 @@ pub struct Standing {
     pub awaited: u32,
     /// The object of the newest line where that is a D line, else 0.
     pub last_dead: u32,
-    pub class_names: HashSet<Vec<u8>>,
+    pub class_names: BTreeSet<Vec<u8>>,
     /// The class, name and descriptor of each method.
-    pub method_names: HashSet<(u32, Vec<u8>, Vec<u8>)>,
+    pub method_names: BTreeSet<(u32, Vec<u8>, Vec<u8>)>,
 }
 
 impl Standing {
@@ -58,8 +58,8 @@ impl Standing {
             stands: false,
             awaited: 0,
             last_dead: 0,
-            class_names: HashSet::new(alloc),
-            method_names: HashSet::new(alloc),
+            class_names: BTreeSet::new(alloc),
+            method_names: BTreeSet::new(alloc),
         }
     }
 }
