@@ -114,7 +114,7 @@ read_once p q r s bytes a b hp hq =
 first_letter : (b : ℕ) (behind more : List ℕ) (a : TraceLine) → b ∷ behind ≡ packing a ++ more → b ≡ letter a
 first_letter b behind more a e = cc
 
-malformed_stops : (bytes more : List ℕ) (a : TraceLine) → IsMalformed bytes → IsInRange 2 a → bytes ≡ packing a ++ more → ⊥
+pub malformed_stops : (bytes more : List ℕ) (a : TraceLine) → IsMalformed bytes → IsInRange 2 a → bytes ≡ packing a ++ more → ⊥
 malformed_stops bytes more a (HasNoLetter b behind e n) r f = n a (first_letter b behind more a (sym e ∙ f))
 malformed_stops bytes more a (IsOutOfRange line first behind e p out) r f =
     let same = one_record line a first (packing a) behind more p (range_packed a r) (sym e ∙ f) in
@@ -135,7 +135,7 @@ stuck_broken past rest kind b = record {
 stuck_unfinished : (lines : List TraceLine) (rest : List ℕ) → IsUnfinished rest → IsStuck lines rest
 stuck_unfinished lines rest u = record { no_more = λ a more r n e. u.not_whole a (packing a) more e (range_packed a r) }
 
-no_record : (a : TraceLine) (more : List ℕ) → [] ≡ packing a ++ more → ⊥
+pub no_record : (a : TraceLine) (more : List ℕ) → [] ≡ packing a ++ more → ⊥
 no_record a more e = absurd cc
 
 stuck_end : (lines : List TraceLine) → IsStuck lines []

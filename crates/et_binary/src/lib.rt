@@ -14,6 +14,6 @@ mod writing;
 
 pub use formats::{header_version, write_line_in};
 pub use reader::BinaryReader;
-pub use records::read_record;
+pub use records::{OPENING, read_record};
 pub use whole::follow_pack;
 pub use writing::write_record;
