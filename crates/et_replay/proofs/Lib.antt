@@ -4,6 +4,7 @@ pub mod Comes
 pub mod Coming
 pub mod Counting
 pub mod Dying
+pub mod Eventful
 pub mod Living
 pub mod Rising
 pub mod Rows

@@ -3,6 +3,7 @@ pub mod Fed
 pub mod Feeding
 pub mod Heap
 pub mod Items
+pub mod Kept
 pub mod Lines
 pub mod Lives
 pub mod Parts

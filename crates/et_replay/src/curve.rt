@@ -1,17 +1,20 @@
 //! The live curve.
-ghost use Rattle.std.specs.Prelude.{◌≡◌, ◌≤◌, ◌∷◌, ◌++◌, [], IfOk, OnOk, OnErr};
+ghost use Rattle.std.specs.Prelude.{◌≡◌, ◌≤◌, List, ◌∷◌, ◌++◌, [], reverse, IfOk, OnOk, OnErr};
 ghost use Rattle.std.specs.Fmt.{decimal};
-ghost use Rattle.std.specs.List.{filter_map, flat_map};
+ghost use Rattle.std.specs.List.{flat_map};
 ghost use Rattle.et_io.specs.Faults.{count_after, is_write_fault};
 ghost use Rattle.et_io.specs.Sink.{with_more, TakesPrefix};
 ghost use Rattle.et_replay.specs.Curve.{happens_at, curve_events, curve_text};
+ghost use Rattle.et_replay.specs.Kept.{IsCurveOf};
 ghost use Rattle.et_replay.specs.Lives.{GiveRows, row_by};
+ghost use Rattle.et_base.specs.declared.line.TraceLine.{TraceLine};
+ghost use Rattle.et_text.specs.Rules.{IsGoodTrace};
 
-use crate::lives::{Lives, lives_of};
+use crate::lives::Lives;
 use crate::sizes::Sizes;
 use et_base::{NoMemory, TraceLine};
 use et_io::{RunFault, Sink, put_all, put_piece};
-use et_text::Trace;
+use et_text::{Follower, Trace};
 use itoa::write_digits;
 use std::alloc::Global;
 
@@ -31,26 +34,79 @@ fn happens_at(line: &TraceLine) -> Option<u64>
     }
 }
 
+/// Takes the event of the line, where it has one that the newest line with an event doesn't have.
 fn push_event(events: &mut Vec<u64>, line: &TraceLine) -> Result<(), NoMemory>
-    ensures { OnOk result
-        (events.new.items ≡ events.old.items ++ filter_map happens_at (line.now ∷ [])) }
+    ensures { (past : List TraceLine) → events.old.items ≡ curve_events (reverse past) →
+        OnOk result (events.new.items ≡ curve_events (reverse (line.now ∷ past))) }
 {
-    if let Some(event) = happens_at(line) {
+    let Some(event) = happens_at(line) else {
+        return Ok(());
+    };
+    let count = events.len();
+    if count == 0 || events[count - 1] != event {
         events.push(event)?;
     }
     Ok(())
 }
 
-/// The events with a line of the curve.
-fn curve_events(alloc: Global, lines: &[TraceLine]) -> Result<Vec<u64>, NoMemory>
-    ensures { IfOk result (λ events. events.items ≡ curve_events lines.now) }
-{
-    let mut events = Vec::new(alloc);
-    for line in lines {
-        push_event(&mut events, line)?;
+/// What the live curve needs of the lines of a trace, which come one by one: the events that have a row, and the objects.
+#[derive(Drop)]
+pub struct Curve {
+    events: Vec<u64>,
+    lives: Lives,
+}
+
+impl Curve {
+    /// No line yet.
+    pub fn begin(alloc: Global) -> Curve
+        ensures { IsCurveOf result [] }
+    {
+        Curve {
+            events: Vec::new(alloc),
+            lives: Lives::begin(alloc),
+        }
     }
-    events.dedup();
-    Ok(events)
+
+    fn note(&mut self, line: &TraceLine) -> Result<(), NoMemory>
+        ensures { (past : List TraceLine) → IsCurveOf self.old past →
+            OnOk result (IsCurveOf self.new (line.now ∷ past)) }
+    {
+        push_event(&mut self.events, line)?;
+        self.lives.note(line)
+    }
+
+    /// Writes the live curve of the lines that came, as `curve_lines` does.
+    pub fn put<O: Sink>(self, alloc: Global, sink: &mut O) -> Result<(), RunFault>
+        requires { (lines : List TraceLine) × IsGoodTrace lines × IsCurveOf self (reverse lines) }
+        ensures ok { (lines : List TraceLine) → IsGoodTrace lines → IsCurveOf self (reverse lines) →
+            OnOk result (O.taken sink.new ≡ with_more (O.taken sink.old) (curve_text lines)) }
+        ensures write { O.faults sink.new ≡ count_after (is_write_fault result) (O.faults sink.old) }
+        ensures err { (lines : List TraceLine) → IsGoodTrace lines → IsCurveOf self (reverse lines) →
+            OnErr result (TakesPrefix (O.taken sink.old) (O.taken sink.new) (curve_text lines)) }
+        ensures never_falls { O.faults sink.old ≤ O.faults sink.new }
+    {
+        let Curve { events, lives } = self;
+        put_rows(alloc, &events, lives, sink)
+    }
+}
+
+impl Follower for Curve {
+    ghost follows = { IsCurveOf };
+
+    fn line(&mut self, line: &TraceLine) -> Result<(), NoMemory> {
+        self.note(line)
+    }
+}
+
+/// What the live curve needs of the lines.
+fn curve_of(alloc: Global, lines: &[TraceLine]) -> Result<Curve, NoMemory>
+    ensures { IfOk result (λ curve. IsCurveOf curve (reverse lines.now)) }
+{
+    let mut curve = Curve::begin(alloc);
+    for line in lines {
+        curve.note(line)?;
+    }
+    Ok(curve)
 }
 
 /// A row, spelled from its last byte on and appended at once.
@@ -108,12 +164,8 @@ pub fn curve_lines<O: Sink>(alloc: Global, trace: &Trace, sink: &mut O) -> Resul
         (TakesPrefix (O.taken sink.old) (O.taken sink.new) (curve_text trace.now)) }
     ensures never_falls { O.faults sink.old ≤ O.faults sink.new }
 {
-    let lines = trace.lines();
-    let Ok(events) = curve_events(alloc, lines) else {
-        return Err(RunFault::NoMemory);
-    };
-    let Ok(lives) = lives_of(alloc, lines) else {
-        return Err(RunFault::NoMemory);
-    };
-    put_rows(alloc, &events, lives, sink)
+    match curve_of(alloc, trace.lines()) {
+        Ok(curve) => curve.put(alloc, sink),
+        Err(NoMemory) => Err(RunFault::NoMemory),
+    }
 }

@@ -11,8 +11,8 @@ mod replaying;
 mod report;
 mod sizes;
 
-pub use by_time::timeline;
-pub use curve::curve_lines;
+pub use by_time::{Happenings, timeline};
+pub use curve::{Curve, curve_lines};
 pub use item::{Item, Timeline};
 pub use live::live_bytes;
 pub use model::{Fed, HeapModel, Kind, Policy, Report};

@@ -1,5 +1,5 @@
 //! The objects of a trace.
-ghost use Rattle.std.specs.Prelude.{◌≡◌, reverse, IfOk, OnOk};
+ghost use Rattle.std.specs.Prelude.{◌≡◌, [], reverse, IfOk, OnOk};
 ghost use Rattle.et_replay.specs.Lives.{with_time, born_with, died_with, born_by, died_by};
 
 use et_base::{NoMemory, TraceLine};
@@ -25,21 +25,37 @@ fn set_time(died: &mut Vec<(u64, u64)>, place: usize, time: u64)
     }
 }
 
-fn note(lives: &mut Lives, line: &TraceLine) -> Result<(), NoMemory>
-    ensures born { OnOk result (lives.new.born.items ≡ born_with lives.old.born.items line.now) }
-    ensures died { OnOk result (lives.new.died.items ≡ died_with lives.old.died.items line.now) }
-{
-    match line {
-        TraceLine::Alloc { event, size, .. } => {
-            lives.born.push((*event, *size))?;
-            lives.died.push((NEVER, *size))?;
+impl Lives {
+    /// No line yet.
+    pub fn begin(alloc: Global) -> Lives
+        ensures born { result.born.items ≡ [] }
+        ensures died { result.died.items ≡ [] }
+    {
+        Lives {
+            born: Vec::new(alloc),
+            died: Vec::new(alloc),
         }
-        TraceLine::Death { object, time } => {
-            set_time(&mut lives.died, (*object as usize).saturating_sub(1), *time);
-        }
-        _ => {}
     }
-    Ok(())
+
+    /// Takes the next line.
+    pub fn note(&mut self, line: &TraceLine) -> Result<(), NoMemory>
+        ensures born { OnOk result
+            (self.new.born.items ≡ born_with self.old.born.items line.now) }
+        ensures died { OnOk result
+            (self.new.died.items ≡ died_with self.old.died.items line.now) }
+    {
+        match line {
+            TraceLine::Alloc { event, size, .. } => {
+                self.born.push((*event, *size))?;
+                self.died.push((NEVER, *size))?;
+            }
+            TraceLine::Death { object, time } => {
+                set_time(&mut self.died, (*object as usize).saturating_sub(1), *time);
+            }
+            _ => {}
+        }
+        Ok(())
+    }
 }
 
 /// The objects that the lines tell of.
@@ -47,12 +63,9 @@ pub fn lives_of(alloc: Global, lines: &[TraceLine]) -> Result<Lives, NoMemory>
     ensures born { IfOk result (λ lives. lives.born.items ≡ born_by (reverse lines.now)) }
     ensures died { IfOk result (λ lives. lives.died.items ≡ died_by (reverse lines.now)) }
 {
-    let mut lives = Lives {
-        born: Vec::new(alloc),
-        died: Vec::new(alloc),
-    };
+    let mut lives = Lives::begin(alloc);
     for line in lines {
-        note(&mut lives, line)?;
+        lives.note(line)?;
     }
     Ok(lives)
 }
