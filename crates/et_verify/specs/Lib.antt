@@ -1,0 +1,10 @@
+pub mod Types
+pub mod Effects
+pub mod Steps
+pub mod Calling
+pub mod Leads
+pub mod Flows
+pub mod Searching
+pub mod Typings
+pub mod Methods
+pub mod Verdicts

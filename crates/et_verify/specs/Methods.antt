@@ -1,0 +1,42 @@
+-- THE CODE OF A METHOD, as the search for its typing goes over it.
+use Rattle.std.specs.Prelude.{◌≡◌, ℕ, ◌<◌, ◌^◌, Bool, false, List, length, Some, Ok}
+use Rattle.et_code.specs.declared.body.RawCode.{RawCode}
+use Rattle.et_code.specs.Bodies.{Body, body_of}
+use Rattle.et_code.specs.Decoding.{instruction_at, Fits}
+use Rattle.et_code.specs.Rules.{flag}
+use Rattle.et_code.specs.Starts.{is_start}
+use Rattle.et_program.specs.Entries.{Linked, method_at}
+use Rattle.et_program.specs.declared.info.MethodInfo.{MethodInfo}
+use Rattle.et_pool.specs.declared.operand.Returned.{Returned}
+use Rattle.et_pool.specs.Operands.{return_of}
+use Rattle.et_event.specs.Sites.{natural_of}
+use Rattle.et_event.specs.Sound.{returned_of}
+use Rattle.et_event.specs.Table.{row_of}
+use Rattle.et_parts.specs.Places.{site_at, is_frame}
+use Rattle.et_parts.specs.declared.places.Place.{Place}
+use Rattle.et_verify.specs.Leads.{site_in}
+
+-- an instruction that has a row stands at pc of the code of a method, and this is its place
+pub record IsPlaceIn (p : Linked) (m : ℕ) (body : Body) (pc : ℕ) (place : Place) : Type 0 where
+  pub decoded : instruction_at body.code pc ≡ Ok (place.instr, place.next)
+  pub row : row_of place.instr.opcode ≡ Some place.row
+  pub site : site_at place ≡ site_in p m body (place.instr, place.next)
+  pub class : place.class ≡ (method_at p m).class
+  pub code : place.code.now ≡ body.code
+  pub fits : Fits body.code pc place.instr place.next
+  pub index : is_frame place.row ≡ false → natural_of place.instr.first < 2 ^ 16
+
+-- a method of a program, and its code
+pub record MethodOf : Type 0 where
+  pub program : Linked
+  pub method : ℕ
+  pub body : Body
+
+-- what is kept of it: the flags tell the starts of instructions
+pub record IsMethod (p : Linked) (m : ℕ) (info : MethodInfo) (body : Body) (returned : Returned) (starts : List Bool) : Type 0 where
+  pub info_is : info ≡ method_at p m
+  pub class : (method_at p m).class < length p.classes
+  pub code : (method_at p m).code ≡ Some body
+  pub returns : return_of (returned_of (method_at p m)) ≡ returned
+  pub flags : (place : ℕ) → flag starts place ≡ is_start body.code place
+  pub few : length body.code < 2 ^ 16

@@ -1,0 +1,111 @@
+//! What calls take of the operands, and give (JVMS 2.11.8, 4.3.3).
+ghost use Rattle.std.specs.Prelude.{◌≡◌, ◌<◌, ◌^◌, [], ◌∷◌, true, false, Some, None, IfOk};
+ghost use Rattle.et_event.specs.Calls.{is_static_call as calls_static};
+ghost use Rattle.et_event.specs.Sites.{natural_of, pool_of_class};
+ghost use Rattle.et_parts.specs.Places.{site_at};
+ghost use Rattle.et_verify.specs.Calling.{arguments_taken, call_taken, called};
+ghost use Rattle.et_verify.specs.Effects.{call_effect};
+ghost use Rattle.et_verify.specs.Steps.{moved_where};
+
+use crate::effects::kind_given;
+use crate::operands::{give_some, take};
+use crate::types::Types;
+use et_base::NoMemory;
+use et_event::{CallKind, Operand};
+use et_parts::{Place, index_of};
+use et_pool::CallShape;
+use et_program::Program;
+
+/// Whether an instruction calls a static method.
+fn is_static_call(kind: CallKind) -> bool
+    ensures { result ≡ calls_static kind }
+{
+    match kind {
+        CallKind::Static => true,
+        CallKind::Virtual | CallKind::Special | CallKind::Interface => false,
+    }
+}
+
+/// Takes an argument of a kind; `false` where there is no such operand.
+fn take_argument(types: &mut Types, kind: Option<Operand>) -> bool
+    ensures taken { result ≡ true →
+        arguments_taken (kind ∷ []) types.old.operands ≡ Some types.new.operands }
+    ensures refused { result ≡ false → arguments_taken (kind ∷ []) types.old.operands ≡ None }
+    ensures locals { types.new.locals ≡ types.old.locals }
+{
+    match kind {
+        Some(kind) => take(types, kind),
+        None => false,
+    }
+}
+
+/// Takes the arguments of these kinds, of which the last is the topmost operand. `false` where one is no such operand; some
+/// entries may be gone then.
+fn take_arguments(types: &mut Types, kinds: &[Option<Operand>]) -> bool
+    ensures taken { result ≡ true →
+        arguments_taken kinds.now types.old.operands ≡ Some types.new.operands }
+    ensures refused { result ≡ false → arguments_taken kinds.now types.old.operands ≡ None }
+    ensures locals { types.new.locals ≡ types.old.locals }
+{
+    for taken in 0..kinds.len() {
+        if !take_argument(types, kinds[kinds.len() - 1 - taken]) {
+            return false;
+        }
+    }
+    true
+}
+
+/// Takes what a call takes. `false` where it isn't there; some entries may be gone then.
+fn take_call(types: &mut Types, shape: &CallShape, is_static: bool) -> bool
+    ensures taken { result ≡ true →
+        call_taken is_static shape.now types.old.operands ≡ Some types.new.operands }
+    ensures refused { result ≡ false →
+        call_taken is_static shape.now types.old.operands ≡ None }
+    ensures locals { types.new.locals ≡ types.old.locals }
+{
+    if !take_arguments(types, shape.kinds()) {
+        return false;
+    }
+    is_static || take(types, Operand::Reference)
+}
+
+/// Takes what a call of this shape takes, and gives what it leaves. `false` where that isn't there; some entries may be gone
+/// then.
+fn step_shape(types: &mut Types, shape: &CallShape, is_static: bool) -> Result<bool, NoMemory>
+    ensures done { IfOk result (λ b. b ≡ true →
+        called is_static shape.now types.old.operands ≡ Some types.new.operands) }
+    ensures refused { IfOk result (λ b. b ≡ false →
+        called is_static shape.now types.old.operands ≡ None) }
+    ensures locals { IfOk result (λ b. types.new.locals ≡ types.old.locals) }
+{
+    if !take_call(types, shape, is_static) {
+        return Ok(false);
+    }
+    give_some(types, kind_given(shape.returned()))?;
+    Ok(true)
+}
+
+/// Takes what an invoke takes, and gives what it leaves. `false` where it names no method, or its operands aren't there; some
+/// entries may be gone then.
+#[tactic(auto, using(crate::proofs::Invoked::call_shaped, crate::proofs::Invoked::call_unshaped))]
+pub(crate) fn step_call(
+    types: &mut Types,
+    program: &Program,
+    place: &Place<'_>,
+    kind: CallKind,
+) -> Result<bool, NoMemory>
+    requires index { natural_of place.now.instr.first < 2 ^ 16 }
+    requires pool { (site_at place.now).pool ≡ pool_of_class program.now place.now.class }
+    ensures done { IfOk result (λ b. b ≡ true → moved_where
+        (call_effect (site_at place.now) (calls_static kind)) types.old.operands
+        ≡ Some types.new.operands) }
+    ensures refused { IfOk result (λ b. b ≡ false → moved_where
+        (call_effect (site_at place.now) (calls_static kind)) types.old.operands ≡ None) }
+    ensures locals { IfOk result (λ b. types.new.locals ≡ types.old.locals) }
+{
+    let Some(shape) = program.call_shape(place.class, index_of(place)) else {
+        return Ok(false);
+    };
+    let done = step_shape(types, shape, is_static_call(kind))?;
+    Ok(done)
+}

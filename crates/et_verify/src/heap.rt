@@ -1,0 +1,221 @@
+//! What the instructions on fields, arrays, classes and constants take of the operands, and give (JVMS 6.5).
+ghost use Rattle.std.specs.Prelude.{◌≡◌, ◌<◌, ◌^◌, List, ◌∷◌, true, false, Some, None, IfOk, option_map, replicate};
+ghost use Rattle.et_event.specs.PoolOperands.Operand.TheVariants as kinds;
+ghost use Rattle.et_event.specs.Sites.{natural_of, constant_at};
+ghost use Rattle.et_event.specs.declared.rows.HeapRow.TheVariants as heap;
+ghost use Rattle.et_parts.specs.Places.{site_at};
+ghost use Rattle.et_verify.specs.Effects.{constant_effect, field_read, field_type as type_of_field, field_written, heap_effect, kind_of_constant, kind_written, naming_class as where_class};
+ghost use Rattle.et_verify.specs.Steps.{below_taken, moved_by, moved_where};
+
+use crate::effects::{
+    INT, INT_ON_REFERENCE, NONE, REFERENCE, into_array, kind_of_elements, kind_of_result,
+    on_reference, one_of,
+};
+use crate::operands::{exchange, give, take};
+use crate::types::Types;
+use et_base::NoMemory;
+use et_event::{HeapRow, Operand};
+use et_parts::{Place, class_operand, index_of, member_at};
+use et_pool::descriptor::is_field_descriptor;
+use et_pool::{Pool, kind_of};
+
+/// The type of the field that an instruction names; `None` where it names none.
+fn field_type<'a>(place: &Place<'a>) -> Option<&'a [u8]>
+    requires { natural_of place.now.instr.first < 2 ^ 16 }
+    ensures { option_map (λ s. s.now) result ≡ type_of_field (site_at place.now) }
+{
+    let member = member_at(place)?;
+    if !is_field_descriptor(member.descriptor) {
+        return None;
+    }
+    Some(member.descriptor)
+}
+
+/// Takes operands of kinds, the topmost first, and gives what a field holds. `false` where no field is named, or the operands
+/// aren't there.
+fn read_field(types: &mut Types, place: &Place<'_>, taken: &[Operand]) -> Result<bool, NoMemory>
+    requires { natural_of place.now.instr.first < 2 ^ 16 }
+    ensures done { IfOk result (λ b. b ≡ true → moved_where
+        (field_read (site_at place.now) taken.now) types.old.operands
+        ≡ Some types.new.operands) }
+    ensures refused { IfOk result (λ b. b ≡ false → moved_where
+        (field_read (site_at place.now) taken.now) types.old.operands ≡ None) }
+    ensures locals { IfOk result (λ b. types.new.locals ≡ types.old.locals) }
+{
+    let Some(descriptor) = field_type(place) else {
+        return Ok(false);
+    };
+    let done = exchange(types, taken, Some(kind_of_result(descriptor)))?;
+    Ok(done)
+}
+
+/// The kind of what is written to the field that an instruction names; `None` where it names none, or one of which there are
+/// no operands.
+fn written_kind(place: &Place<'_>) -> Option<Operand>
+    requires { natural_of place.now.instr.first < 2 ^ 16 }
+    ensures { result ≡ kind_written (site_at place.now) }
+{
+    kind_of(field_type(place)?)
+}
+
+/// Takes what is written to a field, and under it the object, if the field is no static one. `false` where no field is named,
+/// or the operands aren't there.
+fn write_field(types: &mut Types, place: &Place<'_>, is_static: bool) -> Result<bool, NoMemory>
+    requires { natural_of place.now.instr.first < 2 ^ 16 }
+    ensures done { IfOk result (λ b. b ≡ true → moved_where
+        (field_written (site_at place.now) is_static) types.old.operands
+        ≡ Some types.new.operands) }
+    ensures refused { IfOk result (λ b. b ≡ false → moved_where
+        (field_written (site_at place.now) is_static) types.old.operands ≡ None) }
+    ensures locals { IfOk result (λ b. types.new.locals ≡ types.old.locals) }
+{
+    let Some(kind) = written_kind(place) else {
+        return Ok(false);
+    };
+    let taken = if is_static {
+        one_of(kind)
+    } else {
+        on_reference(kind)
+    };
+    let done = exchange(types, taken, None)?;
+    Ok(done)
+}
+
+/// Takes operands of kinds, the topmost first, and gives one. `false` where the instruction names no class, or the operands
+/// aren't there.
+fn step_class(
+    types: &mut Types,
+    place: &Place<'_>,
+    taken: &[Operand],
+    given: Operand,
+) -> Result<bool, NoMemory>
+    requires { natural_of place.now.instr.first < 2 ^ 16 }
+    ensures done { IfOk result (λ b. b ≡ true → moved_where (where_class (site_at place.now)
+        (record { taken = taken.now; given = Some given })) types.old.operands
+        ≡ Some types.new.operands) }
+    ensures refused { IfOk result (λ b. b ≡ false → moved_where (where_class (site_at place.now)
+        (record { taken = taken.now; given = Some given })) types.old.operands ≡ None) }
+    ensures locals { IfOk result (λ b. types.new.locals ≡ types.old.locals) }
+{
+    if class_operand(place).is_none() {
+        return Ok(false);
+    }
+    let done = exchange(types, taken, Some(given))?;
+    Ok(done)
+}
+
+/// Takes so many ints. `false` where they aren't there; some entries may be gone then.
+fn take_ints(types: &mut Types, count: usize) -> bool
+    ensures taken { result ≡ true →
+        below_taken (replicate count kinds.Int) types.old.operands ≡ Some types.new.operands }
+    ensures refused { result ≡ false →
+        below_taken (replicate count kinds.Int) types.old.operands ≡ None }
+    ensures locals { types.new.locals ≡ types.old.locals }
+{
+    for _int in 0..count {
+        if !take(types, Operand::Int) {
+            return false;
+        }
+    }
+    true
+}
+
+/// `multianewarray`: the lengths, and the array. `false` where the instruction names no class, or the lengths aren't there.
+fn step_multi(types: &mut Types, place: &Place<'_>) -> Result<bool, NoMemory>
+    requires { natural_of place.now.instr.first < 2 ^ 16 }
+    ensures done { IfOk result (λ b. b ≡ true → moved_where
+        (heap_effect (site_at place.now) heap.NewMultiArray) types.old.operands
+        ≡ Some types.new.operands) }
+    ensures refused { IfOk result (λ b. b ≡ false → moved_where
+        (heap_effect (site_at place.now) heap.NewMultiArray) types.old.operands ≡ None) }
+    ensures locals { IfOk result (λ b. types.new.locals ≡ types.old.locals) }
+{
+    if class_operand(place).is_none() {
+        return Ok(false);
+    }
+    let dimensions = usize::try_from(place.instr.second).unwrap_or(0);
+    if !take_ints(types, dimensions) {
+        return Ok(false);
+    }
+    give(types, Operand::Reference)?;
+    Ok(true)
+}
+
+/// What an instruction on fields, arrays and classes takes, and gives. `false` where it doesn't accept the operands; some
+/// entries may be gone then.
+pub(crate) fn step_heap(
+    types: &mut Types,
+    place: &Place<'_>,
+    row: HeapRow,
+) -> Result<bool, NoMemory>
+    requires { natural_of place.now.instr.first < 2 ^ 16 }
+    ensures done { IfOk result (λ b. b ≡ true → moved_where
+        (heap_effect (site_at place.now) row) types.old.operands ≡ Some types.new.operands) }
+    ensures refused { IfOk result (λ b. b ≡ false → moved_where
+        (heap_effect (site_at place.now) row) types.old.operands ≡ None) }
+    ensures locals { IfOk result (λ b. types.new.locals ≡ types.old.locals) }
+{
+    let done = match row {
+        HeapRow::GetStatic => read_field(types, place, &NONE)?,
+        HeapRow::PutStatic => write_field(types, place, true)?,
+        HeapRow::GetField => read_field(types, place, &REFERENCE)?,
+        HeapRow::PutField => write_field(types, place, false)?,
+        HeapRow::LoadElement(elements) => {
+            exchange(types, &INT_ON_REFERENCE, Some(kind_of_elements(elements)))?
+        }
+        HeapRow::StoreElement(elements) => {
+            exchange(types, into_array(kind_of_elements(elements)), None)?
+        }
+        HeapRow::New => step_class(types, place, &NONE, Operand::Reference)?,
+        HeapRow::NewArray => exchange(types, &INT, Some(Operand::Reference))?,
+        HeapRow::NewReferenceArray => step_class(types, place, &INT, Operand::Reference)?,
+        HeapRow::NewMultiArray => step_multi(types, place)?,
+        HeapRow::ArrayLength => exchange(types, &REFERENCE, Some(Operand::Int))?,
+        HeapRow::CheckCast => step_class(types, place, &REFERENCE, Operand::Reference)?,
+        HeapRow::InstanceOf => step_class(types, place, &REFERENCE, Operand::Int)?,
+    };
+    Ok(done)
+}
+
+/// The kind of the constant at an index of a pool; `None` where that is no constant.
+fn constant_kind(pool: &Pool, index: u16) -> Option<Operand>
+    ensures { result ≡ option_map kind_of_constant (constant_at pool.now.slots index) }
+{
+    if pool.integer(index).is_some() {
+        Some(Operand::Int)
+    } else if pool.long(index).is_some() {
+        Some(Operand::Long)
+    } else if pool.string(index).is_some() {
+        Some(Operand::Reference)
+    } else {
+        None
+    }
+}
+
+/// The kind of the constant that an instruction loads; `None` where it names none.
+fn loaded_kind(place: &Place<'_>) -> Option<Operand>
+    requires { natural_of place.now.instr.first < 2 ^ 16 }
+    ensures { result ≡ option_map kind_of_constant
+        (constant_at (site_at place.now).pool (natural_of place.now.instr.first)) }
+{
+    match place.pool {
+        Some(pool) => constant_kind(pool, index_of(place)),
+        None => None,
+    }
+}
+
+/// A constant of the pool is loaded. `false` where the instruction names none.
+pub(crate) fn step_constant(types: &mut Types, place: &Place<'_>) -> Result<bool, NoMemory>
+    requires { natural_of place.now.instr.first < 2 ^ 16 }
+    ensures done { IfOk result (λ b. b ≡ true → moved_where (constant_effect (site_at place.now))
+        types.old.operands ≡ Some types.new.operands) }
+    ensures refused { IfOk result (λ b. b ≡ false →
+        moved_where (constant_effect (site_at place.now)) types.old.operands ≡ None) }
+    ensures locals { IfOk result (λ b. types.new.locals ≡ types.old.locals) }
+{
+    let Some(kind) = loaded_kind(place) else {
+        return Ok(false);
+    };
+    give(types, kind)?;
+    Ok(true)
+}

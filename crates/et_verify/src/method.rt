@@ -1,0 +1,264 @@
+//! The code of a method, as the search for its typing goes over it.
+ghost use Rattle.std.specs.Prelude.{◌≡◌, ℕ, ◌+◌, ◌<◌, ◌≤◌, ◌^◌, ◌++◌, [], true, false, length, map, None, Some, IfSome, IfNone, IfOk, OnOk, IsSome, ◌||◌};
+ghost use Rattle.std.specs.List.{flat_map};
+ghost use Rattle.std.specs.Int.{w8, w16};
+ghost use Rattle.et_base.specs.Numbers.{number_at};
+ghost use Rattle.et_code.specs.Bodies.{Body, body_of};
+ghost use Rattle.et_code.specs.Decoding.{instruction_at};
+ghost use Rattle.et_program.specs.Entries.{Linked, is_static as static_at, method_at};
+ghost use Rattle.et_event.specs.Programs.{is_initializing};
+ghost use Rattle.et_pool.specs.Operands.{shape_in};
+ghost use Rattle.et_verify.specs.Methods.{IsPlaceIn};
+ghost use Rattle.et_verify.specs.Types.{TypesOf};
+ghost use Rattle.et_verify.specs.Typings.{parameter_entries, argument_entries, with_free, leads_by, HasTyping};
+
+use crate::leads::{are_flagged, handlers_at, is_flagged, next_places};
+use crate::rows::step;
+use crate::search::{Flow, Lead, find_typing};
+use crate::types::{EntryType, Types};
+use et_base::numbers::{u8_at, u16_at};
+use et_base::{MethodId, NoMemory};
+use et_class::flags::{STATIC, has};
+use et_code::{RawCode, decode, start_flags};
+use et_event::{Operand, row_of};
+use et_parts::{Place, code_of};
+use et_pool::{CallShape, Returned};
+use et_program::{MethodInfo, Program};
+use std::alloc::Global;
+use std::marker::Model;
+
+/// A byte is a number of 8 bits.
+fn byte_is_small(code: &[u8], at: usize)
+    ensures { IfSome (number_at w8 code.now at) (λ x. x.0 < 2 ^ 8) }
+{
+    if let Some((_byte, _at)) = u8_at(code, at) {}
+}
+
+/// Two bytes are a number of 16 bits.
+fn short_is_small(code: &[u8], at: usize)
+    ensures { IfSome (number_at w16 code.now at) (λ x. x.0 < 2 ^ 16) }
+{
+    if let Some((_short, _at)) = u16_at(code, at) {}
+}
+
+/// The instruction at a place of the code of a method; `None` where none stands there, or one without a row.
+fn place_at<'a>(
+    program: &'a Program,
+    method: MethodId,
+    info: &'a MethodInfo,
+    code: &'a [u8],
+    pc: u32,
+) -> Option<Place<'a>>
+    requires pc { pc < length code.now }
+    requires few { length code.now < 2 ^ 16 }
+    requires info { info.now ≡ method_at program.now method }
+    requires class { info.now.class < length program.now.classes }
+    ensures found { IfSome result (λ place. (body : Body) → body.code ≡ code.now →
+        IsPlaceIn program.now method body pc place) }
+    ensures none { IfNone result ((body : Body) (ts : TypesOf) → leads_by program.now method body pc
+        ts (instruction_at code.now pc) ≡ None) }
+{
+    byte_is_small(code, pc as usize + 1);
+    short_is_small(code, pc as usize + 1);
+    let (instr, next) = decode(code, pc as usize).ok()?;
+    let row = row_of(instr.opcode)?;
+    Some(Place {
+        row,
+        instr,
+        next: next as u32,
+        code,
+        pool: program.pool(info.class),
+        class: info.class,
+    })
+}
+
+/// The code of a method, and what is read off the method once.
+#[derive(Drop)]
+struct MethodFlow<'a> {
+    program: &'a Program,
+    method: MethodId,
+    info: &'a MethodInfo,
+    code: &'a RawCode,
+    returned: Returned,
+    starts: &'a [bool],
+}
+
+impl<'a> Model for MethodFlow<'a> {
+    ghost use Rattle.et_code.specs.Bodies.{body_of};
+    ghost use Rattle.et_verify.specs.Methods.{MethodOf, IsMethod};
+
+    ghost Value = { MethodOf };
+
+    ghost view = { λ f. record { program = f.program.now; method = f.method; body = body_of f.code.now } };
+
+    ghost invariant = { λ f. IsMethod f.program.now f.method f.info.now (body_of f.code.now) f.returned f.starts.now };
+}
+
+impl<'a> Flow for MethodFlow<'a> {
+    ghost use Rattle.std.specs.Prelude.{◌≡◌, IfOk, option_map};
+    ghost use Rattle.et_verify.specs.Flows.{lead_of};
+    ghost use Rattle.et_verify.specs.Typings.{leads_in};
+
+    ghost leads = { λ place f types. leads_in f.program f.method f.body place types };
+
+    fn lead(&self, alloc: Global, place: u32, types: &Types) -> Result<Option<Lead>, NoMemory> {
+        if !is_flagged(self.starts, place) {
+            return Ok(None);
+        }
+        let code = self.code.code.as_slice();
+        let Some(at) = place_at(self.program, self.method, self.info, code, place) else {
+            return Ok(None);
+        };
+        let mut after = types.copied(alloc)?;
+        let room = self.code.max_stack as usize;
+        if !step(&mut after, self.program, &at, self.returned, room)? {
+            return Ok(None);
+        }
+        let nexts = next_places(alloc, place, &at)?;
+        let table = self.code.table.as_slice();
+        let handlers = handlers_at(alloc, self.program, at.pool, place, table)?;
+        let stand = are_flagged(self.starts, &nexts) && are_flagged(self.starts, &handlers);
+        if !stand || (room == 0 && !handlers.is_empty()) {
+            return Ok(None);
+        }
+        let caught = types.caught(alloc)?;
+        Ok(Some(Lead {
+            after,
+            nexts,
+            caught,
+            handlers,
+        }))
+    }
+}
+
+/// Adds the local variables of a parameter.
+fn push_parameter(locals: &mut Vec<EntryType>, kind: Option<Operand>) -> Result<(), NoMemory>
+    ensures { OnOk result (locals.new.items ≡ locals.old.items ++ parameter_entries kind) }
+{
+    match kind {
+        Some(Operand::Int) => locals.push(EntryType::Int)?,
+        Some(Operand::Long) => {
+            locals.push(EntryType::Long)?;
+            locals.push(EntryType::LongHigh)?;
+        }
+        Some(Operand::Reference) => locals.push(EntryType::Reference)?,
+        None => {}
+    }
+    Ok(())
+}
+
+/// The local variables of the receiver, if there is one, and of parameters of these kinds.
+fn arguments_of(
+    alloc: Global,
+    is_static: bool,
+    kinds: &[Option<Operand>],
+) -> Result<Vec<EntryType>, NoMemory>
+    ensures { IfOk result (λ r. r.items ≡ argument_entries is_static kinds.now) }
+{
+    let mut locals = Vec::new(alloc);
+    if !is_static {
+        locals.push(EntryType::Reference)?;
+    }
+    for kind in kinds {
+        push_parameter(&mut locals, *kind)?;
+    }
+    Ok(locals)
+}
+
+/// Adds local variables that hold nothing, up to so many.
+fn fill(locals: &mut Vec<EntryType>, count: usize) -> Result<(), NoMemory>
+    requires { length locals.old.items ≤ count }
+    ensures { OnOk result (locals.new.items ≡ with_free count locals.old.items) }
+{
+    let given = locals.len();
+    for _local in given..count {
+        locals.push(EntryType::Free)?;
+    }
+    Ok(())
+}
+
+/// Whether a method is entered without a receiver: it is static, or named `<clinit>`.
+fn has_no_receiver(info: &MethodInfo) -> bool
+    ensures { (p : Linked) (m : ℕ) → info.now ≡ method_at p m →
+        result ≡ (static_at p m || is_initializing p m) }
+{
+    has(info.flags, STATIC) || info.name.as_slice() == b"<clinit>".as_slice()
+}
+
+/// The types with which a method begins; `None` where its arguments are more than its local variables.
+fn first_types(
+    alloc: Global,
+    is_static: bool,
+    kinds: &[Option<Operand>],
+    count: usize,
+) -> Result<Option<Types>, NoMemory>
+    ensures some { IfOk result (λ r. IfSome r (λ ts. (ts.operands ≡ [])
+        × (ts.locals ≡ with_free count (argument_entries is_static kinds.now)))) }
+    ensures fits { IfOk result (λ r. IfSome r (λ ts. length ts.locals ≡ count)) }
+    ensures none { IfOk result (λ r. IfNone r
+        (count < length (argument_entries is_static kinds.now))) }
+{
+    let mut locals = arguments_of(alloc, is_static, kinds)?;
+    if locals.len() > count {
+        return Ok(None);
+    }
+    fill(&mut locals, count)?;
+    Ok(Some(Types::of(Vec::new(alloc), locals)))
+}
+
+/// Whether a method with code has a typing.
+fn code_has_typing(
+    alloc: Global,
+    program: &Program,
+    method: MethodId,
+    shape: &CallShape,
+    code: &RawCode,
+) -> Result<bool, NoMemory>
+    requires method { method < length program.now.methods }
+    requires shape { Some shape.now ≡ shape_in (method_at program.now method).descriptor }
+    requires code { (method_at program.now method).code ≡ Some (body_of code.now) }
+    requires some { 0 < length code.now.code.items }
+    requires few { length code.now.code.items < 2 ^ 16 }
+    ensures yes { IfOk result (λ b. b ≡ true → HasTyping program.now method) }
+    ensures no { IfOk result (λ b. b ≡ false → HasTyping program.now method → ⊥) }
+{
+    let info = program.method(method);
+    let count = code.max_locals as usize;
+    let Some(entry) = first_types(alloc, has_no_receiver(info), shape.kinds(), count)? else {
+        return Ok(false);
+    };
+    let starts = start_flags(alloc, &code.code)?;
+    let flow = MethodFlow {
+        program,
+        method,
+        info,
+        code,
+        returned: shape.returned(),
+        starts: &starts,
+    };
+    let found = find_typing(alloc, &flow, code.code.len(), &entry)?;
+    Ok(found)
+}
+
+/// Whether a method has a typing, if it has code.
+pub(crate) fn has_typing(
+    alloc: Global,
+    program: &Program,
+    method: MethodId,
+) -> Result<bool, NoMemory>
+    requires { method < length program.now.methods }
+    ensures yes { IfOk result (λ b. b ≡ true → HasTyping program.now method) }
+    ensures no { IfOk result (λ b. b ≡ false → HasTyping program.now method → ⊥) }
+    ensures code { IfOk result (λ b. b ≡ false → IsSome (method_at program.now method).code) }
+{
+    let info = program.method(method);
+    let Some(code) = &info.code else {
+        return Ok(true);
+    };
+    let Some(shape) = program.method_shape(method) else {
+        return Ok(false);
+    };
+    let _few = code_of(info);
+    let found = code_has_typing(alloc, program, method, shape, code.raw())?;
+    Ok(found)
+}

@@ -1,0 +1,89 @@
+//! Operands of types that are taken and given (JVMS 2.6.2).
+ghost use Rattle.std.specs.Prelude.{◌≡◌, [], ◌∷◌, ◌++◌, true, false, Some, None, OnOk, IfOk, List, option_map};
+ghost use Rattle.et_verify.specs.Types.{operand_entries};
+ghost use Rattle.et_verify.specs.Steps.{below_taken, with_given};
+ghost use Rattle.et_verify.specs.declared.types.EntryType.{EntryType as Entry};
+
+use crate::effects::Effect;
+use crate::types::{EntryType, Types};
+use et_base::NoMemory;
+use et_event::Operand;
+
+/// Takes an operand of a kind. `false` where the topmost one is of no such kind; some entries may be gone then.
+pub fn take(types: &mut Types, kind: Operand) -> bool
+    ensures taken { result ≡ true →
+        below_taken (kind ∷ []) types.old.operands ≡ Some types.new.operands }
+    ensures refused { result ≡ false → below_taken (kind ∷ []) types.old.operands ≡ None }
+    ensures locals { types.new.locals ≡ types.old.locals }
+{
+    match kind {
+        Operand::Int => types.pop_entry(EntryType::Int),
+        Operand::Long => {
+            types.pop_entry(EntryType::LongHigh) && types.pop_entry(EntryType::Long)
+        }
+        Operand::Reference => types.pop_entry(EntryType::Reference),
+    }
+}
+
+/// Takes operands of kinds, the topmost first. `false` where one is of no such kind; some entries may be gone then.
+pub fn take_all(types: &mut Types, kinds: &[Operand]) -> bool
+    ensures taken { result ≡ true →
+        below_taken kinds.now types.old.operands ≡ Some types.new.operands }
+    ensures refused { result ≡ false → below_taken kinds.now types.old.operands ≡ None }
+    ensures locals { types.new.locals ≡ types.old.locals }
+{
+    for kind in kinds {
+        if !take(types, *kind) {
+            return false;
+        }
+    }
+    true
+}
+
+/// Gives an operand of a kind.
+pub fn give(types: &mut Types, kind: Operand) -> Result<(), NoMemory>
+    ensures operands { OnOk result
+        (types.new.operands ≡ operand_entries kind ++ types.old.operands) }
+    ensures locals { OnOk result (types.new.locals ≡ types.old.locals) }
+{
+    match kind {
+        Operand::Int => types.push_entry(EntryType::Int),
+        Operand::Long => {
+            types.push_entry(EntryType::Long)?;
+            types.push_entry(EntryType::LongHigh)
+        }
+        Operand::Reference => types.push_entry(EntryType::Reference),
+    }
+}
+
+/// Gives an operand of a kind, or none.
+pub fn give_some(types: &mut Types, kind: Option<Operand>) -> Result<(), NoMemory>
+    ensures operands { OnOk result (types.new.operands ≡ with_given kind types.old.operands) }
+    ensures locals { OnOk result (types.new.locals ≡ types.old.locals) }
+{
+    match kind {
+        Some(kind) => give(types, kind),
+        None => Ok(()),
+    }
+}
+
+/// Takes operands of kinds, the topmost first, and gives one of a kind, or none. `false` where one is of no such kind; some
+/// entries may be gone then.
+pub(crate) fn exchange(
+    types: &mut Types,
+    taken: &[Operand],
+    given: Option<Operand>,
+) -> Result<bool, NoMemory>
+    ensures done { IfOk result (λ b. b ≡ true →
+        option_map (with_given given) (below_taken taken.now types.old.operands)
+        ≡ Some types.new.operands) }
+    ensures refused { IfOk result (λ b. b ≡ false →
+        option_map (with_given given) (below_taken taken.now types.old.operands) ≡ None) }
+    ensures locals { IfOk result (λ b. types.new.locals ≡ types.old.locals) }
+{
+    if !take_all(types, taken) {
+        return Ok(false);
+    }
+    give_some(types, given)?;
+    Ok(true)
+}

@@ -1,0 +1,117 @@
+//! The types after an instruction, from those before it, by the row of the table of events that it has (JVMS 6.5).
+ghost use Rattle.std.specs.Prelude.{◌≡◌, ℕ, List, ◌<◌, ◌^◌, ◌⊎◌, true, false, Some, None, IfOk};
+ghost use Rattle.et_event.specs.Sites.{Site, natural_of, pool_of_class};
+ghost use Rattle.et_event.specs.declared.rows.Row.TheVariants as rows;
+ghost use Rattle.et_parts.specs.Places.{is_frame, site_at};
+ghost use Rattle.et_pool.specs.Operands.{return_of};
+ghost use Rattle.et_verify.specs.Calling.{returned_taken};
+ghost use Rattle.et_verify.specs.Steps.{locals_by, locals_after, operands_after, types_after};
+
+use crate::calls::step_call;
+use crate::effects::{REFERENCE, kind_of_number, two_of};
+use crate::heap::{step_constant, step_heap};
+use crate::operands::{exchange, take};
+use crate::stack::rearrange;
+use crate::steps::step_plain;
+use crate::types::Types;
+use et_base::NoMemory;
+use et_code::Instr;
+use et_event::{CallRow, FrameRow, Operand, Row};
+use et_parts::Place;
+use et_pool::Returned;
+use et_program::Program;
+
+/// An instruction that changes nothing but the topmost frame. `false` where it doesn't accept the types; some entries may be
+/// gone then.
+#[tactic(auto, using(crate::proofs::Rowing::plain_operands))]
+fn step_frame(types: &mut Types, row: FrameRow, instr: &Instr) -> Result<bool, NoMemory>
+    ensures done { IfOk result (λ b. (at : Site) (bytes : List ℕ) → at.instr ≡ instr.now →
+        b ≡ true →
+        (operands_after bytes at (rows.Frame row) types.old.operands ≡ Some types.new.operands)
+        × (locals_by at row types.old.locals ≡ Some types.new.locals)) }
+    ensures refused { IfOk result (λ b. (at : Site) (bytes : List ℕ) → at.instr ≡ instr.now →
+        b ≡ false → (operands_after bytes at (rows.Frame row) types.old.operands ≡ None)
+        ⊎ (locals_by at row types.old.locals ≡ None)) }
+{
+    if let FrameRow::Rearrange(rearrangement) = row {
+        let done = rearrange(types, rearrangement)?;
+        return Ok(done);
+    }
+    let done = step_plain(types, row, instr)?;
+    Ok(done)
+}
+
+/// A return of an operand of a kind, or of none, from a method. `false` where the method returns no such, or the operand isn't
+/// there.
+fn step_return(types: &mut Types, kind: Option<Operand>, returned: Returned) -> bool
+    ensures taken { result ≡ true →
+        returned_taken kind returned types.old.operands ≡ Some types.new.operands }
+    ensures refused { result ≡ false →
+        returned_taken kind returned types.old.operands ≡ None }
+    ensures locals { types.new.locals ≡ types.old.locals }
+{
+    if !returned.may_be(kind) {
+        return false;
+    }
+    match kind {
+        Some(kind) => take(types, kind),
+        None => true,
+    }
+}
+
+/// What the instruction at a place does with the types of a frame, of a method that returns such. `false` where it doesn't
+/// accept them; some entries may be gone then.
+#[tactic(auto, using(crate::proofs::Rowing::return_moved))]
+fn step_row(
+    types: &mut Types,
+    program: &Program,
+    place: &Place<'_>,
+    returned: Returned,
+) -> Result<bool, NoMemory>
+    requires index { is_frame place.now.row ≡ false → natural_of place.now.instr.first < 2 ^ 16 }
+    requires pool { (site_at place.now).pool ≡ pool_of_class program.now place.now.class }
+    ensures done { IfOk result (λ b. (bytes : List ℕ) → return_of bytes ≡ returned → b ≡ true →
+        (operands_after bytes (site_at place.now) place.now.row types.old.operands
+        ≡ Some types.new.operands)
+        × (locals_after (site_at place.now) place.now.row types.old.locals
+        ≡ Some types.new.locals)) }
+    ensures refused { IfOk result (λ b. (bytes : List ℕ) → return_of bytes ≡ returned →
+        b ≡ false →
+        (operands_after bytes (site_at place.now) place.now.row types.old.operands ≡ None)
+        ⊎ (locals_after (site_at place.now) place.now.row types.old.locals ≡ None)) }
+{
+    let done = match place.row {
+        Row::Frame(row) => step_frame(types, row, &place.instr)?,
+        Row::PoolConstant => step_constant(types, place)?,
+        Row::Divide(number, _) => exchange(types, two_of(number), Some(kind_of_number(number)))?,
+        Row::Heap(row) => step_heap(types, place, row)?,
+        Row::Call(CallRow::Invoke(kind)) => step_call(types, program, place, kind)?,
+        Row::Call(CallRow::Return(kind)) => step_return(types, kind, returned),
+        Row::Throw | Row::Monitor(_) => exchange(types, &REFERENCE, None)?,
+    };
+    Ok(done)
+}
+
+/// Makes types those after the instruction at a place, in a method with so much room for operands that returns such. `false`
+/// where it doesn't accept them; some entries may be gone then.
+#[tactic(auto, using(crate::proofs::Rowing::both_fit, crate::proofs::Rowing::one_missing, crate::proofs::Rowing::too_many))]
+pub(crate) fn step(
+    types: &mut Types,
+    program: &Program,
+    place: &Place<'_>,
+    returned: Returned,
+    room: usize,
+) -> Result<bool, NoMemory>
+    requires index { is_frame place.now.row ≡ false → natural_of place.now.instr.first < 2 ^ 16 }
+    requires pool { (site_at place.now).pool ≡ pool_of_class program.now place.now.class }
+    ensures done { IfOk result (λ b. (bytes : List ℕ) → return_of bytes ≡ returned → b ≡ true →
+        types_after room bytes (site_at place.now) place.now.row types.old ≡ Some types.new) }
+    ensures refused { IfOk result (λ b. (bytes : List ℕ) → return_of bytes ≡ returned →
+        b ≡ false →
+        types_after room bytes (site_at place.now) place.now.row types.old ≡ None) }
+{
+    if !step_row(types, program, place, returned)? {
+        return Ok(false);
+    }
+    Ok(types.depth() <= room)
+}

@@ -1,0 +1,55 @@
+//! What the verifier answers.
+ghost use Rattle.et_verify.specs.Verdicts.{Verifies};
+
+use crate::method::has_typing;
+use et_base::{MethodId, NoMemory};
+use et_program::Program;
+use std::alloc::Global;
+
+/// Why a program is not verified.
+#[derive(Debug, Drop)]
+pub enum VerifyFault {
+    /// The first method, in the order of the files, that has no typing.
+    Rejected {
+        /// The method.
+        method: MethodId,
+    },
+    /// Memory ran out.
+    NoMemory,
+}
+
+impl From<NoMemory> for VerifyFault {
+    ghost use Rattle.std.specs.Prelude.{◌≡◌};
+    ghost use Rattle.et_verify.specs.declared.verdict.VerifyFault.TheVariants.{NoMemory};
+
+    ghost from_gives = { λ _ fault. fault ≡ NoMemory };
+
+    fn from(_: NoMemory) -> Self {
+        VerifyFault::NoMemory
+    }
+}
+
+/// Verifies the methods with code of the files of a program, and says how many there are. `Rejected` gives exactly the first of
+/// them, in the order of the files, that has no typing (JVMS 4.10, of which the classes of references and the calls of
+/// constructors are left out).
+///
+/// The time is linear in the code, but for code in which local variables lose their types on a way back: each instruction is
+/// looked at again as often as one of its local variables does. The room is a byte for each operand and local variable at each
+/// instruction of the largest method.
+pub fn verify(alloc: Global, program: &Program) -> Result<u32, VerifyFault>
+    ensures { Verifies program.now result }
+{
+    // A law: it tells the prover, and does nothing.
+    program.is_linked();
+    let methods = program.file_methods();
+    let mut count = 0;
+    for method in methods {
+        if !has_typing(alloc, program, *method)? {
+            return Err(VerifyFault::Rejected { method: *method });
+        }
+        if program.method(*method).code.is_some() {
+            count += 1;
+        }
+    }
+    Ok(count)
+}
