@@ -43,6 +43,9 @@ unsome a b e = cc
 unsome_body : (a b : Body) → Some a ≡ Some b → a ≡ b
 unsome_body a b e = cc
 
+none_body : (b : Body) → None ≡ Some b → ⊥
+none_body b e = cc
+
 none_shape : (s : Shape) → None ≡ Some s → ⊥
 none_shape s e = cc
 
@@ -67,6 +70,10 @@ first_are p m body shape h ts static s o l =
     let locals : ts.locals ≡ with_free body.max_locals (argument_entries (entered p m) (map operand_kind h.type.parameters)) = l ∙ (ap (λ (b : Bool). with_free body.max_locals (argument_entries b shape.kinds)) s ∙ ap (λ (ks : List (Option Operand)). with_free body.max_locals (argument_entries (entered p m) ks)) kinds) in
     ap (λ (ops : List EntryType). let t : TypesOf = record { operands = ops; locals = ts.locals } in t) o ∙ ap (λ (ls : List EntryType). let t : TypesOf = record { operands = []; locals = ls } in t) locals
 
+-- a method without code has one
+pub no_code : (p : Linked) (m : ℕ) → (method_at p m).code ≡ None → HasTyping p m
+no_code p m none = record { typing = λ pc. None; is = λ body code. absurd (none_body body (sym none ∙ code)) }
+
 -- A TYPING, or none
 
 module _ (p : Linked) (m : ℕ) (body : Body) (type : MethodType) (typed : method_type (method_at p m).descriptor ≡ Some type) (code : (method_at p m).code ≡ Some body) where
@@ -90,15 +97,15 @@ module _ (p : Linked) (m : ℕ) (body : Body) (type : MethodType) (typed : metho
       let first : first_types p m body t.type ≡ ts = ap (first_types p m body) same ∙ sym e in
       none (record { typing = h.typing; is = subst (λ (x : TypesOf). IsFlowTyping (leads_in p m body) x h.typing) first (flow_typing p m body h.typing t) })
 
+  abbrev given : List EntryType
+  given = argument_entries (entered p m) (map operand_kind type.parameters)
+
   pub no_locals : body.max_locals < length (argument_entries (entered p m) (map operand_kind type.parameters)) → HasTyping p m → ⊥
   no_locals lt h =
       let t : IsTyping p m body h.typing = h.is body code in
       let same : t.type ≡ type = unsome t.type type (sym t.typed ∙ typed) in
       by t same (h.typing 0) refl t.entry
     where
-      abbrev given : List EntryType
-      given = argument_entries (entered p m) (map operand_kind type.parameters)
-
       by : (t : IsTyping p m body h.typing) → t.type ≡ type → (o : Option TypesOf) → h.typing 0 ≡ o → AreAbove (first_types p m body t.type) o → ⊥
       by t same None e a = a
       by t same (Some us) e a =

@@ -1,6 +1,6 @@
 -- What is taken of a call, argument by argument.
 use Rattle.std.proofs.Common.{◌≡◌, ℕ, suc, ◌+◌, ◌-◌, ◌<◌, arith, length, take, get_or, Bool, true, false, List, [], ◌∷◌, ◌++◌, Option, Some, None, refl, sym, ◌∙◌, ap}
-use Rattle.std.specs.Prelude.{reverse, if◌then◌else◌, ◌==◌, option_map, option_and_then, unwrap_or, map}
+use Rattle.std.specs.Prelude.{reverse, if◌then◌else◌, ◌==◌, option_map, option_and_then, unwrap_or, map, replicate}
 use Rattle.std.proofs.lemmas.List.{reverse-append}
 use Rattle.std.proofs.Math.Seq.{take-suc}
 use Rattle.et_class.specs.Descriptors.{MethodType, method_type, is_void, width_of}
@@ -55,6 +55,13 @@ after_taken xs ys (Some left) h = h left
 pub below_append : (xs ys : List Operand) (ops : List EntryType) → below_taken (xs ++ ys) ops ≡ option_and_then (below_taken ys) (below_taken xs ops)
 below_append [] ys ops = refl
 below_append (k ∷ xs) ys ops = below_step k (xs ++ ys) ops ∙ (after_taken xs ys (below_taken (k ∷ []) ops) (λ left. below_append xs ys left) ∙ ap (option_and_then (below_taken ys)) (sym (below_step k xs ops)))
+
+-- .. of ints, in the turns of a loop
+pub int_taken : (count i : ℕ) (ops left : List EntryType) → i < count → below_taken (operand.Int ∷ []) ops ≡ Some left → below_taken (replicate (count - i) operand.Int) ops ≡ below_taken (replicate (count - (i + 1)) operand.Int) left
+int_taken count i ops left lt e =
+    let up : count - i ≡ suc (count - (i + 1)) = omega (arith, lt) in
+    ap (λ (n : ℕ). below_taken (replicate n operand.Int) ops) up
+    ∙ (below_step operand.Int (replicate (count - (i + 1)) operand.Int) ops ∙ ap (option_and_then (below_taken (replicate (count - (i + 1)) operand.Int))) e)
 
 -- THE LAST ARGUMENT FIRST
 

@@ -1,6 +1,7 @@
 -- Where the code of a method leads, by what is found and tested at a place.
 use Rattle.std.proofs.Common.{◌≡◌, ℕ, ◌<◌, ◌^◌, ◌&&◌, ◌||◌, Bool, true, false, List, [], ◌∷◌, length, Option, Some, None, refl, sym, ◌∙◌, ap, subst}
-use Rattle.std.specs.Prelude.{if◌then◌else◌, Result, Ok, Err}
+use Rattle.std.specs.Prelude.{if◌then◌else◌, filter, map, Result, Ok, Err}
+use Rattle.et_code.specs.declared.body.TableRow.{TableRow}
 use Rattle.std.specs.List.{list_all}
 use Rattle.std.specs.Option.{option_copied}
 use Rattle.et_class.specs.Entries.{Item}
@@ -21,7 +22,7 @@ use Rattle.et_parts.specs.declared.places.Place.{Place}
 use Rattle.et_verify.specs.Types.{TypesOf}
 use Rattle.et_verify.specs.Flows.{LeadOf}
 use Rattle.et_verify.specs.Steps.{types_after}
-use Rattle.et_verify.specs.Leads.{site_in, next_places, handlers_at, caught}
+use Rattle.et_verify.specs.Leads.{site_in, may_handle, next_places, handlers_at, caught}
 use Rattle.et_verify.specs.Typings.{are_starts, has_room, led, leads_by_row, leads_by, leads_in}
 use Rattle.et_verify.specs.Methods.{IsPlaceIn}
 
@@ -36,6 +37,13 @@ no_place p m body pc ts e = by (is_start body.code pc)
     by false = refl
 
 -- WHERE THERE IS A PLACE
+
+pub site_here : (p : Linked) (m : ℕ) (body : Body) (x : Instr × ℕ) (code : List ℕ) (pool : List (Option Item)) (class : ℕ) → code ≡ body.code → pool ≡ pool_of_class p (method_at p m).class → class ≡ (method_at p m).class
+    → record { instr = x.0; next = x.1; code = code; pool = pool; class = class } ≡ site_in p m body x
+site_here p m body x code pool class same_code same_pool same_class =
+    ap (λ (bytes : List ℕ). let at : Site = record { instr = x.0; next = x.1; code = bytes; pool = pool; class = class } in at) same_code
+    ∙ (ap (λ (items : List (Option Item)). let at : Site = record { instr = x.0; next = x.1; code = body.code; pool = items; class = class } in at) same_pool
+    ∙ ap (λ (k : ℕ). let at : Site = record { instr = x.0; next = x.1; code = body.code; pool = pool_of_class p (method_at p m).class; class = k } in at) same_class)
 
 abbrev led_at : Linked → ℕ → Body → ℕ → TypesOf → Place → Option TypesOf → Option LeadOf
 led_at p m body pc ts place after = led body (next_places pc (site_at place) place.row) (handlers_at p m body pc) ts after
@@ -63,17 +71,48 @@ pub all_same : (f g : ℕ → Bool) → ((x : ℕ) → f x ≡ g x) → (xs : Li
 all_same f g h [] = refl
 all_same f g h (x ∷ xs) = ap (λ (b : Bool). b && list_all f xs) (h x) ∙ ap (λ (b : Bool). g x && b) (all_same f g h xs)
 
-pub not_standing : (body : Body) (nexts handlers : List ℕ) (ts after : TypesOf) → (are_starts body.code nexts && are_starts body.code handlers) ≡ false → led body nexts handlers ts (Some after) ≡ None
-not_standing body nexts handlers ts after e = ap (λ (b : Bool). if b && has_room body.max_stack handlers then Some (record { after = after; nexts = nexts; caught = caught ts; handlers = handlers }) else None) e
+-- .. by flags of the starts
+abbrev pub may_lead : List Bool → List ℕ → List ℕ → ℕ → Bool
+may_lead starts nexts handlers room = list_all (flag starts) nexts && list_all (flag starts) handlers && has_room room handlers
 
-pub no_room : (body : Body) (nexts handlers : List ℕ) (ts after : TypesOf) → has_room body.max_stack handlers ≡ false → led body nexts handlers ts (Some after) ≡ None
-no_room body nexts handlers ts after e = let lead : LeadOf = record { after = after; nexts = nexts; caught = caught ts; handlers = handlers } in ap (λ (b : Bool). if b then Some lead else None) (test (are_starts body.code nexts && are_starts body.code handlers))
-  where
-    test : (a : Bool) → (a && has_room body.max_stack handlers) ≡ false
-    test true = e
-    test false = refl
+module _ (body : Body) (starts : List Bool) (flags : (place : ℕ) → flag starts place ≡ is_start body.code place) (nexts handlers : List ℕ) (ts after : TypesOf) where
+  test_same : may_lead starts nexts handlers body.max_stack ≡ (are_starts body.code nexts && are_starts body.code handlers && has_room body.max_stack handlers)
+  test_same =
+      ap (λ (b : Bool). b && list_all (flag starts) handlers && has_room body.max_stack handlers) (all_same (flag starts) (is_start body.code) flags nexts)
+      ∙ ap (λ (b : Bool). are_starts body.code nexts && b && has_room body.max_stack handlers) (all_same (flag starts) (is_start body.code) flags handlers)
 
-pub stands : (body : Body) (nexts handlers : List ℕ) (ts after : TypesOf) → (are_starts body.code nexts && are_starts body.code handlers) ≡ true → has_room body.max_stack handlers ≡ true → led body nexts handlers ts (Some after) ≡ Some (record { after = after; nexts = nexts; caught = caught ts; handlers = handlers })
-stands body nexts handlers ts after e r =
-    ap (λ (b : Bool). if b && has_room body.max_stack handlers then Some (record { after = after; nexts = nexts; caught = caught ts; handlers = handlers }) else None) e
-    ∙ ap (λ (b : Bool). if b then Some (record { after = after; nexts = nexts; caught = caught ts; handlers = handlers }) else None) r
+  pub leads_nowhere : may_lead starts nexts handlers body.max_stack ≡ false → led body nexts handlers ts (Some after) ≡ None
+  leads_nowhere e = ap (λ (b : Bool). if b then Some (record { after = after; nexts = nexts; caught = caught ts; handlers = handlers }) else None) (sym test_same ∙ e)
+
+  pub leads_there : may_lead starts nexts handlers body.max_stack ≡ true → led body nexts handlers ts (Some after) ≡ Some (record { after = after; nexts = nexts; caught = caught ts; handlers = handlers })
+  leads_there e = ap (λ (b : Bool). if b then Some (record { after = after; nexts = nexts; caught = caught ts; handlers = handlers }) else None) (sym test_same ∙ e)
+
+-- what is answered of it
+abbrev pub lead_with : TypesOf → List ℕ → TypesOf → List ℕ → Option LeadOf
+lead_with after nexts caught handlers = Some (record { after = after; nexts = nexts; caught = caught; handlers = handlers })
+
+pub lead_same : (after c d : TypesOf) (ns ks hs gs : List ℕ) → ns ≡ ks → hs ≡ gs → c ≡ d → lead_with after ns c hs ≡ lead_with after ks d gs
+lead_same after c d ns ks hs gs n h e =
+    ap (λ (xs : List ℕ). lead_with after xs c hs) n ∙ (ap (λ (x : TypesOf). lead_with after ks x hs) e ∙ ap (λ (xs : List ℕ). lead_with after ks d xs) h)
+
+-- WHERE IT LEADS from a place, by what is computed there
+module _ (p : Linked) (m : ℕ) (body : Body) (pc : ℕ) (ts : TypesOf) (place : Place) (start : is_start body.code pc ≡ true) (h : IsPlaceIn p m body pc place) where
+  pub handlers_here : (handlers : List ℕ) (table : List TableRow) → handlers ≡ map (λ (r : TableRow). r.handler) (filter (may_handle p (site_at place).pool pc) table) → table ≡ body.table → handlers ≡ handlers_at p m body pc
+  handlers_here handlers table e t =
+      e ∙ (ap (λ (rows : List TableRow). map (λ (r : TableRow). r.handler) (filter (may_handle p (site_at place).pool pc) rows)) t
+      ∙ ap (λ (pool : List (Option Item)). map (λ (r : TableRow). r.handler) (filter (may_handle p pool pc) body.table)) (pool_here p m body pc ts place start h))
+
+  module _ (starts : List Bool) (flags : (k : ℕ) → flag starts k ≡ is_start body.code k) (nexts handlers : List ℕ) (after : TypesOf)
+      (n : nexts ≡ next_places pc (site_at place) place.row)
+      (k : handlers ≡ handlers_at p m body pc)
+      (accepts : types_after body.max_stack (returned_of (method_at p m)) (site_at place) place.row ts ≡ Some after) where
+    led_here : leads_in p m body pc ts ≡ led body nexts handlers ts (Some after)
+    led_here =
+        tested p m body pc ts place start h after accepts
+        ∙ (ap (λ (xs : List ℕ). led body xs (handlers_at p m body pc) ts (Some after)) (sym n) ∙ ap (λ (xs : List ℕ). led body nexts xs ts (Some after)) (sym k))
+
+    pub nowhere : may_lead starts nexts handlers body.max_stack ≡ false → leads_in p m body pc ts ≡ None
+    nowhere e = led_here ∙ leads_nowhere body starts flags nexts handlers ts after e
+
+    pub somewhere : may_lead starts nexts handlers body.max_stack ≡ true → (c : TypesOf) → c ≡ caught ts → leads_in p m body pc ts ≡ lead_with after nexts c handlers
+    somewhere e c same = led_here ∙ (leads_there body starts flags nexts handlers ts after e ∙ ap (λ (x : TypesOf). lead_with after nexts x handlers) (sym same))

@@ -1,5 +1,5 @@
 //! The places at which the code goes on behind an instruction, and the handlers that may be entered at it.
-ghost use Rattle.std.specs.Prelude.{◌≡◌, ◌+◌, ◌<◌, ◌≤◌, ◌^◌, ◌++◌, length, map, filter, int_lt, false, OnOk, IfOk};
+ghost use Rattle.std.specs.Prelude.{◌&&◌, ◌≡◌, ◌+◌, ◌<◌, ◌≤◌, ◌^◌, ◌++◌, length, map, filter, int_lt, false, OnOk, IfOk};
 ghost use Rattle.std.specs.List.{list_all};
 ghost use Rattle.std.specs.Option.{option_copied};
 ghost use Rattle.et_class.specs.Looks.{class_name_at};
@@ -10,6 +10,7 @@ ghost use Rattle.et_code.specs.declared.body.TableRow.{TableRow as RowOf};
 ghost use Rattle.et_event.specs.Sites.{target as target_at};
 ghost use Rattle.et_parts.specs.Places.{site_at};
 ghost use Rattle.et_parts.specs.Pools.{pool_slots};
+ghost use Rattle.et_verify.specs.Typings.{has_room as room_for};
 ghost use Rattle.et_verify.specs.Leads.{goes_past as past, next_places as places_next, is_of_program, may_handle as handles};
 
 use byteorder::{BigEndian, ByteOrder};
@@ -189,7 +190,7 @@ pub(crate) fn is_flagged(flags: &[bool], place: u32) -> bool
 }
 
 /// Whether all places are flagged.
-pub(crate) fn are_flagged(flags: &[bool], places: &[u32]) -> bool
+fn are_flagged(flags: &[bool], places: &[u32]) -> bool
     ensures { result ≡ list_all (flag flags.now) places.now }
 {
     for place in places {
@@ -198,4 +199,22 @@ pub(crate) fn are_flagged(flags: &[bool], places: &[u32]) -> bool
         }
     }
     true
+}
+
+/// Whether there is room for the exception, where a handler may be entered.
+fn has_room(room: usize, handlers: &[u32]) -> bool
+    ensures { result ≡ room_for room handlers.now }
+{
+    match handlers {
+        [] => true,
+        [_, ..] => room > 0,
+    }
+}
+
+/// Whether code may lead to these places, of which the flagged ones are the starts of instructions, and to these handlers.
+pub(crate) fn may_lead(starts: &[bool], nexts: &[u32], handlers: &[u32], room: usize) -> bool
+    ensures { result ≡ (list_all (flag starts.now) nexts.now
+        && list_all (flag starts.now) handlers.now && room_for room handlers.now) }
+{
+    are_flagged(starts, nexts) && are_flagged(starts, handlers) && has_room(room, handlers)
 }

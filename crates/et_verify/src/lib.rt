@@ -5,6 +5,7 @@
 mod calls;
 mod effects;
 mod heap;
+pub mod laws;
 mod leads;
 mod locals;
 mod method;

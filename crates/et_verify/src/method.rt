@@ -12,7 +12,7 @@ ghost use Rattle.et_verify.specs.Methods.{IsPlaceIn};
 ghost use Rattle.et_verify.specs.Types.{TypesOf};
 ghost use Rattle.et_verify.specs.Typings.{parameter_entries, argument_entries, with_free, leads_by, HasTyping};
 
-use crate::leads::{are_flagged, handlers_at, is_flagged, next_places};
+use crate::leads::{handlers_at, is_flagged, may_lead, next_places};
 use crate::rows::step;
 use crate::search::{Flow, Lead, find_typing};
 use crate::types::{EntryType, Types};
@@ -117,8 +117,7 @@ impl<'a> Flow for MethodFlow<'a> {
         let nexts = next_places(alloc, place, &at)?;
         let table = self.code.table.as_slice();
         let handlers = handlers_at(alloc, self.program, at.pool, place, table)?;
-        let stand = are_flagged(self.starts, &nexts) && are_flagged(self.starts, &handlers);
-        if !stand || (room == 0 && !handlers.is_empty()) {
+        if !may_lead(self.starts, &nexts, &handlers, room) {
             return Ok(None);
         }
         let caught = types.caught(alloc)?;
@@ -251,6 +250,8 @@ pub(crate) fn has_typing(
     ensures no { IfOk result (λ b. b ≡ false → HasTyping program.now method → ⊥) }
     ensures code { IfOk result (λ b. b ≡ false → IsSome (method_at program.now method).code) }
 {
+    // A law: it tells the prover, and does nothing.
+    et_code::laws::kept_code();
     let info = program.method(method);
     let Some(code) = &info.code else {
         return Ok(true);

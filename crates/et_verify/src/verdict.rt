@@ -1,4 +1,5 @@
 //! What the verifier answers.
+ghost use Rattle.std.specs.Prelude.{◌≡◌, ◌<◌, ℕ, Err, length};
 ghost use Rattle.et_verify.specs.Verdicts.{Verifies};
 
 use crate::method::has_typing;
@@ -37,7 +38,9 @@ impl From<NoMemory> for VerifyFault {
 /// looked at again as often as one of its local variables does. The room is a byte for each operand and local variable at each
 /// instruction of the largest method.
 pub fn verify(alloc: Global, program: &Program) -> Result<u32, VerifyFault>
-    ensures { Verifies program.now result }
+    ensures verdict { Verifies program.now result }
+    ensures within { (m : ℕ) → result ≡ Err (VerifyFault.Rejected m) →
+        m < length program.now.methods }
 {
     // A law: it tells the prover, and does nothing.
     program.is_linked();

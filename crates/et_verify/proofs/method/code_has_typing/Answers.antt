@@ -1,0 +1,65 @@
+use Rattle.std.proofs.Common.{◌≡◌, ℕ, ◌<◌, ◌||◌, Bool, List, [], length, map, Option, Some, None, sym, ap, subst, ◌∙◌, arith}
+use Rattle.std.specs.Prelude.{IfSome, IfNone}
+use Rattle.et_class.specs.Operands.{operand_kind}
+use Rattle.et_class.specs.PoolOperands.Operand.{Operand}
+use Rattle.et_code.specs.Bodies.{Body, body_of}
+use Rattle.et_program.specs.Entries.{is_static}
+use Rattle.et_event.specs.Programs.{is_initializing}
+use Rattle.et_pool.specs.Operands.{Shape}
+use Rattle.et_verify.specs.Types.{TypesOf}
+use Rattle.et_verify.specs.Flows.{IsLeadWithin}
+use Rattle.et_verify.specs.Typings.{argument_entries, with_free, first_types, leads_in}
+use Rattle.et_verify.proofs.Within.{leads_within}
+use Rattle.et_verify.proofs.Leading.{leads_monotone}
+use Rattle.et_verify.proofs.Decided.{HasType, has_type, first_are, typing_found, no_typing, no_locals}
+use Rattle.et_verify.proofs.method.code_has_typing.Goals as goal
+
+pub returns-in_default-clause-no : goal.returns-in_default-clause-no
+returns-in_default-clause-no c = λ e has.
+    let p = c.args.program.now in
+    let m : ℕ = c.args.method in
+    let body : Body = body_of c.args.code.now in
+    let h : HasType p m c.args.shape.now = has_type p m c.args.shape.now c.requires.shape in
+    let static : c.has_no_receiver.result ≡ (is_static p m || is_initializing p m) = c.has_no_receiver.ensures p m c.method-info.ensures.value in
+    let kinds : c.kinds.result.now ≡ map operand_kind h.type.parameters = c.kinds.ensures ∙ ap (λ (x : Shape). x.kinds) h.is in
+    let more : body.max_locals < length (argument_entries c.has_no_receiver.result c.kinds.result.now) = subst (λ (o : Option TypesOf). IfNone o (body.max_locals < length (argument_entries c.has_no_receiver.result c.kinds.result.now))) c.in_default.is c.in_ok-entry.ensures.none in
+    no_locals p m body h.type h.typed c.requires.code
+    (subst (λ (ks : List (Option Operand)). body.max_locals < length (argument_entries (is_static p m || is_initializing p m) ks)) kinds
+    (subst (λ (b : Bool). body.max_locals < length (argument_entries b c.kinds.result.now)) static more)) has
+
+pub find_typing-requires-clause-within : goal.find_typing-requires-clause-within
+find_typing-requires-clause-within c =
+    let body : Body = body_of c.args.code.now in
+    let long : length body.code ≡ c.len.result = omega (arith, c.len.ensures, c.args.code.now.code.ok.0) in
+    subst (λ (n : ℕ). (pc : ℕ) (ts : TypesOf) → IsLeadWithin n (length ts.locals) (leads_in c.args.program.now c.args.method body pc ts)) long (leads_within c.args.program.now c.args.method body)
+
+pub find_typing-requires-clause-monotone : goal.find_typing-requires-clause-monotone
+find_typing-requires-clause-monotone c = leads_monotone c.args.program.now c.args.method (body_of c.args.code.now)
+
+-- the types with which the search begins
+entry_is : (c : goal.After-drop-entry-inside-3) → (h : HasType c.args.program.now c.args.method c.args.shape.now) → c.in-Some.entry ≡ first_types c.args.program.now c.args.method (body_of c.args.code.now) h.type
+entry_is c h =
+    let p = c.args.program.now in
+    let m : ℕ = c.args.method in
+    let body : Body = body_of c.args.code.now in
+    let static : c.has_no_receiver.result ≡ (is_static p m || is_initializing p m) = c.has_no_receiver.ensures p m c.method-info.ensures.value in
+    let are : (c.in-Some.entry.operands ≡ []) × (c.in-Some.entry.locals ≡ with_free body.max_locals (argument_entries c.has_no_receiver.result c.kinds.result.now)) =
+    subst (λ (o : Option TypesOf). IfSome o (λ (ts : TypesOf). (ts.operands ≡ []) × (ts.locals ≡ with_free body.max_locals (argument_entries c.has_no_receiver.result c.kinds.result.now)))) c.in-Some.is c.in_ok-entry.ensures.some in
+    first_are p m body c.args.shape.now h c.in-Some.entry c.has_no_receiver.result static are.0 (are.1 ∙ ap (λ (ks : List (Option Operand)). with_free body.max_locals (argument_entries c.has_no_receiver.result ks)) c.kinds.ensures)
+
+pub returns-clause-yes : goal.returns-clause-yes
+returns-clause-yes c = λ e.
+    let p = c.args.program.now in
+    let m : ℕ = c.args.method in
+    let body : Body = body_of c.args.code.now in
+    let h : HasType p m c.args.shape.now = has_type p m c.args.shape.now c.requires.shape in
+    let long : length c.in-Some.entry.locals ≡ body.max_locals = subst (λ (o : Option TypesOf). IfSome o (λ (ts : TypesOf). length ts.locals ≡ body.max_locals)) c.in-Some.is c.in_ok-entry.ensures.fits in
+    typing_found p m body h.type h.typed c.requires.code c.in-Some.entry (entry_is c h) c.requires.some long (c.in_ok-found.ensures.found e)
+
+pub returns-clause-no : goal.returns-clause-no
+returns-clause-no c = λ e.
+    let p = c.args.program.now in
+    let m : ℕ = c.args.method in
+    let body : Body = body_of c.args.code.now in
+    let h : HasType p m c.args.shape.now = has_type p m c.args.shape.now c.requires.shape in
+    no_typing p m body h.type h.typed c.requires.code c.in-Some.entry (entry_is c h) (c.in_ok-found.ensures.none e)

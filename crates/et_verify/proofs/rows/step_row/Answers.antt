@@ -1,0 +1,10 @@
+use Rattle.std.proofs.Common.{◌≡◌, Some, List, ℕ, true, refl, sym, subst}
+use Rattle.et_event.specs.declared.rows.Row.{Row}
+use Rattle.et_parts.specs.Places.{site_at}
+use Rattle.et_verify.specs.Steps.{operands_after, locals_after}
+use Rattle.et_verify.proofs.rows.step_row.Goals as goal
+
+pub returns-in_ok-done-in-Frame-clause-done : goal.returns-in_ok-done-in-Frame-clause-done
+returns-in_ok-done-in-Frame-clause-done c = λ bytes r e.
+    subst (λ (row : Row). (operands_after bytes (site_at c.args.place.now) row c.args.types.now.operands ≡ Some c.step_frame.new.types.operands) × (locals_after (site_at c.args.place.now) row c.args.types.now.locals ≡ Some c.step_frame.new.types.locals))
+    (sym c.in-Frame.is) (c.in_ok-done-in-Frame.ensures.done (site_at c.args.place.now) bytes refl e)
