@@ -39,7 +39,7 @@ branches e = if is_branch_row e.1 then is_branch e.0 else true
 all_branches : list_all branches all_rows ≡ true
 all_branches = refl
 
-opcode_of_branch : (opcode : ℕ) (c : Condition) → row_of opcode ≡ Some (rows.Frame (row.Branch c)) → is_branch opcode ≡ true
+pub opcode_of_branch : (opcode : ℕ) (c : Condition) → row_of opcode ≡ Some (rows.Frame (row.Branch c)) → is_branch opcode ≡ true
 unfolding row_of
 opcode_of_branch opcode c e = among branches all_rows opcode (rows.Frame (row.Branch c)) all_branches e
 
@@ -115,7 +115,7 @@ branch_offsets code i false others e = cc
 branch_passes : (p : ℤ → Bool) (code : List ℕ) (i : Instr) → is_branch i.opcode ≡ true → list_all p (offsets code i) ≡ true → p i.first ≡ true
 branch_passes p code i e h = first_of p i.first [] (subst (λ (os : List ℤ). list_all p os ≡ true) (branch_offsets code i (is_branch i.opcode) _ e) h)
 
-switch_passes : (p : ℤ → Bool) (code : List ℕ) (i : Instr) (key : ℤ) → (i.opcode ≡ 0xaa) ⊎ (i.opcode ≡ 0xab) → list_all p (offsets code i) ≡ true → p (target_of code i key) ≡ true
+pub switch_passes : (p : ℤ → Bool) (code : List ℕ) (i : Instr) (key : ℤ) → (i.opcode ≡ 0xaa) ⊎ (i.opcode ≡ 0xab) → list_all p (offsets code i) ≡ true → p (target_of code i key) ≡ true
 switch_passes p code i key (inl o) h =
     let all : list_all p (code_word_at code i.table ∷ table_rows code i.table) ≡ true = subst (λ (k : ℕ). list_all p (offsets code (at_opcode i k)) ≡ true) o h in
     subst (λ (k : ℕ). p (target_of code (at_opcode i k) key) ≡ true) (sym o) (table_passes p code i.table key all)
