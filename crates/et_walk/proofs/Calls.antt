@@ -197,7 +197,7 @@ module _ (e : Moment) (ready : Ready e) (framed : IsFramed e) where
       → Comes e StringsAlone Level (slot_written e o 0 (argument arguments 1) (answering e at arguments [] (begins e)))
   first_comes at arguments o f held inside is hand =
       let x : Doing = answering e at arguments [] (begins e) in
-      WritesSlot Level o 0 (argument arguments 1) x (taken_comes at arguments) (λ u. later_write x.state o 0 (argument arguments 1) u held (omega arith) (later_value x.state arguments 1 u f)) (record { slot = λ cause. inside; plain = inl is; at_hand = inl hand })
+      WritesSlot Level o 0 (argument arguments 1) x (taken_comes at arguments) (λ u. later_write x.state o 0 (argument arguments 1) u held (omega arith) (later_value x.state arguments 1 u f)) (record { slot = λ cause. inside; plain = inl is; own = inl is; at_hand = inl hand })
 
   -- .. and one to the second
   second_comes : (at : Site) (arguments : List Value) (o : ℕ) → Fines e.before.heap arguments → IsHeld e.before.heap o → 1 < length (object_at e.before.heap o).slots → IsReference (argument arguments 1) × IsReference (argument arguments 2) → IsReached (graph_of e.before) o
@@ -207,7 +207,7 @@ module _ (e : Moment) (ready : Ready e) (framed : IsFramed e) where
       let y : Doing = slot_written e o 0 (argument arguments 1) x in
       let same : length (object_at y.state.heap o).slots ≡ length (object_at e.before.heap o).slots = ((slot_steady e o 0 (argument arguments 1) x held).alike o held).slots in
       WritesSlot Level o 1 (argument arguments 2) y (first_comes at arguments o f held (omega (arith, inside)) is.0 hand) (λ u. later_write y.state o 1 (argument arguments 2) u held (omega arith) (later_value y.state arguments 2 u f))
-      (record { slot = λ cause. omega (arith, inside, same); plain = inl is.1; at_hand = inl hand })
+      (record { slot = λ cause. omega (arith, inside, same); plain = inl is.1; own = inl is.1; at_hand = inl hand })
 
   -- a weak reference is made
   made_leads : (at : Site) (arguments : List Value) (o : ℕ) (r q : Option ℕ) → IsHeld e.before.heap o → ((s : Kept) → IsUnder e s → FineSome s.heap r) → ((s : Kept) → IsUnder e s → FineSome s.heap q) → Leads e (goes (with_reference_made o r q (answering e at arguments [] (begins e))))

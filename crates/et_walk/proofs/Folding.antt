@@ -93,7 +93,7 @@ module _ (e : Moment) (ready : Ready e) where
       let same : length (object_at (make x).state.heap o).slots ≡ length (object_at d.state.heap o).slots = (both.alike o held).slots in
       let lt : i < length (object_at (make x).state.heap o).slots = omega (arith, room) in
       record {
-        comes = WritesSlot Level o i (Ref (next_object x)) (make x) one.makes.comes (λ u. record { held = there; slot = inr lt; value = one.first_held }) (record { slot = λ cause. lt; plain = inl tt; at_hand = inr new });
+        comes = WritesSlot Level o i (Ref (next_object x)) (make x) one.makes.comes (λ u. record { held = there; slot = inr lt; value = one.first_held }) (record { slot = λ cause. lt; plain = inl tt; own = inl tt; at_hand = inr new });
         steady = steady_then d.state.heap (make x).state.heap (slot_written e o i (Ref (next_object x)) (make x)).state.heap both (slot_steady e o i (Ref (next_object x)) (make x) there);
         longer = omega (arith, up, more, same_length);
       }
@@ -161,5 +161,5 @@ module _ (e : Moment) (ready : Ready e) where
       let count : length (object_at y.state.heap error).slots ≡ (class_at e.program class).info.slots =
       ap (λ (x : Option ObjectState). length (found x).slots) (newest_at x.state.heap (new_object class 0 (class_at e.program class).info.slots)) ∙ length-replicate (class_at e.program class).info.slots Unset in
       let written : Comes e AllObjects ph z =
-      WritesSlot ph error 1 (Ref o) y made (λ u. record { held = new; slot = inl second_own; value = u.stays o held }) (record { slot = λ cause. omega (arith, cause, count); plain = inl tt; at_hand = inr (let same = ap length none in omega (arith, same)) }) in
+      WritesSlot ph error 1 (Ref o) y made (λ u. record { held = new; slot = inl second_own; value = u.stays o held }) (record { slot = λ cause. omega (arith, cause, count); plain = inl tt; own = inl tt; at_hand = inr (let same = ap length none in omega (arith, same)) }) in
       record { phase = ph; comes = Pends ph error z written (λ u. (slot_steady e error 1 (Ref o) y new).stays error new) }

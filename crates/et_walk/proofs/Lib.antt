@@ -9,7 +9,7 @@ mod MonitorFrames
 pub mod Records
 mod Recording
 mod Given
-mod Held
+pub mod Held
 mod AtHand
 mod Small
 mod Constants
@@ -18,8 +18,8 @@ mod Ways
 mod Rows
 mod Arguments
 mod Calls
-mod Turns
-mod Folding
+pub mod Turns
+pub mod Folding
 mod Writing
 mod NamedWords
 mod SaysNames

@@ -57,7 +57,8 @@ use Rattle.std.proofs.Common.{List, None, Ok, Option, Some, [], arith, false, in
 use Rattle.std.proofs.lemmas.Bool.{and_parts, false≢true, ltb-true, not-true}
 use Rattle.std.specs.Int.{w32, w64}
 use Rattle.std.specs.List.{list_all}
-use Rattle.std.specs.Prelude.{int_le, int_lt, nat_le, nat_lt, negsuc, not, pos, unwrap_or, ℤ}
+use Rattle.et_event.specs.Errors.{class_called}
+use Rattle.std.specs.Prelude.{codes, ◌≤◌, int_le, int_lt, nat_le, nat_lt, negsuc, not, pos, unwrap_or, ℤ}
 use Rattle.et_event.specs.declared.rows.HeapRow.TheVariants as row
 use Rattle.et_event.specs.declared.errors.GuestError.TheVariants as errors
 use Rattle.et_event.specs.declared.rows.Number.TheVariants as number
@@ -131,11 +132,12 @@ module _ (e : Moment) (ready : Ready e) (framed : IsFramed e) where
   done_leads : (at : Site) (ops : List Value) → Fines e.before.heap ops → Leads e (goes (leaving_values e at ops (begins e)))
   done_leads at ops f = Plainly Level (leaving_values e at ops (begins e)) (leaving_comes at ops (begins e) Begins (λ u. f))
 
-  written_leads : (at : Site) (o i : ℕ) (v : Value) (ops : List Value) → IsHeld e.before.heap o → i < length (object_at e.before.heap o).slots → IsReference v ⊎ (number_of_value (slot_of (object_at e.before.heap o) i) ≡ 0) → Fine e.before.heap v → Fines e.before.heap ops
+  written_leads : (at : Site) (o i : ℕ) (v : Value) (ops : List Value) → IsHeld e.before.heap o → i < length (object_at e.before.heap o).slots → IsReference v ⊎ (number_of_value (slot_of (object_at e.before.heap o) i) ≡ 0)
+      → IsReference v ⊎ (is_subclass e.program (object_at e.before.heap o).class (class_called e.program (codes "java/lang/Throwable")) ≡ true → 2 ≤ i) → Fine e.before.heap v → Fines e.before.heap ops
       → IsReached (graph_of e.before) o → Leads e (goes (slot_written e o i v (leaving_values e at ops (begins e))))
-  written_leads at o i v ops held inside plain fine f hand =
+  written_leads at o i v ops held inside plain own fine f hand =
       let x : Doing = leaving_values e at ops (begins e) in
-      Plainly Level (slot_written e o i v x) (WritesSlot Level o i v x (leaving_comes at ops (begins e) Begins (λ u. f)) (λ u. record { held = held; slot = inr inside; value = fine }) (record { slot = λ cause. inside; plain = plain; at_hand = inl hand }))
+      Plainly Level (slot_written e o i v x) (WritesSlot Level o i v x (leaving_comes at ops (begins e) Begins (λ u. f)) (λ u. record { held = held; slot = inr inside; value = fine }) (record { slot = λ cause. inside; plain = plain; own = own; at_hand = inl hand }))
 
   -- WHAT IS NAMED
 
@@ -220,6 +222,16 @@ module _ (e : Moment) (ready : Ready e) (framed : IsFramed e) where
       → HasField e.program (object_at e.before.heap o) k
   field_there o k there within instance below_it = (object_sound o there).fields k within instance below_it
 
+  -- no field stands in the slots of a Throwable that the machine itself uses, and no array is one
+  field_free : (o k : ℕ) → IsHeld e.before.heap o → k < length e.program.fields → is_static_at e.program k ≡ false → is_subclass e.program (object_at e.before.heap o).class (field_at e.program k).class ≡ true
+      → is_subclass e.program (object_at e.before.heap o).class (class_called e.program (codes "java/lang/Throwable")) ≡ true → 2 ≤ (field_at e.program k).slot
+  field_free o k there within instance below_it below =
+      (ready.may.machine_slots.throwables (object_at e.before.heap o).class (object_sound o there).class below).free k (record { within = within; instance = instance; below = below_it })
+
+  no_throwable : (kind : Elements) (o : ℕ) → IsHeld e.before.heap o → are_elements kind (element_of_array e o) ≡ true → is_subclass e.program (object_at e.before.heap o).class (class_called e.program (codes "java/lang/Throwable")) ≡ true → ⊥
+  no_throwable kind o there are below =
+      no_elements kind (subst (λ (x : Element). are_elements kind x ≡ true) (ready.may.machine_slots.throwables (object_at e.before.heap o).class (object_sound o there).class below).bare are)
+
   put_field_leads : (at : Site) → Leads e (put_field e at)
   put_field_leads at =
       field_leads (site_member at) _ (λ m named.
@@ -232,7 +244,8 @@ module _ (e : Moment) (ready : Ready e) (framed : IsFramed e) where
       let has : HasField e.program (object_at e.before.heap o) k = field_there o k there is.within (not-true (is_static_at e.program k) instance) below_it in
       let old : Value = slot_of (object_at e.before.heap o) (field_at e.program k).slot in
       written_leads at o (field_at e.program k).slot (narrowed m.descriptor v) below there has.slot
-      (narrowed_plain m.descriptor v old (reference_or_none (operand_kind (field_at e.program k).descriptor) v old (field_typed m k v named is typed) has.value)) (fine_narrowed e.before.heap m.descriptor v (fine_grows (near e) e.before.heap v (near_held e) fine)) (far below g) (near_reached e o hand)))))))
+      (narrowed_plain m.descriptor v old (reference_or_none (operand_kind (field_at e.program k).descriptor) v old (field_typed m k v named is typed) has.value))
+      (inr (λ below_throwable. field_free o k there is.within (not-true (is_static_at e.program k) instance) below_it below_throwable)) (fine_narrowed e.before.heap m.descriptor v (fine_grows (near e) e.before.heap v (near_held e) fine)) (far below g) (near_reached e o hand)))))))
 
   -- ELEMENTS
 
@@ -275,7 +288,7 @@ module _ (e : Moment) (ready : Ready e) (framed : IsFramed e) where
       element_leads kind r i _ held (λ o hand are inside.
       let there : IsHeld e.before.heap o = near_held e o hand in
       unless_thrown e ready (begins e) errors.ArrayStoreException (passes_element e v (element_of_array e o)) (goes (slot_written e o (natural_of i) (kept_element kind v) (leaving_values e at below (begins e)))) Begins
-      (λ passed. written_leads at o (natural_of i) (kept_element kind v) below there inside (element_plain kind o (natural_of i) v there are inside typed) (kept_fine e.before.heap kind v (fine_grows (near e) e.before.heap v (near_held e) fine)) (far below j) (near_reached e o hand))))))
+      (λ passed. written_leads at o (natural_of i) (kept_element kind v) below there inside (element_plain kind o (natural_of i) v there are inside typed) (inr (λ below_throwable. absurd (no_throwable kind o there are below_throwable))) (kept_fine e.before.heap kind v (fine_grows (near e) e.before.heap v (near_held e) fine)) (far below j) (near_reached e o hand))))))
 
   array_length_leads : (at : Site) → Leads e (array_length e at)
   array_length_leads at =

@@ -4,7 +4,7 @@ use Rattle.et_base.specs.declared.value.Value.TheVariants.{Null, Ref, Unset}
 use Rattle.et_code.specs.Bodies.{Body}
 use Rattle.et_event.specs.BuiltIns.{with_first_taken, with_queue_of, with_referent_of, with_thread_for}
 use Rattle.et_event.specs.Calls.{frame_returned}
-use Rattle.et_event.specs.Errors.{error_class}
+use Rattle.et_event.specs.Errors.{class_called, error_class}
 use Rattle.et_event.specs.Frames.{frame_entered, receiver_of}
 use Rattle.et_event.specs.Heap.{arrays_made, leaving_values}
 use Rattle.et_event.specs.Initialization.{initializer_frame, with_state}
@@ -31,7 +31,8 @@ use Rattle.et_state.specs.declared.records.Record.TheVariants.{Enter, Unwind}
 use Rattle.et_walk.specs.Holding.{monitor_row_at}
 use Rattle.et_walk.specs.Values.{Fine, FineFrame, FineSome, Fines, Grows}
 use Rattle.et_walk.specs.Writes.{HasCause, IsAtHand}
-use Rattle.std.specs.Prelude.{IfSome, List, None, Option, false, length, slice_index_or, true, unwrap_or, ℕ, ◌+◌, ◌<◌, ◌∷◌, ◌≡◌, ◌⊎◌}
+use Rattle.et_program.specs.Members.{is_subclass}
+use Rattle.std.specs.Prelude.{codes, ◌≤◌, IfSome, List, None, Option, false, length, slice_index_or, true, unwrap_or, ℕ, ◌+◌, ◌<◌, ◌∷◌, ◌≡◌, ◌⊎◌}
 use Rattle.et_state.specs.Outcome as outcome
 
 -- what an event may have made so far: the strings of constants alone, or other objects too
@@ -104,6 +105,8 @@ IsReference other = ⊥
 pub record MayTell (e : Moment) (h : Objects) (o i : ℕ) (v : Value) : Type 0 where
   pub slot : HasCause e.program → i < length (object_at h o).slots
   pub plain : IsReference v ⊎ (number_of_value (slot_of (object_at h o) i) ≡ 0)
+  -- .. and it is none of the two slots of a Throwable that the machine itself uses
+  pub own : IsReference v ⊎ (is_subclass e.program (object_at h o).class (class_called e.program (codes "java/lang/Throwable")) ≡ true → 2 ≤ i)
   pub at_hand : IsAtHand e.before o
 
 -- the type of a static
