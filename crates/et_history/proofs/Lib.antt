@@ -1,7 +1,7 @@
 pub mod Unended
 mod Agreeing
 mod Alike
-mod Wholes
+pub mod Wholes
 mod Freed
 pub mod Reporting
 mod Deaths
@@ -19,7 +19,7 @@ mod Allocations
 mod LinkedSizes
 mod Causes
 pub mod Ends
-mod Runs
+pub mod Runs
 pub mod PoolWords
 pub mod ArrayWords
 pub mod ShortNames
