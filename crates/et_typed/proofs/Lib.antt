@@ -1,27 +1,27 @@
-pub mod Taking
-pub mod Arguments
-pub mod Plain
-pub mod Paired
-pub mod Turned
-pub mod Own
-pub mod Ways
-pub mod Here
-pub mod Moves
-pub mod Held
-pub mod HeapRows
-pub mod Starting
-pub mod CallRows
-pub mod Answering
-pub mod ReturnRows
-pub mod Switching
-pub mod PlainRows
-pub mod Standing
-pub mod Entering
-pub mod Unwinding
-pub mod Turns
-pub mod Others
-pub mod Typing
-pub mod Runs
-pub mod LinkedFields
-pub mod RunTyping
-pub mod Verified
+mod Taking
+mod Arguments
+mod Plain
+mod Paired
+mod Turned
+mod Own
+mod Ways
+mod Here
+mod Moves
+mod Held
+mod HeapRows
+mod Starting
+mod CallRows
+mod Answering
+mod ReturnRows
+mod Switching
+mod PlainRows
+mod Standing
+mod Entering
+mod Unwinding
+mod Turns
+mod Others
+mod Typing
+mod Runs
+mod LinkedFields
+mod RunTyping
+mod Verified
