@@ -15,6 +15,7 @@ use Rattle.et_state.specs.Outcome.{Outcome, state_after, records_of, end_by}
 use Rattle.et_io.specs.Sink.{with_more}
 use Rattle.et_binary.specs.Formats.{trace_bytes}
 use Rattle.et_loop.specs.Visits.{visits_at, visits_below, allowed_visits, visits_to, visits_of_turn, turn_visits, due_visits, made_after, IsCut}
+use Rattle.et_loop.specs.Said.{said_at, said_to, IsCutSaid}
 use Rattle.et_state.specs.History.{Rule, Setting, is_flush_point, is_gone, deaths_to, flush_lines, picked_turn, outcome_step, ending, settled, left_by, records_at, IsLastEvent, last_reached, deaths, mentions_to, lines_to, trace_of, how_of}
 
 -- two graphs of which a history tells the same
@@ -211,6 +212,16 @@ module _ {S T : Type 0} (reached : Graph → ℕ → Bool) (given : Setting S) (
           let goes : GoesTo e = goes_back e last.first in
           record { ends = ends_alike e goes ∙ last.ends; first = goes }
 
+      -- what is printed, by rules that say the same of matching states
+      module _ (said : S → ℕ → List ℕ) (said' : T → ℕ → List ℕ) (same : (e : ℕ) (s : S) (t : T) (thread : ℕ) → M e s t → said s thread ≡ said' t thread) where
+        pub said_alike : (e : ℕ) → GoesTo e → said_to reached given said start made e ≡ said_to reached other said' start' made e
+        unfolding said_to
+        said_alike zero goes = refl
+        said_alike (suc e) goes =
+            let m = settled_alike e _ _ (all_alike e (before e goes)) in
+            ap (λ x. x ++ said_at reached given said start made (suc e)) (said_alike e (before e goes))
+            ∙ ap (λ x. said_to reached other said' start' made e ++ x) (same e _ _ (picked_turn given (suc e) (settled reached given e (one e))) m ∙ ap (λ k. said' (settled reached other e (two e)) k) (same_turn e _ _ m))
+
       -- visits of objects, by what a flush of each state may make
       module _ (visits : (ℕ → Bool) → S → ℕ) (visits' : (ℕ → Bool) → T → ℕ) (same : (e : ℕ) (s : S) (t : T) → M e s t → visits (reached (given.rule.graph s)) s ≡ visits' (reached (rule.graph t)) t) where
         now_alike : (e : ℕ) → GoesTo e → visits_at reached given visits start made e ≡ visits_at reached other visits' start' made e
@@ -246,6 +257,20 @@ module _ {S T : Type 0} (reached : Graph → ℕ → Bool) (given : Setting S) (
             goes = goes_there e c.goes;
             rest = c.rest;
             taken = c.taken ∙ ap (λ (ls : List TraceLine). with_more before (trace_bytes given.format ls ++ c.rest)) (lines_alike e c.goes);
+            visits = subst (λ (n : ℕ). new ≤ old + n) (turns_alike e c.goes) c.visits;
+          },
+        )
+
+        -- .. by what was printed
+        pub cut_said_alike : (said : S → ℕ → List ℕ) (said' : T → ℕ → List ℕ) → ((e : ℕ) (s : S) (t : T) (thread : ℕ) → M e s t → said s thread ≡ said' t thread) → (before after : Option (List ℕ)) (old new : ℕ)
+            → IsCutSaid reached given said start made visits before after old new → IsCutSaid reached other said' start' made visits' before after old new
+        cut_said_alike said said' tells before after old new (inl same) = inl same
+        cut_said_alike said said' tells before after old new (inr (e, c)) = inr (
+          e,
+          record {
+            goes = goes_there e c.goes;
+            rest = c.rest;
+            taken = c.taken ∙ ap (λ (bytes : List ℕ). with_more before (bytes ++ c.rest)) (said_alike said said' tells e c.goes);
             visits = subst (λ (n : ℕ). new ≤ old + n) (turns_alike e c.goes) c.visits;
           },
         )

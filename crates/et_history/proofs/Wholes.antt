@@ -40,13 +40,14 @@ use Rattle.et_loop.specs.declared.options.Ran.{Ran}
 use Rattle.et_loop.specs.Traced.{WritesTrace, WritesPrefix}
 use Rattle.et_binary.specs.Formats.{trace_bytes}
 use Rattle.et_loop.specs.Kept.{IsKeptPart}
+use Rattle.et_loop.specs.Said.{said_to, Says, SaysPrefix, IsCutSaid}
 use Rattle.et_loop.specs.Visits.{allowed_visits, IsCut}
 use Rattle.et_history.specs.Settings.{IsSoundRun, flush_visits_of, setting, unended_threads, flushed_of}
 use Rattle.et_walk.specs.Changing.{KeepsMonitors}
 use Rattle.et_history.specs.Histories.{picked, state_at, settled_at, HistoryGoesOn, WholeGoesOn, moment_at, whole_picked, whole_at, whole_settled_at}
 use Rattle.et_history.specs.Same.{TellsTheSame, IsHere}
-use Rattle.et_history.specs.Whole.{beside, cleared, whole_event, whole_flushed, whole_setting, whole_start, whole_visits_of}
-use Rattle.et_history.proofs.Alike.{is_open, settled_alike, LooksAlike, LeadsAlike, IsTurn, Mirrors, all_alike, looks_alike, last_alike, deaths_alike, lines_alike, trace_alike, last_there, last_back, goes_back, allowed_alike, cut_alike}
+use Rattle.et_history.specs.Whole.{beside, cleared, whole_event, whole_flushed, whole_setting, whole_start, whole_visits_of, whole_said}
+use Rattle.et_history.proofs.Alike.{is_open, settled_alike, LooksAlike, LeadsAlike, IsTurn, Mirrors, all_alike, looks_alike, last_alike, deaths_alike, lines_alike, trace_alike, last_there, last_back, goes_back, allowed_alike, cut_alike, said_alike, cut_said_alike}
 use Rattle.et_walk.proofs.MonitorRows.{event_keeps_monitors}
 use Rattle.et_history.proofs.Unended.{unended_thread}
 
@@ -356,6 +357,15 @@ module _ (reached : Graph → ℕ → Bool) (p : Linked) (options : Options) (pi
   pub same_cut : (before after : Option (List ℕ)) (old new : ℕ) → IsCut reached given flush_visits_of (start p) (start_records p) before after old new → IsCut reached (whole_picked p options pick) whole_visits_of (whole_start p) (start_records p) before after old new
   same_cut before after old new c = cut_alike reached given whole M mirrors (start p) (whole_start p) (start_records p) first flush_visits_of whole_visits_of same_visits before after old new c
 
+  -- what is printed, by a rule that reads what the machine keeps
+  pub same_said : (said : Kept → ℕ → List ℕ) (e : ℕ) → ((k : ℕ) → k < e → HistoryGoesOn reached p options pick k)
+      → said_to reached given said (start p) (start_records p) e ≡ said_to reached (whole_picked p options pick) (whole_said said) (whole_start p) (start_records p) e
+  same_said said e goes = said_alike reached given whole M mirrors (start p) (whole_start p) (start_records p) first said (whole_said said) (λ k s t thread m. ap (λ x. said x thread) (sym m.0)) e goes
+
+  pub same_cut_said : (said : Kept → ℕ → List ℕ) (before after : Option (List ℕ)) (old new : ℕ) → IsCutSaid reached given said (start p) (start_records p) flush_visits_of before after old new
+      → IsCutSaid reached (whole_picked p options pick) (whole_said said) (whole_start p) (start_records p) whole_visits_of before after old new
+  same_cut_said said before after old new c = cut_said_alike reached given whole M mirrors (start p) (whole_start p) (start_records p) first flush_visits_of whole_visits_of same_visits said (whole_said said) (λ k s t thread m. ap (λ x. said x thread) (sym m.0)) before after old new c
+
   -- the states that match, before and after the flush that may be due
   pub all_match : (e : ℕ) → ((k : ℕ) → k < e → HistoryGoesOn reached p options pick k) → M e (state_at reached p options pick e) (whole_at reached p options pick e)
   all_match e goes = all_alike reached given whole M mirrors (start p) (whole_start p) (start_records p) first e goes
@@ -432,3 +442,24 @@ cut reached p options before after old new decides run are c = same_cut reached 
 pub ends : (reached : Graph → ℕ → Bool) (p : Linked) (options : Options) (pick : ℕ → ℕ) (e : ℕ) (end : End) → Decides reached → IsSoundRun p (start p) → AreOptions options
     → IsLastEvent reached (picked p options pick) (start p) (start_records p) e end ↔ IsLastEvent reached (whole_picked p options pick) (whole_start p) (start_records p) e end
 ends reached p options pick e end decides run are = (ends_there reached p options pick decides run are e end, ends_back reached p options pick decides run are e end)
+
+-- what is printed
+pub says : (reached : Graph → ℕ → Bool) (p : Linked) (options : Options) (said : Kept → ℕ → List ℕ) (ran : Ran) (before after : Option (List ℕ)) → Decides reached → IsSoundRun p (start p) → AreOptions options
+    → Says reached (setting p options) said (start p) (start_records p) ran before after → Says reached (whole_setting p options) (whole_said said) (whole_start p) (start_records p) ran before after
+says reached p options said ran before after decides run are w =
+    let pick : ℕ → ℕ = pick_of options.schedule in
+    record {
+      ends = ends_there reached p options pick decides run are ran.event ran.end w.ends;
+      taken = w.taken ∙ ap (λ bytes. with_more before bytes) (same_said reached p options pick decides run are said ran.event w.ends.first);
+    }
+
+pub says_prefix : (reached : Graph → ℕ → Bool) (p : Linked) (options : Options) (said : Kept → ℕ → List ℕ) (before after : Option (List ℕ)) → Decides reached → IsSoundRun p (start p) → AreOptions options
+    → SaysPrefix reached (setting p options) said (start p) (start_records p) before after → SaysPrefix reached (whole_setting p options) (whole_said said) (whole_start p) (start_records p) before after
+says_prefix reached p options said before after decides run are w e end last =
+    let pick : ℕ → ℕ = pick_of options.schedule in
+    let back = ends_back reached p options pick decides run are e end last in
+    subst (λ bytes. TakesPrefix before after bytes) (same_said reached p options pick decides run are said e back.first) (w e end back)
+
+pub says_cut : (reached : Graph → ℕ → Bool) (p : Linked) (options : Options) (said : Kept → ℕ → List ℕ) (before after : Option (List ℕ)) (old new : ℕ) → Decides reached → IsSoundRun p (start p) → AreOptions options
+    → IsCutSaid reached (setting p options) said (start p) (start_records p) flush_visits_of before after old new → IsCutSaid reached (whole_setting p options) (whole_said said) (whole_start p) (start_records p) whole_visits_of before after old new
+says_cut reached p options said before after old new decides run are c = same_cut_said reached p options (pick_of options.schedule) decides run are said before after old new c

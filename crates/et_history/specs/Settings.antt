@@ -1,6 +1,6 @@
 -- THE HISTORY OF A PROGRAM OVER WHAT A MACHINE KEEPS: what its events lead to, which threads take turns, what is reached, and
 -- what a flush leaves.
-use Rattle.std.specs.Prelude.{ℕ, ◌+◌, ◌*◌, Bool, List, length}
+use Rattle.std.specs.Prelude.{ℕ, ◌+◌, ◌*◌, Bool, List, [], length}
 use Rattle.et_heap.specs.Objects.{held_count}
 use Rattle.et_state.specs.Enqueuing.{flushed_heap}
 use Rattle.et_state.specs.Threads as threads
@@ -27,6 +27,10 @@ flushed_of here s = record { heap = flushed_heap here s.heap; guest = s.guest }
 
 abbrev pub setting : Linked → Options → Setting Kept
 setting p options = setting_of (event p) unended_threads graph_of flushed_of (names_of_program p) options
+
+-- WHAT THE EVENT OF A THREAD PRINTS: nothing, since no built-in method prints
+abbrev pub said_by : Linked → Kept → ℕ → List ℕ
+said_by p s t = []
 
 -- the program may be run, and the state is one of its sound ones
 pub record IsSoundRun (p : Linked) (s : Kept) : Type 0 where

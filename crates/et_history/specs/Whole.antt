@@ -49,3 +49,7 @@ whole_start p = record { kept = start p; reported = [] }
 -- how many visits of objects a flush makes at most: as many as over what a machine keeps
 abbrev pub whole_visits_of : (ℕ → Bool) → State → ℕ
 whole_visits_of here s = flush_visits_of here s.kept
+
+-- what an event prints, by what the machine keeps
+abbrev pub whole_said : (Kept → ℕ → List ℕ) → State → ℕ → List ℕ
+whole_said said s t = said s.kept t

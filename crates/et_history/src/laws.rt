@@ -10,18 +10,20 @@ ghost use Rattle.et_state.specs.History.{IsLastEvent};
 ghost use Rattle.et_state.specs.Options.{AreOptions};
 ghost use Rattle.et_state.specs.Roots.{graph};
 ghost use Rattle.et_state.specs.Start.{start};
+ghost use Rattle.et_state.specs.State.{Kept};
 ghost use Rattle.et_event.specs.Event.{event};
 ghost use Rattle.et_event.specs.Monitors.{Lock};
 ghost use Rattle.et_event.specs.Start.{start_records};
 ghost use Rattle.et_loop.specs.declared.options.Ran.{Ran};
 ghost use Rattle.et_loop.specs.Traced.{WritesTrace, WritesPrefix};
 ghost use Rattle.et_loop.specs.Visits.{allowed_visits, IsCut};
+ghost use Rattle.et_loop.specs.Said.{Says, SaysPrefix, IsCutSaid};
 ghost use Rattle.et_sound.specs.WellFormed.{IsThere};
 ghost use Rattle.et_history.specs.Histories.{picked, state_at, HistoryGoesOn, whole_picked, whole_at, WholeGoesOn, times_held};
 ghost use Rattle.et_walk.specs.Holding.{monitor_in};
 ghost use Rattle.et_history.specs.Same.{IsHere, IsReportedAs, TellsTheSame};
 ghost use Rattle.et_history.specs.Settings.{IsSoundRun, flush_visits_of, setting};
-ghost use Rattle.et_history.specs.Whole.{whole_setting, whole_start, whole_visits_of};
+ghost use Rattle.et_history.specs.Whole.{whole_setting, whole_start, whole_visits_of, whole_said};
 
 /// In every state of every history of a program that may be run, over every list of picks, no two threads hold one monitor:
 /// neither that of an object, also of one that was reported dead, nor that of a class. And what has a monitor and was not
@@ -119,4 +121,27 @@ pub fn traces_are_the_same()
         before after old new →
         IsCut reached (whole_setting p options) whole_visits_of (whole_start p) (start_records p)
         before after old new }
+{}
+
+/// What the history of what a machine keeps prints, by a rule that reads that, the other history prints.
+pub fn histories_say_the_same()
+    ensures said { (reached : Graph → ℕ → Bool) (p : Linked) (options : Options)
+        (said : Kept → ℕ → List ℕ) (ran : Ran) (before after : Option (List ℕ)) →
+        Decides reached → IsSoundRun p (start p) → AreOptions options →
+        Says reached (setting p options) said (start p) (start_records p) ran before after →
+        Says reached (whole_setting p options) (whole_said said) (whole_start p) (start_records p)
+        ran before after }
+    ensures prefix { (reached : Graph → ℕ → Bool) (p : Linked) (options : Options)
+        (said : Kept → ℕ → List ℕ) (before after : Option (List ℕ)) →
+        Decides reached → IsSoundRun p (start p) → AreOptions options →
+        SaysPrefix reached (setting p options) said (start p) (start_records p) before after →
+        SaysPrefix reached (whole_setting p options) (whole_said said) (whole_start p)
+        (start_records p) before after }
+    ensures cut { (reached : Graph → ℕ → Bool) (p : Linked) (options : Options)
+        (said : Kept → ℕ → List ℕ) (before after : Option (List ℕ)) (old new : ℕ) →
+        Decides reached → IsSoundRun p (start p) → AreOptions options →
+        IsCutSaid reached (setting p options) said (start p) (start_records p) flush_visits_of
+        before after old new →
+        IsCutSaid reached (whole_setting p options) (whole_said said) (whole_start p)
+        (start_records p) whole_visits_of before after old new }
 {}

@@ -13,22 +13,23 @@ use Rattle.et_loop.specs.Kept.{Settles}
 use Rattle.et_loop.specs.declared.tracer.Progress.{Progress}
 use Rattle.et_loop.specs.Quiet.{GoQuietly, IsStep, IsBrokenStep, IsTurn, IsBrokenTurn}
 use Rattle.et_loop.specs.Run.{time_noted, due_lines, due_state, last_lines, Goes, StopsAt, Turns}
+use Rattle.et_loop.specs.Said.{SaysStep}
 use Rattle.et_loop.specs.Stamping.{Stamped, Passes}
 use Rattle.et_loop.specs.Visits.{due_visits, last_visits, visits_of_event, visits_of_turn}
 use Rattle.et_loop.proofs.Counts.{settled_as_many, settled_state, turn_flushed, turn_allowed, last_turn_allowed}
 use Rattle.et_loop.proofs.TurnSteps.{goes_on, goes_out, still_listed}
 
 -- no flush is due before the first of quiet events
-before_first : {S : Type 0} (given : Setting S) (k e : ℕ) (s s' : S) (old new : List ℕ) → GoQuietly given (suc k) e s s' old new → is_flush_point given.interval e ≡ false
+before_first : {S : Type 0} (given : Setting S) (said : S → ℕ → List ℕ) (k e : ℕ) (s s' : S) (old new : List ℕ) → GoQuietly given said (suc k) e s s' old new → is_flush_point given.interval e ≡ false
 unfolding GoQuietly
-before_first given zero e s s' old new h = let at : e + 0 ≡ e = omega arith in subst (λ (n : ℕ). is_flush_point given.interval n ≡ false) at h.3.between
-before_first given (suc k) e s s' old new h = before_first given k e s h.0 old h.1 h.2
+before_first given said zero e s s' old new h = let at : e + 0 ≡ e = omega arith in subst (λ (n : ℕ). is_flush_point given.interval n ≡ false) at h.3.between
+before_first given said (suc k) e s s' old new h = before_first given said k e s h.0 old h.1 h.2
 
 -- the flush alone was made
-pub broken_at_flush : {S : Type 0} (given : Setting S) (flush_visits : (ℕ → Bool) → S → ℕ) (e : ℕ) (s : S) (due : Bool) (old : List ℕ) (before after : ℕ) → due ≡ is_flush_point given.interval e
-    → ((here : ℕ → Bool) → ((o : ℕ) → IsTrue (here o) ↔ IsReached (given.rule.graph s) o) → after ≤ before + due_visits due (flush_visits here s)) → IsBrokenTurn given e s old before after flush_visits
+pub broken_at_flush : {S : Type 0} (given : Setting S) (said : S → ℕ → List ℕ) (flush_visits : (ℕ → Bool) → S → ℕ) (e : ℕ) (s : S) (due : Bool) (old : List ℕ) (before after : ℕ) → due ≡ is_flush_point given.interval e
+    → ((here : ℕ → Bool) → ((o : ℕ) → IsTrue (here o) ↔ IsReached (given.rule.graph s) o) → after ≤ before + due_visits due (flush_visits here s)) → IsBrokenTurn given said e s old before after flush_visits
 unfolding GoQuietly
-broken_at_flush given flush_visits e s due old before after at most = record {
+broken_at_flush given said flush_visits e s due old before after at most = record {
   quiet = 0;
   from = s;
   between = old;
@@ -42,7 +43,7 @@ broken_at_flush given flush_visits e s due old before after at most = record {
   };
 }
 
-module _ {S : Type 0} (given : Setting S) (flush_visits : (ℕ → Bool) → S → ℕ) (e : ℕ) (s s₁ : S) (due : Bool) (old : List ℕ) (bytes bytes₁ : List ℕ) (before flushed : ℕ)
+module _ {S : Type 0} (given : Setting S) (said : S → ℕ → List ℕ) (flush_visits : (ℕ → Bool) → S → ℕ) (e : ℕ) (s s₁ : S) (due : Bool) (old : List ℕ) (bytes bytes₁ : List ℕ) (before flushed : ℕ)
     (at : due ≡ is_flush_point given.interval e)
     (state : (here : ℕ → Bool) → ((o : ℕ) → IsTrue (here o) ↔ IsReached (given.rule.graph s) o) → s₁ ≡ due_state due (given.rule.flushed here s) s)
     (graphs : Settles due (given.rule.graph s) (given.rule.graph s₁))
@@ -51,7 +52,7 @@ module _ {S : Type 0} (given : Setting S) (flush_visits : (ℕ → Bool) → S �
   -- the turn of the last event begins with `from`, after event e + k
   pub record IsFlushed (k : ℕ) (mid : S) (between : List ℕ) : Type 0 where
     pub from : S
-    pub events : GoQuietly given k e s from old between
+    pub events : GoQuietly given said k e s from old between
     pub at_there : due ≡ is_flush_point given.interval (e + k)
     pub state_there : (here : ℕ → Bool) → ((o : ℕ) → IsTrue (here o) ↔ IsReached (given.rule.graph from) o) → mid ≡ due_state due (given.rule.flushed here from) from
     pub graphs_there : Settles due (given.rule.graph from) (given.rule.graph mid)
@@ -88,10 +89,10 @@ module _ {S : Type 0} (given : Setting S) (flush_visits : (ℕ → Bool) → S �
         let none : due_visits due (flush_visits (is_reached (given.rule.graph s)) s) ≡ 0 = ap (λ (b : Bool). due_visits b (flush_visits (is_reached (given.rule.graph s)) s)) no in
         omega (arith, f, none)
 
-    nothing_flushed : (k : ℕ) (mid : S) (between : List ℕ) → GoQuietly given k e s₁ mid old between → is_flush_point given.interval (e + k) ≡ false → IsFlushed k mid between
+    nothing_flushed : (k : ℕ) (mid : S) (between : List ℕ) → GoQuietly given said k e s₁ mid old between → is_flush_point given.interval (e + k) ≡ false → IsFlushed k mid between
     nothing_flushed k mid between go later = record {
       from = mid;
-      events = subst (λ (x : S). GoQuietly given k e x mid old between) same_state go;
+      events = subst (λ (x : S). GoQuietly given said k e x mid old between) same_state go;
       at_there = no ∙ sym later;
       state_there = λ here h. sym (ap (λ (b : Bool). due_state b (given.rule.flushed here mid) mid) no);
       graphs_there = subst (λ (b : Bool). Settles b (given.rule.graph mid) (given.rule.graph mid)) (sym no) refl;
@@ -100,10 +101,10 @@ module _ {S : Type 0} (given : Setting S) (flush_visits : (ℕ → Bool) → S �
     }
 
   -- .. and some
-  pub flushed_then : (k : ℕ) (mid : S) (between : List ℕ) → GoQuietly given k e s₁ mid old between → (0 < k → is_flush_point given.interval (e + k) ≡ false) → IsFlushed k mid between
+  pub flushed_then : (k : ℕ) (mid : S) (between : List ℕ) → GoQuietly given said k e s₁ mid old between → (0 < k → is_flush_point given.interval (e + k) ≡ false) → IsFlushed k mid between
   unfolding GoQuietly
   flushed_then zero mid between go later = flushed_at_once mid between go.0 go.1
-  flushed_then (suc k) mid between go later = nothing_flushed (at ∙ before_first given k e s₁ mid old between go) (suc k) mid between go (later (omega arith))
+  flushed_then (suc k) mid between go later = nothing_flushed (at ∙ before_first given said k e s₁ mid old between go) (suc k) mid between go (later (omega arith))
 
   -- A TURN: the flush and what follows it
   module _ (quiet : ℕ) (mid : S) (between : List ℕ) (f : IsFlushed quiet mid between) (after : ℕ) (few_after : after ≤ flushed + 8 * quiet + visits_of_event given (e + quiet) mid) where
@@ -115,12 +116,12 @@ module _ {S : Type 0} (given : Setting S) (flush_visits : (ℕ → Bool) → S �
         turn_allowed reached given flush_visits (e + quiet) f.from due (before + 8 * quiet) (flushed + 8 * quiet) f.at_there (f.few_there (reached (given.rule.graph f.from)) (decides (given.rule.graph f.from))) mid (is_settled reached decides) after few_after
         (settled_as_many due (given.rule.graph f.from) (given.rule.graph mid) f.graphs_there)
 
-    broken_here : IsBrokenTurn given e s old before after flush_visits
+    broken_here : IsBrokenTurn given said e s old before after flush_visits
     broken_here = record { quiet = quiet; from = f.from; between = between; comes = record { events = f.events; visits = turn_visits } }
 
     -- the last event is done
-    module _ (m : Mentions) (s' : S) (m' : Mentions) (out' new : List ℕ) (goes : Goes given (e + quiet) mid m s' m' bytes₁ out' None) (stamped : Stamped None (e + quiet) (given.rule.graph mid) (given.rule.graph s') between new) where
-      going : IsTurn given e s old before after flush_visits m s' m' bytes out' new (record { quiet = quiet; end = None })
+    module _ (m : Mentions) (s' : S) (m' : Mentions) (out' spoken new : List ℕ) (goes : Goes given (e + quiet) mid m s' m' bytes₁ out' None) (says : SaysStep given said (e + quiet) mid spoken None) (stamped : Stamped None (e + quiet) (given.rule.graph mid) (given.rule.graph s') between new) where
+      going : IsTurn given said e s old before after flush_visits m s' m' bytes out' spoken new (record { quiet = quiet; end = None })
       going = record {
         from = f.from;
         between = between;
@@ -129,11 +130,12 @@ module _ {S : Type 0} (given : Setting S) (flush_visits : (ℕ → Bool) → S �
             let g = given.rule.graph f.from in
             let deaths : List (ℕ × ℕ) = deaths_to (reached g) (is_gone g) (time_noted (reached g) last (e + quiet)) g.made in
             goes_on reached given (e + quiet) f.from mid s' last m m' due bytes bytes₁ out' f.at_there (f.lines_there deaths (λ _. listed)) (f.state_there (reached g) (decides g)) goes;
+        says = λ reached decides. subst (λ (x : S). SaysStep given said (e + quiet) x spoken None) (is_settled reached decides) says;
         passes = (given.rule.graph mid, subst (λ (b : Bool). Settles b (given.rule.graph f.from) (given.rule.graph mid)) f.at_there f.graphs_there, stamped);
       }
 
     -- .. or the history ends
-    module _ (m : Mentions) (s' : S) (m' : Mentions) (out' : List ℕ) (stamps : List ℕ) (end : End) (goes : Goes given (e + quiet) mid m s' m' bytes₁ out' (Some end)) (kept : stamps ≡ between) (out : List ℕ) (now : ℕ)
+    module _ (m : Mentions) (s' : S) (m' : Mentions) (out' spoken : List ℕ) (stamps : List ℕ) (end : End) (goes : Goes given (e + quiet) mid m s' m' bytes₁ out' (Some end)) (says : SaysStep given said (e + quiet) mid spoken (Some end)) (kept : stamps ≡ between) (out : List ℕ) (now : ℕ)
         (last_few : (here : ℕ → Bool) → (due ≡ false → (o : ℕ) → IsTrue (here o) ↔ IsReached (given.rule.graph s') o) → now ≤ after + last_visits due (flush_visits here s')) where
       same_end : (reached : Graph → ℕ → Bool) → Decides reached → due ≡ false → s' ≡ f.from
       same_end reached decides none =
@@ -147,12 +149,12 @@ module _ {S : Type 0} (given : Setting S) (flush_visits : (ℕ → Bool) → S �
           (last_few here (λ no. subst (λ (x : S). (o : ℕ) → IsTrue (here o) ↔ IsReached (given.rule.graph x) o) (sym (same_end reached decides no)) (decides (given.rule.graph f.from))))
           (λ no. ap (λ (x : S). flush_visits here x) (same_end reached decides no))
 
-      broken_at_end : IsBrokenTurn given e s old before now flush_visits
+      broken_at_end : IsBrokenTurn given said e s old before now flush_visits
       broken_at_end = record { quiet = quiet; from = f.from; between = between; comes = record { events = f.events; visits = end_visits } }
 
       ending_so : (s'' : S) (m'' : Mentions) (new : List ℕ)
           → ((deaths : List (ℕ × ℕ)) → (due ≡ false → AreListed (given.rule.graph s') (slice_index stamps) deaths) → out ≡ out' ++ lines_written_in given.format (last_lines due end (e + quiet) (flush_lines (e + quiet) deaths)))
-          → IsTurn given e s old before now flush_visits m s'' m'' bytes out new (record { quiet = quiet; end = Some end })
+          → IsTurn given said e s old before now flush_visits m s'' m'' bytes out spoken new (record { quiet = quiet; end = Some end })
       ending_so s'' m'' new last = record {
         from = f.from;
         between = between;
@@ -165,19 +167,21 @@ module _ {S : Type 0} (given : Setting S) (flush_visits : (ℕ → Bool) → S �
             let still = still_listed reached given (e + quiet) f.from mid s' noted m m' due bytes bytes₁ out' f.at_there lines_now state_now end between stamps goes kept listed in
             let o = goes_out reached given (e + quiet) f.from mid s' noted m m' due bytes bytes₁ out' f.at_there lines_now state_now end out goes (last deaths still) in
             record { ends = o.ends; lines = o.lines };
+        says = λ reached decides. says;
         passes = tt;
       }
 
   -- what a step gives for the turn
-  pub broken_turn : (after : ℕ) → IsBrokenStep given e s₁ old flushed after → IsBrokenTurn given e s old before after flush_visits
+  pub broken_turn : (after : ℕ) → IsBrokenStep given said e s₁ old flushed after → IsBrokenTurn given said e s old before after flush_visits
   broken_turn after h = broken_here h.quiet h.mid h.between (flushed_then h.quiet h.mid h.between h.comes.events h.comes.later) after h.comes.visits
 
-  module _ (m : Mentions) (s' : S) (m' : Mentions) (out' new : List ℕ) (after quiet : ℕ) (end : Option End) (h : IsStep given e s₁ old flushed after m s' m' bytes₁ out' new (record { quiet = quiet; end = end })) where
-    pub turn_goes : end ≡ None → IsTurn given e s old before after flush_visits m s' m' bytes out' new (record { quiet = quiet; end = end })
+  module _ (m : Mentions) (s' : S) (m' : Mentions) (out' spoken new : List ℕ) (after quiet : ℕ) (end : Option End) (h : IsStep given said e s₁ old flushed after m s' m' bytes₁ out' spoken new (record { quiet = quiet; end = end })) where
+    pub turn_goes : end ≡ None → IsTurn given said e s old before after flush_visits m s' m' bytes out' spoken new (record { quiet = quiet; end = end })
     turn_goes is =
-        subst (λ (x : Option End). IsTurn given e s old before after flush_visits m s' m' bytes out' new (record { quiet = quiet; end = x })) (sym is)
-        (going quiet h.mid h.between (flushed_then quiet h.mid h.between h.comes.events h.comes.later) after h.comes.visits m s' m' out' new
+        subst (λ (x : Option End). IsTurn given said e s old before after flush_visits m s' m' bytes out' spoken new (record { quiet = quiet; end = x })) (sym is)
+        (going quiet h.mid h.between (flushed_then quiet h.mid h.between h.comes.events h.comes.later) after h.comes.visits m s' m' out' spoken new
         (subst (λ (x : Option End). Goes given (e + quiet) h.mid m s' m' bytes₁ out' x) is h.goes)
+        (subst (λ (x : Option End). SaysStep given said (e + quiet) h.mid spoken x) is h.says)
         (subst (λ (x : Option End). Stamped x (e + quiet) (given.rule.graph h.mid) (given.rule.graph s') h.between new) is h.stamped))
 
     module _ (over : End) (is : end ≡ Some over) (out : List ℕ) (now : ℕ)
@@ -185,15 +189,18 @@ module _ {S : Type 0} (given : Setting S) (flush_visits : (ℕ → Bool) → S �
       over_goes : Goes given (e + quiet) h.mid m s' m' bytes₁ out' (Some over)
       over_goes = subst (λ (x : Option End). Goes given (e + quiet) h.mid m s' m' bytes₁ out' x) is h.goes
 
+      over_says : SaysStep given said (e + quiet) h.mid spoken (Some over)
+      over_says = subst (λ (x : Option End). SaysStep given said (e + quiet) h.mid spoken x) is h.says
+
       over_stamped : new ≡ h.between
       over_stamped = subst (λ (x : Option End). Stamped x (e + quiet) (given.rule.graph h.mid) (given.rule.graph s') h.between new) is h.stamped
 
-      pub turn_broken : IsBrokenTurn given e s old before now flush_visits
-      turn_broken = broken_at_end quiet h.mid h.between (flushed_then quiet h.mid h.between h.comes.events h.comes.later) after h.comes.visits m s' m' out' new over over_goes over_stamped out now last_few
+      pub turn_broken : IsBrokenTurn given said e s old before now flush_visits
+      turn_broken = broken_at_end quiet h.mid h.between (flushed_then quiet h.mid h.between h.comes.events h.comes.later) after h.comes.visits m s' m' out' spoken new over over_goes over_says over_stamped out now last_few
 
       pub turn_ends : (s'' : S) (m'' : Mentions) (new'' : List ℕ)
           → ((deaths : List (ℕ × ℕ)) → (due ≡ false → AreListed (given.rule.graph s') (slice_index new) deaths) → out ≡ out' ++ lines_written_in given.format (last_lines due over (e + quiet) (flush_lines (e + quiet) deaths)))
-          → IsTurn given e s old before now flush_visits m s'' m'' bytes out new'' (record { quiet = quiet; end = end })
+          → IsTurn given said e s old before now flush_visits m s'' m'' bytes out spoken new'' (record { quiet = quiet; end = end })
       turn_ends s'' m'' new'' last =
-          subst (λ (x : Option End). IsTurn given e s old before now flush_visits m s'' m'' bytes out new'' (record { quiet = quiet; end = x })) (sym is)
-          (ending_so quiet h.mid h.between (flushed_then quiet h.mid h.between h.comes.events h.comes.later) after h.comes.visits m s' m' out' new over over_goes over_stamped out now last_few s'' m'' new'' last)
+          subst (λ (x : Option End). IsTurn given said e s old before now flush_visits m s'' m'' bytes out spoken new'' (record { quiet = quiet; end = x })) (sym is)
+          (ending_so quiet h.mid h.between (flushed_then quiet h.mid h.between h.comes.events h.comes.later) after h.comes.visits m s' m' out' spoken new over over_goes over_says over_stamped out now last_few s'' m'' new'' last)

@@ -17,3 +17,4 @@ pub mod Quiets
 pub mod Stretches
 pub mod Flushed
 pub mod Standing
+pub mod Talking

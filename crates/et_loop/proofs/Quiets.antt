@@ -21,6 +21,7 @@ use Rattle.et_binary.specs.Formats.{lines_written_in}
 use Rattle.et_loop.specs.Kept.{IsStepTo, Settles}
 use Rattle.et_loop.specs.Quiet.{event_at, IsQuiet, AreQuiet, GoesQuietly, GoQuietly, IsStep}
 use Rattle.et_loop.specs.Run.{end_after, StepsTo, StopsAt}
+use Rattle.et_loop.specs.Said.{SaysWhereDone, SaysStep}
 use Rattle.et_loop.specs.Stamping.{AreMade, StepsWhereDone}
 use Rattle.et_loop.specs.Told.{IsToldByStamps}
 use Rattle.et_loop.specs.Visits.{visits_of_event}
@@ -132,10 +133,19 @@ tick_done t (ends.IllTyped method pc) old new never after s = absurd (let e : So
 tick_done t ends.ObjectLimit old new never after s = absurd (let e : Some how.ObjectLimit ≡ None = after in cc)
 tick_done t (ends.Native method) old new never after s = absurd (never method refl)
 
+-- what it prints, where the event was that of this thread
+say_end : {S : Type 0} (given : Setting S) (said : S → ℕ → List ℕ) (e : ℕ) (s : S) (bytes : List ℕ) (thread : ℕ) (end : EventEnd) → ((method : ℕ) → end ≡ ends.Native method → ⊥) → SaysWhereDone end (said s (picked_turn given (suc e) s)) [] bytes
+    → SaysStep given said e s bytes (end_after thread end)
+say_end given said e s bytes thread ends.Done never says = says
+say_end given said e s bytes thread ends.Waited never says = says
+say_end given said e s bytes thread (ends.IllTyped method pc) never says = says
+say_end given said e s bytes thread ends.ObjectLimit never says = says
+say_end given said e s bytes thread (ends.Native method) never says = absurd (never method refl)
+
 -- THE EVENT OF THE THREAD AT A PLACE, which is the one that the history picks
-module _ {S : Type 0} (given : Setting S) (place e : ℕ) (s : S) (some : 0 < length (given.rule.unended s)) (within : e < given.limit) (turn : given.pick (suc e) % length (given.rule.unended s) ≡ place) where
+module _ {S : Type 0} (given : Setting S) (said : S → ℕ → List ℕ) (place e : ℕ) (s : S) (some : 0 < length (given.rule.unended s)) (within : e < given.limit) (turn : given.pick (suc e) % length (given.rule.unended s) ≡ place) where
   abbrev at_place : Outcome S
-  at_place = event_at given.rule.event given.rule.unended given.rule.graph place s
+  at_place = event_at given.rule.event said given.rule.unended given.rule.graph place s
 
   pub thread_is : slice_index (given.rule.unended s) place ≡ picked_turn given (suc e) s
   thread_is = ap (λ (k : ℕ). slice_index (given.rule.unended s) k) (sym turn)
@@ -158,12 +168,13 @@ module _ {S : Type 0} (given : Setting S) (place e : ℕ) (s : S) (some : 0 < le
   pub visits_are : (old new : ℕ) → new ≤ old + 8 + ((given.rule.graph (state_after s at_place)).made - (given.rule.graph s).made) → new ≤ old + visits_of_event given e s
   visits_are old new few = event_allowed given e s (slice_index (given.rule.unended s) place) old new not_over not_at_limit thread_is few
 
-  pub quiet_goes : (s' : S) (old new : List ℕ) → is_flush_point given.interval e ≡ false → IsQuiet given.rule.event given.rule.unended given.rule.graph place e s s' old new → GoesQuietly given e s s' old new
+  pub quiet_goes : (s' : S) (old new : List ℕ) → is_flush_point given.interval e ≡ false → IsQuiet given.rule.event said given.rule.unended given.rule.graph place e s s' old new → GoesQuietly given said e s s' old new
   quiet_goes s' old new between h = record {
     between = between;
     goes = ending_is None (none_by 0 (slice_index (given.rule.unended s) place) at_place h.done);
     state = h.state ∙ ap (λ (o : Outcome S). state_after s o) outcome_is;
     told = ap (λ (o : Outcome S). records_of o) (sym outcome_is) ∙ h.told;
+    unsaid = ap (λ (t : ℕ). said s t) (sym thread_is) ∙ h.unsaid;
     made = h.made;
     marks = h.marks;
   }
@@ -174,6 +185,11 @@ module _ {S : Type 0} (given : Setting S) (place e : ℕ) (s : S) (some : 0 < le
 
     how_is : (next : Option End) → end_after thread end ≡ next → ending given e s ≡ next
     how_is next after = ending_is next (answered.next ∙ (ap (λ (t : ℕ). end_after t end) (sym is) ∙ after))
+
+    pub last_says : (next : Option End) (bytes : List ℕ) → end_after thread end ≡ next → SaysWhereDone end (said s (slice_index (given.rule.unended s) place)) [] bytes → SaysStep given said e s bytes next
+    last_says next bytes after says =
+        subst (λ (x : Option End). SaysStep given said e s bytes x) after
+        (say_end given said e s bytes thread end (λ method native. is_native method end at_place s s' records native answers) (subst (λ (t : ℕ). SaysWhereDone end (said s t) [] bytes) thread_is says))
 
     pub last_goes : end_after thread end ≡ None → m' ≡ mentions_after given.names m records → out' ≡ out ++ lines_written_in given.format (lines_of given.names m records) → StepsTo given e s m s' m' out out'
     last_goes after mentions lines =
@@ -206,24 +222,26 @@ ending_limit given e s some at =
     ap (λ (b : Bool). if b then Some how.Finished else (if e == given.limit then Some how.EventLimit else end_by (picked_turn given (suc e) s) (outcome_step given (suc e) s))) on
     ∙ ap (λ (b : Bool). if b then Some how.EventLimit else end_by (picked_turn given (suc e) s) (outcome_step given (suc e) s)) over
 
-pub step_over : {S : Type 0} (given : Setting S) (e : ℕ) (s : S) (stamps : List ℕ) (visits : ℕ) (m : Mentions) (out : List ℕ) (over : End) → ending given e s ≡ Some over → IsStep given e s stamps visits visits m s m out out stamps (record { quiet = 0; end = Some over })
+pub step_over : {S : Type 0} (given : Setting S) (said : S → ℕ → List ℕ) (e : ℕ) (s : S) (stamps : List ℕ) (visits : ℕ) (m : Mentions) (out bytes : List ℕ) (over : End) → ending given e s ≡ Some over → bytes ≡ []
+    → IsStep given said e s stamps visits visits m s m out out bytes stamps (record { quiet = 0; end = Some over })
 unfolding GoQuietly
-step_over given e s stamps visits m out over is =
+step_over given said e s stamps visits m out bytes over is none =
     let now : e ≡ e + 0 = omega arith in
     record {
       mid = s;
       between = stamps;
       comes = record { events = (refl, refl); later = λ more. absurd (omega arith); visits = omega arith };
       goes = record { ends = subst (λ (n : ℕ). ending given n s ≡ Some over) now is; state = refl; mentions = refl; lines = refl };
+      says = none;
       stamped = refl;
     }
 
 -- SO MANY QUIET EVENTS
-module _ {S : Type 0} (given : Setting S) (place most count e : ℕ) (s : S) (old : List ℕ) (counted : length (given.rule.unended s) ≡ count) (some : 0 < count)
+module _ {S : Type 0} (given : Setting S) (said : S → ℕ → List ℕ) (place most count e : ℕ) (s : S) (old : List ℕ) (counted : length (given.rule.unended s) ≡ count) (some : 0 < count)
     (turn : (k : ℕ) → k < most → given.pick (e + 1 + k) % count ≡ place) (limit : e + most ≤ given.limit) (flushes : 1 < most → (k : ℕ) → k < most → is_flush_point given.interval (e + k) ≡ false) where
   -- what they lead to
   pub record IsAfter (k : ℕ) (s' : S) (new : List ℕ) : Type 0 where
-    pub go : GoQuietly given k e s s' old new
+    pub go : GoQuietly given said k e s s' old new
     pub same_count : length (given.rule.unended s') ≡ count
     pub same_turn : slice_index (given.rule.unended s') place ≡ slice_index (given.rule.unended s) place
     pub made : (given.rule.graph s').made ≡ (given.rule.graph s).made
@@ -235,7 +253,7 @@ module _ {S : Type 0} (given : Setting S) (place most count e : ℕ) (s : S) (ol
       let next : e + 1 + k ≡ suc (e + k) = omega arith in
       subst (λ (n : ℕ). given.pick (suc (e + k)) % n ≡ place) (sym same) (subst (λ (n : ℕ). given.pick n % count ≡ place) next (turn k lt))
 
-  pub quiet_after : (k : ℕ) (s' : S) (new : List ℕ) → k < most → AreQuiet given.rule.event given.rule.unended given.rule.graph place k e s s' old new → IsAfter k s' new
+  pub quiet_after : (k : ℕ) (s' : S) (new : List ℕ) → k < most → AreQuiet given.rule.event said given.rule.unended given.rule.graph place k e s s' old new → IsAfter k s' new
   unfolding AreQuiet GoQuietly
   quiet_after zero s' new lt h = record {
     go = h;
@@ -249,9 +267,9 @@ module _ {S : Type 0} (given : Setting S) (place most count e : ℕ) (s : S) (ol
       let mid : S = h.0 in
       let between : List ℕ = h.1 in
       let before : IsAfter k mid between = quiet_after k mid between (omega arith) h.2 in
-      let last : IsQuiet given.rule.event given.rule.unended given.rule.graph place (e + k) mid s' between new = h.3 in
+      let last : IsQuiet given.rule.event said given.rule.unended given.rule.graph place (e + k) mid s' between new = h.3 in
       let held : 0 < length (given.rule.unended mid) = omega (arith, before.same_count) in
-      let is = quiet_goes given place (e + k) mid held (omega (arith, limit)) (turn_at k mid (omega arith) before.same_count) s' between new (flushes (omega arith) k (omega arith)) last in
+      let is = quiet_goes given said place (e + k) mid held (omega (arith, limit)) (turn_at k mid (omega arith) before.same_count) s' between new (flushes (omega arith) k (omega arith)) last in
       record {
         go = (mid, between, before.go, is);
         same_count = last.count ∙ before.same_count;

@@ -1,4 +1,5 @@
--- What holds of a run after an event: how far it came, for what its stamps stand, and how many visits it made. Quiet events keep it.
+-- What holds of a run after an event: how far it came, for what its stamps stand, how many visits it made, and what
+-- was printed. Quiet events keep it.
 use Rattle.std.proofs.Common.{◌≡◌, ℕ, zero, suc, ◌+◌, ◌*◌, ◌≤◌, ◌++◌, Bool, false, if◌then◌else◌, List, [], Option, None, refl, sym, ◌∙◌, ap, subst, arith}
 use Rattle.std.specs.Prelude.{slice_index}
 use Rattle.et_graph.specs.Graph.{Graph, Decides}
@@ -15,10 +16,11 @@ use Rattle.et_loop.specs.Visits.{due_visits}
 use Rattle.et_loop.proofs.Counts.{AreSoFar, more_so_far}
 use Rattle.et_loop.proofs.Joins.{graphs, next_runs, next_told}
 use Rattle.et_loop.proofs.RunLemmas.{Running, more_nothing, noted_before}
+use Rattle.et_loop.proofs.Talking.{Talking, talking_quiet}
 
 -- a quiet event is a turn without lines
-quiet_turn : {S : Type 0} (reached : Graph → ℕ → Bool) (given : Setting S) (e : ℕ) (s s' : S) (last : ℕ → ℕ) (m : Mentions) (old new : List ℕ) → GoesQuietly given e s s' old new → Advances reached given e s last m s' (time_noted (reached (given.rule.graph s)) last e) m [] []
-quiet_turn {S = S} reached given e s s' last m old new q =
+quiet_turn : {S : Type 0} (reached : Graph → ℕ → Bool) (given : Setting S) (said : S → ℕ → List ℕ) (e : ℕ) (s s' : S) (last : ℕ → ℕ) (m : Mentions) (old new : List ℕ) → GoesQuietly given said e s s' old new → Advances reached given e s last m s' (time_noted (reached (given.rule.graph s)) last e) m [] []
+quiet_turn {S = S} reached given said e s s' last m old new q =
     let here : s ≡ settled reached given e s = sym (ap (λ (b : Bool). if b then given.rule.flushed (reached (given.rule.graph s)) s else s) q.between) in
     let told : records_of (outcome_step given (suc e) (settled reached given e s)) ≡ [] = subst (λ (x : S). records_of (outcome_step given (suc e) x) ≡ []) here q.told in
     record {
@@ -31,25 +33,27 @@ quiet_turn {S = S} reached given e s s' last m old new q =
           ∙ ap (λ (rs : List Record). lines_written_in given.format (lines_of given.names m rs)) told);
     }
 
-module _ {S : Type 0} (reached : Graph → ℕ → Bool) (decides : Decides reached) (given : Setting S) (flush_visits : (ℕ → Bool) → S → ℕ) (start : S) (made : List Record) (m : Mentions) (before now : Option (List ℕ)) (first : ℕ) where
+module _ {S : Type 0} (reached : Graph → ℕ → Bool) (decides : Decides reached) (given : Setting S) (said : S → ℕ → List ℕ) (flush_visits : (ℕ → Bool) → S → ℕ) (start : S) (made : List Record) (m : Mentions) (before now heard hears : Option (List ℕ)) (first : ℕ) where
   pub record Stands (e : ℕ) (s : S) (stamps : List ℕ) (visits : ℕ) : Type 0 where
     pub runs : Running reached given start made e s (λ o. noted_before reached given start made o e) m before now
     pub told : IsToldByStamps (graphs reached decides given start made) e (given.rule.graph s) (slice_index stamps)
     pub so_far : AreSoFar reached given flush_visits start made e s first visits
+    pub talks : Talking reached given said start made e heard hears
 
-  stands_next : (e : ℕ) (s s' : S) (old new : List ℕ) (visits : ℕ) → Stands e s old visits → GoesQuietly given e s s' old new → Stands (suc e) s' new (visits + 8)
+  stands_next : (e : ℕ) (s s' : S) (old new : List ℕ) (visits : ℕ) → Stands e s old visits → GoesQuietly given said e s s' old new → Stands (suc e) s' new (visits + 8)
   stands_next e s s' old new visits h q =
       let last = λ (o : ℕ). noted_before reached given start made o e in
-      let turn = quiet_turn reached given e s s' last m old new q in
+      let turn = quiet_turn reached given said e s s' last m old new q in
       let passes : Passes false e (given.rule.graph s) (given.rule.graph s') (slice_index old) (slice_index new) = (given.rule.graph s, refl, q.marks) in
       let none : due_visits (is_flush_point given.interval e) (flush_visits (reached (given.rule.graph s)) s) ≡ 0 = ap (λ (b : Bool). due_visits b (flush_visits (reached (given.rule.graph s)) s)) q.between in
       record {
         runs = next_runs reached decides given start made e s m before now h.runs (slice_index old) h.told None s' (time_noted (reached (given.rule.graph s)) last e) m [] [] refl refl turn (suc e) now refl (more_nothing now);
         told = next_told reached decides given start made e s m before now h.runs (slice_index old) h.told None s' (time_noted (reached (given.rule.graph s)) last e) m [] [] refl refl turn (suc e) now refl (more_nothing now) false (slice_index new) passes;
         so_far = more_so_far reached given flush_visits start made e s first visits h.so_far h.runs.state s' (visits + 8) (omega (arith, q.made)) (omega (arith, none, q.made)) (suc e) refl;
+        talks = talking_quiet reached given said start made e heard hears h.talks h.runs.first s s' old new h.runs.state q;
       }
 
-  pub stands_on : (k e : ℕ) (s s' : S) (old new : List ℕ) (visits : ℕ) → Stands e s old visits → GoQuietly given k e s s' old new → Stands (e + k) s' new (visits + 8 * k)
+  pub stands_on : (k e : ℕ) (s s' : S) (old new : List ℕ) (visits : ℕ) → Stands e s old visits → GoQuietly given said k e s s' old new → Stands (e + k) s' new (visits + 8 * k)
   unfolding GoQuietly
   stands_on zero e s s' old new visits h go =
       let at : e ≡ e + 0 = omega arith in

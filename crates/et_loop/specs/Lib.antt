@@ -8,3 +8,4 @@ pub mod Told
 pub mod Visits
 pub mod Pace
 pub mod Quiet
+pub mod Said

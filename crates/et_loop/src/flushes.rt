@@ -77,6 +77,7 @@ fn report<G: Guest, L: Ledger>(
     ensures numbering { OnOk result (tracer.new.numbering ≡ tracer.old.numbering) }
     ensures next_flush { OnOk result (tracer.new.next_flush ≡ tracer.old.next_flush) }
     ensures rota { OnOk result (tracer.new.rota ≡ tracer.old.rota) }
+    ensures output { OnOk result (tracer.new.output ≡ tracer.old.output) }
 {
     machine.flush(code, &tracer.stamps, &mut tracer.room, visits)?;
     write_deaths(
@@ -122,6 +123,7 @@ pub fn settle<G: Guest, L: Ledger>(
     ensures numbering { OnOk result (tracer.new.numbering ≡ tracer.old.numbering) }
     ensures next_flush { OnOk result (tracer.new.next_flush ≡ tracer.old.next_flush) }
     ensures rota { OnOk result (tracer.new.rota ≡ tracer.old.rota) }
+    ensures output { OnOk result (tracer.new.output ≡ tracer.old.output) }
 {
     if due {
         report(code, e, machine, tracer, visits)?;
@@ -150,6 +152,7 @@ pub fn conclude<G: Guest, L: Ledger>(
         OnOk result (tracer.new.buffer.items
         ≡ tracer.old.buffer.items
         ++ lines_written_in tracer.old.format (last_lines due end.now e (flush_lines e deaths))) }
+    ensures output { OnOk result (tracer.new.output ≡ tracer.old.output) }
 {
     if !due {
         report(code, e, machine, tracer, visits)?;

@@ -10,10 +10,11 @@ ghost use Rattle.et_graph.specs.Cleared.{IsClearedAndTied};
 ghost use Rattle.et_loop.specs.Quiet.{IsStretch, IsBrokenOff};
 ghost use Rattle.et_loop.specs.Stamping.{AreMade, HasStamps};
 
+use crate::output::Output;
 use crate::program::Program;
 use et_base::{NoMemory, ObjectId, Steps, ThreadId};
 use et_graph::{Death, Stamps};
-use et_state::{EventEnd, Lines};
+use et_state::EventEnd;
 use std::alloc::Global;
 use std::sync::ledger::Ledger;
 
@@ -47,6 +48,9 @@ pub trait Guest {
 
     /// What an event of a thread leads to.
     ghost event_of: { Self.Code → State → ℕ → Outcome State };
+
+    /// What the event of a thread prints, where it is done.
+    ghost said_of: { Self.Code → State → ℕ → List ℕ };
 
     /// The threads that have not ended, in order of start.
     ghost unended_of: { State → List ℕ };
@@ -130,16 +134,17 @@ pub trait Guest {
         ensures clock { OnOk result (clock_of (state self.new) ≡ clock_of (state self.old)) }
         ensures sound { OnOk result (is_sound code.now (state self.new)) };
 
-    /// Does events of the thread at a place among those that have not ended: any number of quiet ones, which have no records and
-    /// make no object, begin no thread and end none; and then one more, whatever it is. What the quiet ones lost is stamped; what
-    /// the last one lost and made is not yet. Whatever it answers, it visits eight objects at most for each, and one for each
-    /// that the last one makes. After `NoMemory`, which may come in any of them, the machine may only be dropped.
+    /// Does events of the thread at a place among those that have not ended: any number of quiet ones, which have no records,
+    /// print nothing, make no object, begin no thread and end none; and then one more, whatever it is. What the quiet ones lost
+    /// is stamped; what the last one lost and made is not yet. Whatever it answers, it visits eight objects at most for each,
+    /// and one for each that the last one makes. After `NoMemory`, which may come in any of them, the machine may only be
+    /// dropped.
     fn events<L: Ledger>(
         &mut self,
         alloc: Global,
         code: &Self::Code,
         slice: TimeSlice,
-        out: &mut Lines,
+        out: &mut Output,
         stamps: &mut Stamps,
         visits: &mut Steps<L>,
     ) -> Result<Stretch, NoMemory>
@@ -149,15 +154,17 @@ pub trait Guest {
         requires place { slice.place < length (unended_of (state self.old)) }
         requires made { AreMade (graph_of (state self.old)) }
         requires stamps { HasStamps (graph_of (state self.old)) stamps.old }
-        requires empty { out.old ≡ [] }
-        ensures stretch { IfOk result (λ stretch. IsStretch (event_of code.now) unended_of graph_of
-            slice.place slice.events (clock_of (state self.old)) (state self.old) stamps.old
-            stamps.new visits.old visits.new (state self.new) out.new (lost_of self.new) stretch) }
-        ensures broken { OnErr result (IsBrokenOff (event_of code.now) unended_of graph_of
-            slice.place slice.events (clock_of (state self.old)) (state self.old) stamps.old
-            stamps.new visits.old visits.new) }
+        requires empty { out.old.records ≡ [] }
+        requires unsaid { out.old.said.items ≡ [] }
+        ensures stretch { IfOk result (λ stretch. IsStretch (event_of code.now) (said_of code.now)
+            unended_of graph_of slice.place slice.events (clock_of (state self.old))
+            (state self.old) stamps.old stamps.new visits.old visits.new (state self.new)
+            out.new.records out.new.said.items (lost_of self.new) stretch) }
+        ensures broken { OnErr result (IsBrokenOff (event_of code.now) (said_of code.now)
+            unended_of graph_of slice.place slice.events (clock_of (state self.old))
+            (state self.old) stamps.old stamps.new visits.old visits.new) }
         ensures sound { OnOk result (is_sound code.now (state self.new)) }
         ensures clock { IfOk result (λ stretch. TicksWhereDone stretch.end
             (clock_of (state self.old) + stretch.quiet) (clock_of (state self.new))) }
-        ensures named { OnOk result (All (IsNamed (Self.Code.names code.now)) out.new) };
+        ensures named { OnOk result (All (IsNamed (Self.Code.names code.now)) out.new.records) };
 }

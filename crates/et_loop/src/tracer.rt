@@ -18,6 +18,7 @@ use crate::guest::Guest;
 use crate::marks::restamp;
 use crate::naming::Numbering;
 use crate::next_flush::NextFlush;
+use crate::output::Output;
 use crate::program::Program;
 use crate::schedule::Rota;
 use crate::slices::next_slice;
@@ -41,8 +42,8 @@ pub struct Tracer<R: Drop> {
     pub numbering: Numbering,
     /// The format of the trace.
     pub format: Format,
-    /// The records of the newest event. The list is emptied before each event, and keeps its room.
-    pub records: Lines,
+    /// What the newest event put out. It is emptied before each turn, and keeps its room.
+    pub output: Output,
     /// Lines that are to be put.
     pub buffer: Vec<u8>,
     /// When the next flush is due.
@@ -81,7 +82,7 @@ fn tell<G: Guest>(
     machine: &G,
     tracer: &mut Tracer<G::Room>,
 ) -> Result<(), NoMemory>
-    requires named { All (IsNamed (G.Code.names code.now)) tracer.old.records }
+    requires named { All (IsNamed (G.Code.names code.now)) tracer.old.output.records }
     requires classes { HasClasses (G.Code.names code.now) tracer.old.numbering }
     requires clock { e < 2 ^ 40 }
     requires more { before ≤ (G.graph_of (G.state machine.now)).made }
@@ -90,10 +91,10 @@ fn tell<G: Guest>(
     requires stamps { before < length tracer.old.stamps }
     requires room { G.has_places tracer.old.room before }
     ensures mentions { OnOk result (tracer.new.numbering ≡ mentions_after (G.Code.names code.now)
-        tracer.old.numbering tracer.old.records) }
+        tracer.old.numbering tracer.old.output.records) }
     ensures lines { OnOk result (tracer.new.buffer.items
         ≡ tracer.old.buffer.items ++ lines_written_in format (lines_of (G.Code.names code.now)
-        tracer.old.numbering tracer.old.records)) }
+        tracer.old.numbering tracer.old.output.records)) }
     ensures classes { OnOk result (HasClasses (G.Code.names code.now) tracer.new.numbering) }
     ensures stamps { OnOk result (Restamps e before (G.graph_of (G.state machine.now)).made
         (G.lost_of machine.now) (slice_index tracer.old.stamps) (slice_index tracer.new.stamps)) }
@@ -104,10 +105,14 @@ fn tell<G: Guest>(
     ensures format { tracer.new.format ≡ tracer.old.format }
     ensures next_flush { tracer.new.next_flush ≡ tracer.old.next_flush }
     ensures rota { tracer.new.rota ≡ tracer.old.rota }
+    ensures output { tracer.new.output ≡ tracer.old.output }
 {
-    tracer
-        .numbering
-        .write_records(format, code, tracer.records.records(), &mut tracer.buffer)?;
+    tracer.numbering.write_records(
+        format,
+        code,
+        tracer.output.records.records(),
+        &mut tracer.buffer,
+    )?;
     restamp(machine, e, before, &mut tracer.stamps, &mut tracer.room)
 }
 
@@ -135,13 +140,13 @@ fn step<G: Guest, L: Ledger>(
     requires next_flush { IsNextFlush options.now.interval (e + 1) tracer.old.next_flush.event }
     requires rota { IsRota options.now.schedule e tracer.old.rota }
     ensures step { IfOk result (λ progress. IsStep (setting_of (G.event_of code.now) G.unended_of
-        G.graph_of G.flushed_of (G.Code.names code.now) options.now) e (G.state machine.old)
-        tracer.old.stamps visits.old visits.new tracer.old.numbering (G.state machine.new)
-        tracer.new.numbering tracer.old.buffer.items tracer.new.buffer.items tracer.new.stamps
-        progress) }
+        G.graph_of G.flushed_of (G.Code.names code.now) options.now) (G.said_of code.now)
+        e (G.state machine.old) tracer.old.stamps visits.old visits.new tracer.old.numbering
+        (G.state machine.new) tracer.new.numbering tracer.old.buffer.items tracer.new.buffer.items
+        tracer.new.output.said.items tracer.new.stamps progress) }
     ensures broken { OnErr result (IsBrokenStep (setting_of (G.event_of code.now) G.unended_of
-        G.graph_of G.flushed_of (G.Code.names code.now) options.now) e (G.state machine.old)
-        tracer.old.stamps visits.old visits.new) }
+        G.graph_of G.flushed_of (G.Code.names code.now) options.now) (G.said_of code.now)
+        e (G.state machine.old) tracer.old.stamps visits.old visits.new) }
     ensures stamps { OnOk result (HasStamps (G.graph_of (G.state machine.new)) tracer.new.stamps) }
     ensures room { OnOk result
         (G.has_places tracer.new.room (G.graph_of (G.state machine.new)).made) }
@@ -158,6 +163,7 @@ fn step<G: Guest, L: Ledger>(
     ensures rota { IfOk result (λ progress. IfNone progress.end
         (IsRota options.now.schedule (e + progress.quiet + 1) tracer.new.rota)) }
 {
+    tracer.output.clear();
     let count = machine.unended();
     if count == 0 {
         return Ok(Progress {
@@ -174,12 +180,11 @@ fn step<G: Guest, L: Ledger>(
     let slice = next_slice(options, e, due, count, &tracer.next_flush, &mut tracer.rota);
     let thread = machine.unended_at(slice.place);
     let before = machine.made();
-    tracer.records.clear();
     let stretch = machine.events(
         tracer.alloc,
         code,
         slice,
-        &mut tracer.records,
+        &mut tracer.output,
         &mut tracer.stamps,
         visits,
     )?;
@@ -239,7 +244,7 @@ impl<R: Drop> Tracer<R> {
             room,
             numbering,
             format,
-            records: Lines::begin(alloc),
+            output: Output::begin(alloc),
             buffer,
             next_flush: NextFlush::begin(options.interval),
             rota: Rota::begin(),
@@ -248,7 +253,7 @@ impl<R: Drop> Tracer<R> {
 }
 
 /// One turn of the run after event e: a flush comes where it is due, and then events are done at once, the last of which alone
-/// may have lines, or the history ends. After `NoMemory` too it made no more visits of objects than the turn may.
+/// may have lines or print, or the history ends. After `NoMemory` too it made no more visits of objects than the turn may.
 pub fn turn<G: Guest, L: Ledger>(
     code: &G::Code,
     options: &Options,
@@ -269,13 +274,13 @@ pub fn turn<G: Guest, L: Ledger>(
     requires next_flush { IsNextFlush options.now.interval e tracer.old.next_flush.event }
     requires rota { IsRota options.now.schedule e tracer.old.rota }
     ensures turn { IfOk result (λ progress. IsTurn (setting_of (G.event_of code.now) G.unended_of
-        G.graph_of G.flushed_of (G.Code.names code.now) options.now) e (G.state machine.old)
-        tracer.old.stamps visits.old visits.new G.flush_visits_of tracer.old.numbering
-        (G.state machine.new) tracer.new.numbering tracer.old.buffer.items tracer.new.buffer.items
-        tracer.new.stamps progress) }
+        G.graph_of G.flushed_of (G.Code.names code.now) options.now) (G.said_of code.now)
+        e (G.state machine.old) tracer.old.stamps visits.old visits.new G.flush_visits_of
+        tracer.old.numbering (G.state machine.new) tracer.new.numbering tracer.old.buffer.items
+        tracer.new.buffer.items tracer.new.output.said.items tracer.new.stamps progress) }
     ensures broken { OnErr result (IsBrokenTurn (setting_of (G.event_of code.now) G.unended_of
-        G.graph_of G.flushed_of (G.Code.names code.now) options.now) e (G.state machine.old)
-        tracer.old.stamps visits.old visits.new G.flush_visits_of) }
+        G.graph_of G.flushed_of (G.Code.names code.now) options.now) (G.said_of code.now)
+        e (G.state machine.old) tracer.old.stamps visits.old visits.new G.flush_visits_of) }
     ensures stamps { IfOk result (λ progress. IfNone progress.end
         (HasStamps (G.graph_of (G.state machine.new)) tracer.new.stamps)) }
     ensures room { IfOk result (λ progress. IfNone progress.end

@@ -18,10 +18,11 @@ use Rattle.et_linked.specs.ClassNames.{HasClassName}
 use Rattle.et_event.specs.Runnable.{IsRunnable}
 use Rattle.et_event.specs.Start.{start_records}
 use Rattle.et_history.specs.Settings.{IsSoundRun, flush_visits_of, setting}
-use Rattle.et_history.specs.Whole.{whole_setting, whole_start, whole_visits_of}
+use Rattle.et_history.specs.Whole.{whole_setting, whole_start, whole_visits_of, whole_said}
 use Rattle.et_loop.specs.declared.options.Ran.{Ran}
 use Rattle.et_loop.specs.Traced.{WritesTrace, WritesPrefix}
 use Rattle.et_loop.specs.Visits.{allowed_visits, IsCut}
+use Rattle.et_loop.specs.Said.{Says, SaysPrefix, IsCutSaid}
 use Rattle.et_state.specs.History.{IsLastEvent}
 use Rattle.et_state.specs.State.{Kept}
 use Rattle.et_state.specs.declared.options.Options.{Options}
@@ -80,3 +81,23 @@ module _ (reached : Graph → ℕ → Bool) (p : Linked) (options : Options) (s 
       → OnErr r (IsCut reached (setting p options) flush_visits_of s made before after old new) → OnErr r (IsCut reached (whole_setting p options) whole_visits_of (whole_start p) (start_records p) before after old new)
   whole_cut before after old new (Ok ran) same h = h
   whole_cut before after old new (Err fault) same h = same (from_first (λ x rs. IsCut reached (setting p options) flush_visits_of x rs before after old new) h)
+
+  -- what it printed
+  module _ (said : Kept → ℕ → List ℕ) (before after : Option (List ℕ)) where
+    pub whole_says : (r : Result Ran RunFault)
+        → ((ran : Ran) → Says reached (setting p options) said (start p) (start_records p) ran before after → Says reached (whole_setting p options) (whole_said said) (whole_start p) (start_records p) ran before after)
+        → IfOk r (λ ran. Says reached (setting p options) said s made ran before after) → IfOk r (λ ran. Says reached (whole_setting p options) (whole_said said) (whole_start p) (start_records p) ran before after)
+    whole_says (Ok ran) there h = there ran (from_first (λ x rs. Says reached (setting p options) said x rs ran before after) h)
+    whole_says (Err fault) there h = h
+
+    pub whole_says_prefix : (r : Result Ran RunFault)
+        → (SaysPrefix reached (setting p options) said (start p) (start_records p) before after → SaysPrefix reached (whole_setting p options) (whole_said said) (whole_start p) (start_records p) before after)
+        → OnErr r (SaysPrefix reached (setting p options) said s made before after) → OnErr r (SaysPrefix reached (whole_setting p options) (whole_said said) (whole_start p) (start_records p) before after)
+    whole_says_prefix (Ok ran) there h = h
+    whole_says_prefix (Err fault) there h = there (from_first (λ x rs. SaysPrefix reached (setting p options) said x rs before after) h)
+
+    pub whole_says_cut : (old new : ℕ) (r : Result Ran RunFault)
+        → (IsCutSaid reached (setting p options) said (start p) (start_records p) flush_visits_of before after old new → IsCutSaid reached (whole_setting p options) (whole_said said) (whole_start p) (start_records p) whole_visits_of before after old new)
+        → OnErr r (IsCutSaid reached (setting p options) said s made flush_visits_of before after old new) → OnErr r (IsCutSaid reached (whole_setting p options) (whole_said said) (whole_start p) (start_records p) whole_visits_of before after old new)
+    whole_says_cut old new (Ok ran) there h = h
+    whole_says_cut old new (Err fault) there h = there (from_first (λ x rs. IsCutSaid reached (setting p options) said x rs flush_visits_of before after old new) h)

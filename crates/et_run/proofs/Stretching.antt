@@ -5,7 +5,7 @@ use Rattle.std.proofs.lemmas.Grind.{get_or_default_zero}
 use Rattle.et_graph.specs.Graph.{Graph}
 use Rattle.et_program.specs.Entries.{Linked}
 use Rattle.et_event.specs.Event.{event}
-use Rattle.et_history.specs.Settings.{IsSoundRun, unended_threads}
+use Rattle.et_history.specs.Settings.{IsSoundRun, said_by, unended_threads}
 use Rattle.et_state.specs.Roots.{graph_of}
 use Rattle.et_state.specs.State.{Kept}
 use Rattle.et_state.specs.declared.records.Record.{Record}
@@ -16,6 +16,7 @@ use Rattle.et_state.specs.Outcome.{Outcome, state_after}
 use Rattle.et_loop.specs.Kept.{IsStepTo}
 use Rattle.et_loop.specs.Quiet.{event_at, IsQuiet, AreQuiet, ComesTo, IsStretch, IsBrokenOff}
 use Rattle.et_loop.specs.Run.{end_after}
+use Rattle.et_loop.specs.Said.{SaysWhereDone}
 use Rattle.et_loop.specs.Stamping.{StepsWhereDone, StampsMark, AreMade, HasStamps}
 use Rattle.et_loop.proofs.Marking.{lost_made}
 use Rattle.et_loop.proofs.Quiets.{IsAnswered, answered_is, is_native, step_done, tick_done, reached_there, step_there}
@@ -26,29 +27,38 @@ quiet_marks : (e : ℕ) (g h : Graph) (lost old new : List ℕ) → h.made ≡ g
 quiet_marks e g h lost old new same step each others =
     (lost, step, record { fresh = λ o a b. absurd (omega (arith, same)); lost_before = λ o le c. each o c; kept = λ o side out. others o out })
 
+-- no event prints
+says_nothing : (end : EventEnd) (bytes : List ℕ) → bytes ≡ [] → SaysWhereDone end [] [] bytes
+says_nothing ends.Done bytes none = none
+says_nothing ends.Waited bytes none = none
+says_nothing (ends.IllTyped method pc) bytes none = none
+says_nothing ends.ObjectLimit bytes none = none
+says_nothing (ends.Native method) bytes none = none
+
 -- the clock went on by one
 pub ticks_where : (end : EventEnd) (old new : ℕ) → end_after 0 end ≡ None → ((method : ℕ) → end ≡ ends.Native method → ⊥) → TicksWhereDone end old new → new ≡ old + 1
 ticks_where end old new done native h = tick_done 0 end old new native done h
 
 module _ (p : Linked) (place most e : ℕ) (s : Kept) (old : List ℕ) (thread threads objects before : ℕ) where
   -- after so many quiet events
-  pub record IsGoing (quiet : ℕ) (mid : Kept) (new : List ℕ) (out : List Record) (visits : ℕ) : Type 0 where
+  pub record IsGoing (quiet : ℕ) (mid : Kept) (new : List ℕ) (out : List Record) (bytes : List ℕ) (visits : ℕ) : Type 0 where
     pub few : quiet < most
-    pub events : AreQuiet (event p) unended_threads graph_of place quiet e s mid old new
+    pub events : AreQuiet (event p) (said_by p) unended_threads graph_of place quiet e s mid old new
     pub clock : mid.guest.clock ≡ e + quiet
     pub sound : IsSoundRun p mid
     pub made : AreMade (graph_of mid)
     pub stamps : HasStamps (graph_of mid) new
     pub empty : out ≡ []
+    pub unsaid : bytes ≡ []
     pub same_objects : (graph_of mid).made ≡ objects
     pub same_threads : length (unended_threads mid) ≡ threads
     pub same_thread : slice_index (unended_threads mid) place ≡ thread
     pub allowed : visits ≤ before + 8 * quiet
 
-  pub going_first : (out : List Record) → 0 < most → s.guest.clock ≡ e → IsSoundRun p s → AreMade (graph_of s) → HasStamps (graph_of s) old → out ≡ [] → (graph_of s).made ≡ objects → length (unended_threads s) ≡ threads → slice_index (unended_threads s) place ≡ thread
-      → IsGoing 0 s old out before
+  pub going_first : (out : List Record) (bytes : List ℕ) → 0 < most → s.guest.clock ≡ e → IsSoundRun p s → AreMade (graph_of s) → HasStamps (graph_of s) old → out ≡ [] → bytes ≡ [] → (graph_of s).made ≡ objects → length (unended_threads s) ≡ threads → slice_index (unended_threads s) place ≡ thread
+      → IsGoing 0 s old out bytes before
   unfolding AreQuiet
-  going_first out some clock sound made stamps empty same_objects same_threads same_thread = record {
+  going_first out bytes some clock sound made stamps empty unsaid same_objects same_threads same_thread = record {
     few = some;
     events = (refl, refl);
     clock = omega (arith, clock);
@@ -56,13 +66,14 @@ module _ (p : Linked) (place most e : ℕ) (s : Kept) (old : List ℕ) (thread t
     made = made;
     stamps = stamps;
     empty = empty;
+    unsaid = unsaid;
     same_objects = same_objects;
     same_threads = same_threads;
     same_thread = same_thread;
     allowed = omega arith;
   }
 
-  module _ (quiet : ℕ) (mid : Kept) (new : List ℕ) (out : List Record) (visits : ℕ) (g : IsGoing quiet mid new out visits) where
+  module _ (quiet : ℕ) (mid : Kept) (new : List ℕ) (out : List Record) (bytes : List ℕ) (visits : ℕ) (g : IsGoing quiet mid new out bytes visits) where
     -- the thread has not ended
     pub is_there : place < threads → Contains (unended_threads mid) thread
     is_there lt =
@@ -71,26 +82,26 @@ module _ (p : Linked) (place most e : ℕ) (s : Kept) (old : List ℕ) (thread t
 
     -- ITS NEXT EVENT
     module _ (end : EventEnd) (s' : Kept) (out' : List Record) (lost : List ℕ) (after : ℕ) where
-      comes : after ≤ visits + 8 + ((graph_of (state_after mid (event p mid thread))).made - (graph_of mid).made) → ComesTo (event p) unended_threads graph_of place most e s old new before after quiet mid
+      comes : after ≤ visits + 8 + ((graph_of (state_after mid (event p mid thread))).made - (graph_of mid).made) → ComesTo (event p) (said_by p) unended_threads graph_of place most e s old new before after quiet mid
       comes few =
           let now : after ≤ visits + 8 + ((graph_of (state_after mid (event p mid (slice_index (unended_threads mid) place)))).made - (graph_of mid).made) =
           subst (λ (t : ℕ). after ≤ visits + 8 + ((graph_of (state_after mid (event p mid t))).made - (graph_of mid).made)) (sym g.same_thread) few in
           record { few = g.few; events = g.events; visits = omega (arith, now, g.allowed) }
 
-      pub going_broken : after ≤ visits + 8 + ((graph_of (state_after mid (event p mid thread))).made - (graph_of mid).made) → IsBrokenOff (event p) unended_threads graph_of place most e s old new before after
+      pub going_broken : after ≤ visits + 8 + ((graph_of (state_after mid (event p mid thread))).made - (graph_of mid).made) → IsBrokenOff (event p) (said_by p) unended_threads graph_of place most e s old new before after
       going_broken few = record { quiet = quiet; mid = mid; comes = comes few }
 
-      answers_now : Answers (event p mid thread) end mid s' out out' → Answers (event_at (event p) unended_threads graph_of place mid) end mid s' [] out'
+      answers_now : Answers (event p mid thread) end mid s' out out' → Answers (event_at (event p) (said_by p) unended_threads graph_of place mid) end mid s' [] out'
       answers_now h =
           subst (λ (t : ℕ). Answers (event p mid t) end mid s' [] out') (sym g.same_thread)
           (subst (λ (rs : List Record). Answers (event p mid thread) end mid s' rs out') g.empty h)
 
       pub going_ends : Answers (event p mid thread) end mid s' out out' → StepsWhereDone end (graph_of mid) (graph_of s') lost → after ≤ visits + 8 + ((graph_of (state_after mid (event p mid thread))).made - (graph_of mid).made)
-          → IsStretch (event p) unended_threads graph_of place most e s old new before after s' out' lost (record { quiet = quiet; end = end })
-      going_ends h step few = record { mid = mid; comes = comes few; answers = answers_now h; step = step }
+          → IsStretch (event p) (said_by p) unended_threads graph_of place most e s old new before after s' out' bytes lost (record { quiet = quiet; end = end })
+      going_ends h step few = record { mid = mid; comes = comes few; answers = answers_now h; says = says_nothing end bytes g.unsaid; step = step }
 
       pub going_native : Answers (event p mid thread) end mid s' out out' → (method : ℕ) → end ≡ ends.Native method → ⊥
-      going_native h method is = is_native method end (event_at (event p) unended_threads graph_of place mid) mid s' out' is (answers_now h)
+      going_native h method is = is_native method end (event_at (event p) (said_by p) unended_threads graph_of place mid) mid s' out' is (answers_now h)
 
       -- a quiet one
       module _ (h : Answers (event p mid thread) end mid s' out out') (step : StepsWhereDone end (graph_of mid) (graph_of s') lost) (done : end_after 0 end ≡ None) where
@@ -105,23 +116,24 @@ module _ (p : Linked) (place most e : ℕ) (s : Kept) (old : List ℕ) (thread t
 
         pub going_on : (new' : List ℕ) → quiet + 1 < most → out' ≡ [] → (graph_of s').made ≡ objects → length (unended_threads s') ≡ threads → slice_index (unended_threads s') place ≡ thread
             → length new' ≡ length new → ((o : ℕ) → Contains lost o → slice_index new' o ≡ e + quiet) → ((o : ℕ) → ¬ Contains lost o → slice_index new' o ≡ slice_index new o)
-            → s'.guest.clock ≡ e + quiet + 1 → IsSoundRun p s' → after ≤ visits + 8 + ((graph_of (state_after mid (event p mid thread))).made - (graph_of mid).made) → IsGoing (quiet + 1) s' new' out' after
+            → s'.guest.clock ≡ e + quiet + 1 → IsSoundRun p s' → after ≤ visits + 8 + ((graph_of (state_after mid (event p mid thread))).made - (graph_of mid).made) → IsGoing (quiet + 1) s' new' out' bytes after
         unfolding AreQuiet
         going_on new' more told same count there long each others clock sound few =
-            let o : Outcome Kept = event_at (event p) unended_threads graph_of place mid in
+            let o : Outcome Kept = event_at (event p) (said_by p) unended_threads graph_of place mid in
             let a : IsAnswered 0 o end mid s' out' = answered_is 0 o end mid s' out' (answers_now h) in
             let made : (graph_of s').made ≡ (graph_of mid).made = same ∙ sym g.same_objects in
-            let is : IsQuiet (event p) unended_threads graph_of place (e + quiet) mid s' new new' = record {
+            let is : IsQuiet (event p) (said_by p) unended_threads graph_of place (e + quiet) mid s' new new' = record {
               done = a.next ∙ done;
               state = a.state;
               told = sym a.told ∙ told;
+              unsaid = refl;
               made = made;
               count = count ∙ sym g.same_threads;
               turn = there ∙ sym g.same_thread;
               marks = quiet_marks (e + quiet) (graph_of mid) (graph_of s') lost new new' made led each others;
               long = long;
             } in
-            let all : AreQuiet (event p) unended_threads graph_of place (suc quiet) e s s' old new' = (mid, new, g.events, is) in
+            let all : AreQuiet (event p) (said_by p) unended_threads graph_of place (suc quiet) e s s' old new' = (mid, new, g.events, is) in
             let next : suc quiet ≡ quiet + 1 = omega arith in
             let comes_there = comes few in
             let state : s' ≡ state_after mid o = a.state in
@@ -129,12 +141,13 @@ module _ (p : Linked) (place most e : ℕ) (s : Kept) (old : List ℕ) (thread t
             ap (λ (t : ℕ). (graph_of (state_after mid (event p mid t))).made) (sym g.same_thread) ∙ (ap (λ (x : Kept). (graph_of x).made) (sym state) ∙ made) in
             record {
               few = more;
-              events = subst (λ (k : ℕ). AreQuiet (event p) unended_threads graph_of place k e s s' old new') next all;
+              events = subst (λ (k : ℕ). AreQuiet (event p) (said_by p) unended_threads graph_of place k e s s' old new') next all;
               clock = omega (arith, clock);
               sound = sound;
               made = step_there (graph_of mid) (graph_of s') lost g.made led;
               stamps = record { few = omega (arith, g.stamps.few, made); places = omega (arith, g.stamps.places, made, long) };
               empty = told;
+              unsaid = g.unsaid;
               same_objects = same;
               same_threads = count;
               same_thread = there;

@@ -1,2 +1,3 @@
 pub use Rattle.et_history.specs.Whole
+pub use Rattle.et_history.specs.Settings
 pub use Rattle.et_event.specs.Start

@@ -2,7 +2,7 @@
 ghost use Rattle.std.specs.Prelude.{◌≡◌, ◌≤◌, OnOk};
 ghost use Rattle.et_graph.specs.Listing.{death_pairs};
 ghost use Rattle.et_event.specs.Event.{event};
-ghost use Rattle.et_history.specs.Settings.{IsSoundRun, flush_visits_of, unended_threads, flushed_of};
+ghost use Rattle.et_history.specs.Settings.{IsSoundRun, flush_visits_of, said_by, unended_threads, flushed_of};
 ghost use Rattle.et_state.specs.Roots.{graph_of as graph_kept};
 ghost use Rattle.et_state.specs.State.{Kept, kept_of};
 
@@ -13,9 +13,9 @@ use crate::stretches::stretch;
 use crate::threads::nth_unended;
 use et_base::{NoMemory, ObjectId, Steps, ThreadId};
 use et_graph::{Death, Stamps};
-use et_loop::{Guest, Stretch, TimeSlice};
+use et_loop::{Guest, Output, Stretch, TimeSlice};
 use et_program::Program;
-use et_state::{Lines, Machine};
+use et_state::Machine;
 use std::alloc::Global;
 use std::marker::{Model, PhantomData};
 use std::sync::ledger::Ledger;
@@ -57,6 +57,8 @@ impl<'a> Guest for ProgramGuest<'a> {
     ghost state = { λ m. kept_of m };
 
     ghost event_of = { event };
+
+    ghost said_of = { said_by };
 
     ghost unended_of = { unended_threads };
 
@@ -130,7 +132,7 @@ impl<'a> Guest for ProgramGuest<'a> {
         alloc: Global,
         code: &NamedProgram<'a>,
         slice: TimeSlice,
-        out: &mut Lines,
+        out: &mut Output,
         stamps: &mut Stamps,
         visits: &mut Steps<L>,
     ) -> Result<Stretch, NoMemory> {

@@ -4,11 +4,12 @@ ghost use Rattle.et_event.specs.Sound.{IsSoundFor};
 ghost use Rattle.et_state.specs.Start.{start};
 ghost use Rattle.et_event.specs.Start.{start_records};
 ghost use Rattle.et_graph.specs.Graph.{Graph, Decides};
-ghost use Rattle.et_history.specs.Settings.{flush_visits_of, setting};
-ghost use Rattle.et_history.specs.Whole.{whole_setting, whole_start, whole_visits_of};
-ghost use Rattle.et_io.specs.Faults.{count_after, is_write_fault};
+ghost use Rattle.et_history.specs.Settings.{flush_visits_of, said_by, setting};
+ghost use Rattle.et_history.specs.Whole.{whole_setting, whole_start, whole_visits_of, whole_said};
+ghost use Rattle.et_io.specs.Faults.{is_write_fault};
 ghost use Rattle.et_state.specs.State.{kept_of};
 ghost use Rattle.et_loop.specs.Visits.{allowed_visits, IsCut};
+ghost use Rattle.et_loop.specs.Said.{Says, SaysPrefix, IsCutSaid, CountsWrite};
 ghost use Rattle.et_program.specs.Tables.{IsTabled};
 ghost use Rattle.et_loop.specs.Traced.{WritesTrace, WritesPrefix};
 ghost use Rattle.et_state.specs.Options.{AreOptions};
@@ -18,7 +19,7 @@ use crate::first::start_lines;
 use crate::guest::ProgramGuest;
 use crate::named::NamedProgram;
 use et_base::{NoMemory, Steps};
-use et_history::laws::traces_are_the_same;
+use et_history::laws::{histories_say_the_same, traces_are_the_same};
 use et_io::{RunFault, Sink};
 use et_linked::run_laws::{files_keep_rules, programs_may_run};
 use et_linked::start_laws::first_state_is_sound;
@@ -40,13 +41,14 @@ fn first(alloc: Global, program: &Program) -> Result<(Machine, Lines), NoMemory>
 
 /// The run of a machine that is in the first state of the program, with these records. Its history is over what the machine
 /// keeps.
-fn run_from<O: Sink, L: Ledger>(
+fn run_from<O: Sink, G: Sink, L: Ledger>(
     alloc: Global,
     program: &Program,
     options: &Options,
     machine: Machine,
     made: &Lines,
     sink: &mut O,
+    guest: &mut G,
     visits: &mut Steps<L>,
 ) -> Result<Ran, RunFault>
     requires options { AreOptions options.now }
@@ -67,26 +69,48 @@ fn run_from<O: Sink, L: Ledger>(
     ensures cut { (reached : Graph → ℕ → Bool) → Decides reached → OnErr result
         (IsCut reached (setting program.now options.now) flush_visits_of (kept_of machine) made.now
         (O.taken sink.old) (O.taken sink.new) visits.old visits.new) }
-    ensures write { O.faults sink.new ≡ count_after (is_write_fault result) (O.faults sink.old) }
+    ensures said { (reached : Graph → ℕ → Bool) → Decides reached → IfOk result (λ ran.
+        Says reached (setting program.now options.now) (said_by program.now) (kept_of machine) made.now
+        ran (G.taken guest.old) (G.taken guest.new)) }
+    ensures said_prefix { (reached : Graph → ℕ → Bool) → Decides reached → OnErr result
+        (SaysPrefix reached (setting program.now options.now) (said_by program.now) (kept_of machine)
+        made.now (G.taken guest.old) (G.taken guest.new)) }
+    ensures said_cut { (reached : Graph → ℕ → Bool) → Decides reached → OnErr result
+        (IsCutSaid reached (setting program.now options.now) (said_by program.now) (kept_of machine)
+        made.now flush_visits_of (G.taken guest.old) (G.taken guest.new) visits.old visits.new) }
+    ensures write { CountsWrite (is_write_fault result)
+        (O.faults sink.old) (O.faults sink.new) (G.faults guest.old) (G.faults guest.new) }
     ensures never_falls { O.faults sink.old ≤ O.faults sink.new }
+    ensures guest_never_falls { G.faults guest.old ≤ G.faults guest.new }
 {
     let code = NamedProgram::of(program);
-    let mut guest = ProgramGuest::of(machine);
-    run_guest(alloc, &code, options, &mut guest, made, sink, visits)
+    let mut running = ProgramGuest::of(machine);
+    run_guest(
+        alloc,
+        &code,
+        options,
+        &mut running,
+        made,
+        sink,
+        guest,
+        visits,
+    )
 }
 
-/// Runs a linked program from its first state, and writes the trace of its history to the sink. That history frees nothing,
-/// but the machine keeps only what was not reported. It has a stamp for each object, and searches nothing but at a flush: the
-/// visits of objects are at most those of the history's flushes, eight for each event, and one for each object that an event
-/// makes.
+/// Runs a linked program from its first state, and writes the trace of its history to the sink, and what its events print to
+/// the guest's. That history frees nothing, but the machine keeps only what was not reported. It has a stamp for each object,
+/// and searches nothing but at a flush: the visits of objects are at most those of the history's flushes, eight for each event,
+/// and one for each object that an event makes.
 ///
-/// `Write` comes exactly where a put failed, and the sink counted one fault. After `Write` and after `NoMemory` the sink took
-/// a prefix of the trace; the run was cut off in one turn, and the visits are at most those that the turns up to it may make.
-pub fn run<O: Sink, L: Ledger>(
+/// `Write` comes exactly where a put failed, and one of the two sinks counted one fault. After `Write` and after `NoMemory` the
+/// sink took a prefix of the trace, and the guest's a prefix of what is printed; the run was cut off in one turn, and the
+/// visits are at most those that the turns up to it may make.
+pub fn run<O: Sink, G: Sink, L: Ledger>(
     alloc: Global,
     program: &Program,
     options: &Options,
     sink: &mut O,
+    guest: &mut G,
     visits: &mut Steps<L>,
 ) -> Result<Ran, RunFault>
     requires options { AreOptions options.now }
@@ -106,8 +130,22 @@ pub fn run<O: Sink, L: Ledger>(
         (IsCut reached (whole_setting program.now options.now) whole_visits_of
         (whole_start program.now) (start_records program.now)
         (O.taken sink.old) (O.taken sink.new) visits.old visits.new) }
-    ensures write { O.faults sink.new ≡ count_after (is_write_fault result) (O.faults sink.old) }
+    ensures said { (reached : Graph → ℕ → Bool) → Decides reached → IfOk result (λ ran.
+        Says reached (whole_setting program.now options.now) (whole_said (said_by program.now))
+        (whole_start program.now) (start_records program.now)
+        ran (G.taken guest.old) (G.taken guest.new)) }
+    ensures said_prefix { (reached : Graph → ℕ → Bool) → Decides reached → OnErr result
+        (SaysPrefix reached (whole_setting program.now options.now) (whole_said (said_by program.now))
+        (whole_start program.now) (start_records program.now)
+        (G.taken guest.old) (G.taken guest.new)) }
+    ensures said_cut { (reached : Graph → ℕ → Bool) → Decides reached → OnErr result
+        (IsCutSaid reached (whole_setting program.now options.now) (whole_said (said_by program.now))
+        (whole_start program.now) (start_records program.now) whole_visits_of
+        (G.taken guest.old) (G.taken guest.new) visits.old visits.new) }
+    ensures write { CountsWrite (is_write_fault result)
+        (O.faults sink.old) (O.faults sink.new) (G.faults guest.old) (G.faults guest.new) }
     ensures never_falls { O.faults sink.old ≤ O.faults sink.new }
+    ensures guest_never_falls { G.faults guest.old ≤ G.faults guest.new }
 {
     // Laws: they tell the prover, and do nothing.
     program.is_linked();
@@ -115,8 +153,11 @@ pub fn run<O: Sink, L: Ledger>(
     programs_may_run();
     first_state_is_sound();
     traces_are_the_same();
+    histories_say_the_same();
     match first(alloc, program) {
-        Ok((machine, made)) => run_from(alloc, program, options, machine, &made, sink, visits),
+        Ok((machine, made)) => run_from(
+            alloc, program, options, machine, &made, sink, guest, visits,
+        ),
         Err(_) => Err(RunFault::NoMemory),
     }
 }

@@ -2,7 +2,7 @@
 ghost use Rattle.std.specs.Prelude.{◌≡◌, ◌+◌, ◌<◌, ◌≤◌, ◌^◌, [], None, All, IfOk, IsTrue, OnErr, OnOk, length, slice_index};
 ghost use Rattle.et_event.specs.Event.{event};
 ghost use Rattle.et_heap.specs.Objects.{made_count};
-ghost use Rattle.et_history.specs.Settings.{IsSoundRun, unended_threads};
+ghost use Rattle.et_history.specs.Settings.{IsSoundRun, said_by, unended_threads};
 ghost use Rattle.et_walk.specs.Telling.{names_of_program};
 ghost use Rattle.et_loop.specs.Quiet.{IsStretch, IsBrokenOff};
 ghost use Rattle.et_loop.specs.Run.{end_after};
@@ -17,9 +17,9 @@ use crate::steps::machine_event;
 use crate::threads::nth_unended;
 use et_base::{NoMemory, Steps, ThreadId};
 use et_graph::Stamps;
-use et_loop::{Stretch, TimeSlice, stamp_each};
+use et_loop::{Output, Stretch, TimeSlice, stamp_each};
 use et_program::Program;
-use et_state::{EventEnd, Lines, Machine};
+use et_state::{EventEnd, Machine};
 use std::alloc::Global;
 use std::sync::ledger::Ledger;
 
@@ -58,12 +58,13 @@ fn stands(machine: &Machine, standing: &Standing) -> bool
     nth_unended(machine, standing.place) == standing.thread
 }
 
-/// Whether the newest event is quiet, which went so and has these records.
+/// Whether the newest event is quiet, which went so and put out this.
 #[inline(always)]
-fn is_quiet(machine: &Machine, standing: &Standing, end: &EventEnd, out: &Lines) -> bool
+fn is_quiet(machine: &Machine, standing: &Standing, end: &EventEnd, out: &Output) -> bool
     requires { standing.now.place < standing.now.threads }
     ensures done { IsTrue result → end_after 0 end.now ≡ None }
-    ensures told { IsTrue result → out.now ≡ [] }
+    ensures told { IsTrue result → out.now.records ≡ [] }
+    ensures unsaid { IsTrue result → out.now.said.items ≡ [] }
     ensures objects { IsTrue result → made_count machine.now.heap ≡ standing.now.objects }
     ensures threads { IsTrue result →
         length (unended_of machine.now.guest.threads) ≡ standing.now.threads }
@@ -71,7 +72,10 @@ fn is_quiet(machine: &Machine, standing: &Standing, end: &EventEnd, out: &Lines)
         slice_index (unended_of machine.now.guest.threads) standing.now.place
         ≡ standing.now.thread }
 {
-    is_done(end) && out.records().is_empty() && stands(machine, standing)
+    is_done(end)
+        && out.records.records().is_empty()
+        && out.said.is_empty()
+        && stands(machine, standing)
 }
 
 /// The events of a time slice, up to one that is not quiet.
@@ -80,7 +84,7 @@ pub fn stretch<L: Ledger>(
     program: &Program,
     machine: &mut Machine,
     slice: TimeSlice,
-    out: &mut Lines,
+    out: &mut Output,
     stamps: &mut Stamps,
     visits: &mut Steps<L>,
 ) -> Result<Stretch, NoMemory>
@@ -90,17 +94,19 @@ pub fn stretch<L: Ledger>(
     requires place { slice.place < length (unended_threads (kept_of machine.old)) }
     requires made { AreMade (graph_of (kept_of machine.old)) }
     requires stamps { HasStamps (graph_of (kept_of machine.old)) stamps.old }
-    requires empty { out.old ≡ [] }
-    ensures stretch { IfOk result (λ stretch. IsStretch (event program.now) unended_threads graph_of
-        slice.place slice.events machine.old.guest.clock (kept_of machine.old) stamps.old
-        stamps.new visits.old visits.new (kept_of machine.new) out.new machine.new.lost stretch) }
-    ensures broken { OnErr result (IsBrokenOff (event program.now) unended_threads graph_of
-        slice.place slice.events machine.old.guest.clock (kept_of machine.old) stamps.old
+    requires empty { out.old.records ≡ [] }
+    requires unsaid { out.old.said.items ≡ [] }
+    ensures stretch { IfOk result (λ stretch. IsStretch (event program.now) (said_by program.now)
+        unended_threads graph_of slice.place slice.events machine.old.guest.clock
+        (kept_of machine.old) stamps.old stamps.new visits.old visits.new (kept_of machine.new)
+        out.new.records out.new.said.items machine.new.lost stretch) }
+    ensures broken { OnErr result (IsBrokenOff (event program.now) (said_by program.now) unended_threads
+        graph_of slice.place slice.events machine.old.guest.clock (kept_of machine.old) stamps.old
         stamps.new visits.old visits.new) }
     ensures sound { OnOk result (IsSoundRun program.now (kept_of machine.new)) }
     ensures clock { IfOk result (λ stretch. TicksWhereDone stretch.end
         (machine.old.guest.clock + stretch.quiet) machine.new.guest.clock) }
-    ensures named { OnOk result (All (IsNamed (names_of_program program.now)) out.new) }
+    ensures named { OnOk result (All (IsNamed (names_of_program program.now)) out.new.records) }
 {
     let thread = nth_unended(machine, slice.place);
     let standing = Standing {
@@ -112,7 +118,7 @@ pub fn stretch<L: Ledger>(
     let mut quiet = 0;
     'events: loop {
         let e = machine.clock();
-        let end = machine_event(alloc, program, machine, thread, out, visits)?;
+        let end = machine_event(alloc, program, machine, thread, &mut out.records, visits)?;
         if quiet + 1 == slice.events || !is_quiet(machine, &standing, &end, out) {
             return Ok(Stretch { quiet, end });
         }

@@ -1,9 +1,10 @@
 -- How often reads and writes failed, by the answer.
-use Rattle.std.proofs.Common.{◌≡◌, ℕ, ◌+◌, ◌<◌, ◌≤◌, ◌⊎◌, inl, inr, min, Bool, false, Result, Ok, Err, refl, sym, ◌∙◌, ap, arith}
+use Rattle.std.proofs.Common.{◌≡◌, ℕ, ◌+◌, ◌<◌, ◌≤◌, ◌⊎◌, inl, inr, min, Bool, true, false, Result, Ok, Err, refl, sym, ◌∙◌, ap, arith}
 use Rattle.std.specs.Prelude.{IfErr}
 use Rattle.et_base.specs.declared.value.End.{End}
 use Rattle.et_base.specs.declared.value.End.TheVariants as ends
 use Rattle.et_io.specs.Faults.{Rose, count_after, last_count, is_write_fault}
+use Rattle.et_loop.specs.Said.{CountsWrite}
 use Rattle.et_io.specs.declared.putting.RunFault.{RunFault}
 use Rattle.et_io.specs.declared.putting.RunFault.TheVariants as write
 use Rattle.et_top.specs.Refusals.{status_of}
@@ -115,3 +116,9 @@ rose_fault A fault old new is e = rose_one old new (is ∙ ap (λ f. count_after
 -- a write fault is answered where the count rose
 pub rose_writing : {A : Type 0} (wrote : Result A RunFault) (old new : ℕ) → new ≡ count_after (is_write_fault wrote) old → wrote ≡ Err write.Write → Rose old new
 rose_writing wrote old new is e = rose_one old new (is ∙ ap (λ r. count_after (is_write_fault r) old) e)
+
+-- where the other sink counts no fault, a failed put is counted by this one
+pub counted_alone : (failed : Bool) (a a' : ℕ) → CountsWrite failed a a' 0 0 → a' ≡ count_after failed a
+counted_alone failed a a' (inl h) = h.0
+counted_alone false a a' (inr h) = h.0
+counted_alone true a a' (inr h) = absurd (omega (arith, h.1))

@@ -14,6 +14,7 @@ ghost use Rattle.et_top.specs.Visits.{IsBeforeBench, IsNoTrace};
 use crate::answers::{of_fault, refuse};
 use crate::bench_text::bench_listing;
 use crate::bench_totals::bench_summary;
+use crate::discard::Discard;
 use crate::load_classes::{class_in, push};
 use crate::load_listing::listing_in;
 use crate::programs::{answer_end, program};
@@ -96,7 +97,7 @@ fn read_back<L: Ledger>(
         format: Format::Text,
     };
     let mut sink = MemSink::begin(alloc, u64::MAX);
-    match et_run::run(alloc, program, &options, &mut sink, visits) {
+    match et_run::run(alloc, program, &options, &mut sink, &mut Discard, visits) {
         Ok(ran) => match read_text(alloc, sink.bytes()) {
             Ok(trace) => Ok(ReadBack {
                 end: ran.end,

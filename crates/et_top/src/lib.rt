@@ -7,6 +7,7 @@ mod bench_text;
 mod bench_totals;
 mod command;
 mod commands;
+mod discard;
 mod files;
 pub mod laws;
 mod load_classes;

@@ -16,6 +16,7 @@ ghost use Rattle.et_top.specs.Top.{Traces, GivesDefined, status_of_end};
 ghost use Rattle.et_top.specs.Visits.{IsBeforeRun};
 
 use crate::answers::{of_fault, refuse};
+use crate::discard::Discard;
 use crate::load_classes::load_classes;
 use crate::refusal::{Escaped, Refusal};
 use crate::status::Status;
@@ -135,7 +136,7 @@ pub fn run<O: Sink, E: Sink, L: Ledger>(
     ensures of_run { IsBeforeRun result → ⊥ }
     ensures never_falls { O.faults out.old ≤ O.faults out.new }
 {
-    match et_run::run(alloc, program, options, out, visits) {
+    match et_run::run(alloc, program, options, out, &mut Discard, visits) {
         Ok(ran) => answer_end(alloc, program, ran.end, err),
         Err(fault) => refuse(alloc, err, &of_fault(fault)),
     }

@@ -1,11 +1,12 @@
-use Rattle.std.proofs.Common.{◌≡◌, ℕ, ◌+◌, ◌*◌, ◌<◌, Option, IfNone, refl, ◌∙◌, sym, subst, add-one, get_or, arith, rules}
+use Rattle.std.proofs.Common.{◌≡◌, ℕ, ◌+◌, ◌*◌, ◌<◌, Option, IfNone, refl, ◌∙◌, sym, subst, inl, inr, add-one, get_or, arith, rules}
 use Rattle.et_base.specs.declared.value.End.{End}
+use Rattle.et_io.specs.Faults.{count_after, is_write_fault}
 use Rattle.et_io.specs.Sink.{with_more, TakesPrefix}
 use Rattle.et_graph.proofs.Walks.{is_reached, is_reached_decides}
 use Rattle.et_state.specs.History.{is_flush_point}
 use Rattle.et_loop.specs.Options.{setting_of}
 use Rattle.et_loop.specs.Naming.{HasClasses}
-use Rattle.et_loop.proofs.RunLemmas.{running_start, turn_end, front_start, front_nothing, front_now, front_turn, on_any, noted_before}
+use Rattle.et_loop.proofs.RunLemmas.{running_start, turn_end, front_start, front_nothing, front_now, front_turn, turn_on, on_any, noted_before}
 use Rattle.et_loop.specs.Stamping.{HasStamps, Passes}
 use Rattle.et_loop.specs.Pace.{IsNextFlush, IsRota}
 use Rattle.et_loop.proofs.Turns.{told_first}
@@ -13,6 +14,7 @@ use Rattle.et_loop.proofs.Quiets.{told_there}
 use Rattle.et_loop.proofs.Standing.{stands_on}
 use Rattle.et_loop.proofs.Counts.{none_so_far, more_so_far, last_allowed, cut_allowed, passes_grow, going_few, ending_few}
 use Rattle.et_loop.proofs.Cuts.{cut_first, cut_here, cut_putting}
+use Rattle.et_loop.proofs.Talking.{whole_prefix, talking_start, talking_on, talking_end, say_nothing, say_now, say_turn, said_here, said_putting}
 use Rattle.et_loop.proofs.Joins.{graphs, graph_first, running_as, listed_here, next_runs, next_told}
 use Rattle.et_loop.proofs.run.run_guest.Goals as goal
 
@@ -69,6 +71,11 @@ events-init g c =
       clock = c.requires.clock;
       sound = c.requires.sound;
       faults = c.in_ok-put_all.ensures.write;
+      says = λ reached decides.
+          let G = g.G.Guest in
+          let given = setting_of (G.event_of c.args.code.now) G.unended_of G.graph_of G.flushed_of (g.G.Code.Program.names c.args.code.now) c.args.options.now in
+          talking_start reached given (G.said_of c.args.code.now) (G.state c.args.machine.now) c.args.made.now (g.P.Sink.taken c.args.guest.now);
+      guest_faults = refl;
     }
 
 pub turn-requires-clause-made : goal.turn-requires-clause-made
@@ -92,8 +99,8 @@ returns-in_err-put_all-2-clause-prefix g c reached decides =
     let start = G.state c.args.machine.now in
     let turn = c.in-Ok-turn.ensures.turn in
     let e : ℕ = c.events.e + c.in-Ok-turn.progress.quiet in
-    let stands = stands_on reached decides given G.flush_visits_of start c.args.made.now c.events.tracer.numbering (g.O.Sink.taken c.args.sink.now) (g.O.Sink.taken c.events.sink) c.args.visits.now c.in-Ok-turn.progress.quiet c.events.e (G.state c.events.machine) turn.from c.events.tracer.stamps turn.between c.events.visits
-    (record { runs = c.events.invariant.runs reached decides; told = c.events.invariant.told reached decides; so_far = c.events.invariant.visits reached decides }) turn.comes.events in
+    let stands = stands_on reached decides given (G.said_of c.args.code.now) G.flush_visits_of start c.args.made.now c.events.tracer.numbering (g.O.Sink.taken c.args.sink.now) (g.O.Sink.taken c.events.sink) (g.P.Sink.taken c.args.guest.now) (g.P.Sink.taken c.events.guest) c.args.visits.now c.in-Ok-turn.progress.quiet c.events.e (G.state c.events.machine) turn.from c.events.tracer.stamps turn.between c.events.visits
+    (record { runs = c.events.invariant.runs reached decides; told = c.events.invariant.told reached decides; so_far = c.events.invariant.visits reached decides; talks = c.events.invariant.says reached decides }) turn.comes.events in
     let last = λ (o : ℕ). noted_before reached given start c.args.made.now o e in
     let listed = listed_here reached decides given start c.args.made.now e _ _ _ _ stands.runs (λ o. get_or turn.between o 0) stands.told in
     let turns = turn.turns reached decides last listed in
@@ -106,8 +113,8 @@ returns-in-Some-clause-trace g c reached decides =
     let start = G.state c.args.machine.now in
     let turn = c.in-Ok-turn.ensures.turn in
     let e : ℕ = c.events.e + c.in-Ok-turn.progress.quiet in
-    let stands = stands_on reached decides given G.flush_visits_of start c.args.made.now c.events.tracer.numbering (g.O.Sink.taken c.args.sink.now) (g.O.Sink.taken c.events.sink) c.args.visits.now c.in-Ok-turn.progress.quiet c.events.e (G.state c.events.machine) turn.from c.events.tracer.stamps turn.between c.events.visits
-    (record { runs = c.events.invariant.runs reached decides; told = c.events.invariant.told reached decides; so_far = c.events.invariant.visits reached decides }) turn.comes.events in
+    let stands = stands_on reached decides given (G.said_of c.args.code.now) G.flush_visits_of start c.args.made.now c.events.tracer.numbering (g.O.Sink.taken c.args.sink.now) (g.O.Sink.taken c.events.sink) (g.P.Sink.taken c.args.guest.now) (g.P.Sink.taken c.events.guest) c.args.visits.now c.in-Ok-turn.progress.quiet c.events.e (G.state c.events.machine) turn.from c.events.tracer.stamps turn.between c.events.visits
+    (record { runs = c.events.invariant.runs reached decides; told = c.events.invariant.told reached decides; so_far = c.events.invariant.visits reached decides; talks = c.events.invariant.says reached decides }) turn.comes.events in
     let last = λ (o : ℕ). noted_before reached given start c.args.made.now o e in
     let listed = listed_here reached decides given start c.args.made.now e _ _ _ _ stands.runs (λ o. get_or turn.between o 0) stands.told in
     let turns = turn.turns reached decides last listed in
@@ -127,8 +134,8 @@ events-preserved g c =
           let start = G.state c.args.machine.now in
           let turn = c.in-Ok-turn.ensures.turn in
           let e : ℕ = c.events.e + c.in-Ok-turn.progress.quiet in
-          let stands = stands_on reached decides given G.flush_visits_of start c.args.made.now c.events.tracer.numbering (g.O.Sink.taken c.args.sink.now) (g.O.Sink.taken c.events.sink) c.args.visits.now c.in-Ok-turn.progress.quiet c.events.e (G.state c.events.machine) turn.from c.events.tracer.stamps turn.between c.events.visits
-          (record { runs = c.events.invariant.runs reached decides; told = c.events.invariant.told reached decides; so_far = c.events.invariant.visits reached decides }) turn.comes.events in
+          let stands = stands_on reached decides given (G.said_of c.args.code.now) G.flush_visits_of start c.args.made.now c.events.tracer.numbering (g.O.Sink.taken c.args.sink.now) (g.O.Sink.taken c.events.sink) (g.P.Sink.taken c.args.guest.now) (g.P.Sink.taken c.events.guest) c.args.visits.now c.in-Ok-turn.progress.quiet c.events.e (G.state c.events.machine) turn.from c.events.tracer.stamps turn.between c.events.visits
+          (record { runs = c.events.invariant.runs reached decides; told = c.events.invariant.told reached decides; so_far = c.events.invariant.visits reached decides; talks = c.events.invariant.says reached decides }) turn.comes.events in
           let last = λ (o : ℕ). noted_before reached given start c.args.made.now o e in
           let listed = listed_here reached decides given start c.args.made.now e _ _ _ _ stands.runs (λ o. get_or turn.between o 0) stands.told in
           let turns = turn.turns reached decides last listed in
@@ -140,8 +147,8 @@ events-preserved g c =
           let start = G.state c.args.machine.now in
           let turn = c.in-Ok-turn.ensures.turn in
           let e : ℕ = c.events.e + c.in-Ok-turn.progress.quiet in
-          let stands = stands_on reached decides given G.flush_visits_of start c.args.made.now c.events.tracer.numbering (g.O.Sink.taken c.args.sink.now) (g.O.Sink.taken c.events.sink) c.args.visits.now c.in-Ok-turn.progress.quiet c.events.e (G.state c.events.machine) turn.from c.events.tracer.stamps turn.between c.events.visits
-          (record { runs = c.events.invariant.runs reached decides; told = c.events.invariant.told reached decides; so_far = c.events.invariant.visits reached decides }) turn.comes.events in
+          let stands = stands_on reached decides given (G.said_of c.args.code.now) G.flush_visits_of start c.args.made.now c.events.tracer.numbering (g.O.Sink.taken c.args.sink.now) (g.O.Sink.taken c.events.sink) (g.P.Sink.taken c.args.guest.now) (g.P.Sink.taken c.events.guest) c.args.visits.now c.in-Ok-turn.progress.quiet c.events.e (G.state c.events.machine) turn.from c.events.tracer.stamps turn.between c.events.visits
+          (record { runs = c.events.invariant.runs reached decides; told = c.events.invariant.told reached decides; so_far = c.events.invariant.visits reached decides; talks = c.events.invariant.says reached decides }) turn.comes.events in
           let last = λ (o : ℕ). noted_before reached given start c.args.made.now o e in
           let listed = listed_here reached decides given start c.args.made.now e _ _ _ _ stands.runs (λ o. get_or turn.between o 0) stands.told in
           let turns = turn.turns reached decides last listed in
@@ -157,8 +164,8 @@ events-preserved g c =
           let start = G.state c.args.machine.now in
           let turn = c.in-Ok-turn.ensures.turn in
           let e : ℕ = c.events.e + c.in-Ok-turn.progress.quiet in
-          let stands = stands_on reached decides given G.flush_visits_of start c.args.made.now c.events.tracer.numbering (g.O.Sink.taken c.args.sink.now) (g.O.Sink.taken c.events.sink) c.args.visits.now c.in-Ok-turn.progress.quiet c.events.e (G.state c.events.machine) turn.from c.events.tracer.stamps turn.between c.events.visits
-          (record { runs = c.events.invariant.runs reached decides; told = c.events.invariant.told reached decides; so_far = c.events.invariant.visits reached decides }) turn.comes.events in
+          let stands = stands_on reached decides given (G.said_of c.args.code.now) G.flush_visits_of start c.args.made.now c.events.tracer.numbering (g.O.Sink.taken c.args.sink.now) (g.O.Sink.taken c.events.sink) (g.P.Sink.taken c.args.guest.now) (g.P.Sink.taken c.events.guest) c.args.visits.now c.in-Ok-turn.progress.quiet c.events.e (G.state c.events.machine) turn.from c.events.tracer.stamps turn.between c.events.visits
+          (record { runs = c.events.invariant.runs reached decides; told = c.events.invariant.told reached decides; so_far = c.events.invariant.visits reached decides; talks = c.events.invariant.says reached decides }) turn.comes.events in
           let last = λ (o : ℕ). noted_before reached given start c.args.made.now o e in
           let listed = listed_here reached decides given start c.args.made.now e _ _ _ _ stands.runs (λ o. get_or turn.between o 0) stands.told in
           let turns = turn.turns reached decides last listed in
@@ -178,6 +185,18 @@ events-preserved g c =
       clock = subst (λ (end : Option End). IfNone end (g.G.Guest.clock_of (S c.turn.new.machine) ≡ c.events.e + q + 1)) c.in-None.is c.in-Ok-turn.ensures.clock;
       sound = subst (λ (end : Option End). IfNone end (g.G.Guest.is_sound c.args.code.now (S c.turn.new.machine))) c.in-None.is c.in-Ok-turn.ensures.sound;
       faults = c.in_ok-put_all-2.ensures.write ∙ c.events.invariant.faults;
+      says = λ reached decides.
+          let G = g.G.Guest in
+          let given = setting_of (G.event_of c.args.code.now) G.unended_of G.graph_of G.flushed_of (g.G.Code.Program.names c.args.code.now) c.args.options.now in
+          let start = G.state c.args.machine.now in
+          let said = G.said_of c.args.code.now in
+          let turn = c.in-Ok-turn.ensures.turn in
+          let e : ℕ = c.events.e + c.in-Ok-turn.progress.quiet in
+          let stands = stands_on reached decides given said G.flush_visits_of start c.args.made.now c.events.tracer.numbering (g.O.Sink.taken c.args.sink.now) (g.O.Sink.taken c.events.sink) (g.P.Sink.taken c.args.guest.now) (g.P.Sink.taken c.events.guest) c.args.visits.now c.in-Ok-turn.progress.quiet c.events.e (G.state c.events.machine) turn.from c.events.tracer.stamps turn.between c.events.visits
+          (record { runs = c.events.invariant.runs reached decides; told = c.events.invariant.told reached decides; so_far = c.events.invariant.visits reached decides; talks = c.events.invariant.says reached decides }) turn.comes.events in
+          talking_on reached given said start c.args.made.now e _ _ stands.talks stands.runs.first turn.from c.turn.new.tracer.output.said.items stands.runs.state c.in-Ok-turn.progress.end c.in-None.is (turn.says reached decides) (e + 1) (g.P.Sink.taken c.put_all-in-events-2.new.sink) (add-one e)
+          (subst (λ b. g.P.Sink.taken c.put_all-in-events-2.new.sink ≡ with_more (g.P.Sink.taken c.events.guest) b) c.deref-in-events-2.ensures.value c.in_ok-put_all-3.ensures.ok);
+      guest_faults = c.in_ok-put_all-3.ensures.write ∙ c.events.invariant.guest_faults;
     }
 
 -- the visits of the whole run
@@ -188,8 +207,8 @@ returns-in-Some-clause-visits g c reached decides =
     let start = G.state c.args.machine.now in
     let turn = c.in-Ok-turn.ensures.turn in
     let e : ℕ = c.events.e + c.in-Ok-turn.progress.quiet in
-    let stands = stands_on reached decides given G.flush_visits_of start c.args.made.now c.events.tracer.numbering (g.O.Sink.taken c.args.sink.now) (g.O.Sink.taken c.events.sink) c.args.visits.now c.in-Ok-turn.progress.quiet c.events.e (G.state c.events.machine) turn.from c.events.tracer.stamps turn.between c.events.visits
-    (record { runs = c.events.invariant.runs reached decides; told = c.events.invariant.told reached decides; so_far = c.events.invariant.visits reached decides }) turn.comes.events in
+    let stands = stands_on reached decides given (G.said_of c.args.code.now) G.flush_visits_of start c.args.made.now c.events.tracer.numbering (g.O.Sink.taken c.args.sink.now) (g.O.Sink.taken c.events.sink) (g.P.Sink.taken c.args.guest.now) (g.P.Sink.taken c.events.guest) c.args.visits.now c.in-Ok-turn.progress.quiet c.events.e (G.state c.events.machine) turn.from c.events.tracer.stamps turn.between c.events.visits
+    (record { runs = c.events.invariant.runs reached decides; told = c.events.invariant.told reached decides; so_far = c.events.invariant.visits reached decides; talks = c.events.invariant.says reached decides }) turn.comes.events in
     let last = λ (o : ℕ). noted_before reached given start c.args.made.now o e in
     let listed = listed_here reached decides given start c.args.made.now e _ _ _ _ stands.runs (λ o. get_or turn.between o 0) stands.told in
     let turns = turn.turns reached decides last listed in
@@ -222,8 +241,8 @@ returns-in-Err-turn-clause-cut g c reached decides =
     let start = G.state c.args.machine.now in
     let turn = c.in-Err-turn.ensures.broken in
     let e : ℕ = c.events.e + turn.quiet in
-    let stands = stands_on reached decides given G.flush_visits_of start c.args.made.now c.events.tracer.numbering (g.O.Sink.taken c.args.sink.now) (g.O.Sink.taken c.events.sink) c.args.visits.now turn.quiet c.events.e (G.state c.events.machine) turn.from c.events.tracer.stamps turn.between c.events.visits
-    (record { runs = c.events.invariant.runs reached decides; told = c.events.invariant.told reached decides; so_far = c.events.invariant.visits reached decides }) turn.comes.events in
+    let stands = stands_on reached decides given (G.said_of c.args.code.now) G.flush_visits_of start c.args.made.now c.events.tracer.numbering (g.O.Sink.taken c.args.sink.now) (g.O.Sink.taken c.events.sink) (g.P.Sink.taken c.args.guest.now) (g.P.Sink.taken c.events.guest) c.args.visits.now turn.quiet c.events.e (G.state c.events.machine) turn.from c.events.tracer.stamps turn.between c.events.visits
+    (record { runs = c.events.invariant.runs reached decides; told = c.events.invariant.told reached decides; so_far = c.events.invariant.visits reached decides; talks = c.events.invariant.says reached decides }) turn.comes.events in
     let few = cut_allowed reached given G.flush_visits_of start c.args.made.now e turn.from c.args.visits.now (c.events.visits + 8 * turn.quiet) stands.so_far stands.runs.state c.turn.new.visits (turn.comes.visits reached decides) in
     cut_here reached given G.flush_visits_of start c.args.made.now (g.O.Sink.taken c.args.sink.now) c.args.visits.now c.turn.new.visits e _ _ _ _ stands.runs few
 
@@ -234,10 +253,209 @@ returns-in_err-put_all-2-clause-cut g c reached decides =
     let start = G.state c.args.machine.now in
     let turn = c.in-Ok-turn.ensures.turn in
     let e : ℕ = c.events.e + c.in-Ok-turn.progress.quiet in
-    let stands = stands_on reached decides given G.flush_visits_of start c.args.made.now c.events.tracer.numbering (g.O.Sink.taken c.args.sink.now) (g.O.Sink.taken c.events.sink) c.args.visits.now c.in-Ok-turn.progress.quiet c.events.e (G.state c.events.machine) turn.from c.events.tracer.stamps turn.between c.events.visits
-    (record { runs = c.events.invariant.runs reached decides; told = c.events.invariant.told reached decides; so_far = c.events.invariant.visits reached decides }) turn.comes.events in
+    let stands = stands_on reached decides given (G.said_of c.args.code.now) G.flush_visits_of start c.args.made.now c.events.tracer.numbering (g.O.Sink.taken c.args.sink.now) (g.O.Sink.taken c.events.sink) (g.P.Sink.taken c.args.guest.now) (g.P.Sink.taken c.events.guest) c.args.visits.now c.in-Ok-turn.progress.quiet c.events.e (G.state c.events.machine) turn.from c.events.tracer.stamps turn.between c.events.visits
+    (record { runs = c.events.invariant.runs reached decides; told = c.events.invariant.told reached decides; so_far = c.events.invariant.visits reached decides; talks = c.events.invariant.says reached decides }) turn.comes.events in
     let last = λ (o : ℕ). noted_before reached given start c.args.made.now o e in
     let listed = listed_here reached decides given start c.args.made.now e _ _ _ _ stands.runs (λ o. get_or turn.between o 0) stands.told in
     let turns = turn.turns reached decides last listed in
     let few = cut_allowed reached given G.flush_visits_of start c.args.made.now e turn.from c.args.visits.now (c.events.visits + 8 * c.in-Ok-turn.progress.quiet) stands.so_far stands.runs.state c.turn.new.visits (turn.comes.visits reached decides) in
     on_any c.from_residual-in_err-put_all-2.result (cut_putting reached given G.flush_visits_of start c.args.made.now (g.O.Sink.taken c.args.sink.now) c.args.visits.now c.turn.new.visits e _ _ _ _ stands.runs few (g.O.Sink.taken c.put_all-in-events.new.sink) _ c.in_err-put_all-2.ensures.err)
+
+-- WHAT THE GUEST'S SINK TOOK
+
+pub returns-in-Err-clause-said_prefix : goal.returns-in-Err-clause-said_prefix
+returns-in-Err-clause-said_prefix g c reached decides =
+    let G = g.G.Guest in
+    let given = setting_of (G.event_of c.args.code.now) G.unended_of G.graph_of G.flushed_of (g.G.Code.Program.names c.args.code.now) c.args.options.now in
+    let start = G.state c.args.machine.now in
+    let said = G.said_of c.args.code.now in
+    say_nothing reached given said start c.args.made.now (g.P.Sink.taken c.args.guest.now)
+
+pub returns-in-Err-begin-clause-said_prefix : goal.returns-in-Err-begin-clause-said_prefix
+returns-in-Err-begin-clause-said_prefix g c reached decides =
+    let G = g.G.Guest in
+    let given = setting_of (G.event_of c.args.code.now) G.unended_of G.graph_of G.flushed_of (g.G.Code.Program.names c.args.code.now) c.args.options.now in
+    let start = G.state c.args.machine.now in
+    let said = G.said_of c.args.code.now in
+    say_nothing reached given said start c.args.made.now (g.P.Sink.taken c.args.guest.now)
+
+pub returns-in_err-put_all-clause-said_prefix : goal.returns-in_err-put_all-clause-said_prefix
+returns-in_err-put_all-clause-said_prefix g c reached decides =
+    let G = g.G.Guest in
+    let given = setting_of (G.event_of c.args.code.now) G.unended_of G.graph_of G.flushed_of (g.G.Code.Program.names c.args.code.now) c.args.options.now in
+    let start = G.state c.args.machine.now in
+    let said = G.said_of c.args.code.now in
+    on_any c.from_residual.result (say_nothing reached given said start c.args.made.now (g.P.Sink.taken c.args.guest.now))
+
+pub returns-in-Err-turn-clause-said_prefix : goal.returns-in-Err-turn-clause-said_prefix
+returns-in-Err-turn-clause-said_prefix g c reached decides =
+    let G = g.G.Guest in
+    let given = setting_of (G.event_of c.args.code.now) G.unended_of G.graph_of G.flushed_of (g.G.Code.Program.names c.args.code.now) c.args.options.now in
+    let start = G.state c.args.machine.now in
+    let said = G.said_of c.args.code.now in
+    let turn = c.in-Err-turn.ensures.broken in
+    let e : ℕ = c.events.e + turn.quiet in
+    let stands = stands_on reached decides given said G.flush_visits_of start c.args.made.now c.events.tracer.numbering (g.O.Sink.taken c.args.sink.now) (g.O.Sink.taken c.events.sink) (g.P.Sink.taken c.args.guest.now) (g.P.Sink.taken c.events.guest) c.args.visits.now turn.quiet c.events.e (G.state c.events.machine) turn.from c.events.tracer.stamps turn.between c.events.visits
+    (record { runs = c.events.invariant.runs reached decides; told = c.events.invariant.told reached decides; so_far = c.events.invariant.visits reached decides; talks = c.events.invariant.says reached decides }) turn.comes.events in
+    say_now reached given said start c.args.made.now e _ _ stands.talks stands.runs.first
+
+pub returns-in-Err-turn-clause-said_cut : goal.returns-in-Err-turn-clause-said_cut
+returns-in-Err-turn-clause-said_cut g c reached decides =
+    let G = g.G.Guest in
+    let given = setting_of (G.event_of c.args.code.now) G.unended_of G.graph_of G.flushed_of (g.G.Code.Program.names c.args.code.now) c.args.options.now in
+    let start = G.state c.args.machine.now in
+    let said = G.said_of c.args.code.now in
+    let turn = c.in-Err-turn.ensures.broken in
+    let e : ℕ = c.events.e + turn.quiet in
+    let stands = stands_on reached decides given said G.flush_visits_of start c.args.made.now c.events.tracer.numbering (g.O.Sink.taken c.args.sink.now) (g.O.Sink.taken c.events.sink) (g.P.Sink.taken c.args.guest.now) (g.P.Sink.taken c.events.guest) c.args.visits.now turn.quiet c.events.e (G.state c.events.machine) turn.from c.events.tracer.stamps turn.between c.events.visits
+    (record { runs = c.events.invariant.runs reached decides; told = c.events.invariant.told reached decides; so_far = c.events.invariant.visits reached decides; talks = c.events.invariant.says reached decides }) turn.comes.events in
+    let few = cut_allowed reached given G.flush_visits_of start c.args.made.now e turn.from c.args.visits.now (c.events.visits + 8 * turn.quiet) stands.so_far stands.runs.state c.turn.new.visits (turn.comes.visits reached decides) in
+    said_here reached given said start c.args.made.now e _ _ stands.talks stands.runs.first G.flush_visits_of c.args.visits.now c.turn.new.visits few
+
+pub returns-in-Err-turn-clause-write : goal.returns-in-Err-turn-clause-write
+returns-in-Err-turn-clause-write g c =
+    inl (c.events.invariant.faults, c.events.invariant.guest_faults)
+
+pub returns-in_err-put_all-2-clause-said_prefix : goal.returns-in_err-put_all-2-clause-said_prefix
+returns-in_err-put_all-2-clause-said_prefix g c reached decides =
+    let G = g.G.Guest in
+    let given = setting_of (G.event_of c.args.code.now) G.unended_of G.graph_of G.flushed_of (g.G.Code.Program.names c.args.code.now) c.args.options.now in
+    let start = G.state c.args.machine.now in
+    let said = G.said_of c.args.code.now in
+    let turn = c.in-Ok-turn.ensures.turn in
+    let e : ℕ = c.events.e + c.in-Ok-turn.progress.quiet in
+    let stands = stands_on reached decides given said G.flush_visits_of start c.args.made.now c.events.tracer.numbering (g.O.Sink.taken c.args.sink.now) (g.O.Sink.taken c.events.sink) (g.P.Sink.taken c.args.guest.now) (g.P.Sink.taken c.events.guest) c.args.visits.now c.in-Ok-turn.progress.quiet c.events.e (G.state c.events.machine) turn.from c.events.tracer.stamps turn.between c.events.visits
+    (record { runs = c.events.invariant.runs reached decides; told = c.events.invariant.told reached decides; so_far = c.events.invariant.visits reached decides; talks = c.events.invariant.says reached decides }) turn.comes.events in
+    on_any c.from_residual-in_err-put_all-2.result (say_now reached given said start c.args.made.now e _ _ stands.talks stands.runs.first)
+
+pub returns-in_err-put_all-2-clause-said_cut : goal.returns-in_err-put_all-2-clause-said_cut
+returns-in_err-put_all-2-clause-said_cut g c reached decides =
+    let G = g.G.Guest in
+    let given = setting_of (G.event_of c.args.code.now) G.unended_of G.graph_of G.flushed_of (g.G.Code.Program.names c.args.code.now) c.args.options.now in
+    let start = G.state c.args.machine.now in
+    let said = G.said_of c.args.code.now in
+    let turn = c.in-Ok-turn.ensures.turn in
+    let e : ℕ = c.events.e + c.in-Ok-turn.progress.quiet in
+    let stands = stands_on reached decides given said G.flush_visits_of start c.args.made.now c.events.tracer.numbering (g.O.Sink.taken c.args.sink.now) (g.O.Sink.taken c.events.sink) (g.P.Sink.taken c.args.guest.now) (g.P.Sink.taken c.events.guest) c.args.visits.now c.in-Ok-turn.progress.quiet c.events.e (G.state c.events.machine) turn.from c.events.tracer.stamps turn.between c.events.visits
+    (record { runs = c.events.invariant.runs reached decides; told = c.events.invariant.told reached decides; so_far = c.events.invariant.visits reached decides; talks = c.events.invariant.says reached decides }) turn.comes.events in
+    let few = cut_allowed reached given G.flush_visits_of start c.args.made.now e turn.from c.args.visits.now (c.events.visits + 8 * c.in-Ok-turn.progress.quiet) stands.so_far stands.runs.state c.turn.new.visits (turn.comes.visits reached decides) in
+    on_any c.from_residual-in_err-put_all-2.result (said_here reached given said start c.args.made.now e _ _ stands.talks stands.runs.first G.flush_visits_of c.args.visits.now c.turn.new.visits few)
+
+pub returns-in_err-put_all-2-clause-write : goal.returns-in_err-put_all-2-clause-write
+returns-in_err-put_all-2-clause-write g c =
+    let counted : g.O.Sink.faults c.put_all-in-events.new.sink ≡ count_after (is_write_fault c.from_residual-in_err-put_all-2.result) (g.O.Sink.faults c.args.sink.now) = search rules in
+    inl (counted, c.events.invariant.guest_faults)
+
+pub returns-in_err-put_all-3-clause-prefix : goal.returns-in_err-put_all-3-clause-prefix
+returns-in_err-put_all-3-clause-prefix g c reached decides =
+    let G = g.G.Guest in
+    let given = setting_of (G.event_of c.args.code.now) G.unended_of G.graph_of G.flushed_of (g.G.Code.Program.names c.args.code.now) c.args.options.now in
+    let start = G.state c.args.machine.now in
+    let said = G.said_of c.args.code.now in
+    let turn = c.in-Ok-turn.ensures.turn in
+    let e : ℕ = c.events.e + c.in-Ok-turn.progress.quiet in
+    let stands = stands_on reached decides given said G.flush_visits_of start c.args.made.now c.events.tracer.numbering (g.O.Sink.taken c.args.sink.now) (g.O.Sink.taken c.events.sink) (g.P.Sink.taken c.args.guest.now) (g.P.Sink.taken c.events.guest) c.args.visits.now c.in-Ok-turn.progress.quiet c.events.e (G.state c.events.machine) turn.from c.events.tracer.stamps turn.between c.events.visits
+    (record { runs = c.events.invariant.runs reached decides; told = c.events.invariant.told reached decides; so_far = c.events.invariant.visits reached decides; talks = c.events.invariant.says reached decides }) turn.comes.events in
+    let last = λ (o : ℕ). noted_before reached given start c.args.made.now o e in
+    let listed = listed_here reached decides given start c.args.made.now e _ _ _ _ stands.runs (λ o. get_or turn.between o 0) stands.told in
+    let turns = turn.turns reached decides last listed in
+    let put = whole_prefix _ _ _ (subst (λ b. g.O.Sink.taken c.put_all-in-events.new.sink ≡ with_more (g.O.Sink.taken c.events.sink) b) c.deref-in-events.ensures.value c.in_ok-put_all-2.ensures.ok) in
+    on_any c.from_residual-in_err-put_all-3.result (front_turn reached given start c.args.made.now e _ _ _ _ _ stands.runs c.in-Ok-turn.progress.end _ _ _ _ _ c.clear.ensures.items turns (g.O.Sink.taken c.put_all-in-events.new.sink) put)
+
+pub returns-in_err-put_all-3-clause-cut : goal.returns-in_err-put_all-3-clause-cut
+returns-in_err-put_all-3-clause-cut g c reached decides =
+    let G = g.G.Guest in
+    let given = setting_of (G.event_of c.args.code.now) G.unended_of G.graph_of G.flushed_of (g.G.Code.Program.names c.args.code.now) c.args.options.now in
+    let start = G.state c.args.machine.now in
+    let said = G.said_of c.args.code.now in
+    let turn = c.in-Ok-turn.ensures.turn in
+    let e : ℕ = c.events.e + c.in-Ok-turn.progress.quiet in
+    let stands = stands_on reached decides given said G.flush_visits_of start c.args.made.now c.events.tracer.numbering (g.O.Sink.taken c.args.sink.now) (g.O.Sink.taken c.events.sink) (g.P.Sink.taken c.args.guest.now) (g.P.Sink.taken c.events.guest) c.args.visits.now c.in-Ok-turn.progress.quiet c.events.e (G.state c.events.machine) turn.from c.events.tracer.stamps turn.between c.events.visits
+    (record { runs = c.events.invariant.runs reached decides; told = c.events.invariant.told reached decides; so_far = c.events.invariant.visits reached decides; talks = c.events.invariant.says reached decides }) turn.comes.events in
+    let last = λ (o : ℕ). noted_before reached given start c.args.made.now o e in
+    let listed = listed_here reached decides given start c.args.made.now e _ _ _ _ stands.runs (λ o. get_or turn.between o 0) stands.told in
+    let turns = turn.turns reached decides last listed in
+    let put = whole_prefix _ _ _ (subst (λ b. g.O.Sink.taken c.put_all-in-events.new.sink ≡ with_more (g.O.Sink.taken c.events.sink) b) c.deref-in-events.ensures.value c.in_ok-put_all-2.ensures.ok) in
+    let few = cut_allowed reached given G.flush_visits_of start c.args.made.now e turn.from c.args.visits.now (c.events.visits + 8 * c.in-Ok-turn.progress.quiet) stands.so_far stands.runs.state c.turn.new.visits (turn.comes.visits reached decides) in
+    on_any c.from_residual-in_err-put_all-3.result (cut_putting reached given G.flush_visits_of start c.args.made.now (g.O.Sink.taken c.args.sink.now) c.args.visits.now c.turn.new.visits e _ _ _ _ stands.runs few (g.O.Sink.taken c.put_all-in-events.new.sink) _ put)
+
+pub returns-in_err-put_all-3-clause-said_prefix : goal.returns-in_err-put_all-3-clause-said_prefix
+returns-in_err-put_all-3-clause-said_prefix g c reached decides =
+    let G = g.G.Guest in
+    let given = setting_of (G.event_of c.args.code.now) G.unended_of G.graph_of G.flushed_of (g.G.Code.Program.names c.args.code.now) c.args.options.now in
+    let start = G.state c.args.machine.now in
+    let said = G.said_of c.args.code.now in
+    let turn = c.in-Ok-turn.ensures.turn in
+    let e : ℕ = c.events.e + c.in-Ok-turn.progress.quiet in
+    let stands = stands_on reached decides given said G.flush_visits_of start c.args.made.now c.events.tracer.numbering (g.O.Sink.taken c.args.sink.now) (g.O.Sink.taken c.events.sink) (g.P.Sink.taken c.args.guest.now) (g.P.Sink.taken c.events.guest) c.args.visits.now c.in-Ok-turn.progress.quiet c.events.e (G.state c.events.machine) turn.from c.events.tracer.stamps turn.between c.events.visits
+    (record { runs = c.events.invariant.runs reached decides; told = c.events.invariant.told reached decides; so_far = c.events.invariant.visits reached decides; talks = c.events.invariant.says reached decides }) turn.comes.events in
+    let last = λ (o : ℕ). noted_before reached given start c.args.made.now o e in
+    let listed = listed_here reached decides given start c.args.made.now e _ _ _ _ stands.runs (λ o. get_or turn.between o 0) stands.told in
+    let turns = turn.turns reached decides last listed in
+    let taken = subst (λ b. TakesPrefix (g.P.Sink.taken c.events.guest) (g.P.Sink.taken c.put_all-in-events-2.new.sink) b) c.deref-in-events-2.ensures.value c.in_err-put_all-3.ensures.err in
+    on_any c.from_residual-in_err-put_all-3.result (say_turn reached given said start c.args.made.now e _ _ stands.talks stands.runs.first turn.from c.turn.new.tracer.output.said.items stands.runs.state c.in-Ok-turn.progress.end (g.P.Sink.taken c.put_all-in-events-2.new.sink)
+    (λ is. (turn_on reached given start c.args.made.now e _ _ _ _ _ stands.runs c.in-Ok-turn.progress.end _ _ _ _ _ c.clear.ensures.items is turns _ _ refl refl).first) (turn.says reached decides) taken)
+
+pub returns-in_err-put_all-3-clause-said_cut : goal.returns-in_err-put_all-3-clause-said_cut
+returns-in_err-put_all-3-clause-said_cut g c reached decides =
+    let G = g.G.Guest in
+    let given = setting_of (G.event_of c.args.code.now) G.unended_of G.graph_of G.flushed_of (g.G.Code.Program.names c.args.code.now) c.args.options.now in
+    let start = G.state c.args.machine.now in
+    let said = G.said_of c.args.code.now in
+    let turn = c.in-Ok-turn.ensures.turn in
+    let e : ℕ = c.events.e + c.in-Ok-turn.progress.quiet in
+    let stands = stands_on reached decides given said G.flush_visits_of start c.args.made.now c.events.tracer.numbering (g.O.Sink.taken c.args.sink.now) (g.O.Sink.taken c.events.sink) (g.P.Sink.taken c.args.guest.now) (g.P.Sink.taken c.events.guest) c.args.visits.now c.in-Ok-turn.progress.quiet c.events.e (G.state c.events.machine) turn.from c.events.tracer.stamps turn.between c.events.visits
+    (record { runs = c.events.invariant.runs reached decides; told = c.events.invariant.told reached decides; so_far = c.events.invariant.visits reached decides; talks = c.events.invariant.says reached decides }) turn.comes.events in
+    let taken = subst (λ b. TakesPrefix (g.P.Sink.taken c.events.guest) (g.P.Sink.taken c.put_all-in-events-2.new.sink) b) c.deref-in-events-2.ensures.value c.in_err-put_all-3.ensures.err in
+    let few = cut_allowed reached given G.flush_visits_of start c.args.made.now e turn.from c.args.visits.now (c.events.visits + 8 * c.in-Ok-turn.progress.quiet) stands.so_far stands.runs.state c.turn.new.visits (turn.comes.visits reached decides) in
+    on_any c.from_residual-in_err-put_all-3.result (said_putting reached given said start c.args.made.now e _ _ stands.talks stands.runs.first G.flush_visits_of c.args.visits.now c.turn.new.visits few (g.P.Sink.taken c.put_all-in-events-2.new.sink) _ taken)
+
+pub returns-in_err-put_all-3-clause-write : goal.returns-in_err-put_all-3-clause-write
+returns-in_err-put_all-3-clause-write g c =
+    let counted : g.P.Sink.faults c.put_all-in-events-2.new.sink ≡ count_after (is_write_fault c.from_residual-in_err-put_all-3.result) (g.P.Sink.faults c.args.guest.now) = search rules in
+    inr (c.in_ok-put_all-2.ensures.write ∙ c.events.invariant.faults, counted)
+
+pub returns-in-Some-clause-said : goal.returns-in-Some-clause-said
+returns-in-Some-clause-said g c reached decides =
+    let G = g.G.Guest in
+    let given = setting_of (G.event_of c.args.code.now) G.unended_of G.graph_of G.flushed_of (g.G.Code.Program.names c.args.code.now) c.args.options.now in
+    let start = G.state c.args.machine.now in
+    let said = G.said_of c.args.code.now in
+    let turn = c.in-Ok-turn.ensures.turn in
+    let e : ℕ = c.events.e + c.in-Ok-turn.progress.quiet in
+    let stands = stands_on reached decides given said G.flush_visits_of start c.args.made.now c.events.tracer.numbering (g.O.Sink.taken c.args.sink.now) (g.O.Sink.taken c.events.sink) (g.P.Sink.taken c.args.guest.now) (g.P.Sink.taken c.events.guest) c.args.visits.now c.in-Ok-turn.progress.quiet c.events.e (G.state c.events.machine) turn.from c.events.tracer.stamps turn.between c.events.visits
+    (record { runs = c.events.invariant.runs reached decides; told = c.events.invariant.told reached decides; so_far = c.events.invariant.visits reached decides; talks = c.events.invariant.says reached decides }) turn.comes.events in
+    record {
+      ends = (returns-in-Some-clause-trace g c reached decides).ends;
+      taken = talking_end reached given said start c.args.made.now e _ _ stands.talks stands.runs.first turn.from c.turn.new.tracer.output.said.items stands.runs.state c.in-Ok-turn.progress.end c.in-Some.end c.in-Some.is (turn.says reached decides) (g.P.Sink.taken c.put_all-in-events-2.new.sink)
+          (subst (λ b. g.P.Sink.taken c.put_all-in-events-2.new.sink ≡ with_more (g.P.Sink.taken c.events.guest) b) c.deref-in-events-2.ensures.value c.in_ok-put_all-3.ensures.ok);
+    }
+
+pub returns-in-Some-clause-write : goal.returns-in-Some-clause-write
+returns-in-Some-clause-write g c =
+    inl (c.in_ok-put_all-2.ensures.write ∙ c.events.invariant.faults, c.in_ok-put_all-3.ensures.write ∙ c.events.invariant.guest_faults)
+
+pub returns-in-Err-turn-clause-guest_never_falls : goal.returns-in-Err-turn-clause-guest_never_falls
+returns-in-Err-turn-clause-guest_never_falls g c =
+    omega (arith, c.events.invariant.guest_faults)
+
+pub returns-in_err-put_all-2-clause-guest_never_falls : goal.returns-in_err-put_all-2-clause-guest_never_falls
+returns-in_err-put_all-2-clause-guest_never_falls g c =
+    omega (arith, c.events.invariant.guest_faults)
+
+pub returns-in_err-put_all-3-clause-guest_never_falls : goal.returns-in_err-put_all-3-clause-guest_never_falls
+returns-in_err-put_all-3-clause-guest_never_falls g c =
+    omega (arith, c.events.invariant.guest_faults, c.in_err-put_all-3.ensures.never_falls)
+
+pub returns-in-Some-clause-guest_never_falls : goal.returns-in-Some-clause-guest_never_falls
+returns-in-Some-clause-guest_never_falls g c =
+    omega (arith, c.events.invariant.guest_faults, c.in_ok-put_all-3.ensures.never_falls)
+
+pub returns-in-Err-clause-said_cut : goal.returns-in-Err-clause-said_cut
+returns-in-Err-clause-said_cut g c reached decides = inl (refl, refl)
+
+pub returns-in-Err-begin-clause-said_cut : goal.returns-in-Err-begin-clause-said_cut
+returns-in-Err-begin-clause-said_cut g c reached decides = inl (refl, refl)
+
+pub returns-in_err-put_all-clause-said_cut : goal.returns-in_err-put_all-clause-said_cut
+returns-in_err-put_all-clause-said_cut g c reached decides = on_any c.from_residual.result (inl (refl, refl))

@@ -8,6 +8,7 @@ use Rattle.et_loop.specs.Told.{IsToldByStamps}
 use Rattle.et_loop.specs.Pace.{IsNextFlush, IsRota}
 use Rattle.et_loop.proofs.Counts.{AreSoFar}
 use Rattle.et_loop.proofs.Joins.{graphs}
+use Rattle.et_loop.proofs.Talking.{Talking}
 use Rattle.et_loop.proofs.run.run_guest.Given as goal
 
 abbrev pub invariant-events : goal.invariant-events
@@ -28,6 +29,8 @@ invariant-events g l =
       clock : G.clock_of (G.state l.machine) ≡ l.e;
       sound : G.is_sound l.code (G.state l.machine);
       faults : g.O.Sink.faults l.sink ≡ g.O.Sink.faults l.fn.sink;
+      says : (reached : Graph → ℕ → Bool) → Decides reached → Talking reached given (G.said_of l.code) (G.state l.fn.machine) l.made l.e (g.P.Sink.taken l.fn.guest) (g.P.Sink.taken l.guest);
+      guest_faults : g.P.Sink.faults l.guest ≡ g.P.Sink.faults l.fn.guest;
     }
 
 abbrev pub decreases-events : goal.decreases-events

@@ -2,8 +2,10 @@ use Rattle.std.proofs.Common.{inl, refl}
 use Rattle.et_program.specs.Entries.{Linked}
 use Rattle.et_event.specs.Start.{start_records}
 use Rattle.et_loop.proofs.RunLemmas.{front_nothing}
-use Rattle.et_history.specs.Whole.{whole_setting, whole_start}
-use Rattle.et_run.proofs.Running.{program_runs, program_starts, sound_run, whole_trace, whole_prefix, whole_visits, whole_cut}
+use Rattle.et_loop.proofs.Talking.{say_nothing}
+use Rattle.et_history.specs.Settings.{said_by}
+use Rattle.et_history.specs.Whole.{whole_setting, whole_start, whole_said}
+use Rattle.et_run.proofs.Running.{program_runs, program_starts, sound_run, whole_trace, whole_prefix, whole_visits, whole_cut, whole_says, whole_says_prefix, whole_says_cut}
 use Rattle.et_run.proofs.program_run.run.Goals as goal
 
 pub run_from-requires-clause-runnable : goal.run_from-requires-clause-runnable
@@ -47,3 +49,36 @@ returns-in-Ok-clause-cut g c reached decides =
 
 pub returns-in-Err-clause-cut : goal.returns-in-Err-clause-cut
 returns-in-Err-clause-cut g c reached decides = inl refl
+
+pub returns-in-Ok-clause-said : goal.returns-in-Ok-clause-said
+returns-in-Ok-clause-said g c reached decides =
+    let p : Linked = c.args.program.now in
+    let sound = sound_run p c.files_keep_rules.ensures c.programs_may_run.ensures c.first_state_is_sound.ensures c.is_linked.ensures.tabled c.is_linked.ensures.linked in
+    let before = g.G.Sink.taken c.args.guest.now in
+    let after = g.G.Sink.taken c.run_from.new.guest in
+    whole_says reached p c.args.options.now _ _ c.in-Ok.ensures.state c.in-Ok.ensures.records (said_by p) before after c.run_from.result
+    (λ ran. c.histories_say_the_same.ensures.said reached p c.args.options.now (said_by p) ran before after decides sound c.requires.options) (c.run_from.ensures.said reached decides)
+
+pub returns-in-Ok-clause-said_prefix : goal.returns-in-Ok-clause-said_prefix
+returns-in-Ok-clause-said_prefix g c reached decides =
+    let p : Linked = c.args.program.now in
+    let sound = sound_run p c.files_keep_rules.ensures c.programs_may_run.ensures c.first_state_is_sound.ensures c.is_linked.ensures.tabled c.is_linked.ensures.linked in
+    let before = g.G.Sink.taken c.args.guest.now in
+    let after = g.G.Sink.taken c.run_from.new.guest in
+    whole_says_prefix reached p c.args.options.now _ _ c.in-Ok.ensures.state c.in-Ok.ensures.records (said_by p) before after c.run_from.result
+    (c.histories_say_the_same.ensures.prefix reached p c.args.options.now (said_by p) before after decides sound c.requires.options) (c.run_from.ensures.said_prefix reached decides)
+
+pub returns-in-Ok-clause-said_cut : goal.returns-in-Ok-clause-said_cut
+returns-in-Ok-clause-said_cut g c reached decides =
+    let p : Linked = c.args.program.now in
+    let sound = sound_run p c.files_keep_rules.ensures c.programs_may_run.ensures c.first_state_is_sound.ensures c.is_linked.ensures.tabled c.is_linked.ensures.linked in
+    let before = g.G.Sink.taken c.args.guest.now in
+    let after = g.G.Sink.taken c.run_from.new.guest in
+    whole_says_cut reached p c.args.options.now _ _ c.in-Ok.ensures.state c.in-Ok.ensures.records (said_by p) before after c.args.visits.now c.run_from.new.visits c.run_from.result
+    (c.histories_say_the_same.ensures.cut reached p c.args.options.now (said_by p) before after c.args.visits.now c.run_from.new.visits decides sound c.requires.options) (c.run_from.ensures.said_cut reached decides)
+
+pub returns-in-Err-clause-said_prefix : goal.returns-in-Err-clause-said_prefix
+returns-in-Err-clause-said_prefix g c reached decides = say_nothing reached (whole_setting c.args.program.now c.args.options.now) (whole_said (said_by c.args.program.now)) (whole_start c.args.program.now) (start_records c.args.program.now) (g.G.Sink.taken c.args.guest.now)
+
+pub returns-in-Err-clause-said_cut : goal.returns-in-Err-clause-said_cut
+returns-in-Err-clause-said_cut g c reached decides = inl (refl, refl)

@@ -13,7 +13,7 @@ use Rattle.et_run.proofs.stretches.stretch.Goals as goal
 pub events-init : goal.events-init
 events-init g c =
     let heap : length c.machine.inside.heap ≡ length (kept_of c.args.machine.now).heap = ap (λ (m : MachineState). length (kept_of m).heap) c.machine.view_is in
-    going_first c.args.program.now c.args.slice.place c.args.slice.events c.args.machine.now.guest.clock (kept_of c.args.machine.now) c.args.stamps.now c.nth_unended-thread.result c.unended_count.result c.count.result c.args.visits.now c.args.out.now c.requires.some refl c.requires.sound c.requires.made c.requires.stamps c.requires.empty
+    going_first c.args.program.now c.args.slice.place c.args.slice.events c.args.machine.now.guest.clock (kept_of c.args.machine.now) c.args.stamps.now c.nth_unended-thread.result c.unended_count.result c.count.result c.args.visits.now c.args.out.now.records c.args.out.now.said.items c.requires.some refl c.requires.sound c.requires.made c.requires.stamps c.requires.empty c.requires.unsaid
     (omega (arith, c.count.ensures.value, heap)) (sym c.unended_count.ensures) (sym c.nth_unended-thread.ensures)
 
 pub machine_event-requires-clause-clock : goal.machine_event-requires-clause-clock
@@ -22,18 +22,18 @@ machine_event-requires-clause-clock g c = omega (arith, c.events.invariant.clock
 pub machine_event-requires-clause-thread : goal.machine_event-requires-clause-thread
 machine_event-requires-clause-thread g c =
     is_there c.args.program.now c.args.slice.place c.args.slice.events c.args.machine.now.guest.clock (kept_of c.args.machine.now) c.args.stamps.now c.nth_unended-thread.result c.unended_count.result c.count.result c.args.visits.now
-    c.events.quiet (kept_of c.events.machine) c.events.stamps c.events.out c.events.visits c.events.invariant (omega (arith, c.requires.place, c.unended_count.ensures))
+    c.events.quiet (kept_of c.events.machine) c.events.stamps c.events.out.records c.events.out.said.items c.events.visits c.events.invariant (omega (arith, c.requires.place, c.unended_count.ensures))
 
 pub returns-in_err-end-clause-broken : goal.returns-in_err-end-clause-broken
 returns-in_err-end-clause-broken g c =
     on_any c.from_residual.result
     (going_broken c.args.program.now c.args.slice.place c.args.slice.events c.args.machine.now.guest.clock (kept_of c.args.machine.now) c.args.stamps.now c.nth_unended-thread.result c.unended_count.result c.count.result c.args.visits.now
-    c.events.quiet (kept_of c.events.machine) c.events.stamps c.events.out c.events.visits c.events.invariant Done (kept_of c.machine_event.new.machine) c.machine_event.new.out c.machine_event.new.machine.lost c.machine_event.new.visits c.in_err-end.ensures.visits)
+    c.events.quiet (kept_of c.events.machine) c.events.stamps c.events.out.records c.events.out.said.items c.events.visits c.events.invariant Done (kept_of c.machine_event.new.machine) c.machine_event.new.out c.machine_event.new.machine.lost c.machine_event.new.visits c.in_err-end.ensures.visits)
 
 pub returns-then-quiet-slice-clause-stretch : goal.returns-then-quiet-slice-clause-stretch
 returns-then-quiet-slice-clause-stretch g c =
     going_ends c.args.program.now c.args.slice.place c.args.slice.events c.args.machine.now.guest.clock (kept_of c.args.machine.now) c.args.stamps.now c.nth_unended-thread.result c.unended_count.result c.count.result c.args.visits.now
-    c.events.quiet (kept_of c.events.machine) c.events.stamps c.events.out c.events.visits c.events.invariant c.in_ok-end.end (kept_of c.machine_event.new.machine) c.machine_event.new.out c.machine_event.new.machine.lost c.machine_event.new.visits
+    c.events.quiet (kept_of c.events.machine) c.events.stamps c.events.out.records c.events.out.said.items c.events.visits c.events.invariant c.in_ok-end.end (kept_of c.machine_event.new.machine) c.machine_event.new.out c.machine_event.new.machine.lost c.machine_event.new.visits
     c.in_ok-end.ensures.answers c.in_ok-end.ensures.step c.in_ok-end.ensures.visits
 
 pub returns-then-quiet-slice-clause-clock : goal.returns-then-quiet-slice-clause-clock
@@ -49,7 +49,7 @@ pub stamp_each-requires-clause-places : goal.stamp_each-requires-clause-places
 stamp_each-requires-clause-places g c = λ o h.
     let yes : IsTrue c.is_quiet.result = search rules in
     lost_there c.args.program.now c.args.slice.place c.args.slice.events c.args.machine.now.guest.clock (kept_of c.args.machine.now) c.args.stamps.now c.nth_unended-thread.result c.unended_count.result c.count.result c.args.visits.now
-    c.events.quiet (kept_of c.events.machine) c.events.stamps c.events.out c.events.visits c.events.invariant c.in_ok-end.end (kept_of c.machine_event.new.machine) c.machine_event.new.out c.machine_event.new.machine.lost c.machine_event.new.visits
+    c.events.quiet (kept_of c.events.machine) c.events.stamps c.events.out.records c.events.out.said.items c.events.visits c.events.invariant c.in_ok-end.end (kept_of c.machine_event.new.machine) c.machine_event.new.out c.machine_event.new.machine.lost c.machine_event.new.visits
     c.in_ok-end.ensures.answers c.in_ok-end.ensures.step (c.is_quiet.ensures.done yes) (c.is_quiet.ensures.objects yes) o (subst (λ (os : List ℕ). Contains os o) c.lost.ensures h)
 
 pub events-preserved : goal.events-preserved
@@ -59,8 +59,8 @@ events-preserved g c =
     let there = λ (o : ℕ) (h : Contains c.machine_event.new.machine.lost o). subst (λ (os : List ℕ). Contains os o) (sym c.lost.ensures) h in
     let back = λ (o : ℕ) (h : Contains c.lost.result.now o). subst (λ (os : List ℕ). Contains os o) c.lost.ensures h in
     let ticked = ticks_where c.in_ok-end.end c.events.machine.guest.clock c.machine_event.new.machine.guest.clock (c.is_quiet.ensures.done yes) (going_native c.args.program.now c.args.slice.place c.args.slice.events c.args.machine.now.guest.clock (kept_of c.args.machine.now) c.args.stamps.now c.nth_unended-thread.result c.unended_count.result c.count.result c.args.visits.now
-    c.events.quiet (kept_of c.events.machine) c.events.stamps c.events.out c.events.visits c.events.invariant c.in_ok-end.end (kept_of c.machine_event.new.machine) c.machine_event.new.out c.machine_event.new.machine.lost c.machine_event.new.visits c.in_ok-end.ensures.answers) c.in_ok-end.ensures.clock in
+    c.events.quiet (kept_of c.events.machine) c.events.stamps c.events.out.records c.events.out.said.items c.events.visits c.events.invariant c.in_ok-end.end (kept_of c.machine_event.new.machine) c.machine_event.new.out c.machine_event.new.machine.lost c.machine_event.new.visits c.in_ok-end.ensures.answers) c.in_ok-end.ensures.clock in
     going_on c.args.program.now c.args.slice.place c.args.slice.events c.args.machine.now.guest.clock (kept_of c.args.machine.now) c.args.stamps.now c.nth_unended-thread.result c.unended_count.result c.count.result c.args.visits.now
-    c.events.quiet (kept_of c.events.machine) c.events.stamps c.events.out c.events.visits c.events.invariant c.in_ok-end.end (kept_of c.machine_event.new.machine) c.machine_event.new.out c.machine_event.new.machine.lost c.machine_event.new.visits
+    c.events.quiet (kept_of c.events.machine) c.events.stamps c.events.out.records c.events.out.said.items c.events.visits c.events.invariant c.in_ok-end.end (kept_of c.machine_event.new.machine) c.machine_event.new.out c.machine_event.new.machine.lost c.machine_event.new.visits
     c.in_ok-end.ensures.answers c.in_ok-end.ensures.step (c.is_quiet.ensures.done yes) c.stamp_each.new.stamps (omega arith) (c.is_quiet.ensures.told yes) (c.is_quiet.ensures.objects yes) (c.is_quiet.ensures.threads yes) (c.is_quiet.ensures.thread yes)
     c.stamp_each.ensures.long (λ o h. c.stamp_each.ensures.each o (there o h) ∙ at) (λ o out. c.stamp_each.ensures.others o (λ h. out (back o h))) (omega (arith, ticked, c.events.invariant.clock)) c.in_ok-end.ensures.sound c.in_ok-end.ensures.visits
