@@ -1,3 +1,4 @@
 mod Converting
 mod EveryPack
+mod LinesLeft
 mod SpellingLemmas

@@ -1,2 +1,3 @@
-pub mod Spellings
 pub mod Conversions
+pub mod Rewriting
+pub mod Spellings

@@ -1,5 +1,5 @@
 -- THE SPELLINGS OF A TRACE, which the first byte tells apart.
-use Rattle.std.specs.Prelude.{ℕ, ◌==◌, if◌then◌else◌, List, [], ◌∷◌}
+use Rattle.std.specs.Prelude.{ℕ, ◌==◌, if◌then◌else◌, List, [], ◌∷◌, reverse}
 use Rattle.et_base.specs.declared.format.Format.{Format}
 use Rattle.et_base.specs.declared.format.Format.TheVariants as formats
 use Rattle.et_base.specs.declared.line.TraceLine.{TraceLine}
@@ -34,6 +34,12 @@ HasSpellingFault bytes kind number = HasFaultIn (format_in bytes) bytes kind num
 pub data HasSpellingAnswer (bytes : List ℕ) : Type 0 where
   IsSpelledTrace : (lines : List TraceLine) → SpellsTrace lines bytes → HasSpellingAnswer bytes
   IsRefusedTrace : (kind number : ℕ) → HasSpellingFault bytes kind number → HasSpellingAnswer bytes
+
+-- the bytes spell a good list, and the follower was handed its lines
+pub record IsTraceFollowed {F : Type 0} (follows : F → List TraceLine → Type 0) (follower : F) (bytes : List ℕ) : Type 0 where
+  pub lines : List TraceLine
+  pub spells : SpellsTrace lines bytes
+  pub followed : follows follower (reverse lines)
 
 -- the answer of a reader is the fault of the bytes by the rules of a format; want of memory says nothing
 abbrev pub IsAnswerIn : Format → List ℕ → TraceFault → Type 0

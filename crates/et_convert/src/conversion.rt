@@ -54,7 +54,8 @@ fn format_said(lines: &[TraceLine]) -> Format
     version_format(u64::from(version_of(lines)))
 }
 
-fn other_format(format: Format) -> Format
+/// The other of the two formats.
+pub fn other_format(format: Format) -> Format
     ensures { result ≡ other_format format }
 {
     match format {
@@ -64,7 +65,7 @@ fn other_format(format: Format) -> Format
 }
 
 /// Appends the line as a trace in this format has it, where a header says the version of that.
-fn put_line(bytes: &mut Vec<u8>, format: Format, line: &TraceLine) -> Result<(), NoMemory>
+pub fn put_line(bytes: &mut Vec<u8>, format: Format, line: &TraceLine) -> Result<(), NoMemory>
     requires short { HasShortNames line.now }
     ensures { OnOk result (bytes.new.items ≡ bytes.old.items ++ converted_line format line.now) }
 {

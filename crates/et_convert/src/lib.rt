@@ -4,6 +4,8 @@
 mod conversion;
 pub mod laws;
 mod reading;
+mod rewriting;
 
 pub use conversion::{convert_trace, version_format};
-pub use reading::{read_text, read_trace};
+pub use reading::{follow_trace, read_text, read_trace};
+pub use rewriting::{Unkept, convert_bytes};
