@@ -16,3 +16,4 @@ pub mod Unique
 pub mod Decided
 pub mod InitLemmas
 pub mod OrderLemmas
+pub mod OrderedLists

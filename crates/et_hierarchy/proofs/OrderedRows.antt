@@ -41,7 +41,7 @@ ordered_once table order order' done rows rows' i l sorted same lt making er el 
     let here : once (field_order_over rows at.above) ≡ field_order_over rows at.above = once_over rows at.above (above_is (λ p. once (ancestry_at rows p).field_order ≡ (ancestry_at rows p).field_order) at.above at.interfaces made) in
     subst (λ (rs : List Ancestry). once (field_order_over rs l.above) ≡ field_order_over rs l.above) (sym er) (subst (λ (x : LinkEntry). once (field_order_over rows x.above) ≡ field_order_over rows x.above) (sym links) here)
 
-ordered_all : (table : List LinkEntry) (order order' : List ℕ) (done : List Bool) (i : ℕ) → HasLinksWithin (length table) table → IsSorted table order done → order' ≡ order → IsAcyclic table → length order' ≤ i → (k : ℕ) → k < length table → IsAmong order' i k
+pub ordered_all : (table : List LinkEntry) (order order' : List ℕ) (done : List Bool) (i : ℕ) → HasLinksWithin (length table) table → IsSorted table order done → order' ≡ order → IsAcyclic table → length order' ≤ i → (k : ℕ) → k < length table → IsAmong order' i k
 ordered_all table order order' done i within sorted same acyclic over k lt =
     let s : IsSorted table order' done = same_sorted table order order' done same sorted in
     among_wider order' (length order') i k over ((s.marks k).0 (all_done table done within s.full acyclic k lt))

@@ -20,7 +20,7 @@ pub use check::check_set;
 pub use fault::{FaultKind, SetFault};
 pub use links::Links;
 pub use lists::ClassList;
-pub use order::{init_order, interfaces_to_run};
+pub use order::{class_orders, interfaces_to_run};
 pub use outlines::ClassOutline;
 pub use rows::Row;
 pub use tables::ancestries;

@@ -1,14 +1,16 @@
 //! The order of initialization (JVMS 5.5).
 
-ghost use Rattle.std.specs.Prelude.{◌≡◌, ℕ, ◌<◌, false, List, [], length, take, reverse, All, OnOk, IfOk};
-ghost use Rattle.std.specs.List.{slice_index_or, flat_map};
-ghost use Rattle.et_hierarchy.specs.Links.{HasLinksWithin};
-ghost use Rattle.et_hierarchy.specs.Ancestry.{ancestry_at, added_all, IsBelow};
-ghost use Rattle.et_hierarchy.specs.Initialization.{interfaces_to_run, with_interfaces, init_order};
+ghost use Rattle.std.specs.Prelude.{◌≡◌, ℕ, ◌<◌, ◌^◌, false, [], length, All, OnOk, IfOk, IfSome};
+ghost use Rattle.std.specs.List.{slice_index_or};
+ghost use Rattle.et_hierarchy.specs.Links.{no_links, IsAcyclic, HasLinksWithin};
+ghost use Rattle.et_hierarchy.specs.Ancestry.{added_all, once, IsAncestry};
+ghost use Rattle.et_hierarchy.specs.Initialization.{interfaces_to_run, with_interfaces, class_order, order_over};
 
 use crate::links::Links;
+use crate::lists::ClassList;
 use crate::rows::Row;
-use crate::tables::{add, add_all, add_interfaces, distinct};
+use crate::sorting::sort;
+use crate::tables::{add, add_all, add_each, add_interfaces, distinct};
 use et_base::ClassId;
 use indexmap::IndexSet;
 use std::alloc::{AllocError, Global};
@@ -100,56 +102,79 @@ fn add_with_interfaces(
     Ok(())
 }
 
-/// Puts superclasses, the topmost first, each after the interfaces that are initialized with it, behind a list.
-fn add_downward(
-    alloc: Global,
-    list: &mut IndexSet<u32>,
-    needs: &[bool],
-    table: &[Links],
-    rows: &[Row],
-    supers: &[ClassId],
-) -> Result<(), AllocError>
-    requires supers { All (λ k. k < length table.now) supers.now }
-    requires same { length rows.now ≡ length table.now }
-    requires within { HasLinksWithin (length table.now) table.now }
-    ensures { OnOk result (list.new.keys ≡ added_all list.old.keys (flat_map (with_interfaces
-        (λ k. slice_index_or needs.now k false) table.now rows.now) (reverse supers.now))) }
+/// The order of initialization of a superclass, among those that were found.
+fn order_over(orders: &[ClassList], above: Option<u32>) -> &[ClassId]
+    requires { IfSome above (λ s. s < length orders.now) }
+    ensures { result.now ≡ order_over orders.now above }
 {
-    let mut left = supers.len();
-    while left > 0 {
-        left -= 1;
-        add_with_interfaces(alloc, list, needs, table, rows, supers[left].number())?;
+    match above {
+        Some(class) => orders[class as usize].as_slice(),
+        None => &[],
     }
-    Ok(())
 }
 
-/// The classes that are initialized with a class, in order, and the class itself as the last; of an interface, itself
-/// alone (JVMS 5.5). The only error is want of memory.
-pub fn init_order(
+/// The order of initialization of a class that is no interface, by that of its superclass: that one, then the interfaces that
+/// are initialized with the class, and the class.
+fn order_of(
     alloc: Global,
-    is_interface: bool,
     needs: &[bool],
     table: &[Links],
     rows: &[Row],
+    orders: &[ClassList],
     class: u32,
-) -> Result<Vec<u32>, AllocError>
+) -> Result<ClassList, AllocError>
     requires class { class < length table.now }
     requires same { length rows.now ≡ length table.now }
+    requires each { length orders.now ≡ length table.now }
     requires within { HasLinksWithin (length table.now) table.now }
-    requires below { (k : ℕ) →
-        k < length table.now → IsBelow (length table.now) (ancestry_at rows.now k) }
-    ensures { IfOk result (λ list. list.items ≡ init_order is_interface
-        (λ k. slice_index_or needs.now k false) table.now rows.now class) }
+    ensures { IfOk result (λ list. list ≡ added_all
+        (once (order_over orders.now (slice_index_or table.now class no_links).above))
+        (with_interfaces (λ k. slice_index_or needs.now k false) table.now rows.now class)) }
 {
-    if is_interface {
-        let mut list = Vec::new(alloc);
-        list.push(class)?;
-        return Ok(list);
-    }
+    let links = &table[class as usize];
     let mut list = IndexSet::new(alloc);
-    let row = &rows[class as usize];
-    add_downward(alloc, &mut list, needs, table, rows, row.supers())?;
+    add_each(&mut list, order_over(orders, links.above()))?;
     add_with_interfaces(alloc, &mut list, needs, table, rows, class)?;
-    let order = Vec::from_slice(alloc, list.as_slice())?;
+    let order = ClassList::of_numbers(alloc, list.as_slice())?;
     Ok(order)
+}
+
+/// As many empty lists.
+fn empty_orders(alloc: Global, count: usize) -> Result<Vec<ClassList>, AllocError>
+    ensures { IfOk result (λ orders. length orders.items ≡ count) }
+{
+    let nothing = ClassList::of(Vec::new(alloc))?;
+    let mut orders = Vec::with_capacity(alloc, count)?;
+    for _ in 0..count {
+        orders.push(nothing.share()?)?;
+    }
+    Ok(orders)
+}
+
+/// Of each class the classes that are initialized with it, in order, and the class itself as the last, as of a class that is
+/// no interface (JVMS 5.5). The classes are taken in an order in which each stands behind its superclass, whose list is gone
+/// on with. The only error is want of memory.
+pub fn class_orders(
+    alloc: Global,
+    needs: &[bool],
+    table: &[Links],
+    rows: &[Row],
+) -> Result<Vec<ClassList>, AllocError>
+    requires few { length table.now < 2 ^ 32 }
+    requires within { HasLinksWithin (length table.now) table.now }
+    requires acyclic { IsAcyclic table.now }
+    requires rows { IsAncestry table.now rows.now }
+    ensures each { IfOk result (λ orders. length orders.items ≡ length table.now) }
+    ensures order { IfOk result (λ orders. (k : ℕ) → k < length table.now →
+        slice_index_or orders.items k []
+        ≡ class_order (λ k. slice_index_or needs.now k false) table.now rows.now k) }
+{
+    let sorting = sort(alloc, table)?;
+    let order = sorting.order();
+    let mut orders = empty_orders(alloc, table.len())?;
+    for class in order {
+        let list = order_of(alloc, needs, table, rows, orders.as_slice(), *class)?;
+        orders[*class as usize] = list;
+    }
+    Ok(orders)
 }

@@ -42,7 +42,7 @@ pub(crate) fn distinct(alloc: Global, classes: &[u32]) -> Result<IndexSet<u32>, 
 }
 
 /// Puts each of these classes behind a list, unless the list has it.
-fn add_each(list: &mut IndexSet<u32>, classes: &[ClassId]) -> Result<(), AllocError>
+pub(crate) fn add_each(list: &mut IndexSet<u32>, classes: &[ClassId]) -> Result<(), AllocError>
     ensures { OnOk result (list.new.keys ≡ added_all list.old.keys classes.now) }
 {
     for class in classes {

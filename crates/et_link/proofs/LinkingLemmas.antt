@@ -14,6 +14,7 @@ use Rattle.et_hierarchy.specs.Faults.{IsLinkFault, IsFaultless, kind_number}
 use Rattle.et_hierarchy.specs.declared.fault.FaultKind.{FaultKind}
 use Rattle.et_hierarchy.specs.declared.fault.FaultKind.TheVariants as set
 use Rattle.et_hierarchy.specs.Ancestry.{Ancestry, ancestry_at, IsAncestry, IsBelow}
+use Rattle.et_hierarchy.specs.Initialization.{class_order}
 use Rattle.et_hierarchy.proofs.LinkLemmas.{are_within}
 use Rattle.et_program.specs.declared.info.MethodInfo.{MethodInfo}
 use Rattle.et_program.specs.declared.info.FieldInfo.{FieldInfo}
@@ -329,3 +330,11 @@ pub tabled_program : (files : List LoadedClass) (rows : List Ancestry) (p : Link
 tabled_program files rows p main are m e few_c few_m few_f =
     let n = length-classes (heads_of files rows) (set_of files) (class_names_of files) in
     subst IsTabled (sym e) (tabled files rows p.pools main are m (omega arith) few_m few_f)
+
+-- the orders of initialization, as they were found
+pub orders_known : (needs : List Bool) (table : List LinkEntry) (rows : List Ancestry) (needs' : List Bool) (table' : List LinkEntry) (rows' : List Ancestry) (orders : List (List ℕ)) → needs' ≡ needs → table' ≡ table → rows' ≡ rows
+    → ((k : ℕ) → k < length table' → slice_index_or orders k [] ≡ class_order (λ c. slice_index_or needs' c false) table' rows' k) → (k : ℕ) → k < length table → slice_index_or orders k [] ≡ class_order (λ c. slice_index_or needs c false) table rows k
+orders_known needs table rows needs' table' rows' orders en et er found k lt =
+    found k (subst (λ (t : List LinkEntry). k < length t) (sym et) lt)
+    ∙ (ap (λ (ns : List Bool). class_order (λ c. slice_index_or ns c false) table' rows' k) en
+    ∙ (ap (λ (t : List LinkEntry). class_order (λ c. slice_index_or needs c false) t rows' k) et ∙ ap (λ (r : List Ancestry). class_order (λ c. slice_index_or needs c false) table r k) er))

@@ -17,7 +17,7 @@ use crate::heads::FieldList;
 use crate::members::class_at_place;
 use crate::names::{ArrayNames, element_of, kind_of};
 use et_base::{ClassId, MethodId, Name, NoMemory};
-use et_hierarchy::{ClassList, ClassOutline, Links, Row, init_order, interfaces_to_run};
+use et_hierarchy::{ClassList, ClassOutline, Links, Row, interfaces_to_run};
 use et_program::{Above, Class, ClassInfo, Element, Kind, Leaf, NameIndex};
 use std::alloc::Global;
 
@@ -30,6 +30,8 @@ pub(crate) struct Known {
     pub own: Vec<u32>,
     pub above: Vec<u32>,
     pub needs: Vec<bool>,
+    /// The order of initialization of each, as of a class that is no interface.
+    pub orders: Vec<ClassList>,
     pub initializers: Vec<Option<MethodId>>,
     pub constants: Vec<FieldList>,
     pub places: NameIndex,
@@ -75,6 +77,26 @@ fn prerequisites(
     class_ids(alloc, list.as_slice())
 }
 
+/// The order of initialization of a class of the set: of an interface, itself alone (JVMS 5.5).
+fn order_of(
+    alloc: Global,
+    known: &Known,
+    class: ClassId,
+    is_interface: bool,
+) -> Result<ClassList, NoMemory>
+    requires class { class < length known.now.table.items }
+    requires sized { AreSized known.now }
+    ensures { IfOk result (λ list. list ≡ init_order is_interface
+        (heads_in known.now).needs known.now.table.items known.now.rows.items class) }
+{
+    if !is_interface {
+        let shared = known.orders[class.number() as usize].share()?;
+        return Ok(shared);
+    }
+    let alone = ClassList::of(vec![in alloc; class]?)?;
+    Ok(alone)
+}
+
 /// The classes above a class of the set.
 fn above_of(
     alloc: Global,
@@ -90,18 +112,14 @@ fn above_of(
         (λ a. a.superinterfaces.items ≡ (ancestry_at known.now.rows.items class).superinterfaces) }
     ensures field_order { IfOk result
         (λ a. a.field_order ≡ (ancestry_at known.now.rows.items class).field_order) }
-    ensures init_order { IfOk result (λ a. a.init_order.items ≡ init_order is_interface
+    ensures init_order { IfOk result (λ a. a.init_order ≡ init_order is_interface
         (heads_in known.now).needs known.now.table.items known.now.rows.items class) }
 {
-    let rows = known.rows.as_slice();
-    let table = known.table.as_slice();
-    let row = &rows[class.number() as usize];
+    let row = &known.rows[class.number() as usize];
     let supers = row.list_of_supers().share()?;
     let superinterfaces = class_ids(alloc, row.superinterfaces())?;
     let field_order = row.list_of_field_order().share()?;
-    let needs = known.needs.as_slice();
-    let order = init_order(alloc, is_interface, needs, table, rows, class.number())?;
-    let init_order = class_ids(alloc, order.as_slice())?;
+    let init_order = order_of(alloc, known, class, is_interface)?;
     Ok(Above {
         supers,
         superinterfaces,
@@ -207,7 +225,7 @@ fn above_array(alloc: Global, class: ClassId) -> Result<Above, NoMemory>
         (λ a. a.superinterfaces.items ≡ cloneable ∷ serializable ∷ []) }
     ensures field_order { IfOk result
         (λ a. a.field_order ≡ class ∷ cloneable ∷ object ∷ serializable ∷ []) }
-    ensures init_order { IfOk result (λ a. a.init_order.items ≡ class ∷ []) }
+    ensures init_order { IfOk result (λ a. a.init_order ≡ class ∷ []) }
 {
     let object = ClassId::new(OBJECT);
     let cloneable = ClassId::new(CLONEABLE);
@@ -216,7 +234,7 @@ fn above_array(alloc: Global, class: ClassId) -> Result<Above, NoMemory>
     let superinterfaces = vec![in alloc; cloneable, serializable]?;
     let searched = vec![in alloc; class, cloneable, object, serializable]?;
     let field_order = ClassList::of(searched)?;
-    let init_order = vec![in alloc; class]?;
+    let init_order = ClassList::of(vec![in alloc; class]?)?;
     Ok(Above {
         supers,
         superinterfaces,

@@ -4,8 +4,8 @@ ghost use Rattle.std.specs.Prelude.{◌≡◌, ℕ, ◌+◌, ◌<◌, ◌≤◌,
 ghost use Rattle.std.specs.List.{slice_index_or};
 ghost use Rattle.et_program.specs.Indices.{number_of_name};
 ghost use Rattle.et_hierarchy.specs.Outline.{class_place};
-ghost use Rattle.et_hierarchy.specs.Links.{HasLinksWithin};
-ghost use Rattle.et_hierarchy.specs.Ancestry.{ancestry_at, IsBelow};
+ghost use Rattle.et_hierarchy.specs.Links.{IsAcyclic, HasLinksWithin};
+ghost use Rattle.et_hierarchy.specs.Ancestry.{ancestry_at, IsAncestry, IsBelow};
 ghost use Rattle.et_program.specs.declared.info.MethodInfo.{MethodInfo as MethodOf};
 ghost use Rattle.et_program.specs.declared.info.FieldInfo.{FieldInfo as FieldOf};
 ghost use Rattle.et_program.specs.Tables.{IsTabled};
@@ -33,7 +33,7 @@ use crate::refusal::{check_methods, check_names, refusal};
 use crate::slots::{own_slots, place_fields, slots_above, static_fields};
 use et_base::{MethodId, Name, NoMemory};
 use et_class::ClassFile;
-use et_hierarchy::{ClassOutline, ancestries};
+use et_hierarchy::{ClassOutline, ancestries, class_orders};
 use et_program::{FieldInfo, MethodIndex, MethodInfo, Program, Tables};
 use std::alloc::Global;
 
@@ -63,6 +63,9 @@ fn know(
     requires within { HasLinksWithin (length set.now) hierarchy.table.items }
     requires below { (k : ℕ) →
         k < length set.now → IsBelow (length set.now) (ancestry_at hierarchy.rows.items k) }
+    requires few { length set.now < 2 ^ 32 }
+    requires acyclic { IsAcyclic hierarchy.table.items }
+    requires ancestry { IsAncestry hierarchy.table.items hierarchy.rows.items }
     requires methods { All (λ (m : MethodOf). m.class < length set.now) methods.now }
     requires fields { All (λ (f : FieldOf). f.class < length set.now) fields.now }
     requires few_methods { length methods.now < 2 ^ 32 }
@@ -93,6 +96,7 @@ fn know(
     let own = own_slots(alloc, fields, count)?;
     let above = slots_above(alloc, own.as_slice(), rows.as_slice())?;
     let needs = classes_to_run(alloc, methods, count)?;
+    let orders = class_orders(alloc, needs.as_slice(), table.as_slice(), rows.as_slice())?;
     let initializers = initializers(alloc, methods, count)?;
     let constants = constants(alloc, fields, count)?;
     let places = index_set(alloc, set)?;
@@ -104,6 +108,7 @@ fn know(
         own,
         above,
         needs,
+        orders,
         initializers,
         constants,
         places,

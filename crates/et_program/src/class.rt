@@ -18,7 +18,7 @@ pub struct Above {
     /// The class and all that is above it, each once, in the order of field resolution (JVMS 5.4.3.2).
     pub field_order: ClassList,
     /// What is initialized with it, and then itself (JVMS 5.5).
-    pub init_order: Vec<ClassId>,
+    pub init_order: ClassList,
 }
 
 /// A class with what is above it.
@@ -28,7 +28,7 @@ pub struct Class {
     supers: ClassList,
     superinterfaces: Vec<ClassId>,
     field_order: ClassList,
-    init_order: Vec<ClassId>,
+    init_order: ClassList,
     kind: Kind,
     array: Option<ClassId>,
 }
@@ -44,7 +44,7 @@ impl Model for Class {
       supers = c.supers;
       superinterfaces = c.superinterfaces.items;
       field_order = c.field_order;
-      init_order = c.init_order.items;
+      init_order = c.init_order;
       kind = c.kind;
       array = c.array;
     } };
@@ -60,7 +60,7 @@ impl Class {
           supers = above.supers;
           superinterfaces = above.superinterfaces.items;
           field_order = above.field_order;
-          init_order = above.init_order.items;
+          init_order = above.init_order;
           kind = kind;
           array = array;
         } }

@@ -1,4 +1,6 @@
 use Rattle.std.proofs.Common.{◌≡◌, ◌∙◌, List, length, map, refl, ap, sym, subst, arith}
+use Rattle.et_hierarchy.specs.Links.{LinkEntry}
+use Rattle.et_hierarchy.specs.Ancestry.{IsAncestry}
 use Rattle.et_pool.specs.Entries.{Constants}
 use Rattle.et_program.specs.Entries.{Linked}
 use Rattle.et_link.specs.declared.reading.Declared.{Declared}
@@ -7,12 +9,21 @@ use Rattle.et_program.specs.Files.{set_of}
 use Rattle.et_program.specs.Loaded.{loaded_class}
 use Rattle.et_program.specs.MembersOf.{HasPools}
 use Rattle.et_program.specs.ProgramOf.{program_with, class_names_of}
-use Rattle.et_link.proofs.LinkingLemmas.{below_set, own_along, fields_along, tabled_program}
+use Rattle.et_link.proofs.LinkingLemmas.{below_set, acyclic_along, own_along, fields_along, tabled_program}
 use Rattle.et_link.proofs.BuildLemmas.{built, built_names}
 use Rattle.et_link.proofs.linking.build.Goals as goal
 
 pub know-requires-clause-below : goal.know-requires-clause-below
 know-requires-clause-below c = below_set (map loaded_class c.requires.0) c.as_slice-set.result.now c.args.declared.hierarchy.rows.items c.args.declared.hierarchy.rows.items c.requires.1.declared.rows_are (c.as_slice-set.ensures.value ∙ c.requires.1.declared.set_is) refl
+
+pub know-requires-clause-few : goal.know-requires-clause-few
+know-requires-clause-few c = omega (arith, ap length c.as_slice-set.ensures.value, c.requires.1.declared.few_classes)
+
+pub know-requires-clause-acyclic : goal.know-requires-clause-acyclic
+know-requires-clause-acyclic c = acyclic_along (set_of (map loaded_class c.requires.0)) c.args.declared.hierarchy.table.items c.requires.1.declared.table_is c.requires.1.declared.faultless
+
+pub know-requires-clause-ancestry : goal.know-requires-clause-ancestry
+know-requires-clause-ancestry c = subst (λ (t : List LinkEntry). IsAncestry t c.args.declared.hierarchy.rows.items) (sym c.requires.1.declared.table_is) c.requires.1.declared.ancestry
 
 pub know-requires-clause-methods : goal.know-requires-clause-methods
 know-requires-clause-methods c = own_along (map loaded_class c.requires.0) _ _ (c.as_slice-set.ensures.value ∙ c.requires.1.declared.set_is) (c.as_slice-methods.ensures.value ∙ c.requires.1.declared.methods_are)
