@@ -12,7 +12,7 @@ use Rattle.et_top.specs.Faults.{Fault, TooLong}
 use Rattle.et_top.specs.Loaded.{file_bytes, most_of_trace, IsTraceOf}
 use Rattle.et_convert.specs.Spellings.{SpellsTrace}
 use Rattle.et_convert.specs.Conversions.{converted_lines, converted_bytes}
-use Rattle.et_top.specs.Top.{Defined, Usage, Refused, Writes, Traces, Benches, IsAskedDefined, defined_text}
+use Rattle.et_top.specs.Top.{Defined, Usage, Refused, Writes, Traces, Verifies, Benches, IsAskedDefined, defined_text}
 use Rattle.et_top.proofs.ReadLemmas.{bytes_there}
 
 -- what is written, where something is
@@ -21,6 +21,7 @@ text_in (Writes text) = text
 text_in Usage = λ reached. []
 text_in (Refused fault) = λ reached. []
 text_in (Traces program options) = λ reached. []
+text_in (Verifies program) = λ reached. []
 text_in (Benches program) = λ reached. []
 
 writes_one : (a b : List ℕ) → Writes (λ reached. a) ≡ Writes (λ reached. b) → a ≡ b
@@ -32,6 +33,7 @@ IsWritten (Writes text) = Unit {0}
 IsWritten Usage = ⊥
 IsWritten (Refused fault) = ⊥
 IsWritten (Traces program options) = ⊥
+IsWritten (Verifies program) = ⊥
 IsWritten (Benches program) = ⊥
 
 not_refused : (text : (Graph → ℕ → Bool) → List ℕ) (fault : Fault) → Writes text ≡ Refused fault → ⊥

@@ -9,7 +9,8 @@ use Rattle.et_top.specs.Bench.{summary_text}
 use Rattle.et_top.specs.Faults.{Fault, Absent, TooLong, BadClass, BadText, BadTrace, LinkFault, status_of_fault}
 use Rattle.et_top.specs.Process.{EndsAs}
 use Rattle.et_top.specs.Status.{is_whole, is_write_status}
-use Rattle.et_top.specs.Top.{Defined, Usage, Refused, Writes, Traces, Benches, WritesSummary, CutsSummary, GivesDefined}
+use Rattle.et_top.specs.Top.{Defined, Usage, Refused, Writes, Verifies, Traces, Benches, WritesSummary, CutsSummary, verified_text, GivesDefined}
+use Rattle.et_verify.specs.Verdicts.{verified_count}
 use Rattle.et_top.specs.declared.status.Status.{Status}
 use Rattle.et_top.specs.declared.status.Status.TheVariants as status
 use Rattle.et_top.proofs.FaultLemmas.{rose_one}
@@ -26,6 +27,7 @@ of_whole P done ill limit status.BadClass whole = absurd (cc whole)
 of_whole P done ill limit status.BadText whole = absurd (cc whole)
 of_whole P done ill limit status.BadTrace whole = absurd (cc whole)
 of_whole P done ill limit status.LinkFault whole = absurd (cc whole)
+of_whole P done ill limit status.Rejected whole = absurd (cc whole)
 of_whole P done ill limit status.ReadFault whole = absurd (cc whole)
 of_whole P done ill limit status.WriteFault whole = absurd (cc whole)
 of_whole P done ill limit status.NoMemory whole = absurd (cc whole)
@@ -63,6 +65,9 @@ module _ (reached : Graph → ℕ → Bool) (before after : Option (List ℕ)) (
   cut_gives (Writes text) came whole rose h =
       of_whole (λ s. GivesDefined reached before after old new read written (Writes text) s → GivesDefined reached before after 0 0 read later (Writes text) status.WriteFault)
       (λ is. (rose, whole_front before after (text reached) is)) (λ none. absurd none) (λ none. absurd none) came whole h
+  cut_gives (Verifies program) came whole rose h =
+      of_whole (λ s. GivesDefined reached before after old new read written (Verifies program) s → GivesDefined reached before after 0 0 read later (Verifies program) status.WriteFault)
+      (λ is. (rose, (is.0, whole_front before after (verified_text (verified_count program)) is.1))) (λ none. absurd none) (λ none. absurd none) came whole h
   cut_gives (Traces program options) came whole rose h =
       of_whole (λ s. GivesDefined reached before after old new read written (Traces program options) s → GivesDefined reached before after 0 0 read later (Traces program options) status.WriteFault)
       (λ is. (rose, record { wrote = whole_trace _ _ _ _ is.ran before after is.wrote; visits = inl refl }))

@@ -62,6 +62,7 @@ read_status (refusal.IllTyped thread class method descriptor pc) = refl
 read_status refusal.ObjectLimit = refl
 read_status (refusal.TooLong path) = refl
 read_status (refusal.LinkFault kind class) = refl
+read_status (refusal.Rejected class method descriptor) = refl
 
 -- A WRITE
 
@@ -79,6 +80,7 @@ no_write_status (refusal.IllTyped thread class method descriptor pc) of = absurd
 no_write_status refusal.ObjectLimit of = absurd of
 no_write_status (refusal.TooLong path) of = refl
 no_write_status (refusal.LinkFault kind class) of = refl
+no_write_status (refusal.Rejected class method descriptor) of = absurd of
 
 pub write_status : (wrote : Result (Unit {0}) RunFault) → is_write_status (status_of_writing wrote) ≡ is_write_fault wrote
 write_status (Ok done) = refl

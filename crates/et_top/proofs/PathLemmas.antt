@@ -1,17 +1,18 @@
--- A command `trace` has a path.
+-- A command `trace` or `verify` has a path.
 use Rattle.std.proofs.Common.{ℕ, ◌-◌, ◌^◌, ◌<◌, Bool, true, false, List, [], ◌∷◌, length, Option, Some, None, option_map, arith}
 use Rattle.std.specs.Prelude.{◌==◌, if◌then◌else◌, option_and_then}
 use Rattle.et_state.specs.declared.options.Options.{Options}
 use Rattle.et_top.specs.declared.command.Models.{Models}
 use Rattle.et_top.specs.Words.{Split, split}
 use Rattle.et_top.specs.Numbers.{number_within}
-use Rattle.et_top.specs.Command.{Asked, Trace, Assemble, Replay, Convert, Curve, Bench, command, asked, some_paths, plain_path, only_path, trace_options, replay_options}
+use Rattle.et_top.specs.Command.{Asked, Trace, Assemble, Verify, Replay, Convert, Curve, Bench, command, asked, some_paths, plain_path, plain_paths, only_path, trace_options, replay_options}
 
--- where it is `trace`, there is a path
+-- where it is `trace` or `verify`, there is a path
 pub HasPaths : Option Asked → Type 0
 HasPaths None = Unit {0}
 HasPaths (Some (Trace options paths)) = 0 < length paths
 HasPaths (Some (Assemble path)) = Unit {0}
+HasPaths (Some (Verify paths)) = 0 < length paths
 HasPaths (Some (Replay models path)) = Unit {0}
 HasPaths (Some (Convert path)) = Unit {0}
 HasPaths (Some (Curve path)) = Unit {0}
@@ -20,6 +21,10 @@ HasPaths (Some (Bench number)) = Unit {0}
 pub paths_of_trace : (options : Options) (paths : List (List ℕ)) → HasPaths (Some (Trace options paths)) → 0 < length paths
 unfolding HasPaths
 paths_of_trace options paths has = has
+
+pub paths_of_verify : (paths : List (List ℕ)) → HasPaths (Some (Verify paths)) → 0 < length paths
+unfolding HasPaths
+paths_of_verify paths has = has
 
 nothing_has : HasPaths None
 unfolding HasPaths
@@ -49,6 +54,25 @@ unfolding HasPaths
 assemble_has None = tt
 assemble_has (Some path) = tt
 
+paths_have : (paths : List (List ℕ)) → 0 < length paths → HasPaths (option_map Verify (Some paths))
+unfolding HasPaths
+paths_have paths some = some
+
+operands_have : (b : Bool) (paths : List (List ℕ)) → 0 < length paths → HasPaths (option_map Verify (if b then None else Some paths))
+operands_have true paths some = nothing_has
+operands_have false paths some = paths_have paths some
+
+some_have : (paths : List (List ℕ)) → HasPaths (option_map Verify (some_paths paths))
+some_have [] = nothing_has
+some_have (path ∷ paths) = operands_have (length (path ∷ paths) == 0) (path ∷ paths) (let some : 0 < length (path ∷ paths) = omega arith in some)
+
+verify_has : (s : Split) → HasPaths (option_map Verify (plain_paths s))
+verify_has s = by (length s.options == 0)
+  where
+    by : (b : Bool) → HasPaths (option_map Verify (if b then some_paths s.operands else None))
+    by true = some_have s.operands
+    by false = nothing_has
+
 convert_has : (o : Option (List ℕ)) → HasPaths (option_map Convert o)
 unfolding HasPaths
 convert_has None = tt
@@ -76,10 +100,11 @@ asked_has : (name : List ℕ) (s : Split) → HasPaths (asked name s)
 asked_has name s =
     either_has _ _ _ (trace_has s.operands (trace_options s.options))
     (either_has _ _ _ (assemble_has (plain_path s))
+    (either_has _ _ _ (verify_has s)
     (either_has _ _ _ (replay_has (replay_options s.options) (only_path s.operands))
     (either_has _ _ _ (convert_has (plain_path s))
     (either_has _ _ _ (curve_has (plain_path s))
-    (either_has _ _ _ (bench_has (option_and_then (number_within 0 (2 ^ 63 - 1)) (plain_path s))) nothing_has)))))
+    (either_has _ _ _ (bench_has (option_and_then (number_within 0 (2 ^ 63 - 1)) (plain_path s))) nothing_has))))))
 
 split_has : (name : List ℕ) (o : Option Split) → HasPaths (option_and_then (asked name) o)
 split_has name None = nothing_has

@@ -78,6 +78,7 @@ early_one (refusal.IllTyped thread class method descriptor pc) one = absurd one
 early_one refusal.ObjectLimit one = absurd one
 early_one (refusal.TooLong path) one = refl
 early_one (refusal.LinkFault kind class) one = absurd one
+early_one (refusal.Rejected class method descriptor) one = absurd one
 
 pub found_file : (found : Found) (answer : Result (Vec ℕ Global) Refusal) → TellsFound found answer → IfErr answer (λ r. IsFileRefusal (cause_of r))
 found_file (finds.Bytes bytes) answer is = subst (λ (a : Result (Vec ℕ Global) Refusal). IfErr a (λ r. IsFileRefusal (cause_of r))) (sym is) tt

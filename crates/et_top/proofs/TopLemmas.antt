@@ -1,5 +1,5 @@
 -- Lemmas on the top call's parts.
-use Rattle.std.proofs.Common.{◌≡◌, ℕ, ◌+◌, ◌≤◌, inl, inr, Bool, List, [], Option, Some, None, Result, Ok, Err, refl, sym, ◌∙◌, ap, subst, append-nil}
+use Rattle.std.proofs.Common.{◌≡◌, ℕ, ◌+◌, ◌≤◌, inl, inr, Bool, List, [], false, Option, Some, None, Result, Ok, Err, refl, sym, ◌∙◌, ap, subst, append-nil}
 use Rattle.std.specs.Prelude.{OnErr, OnOk}
 use Rattle.et_base.specs.declared.value.End.{End}
 use Rattle.et_base.specs.declared.value.End.TheVariants as ends
@@ -20,12 +20,20 @@ use Rattle.et_top.specs.Command.{Asked}
 use Rattle.et_top.specs.Asked.{asked_by}
 use Rattle.et_top.specs.declared.command.Command.{Command}
 use Rattle.et_replay.specs.declared.model.Kind.{Kind}
-use Rattle.et_top.specs.Top.{IsAskedDefined, Defined, Usage, Refused, Writes, Traces, defined_text, traces, Benches, benches, status_of_end, WritesHistory, GivesDefined}
+use Rattle.et_top.specs.Top.{IsAskedDefined, Defined, Usage, Refused, Writes, Verifies, Traces, defined_text, verifies, traces, Benches, benches, status_of_end, WritesHistory, GivesDefined}
 use Rattle.et_top.specs.declared.status.Status.{Status}
 use Rattle.et_top.specs.declared.status.Status.TheVariants as status
 use Rattle.et_top.specs.declared.refusal.Refusal.{Refusal}
 use Rattle.et_top.specs.declared.refusal.Refusal.TheVariants as refusal
 use Rattle.et_top.specs.Refusals.{status_of}
+use Rattle.et_verify.specs.Typings.{IsVerified}
+use Rattle.et_verify.specs.Verdicts.{verified_count}
+use Rattle.et_verify.specs.Verdicts.{Verifies as Verdict}
+use Rattle.et_verify.specs.declared.verdict.VerifyFault.{VerifyFault}
+use Rattle.et_verify.specs.declared.verdict.VerifyFault.TheVariants as verdict
+use Rattle.et_top.specs.Status.{is_read_status, is_write_status}
+use Rattle.et_top.specs.Told.{TellsVerdict}
+use Rattle.et_top.specs.Top.{verified_text}
 use Rattle.et_top.specs.Told.{Cause, File, Reading, Other, IsCause, cause_of, refusal_of, status_of_writing}
 
 -- nothing of a piece was taken
@@ -72,6 +80,33 @@ module _ (reached : Graph → ℕ → Bool) (before after : Option (List ℕ)) (
   history_more status.BadText h = absurd h
   history_more status.BadTrace h = absurd h
   history_more status.LinkFault h = absurd h
+  history_more status.Rejected h = absurd h
+
+-- .. and so of a verdict
+pub verdict_more : (reached : Graph → ℕ → Bool) (before after : Option (List ℕ)) (old new : ℕ) (read written : Type 0) (program : Linked) (answer : Status) → GivesDefined reached before after old new ⊥ written (Verifies program) answer → GivesDefined reached before after old new read written (Verifies program) answer
+verdict_more reached before after old new read written program status.Done h = h
+verdict_more reached before after old new read written program status.Rejected h = h
+verdict_more reached before after old new read written program status.WriteFault h = h
+verdict_more reached before after old new read written program status.NoMemory h = h
+verdict_more reached before after old new read written program status.ReadFault h = absurd h.0
+verdict_more reached before after old new read written program status.IllTyped h = absurd h
+verdict_more reached before after old new read written program status.ObjectLimit h = absurd h
+verdict_more reached before after old new read written program status.Usage h = absurd h
+verdict_more reached before after old new read written program status.Absent h = absurd h
+verdict_more reached before after old new read written program status.TooLong h = absurd h
+verdict_more reached before after old new read written program status.BadClass h = absurd h
+verdict_more reached before after old new read written program status.BadText h = absurd h
+verdict_more reached before after old new read written program status.BadTrace h = absurd h
+verdict_more reached before after old new read written program status.LinkFault h = absurd h
+
+-- A LINE THAT WAS WRITTEN of a program that is verified
+
+pub verified_gives : (reached : Graph → ℕ → Bool) (before after : Option (List ℕ)) (old new : ℕ) (read written : Type 0) (p : Linked) (wrote : Result (Unit {0}) RunFault)
+    → IsVerified p → OnOk wrote (after ≡ with_more before (verified_text (verified_count p))) → OnErr wrote (TakesPrefix before after (verified_text (verified_count p))) → ((wrote ≡ Err write.Write) → written)
+    → GivesDefined reached before after old new read written (Verifies p) (status_of_writing wrote)
+verified_gives reached before after old new read written p (Ok done) verified ok err rose = (verified, ok)
+verified_gives reached before after old new read written p (Err write.Write) verified ok err rose = (rose refl, (verified, err))
+verified_gives reached before after old new read written p (Err write.NoMemory) verified ok err rose = inr (verified, err)
 
 -- A TEXT THAT WAS WRITTEN
 
@@ -92,6 +127,24 @@ text_gives reached before after old new read written text found a d wrote answer
     (subst (GivesDefined reached before after old new read written (Writes (λ test. text test a))) (sym how)
     (writing_gives reached before after old new read written (λ test. text test a) wrote ok err rose))
 
+-- .. and of one that isn't
+pub unverified_gives : (reached : Graph → ℕ → Bool) (taken : Option (List ℕ)) (old new : ℕ) (read written : Type 0) (p : Linked) (fault : VerifyFault) (r : Refusal) (answer : Status)
+    → Verdict p (Err fault) → TellsVerdict p fault r → answer ≡ status_of r → GivesDefined reached taken taken old new read written (Verifies p) answer
+unverified_gives reached taken old new read written p (verdict.Rejected m) r answer is told how = subst (GivesDefined reached taken taken old new read written (Verifies p)) (sym (how ∙ told.1)) (refl, (m, is))
+unverified_gives reached taken old new read written p verdict.NoMemory r answer is told how = subst (GivesDefined reached taken taken old new read written (Verifies p)) (sym (how ∙ ap status_of told)) (inl refl)
+
+pub told_no_write : (p : Linked) (fault : VerifyFault) (r : Refusal) → TellsVerdict p fault r → is_write_status (status_of r) ≡ false
+told_no_write p (verdict.Rejected m) r told = ap is_write_status told.1
+told_no_write p verdict.NoMemory r told = ap is_write_status (ap status_of told)
+
+pub told_no_read : (p : Linked) (fault : VerifyFault) (r : Refusal) → TellsVerdict p fault r → is_read_status (status_of r) ≡ false
+told_no_read p (verdict.Rejected m) r told = ap is_read_status told.1
+told_no_read p verdict.NoMemory r told = ap is_read_status (ap status_of told)
+
+pub told_no_usage : (p : Linked) (fault : VerifyFault) (r : Refusal) → TellsVerdict p fault r → status_of r ≡ status.Usage → ⊥
+told_no_usage p (verdict.Rejected m) r told e = let x = told.1 in cc
+told_no_usage p verdict.NoMemory r told e = let x : status_of r ≡ status.NoMemory = ap status_of told in cc
+
 -- WHAT WAS REFUSED BEFORE ANYTHING WAS WRITTEN
 
 -- something is defined of what a file holds; where none is read, no read fails
@@ -99,6 +152,7 @@ abbrev IsLoaded : (read : Type 0) → Defined → Type 0
 IsLoaded read Usage = ⊥
 IsLoaded read (Refused fault) = Unit {0}
 IsLoaded read (Writes text) = Unit {0}
+IsLoaded read (Verifies program) = Unit {0}
 IsLoaded read (Traces program options) = Unit {0}
 IsLoaded read (Benches program) = read → ⊥
 
@@ -107,6 +161,7 @@ abbrev IsStill : ℕ → ℕ → Defined → Type 0
 IsStill old new Usage = Unit {0}
 IsStill old new (Refused fault) = Unit {0}
 IsStill old new (Writes text) = Unit {0}
+IsStill old new (Verifies program) = Unit {0}
 IsStill old new (Traces program options) = new ≡ old
 IsStill old new (Benches program) = new ≡ old
 
@@ -114,6 +169,7 @@ pub still : (visits : ℕ) (d : Defined) → IsStill visits visits d
 still visits Usage = tt
 still visits (Refused fault) = tt
 still visits (Writes text) = tt
+still visits (Verifies program) = tt
 still visits (Traces program options) = refl
 still visits (Benches program) = refl
 
@@ -122,6 +178,7 @@ module _ (reached : Graph → ℕ → Bool) (taken : Option (List ℕ)) (old new
   reading_gives Usage loaded h = absurd loaded
   reading_gives (Refused fault) loaded h = (refl, inr (inl (refl, h)))
   reading_gives (Writes text) loaded h = (h, refl)
+  reading_gives (Verifies program) loaded h = (h, refl)
   reading_gives (Traces program options) loaded h = (h, refl)
   reading_gives (Benches program) loaded h = absurd (loaded h)
 
@@ -129,6 +186,7 @@ module _ (reached : Graph → ℕ → Bool) (taken : Option (List ℕ)) (old new
   memory_gives Usage none = (refl, inr refl)
   memory_gives (Refused fault) none = (refl, inr (inr refl))
   memory_gives (Writes text) none = front_nothing taken (text reached)
+  memory_gives (Verifies program) none = inl refl
   memory_gives (Traces program options) none = record { wrote = λ e end last. front_nothing taken _; visits = inl none }
   memory_gives (Benches program) none = inl (refl, inl ([], inl none))
 
@@ -149,6 +207,7 @@ module _ (reached : Graph → ℕ → Bool) (taken : Option (List ℕ)) (old new
   by_cause d refusal.WriteFault loaded none file reads other = absurd (other refl)
   by_cause d refusal.ObjectLimit loaded none file reads other = absurd (other refl)
   by_cause d (refusal.IllTyped t c m descriptor p) loaded none file reads other = absurd (other refl)
+  by_cause d (refusal.Rejected c m descriptor) loaded none file reads other = absurd (other refl)
 
   cause_file : {A : Type 0} (found : Result A Fault) (cause : Cause) (fault : Fault) → IsCause read found cause → cause ≡ File fault → found ≡ Err fault
   cause_file found cause fault is e = subst (IsCause read found) e is
@@ -185,6 +244,20 @@ module _ (reached : Graph → ℕ → Bool) (taken : Option (List ℕ)) (old new
   refused_trace options found r d answer e is how none =
       subst (GivesDefined reached taken taken old new read written d) (sym how)
       (by_cause d r (subst (IsLoaded read) (sym e) (traces_loaded options found)) (subst (IsStill old new) (sym e) (traces_still options found none)) (λ fault c. e ∙ ap (traces options) (cause_file found (cause_of r) fault is c))
+      (cause_reads found (cause_of r) is) (cause_other found (cause_of r) is))
+
+  verifies_loaded : (found : Result Linked Fault) → IsLoaded read (verifies found)
+  verifies_loaded (Err fault) = tt
+  verifies_loaded (Ok program) = tt
+
+  verifies_still : (found : Result Linked Fault) → IsStill old new (verifies found)
+  verifies_still (Err fault) = tt
+  verifies_still (Ok program) = tt
+
+  pub refused_verdict : (found : Result Linked Fault) (r : Refusal) (d : Defined) (answer : Status) → d ≡ verifies found → IsCause read found (cause_of r) → answer ≡ status_of r → GivesDefined reached taken taken old new read written d answer
+  refused_verdict found r d answer e is how =
+      subst (GivesDefined reached taken taken old new read written d) (sym how)
+      (by_cause d r (subst (IsLoaded read) (sym e) (verifies_loaded found)) (subst (IsStill old new) (sym e) (verifies_still found)) (λ fault c. e ∙ ap verifies (cause_file found (cause_of r) fault is c))
       (cause_reads found (cause_of r) is) (cause_other found (cause_of r) is))
 
   benches_loaded : (found : Result Linked Fault) → (read → ⊥) → IsLoaded read (benches found)

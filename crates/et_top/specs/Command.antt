@@ -15,6 +15,8 @@ pub data Asked : Type 0 where
   Trace : (options : Options) → (paths : List (List ℕ)) → Asked
   -- the class file of a listing
   Assemble : (path : List ℕ) → Asked
+  -- whether each method of these files has a typing
+  Verify : (paths : List (List ℕ)) → Asked
   -- what these models of a heap report of a trace
   Replay : (models : Models) → (path : List ℕ) → Asked
   -- a trace in its other spelling
@@ -104,6 +106,10 @@ plain_path s = if length s.options == 0 then only_path s.operands else None
 abbrev pub some_paths : List (List ℕ) → Option (List (List ℕ))
 some_paths paths = if length paths == 0 then None else Some paths
 
+-- .. where there are no options
+abbrev pub plain_paths : Split → Option (List (List ℕ))
+plain_paths s = if length s.options == 0 then some_paths s.operands else None
+
 abbrev pub trace : Split → Option Asked
 trace s = option_and_then (λ paths. option_map (λ options. Trace options paths) (trace_options s.options)) (some_paths s.operands)
 
@@ -118,6 +124,7 @@ abbrev pub asked : List ℕ → Split → Option Asked
 asked name s =
     if bytes_eq name (codes "trace") then trace s
     else if bytes_eq name (codes "asm") then option_map Assemble (plain_path s)
+    else if bytes_eq name (codes "verify") then option_map Verify (plain_paths s)
     else if bytes_eq name (codes "replay") then replay s
     else if bytes_eq name (codes "convert") then option_map Convert (plain_path s)
     else if bytes_eq name (codes "curve") then option_map Curve (plain_path s)

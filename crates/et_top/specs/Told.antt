@@ -12,6 +12,9 @@ use Rattle.et_io.specs.declared.putting.RunFault.TheVariants as write
 use Rattle.std.specs.declared.vec.Vec.{Vec}
 use Rattle.std.specs.declared.alloc.Global.{Global}
 use Rattle.et_replay.specs.declared.model.Policy.{Policy}
+use Rattle.et_program.specs.Entries.{Linked, class_at, method_at}
+use Rattle.et_verify.specs.declared.verdict.VerifyFault.{VerifyFault}
+use Rattle.et_verify.specs.declared.verdict.VerifyFault.TheVariants as verdict
 use Rattle.et_top.specs.Refusals.{status_of}
 use Rattle.et_top.specs.declared.status.Status.{Status}
 use Rattle.et_top.specs.declared.status.Status.TheVariants as status
@@ -86,6 +89,17 @@ classes_read classes = map class_of classes.items
 abbrev pub status_of_result : {A : Type 0} → Result A Refusal → Status
 status_of_result (Ok done) = status.Done
 status_of_result (Err r) = status_of r
+
+-- the refusal names a method of the program: its class, its name and its descriptor
+abbrev pub IsRejectionOf : Linked → ℕ → Refusal → Type 0
+IsRejectionOf p m (refusal.Rejected class method descriptor) =
+    (class.0.now ≡ (class_at p (method_at p m).class).info.name) × (method.0.now ≡ (method_at p m).name) × (descriptor.0.now ≡ (method_at p m).descriptor)
+IsRejectionOf p m other = ⊥
+
+-- .. as is told of a program that isn't verified, or memory ran out
+abbrev pub TellsVerdict : Linked → VerifyFault → Refusal → Type 0
+TellsVerdict p (verdict.Rejected m) r = IsRejectionOf p m r × (status_of r ≡ status.Rejected)
+TellsVerdict p verdict.NoMemory r = r ≡ refusal.NoMemory
 
 abbrev pub refusal_of : RunFault → Refusal
 refusal_of write.Write = refusal.WriteFault

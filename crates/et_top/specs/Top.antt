@@ -1,5 +1,6 @@
 -- What the words and the files that are held define, and what the program may answer.
-use Rattle.std.specs.Prelude.{◌≡◌, ℕ, ◌+◌, ◌≤◌, ◌⊎◌, Bool, List, map, Option, Some, None, option_map, filter_map, Result, Ok, Err}
+use Rattle.std.specs.Prelude.{◌≡◌, ℕ, ◌+◌, ◌≤◌, ◌⊎◌, Bool, List, map, ◌++◌, ◌∷◌, [], codes, Option, Some, None, option_map, filter_map, Result, Ok, Err}
+use Rattle.std.specs.Fmt.{decimal}
 use Rattle.et_base.specs.declared.line.TraceLine.{TraceLine}
 use Rattle.et_base.specs.declared.value.End.{End}
 use Rattle.et_base.specs.declared.value.End.TheVariants as ends
@@ -23,24 +24,31 @@ use Rattle.et_program.specs.Entries.{Linked}
 use Rattle.et_run.specs.Start.{start_records}
 use Rattle.et_run.specs.Whole.{whole_setting, whole_start, whole_visits_of}
 use Rattle.et_loop.specs.Visits.{allowed_visits, IsCut}
+use Rattle.et_verify.specs.Typings.{IsVerified}
+use Rattle.et_verify.specs.Verdicts.{verified_count, IsFirstRejected}
 use Rattle.et_top.specs.Faults.{Fault, status_of_fault}
 use Rattle.et_top.specs.Bench.{bench_listing, summary_text, IsListingProgram, IsReadBack, IsNotReadBack}
 use Rattle.et_top.specs.Loaded.{file_bytes, most_of_class, most_of_trace, IsListingOf, IsTraceOf, IsProgramOfFiles}
 use Rattle.et_top.specs.declared.status.Status.{Status}
 use Rattle.et_top.specs.declared.status.Status.TheVariants as status
 
--- what the words and the files define: no command, a file that is refused, a text, the trace of a history, or the summary of
--- one. A text may tell of what is reached; it takes a test that decides that
+-- what the words and the files define: no command, a file that is refused, a text, the verdict on a program, the trace of a
+-- history, or the summary of one. A text may tell of what is reached; it takes a test that decides that
 pub data Defined : Type 0 where
   Usage : Defined
   Refused : Fault → Defined
   Writes : (text : (Graph → ℕ → Bool) → List ℕ) → Defined
+  Verifies : (program : Linked) → Defined
   Traces : (program : Linked) → (options : Options) → Defined
   Benches : (program : Linked) → Defined
 
 abbrev pub traces : Options → Result Linked Fault → Defined
 traces options (Err fault) = Refused fault
 traces options (Ok program) = Traces program options
+
+abbrev pub verifies : Result Linked Fault → Defined
+verifies (Err fault) = Refused fault
+verifies (Ok program) = Verifies program
 
 abbrev pub benches : Result Linked Fault → Defined
 benches (Err fault) = Refused fault
@@ -67,6 +75,8 @@ IsAskedDefined kinds (Some (words.Trace options paths)) held d =
     (program : Result Linked Fault) × IsProgramOfFiles (map held paths) program × (d ≡ traces options program)
 IsAskedDefined kinds (Some (words.Assemble path)) held d =
     (class : Result (List ℕ) Fault) × IsListingOf (file_bytes most_of_class (held path)) class × (d ≡ defined_text (λ reached bytes. bytes) class)
+IsAskedDefined kinds (Some (words.Verify paths)) held d =
+    (program : Result Linked Fault) × IsProgramOfFiles (map held paths) program × (d ≡ verifies program)
 IsAskedDefined kinds (Some (words.Replay asked path)) held d =
     (trace : Result (List TraceLine) Fault) × IsTraceOf (file_bytes most_of_trace (held path)) trace
     × (d ≡ defined_text (λ reached lines. replay_text reached (timeline_items lines) (policies_of asked kinds)) trace)
@@ -80,6 +90,10 @@ IsAskedDefined kinds (Some (words.Bench number)) held d =
 -- THE ONE THING that the words and the files that are held define
 abbrev pub IsDefined : List Kind → List (List ℕ) → Held → Defined → Type 0
 IsDefined kinds line held d = IsAskedDefined kinds (words.command line) held d
+
+-- the line of a program whose methods with code, so many, all have typings
+abbrev pub verified_text : ℕ → List ℕ
+verified_text count = codes "verified " ++ decimal count ++ 10 ∷ []
 
 -- the status of a history that was run to its end
 abbrev pub status_of_end : End → Status
@@ -130,6 +144,10 @@ module _ (reached : Graph → ℕ → Bool) (before after : Option (List ℕ)) (
   GivesBench written program status.NoMemory = ((after ≡ before) × IsNotReadBack reached program old new faults.NoMemory) ⊎ CutsSummary program
   GivesBench written program answer = ⊥
 
+  -- each method of the files has a typing, and a prefix of the line that says so was taken
+  abbrev pub CutsVerdict : Linked → Type 0
+  CutsVerdict program = IsVerified program × TakesPrefix before after (verified_text (verified_count program))
+
   -- THE ANSWER where the files and out tell what they hold and took. `read` and `written` say that the count of faults
   -- of the files and of out rose in this call. Each answer has what is defined; but a fault of reading or writing comes
   -- where its count rose, and want of memory anywhere. Where nothing is defined to be written nothing was taken; after
@@ -143,6 +161,12 @@ module _ (reached : Graph → ℕ → Bool) (before after : Option (List ℕ)) (
   GivesDefined read written (Writes text) status.WriteFault = written × TakesPrefix before after (text reached)
   GivesDefined read written (Writes text) status.NoMemory = TakesPrefix before after (text reached)
   GivesDefined read written (Writes text) answer = ⊥
+  GivesDefined read written (Verifies program) status.Done = IsVerified program × (after ≡ with_more before (verified_text (verified_count program)))
+  GivesDefined read written (Verifies program) status.Rejected = (after ≡ before) × ((m : ℕ) × IsFirstRejected program m)
+  GivesDefined read written (Verifies program) status.ReadFault = read × (after ≡ before)
+  GivesDefined read written (Verifies program) status.WriteFault = written × CutsVerdict program
+  GivesDefined read written (Verifies program) status.NoMemory = (after ≡ before) ⊎ CutsVerdict program
+  GivesDefined read written (Verifies program) answer = ⊥
   GivesDefined read written (Traces program options) status.Done = WritesHistory program options status.Done
   GivesDefined read written (Traces program options) status.IllTyped = WritesHistory program options status.IllTyped
   GivesDefined read written (Traces program options) status.ObjectLimit = WritesHistory program options status.ObjectLimit

@@ -1,7 +1,7 @@
 -- WHERE OBJECTS ARE VISITED: only in the run of a trace, and in that of a bench.
 use Rattle.std.specs.Prelude.{ℕ, ◌+◌, ◌<◌, List, length, Option, Some}
 use Rattle.et_top.specs.Command.{Asked, Trace, Bench}
-use Rattle.et_top.specs.Top.{Defined, Usage, Refused, Writes, Traces, Benches}
+use Rattle.et_top.specs.Top.{Defined, Usage, Refused, Writes, Verifies, Traces, Benches}
 use Rattle.et_top.specs.declared.status.Status.{Status}
 use Rattle.et_top.specs.declared.status.Status.TheVariants as status
 
@@ -32,6 +32,7 @@ IsNoTrace (Benches program) = ⊥
 IsNoTrace Usage = Unit {0}
 IsNoTrace (Refused fault) = Unit {0}
 IsNoTrace (Writes text) = Unit {0}
+IsNoTrace (Verifies program) = Unit {0}
 
 -- one of these paths was not asked for; old and new are the paths that were asked for before and after
 abbrev pub HasUnread : (old new paths : List (List ℕ)) → Type 0

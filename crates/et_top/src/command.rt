@@ -1,5 +1,5 @@
 //! The command that the words are.
-ghost use Rattle.std.specs.Prelude.{◌≡◌, map, string_bytes, option_map, IfOk, IfSome};
+ghost use Rattle.std.specs.Prelude.{◌≡◌, ◌<◌, length, map, string_bytes, option_map, IfOk, IfSome};
 ghost use Rattle.et_state.specs.Options.{IsSchedule, AreOptions};
 ghost use Rattle.et_top.specs.Parts.{split_of};
 ghost use Rattle.et_top.specs.Command as command;
@@ -54,6 +54,8 @@ pub enum Command<'a> {
     },
     /// The class file of a listing.
     Assemble(&'a str),
+    /// Whether each method of these files, of which there is at least one, has a typing.
+    Verify(&'a [String]),
     /// What models of a heap report of a trace.
     Replay {
         models: Models,
@@ -181,6 +183,19 @@ fn plain_path<'a>(parts: &Split<'a>) -> Option<&'a str>
     }
 }
 
+/// One or more operands, where there are no options.
+fn plain_paths<'a>(parts: &Split<'a>) -> Option<&'a [String]>
+    ensures paths { option_map (λ paths. map string_bytes paths.now) result
+        ≡ command.plain_paths (split_of parts.now) }
+    ensures some { IfSome result (λ paths. 0 < length paths.now) }
+{
+    if parts.options.is_empty() && !parts.operands.is_empty() {
+        Some(parts.operands)
+    } else {
+        None
+    }
+}
+
 /// The command `trace`.
 fn trace<'a>(alloc: Global, parts: &Split<'a>) -> Result<Option<Command<'a>>, NoMemory>
     ensures asked { IfOk result
@@ -229,6 +244,7 @@ fn asked<'a>(alloc: Global, name: &str, parts: &Split<'a>) -> Result<Option<Comm
     match name {
         "trace" => trace(alloc, parts),
         "asm" => Ok(plain_path(parts).map(Command::Assemble)),
+        "verify" => Ok(plain_paths(parts).map(Command::Verify)),
         "replay" => Ok(replay(parts)),
         "convert" => Ok(plain_path(parts).map(Command::Convert)),
         "curve" => Ok(plain_path(parts).map(Command::Curve)),

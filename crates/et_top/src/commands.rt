@@ -18,6 +18,7 @@ use crate::load_trace::load_trace;
 use crate::models::replay_trace;
 use crate::programs::{load_program, run};
 use crate::status::Status;
+use crate::verdict::tell_verdict;
 use et_base::Steps;
 use et_convert::convert_trace;
 use et_io::{Files, Sink, put_all};
@@ -87,6 +88,35 @@ pub fn assemble<F: Files, O: Sink, E: Sink>(
 {
     match load_listing(alloc, path, files) {
         Ok(bytes) => written(alloc, put_all(out, bytes.as_slice()), err),
+        Err(refusal) => refuse(alloc, err, &refusal),
+    }
+}
+
+/// The command `verify`.
+pub fn verify<F: Files, O: Sink, E: Sink>(
+    alloc: Global,
+    paths: &[String],
+    files: &mut F,
+    out: &mut O,
+    err: &mut E,
+) -> Status
+    requires some { 0 < length paths.now }
+    ensures gives { (held : Held) → F.holds files.old ≡ Some held → (kinds : List Kind)
+        (d : Defined) →
+        IsAskedDefined kinds (Some (words.Verify (map string_bytes paths.now))) held d →
+        (reached : Graph → ℕ → Bool) → Decides reached → (old new : ℕ) → GivesDefined reached
+        (O.taken out.old) (O.taken out.new) old new (Rose (F.faults files.old) (F.faults files.new))
+        (Rose (O.faults out.old) (O.faults out.new)) d result }
+    ensures usage { result ≡ Status.Usage → ⊥ }
+    ensures read_fault { F.faults files.new
+        ≡ count_after (is_read_status result) (F.faults files.old) }
+    ensures write_fault { O.faults out.new
+        ≡ count_after (is_write_status result) (O.faults out.old) }
+    ensures reads { ReadsInOrder (F.holds files.old) (F.asked files.old) (F.asked files.new)
+        (map string_bytes paths.now) result }
+{
+    match load_program(alloc, paths, files) {
+        Ok(program) => tell_verdict(alloc, &program, out, err),
         Err(refusal) => refuse(alloc, err, &refusal),
     }
 }

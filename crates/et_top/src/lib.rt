@@ -22,6 +22,7 @@ mod refusal;
 mod split;
 mod status;
 mod top;
+mod verdict;
 
 pub use bench::bench_run;
 pub use bench_text::bench_listing;

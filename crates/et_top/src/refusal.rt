@@ -72,6 +72,12 @@ pub enum Refusal<'a> {
         kind: LinkFaultKind,
         class: Name,
     },
+    #[error("elephant: rejected {class} {method} {descriptor}")]
+    Rejected {
+        class: Escaped<'a>,
+        method: Escaped<'a>,
+        descriptor: Escaped<'a>,
+    },
 }
 
 impl Refusal<'_> {
@@ -95,6 +101,7 @@ impl Refusal<'_> {
             Refusal::ObjectLimit => Status::ObjectLimit,
             Refusal::TooLong(_) => Status::TooLong,
             Refusal::LinkFault { .. } => Status::LinkFault,
+            Refusal::Rejected { .. } => Status::Rejected,
         }
     }
 }

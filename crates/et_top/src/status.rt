@@ -31,6 +31,8 @@ pub enum Status {
     BadText,
     /// A file is longer than is read: 1,048,576 bytes of a class file or a listing, 268,435,456 of a trace.
     TooLong,
+    /// A method of the files has no typing.
+    Rejected,
 }
 
 impl Status {
@@ -52,6 +54,7 @@ impl Status {
             Status::ObjectLimit => 11,
             Status::BadText => 12,
             Status::TooLong => 13,
+            Status::Rejected => 15,
         }
     }
 

@@ -21,6 +21,13 @@ pub returns-in-Assemble-clause-gives : goal.returns-in-Assemble-clause-gives
 returns-in-Assemble-clause-gives g c held told d defined reached decides =
     c.assemble.ensures.gives held told [] d (by_arm _ held d _ _ c.in-Assemble.is defined) reached decides _ _
 
+pub returns-in-Verify-clause-gives : goal.returns-in-Verify-clause-gives
+returns-in-Verify-clause-gives g c held told d defined reached decides =
+    c.verify.ensures.gives held told [] d (by_arm _ held d _ _ c.in-Verify.is defined) reached decides _ _
+
+pub returns-in-Verify-clause-reads : goal.returns-in-Verify-clause-reads
+returns-in-Verify-clause-reads g c = subst (λ (x : Command). ReadsInOrder (g.F.Files.holds c.args.files.now) (g.F.Files.asked c.args.files.now) (g.F.Files.asked c.verify.new.files) (paths_of (Some (asked_by x))) c.verify.result) (sym c.in-Verify.is) c.verify.ensures.reads
+
 pub returns-in-Replay-clause-gives : goal.returns-in-Replay-clause-gives
 returns-in-Replay-clause-gives g c held told d defined reached decides =
     c.replay.ensures.gives held told d (by_arm _ held d _ _ c.in-Replay.is defined) reached decides _ _
