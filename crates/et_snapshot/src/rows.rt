@@ -2,9 +2,8 @@
 ghost use Rattle.std.specs.Prelude.{◌≡◌, ◌∷◌, ◌++◌, [], codes, OnOk};
 ghost use Rattle.std.specs.List.{flat_map};
 ghost use Rattle.et_text.specs.Spelling.{number_field};
-ghost use Rattle.et_snapshot.specs.Heap.{body_of, row_of, object_row, total_row};
+ghost use Rattle.et_snapshot.specs.Heap.{row_of, total_row};
 
-use crate::heap::Seen;
 use crate::totals::Total;
 use et_base::NoMemory;
 use itoa::Buffer;

@@ -1,5 +1,5 @@
 //! The snapshot of a trace at an event.
-ghost use Rattle.std.specs.Prelude.{◌≡◌, ◌≤◌, ◌++◌, All, length, slice_index_or, IfOk, OnOk, OnErr};
+ghost use Rattle.std.specs.Prelude.{◌≡◌, ◌≤◌, ◌++◌, All, length, IfOk, OnOk, OnErr};
 ghost use Rattle.std.specs.List.{flat_map};
 ghost use Rattle.et_io.specs.Faults.{count_after, is_write_fault};
 ghost use Rattle.et_io.specs.Sink.{with_more, TakesUpTo, TakesPrefix};
