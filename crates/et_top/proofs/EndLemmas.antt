@@ -6,7 +6,7 @@ use Rattle.et_run.proofs.OneTrace.{whole_front, whole_trace}
 use Rattle.et_io.specs.Faults.{Rose, count_after}
 use Rattle.et_program.specs.Entries.{Linked}
 use Rattle.et_top.specs.Bench.{summary_text}
-use Rattle.et_top.specs.Faults.{Fault, Absent, TooLong, BadClass, BadText, BadTrace, LinkFault, status_of_fault}
+use Rattle.et_top.specs.Faults.{Fault, Absent, TooLong, BadClass, BadText, BadTrace, LinkFault, BadEvent, status_of_fault}
 use Rattle.et_top.specs.Process.{EndsAs}
 use Rattle.et_top.specs.Status.{is_whole, is_write_status}
 use Rattle.et_top.specs.Top.{Defined, Usage, Refused, Writes, Verifies, Traces, Benches, WritesSummary, CutsSummary, verified_text, GivesDefined}
@@ -28,6 +28,7 @@ of_whole P done ill limit status.BadText whole = absurd (cc whole)
 of_whole P done ill limit status.BadTrace whole = absurd (cc whole)
 of_whole P done ill limit status.LinkFault whole = absurd (cc whole)
 of_whole P done ill limit status.Rejected whole = absurd (cc whole)
+of_whole P done ill limit status.BadEvent whole = absurd (cc whole)
 of_whole P done ill limit status.ReadFault whole = absurd (cc whole)
 of_whole P done ill limit status.WriteFault whole = absurd (cc whole)
 of_whole P done ill limit status.NoMemory whole = absurd (cc whole)
@@ -40,6 +41,7 @@ never_whole (BadClass kind offset) e = absurd (cc e)
 never_whole (BadText kind line) e = absurd (cc e)
 never_whole (BadTrace kind line) e = absurd (cc e)
 never_whole (LinkFault kind class) e = absurd (cc e)
+never_whole (BadEvent event) e = absurd (cc e)
 
 least : (n : ℕ) → 0 ≤ 0 + n
 least n = omega arith

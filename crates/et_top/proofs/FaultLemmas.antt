@@ -63,6 +63,7 @@ read_status refusal.ObjectLimit = refl
 read_status (refusal.TooLong path) = refl
 read_status (refusal.LinkFault kind class) = refl
 read_status (refusal.Rejected class method descriptor) = refl
+read_status (refusal.BadEvent event) = refl
 
 -- A WRITE
 
@@ -81,6 +82,7 @@ no_write_status refusal.ObjectLimit of = absurd of
 no_write_status (refusal.TooLong path) of = refl
 no_write_status (refusal.LinkFault kind class) of = refl
 no_write_status (refusal.Rejected class method descriptor) of = absurd of
+no_write_status (refusal.BadEvent event) of = refl
 
 pub write_status : (wrote : Result (Unit {0}) RunFault) → is_write_status (status_of_writing wrote) ≡ is_write_fault wrote
 write_status (Ok done) = refl

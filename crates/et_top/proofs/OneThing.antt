@@ -14,7 +14,7 @@ use Rattle.et_link.specs.Refusals.{LinkIs, RefusesLink}
 use Rattle.et_link.specs.declared.fault.LinkFault.TheVariants as link
 use Rattle.et_convert.specs.Spellings.{SpellsTrace, HasSpellingFault, HasSpellingAnswer, IsSpelledTrace, IsRefusedTrace}
 use Rattle.et_replay.specs.declared.model.Kind.{Kind}
-use Rattle.et_top.specs.Command.{Asked, Trace, Assemble, Verify, Replay, Convert, Curve, Bench, command}
+use Rattle.et_top.specs.Command.{Asked, Trace, Assemble, Verify, Replay, Convert, Curve, Bench, command, Snapshot}
 use Rattle.et_top.specs.Faults.{Fault, BadClass, BadText, BadTrace, LinkFault}
 use Rattle.et_top.specs.Loaded.{file_bytes, before, most_of_class, most_of_trace, IsClassOf, IsListingOf, IsTraceOf, AreFirstAnd, AreClassesOf, IsLinkedOf, IsProgramOfFiles}
 use Rattle.et_top.specs.Bench.{IsListingProgram, bench_listing, class_alone}
@@ -158,6 +158,7 @@ module _ (class_is_one : (bytes : List ℕ) → HasOneClass bytes)
   one_asked kinds (Some (Replay models path)) held has = decided (IsTraceOf (file_bytes most_of_trace (held path))) _ (trace_of_file (file_bytes most_of_trace (held path))) (λ trace is. the_one _)
   one_asked kinds (Some (Convert path)) held has = decided (IsTraceOf (file_bytes most_of_trace (held path))) _ (trace_of_file (file_bytes most_of_trace (held path))) (λ trace is. the_one _)
   one_asked kinds (Some (Curve path)) held has = decided (IsTraceOf (file_bytes most_of_trace (held path))) _ (trace_of_file (file_bytes most_of_trace (held path))) (λ trace is. the_one _)
+  one_asked kinds (Some (Snapshot path event)) held has = decided (IsTraceOf (file_bytes most_of_trace (held path))) _ (trace_of_file (file_bytes most_of_trace (held path))) (λ trace is. the_one _)
   one_asked kinds (Some (Bench number)) held has = decided (IsListingProgram (bench_listing number 50000 40000)) _ (one_of_listing (bench_listing number 50000 40000)) (λ program is. the_one (benches program))
 
   pub one_thing : (kinds : List Kind) (words : List (List ℕ)) (held : Held) → One (IsDefined kinds words held)

@@ -5,7 +5,7 @@ use Rattle.et_state.specs.declared.options.Options.{Options}
 use Rattle.et_top.specs.declared.command.Models.{Models}
 use Rattle.et_top.specs.Words.{Split, split}
 use Rattle.et_top.specs.Numbers.{number_within}
-use Rattle.et_top.specs.Command.{Asked, Trace, Assemble, Verify, Replay, Convert, Curve, Bench, command, asked, some_paths, plain_path, plain_paths, only_path, trace_options, replay_options}
+use Rattle.et_top.specs.Command.{Asked, Trace, Assemble, Verify, Replay, Convert, Curve, Bench, command, asked, some_paths, plain_path, plain_paths, only_path, trace_options, replay_options, Snapshot, path_and_event, snapshot}
 
 -- where it is `trace` or `verify`, there is a path
 pub HasPaths : Option Asked → Type 0
@@ -16,6 +16,7 @@ HasPaths (Some (Verify paths)) = 0 < length paths
 HasPaths (Some (Replay models path)) = Unit {0}
 HasPaths (Some (Convert path)) = Unit {0}
 HasPaths (Some (Curve path)) = Unit {0}
+HasPaths (Some (Snapshot path event)) = Unit {0}
 HasPaths (Some (Bench number)) = Unit {0}
 
 pub paths_of_trace : (options : Options) (paths : List (List ℕ)) → HasPaths (Some (Trace options paths)) → 0 < length paths
@@ -83,6 +84,20 @@ unfolding HasPaths
 curve_has None = tt
 curve_has (Some path) = tt
 
+event_has : (path : List ℕ) (o : Option ℕ) → HasPaths (option_map (Snapshot path) o)
+unfolding HasPaths
+event_has path None = tt
+event_has path (Some event) = tt
+
+path_has : (operands : List (List ℕ)) → HasPaths (path_and_event operands)
+path_has [] = nothing_has
+path_has (path ∷ []) = nothing_has
+path_has (path ∷ event ∷ []) = event_has path (number_within 0 (2 ^ 40) event)
+path_has (path ∷ event ∷ other ∷ operands) = nothing_has
+
+snapshot_has : (s : Split) → HasPaths (snapshot s)
+snapshot_has s = either_has (length s.options == 0) (path_and_event s.operands) None (path_has s.operands) nothing_has
+
 replay_has : (r : Option Models) (o : Option (List ℕ)) → HasPaths (option_and_then (λ path. option_map (λ models. Replay models path) r) o)
 unfolding HasPaths
 replay_has r None = tt
@@ -104,7 +119,8 @@ asked_has name s =
     (either_has _ _ _ (replay_has (replay_options s.options) (only_path s.operands))
     (either_has _ _ _ (convert_has (plain_path s))
     (either_has _ _ _ (curve_has (plain_path s))
-    (either_has _ _ _ (bench_has (option_and_then (number_within 0 (2 ^ 63 - 1)) (plain_path s))) nothing_has))))))
+    (either_has _ _ _ (snapshot_has s)
+    (either_has _ _ _ (bench_has (option_and_then (number_within 0 (2 ^ 63 - 1)) (plain_path s))) nothing_has)))))))
 
 split_has : (name : List ℕ) (o : Option Split) → HasPaths (option_and_then (asked name) o)
 split_has name None = nothing_has

@@ -13,7 +13,7 @@ use Rattle.et_io.specs.Faults.{Rose, count_after}
 use Rattle.et_io.specs.Files.{Held, Finds, IsWithin, is_read_failed}
 use Rattle.et_io.specs.declared.files.Found.{Found}
 use Rattle.et_io.specs.declared.files.Found.TheVariants as finds
-use Rattle.et_top.specs.Faults.{Fault, Absent, TooLong, BadClass, BadText, BadTrace, LinkFault}
+use Rattle.et_top.specs.Faults.{Fault, Absent, TooLong, BadClass, BadText, BadTrace, LinkFault, BadEvent}
 use Rattle.et_top.specs.Loaded.{file_bytes, most_of_class, IsClassOf}
 use Rattle.et_top.specs.Reads.{HoldsClass, ReadsInOrder, is_early}
 use Rattle.et_top.specs.Told.{Cause, File, Reading, Memory, Other, Tells, TellsFound, IsCause, IsFileRefusal, cause_of, is_read_cause, is_reading}
@@ -61,6 +61,7 @@ IsOfOne (File (BadClass kind offset)) = Unit {0}
 IsOfOne (File (BadText kind line)) = Unit {0}
 IsOfOne (File (BadTrace kind line)) = Unit {0}
 IsOfOne (File (LinkFault kind class)) = ⊥
+IsOfOne (File (BadEvent event)) = ⊥
 IsOfOne Reading = Unit {0}
 IsOfOne Memory = Unit {0}
 IsOfOne Other = ⊥
@@ -79,6 +80,7 @@ early_one refusal.ObjectLimit one = absurd one
 early_one (refusal.TooLong path) one = refl
 early_one (refusal.LinkFault kind class) one = absurd one
 early_one (refusal.Rejected class method descriptor) one = absurd one
+early_one (refusal.BadEvent event) one = absurd one
 
 pub found_file : (found : Found) (answer : Result (Vec ℕ Global) Refusal) → TellsFound found answer → IfErr answer (λ r. IsFileRefusal (cause_of r))
 found_file (finds.Bytes bytes) answer is = subst (λ (a : Result (Vec ℕ Global) Refusal). IfErr a (λ r. IsFileRefusal (cause_of r))) (sym is) tt

@@ -14,7 +14,7 @@ use Rattle.et_program.specs.Entries.{Linked}
 use Rattle.et_run.specs.Start.{start_records}
 use Rattle.et_run.specs.Whole.{whole_setting, whole_start, whole_visits_of}
 use Rattle.et_loop.specs.Visits.{allowed_visits, IsCut}
-use Rattle.et_top.specs.Faults.{Fault, Absent, TooLong, BadClass, BadText, BadTrace, LinkFault, status_of_fault}
+use Rattle.et_top.specs.Faults.{Fault, Absent, TooLong, BadClass, BadText, BadTrace, LinkFault, BadEvent, status_of_fault}
 use Rattle.et_io.specs.Files.{Held}
 use Rattle.et_top.specs.Command.{Asked}
 use Rattle.et_top.specs.Asked.{asked_by}
@@ -81,6 +81,7 @@ module _ (reached : Graph → ℕ → Bool) (before after : Option (List ℕ)) (
   history_more status.BadTrace h = absurd h
   history_more status.LinkFault h = absurd h
   history_more status.Rejected h = absurd h
+  history_more status.BadEvent h = absurd h
 
 -- .. and so of a verdict
 pub verdict_more : (reached : Graph → ℕ → Bool) (before after : Option (List ℕ)) (old new : ℕ) (read written : Type 0) (program : Linked) (answer : Status) → GivesDefined reached before after old new ⊥ written (Verifies program) answer → GivesDefined reached before after old new read written (Verifies program) answer
@@ -98,9 +99,9 @@ verdict_more reached before after old new read written program status.BadClass h
 verdict_more reached before after old new read written program status.BadText h = absurd h
 verdict_more reached before after old new read written program status.BadTrace h = absurd h
 verdict_more reached before after old new read written program status.LinkFault h = absurd h
+verdict_more reached before after old new read written program status.BadEvent h = absurd h
 
 -- A LINE THAT WAS WRITTEN of a program that is verified
-
 pub verified_gives : (reached : Graph → ℕ → Bool) (before after : Option (List ℕ)) (old new : ℕ) (read written : Type 0) (p : Linked) (wrote : Result (Unit {0}) RunFault)
     → IsVerified p → OnOk wrote (after ≡ with_more before (verified_text (verified_count p))) → OnErr wrote (TakesPrefix before after (verified_text (verified_count p))) → ((wrote ≡ Err write.Write) → written)
     → GivesDefined reached before after old new read written (Verifies p) (status_of_writing wrote)
@@ -201,6 +202,7 @@ module _ (reached : Graph → ℕ → Bool) (taken : Option (List ℕ)) (old new
   by_cause d (refusal.BadText path kind line) loaded none file reads other = subst (λ x. GivesDefined reached taken taken old new read written x status.BadText) (sym (file (BadText kind line) refl)) (file_gives (BadText kind line) status.BadText refl)
   by_cause d (refusal.BadTrace path kind line) loaded none file reads other = subst (λ x. GivesDefined reached taken taken old new read written x status.BadTrace) (sym (file (BadTrace kind line) refl)) (file_gives (BadTrace kind line) status.BadTrace refl)
   by_cause d (refusal.LinkFault kind class) loaded none file reads other = subst (λ x. GivesDefined reached taken taken old new read written x status.LinkFault) (sym (file (LinkFault kind class) refl)) (file_gives (LinkFault kind class) status.LinkFault refl)
+  by_cause d (refusal.BadEvent event) loaded none file reads other = subst (λ x. GivesDefined reached taken taken old new read written x status.BadEvent) (sym (file (BadEvent event) refl)) (file_gives (BadEvent event) status.BadEvent refl)
   by_cause d (refusal.ReadFault path) loaded none file reads other = reading_gives d loaded (reads refl)
   by_cause d refusal.NoMemory loaded none file reads other = memory_gives d none
   by_cause d refusal.Usage loaded none file reads other = absurd (other refl)

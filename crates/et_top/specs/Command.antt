@@ -23,6 +23,8 @@ pub data Asked : Type 0 where
   Convert : (path : List ℕ) → Asked
   -- the live curve of a trace
   Curve : (path : List ℕ) → Asked
+  -- what stood in the heap of a trace at an event
+  Snapshot : (path : List ℕ) → (event : ℕ) → Asked
   -- the summary of the run of a large program, whose choices are made from this number
   Bench : (number : ℕ) → Asked
 
@@ -116,6 +118,14 @@ trace s = option_and_then (λ paths. option_map (λ options. Trace options paths
 abbrev pub replay : Split → Option Asked
 replay s = option_and_then (λ path. option_map (λ models. Replay models path) (replay_options s.options)) (only_path s.operands)
 
+-- two operands, without options: a path, and an event of at most 2^40
+abbrev pub path_and_event : List (List ℕ) → Option Asked
+path_and_event (path ∷ event ∷ []) = option_map (Snapshot path) (number_within 0 (2 ^ 40) event)
+path_and_event _ = None
+
+abbrev pub snapshot : Split → Option Asked
+snapshot s = if length s.options == 0 then path_and_event s.operands else None
+
 -- a number of at most 2^63 - 1 alone
 abbrev pub bench : Split → Option Asked
 bench s = option_map Bench (option_and_then (number_within 0 (2 ^ 63 - 1)) (plain_path s))
@@ -128,6 +138,7 @@ asked name s =
     else if bytes_eq name (codes "replay") then replay s
     else if bytes_eq name (codes "convert") then option_map Convert (plain_path s)
     else if bytes_eq name (codes "curve") then option_map Curve (plain_path s)
+    else if bytes_eq name (codes "snapshot") then snapshot s
     else if bytes_eq name (codes "bench") then bench s
     else None
 

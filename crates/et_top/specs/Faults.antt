@@ -17,6 +17,8 @@ pub data Fault : Type 0 where
   BadTrace : (kind line : ℕ) → Fault
   -- the classes don't link: the kind of the fault and the name of the class that shows it (JVMS 5.3, 5.4)
   LinkFault : (kind : LinkFaultKind) → (class : List ℕ) → Fault
+  -- it is a trace that ends before the event
+  BadEvent : (event : ℕ) → Fault
 
 abbrev pub status_of_fault : Fault → Status
 status_of_fault Absent = status.Absent
@@ -25,3 +27,4 @@ status_of_fault (BadClass kind offset) = status.BadClass
 status_of_fault (BadText kind line) = status.BadText
 status_of_fault (BadTrace kind line) = status.BadTrace
 status_of_fault (LinkFault kind class) = status.LinkFault
+status_of_fault (BadEvent event) = status.BadEvent

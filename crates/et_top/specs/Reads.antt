@@ -3,7 +3,7 @@
 use Rattle.std.specs.Prelude.{◌≡◌, ℕ, ◌-◌, ◌≤◌, Bool, true, false, List, [], ◌∷◌, ◌++◌, length, take, All, Option, None, Some, Ok}
 use Rattle.et_class.specs.Layout.{ClassOf}
 use Rattle.et_io.specs.Files.{Held}
-use Rattle.et_top.specs.Command.{Asked, Trace, Assemble, Verify, Replay, Convert, Curve, Bench}
+use Rattle.et_top.specs.Command.{Asked, Trace, Assemble, Verify, Replay, Convert, Curve, Bench, Snapshot}
 use Rattle.et_top.specs.Loaded.{file_bytes, most_of_class, IsClassOf}
 use Rattle.et_top.specs.declared.status.Status.{Status}
 use Rattle.et_top.specs.declared.status.Status.TheVariants as status
@@ -17,6 +17,7 @@ paths_of (Some (Verify paths)) = paths
 paths_of (Some (Replay models path)) = path ∷ []
 paths_of (Some (Convert path)) = path ∷ []
 paths_of (Some (Curve path)) = path ∷ []
+paths_of (Some (Snapshot path event)) = path ∷ []
 paths_of (Some (Bench number)) = []
 
 -- the file at the path is there, is not too long, and is a class file
@@ -39,6 +40,7 @@ is_early status.IllTyped = false
 is_early status.ObjectLimit = false
 is_early status.WriteFault = false
 is_early status.Rejected = false
+is_early status.BadEvent = false
 
 -- the first so many of the paths were read, in order and each once; where the files tell what they hold, each of these but
 -- the last holds a class file (only `trace` and `verify` name several files); and by every answer that isn't early all were read

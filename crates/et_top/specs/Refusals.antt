@@ -2,7 +2,7 @@
 use Rattle.et_top.specs.declared.status.Status.{Status}
 use Rattle.et_top.specs.declared.status.Status.TheVariants as status
 use Rattle.et_top.specs.declared.refusal.Refusal.{Refusal}
-use Rattle.et_top.specs.declared.refusal.Refusal.TheVariants.{Usage, Absent, BadClass, BadText, BadTrace, ReadFault, WriteFault, NoMemory, IllTyped, ObjectLimit, TooLong, LinkFault, Rejected}
+use Rattle.et_top.specs.declared.refusal.Refusal.TheVariants.{Usage, Absent, BadClass, BadText, BadTrace, ReadFault, WriteFault, NoMemory, IllTyped, ObjectLimit, TooLong, LinkFault, Rejected, BadEvent}
 
 abbrev pub status_of : Refusal → Status
 status_of Usage = status.Usage
@@ -18,3 +18,4 @@ status_of ObjectLimit = status.ObjectLimit
 status_of (TooLong path) = status.TooLong
 status_of (LinkFault kind class) = status.LinkFault
 status_of (Rejected class method descriptor) = status.Rejected
+status_of (BadEvent event) = status.BadEvent

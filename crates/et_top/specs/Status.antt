@@ -19,6 +19,7 @@ status_number status.ObjectLimit = 11
 status_number status.BadText = 12
 status_number status.TooLong = 13
 status_number status.Rejected = 15
+status_number status.BadEvent = 16
 
 -- the answer is that a read failed
 abbrev pub is_read_status : Status → Bool

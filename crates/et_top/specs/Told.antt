@@ -18,7 +18,7 @@ use Rattle.et_verify.specs.declared.verdict.VerifyFault.TheVariants as verdict
 use Rattle.et_top.specs.Refusals.{status_of}
 use Rattle.et_top.specs.declared.status.Status.{Status}
 use Rattle.et_top.specs.declared.status.Status.TheVariants as status
-use Rattle.et_top.specs.Faults.{Fault, Absent, TooLong, BadClass, BadText, BadTrace, LinkFault}
+use Rattle.et_top.specs.Faults.{Fault, Absent, TooLong, BadClass, BadText, BadTrace, LinkFault, BadEvent}
 
 -- why a refusal comes: a file is refused, a read failed, memory ran out, or none of these
 pub data Cause : Type 0 where
@@ -34,6 +34,7 @@ cause_of (refusal.BadClass path kind offset) = File (BadClass kind offset)
 cause_of (refusal.BadText path kind line) = File (BadText kind line)
 cause_of (refusal.BadTrace path kind line) = File (BadTrace kind line)
 cause_of (refusal.LinkFault kind class) = File (LinkFault kind class)
+cause_of (refusal.BadEvent event) = File (BadEvent event)
 cause_of (refusal.ReadFault path) = Reading
 cause_of refusal.NoMemory = Memory
 cause_of _ = Other

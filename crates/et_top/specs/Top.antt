@@ -1,7 +1,8 @@
 -- What the words and the files that are held define, and what the program may answer.
-use Rattle.std.specs.Prelude.{◌≡◌, ℕ, ◌+◌, ◌≤◌, ◌⊎◌, Bool, List, map, ◌++◌, ◌∷◌, [], codes, Option, Some, None, option_map, filter_map, Result, Ok, Err}
+use Rattle.std.specs.Prelude.{◌≡◌, ℕ, ◌+◌, ◌≤◌, ◌⊎◌, Bool, List, map, ◌++◌, ◌∷◌, [], codes, Option, Some, None, option_map, filter_map, Result, Ok, Err, ◌-◌, nat_le, if◌then◌else◌, length, slice_get}
 use Rattle.std.specs.Fmt.{decimal}
 use Rattle.et_base.specs.declared.line.TraceLine.{TraceLine}
+use Rattle.et_base.specs.declared.line.TraceLine.TheVariants.{Finish}
 use Rattle.et_base.specs.declared.value.End.{End}
 use Rattle.et_base.specs.declared.value.End.TheVariants as ends
 use Rattle.et_graph.specs.Graph.{Graph}
@@ -15,6 +16,7 @@ use Rattle.et_convert.specs.Conversions.{converted_bytes}
 use Rattle.et_replay.specs.Curve.{curve_text}
 use Rattle.et_replay.specs.Replay.{replay_text}
 use Rattle.et_replay.specs.Timeline.{timeline_items}
+use Rattle.et_snapshot.specs.Snapshot.{snapshot_text}
 use Rattle.et_replay.specs.declared.model.Kind.{Kind}
 use Rattle.et_replay.specs.declared.model.Kind.TheVariants as kind
 use Rattle.et_replay.specs.declared.model.Policy.{Policy}
@@ -26,7 +28,7 @@ use Rattle.et_run.specs.Whole.{whole_setting, whole_start, whole_visits_of}
 use Rattle.et_loop.specs.Visits.{allowed_visits, IsCut}
 use Rattle.et_verify.specs.Typings.{IsVerified}
 use Rattle.et_verify.specs.Verdicts.{verified_count, IsFirstRejected}
-use Rattle.et_top.specs.Faults.{Fault, status_of_fault}
+use Rattle.et_top.specs.Faults.{Fault, status_of_fault, BadEvent}
 use Rattle.et_top.specs.Bench.{bench_listing, summary_text, IsListingProgram, IsReadBack, IsNotReadBack}
 use Rattle.et_top.specs.Loaded.{file_bytes, most_of_class, most_of_trace, IsListingOf, IsTraceOf, IsProgramOfFiles}
 use Rattle.et_top.specs.declared.status.Status.{Status}
@@ -58,6 +60,20 @@ abbrev pub defined_text : {A : Type 0} → ((Graph → ℕ → Bool) → A → L
 defined_text text (Err fault) = Refused fault
 defined_text text (Ok a) = Writes (λ reached. text reached a)
 
+-- the event of the Z line
+abbrev pub event_of_end : Option TraceLine → ℕ
+event_of_end (Some (Finish event how)) = event
+event_of_end _ = 0
+
+-- .. which is the last line of a good trace
+abbrev pub last_event : List TraceLine → ℕ
+last_event lines = event_of_end (slice_get lines (length lines - 1))
+
+-- the trace, where it doesn't end before the event
+abbrev pub reaching : ℕ → Result (List TraceLine) Fault → Result (List TraceLine) Fault
+reaching event (Err fault) = Err fault
+reaching event (Ok lines) = if nat_le event (last_event lines) then Ok lines else Err (BadEvent event)
+
 -- the policies of the models of these kinds, of which only those that are asked for are used
 abbrev pub policy_of : Models → Kind → Option Policy
 policy_of asked kind.MarkSweep = option_map (λ first. record { kind = kind.MarkSweep; first = first; second = 0 }) asked.mark_sweep
@@ -84,6 +100,9 @@ IsAskedDefined kinds (Some (words.Convert path)) held d =
     (trace : Result (List TraceLine) Fault) × IsTraceOf (file_bytes most_of_trace (held path)) trace × (d ≡ defined_text (λ reached lines. converted_bytes lines) trace)
 IsAskedDefined kinds (Some (words.Curve path)) held d =
     (trace : Result (List TraceLine) Fault) × IsTraceOf (file_bytes most_of_trace (held path)) trace × (d ≡ defined_text (λ reached lines. curve_text lines) trace)
+IsAskedDefined kinds (Some (words.Snapshot path event)) held d =
+    (trace : Result (List TraceLine) Fault) × IsTraceOf (file_bytes most_of_trace (held path)) trace
+    × (d ≡ defined_text (λ reached lines. snapshot_text lines event) (reaching event trace))
 IsAskedDefined kinds (Some (words.Bench number)) held d =
     (program : Result Linked Fault) × IsListingProgram (bench_listing number 50000 40000) program × (d ≡ benches program)
 

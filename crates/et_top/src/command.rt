@@ -65,6 +65,11 @@ pub enum Command<'a> {
     Convert(&'a str),
     /// The live curve of a trace.
     Curve(&'a str),
+    /// What stood in the heap of a trace at an event, of at most 2^40.
+    Snapshot {
+        path: &'a str,
+        event: u64,
+    },
     /// The summary of the run of a large program, whose choices are made from this number, below 2^63.
     Bench(u64),
 }
@@ -222,6 +227,23 @@ fn replay<'a>(parts: &Split<'a>) -> Option<Command<'a>>
     Some(Command::Replay { models, path })
 }
 
+/// The command `snapshot`.
+fn snapshot<'a>(parts: &Split<'a>) -> Option<Command<'a>>
+    ensures asked { option_map asked_by result ≡ command.snapshot (split_of parts.now) }
+    ensures range { IfSome result AreInRange }
+{
+    if !parts.options.is_empty() {
+        return None;
+    }
+    let [path, event] = parts.operands else {
+        return None;
+    };
+    Some(Command::Snapshot {
+        path: path.as_str(),
+        event: number(event.as_bytes(), 0, MOST_EVENTS)?,
+    })
+}
+
 /// The greatest number from which `bench` makes its choices.
 const MOST_SEED: u64 = (1 << 63) - 1;
 
@@ -248,6 +270,7 @@ fn asked<'a>(alloc: Global, name: &str, parts: &Split<'a>) -> Result<Option<Comm
         "replay" => Ok(replay(parts)),
         "convert" => Ok(plain_path(parts).map(Command::Convert)),
         "curve" => Ok(plain_path(parts).map(Command::Curve)),
+        "snapshot" => Ok(snapshot(parts)),
         "bench" => Ok(bench(parts)),
         _ => Ok(None),
     }

@@ -14,7 +14,7 @@ ghost use Rattle.et_top.specs.Visits.{IsBeforeRun, IsNoTrace, HasUnread};
 use crate::answers::{refuse, written};
 use crate::command::Models;
 use crate::load_listing::load_listing;
-use crate::load_trace::load_trace;
+use crate::load_trace::{load_trace, load_trace_to};
 use crate::models::replay_trace;
 use crate::programs::{load_program, run};
 use crate::status::Status;
@@ -23,6 +23,7 @@ use et_base::Steps;
 use et_convert::convert_trace;
 use et_io::{Files, Sink, put_all};
 use et_replay::{HeapModel, curve_lines};
+use et_snapshot::snapshot_lines;
 use et_state::Options;
 use std::alloc::Global;
 use std::sync::ledger::Ledger;
@@ -169,6 +170,33 @@ pub fn curve<F: Files, O: Sink, E: Sink>(
 {
     match load_trace(alloc, path, files) {
         Ok(trace) => written(alloc, curve_lines(alloc, &trace, out), err),
+        Err(refusal) => refuse(alloc, err, &refusal),
+    }
+}
+
+/// The command `snapshot`.
+pub fn snapshot<F: Files, O: Sink, E: Sink>(
+    alloc: Global,
+    path: &str,
+    event: u64,
+    files: &mut F,
+    out: &mut O,
+    err: &mut E,
+) -> Status
+    ensures gives { (held : Held) → F.holds files.old ≡ Some held → (kinds : List Kind)
+        (d : Defined) → IsAskedDefined kinds (Some (words.Snapshot path.now event)) held d →
+        (reached : Graph → ℕ → Bool) → Decides reached → (old new : ℕ) → GivesDefined reached
+        (O.taken out.old) (O.taken out.new) old new (Rose (F.faults files.old) (F.faults files.new))
+        (Rose (O.faults out.old) (O.faults out.new)) d result }
+    ensures usage { result ≡ Status.Usage → ⊥ }
+    ensures read_fault { F.faults files.new
+        ≡ count_after (is_read_status result) (F.faults files.old) }
+    ensures write_fault { O.faults out.new
+        ≡ count_after (is_write_status result) (O.faults out.old) }
+    ensures asked { F.asked files.new ≡ F.asked files.old ++ path.now ∷ [] }
+{
+    match load_trace_to(alloc, path, event, files) {
+        Ok(trace) => written(alloc, snapshot_lines(alloc, &trace, event, out), err),
         Err(refusal) => refuse(alloc, err, &refusal),
     }
 }

@@ -6,10 +6,12 @@ ghost use Rattle.et_io.specs.Files.{Held};
 ghost use Rattle.et_text.specs.Ranges.{HasShortNames};
 ghost use Rattle.et_top.specs.Faults.{Fault};
 ghost use Rattle.et_top.specs.Loaded.{file_bytes, most_of_trace, IsTraceOf};
+ghost use Rattle.et_top.specs.Top.{last_event, reaching};
 ghost use Rattle.et_top.specs.Told.{Tells, IsFileRefusal, IsOfBytes, cause_of, is_reading};
 
 use crate::files::read_file;
 use crate::refusal::Refusal;
+use et_base::TraceLine;
 use et_convert::laws::{
     conversions_are_traces, spelled_lists_differ, spelled_traces_have_no_fault,
     spelling_faults_are_one,
@@ -58,6 +60,43 @@ pub fn load_trace<'a, F: Files>(
 {
     match read_file(alloc, path, MOST_TRACE_BYTES, files) {
         Ok(bytes) => trace_in(alloc, path, &bytes),
+        Err(refusal) => Err(refusal),
+    }
+}
+
+/// The event of the Z line, which is the last line of a trace.
+fn last_event(lines: &[TraceLine]) -> u64
+    ensures { result ≡ last_event lines.now }
+{
+    match lines.last() {
+        Some(TraceLine::Finish { event, .. }) => *event,
+        _ => 0,
+    }
+}
+
+/// The trace at the path, which doesn't end before the event.
+pub fn load_trace_to<'a, F: Files>(
+    alloc: Global,
+    path: &'a str,
+    event: u64,
+    files: &mut F,
+) -> Result<Trace, Refusal<'a>>
+    ensures tells { (held : Held) → F.holds files.old ≡ Some held → (trace : Result
+        (List TraceLine) Fault) → IsTraceOf (file_bytes most_of_trace (held path.now)) trace →
+        Tells (Rose (F.faults files.old) (F.faults files.new)) (λ lines. lines)
+        (reaching event trace) result }
+    ensures faults { F.faults files.new ≡ count_after (is_reading result) (F.faults files.old) }
+    ensures asked { F.asked files.new ≡ F.asked files.old ++ path.now ∷ [] }
+    ensures file { IfErr result (λ refusal. IsFileRefusal (cause_of refusal)) }
+{
+    match load_trace(alloc, path, files) {
+        Ok(trace) => {
+            if event > last_event(trace.lines()) {
+                Err(Refusal::BadEvent(event))
+            } else {
+                Ok(trace)
+            }
+        }
         Err(refusal) => Err(refusal),
     }
 }

@@ -78,6 +78,8 @@ pub enum Refusal<'a> {
         method: Escaped<'a>,
         descriptor: Escaped<'a>,
     },
+    #[error("elephant: bad event {0}")]
+    BadEvent(u64),
 }
 
 impl Refusal<'_> {
@@ -102,6 +104,7 @@ impl Refusal<'_> {
             Refusal::TooLong(_) => Status::TooLong,
             Refusal::LinkFault { .. } => Status::LinkFault,
             Refusal::Rejected { .. } => Status::Rejected,
+            Refusal::BadEvent(_) => Status::BadEvent,
         }
     }
 }

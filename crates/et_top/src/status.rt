@@ -33,6 +33,8 @@ pub enum Status {
     TooLong,
     /// A method of the files has no typing.
     Rejected,
+    /// A trace ends before the event that is asked for.
+    BadEvent,
 }
 
 impl Status {
@@ -55,6 +57,7 @@ impl Status {
             Status::BadText => 12,
             Status::TooLong => 13,
             Status::Rejected => 15,
+            Status::BadEvent => 16,
         }
     }
 

@@ -13,7 +13,7 @@ ghost use Rattle.et_top.specs.Visits.{IsWithoutRun, IsNoTrace, HasUnread};
 use crate::answers::refuse;
 use crate::bench::{CELLS, ROUNDS, bench};
 use crate::command::{Command, read_words};
-use crate::commands::{assemble, convert, curve, replay, trace, verify};
+use crate::commands::{assemble, convert, curve, replay, snapshot, trace, verify};
 use crate::refusal::Refusal;
 use crate::status::Status;
 use et_base::Steps;
@@ -66,6 +66,7 @@ fn perform<F: Files, O: Sink, E: Sink, L: Ledger>(
         } => replay(alloc, asked, *path, files, out, err, models),
         Command::Convert(path) => convert(alloc, *path, files, out, err),
         Command::Curve(path) => curve(alloc, *path, files, out, err),
+        Command::Snapshot { path, event } => snapshot(alloc, *path, *event, files, out, err),
         Command::Bench(number) => bench(alloc, *number, CELLS, ROUNDS, out, err, visits),
     }
 }
@@ -83,18 +84,19 @@ fn perform<F: Files, O: Sink, E: Sink, L: Ledger>(
 /// - `convert` reads a trace and writes the same lines in the other spelling, with its version in the header: binary for a
 ///   text, and a text for what is binary.
 /// - `curve` reads a trace and writes its live curve.
+/// - `snapshot` reads a trace and writes what stood in the heap at an event, which is no later than its last.
 /// - `bench` assembles a large program whose choices are made from a number, runs it into memory, reads its trace back, and
 ///   writes what that comes to. The counter tells how often objects were visited.
 ///
 /// A trace is written in the format that the options name. It is read in either spelling: bytes that begin with FE are
 /// binary, and all others a text.
 ///
-/// Refusals come in this order: the words; of each file the read, the length and what it holds; linking; a method that is rejected; the run.
-/// Each file is read once, and only when the one before it was found good. A read that fails counts one fault and is answered so, and
-/// so does a put; no other answer changes these counts. Until all that is read is known to be good, and to link, nothing is
-/// put to out; after `WriteFault` and `NoMemory` out took a prefix of the output. A fault of err changes nothing. Only the
-/// run of a trace or of a bench visits objects: no other answer changes the counter, nor does `NoMemory` where neither is
-/// defined or a file was not read.
+/// Refusals come in this order: the words; of each file the read, the length and what it holds; the event of a snapshot;
+/// linking; a method that is rejected; the run. Each file is read once, and only when the one before it was found good. A
+/// read that fails counts one fault and is answered so, and so does a put; no other answer changes these counts. Until all
+/// that is read is known to be good, and to link, nothing is put to out; after `WriteFault` and `NoMemory` out took a prefix
+/// of the output. A fault of err changes nothing. Only the run of a trace or of a bench visits objects: no other answer
+/// changes the counter, nor does `NoMemory` where neither is defined or a file was not read.
 pub fn elephant<F: Files, O: Sink, E: Sink, L: Ledger>(
     alloc: Global,
     words: &[String],

@@ -40,6 +40,10 @@ pub returns-in-Curve-clause-gives : goal.returns-in-Curve-clause-gives
 returns-in-Curve-clause-gives g c held told d defined reached decides =
     c.curve.ensures.gives held told [] d (by_arm _ held d _ _ c.in-Curve.is defined) reached decides _ _
 
+pub returns-in-Snapshot-clause-gives : goal.returns-in-Snapshot-clause-gives
+returns-in-Snapshot-clause-gives g c held told d defined reached decides =
+    c.snapshot.ensures.gives held told [] d (by_arm _ held d _ _ c.in-Snapshot.is defined) reached decides _ _
+
 pub returns-in-Trace-clause-no_visits : goal.returns-in-Trace-clause-no_visits
 returns-in-Trace-clause-no_visits g c without =
     c.trace.ensures.no_visits (subst (λ (x : Command). IsWithoutRun (Some (asked_by x)) c.trace.result) c.in-Trace.is without)
@@ -66,6 +70,9 @@ returns-in-Convert-clause-reads g c = subst (λ (x : Command). ReadsInOrder (g.F
 
 pub returns-in-Curve-clause-reads : goal.returns-in-Curve-clause-reads
 returns-in-Curve-clause-reads g c = subst (λ (x : Command). ReadsInOrder (g.F.Files.holds c.args.files.now) (g.F.Files.asked c.args.files.now) (g.F.Files.asked c.curve.new.files) (paths_of (Some (asked_by x))) c.curve.result) (sym c.in-Curve.is) (one_read _ _ _ _ _ c.curve.ensures.asked)
+
+pub returns-in-Snapshot-clause-reads : goal.returns-in-Snapshot-clause-reads
+returns-in-Snapshot-clause-reads g c = subst (λ (x : Command). ReadsInOrder (g.F.Files.holds c.args.files.now) (g.F.Files.asked c.args.files.now) (g.F.Files.asked c.snapshot.new.files) (paths_of (Some (asked_by x))) c.snapshot.result) (sym c.in-Snapshot.is) (one_read _ _ _ _ _ c.snapshot.ensures.asked)
 
 pub returns-in-Bench-clause-gives : goal.returns-in-Bench-clause-gives
 returns-in-Bench-clause-gives g c held told d defined reached decides =
