@@ -21,4 +21,4 @@ mod LiveReached
 mod SlotLines
 mod LiveObjects
 mod Shown
-mod RowSix
+mod TwoNodes
