@@ -41,4 +41,6 @@ mod schedules;
 #[cfg(test)]
 mod traces;
 #[cfg(test)]
+mod verdicts;
+#[cfg(test)]
 mod words;
