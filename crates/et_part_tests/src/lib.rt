@@ -27,6 +27,8 @@ mod machines;
 #[cfg(test)]
 mod models;
 #[cfg(test)]
+mod packs;
+#[cfg(test)]
 mod pools;
 #[cfg(test)]
 mod timelines;
