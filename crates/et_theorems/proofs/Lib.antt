@@ -1,0 +1,6 @@
+mod Tabled
+mod Ranges
+mod Defined
+mod DeathLines
+mod Formats
+mod Held

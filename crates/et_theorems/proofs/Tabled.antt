@@ -1,0 +1,108 @@
+-- A program that was linked of class files, and that has fewer than 2^32 classes, keeps its tables in range.
+use Rattle.std.proofs.Common.{◌≡◌, ℕ, ◌+◌, ◌*◌, ◌<◌, ◌≤◌, ◌^◌, List, [], ◌∷◌, length, map, Option, Some, None, inl, inr, refl, ap, arith, length-append}
+use Rattle.std.specs.Prelude.{All}
+use Rattle.std.proofs.lemmas.Bool.{cases_lt}
+use Rattle.std.proofs.lemmas.List.{length-map}
+use Rattle.std.proofs.lemmas.List.Elements.{All-head, All-tail, All-map}
+use Rattle.et_class.specs.Layout.{ClassOf}
+use Rattle.et_class.specs.Spelling.{IsClassSpelled}
+use Rattle.et_class.proofs.Respelled.{class_spelled}
+use Rattle.et_link.specs.Declaring.{AreRows}
+use Rattle.et_link.proofs.LinkingLemmas.{tabled_program}
+use Rattle.et_link.proofs.TabledLemmas.{length-classes}
+use Rattle.et_linked.proofs.Supers.{below}
+use Rattle.et_hierarchy.proofs.LinkLemmas.{are_within}
+use Rattle.et_program.specs.declared.fault.LinkFaultKind.TheVariants.{TooMany, NoMain}
+use Rattle.et_program.specs.Entries.{Linked}
+use Rattle.et_program.specs.Files.{boots, boot_outline, file_outline, set_of}
+use Rattle.et_program.specs.Linking.{IsOfFile}
+use Rattle.et_program.specs.LinkFaults.{IsLinkable}
+use Rattle.et_program.specs.Loaded.{LoadedClass, loaded_class, loaded_field, loaded_method}
+use Rattle.et_program.specs.MembersOf.{numbered, boot_fields, file_field, file_fields, boot_methods, file_method, file_methods, methods_of}
+use Rattle.et_program.specs.ProgramOf.{class_names_of, heads_of, main_of, IsProgramOf}
+use Rattle.et_program.specs.Tables.{IsTabled}
+
+-- a class file has few fields and methods
+pub record HasFewMembers (c : LoadedClass) : Type 0 where
+  pub fields : length c.fields < 2 ^ 16
+  pub methods : length c.methods < 2 ^ 16
+
+few_members : (c : ClassOf) → IsOfFile c → HasFewMembers (loaded_class c)
+few_members c file =
+    let spelled : IsClassSpelled file.bytes c = class_spelled file.bytes c file.are_bytes file.is.read in
+    let fields = length-map c.fields (loaded_field c.slots) in
+    let methods = length-map c.methods (loaded_method c.slots) in
+    let few_fields = spelled.can_be.fields.few in
+    let few_methods = spelled.can_be.methods.few in
+    record { fields = omega (arith, fields, few_fields); methods = omega (arith, methods, few_methods) }
+
+field_count : (k : ℕ) (files : List LoadedClass) → All HasFewMembers files → length (numbered file_fields k files) ≤ 65535 * length files
+field_count k [] few = omega arith
+field_count k (c ∷ files) few =
+    let both = length-append (file_fields k c) (numbered file_fields (k + 1) files) in
+    let own = length-map c.fields (file_field c.pool.slots k) in
+    let first = (All-head HasFewMembers c files few).fields in
+    let rest = field_count (k + 1) files (All-tail HasFewMembers c files few) in
+    omega (arith, both, own, first, rest)
+
+method_count : (k : ℕ) (files : List LoadedClass) → All HasFewMembers files → length (numbered file_methods k files) ≤ 65535 * length files
+method_count k [] few = omega arith
+method_count k (c ∷ files) few =
+    let both = length-append (file_methods k c) (numbered file_methods (k + 1) files) in
+    let own = length-map c.methods (file_method c.pool.slots k) in
+    let first = (All-head HasFewMembers c files few).methods in
+    let rest = method_count (k + 1) files (All-tail HasFewMembers c files few) in
+    omega (arith, both, own, first, rest)
+
+boot_field_count : length (numbered boot_fields 0 boots) < 2 ^ 16
+unfolding boots
+boot_field_count = omega arith
+
+boot_method_count : length (numbered boot_methods 0 boots) < 2 ^ 16
+unfolding boots
+boot_method_count = omega arith
+
+set_length : (files : List LoadedClass) → length (set_of files) ≡ length boots + length files
+set_length files =
+    let both = length-append (map boot_outline boots) (map file_outline files) in
+    let front = length-map boots boot_outline in
+    let back = length-map files file_outline in
+    omega (arith, both, front, back)
+
+few_files : (files : List LoadedClass) → IsLinkable files → length files ≤ 4096
+few_files files linkable =
+    elim (cases_lt 4096 (length files)) [
+      | inl many ↦ let all = set_length files in absurd (linkable TooMany (length boots + 4096) (omega (arith, all, many)) refl)
+      | inr few ↦ few
+    ]
+
+-- the first file has `main`
+HasMain : Option ℕ → Type 0
+HasMain o = (m : ℕ) × (o ≡ Some m)
+
+main_by : (files : List LoadedClass) → 0 < length files → IsLinkable files → (o : Option ℕ) → main_of (methods_of files) ≡ o → HasMain o
+unfolding HasMain
+main_by files some linkable (Some m) e = (m, refl)
+main_by files some linkable None e = let all = set_length files in absurd (linkable NoMain (length boots) (omega (arith, all, some)) (refl, e))
+
+main_there : (files : List LoadedClass) → 0 < length files → IsLinkable files → (m : ℕ) × (main_of (methods_of files) ≡ Some m)
+unfolding HasMain
+main_there files some linkable = main_by files some linkable (main_of (methods_of files)) refl
+
+pub tabled_of : (classes : List ClassOf) (p : Linked) → 0 < length classes → All IsOfFile classes → IsLinkable (map loaded_class classes) → IsProgramOf (map loaded_class classes) p → length p.classes < 2 ^ 32 → IsTabled p
+tabled_of classes p some of_files linkable is few =
+    let files : List LoadedClass = map loaded_class classes in
+    let count = length-map classes loaded_class in
+    let members : All HasFewMembers files = All-map HasFewMembers loaded_class classes (λ i d lt. few_members _ (of_files i d lt)) in
+    let rows : AreRows files is.rows = record { within = are_within (set_of files); below = below files is.rows is.ancestry linkable } in
+    let main = main_there files (omega (arith, count, some)) linkable in
+    let all = length-classes (heads_of files is.rows) (set_of files) (class_names_of files) in
+    let same = ap (λ (q : Linked). length q.classes) is.tables in
+    let number = few_files files linkable in
+    let fields = length-append (numbered boot_fields 0 boots) (numbered file_fields (length boots) files) in
+    let boot_f = boot_field_count in
+    let file_f = field_count (length boots) files members in
+    let methods = length-append (numbered boot_methods 0 boots) (numbered file_methods (length boots) files) in
+    let boot_m = boot_method_count in
+    let file_m = method_count (length boots) files members in
+    tabled_program files is.rows p main.0 rows main.1 is.tables (omega (arith, all, same, few)) (omega (arith, methods, boot_m, file_m, number)) (omega (arith, fields, boot_f, file_f, number))
