@@ -2,7 +2,8 @@
 //! them speak of one history, the one in which nothing is freed. Each is a function that calls the laws that it stands on:
 //! what it promises is its contract.
 
-ghost use Rattle.std.specs.Prelude.{◌≡◌, ◌≢◌, ◌↔◌, ℕ, ◌+◌, ◌-◌, ◌<◌, ◌≤◌, List, [], length, Contains, filter, Result, Ok, Option, Some};
+ghost use Rattle.std.specs.Prelude.{◌≡◌, ◌≢◌, ◌↔◌, ℕ, ◌+◌, ◌-◌, ◌^◌, ◌<◌, ◌≤◌, List, [], length, Contains, filter, Result, Ok, Option, Some};
+ghost use Rattle.et_base.specs.Numbers.{AreBytes};
 ghost use Rattle.et_base.specs.declared.line.TraceLine.{TraceLine};
 ghost use Rattle.et_base.specs.declared.line.TraceLine.TheVariants.{Death};
 ghost use Rattle.et_base.specs.declared.value.End.{End};
@@ -12,6 +13,7 @@ ghost use Rattle.et_convert.specs.Conversions.{converted_bytes};
 ghost use Rattle.et_event.specs.Moments.{number_of_value};
 ghost use Rattle.et_event.specs.Monitors.{Lock};
 ghost use Rattle.et_event.specs.Start.{start_records};
+ghost use Rattle.et_graph.specs.Graph.{IsMade, IsReached};
 ghost use Rattle.et_heap.specs.Objects.{slot_of};
 ghost use Rattle.et_history.specs.Allocations.{object_in};
 ghost use Rattle.et_history.specs.Deaths.{DiesBy};
@@ -20,6 +22,7 @@ ghost use Rattle.et_history.specs.Whole.{whole_start, whole_visits_of};
 ghost use Rattle.et_io.specs.Files.{Held};
 ghost use Rattle.et_io.specs.Sink.{with_more};
 ghost use Rattle.et_loop.specs.Visits.{allowed_visits};
+ghost use Rattle.et_program.specs.Entries.{Linked};
 ghost use Rattle.et_program.specs.Linking.{IsLinked};
 ghost use Rattle.et_program.specs.Tables.{IsTabled};
 ghost use Rattle.et_replay.specs.Curve.{curve_events, curve_text, live};
@@ -32,10 +35,11 @@ ghost use Rattle.et_state.specs.History.{IsLastEvent};
 ghost use Rattle.et_state.specs.Options.{AreOptions};
 ghost use Rattle.et_state.specs.Roots.{graph, numbers_from};
 ghost use Rattle.et_state.specs.Words.{static_at};
+ghost use Rattle.et_state.specs.declared.options.Options.{Options};
 ghost use Rattle.et_top.specs.Command.{command, Convert, Curve, Replay, Snapshot, Trace, Verify};
 ghost use Rattle.et_top.specs.Faults.{BadEvent, Fault};
 ghost use Rattle.et_top.specs.Loaded.{file_bytes, most_of_trace, IsTraceOf};
-ghost use Rattle.et_top.specs.Top.{Defined, Refused, Verifies, Writes, IsDefined, WritesHistory, policies_of, status_of_end};
+ghost use Rattle.et_top.specs.Top.{Defined, Refused, Traces, Verifies, Writes, IsDefined, WritesHistory, policies_of, status_of_end};
 ghost use Rattle.et_top.specs.declared.command.Models.{Models};
 ghost use Rattle.et_top.specs.declared.status.Status.{Status};
 ghost use Rattle.et_traces.specs.Good.{IsTraceable};
@@ -47,7 +51,8 @@ ghost use Rattle.et_walk.specs.Holding.{monitor_in};
 ghost use Rattle.et_theorems.specs.Runs.{Run, IsTraced, IsWritten, IsFlushed, deaths_at, lines_of, next_moment, picks_of, setting_of, state_at};
 
 use et_convert::laws::{spelled_lists_differ, spelled_traces_have_no_fault};
-use et_history::laws::{histories_tell_the_same, monitors_exclude};
+use et_graph::laws::reaching_is_decided;
+use et_history::laws::{histories_tell_the_same, monitors_exclude, nothing_is_freed};
 use et_history::object_laws::deaths_are_exact;
 use et_history::run_laws::each_history_ends;
 use et_top::laws::{converted_twice, one_thing_is_defined};
@@ -55,6 +60,20 @@ use et_traces::good_laws::{traces_are_good, traces_are_read};
 use et_traces::live_laws::live_is_reached;
 use et_traces::snapshot_laws::snapshots_show_states;
 use et_typed::laws::verified_histories_end_by_check_7;
+
+/// The premises are met: each trace that words and files define has such a run, where files hold bytes and the program has
+/// no more classes than 32 bits can number.
+pub fn premises_are_met()
+    ensures { (kinds : List Kind) (words : List (List ℕ)) (held : Held) (p : Linked)
+        (options : Options) → IsDefined kinds words held (Traces p options) →
+        ((path file : List ℕ) → held path ≡ Some file → AreBytes file) →
+        length p.classes < 2 ^ 32 →
+        (r : Run) × IsTraced r × (r.kinds ≡ kinds) × (r.words ≡ words) × (r.held ≡ held)
+        × (r.program ≡ p) × (r.options ≡ options) }
+{
+    reaching_is_decided();
+    each_history_ends();
+}
 
 /// The program that words and files define was linked of class files, its tables are in range, and so are the options. Its
 /// history has no other end than that of the run. So the laws of et_history and et_traces hold of it with no other premise.
@@ -94,7 +113,7 @@ pub fn whole_outputs_are_traces()
 
 /// The deaths that a flush tells are exactly those of the objects that were made, that no path from a root leads to, and that
 /// no flush told before, each with the last event at which it was reached. The D lines of the trace are those of its flushes,
-/// and no others.
+/// and no others: one time at most for each object, and one for each that was made and isn't reached at the end.
 pub fn deaths_are_told_exactly()
     ensures exact { (r : Run) (e o time : ℕ) → IsTraced r → e ≤ r.last →
         Contains (deaths_at r e) (o, time)
@@ -102,9 +121,16 @@ pub fn deaths_are_told_exactly()
     ensures lines { (r : Run) (o time : ℕ) → IsTraced r →
         Contains (lines_of r) (Death o time)
         ↔ ((e : ℕ) × IsFlushed r e × DiesBy r.reached r.program r.options (picks_of r) e o time) }
+    ensures once { (r : Run) (o time other : ℕ) → IsTraced r →
+        Contains (lines_of r) (Death o time) → Contains (lines_of r) (Death o other) →
+        time ≡ other }
+    ensures all { (r : Run) (o : ℕ) → IsTraced r → IsMade (graph (state_at r r.last)) o →
+        ¬ IsReached (graph (state_at r r.last)) o →
+        (time : ℕ) × Contains (lines_of r) (Death o time) }
 {
     programs_are_linked();
     deaths_are_exact();
+    nothing_is_freed();
 }
 
 /// What `trace` wrote whole, and a file holds, is read to exactly the lines of the history, in either format, and has no fault.
