@@ -2,7 +2,7 @@
 //! them speak of one history, the one in which nothing is freed. Each is a function that calls the laws that it stands on:
 //! what it promises is its contract.
 
-ghost use Rattle.std.specs.Prelude.{◌≡◌, ◌≢◌, ◌↔◌, ℕ, ◌+◌, ◌-◌, ◌^◌, ◌<◌, ◌≤◌, List, [], length, Contains, filter, Result, Ok, Option, Some};
+ghost use Rattle.std.specs.Prelude.{◌≡◌, ◌≢◌, ◌↔◌, Bool, ℕ, ◌+◌, ◌-◌, ◌^◌, ◌<◌, ◌≤◌, List, [], length, Contains, filter, Result, Ok, Option, Some};
 ghost use Rattle.et_base.specs.Numbers.{AreBytes};
 ghost use Rattle.et_base.specs.declared.line.TraceLine.{TraceLine};
 ghost use Rattle.et_base.specs.declared.line.TraceLine.TheVariants.{Death};
@@ -13,7 +13,7 @@ ghost use Rattle.et_convert.specs.Conversions.{converted_bytes};
 ghost use Rattle.et_event.specs.Moments.{number_of_value};
 ghost use Rattle.et_event.specs.Monitors.{Lock};
 ghost use Rattle.et_event.specs.Start.{start_records};
-ghost use Rattle.et_graph.specs.Graph.{IsMade, IsReached};
+ghost use Rattle.et_graph.specs.Graph.{Graph, Decides, IsMade, IsReached};
 ghost use Rattle.et_heap.specs.Objects.{slot_of};
 ghost use Rattle.et_history.specs.Allocations.{object_in};
 ghost use Rattle.et_history.specs.Deaths.{DiesBy};
@@ -36,6 +36,8 @@ ghost use Rattle.et_state.specs.Options.{AreOptions};
 ghost use Rattle.et_state.specs.Roots.{graph, numbers_from};
 ghost use Rattle.et_state.specs.Words.{static_at};
 ghost use Rattle.et_state.specs.declared.options.Options.{Options};
+ghost use Rattle.et_text.specs.declared.fault.TraceFault.TheVariants.{At};
+ghost use Rattle.et_top.specs.Bench.{IsNotReadBack};
 ghost use Rattle.et_top.specs.Command.{command, Convert, Curve, Replay, Snapshot, Trace, Verify};
 ghost use Rattle.et_top.specs.Faults.{BadEvent, Fault};
 ghost use Rattle.et_top.specs.Loaded.{file_bytes, most_of_trace, IsTraceOf};
@@ -62,7 +64,7 @@ use et_traces::snapshot_laws::snapshots_show_states;
 use et_typed::laws::verified_histories_end_by_check_7;
 
 /// The premises are met: each trace that words and files define has such a run, where files hold bytes and the program has
-/// no more classes than 32 bits can number.
+/// fewer than 2^32 classes.
 pub fn premises_are_met()
     ensures { (kinds : List Kind) (words : List (List ℕ)) (held : Held) (p : Linked)
         (options : Options) → IsDefined kinds words held (Traces p options) →
@@ -263,4 +265,15 @@ pub fn monitors_are_held_by_one()
     programs_are_linked();
     monitors_exclude();
     histories_tell_the_same();
+}
+
+/// The trace of a bench is read back: its answer is never that the trace is a bad one. The program of a bench is linked, and its
+/// tables are in range, as those of each program are that was linked.
+pub fn benches_have_good_traces()
+    ensures { (reached : Graph → ℕ → Bool) (p : Linked) (old new kind line : ℕ) →
+        Decides reached → IsTabled p → IsLinked p →
+        IsNotReadBack reached p old new (At kind line) → ⊥ }
+{
+    traces_are_good();
+    traces_are_read();
 }
