@@ -1,8 +1,8 @@
-//! The theorems, each over one record of premises, `IsTraced`: the words and the files define the trace of a program. All of
-//! them speak of one history, the one in which nothing is freed. Each is a function that calls the laws that it stands on:
-//! what it promises is its contract.
+//! The theorems, each but the last over one record of premises, `IsTraced`: the words and the files define the trace of a
+//! program. All of them speak of one history, the one in which nothing is freed. Each is a function that calls the laws that
+//! it stands on: what it promises is its contract.
 
-ghost use Rattle.std.specs.Prelude.{◌≡◌, ◌≢◌, ◌↔◌, Bool, ℕ, ◌+◌, ◌-◌, ◌^◌, ◌<◌, ◌≤◌, List, [], length, Contains, filter, Result, Ok, Option, Some};
+ghost use Rattle.std.specs.Prelude.{◌≡◌, ◌≢◌, ◌↔◌, Bool, ℕ, ◌+◌, ◌-◌, ◌^◌, ◌<◌, ◌≤◌, List, length, Contains, filter, Result, Ok, Option, Some};
 ghost use Rattle.et_base.specs.Numbers.{AreBytes};
 ghost use Rattle.et_base.specs.declared.line.TraceLine.{TraceLine};
 ghost use Rattle.et_base.specs.declared.line.TraceLine.TheVariants.{Death};
