@@ -1,4 +1,5 @@
 mod Found
+mod Followed
 mod FaultLemmas
 mod ReadLemmas
 mod LinkLemmas

@@ -1,4 +1,5 @@
 pub mod Faults
+pub mod Following
 pub mod Loaded
 pub mod Bench
 pub mod Top

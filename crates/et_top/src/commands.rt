@@ -13,16 +13,17 @@ ghost use Rattle.et_top.specs.Visits.{IsBeforeRun, IsNoTrace, HasUnread};
 
 use crate::answers::{refuse, written};
 use crate::command::Models;
+use crate::follow_file::{follow_file, load_bytes};
 use crate::load_listing::load_listing;
-use crate::load_trace::{load_trace, load_trace_to};
+use crate::load_trace::load_trace_to;
 use crate::models::replay_trace;
 use crate::programs::{load_program, run};
 use crate::status::Status;
 use crate::verdict::tell_verdict;
 use et_base::Steps;
-use et_convert::convert_trace;
+use et_convert::convert_bytes;
 use et_io::{Files, Sink, put_all};
-use et_replay::{HeapModel, curve_lines};
+use et_replay::{Curve, Happenings, HeapModel};
 use et_snapshot::snapshot_lines;
 use et_state::Options;
 use std::alloc::Global;
@@ -142,8 +143,8 @@ pub fn convert<F: Files, O: Sink, E: Sink>(
         ≡ count_after (is_write_status result) (O.faults out.old) }
     ensures asked { F.asked files.new ≡ F.asked files.old ++ path.now ∷ [] }
 {
-    match load_trace(alloc, path, files) {
-        Ok(trace) => written(alloc, convert_trace(alloc, &trace, out), err),
+    match load_bytes(alloc, path, files) {
+        Ok(bytes) => written(alloc, convert_bytes(alloc, &bytes, out), err),
         Err(refusal) => refuse(alloc, err, &refusal),
     }
 }
@@ -168,8 +169,8 @@ pub fn curve<F: Files, O: Sink, E: Sink>(
         ≡ count_after (is_write_status result) (O.faults out.old) }
     ensures asked { F.asked files.new ≡ F.asked files.old ++ path.now ∷ [] }
 {
-    match load_trace(alloc, path, files) {
-        Ok(trace) => written(alloc, curve_lines(alloc, &trace, out), err),
+    match follow_file(alloc, path, files, Curve::begin(alloc)) {
+        Ok(curve) => written(alloc, curve.put(alloc, out), err),
         Err(refusal) => refuse(alloc, err, &refusal),
     }
 }
@@ -224,8 +225,12 @@ pub fn replay<F: Files, O: Sink, E: Sink>(
         ≡ count_after (is_write_status result) (O.faults out.old) }
     ensures asked { F.asked files.new ≡ F.asked files.old ++ path.now ∷ [] }
 {
-    match load_trace(alloc, path, files) {
-        Ok(trace) => written(alloc, replay_trace(alloc, asked, &trace, models, out), err),
+    match follow_file(alloc, path, files, Happenings::begin(alloc)) {
+        Ok(happenings) => written(
+            alloc,
+            replay_trace(alloc, asked, happenings, models, out),
+            err,
+        ),
         Err(refusal) => refuse(alloc, err, &refusal),
     }
 }

@@ -9,6 +9,7 @@ mod command;
 mod commands;
 mod discard;
 mod files;
+mod follow_file;
 pub mod laws;
 mod load_classes;
 mod load_listing;

@@ -22,7 +22,7 @@ use et_text::{Trace, TraceFault};
 use std::alloc::Global;
 
 /// The longest trace that is read, in bytes.
-const MOST_TRACE_BYTES: u64 = 268_435_456;
+pub const MOST_TRACE_BYTES: u64 = 268_435_456;
 
 /// The trace of these bytes, which the file at the path holds.
 fn trace_in<'a>(alloc: Global, path: &'a str, bytes: &[u8]) -> Result<Trace, Refusal<'a>>

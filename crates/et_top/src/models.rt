@@ -1,20 +1,22 @@
 //! The models of a replay.
-ghost use Rattle.std.specs.Prelude.{◌≡◌, ◌≤◌, ◌<◌, ◌^◌, ◌∷◌, ℕ, Bool, [], All, length, map, IfOk, IfSome, OnOk, OnErr};
+ghost use Rattle.std.specs.Prelude.{◌≡◌, ◌≤◌, ◌<◌, ◌^◌, ◌∷◌, ℕ, Bool, List, [], All, length, map, reverse, IfOk, IfSome, OnOk, OnErr};
 ghost use Rattle.std.specs.List.{AllZip};
+ghost use Rattle.et_base.specs.declared.line.TraceLine.{TraceLine};
 ghost use Rattle.et_graph.specs.Graph.{Graph, Decides};
 ghost use Rattle.et_io.specs.Faults.{count_after, is_write_fault};
 ghost use Rattle.et_io.specs.Sink.{with_more, TakesPrefix};
+ghost use Rattle.et_replay.specs.Kept.{AreHappenings};
 ghost use Rattle.et_replay.specs.Replay.{replay_text};
 ghost use Rattle.et_replay.specs.Timeline.{timeline_items};
 ghost use Rattle.et_replay.specs.Items.{made_objects};
+ghost use Rattle.et_text.specs.Rules.{IsGoodTrace};
 ghost use Rattle.et_top.specs.Told.{IsPrepared};
 ghost use Rattle.et_top.specs.Top.{policy_of, policies_of};
 
 use crate::command::Models;
 use et_base::NoMemory;
 use et_io::{RunFault, Sink};
-use et_replay::{HeapModel, Item, Kind, Policy, replay, timeline};
-use et_text::Trace;
+use et_replay::{Happenings, HeapModel, Item, Kind, Policy, replay};
 use std::alloc::Global;
 
 /// The policy of a model of this kind, if one is asked for.
@@ -102,26 +104,30 @@ fn choose(
     Ok(chosen)
 }
 
-/// Writes the line of each of the new models that is asked for, in order: what it reports of the trace. The other
-/// models are dropped.
+/// Writes the line of each of the new models that is asked for, in order: what it reports of the trace whose lines came. The
+/// other models are dropped.
 pub fn replay_trace<O: Sink>(
     alloc: Global,
     asked: &Models,
-    trace: &Trace,
+    happenings: Happenings,
     models: Vec<Box<dyn HeapModel>>,
     out: &mut O,
 ) -> Result<(), RunFault>
     requires new { All (λ b. is_new b) models.items }
-    ensures ok { (reached : Graph → ℕ → Bool) → Decides reached →
+    requires lines { (lines : List TraceLine) × IsGoodTrace lines
+        × AreHappenings happenings (reverse lines) }
+    ensures ok { (lines : List TraceLine) → IsGoodTrace lines →
+        AreHappenings happenings (reverse lines) → (reached : Graph → ℕ → Bool) → Decides reached →
         OnOk result (O.taken out.new ≡ with_more (O.taken out.old) (replay_text reached
-        (timeline_items trace.now) (policies_of asked.now (map (λ b. kind_of b) models.items)))) }
+        (timeline_items lines) (policies_of asked.now (map (λ b. kind_of b) models.items)))) }
     ensures write { O.faults out.new ≡ count_after (is_write_fault result) (O.faults out.old) }
-    ensures err { (reached : Graph → ℕ → Bool) → Decides reached →
+    ensures err { (lines : List TraceLine) → IsGoodTrace lines →
+        AreHappenings happenings (reverse lines) → (reached : Graph → ℕ → Bool) → Decides reached →
         OnErr result (TakesPrefix (O.taken out.old) (O.taken out.new) (replay_text reached
-        (timeline_items trace.now) (policies_of asked.now (map (λ b. kind_of b) models.items)))) }
+        (timeline_items lines) (policies_of asked.now (map (λ b. kind_of b) models.items)))) }
     ensures never_falls { O.faults out.old ≤ O.faults out.new }
 {
-    let items = match timeline(alloc, trace) {
+    let items = match happenings.in_order() {
         Ok(items) => items,
         Err(_) => return Err(RunFault::NoMemory),
     };
