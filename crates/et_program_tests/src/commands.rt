@@ -1,4 +1,4 @@
-//! The commands `asm`, `curve` and `replay`, and the options of `trace`.
+//! The commands `asm`, `curve`, `snapshot` and `replay`, and the options of `trace`.
 ghost use Rattle.std.specs.Prelude.{◌≤◌};
 
 use crate::first_path::{BOX, TRACE};
@@ -114,6 +114,51 @@ fn the_live_curve_of_a_trace(rt: HostRuntime) -> Result<(), Fail> {
     let mut files = files_with(alloc, "T", TRACE)?;
     let curve = b"0 24\n1 24\n2 40\n4 0\n";
     is_answered(&rt, alloc, &mut files, "curve T", Status::Done, curve, b"")
+}
+
+/// Object 1 is given objects in its slots 1 and 0 and loses the first of them; two static slots hold both objects, of which
+/// the second is reached for the last time at event 5.
+const HELD: &[u8] =
+    b"H 1 0\nC 1 P\nC 2 Q\nA 1 0 1 1 24 0\nA 1 0 2 1 16 0\nU 2 0 0 7 0 1\nU 3 0 0 2 0 2\n\
+    U 3 0 1 1 0 2\nU 4 0 1 0 0 1\nU 5 0 1 1 2 0\nF 6 2\nD 1 6\nD 2 5\nZ 6 0\n";
+
+#[test]
+fn what_stood_in_the_heap(rt: HostRuntime) -> Result<(), Fail> {
+    let alloc = rt.alloc();
+    let mut files = files_with(alloc, "T", TRACE)?;
+    files.hold("H", HELD)?;
+    let rows: [(&str, &[u8]); 4] = [
+        (
+            "snapshot T 2",
+            b"snapshot 2 2 40\no 1 [Ljava/lang/String; 24\no 2 Box 16\n\
+            c [Ljava/lang/String; 1 24\nc Box 1 16\n",
+        ),
+        (
+            "snapshot T 3",
+            b"snapshot 3 1 24\no 1 [Ljava/lang/String; 24\nc [Ljava/lang/String; 1 24\n",
+        ),
+        (
+            "snapshot -- H 4",
+            b"snapshot 4 2 40\ns 2 2\ns 7 1\no 1 P 24\ne 1 0 1\ne 1 1 2\no 2 P 16\nc P 2 40\n",
+        ),
+        (
+            "snapshot H 6",
+            b"snapshot 6 1 24\ns 2 2\ns 7 1\no 1 P 24\ne 1 0 1\nc P 1 24\n",
+        ),
+    ];
+    for (line, lines) in rows {
+        is_answered(&rt, alloc, &mut files, line, Status::Done, lines, b"")?;
+    }
+    let said = b"elephant: bad event 8\n";
+    is_answered(
+        &rt,
+        alloc,
+        &mut files,
+        "snapshot T 08",
+        Status::BadEvent,
+        b"",
+        said,
+    )
 }
 
 #[test]
@@ -244,7 +289,12 @@ fn other_words_are_no_command(rt: HostRuntime) -> Result<(), Fail> {
 #[test]
 fn a_failed_write_is_no_want_of_memory(rt: HostRuntime) -> Result<(), Fail> {
     let alloc = rt.alloc();
-    for line in ["convert T", "curve T", "replay --mark-sweep 120 T"] {
+    for line in [
+        "convert T",
+        "curve T",
+        "snapshot T 4",
+        "replay --mark-sweep 120 T",
+    ] {
         let mut files = files_with(alloc, "T", FIVE)?;
         let mut out = MemSink::begin(alloc, 1000);
         let mut err = MemSink::begin(alloc, 1000);
