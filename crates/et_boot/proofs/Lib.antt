@@ -1,3 +1,4 @@
 pub mod Places
 pub mod PoolLemmas
 pub mod Called
+pub mod TextCalled

@@ -1,6 +1,7 @@
 -- THE BUILT-IN METHODS WITHOUT CODE: which one a method is, by its name and its descriptor.
 use Rattle.std.specs.Prelude.{ℕ, ◌&&◌, ◌||◌, Bool, List, [], ◌∷◌, codes, Option, option_map, find}
 use Rattle.std.specs.Str.{bytes_eq}
+use Rattle.et_boot.specs.TextMethods.{has_text_methods}
 use Rattle.et_boot.specs.declared.built_ins.BuiltIn.{BuiltIn}
 use Rattle.et_boot.specs.declared.built_ins.BuiltIn.TheVariants.{Nothing, SetMessage, SetMessageAndCause, GetMessage, GetCause, SetTarget, Start, Join, SetReferent, SetReferentAndQueue, GetReferent, ClearReferent, Poll}
 
@@ -36,10 +37,11 @@ abbrev pub built_in_called : List ℕ → List ℕ → Option BuiltIn
 built_in_called name descriptor = option_map (λ (row : List ℕ × List ℕ × BuiltIn). row.2) (find (is_called name descriptor) built_ins)
 
 -- java.lang.Thread, and java.lang.ref.Reference, WeakReference and ReferenceQueue: what their methods without code do is a
--- part of the machine that is made for threads, weak references and their queues
+-- part of the machine that is made for threads, weak references and their queues; and the classes with methods of texts
 abbrev pub is_deferring_class : List ℕ → Bool
 is_deferring_class name =
     bytes_eq name (codes "java/lang/Thread")
     || bytes_eq name (codes "java/lang/ref/Reference")
     || bytes_eq name (codes "java/lang/ref/WeakReference")
     || bytes_eq name (codes "java/lang/ref/ReferenceQueue")
+    || has_text_methods name

@@ -1,5 +1,5 @@
 -- THE BUILT-IN CLASSES: what each declares. No class file gives them; the machine runs their methods itself, but for
--- those with code here. A class is added by a line of `boot_classes`.
+-- those with code here. A class is added by a line of `first_classes` or of `throwables`.
 use Rattle.std.specs.Prelude.{ℕ, Bool, true, false, List, [], ◌∷◌, ◌++◌, Option, None, Some, codes}
 use Rattle.et_pool.specs.Entries.{Item, Text, Name, Pair}
 use Rattle.et_pool.specs.Spelling.{pool_bytes}
@@ -18,7 +18,7 @@ pub record BootCodeOf : Type 0 where
   pub code : List ℕ
 
 -- a method: its flags are those of a class file (JVMS table 4.6-A); a deferred one has no code and is a part of the
--- machine that is made for threads, weak references and their queues
+-- machine that is made for threads, weak references and their queues, or for texts
 pub record BootMethodOf : Type 0 where
   pub name : List ℕ
   pub descriptor : List ℕ
@@ -43,6 +43,9 @@ pub record BootClassOf : Type 0 where
 abbrev pub public : ℕ
 public = 0x0001
 
+abbrev pub public_static : ℕ
+public_static = 0x0009
+
 abbrev pub public_final : ℕ
 public_final = 0x0011
 
@@ -58,7 +61,7 @@ public_interface = 0x0601
 abbrev pub built_in : List ℕ → List ℕ → BootMethodOf
 built_in name descriptor = record { name = name; descriptor = descriptor; flags = public; code = None; deferred = false }
 
--- a public method of threads, of weak references or of their queues that the machine runs itself
+-- a public method of threads, of weak references or of their queues, or of texts, that the machine runs itself
 abbrev pub deferred : List ℕ → List ℕ → BootMethodOf
 deferred name descriptor = record { name = name; descriptor = descriptor; flags = public; code = None; deferred = true }
 
@@ -72,9 +75,9 @@ coded name descriptor code = record { name = name; descriptor = descriptor; flag
 
 -- KINDS OF CLASSES
 
--- a class below Object with no slots and no members
-abbrev pub plain_class : List ℕ → ℕ → BootClassOf
-plain_class name flags = record { name = name; super_name = Some (codes "java/lang/Object"); flags = flags; interfaces = []; pool = pool_bytes []; slots = 0; fields = []; methods = [] }
+-- a class below Object with no slots and no fields
+abbrev pub plain_class : List ℕ → ℕ → List BootMethodOf → BootClassOf
+plain_class name flags methods = record { name = name; super_name = Some (codes "java/lang/Object"); flags = flags; interfaces = []; pool = pool_bytes []; slots = 0; fields = []; methods = methods }
 
 -- an interface with these methods
 abbrev pub interface : List ℕ → List BootMethodOf → BootClassOf
@@ -216,22 +219,82 @@ reference_queue = record {
   methods = deferred (codes "<init>") (codes "()V") ∷ deferred (codes "poll") (codes "()Ljava/lang/ref/Reference;") ∷ [];
 }
 
+abbrev pub string : BootClassOf
+string =
+    plain_class (codes "java/lang/String") public_final
+    (deferred (codes "length") (codes "()I")
+    ∷ deferred (codes "charAt") (codes "(I)C")
+    ∷ deferred (codes "equals") (codes "(Ljava/lang/Object;)Z")
+    ∷ [])
+
+abbrev pub string_builder : BootClassOf
+string_builder =
+    plain_class (codes "java/lang/StringBuilder") public
+    (deferred (codes "<init>") (codes "()V")
+    ∷ deferred (codes "<init>") (codes "(Ljava/lang/String;)V")
+    ∷ deferred (codes "length") (codes "()I")
+    ∷ deferred (codes "toString") (codes "()Ljava/lang/String;")
+    ∷ deferred (codes "append") (codes "(Ljava/lang/String;)Ljava/lang/StringBuilder;")
+    ∷ deferred (codes "append") (codes "(I)Ljava/lang/StringBuilder;")
+    ∷ deferred (codes "append") (codes "(J)Ljava/lang/StringBuilder;")
+    ∷ deferred (codes "append") (codes "(C)Ljava/lang/StringBuilder;")
+    ∷ deferred (codes "append") (codes "(Z)Ljava/lang/StringBuilder;")
+    ∷ [])
+
+abbrev pub print_stream : BootClassOf
+print_stream =
+    plain_class (codes "java/io/PrintStream") public
+    (deferred (codes "print") (codes "(Ljava/lang/String;)V")
+    ∷ deferred (codes "print") (codes "(I)V")
+    ∷ deferred (codes "print") (codes "(J)V")
+    ∷ deferred (codes "print") (codes "(C)V")
+    ∷ deferred (codes "print") (codes "(Z)V")
+    ∷ deferred (codes "println") (codes "(Ljava/lang/String;)V")
+    ∷ deferred (codes "println") (codes "(I)V")
+    ∷ deferred (codes "println") (codes "(J)V")
+    ∷ deferred (codes "println") (codes "(C)V")
+    ∷ deferred (codes "println") (codes "(Z)V")
+    ∷ deferred (codes "println") (codes "()V")
+    ∷ [])
+
+-- its field is the one static field of a built-in class
+abbrev pub system : BootClassOf
+system = record {
+  name = codes "java/lang/System";
+  super_name = Some (codes "java/lang/Object");
+  flags = public;
+  interfaces = [];
+  pool = pool_bytes [];
+  slots = 0;
+  fields = record { name = codes "out"; descriptor = codes "Ljava/io/PrintStream;"; flags = public_static } ∷ [];
+  methods = [];
+}
+
 -- THE TABLE
 
-abbrev pub boot_classes : List BootClassOf
-boot_classes =
+-- the classes that aren't below Throwable, and Throwable
+abbrev pub first_classes : List BootClassOf
+first_classes =
     object_class_file
     ∷ interface (codes "java/lang/Runnable") (without_body (codes "run") (codes "()V") ∷ [])
     ∷ interface (codes "java/lang/Cloneable") []
     ∷ interface (codes "java/lang/AutoCloseable") (without_body (codes "close") (codes "()V") ∷ [])
     ∷ interface (codes "java/io/Serializable") []
-    ∷ plain_class (codes "java/lang/String") public_final
+    ∷ string
     ∷ thread
     ∷ reference
     ∷ weak_reference
     ∷ reference_queue
     ∷ throwable_class
-    ∷ throwable (codes "java/lang/Exception") (codes "java/lang/Throwable")
+    ∷ string_builder
+    ∷ print_stream
+    ∷ system
+    ∷ []
+
+-- the classes below Throwable
+abbrev pub throwables : List BootClassOf
+throwables =
+    throwable (codes "java/lang/Exception") (codes "java/lang/Throwable")
     ∷ throwable (codes "java/lang/Error") (codes "java/lang/Throwable")
     ∷ throwable (codes "java/lang/RuntimeException") (codes "java/lang/Exception")
     ∷ throwable (codes "java/lang/InterruptedException") (codes "java/lang/Exception")
@@ -261,7 +324,11 @@ boot_classes =
     ∷ throwable (codes "java/lang/NoSuchMethodError") (codes "java/lang/IncompatibleClassChangeError")
     ∷ throwable (codes "java/lang/StackOverflowError") (codes "java/lang/VirtualMachineError")
     ∷ throwable (codes "java/lang/OutOfMemoryError") (codes "java/lang/VirtualMachineError")
+    ∷ throwable (codes "java/lang/StringIndexOutOfBoundsException") (codes "java/lang/IndexOutOfBoundsException")
     ∷ []
+
+abbrev pub boot_classes : List BootClassOf
+boot_classes = first_classes ++ throwables
 
 -- what stands at the places behind the last class
 abbrev pub no_boot_class : BootClassOf

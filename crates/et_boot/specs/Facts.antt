@@ -3,7 +3,9 @@ use Rattle.std.specs.Prelude.{ℕ, ◌==◌, ◌&&◌, not, Bool, true, false, L
 use Rattle.std.specs.List.{list_any, list_all}
 use Rattle.std.specs.Str.{bytes_eq}
 use Rattle.et_boot.specs.BuiltIns.{is_deferring_class}
-use Rattle.et_boot.specs.Classes.{BootClassOf, public_interface}
+use Rattle.et_boot.specs.Classes.{BootClassOf, boot_classes, public_interface}
+use Rattle.et_boot.specs.TextMethods.{has_text_methods, text_method_called}
+use Rattle.et_boot.specs.declared.text_methods.TextMethod.{TextMethod}
 
 abbrev pub is_class_named : List ℕ → BootClassOf → Bool
 is_class_named name c = bytes_eq name c.name
@@ -31,6 +33,14 @@ abbrev pub same_flag : Bool → Bool → Bool
 same_flag true b = b
 same_flag false b = not b
 
--- deferred is exactly a method without code of one of those four
+-- deferred is exactly a method without code of one of the deferring classes
 abbrev pub defers_exactly : BootClassOf → Bool
 defers_exactly c = list_all (λ m. same_flag m.deferred (is_deferring_class c.name && not (is_some m.code))) c.methods
+
+-- a method of texts is exactly one of String, StringBuilder or PrintStream
+abbrev pub has_text_methods_exactly : BootClassOf → Bool
+has_text_methods_exactly c = list_all (λ m. same_flag (is_some (text_method_called c.name m.name m.descriptor)) (has_text_methods c.name)) c.methods
+
+-- the row is that of a method that a built-in class declares
+abbrev pub is_declared : List ℕ × List ℕ × List ℕ × TextMethod → Bool
+is_declared row = list_any (λ c. bytes_eq c.name row.0 && list_any (λ m. bytes_eq m.name row.1 && bytes_eq m.descriptor row.2) c.methods) boot_classes

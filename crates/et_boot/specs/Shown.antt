@@ -7,6 +7,8 @@ use Rattle.et_boot.specs.declared.entries.BootMethod.{BootMethod}
 use Rattle.et_boot.specs.declared.entries.BootCode.{BootCode}
 use Rattle.et_boot.specs.declared.built_ins.BuiltIn.{BuiltIn}
 use Rattle.et_boot.specs.declared.built_ins.BuiltInRow.{BuiltInRow}
+use Rattle.et_boot.specs.declared.text_methods.TextMethod.{TextMethod}
+use Rattle.et_boot.specs.declared.text_methods.TextMethodRow.{TextMethodRow}
 use Rattle.et_boot.specs.Classes.{BootClassOf, BootFieldOf, BootMethodOf, BootCodeOf}
 
 abbrev pub shown_field : BootField → BootFieldOf
@@ -32,3 +34,6 @@ shown c = record {
 
 abbrev pub shown_row : BuiltInRow → List ℕ × List ℕ × BuiltIn
 shown_row row = (row.name.now, row.descriptor.now, row.built_in)
+
+abbrev pub shown_text_row : TextMethodRow → List ℕ × List ℕ × List ℕ × TextMethod
+shown_text_row row = (row.class.now, row.name.now, row.descriptor.now, row.method)

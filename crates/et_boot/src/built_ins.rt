@@ -6,6 +6,8 @@ ghost use Rattle.et_boot.specs.declared.built_ins.BuiltInRow.{BuiltInRow as Row}
 ghost use Rattle.et_boot.specs.BuiltIns.{built_ins, built_in_called as built_in_by, is_deferring_class};
 ghost use Rattle.et_boot.specs.Shown.{shown_row};
 
+use crate::text_methods::has_text_methods;
+
 /// What a built-in method without code does.
 #[derive(Clone, Copy, Debug, PartialEq, Eq)]
 pub enum BuiltIn {
@@ -106,7 +108,8 @@ pub fn built_in_called(name: &[u8], descriptor: &[u8]) -> Option<BuiltIn>
 }
 
 /// Whether the built-in class of this name is one of those whose methods without code are a part of the machine that is made
-/// for threads, weak references and their queues: Thread, Reference, WeakReference or ReferenceQueue.
+/// for threads, weak references and their queues, or for texts: Thread, Reference, WeakReference or ReferenceQueue, or
+/// String, StringBuilder or PrintStream.
 pub fn is_deferring(name: &[u8]) -> bool
     ensures { result ≡ is_deferring_class name.now }
 {
@@ -114,4 +117,5 @@ pub fn is_deferring(name: &[u8]) -> bool
         || name == b"java/lang/ref/Reference".as_slice()
         || name == b"java/lang/ref/WeakReference".as_slice()
         || name == b"java/lang/ref/ReferenceQueue".as_slice()
+        || has_text_methods(name)
 }

@@ -43,7 +43,8 @@ pub struct BootMethod {
     pub flags: u16,
     /// The code; `None` where the method is abstract or the machine runs it itself.
     pub code: Option<BootCode>,
-    /// Whether it is a method without code of Thread, Reference, WeakReference or ReferenceQueue.
+    /// Whether it is a method without code of Thread, Reference, WeakReference or ReferenceQueue, or of String,
+    /// StringBuilder or PrintStream.
     pub deferred: bool,
 }
 

@@ -2,7 +2,7 @@
 #![tactic(auto)]
 
 ghost use Rattle.std.specs.Prelude.{◌≡◌, ◌<◌, length, map};
-ghost use Rattle.et_boot.specs.Classes.{boot_classes, no_boot_class};
+ghost use Rattle.et_boot.specs.Classes.{boot_classes, first_classes, no_boot_class, throwables};
 ghost use Rattle.et_boot.specs.Shown.{shown};
 ghost use Rattle.std.specs.List.{slice_index_or};
 
@@ -12,12 +12,16 @@ pub mod laws;
 mod names;
 #[cfg(test)]
 mod tests;
+mod text_methods;
 
 pub use built_ins::{BuiltIn, built_in_called, is_deferring};
 pub use entries::{BootClass, BootCode, BootField, BootMethod};
 pub use names::BuiltInClass;
+pub use text_methods::{Shown, TextMethod, text_method_called};
 
 const PUBLIC: u16 = 0x0001;
+
+const PUBLIC_STATIC: u16 = 0x0009;
 
 const PUBLIC_FINAL: u16 = 0x0011;
 
@@ -41,7 +45,7 @@ macro_rules! built_in {
     };
 }
 
-/// A public method of threads, of weak references or of their queues that the machine runs itself.
+/// A public method of threads, of weak references or of their queues, or of texts, that the machine runs itself.
 macro_rules! deferred {
     ($name:expr, $descriptor:expr) => {
         BootMethod {
@@ -122,6 +126,70 @@ const STRING: BootClass = BootClass {
     pool: NO_ENTRIES,
     slots: 0,
     fields: &[],
+    methods: &[
+        deferred!(b"length", b"()I"),
+        deferred!(b"charAt", b"(I)C"),
+        deferred!(b"equals", b"(Ljava/lang/Object;)Z"),
+    ],
+};
+
+const STRING_BUILDER: BootClass = BootClass {
+    name: b"java/lang/StringBuilder",
+    super_name: Some(b"java/lang/Object"),
+    flags: PUBLIC,
+    interfaces: &[],
+    pool: NO_ENTRIES,
+    slots: 0,
+    fields: &[],
+    methods: &[
+        deferred!(b"<init>", b"()V"),
+        deferred!(b"<init>", b"(Ljava/lang/String;)V"),
+        deferred!(b"length", b"()I"),
+        deferred!(b"toString", b"()Ljava/lang/String;"),
+        deferred!(b"append", b"(Ljava/lang/String;)Ljava/lang/StringBuilder;"),
+        deferred!(b"append", b"(I)Ljava/lang/StringBuilder;"),
+        deferred!(b"append", b"(J)Ljava/lang/StringBuilder;"),
+        deferred!(b"append", b"(C)Ljava/lang/StringBuilder;"),
+        deferred!(b"append", b"(Z)Ljava/lang/StringBuilder;"),
+    ],
+};
+
+const PRINT_STREAM: BootClass = BootClass {
+    name: b"java/io/PrintStream",
+    super_name: Some(b"java/lang/Object"),
+    flags: PUBLIC,
+    interfaces: &[],
+    pool: NO_ENTRIES,
+    slots: 0,
+    fields: &[],
+    methods: &[
+        deferred!(b"print", b"(Ljava/lang/String;)V"),
+        deferred!(b"print", b"(I)V"),
+        deferred!(b"print", b"(J)V"),
+        deferred!(b"print", b"(C)V"),
+        deferred!(b"print", b"(Z)V"),
+        deferred!(b"println", b"(Ljava/lang/String;)V"),
+        deferred!(b"println", b"(I)V"),
+        deferred!(b"println", b"(J)V"),
+        deferred!(b"println", b"(C)V"),
+        deferred!(b"println", b"(Z)V"),
+        deferred!(b"println", b"()V"),
+    ],
+};
+
+/// Its field is the one static field of a built-in class.
+const SYSTEM: BootClass = BootClass {
+    name: b"java/lang/System",
+    super_name: Some(b"java/lang/Object"),
+    flags: PUBLIC,
+    interfaces: &[],
+    pool: NO_ENTRIES,
+    slots: 0,
+    fields: &[BootField {
+        name: b"out",
+        descriptor: b"Ljava/io/PrintStream;",
+        flags: PUBLIC_STATIC,
+    }],
     methods: &[],
 };
 
@@ -238,7 +306,8 @@ const THROWABLE: BootClass = BootClass {
     ],
 };
 
-static CLASSES: [BootClass; 41] = [
+/// The classes that aren't below Throwable, and Throwable.
+static CLASSES: [BootClass; 14] = [
     OBJECT,
     interface!(b"java/lang/Runnable", &[without_body!(b"run", b"()V")]),
     interface!(b"java/lang/Cloneable", &[]),
@@ -253,6 +322,13 @@ static CLASSES: [BootClass; 41] = [
     WEAK_REFERENCE,
     REFERENCE_QUEUE,
     THROWABLE,
+    STRING_BUILDER,
+    PRINT_STREAM,
+    SYSTEM,
+];
+
+/// The classes below Throwable.
+static THROWABLES: [BootClass; 31] = [
     throwable!(b"java/lang/Exception", b"java/lang/Throwable"),
     throwable!(b"java/lang/Error", b"java/lang/Throwable"),
     throwable!(b"java/lang/RuntimeException", b"java/lang/Exception"),
@@ -346,13 +422,17 @@ static CLASSES: [BootClass; 41] = [
         b"java/lang/OutOfMemoryError",
         b"java/lang/VirtualMachineError"
     ),
+    throwable!(
+        b"java/lang/StringIndexOutOfBoundsException",
+        b"java/lang/IndexOutOfBoundsException"
+    ),
 ];
 
 /// How many built-in classes there are.
 pub fn boot_count() -> usize
     ensures { result ≡ length boot_classes }
 {
-    CLASSES.len()
+    CLASSES.len() + THROWABLES.len()
 }
 
 /// A row of a table.
@@ -363,10 +443,30 @@ fn row(rows: &[BootClass], i: usize) -> BootClass
     rows[i]
 }
 
+/// A row of the first table.
+fn first_class(i: usize) -> BootClass
+    requires { i < length first_classes }
+    ensures { shown result ≡ slice_index_or first_classes i no_boot_class }
+{
+    row(&CLASSES, i)
+}
+
+/// A row of the second table.
+fn class_below_throwable(i: usize) -> BootClass
+    requires { i < length throwables }
+    ensures { shown result ≡ slice_index_or throwables i no_boot_class }
+{
+    row(&THROWABLES, i)
+}
+
 /// The built-in class at a place of the table, from 0 on. A class stands behind its superclass and its interfaces.
 pub fn boot_class(i: usize) -> BootClass
     requires { i < length boot_classes }
     ensures { shown result ≡ slice_index_or boot_classes i no_boot_class }
 {
-    row(&CLASSES, i)
+    if i < CLASSES.len() {
+        first_class(i)
+    } else {
+        class_below_throwable(i - CLASSES.len())
+    }
 }

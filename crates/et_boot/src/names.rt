@@ -6,8 +6,8 @@ ghost use Rattle.et_boot.specs.Classes.{boot_classes};
 ghost use Rattle.et_boot.specs.Facts.{is_class_named};
 ghost use Rattle.et_boot.specs.Names.{built_in_class_name};
 
-/// A built-in class that the machine itself names, with its place in the table. All but the first six are exceptions and
-/// errors that instructions throw (JVMS 2.10).
+/// A built-in class that the machine itself names, with its place in the table. Those behind System are
+/// exceptions and errors that instructions and built-in methods throw (JVMS 2.10).
 #[derive(Clone, Copy, Debug, PartialEq, Eq)]
 pub enum BuiltInClass {
     Object = 0,
@@ -15,25 +15,29 @@ pub enum BuiltInClass {
     Thread = 6,
     ReferenceQueue = 9,
     Throwable = 10,
-    Error = 12,
-    ArithmeticException = 16,
-    ArrayStoreException = 17,
-    ClassCastException = 18,
-    IllegalMonitorStateException = 20,
-    NegativeArraySizeException = 23,
-    NullPointerException = 24,
-    ArrayIndexOutOfBoundsException = 26,
-    IllegalThreadStateException = 27,
-    NoClassDefFoundError = 31,
-    ExceptionInInitializerError = 32,
-    UnsatisfiedLinkError = 33,
-    IncompatibleClassChangeError = 34,
-    AbstractMethodError = 35,
-    InstantiationError = 36,
-    NoSuchFieldError = 37,
-    NoSuchMethodError = 38,
-    StackOverflowError = 39,
-    OutOfMemoryError = 40,
+    StringBuilder = 11,
+    PrintStream = 12,
+    System = 13,
+    Error = 15,
+    ArithmeticException = 19,
+    ArrayStoreException = 20,
+    ClassCastException = 21,
+    IllegalMonitorStateException = 23,
+    NegativeArraySizeException = 26,
+    NullPointerException = 27,
+    ArrayIndexOutOfBoundsException = 29,
+    IllegalThreadStateException = 30,
+    NoClassDefFoundError = 34,
+    ExceptionInInitializerError = 35,
+    UnsatisfiedLinkError = 36,
+    IncompatibleClassChangeError = 37,
+    AbstractMethodError = 38,
+    InstantiationError = 39,
+    NoSuchFieldError = 40,
+    NoSuchMethodError = 41,
+    StackOverflowError = 42,
+    OutOfMemoryError = 43,
+    StringIndexOutOfBoundsException = 44,
 }
 
 impl BuiltInClass {

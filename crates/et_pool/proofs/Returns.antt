@@ -3,7 +3,6 @@ use Rattle.std.proofs.Common.{◌≡◌, ℕ, Bool, true, false, cond, eqb, leng
 use Rattle.std.proofs.lemmas.Bool.{eqb-true}
 use Rattle.et_pool.specs.declared.operand.Operand.{Operand}
 use Rattle.et_pool.specs.declared.operand.Operand.TheVariants.{Int, Long, Reference}
-use Rattle.et_pool.specs.declared.operand.Returned.{Returned}
 use Rattle.et_pool.specs.declared.operand.Returned.TheVariants.{Void, Value}
 use Rattle.et_pool.specs.Descriptors.{is_void, width_of}
 use Rattle.et_pool.specs.Operands.{kind_of_letter, operand_kind, is_kind, may_return, returned_width, return_of, entries_returned, is_returnable}

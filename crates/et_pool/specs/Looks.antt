@@ -1,5 +1,5 @@
 -- What stands at an index of a pool, and the rules between its entries.
-use Rattle.std.specs.Prelude.{◌≡◌, ℕ, ℤ, ◌+◌, ◌<◌, List, [], length, take, Bool, true, false, ◌==◌, ◌&&◌, ◌||◌, Option, Some, None, Result, Ok, Err, slice_index_or, if◌then◌else◌}
+use Rattle.std.specs.Prelude.{◌≡◌, ℕ, ℤ, ◌+◌, ◌<◌, ◌^◌, List, [], length, take, Bool, true, false, ◌==◌, ◌&&◌, ◌||◌, Option, Some, None, IfSome, Result, Ok, Err, slice_index_or, if◌then◌else◌}
 use Rattle.std.specs.List.{flat_map}
 use Rattle.std.specs.Int.{w32, w64, cast_signed}
 use Rattle.et_pool.specs.declared.tags.TheConstants.{UTF8, INTEGER, LONG, CLASS, STRING, FIELDREF, METHODREF, INTERFACE_METHODREF, NAME_AND_TYPE, METHOD_HANDLE, INVOKE_DYNAMIC}
@@ -42,6 +42,10 @@ text_of_slot (Some (Handle kind index)) = None
 -- the bytes of a Utf8 entry
 abbrev pub utf8_at : List (Option Item) → ℕ → Option (List ℕ)
 utf8_at slots i = text_of_slot (slot_at slots i)
+
+-- a text has fewer bytes than two bytes of length can say (4.4.7)
+abbrev pub HasShortText : Option Item → Type 0
+HasShortText slot = IfSome (text_of_slot slot) (λ bytes. length bytes < 2 ^ 16)
 
 -- the bytes that an entry of this tag names
 abbrev pub named_by : List (Option Item) → ℕ → Option Item → Option (List ℕ)

@@ -1,6 +1,7 @@
 //! The constant pool of a class file (JVMS 4.4), and descriptors (JVMS 4.3).
 #![tactic(auto)]
 
+mod decoding;
 pub mod descriptor;
 mod entry;
 mod fault;
@@ -12,6 +13,7 @@ mod reading;
 pub mod tags;
 mod text;
 
+pub use decoding::{Unit, next_unit};
 pub use fault::PoolFault;
 pub use look::Pool;
 pub use operand::{CallShape, Operand, Returned, call_shape, kind_of};

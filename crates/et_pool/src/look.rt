@@ -1,8 +1,8 @@
 //! A pool, what stands at its indices, and the rules between its entries.
 
-ghost use Rattle.std.specs.Prelude.{◌≡◌, ◌<◌, ◌^◌, Option, option_map, length, map, IfOk};
+ghost use Rattle.std.specs.Prelude.{◌≡◌, ◌<◌, ◌^◌, Option, option_map, length, map, IfOk, IfSome};
 ghost use Rattle.et_pool.specs.Entries.{view, item_bytes, view_slots};
-ghost use Rattle.et_pool.specs.Looks.{slot_at, tag_at, utf8_at, class_name_at, string_at, integer_at, long_at, name_and_type_at, member_at, tag_of, tag_of_slot, named_by, is_name, is_member_tag, is_fit, is_fit_slot, slot_bytes, ChecksPool};
+ghost use Rattle.et_pool.specs.Looks.{slot_at, tag_at, utf8_at, class_name_at, string_at, integer_at, long_at, name_and_type_at, member_at, tag_of, tag_of_slot, named_by, HasShortText, is_name, is_member_tag, is_fit, is_fit_slot, slot_bytes, ChecksPool};
 
 use crate::descriptor::is_class_name_text;
 use crate::entry::Entry;
@@ -23,15 +23,16 @@ pub struct Pool {
 }
 
 impl Model for Pool {
-    ghost use Rattle.std.specs.Prelude.{◌<◌, ◌^◌};
+    ghost use Rattle.std.specs.Prelude.{◌<◌, ◌^◌, All};
     ghost use Rattle.et_pool.specs.Entries.{Constants, view_slots};
-    ghost use Rattle.et_pool.specs.Looks.{end_of};
+    ghost use Rattle.et_pool.specs.Looks.{end_of, HasShortText};
 
     ghost Value = { Constants };
 
     ghost view = { λ p. record { at = p.at; slots = view_slots p.slots.items } };
 
-    ghost invariant = { λ p. end_of p.at (view_slots p.slots.items) < 2 ^ 64 };
+    ghost invariant = { λ p. (end_of p.at (view_slots p.slots.items) < 2 ^ 64)
+        × All HasShortText (view_slots p.slots.items) };
 }
 
 fn tag_of_entry(entry: &Entry) -> u8
@@ -88,7 +89,8 @@ fn names_member(tag: u8) -> bool
 
 impl Pool {
     fn entry(&self, i: usize) -> Option<&Entry>
-        ensures { option_map (λ e. view e.now) result ≡ slot_at self.now.slots i }
+        ensures value { option_map (λ e. view e.now) result ≡ slot_at self.now.slots i }
+        ensures short { HasShortText (slot_at self.now.slots i) }
     {
         if i < self.slots.len() {
             self.slots[i].as_ref()
@@ -116,7 +118,8 @@ impl Pool {
 
     /// The bytes of the Utf8 entry at an index (JVMS 4.4.7), or `None` where it isn't one.
     pub fn utf8(&self, i: u16) -> Option<&[u8]>
-        ensures { option_map (λ s. s.now) result ≡ utf8_at self.now.slots i }
+        ensures value { option_map (λ s. s.now) result ≡ utf8_at self.now.slots i }
+        ensures short { IfSome result (λ s. length s.now < 2 ^ 16) }
     {
         match self.entry(i as usize) {
             Some(Entry::Text(bytes)) => Some(bytes.as_slice()),
@@ -125,8 +128,9 @@ impl Pool {
     }
 
     fn named(&self, wanted: u8, i: usize) -> Option<&[u8]>
-        ensures { option_map (λ s. s.now) result
+        ensures value { option_map (λ s. s.now) result
             ≡ named_by self.now.slots wanted (slot_at self.now.slots i) }
+        ensures short { IfSome result (λ s. length s.now < 2 ^ 16) }
     {
         match self.entry(i) {
             Some(Entry::Name(tag, index)) => {
@@ -165,7 +169,8 @@ impl Pool {
     /// The bytes that the String entry at an index gives (JVMS 4.4.3), or `None` where it isn't
     /// one that names a Utf8.
     pub fn string(&self, i: u16) -> Option<&[u8]>
-        ensures { option_map (λ s. s.now) result ≡ string_at self.now.slots i }
+        ensures value { option_map (λ s. s.now) result ≡ string_at self.now.slots i }
+        ensures short { IfSome result (λ s. length s.now < 2 ^ 16) }
     {
         self.named(STRING, i as usize)
     }

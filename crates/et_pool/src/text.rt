@@ -3,7 +3,7 @@
 ghost use Rattle.std.specs.Prelude.{◌≡◌};
 ghost use Rattle.et_pool.specs.Text.{is_one_byte, is_two, is_three, is_more, unit_len, is_modified};
 
-fn one(a: u8) -> bool
+pub(crate) fn one(a: u8) -> bool
     ensures { result ≡ is_one_byte a }
 {
     1 <= a && a <= 127
@@ -15,13 +15,13 @@ fn more(b: u8) -> bool
     128 <= b && b <= 191
 }
 
-fn two(a: u8, b: u8) -> bool
+pub(crate) fn two(a: u8, b: u8) -> bool
     ensures { result ≡ is_two a b }
 {
     more(b) && ((194 <= a && a <= 223) || (a == 192 && b == 128))
 }
 
-fn three(a: u8, b: u8, c: u8) -> bool
+pub(crate) fn three(a: u8, b: u8, c: u8) -> bool
     ensures { result ≡ is_three a b c }
 {
     more(b) && more(c) && ((225 <= a && a <= 239) || (a == 224 && 160 <= b))

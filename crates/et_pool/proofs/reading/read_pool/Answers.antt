@@ -7,6 +7,7 @@ use Rattle.et_pool.specs.declared.fault.PoolFault.TheVariants as fault
 use Rattle.et_pool.specs.Reading.{pool_number, IsPoolFaultOf}
 use Rattle.et_pool.specs.Pools.{IsPool, BreaksEntries, BreaksPool, NoCount, InEntry}
 use Rattle.et_pool.proofs.Spelled.{pool_end}
+use Rattle.et_pool.proofs.Shorts.{pool_short}
 use Rattle.et_pool.proofs.reading.read_pool.Goals as goal
 
 entry_broken : (bytes : List ℕ) (at count start : ℕ) (f : PoolFault) → pool_number w16 bytes at ≡ Ok (count, start) → 0 < count → IsPoolFaultOf f (BreaksEntries bytes (count - 1) start) → IsPoolFaultOf f (BreaksPool bytes at)
@@ -28,4 +29,4 @@ pub invariant_of-result : goal.invariant_of-result
 invariant_of-result c =
     let p : IsPool c.args.bytes.now c.args.at (view_slots c.in_ok-slots.slots.items) c.in_ok-slots.after = record { count = c.in_ok-count.count; start = c.in_ok-count.start; counted = c.in_ok-count.ensures; some = omega arith; filled = c.in_ok-slots.ensures } in
     let after = pool_end c.args.bytes.now c.args.at (view_slots c.in_ok-slots.slots.items) c.in_ok-slots.after (λ i. (c.type_inv.bytes i).fits) p in
-    omega (arith, after)
+    (omega (arith, after), pool_short c.args.bytes.now c.args.at (view_slots c.in_ok-slots.slots.items) c.in_ok-slots.after (λ i. (c.type_inv.bytes i).fits) p)
